@@ -1,0 +1,12 @@
+//! Numbers with names of their own, names as bytes, lists, and want of memory.
+#![tactic(auto)]
+
+mod list_of;
+mod memory;
+mod name;
+mod numbers;
+
+pub use list_of::ListOf;
+pub use memory::NoMemory;
+pub use name::Name;
+pub use numbers::{Beat, Local, NodeId, ProcId, Version, Wall};

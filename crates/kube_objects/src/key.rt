@@ -1,0 +1,35 @@
+// Keys of objects, in their order.
+ghost use Rattle.std.specs.Prelude.{◌≡◌};
+ghost use Rattle.kube_objects.specs.Keys.{key_cmp};
+
+use kube_base::ListOf;
+use std::cmp::Ordering;
+
+/// The kinds of objects, in their order.
+#[derive(Clone, Copy, Debug, PartialEq, Eq, PartialOrd, Ord)]
+pub enum Kind {
+    Node,
+    Lease,
+    Pod,
+}
+
+/// Where an object is stored: its kind, and the numbers of its namespace and name. A Node has namespace 0.
+#[derive(Clone, Copy, Debug, PartialEq, Eq, PartialOrd, Ord)]
+pub struct Key {
+    pub kind: Kind,
+    pub space: u32,
+    pub name: u32,
+}
+
+/// Keys in order.
+pub type KeyList = ListOf<Key>;
+
+/// Numbers of names in order.
+pub type NumberList = ListOf<u32>;
+
+/// How keys are ordered: by kind, then namespace, then name.
+pub fn order(a: &Key, b: &Key) -> Ordering
+    ensures { result ≡ key_cmp a.now b.now }
+{
+    a.cmp(b)
+}

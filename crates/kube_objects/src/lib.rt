@@ -1,0 +1,22 @@
+//! The plain types of the cluster, and the history that every contract speaks of.
+#![tactic(auto)]
+
+mod call;
+mod deed;
+mod key;
+mod lease;
+mod node;
+mod object;
+mod pod;
+mod script;
+mod settings;
+
+pub use call::{Answer, Ask, Reply, Request};
+pub use deed::{Act, Actor, Deed, Deeds};
+pub use key::{Key, KeyList, Kind, NumberList, order};
+pub use lease::{Holder, Lease};
+pub use node::{Effect, Node, Ready, ReadyStatus, Taint, Taints, ZoneState};
+pub use object::{Items, Object};
+pub use pod::{Due, DueList, Operator, Pod, Toleration, Tolerations};
+pub use script::{Event, Events, Proc, Procs, What};
+pub use settings::{RatePolicy, Settings, Settings2};

@@ -1,0 +1,49 @@
+// The settings of a document.
+use kube_base::{Beat, Wall};
+
+/// How fast nodes are tainted in zones that are disrupted.
+#[derive(Clone, Copy, Debug, PartialEq, Eq)]
+pub enum RatePolicy {
+    Standard,
+    Gentle,
+    Halt,
+}
+
+/// All settings. Rates are in nodes per 1,000 s.
+#[derive(Clone, Copy, Debug, PartialEq, Eq)]
+pub struct Settings {
+    pub beat_millis: u32,
+    pub end_beat: Beat,
+    /// The time of day at beat 0.
+    pub epoch: Wall,
+    pub lease_duration_seconds: u32,
+    pub renew_deadline_millis: u32,
+    pub retry_period_millis: u32,
+    pub call_timeout_millis: u32,
+    pub restart_millis: u32,
+    pub monitor_period_millis: u32,
+    pub grace_period_millis: u32,
+    pub startup_grace_millis: u32,
+    pub node_lease_duration_seconds: u32,
+    pub primary_rate: u32,
+    pub secondary_rate: u32,
+    pub large_zone: u32,
+    pub unhealthy_percent: u32,
+    /// Whether a leader renews without a Get where it can.
+    pub fast_renew: bool,
+    pub rate_policy: RatePolicy,
+}
+
+/// The settings of a controller's tick. Rates are in nodes per 1,000 s.
+#[derive(Clone, Copy, Debug, PartialEq, Eq)]
+pub struct Settings2 {
+    pub monitor_period_millis: u32,
+    pub grace_period_millis: u32,
+    pub startup_grace_millis: u32,
+    pub node_lease_duration_seconds: u32,
+    pub primary_rate: u32,
+    pub secondary_rate: u32,
+    pub large_zone: u32,
+    pub unhealthy_percent: u32,
+    pub rate_policy: RatePolicy,
+}
