@@ -1,1 +1,13 @@
+pub mod Answers
+pub mod Clocks
+pub mod Document
+pub mod Elector
+pub mod Entry
+pub mod Identities
 pub mod Keys
+pub mod Newest
+pub mod Process
+pub mod Stamps
+pub mod Stored
+pub mod Turns
+pub mod Wire

@@ -1,0 +1,5 @@
+pub mod History
+pub mod Premise
+pub mod Printed
+pub mod Safe
+pub mod Steps

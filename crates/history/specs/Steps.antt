@@ -1,0 +1,204 @@
+-- The four steps of a beat. Each adds its entries to the history before it. Source: profile.
+use Rattle.std.specs.Prelude.{ℕ, zero, suc, ◌+◌, ◌==◌, Bool, true, false, List, [], ◌∷◌, Option, Some, None}
+use Rattle.kube_base.specs.declared.numbers.Version.{Version}
+use Rattle.kube_objects.specs.declared.call.Reply.{Reply}
+use Rattle.kube_objects.specs.declared.call.Request.{Request}
+use Rattle.kube_objects.specs.declared.script.Event.{Event}
+use Rattle.kube_objects.specs.declared.script.What.{What}
+use Rattle.kube_objects.specs.declared.script.What.TheVariants as what
+use Rattle.kube_objects.specs.Answers.{answer, written}
+use Rattle.kube_objects.specs.Clocks.{store_wall, whole_second}
+use Rattle.kube_objects.specs.Document.{Doc, processes, is_controller, is_up_first}
+use Rattle.kube_objects.specs.Elector.{follow_on, leads, deadline, release, acts}
+use Rattle.kube_objects.specs.Entry.{Entry, Identity, Call, Release, Event as Happens, Starts, Crashes, Stops, Answers, Delivers, entry, script_entry}
+use Rattle.kube_objects.specs.Identities.{identity}
+use Rattle.kube_objects.specs.Newest.{when, has}
+use Rattle.kube_objects.specs.Process.{alive, starts, call_in, counted, ended, is_restart_due}
+use Rattle.kube_objects.specs.Stamps.{stamped}
+use Rattle.kube_objects.specs.Stored.{stored, next_version}
+use Rattle.kube_objects.specs.Turns.{react, expire_call, end_term, try}
+use Rattle.kube_objects.specs.Wire.{reply_arrival, send, Sent, Back, sent_of, back_of}
+
+-- ---- step 1: starts at beat 0, and the script's events
+
+abbrev pub start : ℕ → ℕ → ℕ → List Entry → List Entry
+start k step p h = entry k step (identity p (starts p h + 1)) Starts ∷ h
+
+abbrev pub start_first : ℕ → Bool → List Entry → List Entry
+start_first p false h = h
+start_first p true h = start 0 1 p h
+
+-- the processes below n that are up at first start
+abbrev pub starts_below : Doc → ℕ → List Entry → List Entry
+starts_below doc zero h = h
+starts_below doc (suc p) h = start_first p (is_up_first doc p) (starts_below doc p h)
+
+abbrev pub first_starts : Doc → ℕ → List Entry → List Entry
+first_starts doc zero h = starts_below doc (processes doc) h
+first_starts doc (suc k) h = h
+
+-- up says in which incarnation the process is up before
+abbrev pub start_if_down : ℕ → ℕ → ℕ → Option ℕ → List Entry → List Entry
+start_if_down k step p None h = start k step p h
+start_if_down k step p (Some i) h = h
+
+abbrev pub crash : ℕ → ℕ → Option ℕ → List Entry → List Entry
+crash k p None h = h
+crash k p (Some i) h = entry k 1 (identity p i) Crashes ∷ h
+
+abbrev pub released : ℕ → Identity → Option Request → List Entry → List Entry
+released k q None h = h
+released k q (Some request) h = send k 1 q Release request h
+
+-- before is the history before the event
+abbrev pub stop : Doc → ℕ → ℕ → Option ℕ → List Entry → List Entry → List Entry
+stop doc k p None before h = h
+stop doc k p (Some i) before h = released k (identity p i) (release doc (identity p i) k before) (entry k 1 (identity p i) Stops ∷ h)
+
+-- what an event causes; before is the history before it
+abbrev pub effect : Doc → ℕ → What → List Entry → List Entry → List Entry
+effect doc k (what.Crash id) before h = crash k id.0 (alive id.0 before) h
+effect doc k (what.Start id) before h = start_if_down k 1 id.0 (alive id.0 before) h
+effect doc k (what.Stop id) before h = stop doc k id.0 (alive id.0 before) before h
+effect doc k _ before h = h
+
+-- a put as it is stored at a beat
+abbrev pub stamp : Doc → ℕ → What → What
+stamp doc k (what.Put key object) = what.Put key (stamped (whole_second (store_wall doc k)) object)
+stamp doc k event = event
+
+-- the version that an event writes: a put writes, and a remove where the key is stored
+abbrev pub event_version : What → List Entry → Option Version
+event_version (what.Put key object) h = Some (next_version h)
+event_version (what.Remove key) h = when (has (stored key h)) (next_version h)
+event_version _ h = None
+
+abbrev pub happens : Doc → ℕ → What → List Entry → List Entry
+happens doc k event h = effect doc k event h (script_entry k 1 (Happens (stamp doc k event) (event_version event h)) ∷ h)
+
+abbrev pub happens_if : Doc → ℕ → What → Bool → List Entry → List Entry
+happens_if doc k event false h = h
+happens_if doc k event true h = happens doc k event h
+
+-- the events of a beat, in order
+abbrev pub happen_all : Doc → ℕ → List Event → List Entry → List Entry
+happen_all doc k [] h = h
+happen_all doc k (e ∷ es) h = happen_all doc k es (happens_if doc k e.what (e.beat.0 == k) h)
+
+abbrev pub step_one : Doc → ℕ → List Entry → List Entry
+step_one doc k h = happen_all doc k doc.events (first_starts doc k h)
+
+-- ---- step 2: requests that arrive are answered, in the order of their sending
+
+-- for each entry of a history, the oldest first
+abbrev pub each : (Entry → List Entry → List Entry) → List Entry → List Entry → List Entry
+each f [] h = h
+each f (e ∷ l) h = f e (each f l h)
+
+abbrev pub comes_at : ℕ → Option ℕ → Bool
+comes_at k None = false
+comes_at k (Some at) = at == k
+
+abbrev pub answered : ℕ → Sent → List Entry → List Entry
+answered k s h = entry k 2 s.who (Answers s.call (answer s.call.request h) (reply_arrival s.who.process k h) (written s.call.request h)) ∷ h
+
+abbrev pub answer_if : ℕ → Sent → Bool → List Entry → List Entry
+answer_if k s false h = h
+answer_if k s true h = answered k s h
+
+abbrev pub answer_due : ℕ → Option Sent → List Entry → List Entry
+answer_due k None h = h
+answer_due k (Some s) h = answer_if k s (comes_at k s.arrives) h
+
+abbrev pub step_two : ℕ → List Entry → List Entry
+step_two k h = each (λ e. answer_due k (sent_of e.actor e.deed)) h h
+
+-- ---- step 3: replies that arrive are delivered, in the order of their answering
+
+-- a kubelet's answer to a counted reply will stand here
+abbrev pub kubelet_react : Doc → ℕ → Identity → Call → Reply → List Entry → List Entry
+kubelet_react doc k q call reply h = h
+
+-- what a counted reply causes; h has it on top
+abbrev pub react_as : Doc → ℕ → Identity → Call → Reply → Bool → List Entry → List Entry
+react_as doc k q call reply true h = react k q (leads q h) (follow_on doc q k call.kind call.request reply h) h
+react_as doc k q call reply false h = kubelet_react doc k q call reply h
+
+-- a reply counts for the call that waits
+abbrev pub deliver_as : Doc → ℕ → Identity → Call → Reply → Option Call → List Entry → List Entry
+deliver_as doc k q call reply None h = entry k 3 q (Delivers call reply false) ∷ h
+deliver_as doc k q call reply (Some waiting) h = react_as doc k q waiting reply (is_controller doc q.process) (entry k 3 q (Delivers waiting reply true) ∷ h)
+
+abbrev pub delivered : Doc → ℕ → Back → List Entry → List Entry
+delivered doc k b h = deliver_as doc k b.who b.call b.reply (counted doc b.who k b.call.number h) h
+
+abbrev pub deliver_if : Doc → ℕ → Back → Bool → List Entry → List Entry
+deliver_if doc k b false h = h
+deliver_if doc k b true h = delivered doc k b h
+
+abbrev pub deliver_due : Doc → ℕ → Option Back → List Entry → List Entry
+deliver_due doc k None h = h
+deliver_due doc k (Some b) h = deliver_if doc k b (comes_at k b.comes) h
+
+abbrev pub step_three : Doc → ℕ → List Entry → List Entry
+step_three doc k h = each (λ e. deliver_due doc k (back_of e.actor e.deed)) h h
+
+-- ---- step 4: each process has its turn, in order
+
+-- where the process is up
+abbrev pub if_up : ℕ → (Identity → List Entry → List Entry) → Option ℕ → List Entry → List Entry
+if_up p f None h = h
+if_up p f (Some i) h = f (identity p i) h
+
+abbrev pub restart_as : ℕ → ℕ → Bool → List Entry → List Entry
+restart_as k p false h = h
+restart_as k p true h = start k 4 p h
+
+abbrev pub restart_if : Doc → ℕ → ℕ → Option ℕ → List Entry → List Entry
+restart_if doc k p (Some i) h = h
+restart_if doc k p None h = restart_as k p (is_restart_due doc p k (ended p h)) h
+
+-- a controller that is down starts again once its clock has reached its restart
+abbrev pub restart : Doc → ℕ → ℕ → List Entry → List Entry
+restart doc k p h = restart_if doc k p (alive p h) h
+
+-- a call expires whose timeout is over
+abbrev pub expire : Doc → ℕ → ℕ → List Entry → List Entry
+expire doc k p h = if_up p (λ q T. expire_call doc k q (call_in q T) T) (alive p h) h
+
+-- a leader ends that has reached its deadline
+abbrev pub finish : Doc → ℕ → ℕ → List Entry → List Entry
+finish doc k p h = if_up p (λ q T. end_term doc k q (deadline doc q T) T) (alive p h) h
+
+abbrev pub attempts : Doc → ℕ → ℕ → List Entry → List Entry
+attempts doc k p h = if_up p (try doc k) (alive p h) h
+
+-- the entries of an acting controller's tick will stand here
+abbrev pub tick : Doc → ℕ → Identity → List Entry → List Entry
+tick doc k q h = h
+
+abbrev pub tick_as : Doc → ℕ → Identity → Bool → List Entry → List Entry
+tick_as doc k q false h = h
+tick_as doc k q true h = tick doc k q h
+
+abbrev pub ticks : Doc → ℕ → ℕ → List Entry → List Entry
+ticks doc k p h = if_up p (λ q T. tick_as doc k q (acts doc q k T) T) (alive p h) h
+
+abbrev pub controller_turn : Doc → ℕ → ℕ → List Entry → List Entry
+controller_turn doc k p h = ticks doc k p (attempts doc k p (finish doc k p (expire doc k p (restart doc k p h))))
+
+-- a kubelet's turn will stand here
+abbrev pub kubelet_turn : Doc → ℕ → ℕ → List Entry → List Entry
+kubelet_turn doc k p h = h
+
+abbrev pub turn_as : Doc → ℕ → ℕ → Bool → List Entry → List Entry
+turn_as doc k p true h = controller_turn doc k p h
+turn_as doc k p false h = kubelet_turn doc k p h
+
+abbrev pub turn : Doc → ℕ → ℕ → List Entry → List Entry
+turn doc k p h = turn_as doc k p (is_controller doc p) h
+
+-- the turns of the processes below p
+abbrev pub turns : Doc → ℕ → ℕ → List Entry → List Entry
+turns doc k zero h = h
+turns doc k (suc p) h = turn doc k p (turns doc k p h)

@@ -1,0 +1,64 @@
+-- What an elector adds to the history at a reply and in its turn. Source: client-go, package `leaderelection`; profile.
+use Rattle.std.specs.Prelude.{ℕ, ◌==◌, ◌&&◌, not, nat_lt, Bool, true, false, List, ◌∷◌, Option, Some, None}
+use Rattle.kube_base.specs.declared.numbers.Version.{Version}
+use Rattle.kube_objects.specs.declared.call.Request.TheVariants.{Get}
+use Rattle.kube_objects.specs.Clocks.{local}
+use Rattle.kube_objects.specs.Document.{Doc}
+use Rattle.kube_objects.specs.Elector.{Follow, Fails, Asks, Succeeds, timer, attempt, is_fast}
+use Rattle.kube_objects.specs.Entry.{Entry, Identity, Call, Plain, Deed, Ends, Expires, Leads, entry}
+use Rattle.kube_objects.specs.Identities.{is_by}
+use Rattle.kube_objects.specs.Newest.{newest, when, join, has}
+use Rattle.kube_objects.specs.Process.{call_in, is_late}
+use Rattle.kube_objects.specs.Stored.{election}
+use Rattle.kube_objects.specs.Wire.{send}
+
+-- ---- at a counted reply
+
+-- led says whether the controller leads before
+abbrev pub lead_if : ℕ → Identity → Bool → Version → List Entry → List Entry
+lead_if k q true version h = h
+lead_if k q false version h = entry k 3 q (Leads version) ∷ h
+
+abbrev pub react : ℕ → Identity → Bool → Follow → List Entry → List Entry
+react k q led Fails h = h
+react k q led (Asks request) h = send k 3 q Plain request h
+react k q led (Succeeds version) h = lead_if k q led version h
+
+-- ---- in its turn
+
+abbrev pub expire_as : ℕ → Identity → Call → Bool → List Entry → List Entry
+expire_as k q call false h = h
+expire_as k q call true h = entry k 4 q (Expires call) ∷ h
+
+abbrev pub expire_call : Doc → ℕ → Identity → Option Call → List Entry → List Entry
+expire_call doc k q None h = h
+expire_call doc k q (Some call) h = expire_as k q call (is_late doc q k call) h
+
+abbrev pub end_as : ℕ → Identity → Bool → List Entry → List Entry
+end_as k q true h = h
+end_as k q false h = entry k 4 q Ends ∷ h
+
+abbrev pub end_term : Doc → ℕ → Identity → Option ℕ → List Entry → List Entry
+end_term doc k q None h = h
+end_term doc k q (Some at) h = end_as k q (nat_lt (local doc q.process k) at) h
+
+-- the call whose expiry at this beat is the last own entry
+abbrev pub expired_in : ℕ → ℕ → Deed → Option Call
+expired_in k at (Expires call) = when (at == k) call
+expired_in k at _ = None
+
+abbrev pub just_expired : Identity → ℕ → List Entry → Option Call
+just_expired q k h = join (newest (λ e T. when (is_by q e.actor) (expired_in k e.beat e.deed)) h)
+
+abbrev pub is_fast_call : Option Call → Bool
+is_fast_call None = false
+is_fast_call (Some call) = is_fast call.kind
+
+-- an update without a Get that expired is followed by the Get; else an attempt starts where it is time
+abbrev pub attempt_if : Doc → ℕ → Identity → Bool → Bool → List Entry → List Entry
+attempt_if doc k q true due h = send k 4 q Plain (Get election) h
+attempt_if doc k q false true h = send k 4 q (attempt doc q k h).0 (attempt doc q k h).1 h
+attempt_if doc k q false false h = h
+
+abbrev pub try : Doc → ℕ → Identity → List Entry → List Entry
+try doc k q h = attempt_if doc k q (is_fast_call (just_expired q k h)) (not (has (call_in q h)) && not (nat_lt (local doc q.process k) (timer doc q h))) h
