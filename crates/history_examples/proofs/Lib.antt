@@ -1,0 +1,4 @@
+pub mod Actors
+pub mod Elections
+pub mod Renewals
+pub mod Takeovers

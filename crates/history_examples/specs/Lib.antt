@@ -1,0 +1,5 @@
+pub mod Actors
+pub mod Documents
+pub mod Elections
+pub mod Renewals
+pub mod Takeovers

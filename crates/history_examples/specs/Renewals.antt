@@ -1,0 +1,78 @@
+-- Renewals, ends and releases.
+use Rattle.std.specs.Prelude.{◌≡◌, true, false, [], ◌∷◌}
+use Rattle.kube_objects.specs.declared.call.Answer.TheVariants as answer
+use Rattle.kube_objects.specs.declared.deed.Act.TheVariants as act
+use Rattle.kube_objects.specs.Stored.{election}
+use Rattle.history.specs.History.{whole_history}
+use Rattle.history.specs.Printed.{printed}
+use Rattle.history_examples.specs.Documents.{document, settings, c1, alone, pair, at_beat, delay, loss, stop, line}
+
+-- A renewal that is delayed past its timeout is tried again. The late one meets the version that the second wrote.
+abbrev pub LateRenewalConflicts : Type 0
+LateRenewalConflicts = printed (whole_history (alone 74 [] (at_beat 6 (delay 0 60 1) ∷ at_beat 7 (delay 0 1 1) ∷ []))) ≡
+    line 0 0 1 act.Start
+    ∷ line 3 0 1 (act.Create election (answer.Done (record { 0 = 1 })) 0)
+    ∷ line 4 0 1 (act.Lead (record { 0 = 1 }))
+    ∷ line 50 0 1 (act.Update election (answer.Done (record { 0 = 2 })) 0)
+    ∷ line 66 0 1 (act.Update election (answer.Conflict (record { 0 = 2 })) 0)
+    ∷ line 74 0 1 (act.Update election (answer.Done (record { 0 = 3 })) 0)
+    ∷ []
+
+-- A leader whose requests are lost ends at its renew deadline, though an attempt is under way, and starts again after its restart time.
+abbrev pub DeadlineEndsTheTerm : Type 0
+DeadlineEndsTheTerm = printed (whole_history (alone 114 [] (at_beat 5 (loss 0 true false) ∷ []))) ≡
+    line 0 0 1 act.Start
+    ∷ line 3 0 1 (act.Create election (answer.Done (record { 0 = 1 })) 0)
+    ∷ line 4 0 1 (act.Lead (record { 0 = 1 }))
+    ∷ line 104 0 1 act.End
+    ∷ line 114 0 2 act.Start
+    ∷ []
+
+-- With fast renewal a leader updates its own valid record without a Get.
+abbrev pub FastRenewal : Type 0
+FastRenewal = printed (whole_history (document (record (settings 60) { fast_renew = true }) (c1 ∷ []) [] [])) ≡
+    line 0 0 1 act.Start
+    ∷ line 3 0 1 (act.Create election (answer.Done (record { 0 = 1 })) 0)
+    ∷ line 4 0 1 (act.Lead (record { 0 = 1 }))
+    ∷ line 5 0 1 (act.Update election (answer.Done (record { 0 = 2 })) 0)
+    ∷ line 27 0 1 (act.Update election (answer.Done (record { 0 = 3 })) 0)
+    ∷ line 49 0 1 (act.Update election (answer.Done (record { 0 = 4 })) 0)
+    ∷ []
+
+-- A fast renewal whose reply is lost expires. The Get follows in the same beat and finds the own record.
+abbrev pub FastRenewalFallsBack : Type 0
+FastRenewalFallsBack = printed (whole_history (document (record (settings 30) { fast_renew = true }) (c1 ∷ []) [] (at_beat 5 (loss 0 false true) ∷ at_beat 6 (loss 0 false false) ∷ []))) ≡
+    line 0 0 1 act.Start
+    ∷ line 3 0 1 (act.Create election (answer.Done (record { 0 = 1 })) 0)
+    ∷ line 4 0 1 (act.Lead (record { 0 = 1 }))
+    ∷ line 5 0 1 (act.Update election (answer.Done (record { 0 = 2 })) 0)
+    ∷ line 28 0 1 (act.Update election (answer.Done (record { 0 = 3 })) 0)
+    ∷ []
+
+-- A leader that is stopped gives up its record, and the other takes over without waiting for the lease.
+abbrev pub StopIsFollowedByRelease : Type 0
+StopIsFollowedByRelease = printed (whole_history (pair 50 [] (at_beat 20 (stop 0) ∷ []))) ≡
+    line 0 0 1 act.Start
+    ∷ line 0 1 1 act.Start
+    ∷ line 3 0 1 (act.Create election (answer.Done (record { 0 = 1 })) 0)
+    ∷ line 3 1 1 (act.Create election answer.Exists 0)
+    ∷ line 4 0 1 (act.Lead (record { 0 = 1 }))
+    ∷ line 7 0 1 (act.Update election (answer.Done (record { 0 = 2 })) 0)
+    ∷ line 20 0 1 act.Stop
+    ∷ line 21 0 1 (act.Update election (answer.Done (record { 0 = 3 })) 0)
+    ∷ line 27 1 1 (act.Update election (answer.Done (record { 0 = 4 })) 1)
+    ∷ line 28 1 1 (act.Lead (record { 0 = 4 }))
+    ∷ line 31 1 1 (act.Update election (answer.Done (record { 0 = 5 })) 1)
+    ∷ []
+
+-- A renewal that arrives before the release makes the release meet a conflict.
+abbrev pub RenewalOutrunsRelease : Type 0
+RenewalOutrunsRelease = printed (whole_history (alone 32 [] (at_beat 31 (stop 0) ∷ []))) ≡
+    line 0 0 1 act.Start
+    ∷ line 3 0 1 (act.Create election (answer.Done (record { 0 = 1 })) 0)
+    ∷ line 4 0 1 (act.Lead (record { 0 = 1 }))
+    ∷ line 7 0 1 (act.Update election (answer.Done (record { 0 = 2 })) 0)
+    ∷ line 31 0 1 act.Stop
+    ∷ line 31 0 1 (act.Update election (answer.Done (record { 0 = 3 })) 0)
+    ∷ line 32 0 1 (act.Update election (answer.Conflict (record { 0 = 3 })) 0)
+    ∷ []
