@@ -1,0 +1,309 @@
+-- One walk through the steps of every beat: what each kind of entry keeps holds of every history.
+use Rattle.std.proofs.Common.{◌≡◌, ◌⊎◌, ℕ, zero, suc, ◌+◌, ◌==◌, ◌&&◌, not, nat_lt, Bool, true, false, cond, List, [], ◌∷◌, Option, Some, None, refl, sym, ap, ◌∙◌, subst, inl, inr}
+use Rattle.kube_base.specs.declared.numbers.ProcId.{ProcId}
+use Rattle.kube_base.specs.declared.numbers.Version.{Version}
+use Rattle.kube_objects.specs.declared.call.Reply.{Reply}
+use Rattle.kube_objects.specs.declared.call.Request.{Request}
+use Rattle.kube_objects.specs.declared.call.Request.TheVariants.{Get}
+use Rattle.kube_objects.specs.declared.script.Event.{Event}
+use Rattle.kube_objects.specs.declared.script.What.{What}
+use Rattle.kube_objects.specs.declared.script.What.TheVariants as what
+use Rattle.kube_objects.specs.Clocks.{local}
+use Rattle.kube_objects.specs.Document.{Doc, processes, is_controller, is_up_first}
+use Rattle.kube_objects.specs.Elector.{Follow, Fails, Asks, Succeeds, follow_on, leads, deadline, timer, attempt, release, acts}
+use Rattle.kube_objects.specs.Entry.{Entry, Identity, Call, CallKind, Plain, Release, Event as Happens, Starts, Crashes, Stops, Ends, Delivers, Expires, Leads, entry, script_entry}
+use Rattle.kube_objects.specs.Identities.{identity}
+use Rattle.kube_objects.specs.Newest.{has}
+use Rattle.kube_objects.specs.Process.{alive, starts, call_in, counted, is_late, ended, is_restart_due}
+use Rattle.kube_objects.specs.Stored.{election}
+use Rattle.kube_objects.specs.Turns.{lead_if, react, expire_as, expire_call, end_as, end_term, just_expired, is_fast_call, attempt_if, try}
+use Rattle.kube_objects.specs.Wire.{send, Sent, Back, sent_of, back_of}
+use Rattle.history.specs.History.{three_steps, history, at_turn}
+use Rattle.history.specs.Steps.{start, start_first, starts_below, first_starts, start_if_down, crash, released, stop, effect, stamp, event_version, happens, happens_if, happen_all, step_one, each, comes_at, answered, answer_if, answer_due, step_two, kubelet_react, react_as, deliver_as, delivered, deliver_if, deliver_due, step_three, if_up, restart_as, restart_if, restart, expire, finish, attempts, tick_as, tick, ticks, controller_turn, kubelet_turn, turn_as, turn, turns}
+use Rattle.history_laws.specs.Tails.{In, IsTail}
+use Rattle.history_laws.proofs.Expired.{expired_none}
+use Rattle.history_laws.proofs.Plainly.{true_is}
+
+abbrev pub InScript : Event → List Event → Type 0
+InScript e [] = ⊥
+InScript e (x ∷ xs) = (e ≡ x) ⊎ InScript e xs
+
+-- an event of the script at this beat does this
+abbrev pub Scripted : Doc → ℕ → What → Type 0
+Scripted doc k w = (e : Event) × InScript e doc.events × (e.what ≡ w) × ((e.beat.0 == k) ≡ true)
+
+-- a request of the history arrives at this beat
+pub record Arriving (k : ℕ) (h : List Entry) (s : Sent) : Type 0 where
+  pub e : Entry
+  pub stands : In e h
+  pub is : sent_of e.actor e.deed ≡ Some s
+  pub now : comes_at k s.arrives ≡ true
+
+-- a reply of the history comes at this beat
+pub record Coming (k : ℕ) (h : List Entry) (b : Back) : Type 0 where
+  pub e : Entry
+  pub stands : In e h
+  pub is : back_of e.actor e.deed ≡ Some b
+  pub now : comes_at k b.comes ≡ true
+
+-- the entries of a stop at beat k, on the history before it
+abbrev pub stopped_at : ℕ → ProcId → ℕ → List Entry → List Entry
+stopped_at k id i before = entry k 1 (identity id.0 i) Stops ∷ script_entry k 1 (Happens (what.Stop id) None) ∷ before
+
+-- the history after a counted reply
+abbrev pub after_reply : ℕ → Back → Call → List Entry → List Entry
+after_reply k b waiting h = entry k 3 b.who (Delivers waiting b.reply true) ∷ h
+
+-- a property, at a beat and a step, that each kind of entry keeps
+pub record Keeps (doc : Doc) (P : ℕ → ℕ → List Entry → Type 0) : Type 0 where
+  pub on : (k step : ℕ) (h : List Entry) → P k step h → P k (suc step) h
+  pub next : (k : ℕ) (h : List Entry) → P k 4 h → P (suc k) 1 h
+  pub event : (k : ℕ) (w : What) (h : List Entry) → Scripted doc k w → P k 1 h → P k 1 (script_entry k 1 (Happens (stamp doc k w) (event_version w h)) ∷ h)
+  pub starts : (k step p : ℕ) (h : List Entry) → P k step h → P k step (start k step p h)
+  pub crashes : (k p i : ℕ) (h : List Entry) → alive p h ≡ Some i → P k 1 h → P k 1 (entry k 1 (identity p i) Crashes ∷ h)
+  pub stops : (k : ℕ) (id : ProcId) (i : ℕ) (h : List Entry) → Scripted doc k (what.Stop id) → alive id.0 h ≡ Some i → P k 1 h → P k 1 (entry k 1 (identity id.0 i) Stops ∷ h)
+  pub releases : (k : ℕ) (id : ProcId) (i : ℕ) (before : List Entry) (request : Request) → Scripted doc k (what.Stop id) → alive id.0 before ≡ Some i
+      → release doc (identity id.0 i) k before ≡ Some request → P k 1 (stopped_at k id i before) → P k 1 (send k 1 (identity id.0 i) Release request (stopped_at k id i before))
+  pub answers : (k : ℕ) (s : Sent) (h : List Entry) → Arriving k h s → P k 2 h → P k 2 (answered k s h)
+  pub ignores : (k : ℕ) (b : Back) (h : List Entry) → Coming k h b → counted doc b.who k b.call.number h ≡ None → P k 3 h → P k 3 (entry k 3 b.who (Delivers b.call b.reply false) ∷ h)
+  pub counts : (k : ℕ) (b : Back) (waiting : Call) (h : List Entry) → Coming k h b → counted doc b.who k b.call.number h ≡ Some waiting → P k 3 h → P k 3 (after_reply k b waiting h)
+  pub follows : (k : ℕ) (b : Back) (waiting : Call) (h : List Entry) (request : Request) → Coming k h b → counted doc b.who k b.call.number h ≡ Some waiting
+      → is_controller doc b.who.process ≡ true → follow_on doc b.who k waiting.kind waiting.request b.reply (after_reply k b waiting h) ≡ Asks request
+      → P k 3 (after_reply k b waiting h) → P k 3 (send k 3 b.who Plain request (after_reply k b waiting h))
+  pub leads : (k : ℕ) (b : Back) (waiting : Call) (h : List Entry) (version : Version) → Coming k h b → counted doc b.who k b.call.number h ≡ Some waiting
+      → is_controller doc b.who.process ≡ true → follow_on doc b.who k waiting.kind waiting.request b.reply (after_reply k b waiting h) ≡ Succeeds version
+      → P k 3 (after_reply k b waiting h) → P k 3 (entry k 3 b.who (Leads version) ∷ after_reply k b waiting h)
+  pub expires : (k p i : ℕ) (call : Call) (h : List Entry) → is_controller doc p ≡ true → alive p h ≡ Some i → call_in (identity p i) h ≡ Some call → is_late doc (identity p i) k call ≡ true
+      → P k 4 h → P k 4 (entry k 4 (identity p i) (Expires call) ∷ h)
+  pub ends : (k p i at : ℕ) (h : List Entry) → is_controller doc p ≡ true → alive p h ≡ Some i → deadline doc (identity p i) h ≡ Some at → nat_lt (local doc p k) at ≡ false
+      → P k 4 h → P k 4 (entry k 4 (identity p i) Ends ∷ h)
+  pub polls : (k p i : ℕ) (h : List Entry) → is_controller doc p ≡ true → alive p h ≡ Some i → call_in (identity p i) h ≡ None
+      → P k 4 h → P k 4 (send k 4 (identity p i) Plain (Get election) h)
+  pub attempts : (k p i : ℕ) (h : List Entry) → is_controller doc p ≡ true → alive p h ≡ Some i → call_in (identity p i) h ≡ None
+      → P k 4 h → P k 4 (send k 4 (identity p i) (attempt doc (identity p i) k h).0 (attempt doc (identity p i) k h).1 h)
+
+module _ (doc : Doc) (P : ℕ → ℕ → List Entry → Type 0) (keeps : Keeps doc P) where
+  -- ---- step 1
+
+  walk_start_first : (p : ℕ) (b : Bool) (h : List Entry) → P 0 1 h → P 0 1 (start_first p b h)
+  walk_start_first p false h s = s
+  walk_start_first p true h s = keeps.starts 0 1 p h s
+
+  walk_below : (n : ℕ) (h : List Entry) → P 0 1 h → P 0 1 (starts_below doc n h)
+  walk_below zero h s = s
+  walk_below (suc p) h s = walk_start_first p (is_up_first doc p) (starts_below doc p h) (walk_below p h s)
+
+  walk_first : (k : ℕ) (h : List Entry) → P k 1 h → P k 1 (first_starts doc k h)
+  walk_first zero h s = walk_below (processes doc) h s
+  walk_first (suc k) h s = s
+
+  walk_start : (k p : ℕ) (up : Option ℕ) (h : List Entry) → P k 1 h → P k 1 (start_if_down k 1 p up h)
+  walk_start k p None h s = keeps.starts k 1 p h s
+  walk_start k p (Some i) h s = s
+
+  walk_crash : (k p : ℕ) (up : Option ℕ) (h : List Entry) → alive p h ≡ up → P k 1 h → P k 1 (crash k p up h)
+  walk_crash k p None h is s = s
+  walk_crash k p (Some i) h is s = keeps.crashes k p i h is s
+
+  walk_released : (k : ℕ) (id : ProcId) (i : ℕ) (before : List Entry) → Scripted doc k (what.Stop id) → alive id.0 before ≡ Some i → (o : Option Request) → release doc (identity id.0 i) k before ≡ o
+      → P k 1 (stopped_at k id i before) → P k 1 (released k (identity id.0 i) o (stopped_at k id i before))
+  walk_released k id i before scripted up None is s = s
+  walk_released k id i before scripted up (Some request) is s = keeps.releases k id i before request scripted up is s
+
+  walk_stop : (k : ℕ) (id : ProcId) (up : Option ℕ) (before : List Entry) → Scripted doc k (what.Stop id) → alive id.0 before ≡ up
+      → P k 1 (script_entry k 1 (Happens (what.Stop id) None) ∷ before) → P k 1 (stop doc k id.0 up before (script_entry k 1 (Happens (what.Stop id) None) ∷ before))
+  walk_stop k id None before scripted is s = s
+  walk_stop k id (Some i) before scripted is s =
+      walk_released k id i before scripted is (release doc (identity id.0 i) k before) refl
+      (keeps.stops k id i (script_entry k 1 (Happens (what.Stop id) None) ∷ before) scripted is s)
+
+  walk_effect : (k : ℕ) (w : What) (before : List Entry) → Scripted doc k w → P k 1 (script_entry k 1 (Happens (stamp doc k w) (event_version w before)) ∷ before)
+      → P k 1 (effect doc k w before (script_entry k 1 (Happens (stamp doc k w) (event_version w before)) ∷ before))
+  walk_effect k (what.Crash id) before scripted s = walk_crash k id.0 (alive id.0 before) (script_entry k 1 (Happens (what.Crash id) None) ∷ before) refl s
+  walk_effect k (what.Start id) before scripted s = walk_start k id.0 (alive id.0 before) (script_entry k 1 (Happens (what.Start id) None) ∷ before) s
+  walk_effect k (what.Stop id) before scripted s = walk_stop k id (alive id.0 before) before scripted refl s
+  walk_effect k (what.Rate id ppm) before scripted s = s
+  walk_effect k (what.Delay id requests replies) before scripted s = s
+  walk_effect k (what.Loss id requests replies) before scripted s = s
+  walk_effect k (what.Watch id on) before scripted s = s
+  walk_effect k (what.Ready id status) before scripted s = s
+  walk_effect k (what.Put key object) before scripted s = s
+  walk_effect k (what.Remove key) before scripted s = s
+
+  walk_happens : (k : ℕ) (e : Event) → InScript e doc.events → (b : Bool) → (e.beat.0 == k) ≡ b → (h : List Entry) → P k 1 h → P k 1 (happens_if doc k e.what b h)
+  walk_happens k e scripted false is h s = s
+  walk_happens k e scripted true is h s = walk_effect k e.what h (e, scripted, refl, is) (keeps.event k e.what h (e, scripted, refl, is) s)
+
+  walk_events : (k : ℕ) (es : List Event) → ((e : Event) → InScript e es → InScript e doc.events) → (h : List Entry) → P k 1 h → P k 1 (happen_all doc k es h)
+  walk_events k [] among h s = s
+  walk_events k (e ∷ es) among h s =
+      walk_events k es (λ x at. among x (inr at)) (happens_if doc k e.what (e.beat.0 == k) h) (walk_happens k e (among e (inl refl)) (e.beat.0 == k) refl h s)
+
+  pub walk_one : (k : ℕ) (h : List Entry) → P k 1 h → P k 1 (step_one doc k h)
+  walk_one k h s = walk_events k doc.events (λ e at. at) (first_starts doc k h) (walk_first k h s)
+
+  -- ---- steps 2 and 3
+
+  -- the entries that a step goes over stay in the history
+  abbrev Over : List Entry → ℕ → ℕ → List Entry → Type 0
+  Over g k step h = P k step h × ((e : Entry) → In e g → In e h)
+
+  walk_each : (k step : ℕ) (f : Entry → List Entry → List Entry) (g : List Entry) → ((e : Entry) → In e g → (h : List Entry) → Over g k step h → Over g k step (f e h))
+      → (l : List Entry) → ((e : Entry) → In e l → In e g) → (h : List Entry) → Over g k step h → Over g k step (each f l h)
+  walk_each k step f g one [] among h s = s
+  walk_each k step f g one (e ∷ l) among h s = one e (among e (inl refl)) (each f l h) (walk_each k step f g one l (λ x at. among x (inr at)) h s)
+
+  more_over : (g : List Entry) (k step : ℕ) (x : Entry) (h : List Entry) → Over g k step h → P k step (x ∷ h) → Over g k step (x ∷ h)
+  more_over g k step x h s new = (new, λ e at. inr (s.1 e at))
+
+  walk_answer_if : (k : ℕ) (g : List Entry) (e : Entry) (x : Sent) (b : Bool) → In e g → sent_of e.actor e.deed ≡ Some x → comes_at k x.arrives ≡ b → (h : List Entry) → Over g k 2 h → Over g k 2 (answer_if k x b h)
+  walk_answer_if k g e x false stands is now h s = s
+  walk_answer_if k g e x true stands is now h s = more_over g k 2 _ h s (keeps.answers k x h (record { e = e; stands = s.1 e stands; is = is; now = now }) s.0)
+
+  walk_answer : (k : ℕ) (g : List Entry) (e : Entry) (o : Option Sent) → In e g → sent_of e.actor e.deed ≡ o → (h : List Entry) → Over g k 2 h → Over g k 2 (answer_due k o h)
+  walk_answer k g e None stands is h s = s
+  walk_answer k g e (Some x) stands is h s = walk_answer_if k g e x (comes_at k x.arrives) stands is refl h s
+
+  pub walk_two : (k : ℕ) (h : List Entry) → P k 2 h → P k 2 (step_two k h)
+  walk_two k h s = (walk_each k 2 (λ e. answer_due k (sent_of e.actor e.deed)) h (λ e stands g t. walk_answer k h e (sent_of e.actor e.deed) stands refl g t) h (λ e at. at) h (s, λ e at. at)).0
+
+  walk_lead : (k : ℕ) (g : List Entry) (b : Back) (waiting : Call) (h : List Entry) (led : Bool) (version : Version)
+      → Over g k 3 (after_reply k b waiting h) → (P k 3 (after_reply k b waiting h) → P k 3 (entry k 3 b.who (Leads version) ∷ after_reply k b waiting h))
+      → Over g k 3 (lead_if k b.who led version (after_reply k b waiting h))
+  walk_lead k g b waiting h true version s new = s
+  walk_lead k g b waiting h false version s new = more_over g k 3 _ (after_reply k b waiting h) s (new s.0)
+
+  walk_react : (k : ℕ) (g : List Entry) (b : Back) (waiting : Call) (h : List Entry) → Coming k h b → counted doc b.who k b.call.number h ≡ Some waiting → is_controller doc b.who.process ≡ true
+      → (led : Bool) (f : Follow) → follow_on doc b.who k waiting.kind waiting.request b.reply (after_reply k b waiting h) ≡ f → Over g k 3 (after_reply k b waiting h) → Over g k 3 (react k b.who led f (after_reply k b waiting h))
+  walk_react k g b waiting h coming is role led Fails follows s = s
+  walk_react k g b waiting h coming is role led (Asks request) follows s = more_over g k 3 _ (after_reply k b waiting h) s (keeps.follows k b waiting h request coming is role follows s.0)
+  walk_react k g b waiting h coming is role led (Succeeds version) follows s = walk_lead k g b waiting h led version s (keeps.leads k b waiting h version coming is role follows)
+
+  walk_react_as : (k : ℕ) (g : List Entry) (b : Back) (waiting : Call) (h : List Entry) → Coming k h b → counted doc b.who k b.call.number h ≡ Some waiting
+      → (role : Bool) → is_controller doc b.who.process ≡ role → Over g k 3 (after_reply k b waiting h) → Over g k 3 (react_as doc k b.who waiting b.reply role (after_reply k b waiting h))
+  walk_react_as k g b waiting h coming is true role s =
+      walk_react k g b waiting h coming is role (leads b.who (after_reply k b waiting h)) (follow_on doc b.who k waiting.kind waiting.request b.reply (after_reply k b waiting h)) refl s
+  walk_react_as k g b waiting h coming is false role s = s
+
+  walk_deliver_as : (k : ℕ) (g : List Entry) (b : Back) (h : List Entry) → Coming k h b → (o : Option Call) → counted doc b.who k b.call.number h ≡ o → Over g k 3 h → Over g k 3 (deliver_as doc k b.who b.call b.reply o h)
+  walk_deliver_as k g b h coming None is s = more_over g k 3 _ h s (keeps.ignores k b h coming is s.0)
+  walk_deliver_as k g b h coming (Some waiting) is s =
+      walk_react_as k g b waiting h coming is (is_controller doc b.who.process) refl (more_over g k 3 _ h s (keeps.counts k b waiting h coming is s.0))
+
+  walk_deliver_if : (k : ℕ) (g : List Entry) (e : Entry) (x : Back) (b : Bool) → In e g → back_of e.actor e.deed ≡ Some x → comes_at k x.comes ≡ b → (h : List Entry) → Over g k 3 h → Over g k 3 (deliver_if doc k x b h)
+  walk_deliver_if k g e x false stands is now h s = s
+  walk_deliver_if k g e x true stands is now h s = walk_deliver_as k g x h (record { e = e; stands = s.1 e stands; is = is; now = now }) (counted doc x.who k x.call.number h) refl s
+
+  walk_deliver : (k : ℕ) (g : List Entry) (e : Entry) (o : Option Back) → In e g → back_of e.actor e.deed ≡ o → (h : List Entry) → Over g k 3 h → Over g k 3 (deliver_due doc k o h)
+  walk_deliver k g e None stands is h s = s
+  walk_deliver k g e (Some x) stands is h s = walk_deliver_if k g e x (comes_at k x.comes) stands is refl h s
+
+  pub walk_three : (k : ℕ) (h : List Entry) → P k 3 h → P k 3 (step_three doc k h)
+  walk_three k h s = (walk_each k 3 (λ e. deliver_due doc k (back_of e.actor e.deed)) h (λ e stands g t. walk_deliver k h e (back_of e.actor e.deed) stands refl g t) h (λ e at. at) h (s, λ e at. at)).0
+
+  pub walk_steps : (k : ℕ) (h : List Entry) → P k 1 h → P k 4 (three_steps doc k h)
+  walk_steps k h s =
+      let h1 = step_one doc k h in
+      let s1 : P k 1 h1 = walk_one k h s in
+      let h2 = step_two k h1 in
+      let s2 : P k 2 h2 = walk_two k h1 (keeps.on k 1 h1 s1) in
+      let h3 = step_three doc k h2 in
+      let s3 : P k 3 h3 = walk_three k h2 (keeps.on k 2 h2 s2) in
+      keeps.on k 3 h3 s3
+
+  -- ---- step 4
+
+  walk_if_up : (k p : ℕ) (f : Identity → List Entry → List Entry) → ((i : ℕ) (h : List Entry) → alive p h ≡ Some i → P k 4 h → P k 4 (f (identity p i) h)) → (up : Option ℕ) (h : List Entry) → alive p h ≡ up → P k 4 h → P k 4 (if_up p f up h)
+  walk_if_up k p f one None h is s = s
+  walk_if_up k p f one (Some i) h is s = one i h is s
+
+  walk_restart_as : (k p : ℕ) (b : Bool) (h : List Entry) → P k 4 h → P k 4 (restart_as k p b h)
+  walk_restart_as k p false h s = s
+  walk_restart_as k p true h s = keeps.starts k 4 p h s
+
+  walk_restart : (k p : ℕ) (up : Option ℕ) (h : List Entry) → P k 4 h → P k 4 (restart_if doc k p up h)
+  walk_restart k p (Some i) h s = s
+  walk_restart k p None h s = walk_restart_as k p (is_restart_due doc p k (ended p h)) h s
+
+  walk_expire_as : (k p i : ℕ) (call : Call) → is_controller doc p ≡ true → (h : List Entry) → alive p h ≡ Some i → call_in (identity p i) h ≡ Some call → (b : Bool) → is_late doc (identity p i) k call ≡ b → P k 4 h → P k 4 (expire_as k (identity p i) call b h)
+  walk_expire_as k p i call role h up waits false late s = s
+  walk_expire_as k p i call role h up waits true late s = keeps.expires k p i call h role up waits late s
+
+  walk_expire : (k p i : ℕ) → is_controller doc p ≡ true → (h : List Entry) → alive p h ≡ Some i → (o : Option Call) → call_in (identity p i) h ≡ o → P k 4 h → P k 4 (expire_call doc k (identity p i) o h)
+  walk_expire k p i role h up None waits s = s
+  walk_expire k p i role h up (Some call) waits s = walk_expire_as k p i call role h up waits (is_late doc (identity p i) k call) refl s
+
+  walk_end_as : (k p i at : ℕ) → is_controller doc p ≡ true → (h : List Entry) → alive p h ≡ Some i → deadline doc (identity p i) h ≡ Some at → (b : Bool) → nat_lt (local doc p k) at ≡ b → P k 4 h → P k 4 (end_as k (identity p i) b h)
+  walk_end_as k p i at role h up is true before s = s
+  walk_end_as k p i at role h up is false before s = keeps.ends k p i at h role up is before s
+
+  walk_end : (k p i : ℕ) → is_controller doc p ≡ true → (h : List Entry) → alive p h ≡ Some i → (o : Option ℕ) → deadline doc (identity p i) h ≡ o → P k 4 h → P k 4 (end_term doc k (identity p i) o h)
+  walk_end k p i role h up None is s = s
+  walk_end k p i role h up (Some at) is s = walk_end_as k p i at role h up is (nat_lt (local doc p k) at) refl s
+
+  walk_attempt : (k p i : ℕ) → is_controller doc p ≡ true → (h : List Entry) → alive p h ≡ Some i → (fast due : Bool)
+      → (fast ≡ true → call_in (identity p i) h ≡ None) → (due ≡ true → call_in (identity p i) h ≡ None) → P k 4 h → P k 4 (attempt_if doc k (identity p i) fast due h)
+  walk_attempt k p i role h up true due a b s = keeps.polls k p i h role up (a refl) s
+  walk_attempt k p i role h up false true a b s = keeps.attempts k p i h role up (b refl) s
+  walk_attempt k p i role h up false false a b s = s
+
+  walk_try : (k p i : ℕ) → is_controller doc p ≡ true → (h : List Entry) → alive p h ≡ Some i → P k 4 h → P k 4 (try doc k (identity p i) h)
+  walk_try k p i role h up s =
+      walk_attempt k p i role h up (is_fast_call (just_expired (identity p i) k h)) (not (has (call_in (identity p i) h)) && not (nat_lt (local doc p k) (timer doc (identity p i) h)))
+      (by_expiry (just_expired (identity p i) k h) refl) (by_call (call_in (identity p i) h)) s
+    where
+      by_expiry : (o : Option Call) → just_expired (identity p i) k h ≡ o → is_fast_call o ≡ true → call_in (identity p i) h ≡ None
+      by_expiry None is fast = absurd (true_is (sym fast))
+      by_expiry (Some c) is fast = expired_none (identity p i) k h c is
+
+      by_call : (o : Option Call) → (not (has o) && not (nat_lt (local doc p k) (timer doc (identity p i) h))) ≡ true → o ≡ None
+      by_call None due = refl
+      by_call (Some c) due = absurd (true_is (sym due))
+
+  walk_tick : (k : ℕ) (q : Identity) (b : Bool) (h : List Entry) → P k 4 h → P k 4 (tick_as doc k q b h)
+  walk_tick k q false h s = s
+  walk_tick k q true h s = s
+
+  pub walk_after_end : (k p : ℕ) → is_controller doc p ≡ true → (h : List Entry) → P k 4 h → P k 4 (ticks doc k p (attempts doc k p h))
+  walk_after_end k p role h s =
+      let h4 = attempts doc k p h in
+      let s4 : P k 4 h4 = walk_if_up k p (try doc k) (λ i T up s. walk_try k p i role T up s) (alive p h) h refl s in
+      walk_if_up k p (λ q T. tick_as doc k q (acts doc q k T) T) (λ i T up s. walk_tick k (identity p i) (acts doc (identity p i) k T) T s) (alive p h4) h4 refl s4
+
+  pub walk_expiry : (k p : ℕ) → is_controller doc p ≡ true → (h : List Entry) → P k 4 h → P k 4 (expire doc k p h)
+  walk_expiry k p role h s = walk_if_up k p (λ q T. expire_call doc k q (call_in q T) T) (λ i T up s. walk_expire k p i role T up (call_in (identity p i) T) refl s) (alive p h) h refl s
+
+  walk_finish : (k p : ℕ) → is_controller doc p ≡ true → (h : List Entry) → P k 4 h → P k 4 (finish doc k p h)
+  walk_finish k p role h s = walk_if_up k p (λ q T. end_term doc k q (deadline doc q T) T) (λ i T up s. walk_end k p i role T up (deadline doc (identity p i) T) refl s) (alive p h) h refl s
+
+  walk_controller : (k p : ℕ) → is_controller doc p ≡ true → (h : List Entry) → P k 4 h → P k 4 (controller_turn doc k p h)
+  walk_controller k p role h s =
+      let h1 = restart doc k p h in
+      let s1 : P k 4 h1 = walk_restart k p (alive p h) h s in
+      let h2 = expire doc k p h1 in
+      let s2 : P k 4 h2 = walk_expiry k p role h1 s1 in
+      walk_after_end k p role (finish doc k p h2) (walk_finish k p role h2 s2)
+
+  walk_turn_as : (k p : ℕ) (b : Bool) → is_controller doc p ≡ b → (h : List Entry) → P k 4 h → P k 4 (turn_as doc k p b h)
+  walk_turn_as k p true role h s = walk_controller k p role h s
+  walk_turn_as k p false role h s = s
+
+  pub walk_turn : (k p : ℕ) (h : List Entry) → P k 4 h → P k 4 (turn doc k p h)
+  walk_turn k p h s = walk_turn_as k p (is_controller doc p) refl h s
+
+  pub walk_turns : (k n : ℕ) (h : List Entry) → P k 4 h → P k 4 (turns doc k n h)
+  walk_turns k zero h s = s
+  walk_turns k (suc p) h s = walk_turn k p (turns doc k p h) (walk_turns k p h s)
+
+  -- ---- histories
+
+  -- the history before a beat
+  pub walk_history : P 0 1 (history doc 0) → (k : ℕ) → P k 1 (history doc k)
+  walk_history first zero = first
+  walk_history first (suc k) =
+      let h = three_steps doc k (history doc k) in
+      keeps.next k (turns doc k (processes doc) h) (walk_turns k (processes doc) h (walk_steps k (history doc k) (walk_history first k)))
+
+  -- the history at a turn
+  pub walk_at_turn : P 0 1 (history doc 0) → (p k : ℕ) → P k 4 (at_turn doc p k)
+  walk_at_turn first p k = walk_turns k p (three_steps doc k (history doc k)) (walk_steps k (history doc k) (walk_history first k))

@@ -1,0 +1,2 @@
+//! Laws of every history, whatever its document.
+#![tactic(auto)]
