@@ -1,3 +1,5 @@
 pub mod Plainly
 pub mod Expired
 pub mod Walk
+pub mod Tailed
+pub mod Versions

@@ -1,20 +1,21 @@
 -- One walk through the steps of every beat: what each kind of entry keeps holds of every history.
-use Rattle.std.proofs.Common.{◌≡◌, ◌⊎◌, ℕ, zero, suc, ◌+◌, ◌==◌, ◌&&◌, not, nat_lt, Bool, true, false, cond, List, [], ◌∷◌, Option, Some, None, refl, sym, ap, ◌∙◌, subst, inl, inr}
+use Rattle.std.proofs.Common.{◌≡◌, ◌⊎◌, ℕ, zero, suc, ◌+◌, ◌==◌, ◌&&◌, not, nat_lt, Bool, true, false, cond, List, [], ◌∷◌, Option, Some, None, IfSome, refl, sym, ap, ◌∙◌, subst, inl, inr}
 use Rattle.kube_base.specs.declared.numbers.ProcId.{ProcId}
 use Rattle.kube_base.specs.declared.numbers.Version.{Version}
 use Rattle.kube_objects.specs.declared.call.Reply.{Reply}
 use Rattle.kube_objects.specs.declared.call.Request.{Request}
 use Rattle.kube_objects.specs.declared.call.Request.TheVariants.{Get}
+use Rattle.kube_objects.specs.declared.deed.Actor.{Actor}
 use Rattle.kube_objects.specs.declared.script.Event.{Event}
 use Rattle.kube_objects.specs.declared.script.What.{What}
 use Rattle.kube_objects.specs.declared.script.What.TheVariants as what
 use Rattle.kube_objects.specs.Clocks.{local}
 use Rattle.kube_objects.specs.Document.{Doc, processes, is_controller, is_up_first}
 use Rattle.kube_objects.specs.Elector.{Follow, Fails, Asks, Succeeds, follow_on, leads, deadline, timer, attempt, release, acts}
-use Rattle.kube_objects.specs.Entry.{Entry, Identity, Call, CallKind, Plain, Release, Event as Happens, Starts, Crashes, Stops, Ends, Delivers, Expires, Leads, entry, script_entry}
+use Rattle.kube_objects.specs.Entry.{Entry, Identity, Call, CallKind, Plain, Release, Deed, Event as Happens, Starts, Crashes, Stops, Ends, Delivers, Expires, Leads, actor_of, entry, script_entry}
 use Rattle.kube_objects.specs.Identities.{identity}
 use Rattle.kube_objects.specs.Newest.{has}
-use Rattle.kube_objects.specs.Process.{alive, starts, call_in, counted, is_late, ended, is_restart_due}
+use Rattle.kube_objects.specs.Process.{alive, starts, begun, call_in, counted, is_late, ended, is_restart_due}
 use Rattle.kube_objects.specs.Stored.{election}
 use Rattle.kube_objects.specs.Turns.{lead_if, react, expire_as, expire_call, end_as, end_term, just_expired, is_fast_call, attempt_if, try}
 use Rattle.kube_objects.specs.Wire.{send, Sent, Back, sent_of, back_of}
@@ -57,7 +58,7 @@ after_reply k b waiting h = entry k 3 b.who (Delivers waiting b.reply true) ∷ 
 -- a property, at a beat and a step, that each kind of entry keeps
 pub record Keeps (doc : Doc) (P : ℕ → ℕ → List Entry → Type 0) : Type 0 where
   pub on : (k step : ℕ) (h : List Entry) → P k step h → P k (suc step) h
-  pub next : (k : ℕ) (h : List Entry) → P k 4 h → P (suc k) 1 h
+  pub next : (k : ℕ) → P k 4 (history doc (suc k)) → P (suc k) 1 (history doc (suc k))
   pub event : (k : ℕ) (w : What) (h : List Entry) → Scripted doc k w → P k 1 h → P k 1 (script_entry k 1 (Happens (stamp doc k w) (event_version w h)) ∷ h)
   pub starts : (k step p : ℕ) (h : List Entry) → P k step h → P k step (start k step p h)
   pub crashes : (k p i : ℕ) (h : List Entry) → alive p h ≡ Some i → P k 1 h → P k 1 (entry k 1 (identity p i) Crashes ∷ h)
@@ -81,6 +82,42 @@ pub record Keeps (doc : Doc) (P : ℕ → ℕ → List Entry → Type 0) : Type 
       → P k 4 h → P k 4 (send k 4 (identity p i) Plain (Get election) h)
   pub attempts : (k p i : ℕ) (h : List Entry) → is_controller doc p ≡ true → alive p h ≡ Some i → call_in (identity p i) h ≡ None
       → P k 4 h → P k 4 (send k 4 (identity p i) (attempt doc (identity p i) k h).0 (attempt doc (identity p i) k h).1 h)
+
+-- what every new entry has: a call's number is the next one, and so is a start's incarnation
+abbrev pub StartIsNext : Actor → Deed → List Entry → Type 0
+StartIsNext who Starts h = (p : ℕ) × (who ≡ actor_of (identity p (starts p h + 1)))
+StartIsNext who _ h = Unit {0}
+
+abbrev pub CallIsNext : List Entry → Sent → Type 0
+CallIsNext h s = s.call.number ≡ begun s.who h + 1
+
+abbrev pub IsNext : Entry → List Entry → Type 0
+IsNext x h = StartIsNext x.actor x.deed h × IfSome (sent_of x.actor x.deed) (CallIsNext h)
+
+-- a property that every new entry keeps, whatever its kind
+pub all_kinds : (doc : Doc) (P : ℕ → ℕ → List Entry → Type 0)
+    → ((k step : ℕ) (h : List Entry) → P k step h → P k (suc step) h)
+    → ((k : ℕ) (h : List Entry) → P k 4 h → P (suc k) 1 h)
+    → ((x : Entry) (h : List Entry) → IsNext x h → P x.beat x.step h → P x.beat x.step (x ∷ h))
+    → Keeps doc P
+all_kinds doc P on next more = record {
+  on = on;
+  next = λ k s. next k (history doc (suc k)) s;
+  event = λ k w h scripted s. more _ h (tt, tt) s;
+  starts = λ k step p h s. more _ h ((p, refl), tt) s;
+  crashes = λ k p i h up s. more _ h (tt, tt) s;
+  stops = λ k id i h scripted up s. more _ h (tt, tt) s;
+  releases = λ k id i before request scripted up is s. more _ (stopped_at k id i before) (tt, refl) s;
+  answers = λ k s h at t. more _ h (tt, tt) t;
+  ignores = λ k b h coming is s. more _ h (tt, tt) s;
+  counts = λ k b waiting h coming is s. more _ h (tt, tt) s;
+  follows = λ k b waiting h request coming is role follows s. more _ (after_reply k b waiting h) (tt, refl) s;
+  leads = λ k b waiting h version coming is role follows s. more _ (after_reply k b waiting h) (tt, tt) s;
+  expires = λ k p i call h role up waits late s. more _ h (tt, tt) s;
+  ends = λ k p i at h role up is before s. more _ h (tt, tt) s;
+  polls = λ k p i h role up waits s. more _ h (tt, refl) s;
+  attempts = λ k p i h role up waits s. more _ h (tt, refl) s;
+}
 
 module _ (doc : Doc) (P : ℕ → ℕ → List Entry → Type 0) (keeps : Keeps doc P) where
   -- ---- step 1
@@ -302,7 +339,7 @@ module _ (doc : Doc) (P : ℕ → ℕ → List Entry → Type 0) (keeps : Keeps 
   walk_history first zero = first
   walk_history first (suc k) =
       let h = three_steps doc k (history doc k) in
-      keeps.next k (turns doc k (processes doc) h) (walk_turns k (processes doc) h (walk_steps k (history doc k) (walk_history first k)))
+      keeps.next k (walk_turns k (processes doc) h (walk_steps k (history doc k) (walk_history first k)))
 
   -- the history at a turn
   pub walk_at_turn : P 0 1 (history doc 0) → (p k : ℕ) → P k 4 (at_turn doc p k)
