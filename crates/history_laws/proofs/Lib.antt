@@ -3,3 +3,5 @@ pub mod Expired
 pub mod Walk
 pub mod Tailed
 pub mod Versions
+pub mod Order
+pub mod Lives

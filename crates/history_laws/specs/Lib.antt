@@ -1,2 +1,3 @@
 pub mod Tails
 pub mod Versions
+pub mod Order

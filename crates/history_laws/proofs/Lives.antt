@@ -1,0 +1,70 @@
+-- The present incarnation was counted, and one that is over stays so.
+use Rattle.std.proofs.Common.{◌≡◌, ℕ, ◌+◌, ◌==◌, ◌&&◌, ◌≤◌, Bool, true, false, List, [], ◌∷◌, Option, Some, None, refl, sym, ap, ◌∙◌, subst, arith}
+use Rattle.std.proofs.lemmas.Bool.{eqb-true}
+use Rattle.kube_objects.specs.declared.deed.Actor.{Actor}
+use Rattle.kube_objects.specs.Entry.{Entry, Identity, Deed, First, Event, Starts, Crashes, Stops, Ends, Sends, Answers, Delivers, Expires, Leads, Ticks}
+use Rattle.kube_objects.specs.Identities.{identity, of_process}
+use Rattle.kube_objects.specs.Newest.{added, when, join, has}
+use Rattle.kube_objects.specs.Process.{born, gone, life_says, life, alive, is_start, starts}
+use Rattle.history_laws.proofs.Plainly.{upper, some_is, none_is}
+use Rattle.history_laws.proofs.Walk.{StartIsNext}
+
+-- the present incarnation was counted
+abbrev pub Counted : List Entry → Type 0
+Counted h = (p i : ℕ) → alive p h ≡ Some i → i ≤ starts p h
+
+-- the incarnation was there, and isn't the present one
+abbrev pub Over : Identity → List Entry → Type 0
+Over q h = (q.incarnation ≤ starts q.process h) × (alive q.process h ≡ Some q.incarnation → ⊥)
+
+started : (p d : ℕ) (h : List Entry) (A : ℕ → Option ℕ → Type 0) → (n : ℕ) → ((p == d) ≡ true → A (starts d h + 1) (Some n)) → A (starts d h) (alive d h)
+    → A (added (has (when (p == d) n)) (starts d h)) (join (upper (born (when (p == d) n)) (life d h)))
+started p d h A n own other = by_test (p == d) refl
+  where
+    by_test : (b : Bool) → (p == d) ≡ b → A (added (has (when b n)) (starts d h)) (join (upper (born (when b n)) (life d h)))
+    by_test true is = own is
+    by_test false is = other
+
+lost : (o : Option ℕ) (last : Option (Option ℕ)) (i : ℕ) → join (upper (gone o) last) ≡ Some i → join last ≡ Some i
+lost None last i up = up
+lost (Some j) last i up = absurd (none_is i up)
+
+pub counted_more : (x : Entry) (h : List Entry) → StartIsNext x.actor x.deed h → Counted h → Counted (x ∷ h)
+counted_more x h next s p = cases x.actor x.deed next
+  where
+    cases : (who : Actor) (d : Deed) → StartIsNext who d h → (i : ℕ) → join (upper (life_says p who d) (life p h)) ≡ Some i → i ≤ added (is_start d && has (of_process p who)) (starts p h)
+    cases who Starts next =
+        subst (λ who. (i : ℕ) → join (upper (life_says p who Starts) (life p h)) ≡ Some i → i ≤ added (has (of_process p who)) (starts p h)) (sym next.1)
+        (started next.0 p h (λ n o. (i : ℕ) → o ≡ Some i → i ≤ n) (starts next.0 h + 1)
+        (λ is i up. omega (arith, some_is _ _ up, ap (λ d. starts d h) (eqb-true next.0 p is))) (s p))
+    cases who Crashes next = λ i up. s p i (lost (of_process p who) (life p h) i up)
+    cases who Stops next = λ i up. s p i (lost (of_process p who) (life p h) i up)
+    cases who Ends next = λ i up. s p i (lost (of_process p who) (life p h) i up)
+    cases who (First key object) next = s p
+    cases who (Event what version) next = s p
+    cases who (Sends call arrives) next = s p
+    cases who (Answers call reply comes written) next = s p
+    cases who (Delivers call reply counted) next = s p
+    cases who (Expires call) next = s p
+    cases who (Leads version) next = s p
+    cases who (Ticks tick) next = s p
+
+pub over_more : (q : Identity) (x : Entry) (h : List Entry) → StartIsNext x.actor x.deed h → Over q h → Over q (x ∷ h)
+over_more q x h next s = cases x.actor x.deed next
+  where
+    cases : (who : Actor) (d : Deed) → StartIsNext who d h → (q.incarnation ≤ added (is_start d && has (of_process q.process who)) (starts q.process h)) × (join (upper (life_says q.process who d) (life q.process h)) ≡ Some q.incarnation → ⊥)
+    cases who Starts next =
+        subst (λ who. (q.incarnation ≤ added (has (of_process q.process who)) (starts q.process h)) × (join (upper (life_says q.process who Starts) (life q.process h)) ≡ Some q.incarnation → ⊥)) (sym next.1)
+        (started next.0 q.process h (λ n o. (q.incarnation ≤ n) × (o ≡ Some q.incarnation → ⊥)) (starts next.0 h + 1)
+        (λ is. (omega (arith, s.0), λ up. absurd (omega (arith, s.0, some_is _ _ up, ap (λ d. starts d h) (eqb-true next.0 q.process is))))) s)
+    cases who Crashes next = (s.0, λ up. s.1 (lost (of_process q.process who) (life q.process h) q.incarnation up))
+    cases who Stops next = (s.0, λ up. s.1 (lost (of_process q.process who) (life q.process h) q.incarnation up))
+    cases who Ends next = (s.0, λ up. s.1 (lost (of_process q.process who) (life q.process h) q.incarnation up))
+    cases who (First key object) next = s
+    cases who (Event what version) next = s
+    cases who (Sends call arrives) next = s
+    cases who (Answers call reply comes written) next = s
+    cases who (Delivers call reply counted) next = s
+    cases who (Expires call) next = s
+    cases who (Leads version) next = s
+    cases who (Ticks tick) next = s
