@@ -5,3 +5,6 @@ pub mod Tailed
 pub mod Versions
 pub mod Order
 pub mod Lives
+pub mod Counting
+pub mod Once
+pub mod Numbers

@@ -64,7 +64,7 @@ pub record Keeps (doc : Doc) (P : ℕ → ℕ → List Entry → Type 0) : Type 
   pub crashes : (k p i : ℕ) (h : List Entry) → alive p h ≡ Some i → P k 1 h → P k 1 (entry k 1 (identity p i) Crashes ∷ h)
   pub stops : (k : ℕ) (id : ProcId) (i : ℕ) (h : List Entry) → Scripted doc k (what.Stop id) → alive id.0 h ≡ Some i → P k 1 h → P k 1 (entry k 1 (identity id.0 i) Stops ∷ h)
   pub releases : (k : ℕ) (id : ProcId) (i : ℕ) (before : List Entry) (request : Request) → Scripted doc k (what.Stop id) → alive id.0 before ≡ Some i
-      → release doc (identity id.0 i) k before ≡ Some request → P k 1 (stopped_at k id i before) → P k 1 (send k 1 (identity id.0 i) Release request (stopped_at k id i before))
+      → release doc (identity id.0 i) k before ≡ Some request → P k 1 (script_entry k 1 (Happens (what.Stop id) None) ∷ before) → P k 1 (stopped_at k id i before) → P k 1 (send k 1 (identity id.0 i) Release request (stopped_at k id i before))
   pub answers : (k : ℕ) (s : Sent) (h : List Entry) → Arriving k h s → P k 2 h → P k 2 (answered k s h)
   pub ignores : (k : ℕ) (b : Back) (h : List Entry) → Coming k h b → counted doc b.who k b.call.number h ≡ None → P k 3 h → P k 3 (entry k 3 b.who (Delivers b.call b.reply false) ∷ h)
   pub counts : (k : ℕ) (b : Back) (waiting : Call) (h : List Entry) → Coming k h b → counted doc b.who k b.call.number h ≡ Some waiting → P k 3 h → P k 3 (after_reply k b waiting h)
@@ -107,7 +107,7 @@ all_kinds doc P on next more = record {
   starts = λ k step p h s. more _ h ((p, refl), tt) s;
   crashes = λ k p i h up s. more _ h (tt, tt) s;
   stops = λ k id i h scripted up s. more _ h (tt, tt) s;
-  releases = λ k id i before request scripted up is s. more _ (stopped_at k id i before) (tt, refl) s;
+  releases = λ k id i before request scripted up is was s. more _ (stopped_at k id i before) (tt, refl) s;
   answers = λ k s h at t. more _ h (tt, tt) t;
   ignores = λ k b h coming is s. more _ h (tt, tt) s;
   counts = λ k b waiting h coming is s. more _ h (tt, tt) s;
@@ -143,15 +143,15 @@ module _ (doc : Doc) (P : ℕ → ℕ → List Entry → Type 0) (keeps : Keeps 
   walk_crash k p (Some i) h is s = keeps.crashes k p i h is s
 
   walk_released : (k : ℕ) (id : ProcId) (i : ℕ) (before : List Entry) → Scripted doc k (what.Stop id) → alive id.0 before ≡ Some i → (o : Option Request) → release doc (identity id.0 i) k before ≡ o
-      → P k 1 (stopped_at k id i before) → P k 1 (released k (identity id.0 i) o (stopped_at k id i before))
-  walk_released k id i before scripted up None is s = s
-  walk_released k id i before scripted up (Some request) is s = keeps.releases k id i before request scripted up is s
+      → P k 1 (script_entry k 1 (Happens (what.Stop id) None) ∷ before) → P k 1 (stopped_at k id i before) → P k 1 (released k (identity id.0 i) o (stopped_at k id i before))
+  walk_released k id i before scripted up None is was s = s
+  walk_released k id i before scripted up (Some request) is was s = keeps.releases k id i before request scripted up is was s
 
   walk_stop : (k : ℕ) (id : ProcId) (up : Option ℕ) (before : List Entry) → Scripted doc k (what.Stop id) → alive id.0 before ≡ up
       → P k 1 (script_entry k 1 (Happens (what.Stop id) None) ∷ before) → P k 1 (stop doc k id.0 up before (script_entry k 1 (Happens (what.Stop id) None) ∷ before))
   walk_stop k id None before scripted is s = s
   walk_stop k id (Some i) before scripted is s =
-      walk_released k id i before scripted is (release doc (identity id.0 i) k before) refl
+      walk_released k id i before scripted is (release doc (identity id.0 i) k before) refl s
       (keeps.stops k id i (script_entry k 1 (Happens (what.Stop id) None) ∷ before) scripted is s)
 
   walk_effect : (k : ℕ) (w : What) (before : List Entry) → Scripted doc k w → P k 1 (script_entry k 1 (Happens (stamp doc k w) (event_version w before)) ∷ before)

@@ -1,3 +1,4 @@
 pub mod Tails
 pub mod Versions
 pub mod Order
+pub mod Calls
