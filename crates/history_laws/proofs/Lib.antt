@@ -8,3 +8,5 @@ pub mod Lives
 pub mod Counting
 pub mod Once
 pub mod Numbers
+pub mod Starts
+pub mod Bounds

@@ -1,9 +1,9 @@
 -- The present incarnation was counted, and one that is over stays so.
-use Rattle.std.proofs.Common.{◌≡◌, ℕ, ◌+◌, ◌==◌, ◌&&◌, ◌≤◌, Bool, true, false, List, [], ◌∷◌, Option, Some, None, refl, sym, ap, ◌∙◌, subst, arith}
+use Rattle.std.proofs.Common.{◌≡◌, ℕ, ◌+◌, ◌==◌, ◌&&◌, ◌≤◌, Bool, true, false, List, ◌∷◌, Option, Some, None, refl, sym, ap, subst, arith}
 use Rattle.std.proofs.lemmas.Bool.{eqb-true}
 use Rattle.kube_objects.specs.declared.deed.Actor.{Actor}
 use Rattle.kube_objects.specs.Entry.{Entry, Identity, Deed, First, Event, Starts, Crashes, Stops, Ends, Sends, Answers, Delivers, Expires, Leads, Ticks}
-use Rattle.kube_objects.specs.Identities.{identity, of_process}
+use Rattle.kube_objects.specs.Identities.{of_process}
 use Rattle.kube_objects.specs.Newest.{added, when, join, has}
 use Rattle.kube_objects.specs.Process.{born, gone, life_says, life, alive, is_start, starts}
 use Rattle.history_laws.proofs.Plainly.{upper, some_is, none_is}

@@ -1,12 +1,12 @@
 -- The numbers of requests count them.
-use Rattle.std.proofs.Common.{◌≡◌, ℕ, zero, suc, ◌+◌, ◌&&◌, Bool, true, false, List, [], ◌∷◌, Option, Some, None, IfSome, refl, sym, ap, ◌∙◌, subst, inl, inr, ⊎_elim, arith}
+use Rattle.std.proofs.Common.{◌≡◌, ℕ, ◌+◌, ◌&&◌, true, List, [], ◌∷◌, Option, Some, IfSome, sym, ap, subst, inl, inr, ⊎_elim, arith}
 use Rattle.kube_objects.specs.declared.key.Key.{Key}
 use Rattle.kube_objects.specs.declared.object.Object.{Object}
 use Rattle.kube_objects.specs.declared.deed.Actor.{Actor}
 use Rattle.kube_objects.specs.declared.deed.Actor.TheVariants as actor
 use Rattle.kube_objects.specs.Clocks.{store_wall, whole_second}
 use Rattle.kube_objects.specs.Document.{Doc}
-use Rattle.kube_objects.specs.Entry.{Entry, Identity, Call, Deed, First, Event, Starts, Crashes, Stops, Ends, Sends, Answers, Delivers, Expires, Leads, Ticks, script_entry}
+use Rattle.kube_objects.specs.Entry.{Entry, Call, Deed, First, Event, Starts, Crashes, Stops, Ends, Sends, Answers, Delivers, Expires, Leads, Ticks, script_entry}
 use Rattle.kube_objects.specs.Identities.{identity, is_same, is_by, identity_of}
 use Rattle.kube_objects.specs.Newest.{added}
 use Rattle.kube_objects.specs.Process.{begun, is_send}

@@ -1,32 +1,27 @@
 -- An identity sends at most one request in a beat.
-use Rattle.std.proofs.Common.{◌≡◌, ◌⊎◌, ◌<◌, ◌≤◌, ℕ, zero, suc, ◌+◌, ◌==◌, ◌&&◌, not, nat_lt, Bool, true, false, cond, List, [], ◌∷◌, Option, Some, None, IfSome, refl, sym, ap, ◌∙◌, subst, inl, inr, ⊎_elim, arith}
-use Rattle.std.proofs.lemmas.Bool.{eqb-true, ltb-true, eq-eqb}
+use Rattle.std.proofs.Common.{◌≡◌, ◌⊎◌, ◌<◌, ◌≤◌, ℕ, zero, suc, ◌+◌, ◌&&◌, Bool, true, false, cond, List, [], ◌∷◌, Option, Some, None, IfSome, refl, sym, ap, ◌∙◌, subst, inl, inr, arith}
+use Rattle.std.proofs.lemmas.Bool.{ltb-true, eq-eqb}
 use Rattle.kube_base.specs.declared.numbers.ProcId.{ProcId}
-use Rattle.kube_base.specs.declared.numbers.Version.{Version}
-use Rattle.kube_objects.specs.declared.call.Reply.{Reply}
 use Rattle.kube_objects.specs.declared.call.Request.{Request}
 use Rattle.kube_objects.specs.declared.call.Request.TheVariants.{Get, Update}
 use Rattle.kube_objects.specs.declared.key.Key.{Key}
 use Rattle.kube_objects.specs.declared.object.Object.{Object}
-use Rattle.kube_objects.specs.declared.script.What.{What}
 use Rattle.kube_objects.specs.declared.script.What.TheVariants as what
-use Rattle.kube_objects.specs.Answers.{answer, written}
 use Rattle.kube_objects.specs.Clocks.{local, store_wall, whole_second}
-use Rattle.kube_objects.specs.Document.{Doc, processes, call_timeout, is_controller}
+use Rattle.kube_objects.specs.Document.{Doc, processes, call_timeout}
 use Rattle.kube_objects.specs.Elector.{Shown, attempt, attempt_from, is_valid, renewed, leads, observed_at, shown}
-use Rattle.kube_objects.specs.Entry.{Entry, Identity, Call, CallKind, Plain, Fast, Release, First, Event as Happens, Starts, Crashes, Stops, Ends, Sends, Answers, Delivers, Expires, Leads, entry, script_entry, actor_of}
+use Rattle.kube_objects.specs.Entry.{Entry, Identity, Call, CallKind, Plain, Fast, Release, First, Event as Happens, Sends, Expires, entry, script_entry}
 use Rattle.kube_objects.specs.Identities.{identity, is_same, is_by, is_own}
-use Rattle.kube_objects.specs.Newest.{added, when, only_if, join}
-use Rattle.kube_objects.specs.Process.{gone, life, alive, starts, begun, is_send, open_as, last_call, call_in, is_present, is_late, answered_call, counted}
+use Rattle.kube_objects.specs.Newest.{added, when, join}
+use Rattle.kube_objects.specs.Process.{gone, life, alive, starts, begun, is_send, open_as, last_call, call_in, is_late, counted}
 use Rattle.kube_objects.specs.Stamps.{stamped}
 use Rattle.kube_objects.specs.Stored.{election}
-use Rattle.kube_objects.specs.Wire.{next_call, request_arrival, reply_arrival, send, Sent, Back, sent_of, back_of}
+use Rattle.kube_objects.specs.Wire.{next_call, request_arrival, send, Sent, Back, sent_of, back_of}
 use Rattle.history.specs.History.{put_all, history, at_turn}
-use Rattle.history.specs.Steps.{start, stamp, event_version, comes_at, answered}
 use Rattle.history_laws.specs.Tails.{In}
 use Rattle.history_laws.specs.Calls.{OneCallABeat, CallsAreFew}
-use Rattle.history_laws.proofs.Plainly.{upper, for_new, for_old, if_some, some_is, none_is, true_is, and_left, and_right, not_true, same_is, same_self, added_more}
-use Rattle.history_laws.proofs.Walk.{StartIsNext, Scripted, Arriving, Coming, stopped_at, after_reply, Keeps, walk_history, walk_at_turn}
+use Rattle.history_laws.proofs.Plainly.{upper, for_new, for_old, if_some, some_is, none_is, true_is, same_is, same_self, added_more}
+use Rattle.history_laws.proofs.Walk.{StartIsNext, Arriving, Coming, stopped_at, after_reply, Keeps, walk_at_turn}
 use Rattle.history_laws.proofs.Counting.{CountedFor, counted_is}
 use Rattle.history_laws.proofs.Lives.{Counted, Over, counted_more, over_more}
 

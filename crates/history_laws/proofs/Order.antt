@@ -1,5 +1,5 @@
 -- Histories are ordered by beats and steps.
-use Rattle.std.proofs.Common.{◌≡◌, ◌⊎◌, ℕ, zero, suc, ◌+◌, ◌≤◌, ◌<◌, List, [], ◌∷◌, refl, sym, ap, ◌∙◌, subst, inl, inr, ⊎_elim, arith}
+use Rattle.std.proofs.Common.{ℕ, zero, suc, List, [], ◌∷◌, refl, inl, inr, ⊎_elim, arith}
 use Rattle.kube_objects.specs.declared.key.Key.{Key}
 use Rattle.kube_objects.specs.declared.object.Object.{Object}
 use Rattle.kube_objects.specs.Clocks.{store_wall, whole_second}
@@ -8,10 +8,10 @@ use Rattle.kube_objects.specs.Entry.{Entry, First, script_entry}
 use Rattle.kube_objects.specs.Stamps.{stamped}
 use Rattle.history.specs.History.{put_all, history, at_turn}
 use Rattle.history_laws.specs.Tails.{In}
-use Rattle.history_laws.specs.Order.{IsWithin, IsOrdered, EntriesAreOrdered, EntriesAreEarlier, TurnsArePositions, HistoriesArePositions}
+use Rattle.history_laws.specs.Order.{IsWithin, IsOrdered, EntriesAreOrdered, EntriesAreEarlier, TurnsArePositions, HistoriesArePositions, StepsOnlyAdd}
 use Rattle.history_laws.proofs.Plainly.{for_new, for_old}
-use Rattle.history_laws.proofs.Tailed.{turn_tail, before_turn, later_tail}
-use Rattle.history_laws.proofs.Walk.{Keeps, all_kinds, walk_history, walk_at_turn}
+use Rattle.history_laws.proofs.Tailed.{tail_all, one_adds, two_adds, three_adds, turns_add, turn_tail, before_turn, later_tail}
+use Rattle.history_laws.proofs.Walk.{Keeps, all_kinds, walk_at_turn}
 
 record Sorted (k step : ℕ) (h : List Entry) : Type 0 where
   ordered : IsOrdered h
@@ -66,3 +66,6 @@ turns_are_positions doc p k le = (before_turn doc p k, turn_tail doc p k le)
 
 pub histories_are_positions : HistoriesArePositions
 histories_are_positions doc k m le = later_tail doc k m le
+
+pub steps_only_add : StepsOnlyAdd
+steps_only_add doc k h = (one_adds doc k h h (tail_all h), two_adds doc k h h (tail_all h), three_adds doc k h h (tail_all h), λ n. turns_add doc k n h h (tail_all h))

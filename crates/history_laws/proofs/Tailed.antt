@@ -1,16 +1,20 @@
 -- Positions of a history.
-use Rattle.std.proofs.Common.{◌≡◌, ◌⊎◌, ℕ, zero, suc, ◌+◌, ◌-◌, ◌≤◌, ◌<◌, ◌&&◌, Bool, List, [], ◌∷◌, refl, sym, ap, ◌∙◌, subst, inl, inr, arith}
-use Rattle.kube_objects.specs.Document.{Doc, processes}
-use Rattle.kube_objects.specs.Entry.{Entry, Identity}
+use Rattle.std.proofs.Common.{◌≡◌, ◌⊎◌, ℕ, zero, suc, ◌+◌, ◌-◌, ◌≤◌, ◌&&◌, Bool, true, false, Option, Some, None, List, [], ◌∷◌, refl, sym, ap, subst, inl, inr, arith}
+use Rattle.kube_objects.specs.declared.call.Reply.{Reply}
+use Rattle.kube_objects.specs.Document.{Doc, processes, is_controller}
+use Rattle.kube_objects.specs.Elector.{Follow, Fails, Asks, Succeeds, follow_on, leads}
+use Rattle.kube_objects.specs.Entry.{Entry, Identity, Call, Delivers, entry}
 use Rattle.kube_objects.specs.Identities.{is_by, of_process}
-use Rattle.kube_objects.specs.Newest.{count, added, has}
-use Rattle.kube_objects.specs.Process.{starts, begun, is_start, is_send}
+use Rattle.kube_objects.specs.Newest.{count, has}
+use Rattle.kube_objects.specs.Process.{starts, begun, is_start, is_send, counted}
 use Rattle.kube_objects.specs.Stored.{writes, write_of}
+use Rattle.kube_objects.specs.Turns.{react}
+use Rattle.kube_objects.specs.Wire.{Sent, Back}
 use Rattle.history.specs.History.{three_steps, history, at_turn}
-use Rattle.history.specs.Steps.{turn, turns}
+use Rattle.history.specs.Steps.{each, comes_at, answer_if, answer_due, react_as, deliver_as, deliver_if, deliver_due, step_one, step_two, step_three, turns}
 use Rattle.history_laws.specs.Tails.{In, IsTail}
 use Rattle.history_laws.proofs.Plainly.{added_more}
-use Rattle.history_laws.proofs.Walk.{Keeps, all_kinds, walk_steps, walk_turn, walk_turns}
+use Rattle.history_laws.proofs.Walk.{Keeps, all_kinds, walk_one, walk_two, walk_three, walk_steps, walk_turn, walk_turns}
 
 pub tail_all : (h : List Entry) → IsTail h h
 tail_all [] = refl
@@ -64,11 +68,55 @@ writes_tail g h at = count_tail (λ e. has (write_of e.deed)) g h at
 pub adds : (doc : Doc) (g : List Entry) → Keeps doc (λ k step h. IsTail g h)
 adds doc g = all_kinds doc (λ k step h. IsTail g h) (λ k step h s. s) (λ k h s. s) (λ x h next s. inr s)
 
+pub one_adds : (doc : Doc) (k : ℕ) (g h : List Entry) → IsTail g h → IsTail g (step_one doc k h)
+one_adds doc k g h at = walk_one doc (λ k step h. IsTail g h) (adds doc g) k h at
+
+pub two_adds : (doc : Doc) (k : ℕ) (g h : List Entry) → IsTail g h → IsTail g (step_two k h)
+two_adds doc k g h at = walk_two doc (λ k step h. IsTail g h) (adds doc g) k h at
+
+pub three_adds : (doc : Doc) (k : ℕ) (g h : List Entry) → IsTail g h → IsTail g (step_three doc k h)
+three_adds doc k g h at = walk_three doc (λ k step h. IsTail g h) (adds doc g) k h at
+
 pub steps_add : (doc : Doc) (k : ℕ) (g h : List Entry) → IsTail g h → IsTail g (three_steps doc k h)
 steps_add doc k g h at = walk_steps doc (λ k step h. IsTail g h) (adds doc g) k h at
 
 pub turns_add : (doc : Doc) (k n : ℕ) (g h : List Entry) → IsTail g h → IsTail g (turns doc k n h)
 turns_add doc k n g h at = walk_turns doc (λ k step h. IsTail g h) (adds doc g) k n h at
+
+-- so does a part of step 2 or 3
+pub each_adds : (f : Entry → List Entry → List Entry) → ((e : Entry) (g h : List Entry) → IsTail g h → IsTail g (f e h)) → (l g h : List Entry) → IsTail g h → IsTail g (each f l h)
+each_adds f one [] g h at = at
+each_adds f one (e ∷ l) g h at = one e g (each f l h) (each_adds f one l g h at)
+
+pub answer_adds : (k : ℕ) (o : Option Sent) (g h : List Entry) → IsTail g h → IsTail g (answer_due k o h)
+answer_adds k None g h at = at
+answer_adds k (Some s) g h at = by_test (comes_at k s.arrives)
+  where
+    by_test : (b : Bool) → IsTail g (answer_if k s b h)
+    by_test true = inr at
+    by_test false = at
+
+react_adds : (k : ℕ) (q : Identity) (led : Bool) (f : Follow) (g h : List Entry) → IsTail g h → IsTail g (react k q led f h)
+react_adds k q led Fails g h at = at
+react_adds k q led (Asks request) g h at = inr at
+react_adds k q true (Succeeds version) g h at = at
+react_adds k q false (Succeeds version) g h at = inr at
+
+react_as_adds : (doc : Doc) (k : ℕ) (q : Identity) (c : Call) (reply : Reply) (b : Bool) (g h : List Entry) → IsTail g h → IsTail g (react_as doc k q c reply b h)
+react_as_adds doc k q c reply true g h at = react_adds k q (leads q h) (follow_on doc q k c.kind c.request reply h) g h at
+react_as_adds doc k q c reply false g h at = at
+
+deliver_as_adds : (doc : Doc) (k : ℕ) (q : Identity) (c : Call) (reply : Reply) (o : Option Call) (g h : List Entry) → IsTail g h → IsTail g (deliver_as doc k q c reply o h)
+deliver_as_adds doc k q c reply None g h at = inr at
+deliver_as_adds doc k q c reply (Some w) g h at = react_as_adds doc k q w reply (is_controller doc q.process) g (entry k 3 q (Delivers w reply true) ∷ h) (inr at)
+
+pub deliver_adds : (doc : Doc) (k : ℕ) (o : Option Back) (g h : List Entry) → IsTail g h → IsTail g (deliver_due doc k o h)
+deliver_adds doc k None g h at = at
+deliver_adds doc k (Some b) g h at = by_test (comes_at k b.comes)
+  where
+    by_test : (t : Bool) → IsTail g (deliver_if doc k b t h)
+    by_test true = deliver_as_adds doc k b.who b.call b.reply (counted doc b.who k b.call.number h) g h at
+    by_test false = at
 
 turns_on : (doc : Doc) (k p n : ℕ) (h : List Entry) → IsTail (turns doc k p h) (turns doc k (p + n) h)
 turns_on doc k p zero h = let e : p ≡ p + 0 = omega arith in subst (λ m. IsTail (turns doc k p h) (turns doc k m h)) e (tail_all (turns doc k p h))

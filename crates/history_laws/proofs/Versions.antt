@@ -1,16 +1,16 @@
 -- Versions are given by writes, only rise, and tell the content.
-use Rattle.std.proofs.Common.{◌≡◌, ◌⊎◌, ℕ, ◌+◌, ◌≤◌, ◌<◌, Bool, true, false, List, [], ◌∷◌, Option, Some, None, refl, sym, ap, ◌∙◌, subst, inl, inr, ⊎_elim, arith}
+use Rattle.std.proofs.Common.{◌≡◌, ◌⊎◌, ℕ, ◌+◌, ◌≤◌, ◌<◌, List, [], ◌∷◌, Option, Some, None, refl, sym, ap, ◌∙◌, subst, inl, inr, ⊎_elim, arith}
 use Rattle.kube_base.specs.declared.numbers.Version.{Version}
 use Rattle.kube_objects.specs.declared.key.Key.{Key}
 use Rattle.kube_objects.specs.declared.object.Object.{Object}
 use Rattle.kube_objects.specs.Entry.{Entry}
 use Rattle.kube_objects.specs.Identities.{identity_of}
 use Rattle.kube_objects.specs.Newest.{added, has, join}
-use Rattle.kube_objects.specs.Stored.{Held, Write, held_as, holds, last_write, stored, writes, next_version, at_key, write_of}
+use Rattle.kube_objects.specs.Stored.{Held, Write, holds, last_write, stored, writes, next_version, at_key, write_of}
 use Rattle.history_laws.specs.Tails.{IsTail}
 use Rattle.history_laws.specs.Versions.{IsWritten, VersionsAreGiven, VersionsRise, VersionsAreContents}
 use Rattle.history_laws.proofs.Plainly.{upper, some_is, none_is, added_more}
-use Rattle.history_laws.proofs.Tailed.{writes_tail, tail_all}
+use Rattle.history_laws.proofs.Tailed.{writes_tail}
 
 -- a write of a key is a write
 counted_write : (key : Key) (w : Option Write) (o : Option Object) (n : ℕ) → at_key key w ≡ Some o → added (has w) n ≡ n + 1

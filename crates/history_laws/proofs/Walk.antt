@@ -1,8 +1,7 @@
 -- One walk through the steps of every beat: what each kind of entry keeps holds of every history.
-use Rattle.std.proofs.Common.{◌≡◌, ◌⊎◌, ℕ, zero, suc, ◌+◌, ◌==◌, ◌&&◌, not, nat_lt, Bool, true, false, cond, List, [], ◌∷◌, Option, Some, None, IfSome, refl, sym, ap, ◌∙◌, subst, inl, inr}
+use Rattle.std.proofs.Common.{◌≡◌, ◌⊎◌, ℕ, zero, suc, ◌+◌, ◌==◌, ◌&&◌, not, nat_lt, Bool, true, false, List, [], ◌∷◌, Option, Some, None, IfSome, refl, sym, inl, inr}
 use Rattle.kube_base.specs.declared.numbers.ProcId.{ProcId}
 use Rattle.kube_base.specs.declared.numbers.Version.{Version}
-use Rattle.kube_objects.specs.declared.call.Reply.{Reply}
 use Rattle.kube_objects.specs.declared.call.Request.{Request}
 use Rattle.kube_objects.specs.declared.call.Request.TheVariants.{Get}
 use Rattle.kube_objects.specs.declared.deed.Actor.{Actor}
@@ -12,7 +11,7 @@ use Rattle.kube_objects.specs.declared.script.What.TheVariants as what
 use Rattle.kube_objects.specs.Clocks.{local}
 use Rattle.kube_objects.specs.Document.{Doc, processes, is_controller, is_up_first}
 use Rattle.kube_objects.specs.Elector.{Follow, Fails, Asks, Succeeds, follow_on, leads, deadline, timer, attempt, release, acts}
-use Rattle.kube_objects.specs.Entry.{Entry, Identity, Call, CallKind, Plain, Release, Deed, Event as Happens, Starts, Crashes, Stops, Ends, Delivers, Expires, Leads, actor_of, entry, script_entry}
+use Rattle.kube_objects.specs.Entry.{Entry, Identity, Call, Plain, Release, Deed, Event as Happens, Starts, Crashes, Stops, Ends, Delivers, Expires, Leads, actor_of, entry, script_entry}
 use Rattle.kube_objects.specs.Identities.{identity}
 use Rattle.kube_objects.specs.Newest.{has}
 use Rattle.kube_objects.specs.Process.{alive, starts, begun, call_in, counted, is_late, ended, is_restart_due}
@@ -20,8 +19,8 @@ use Rattle.kube_objects.specs.Stored.{election}
 use Rattle.kube_objects.specs.Turns.{lead_if, react, expire_as, expire_call, end_as, end_term, just_expired, is_fast_call, attempt_if, try}
 use Rattle.kube_objects.specs.Wire.{send, Sent, Back, sent_of, back_of}
 use Rattle.history.specs.History.{three_steps, history, at_turn}
-use Rattle.history.specs.Steps.{start, start_first, starts_below, first_starts, start_if_down, crash, released, stop, effect, stamp, event_version, happens, happens_if, happen_all, step_one, each, comes_at, answered, answer_if, answer_due, step_two, kubelet_react, react_as, deliver_as, delivered, deliver_if, deliver_due, step_three, if_up, restart_as, restart_if, restart, expire, finish, attempts, tick_as, tick, ticks, controller_turn, kubelet_turn, turn_as, turn, turns}
-use Rattle.history_laws.specs.Tails.{In, IsTail}
+use Rattle.history.specs.Steps.{start, start_first, starts_below, first_starts, start_if_down, crash, released, stop, effect, stamp, event_version, happens_if, happen_all, step_one, each, comes_at, answered, answer_if, answer_due, step_two, react_as, deliver_as, deliver_if, deliver_due, step_three, if_up, restart_as, restart_if, restart, expire, finish, attempts, tick_as, ticks, controller_turn, turn_as, turn, turns}
+use Rattle.history_laws.specs.Tails.{In}
 use Rattle.history_laws.proofs.Expired.{expired_none}
 use Rattle.history_laws.proofs.Plainly.{true_is}
 
@@ -130,7 +129,7 @@ module _ (doc : Doc) (P : ℕ → ℕ → List Entry → Type 0) (keeps : Keeps 
   walk_below zero h s = s
   walk_below (suc p) h s = walk_start_first p (is_up_first doc p) (starts_below doc p h) (walk_below p h s)
 
-  walk_first : (k : ℕ) (h : List Entry) → P k 1 h → P k 1 (first_starts doc k h)
+  pub walk_first : (k : ℕ) (h : List Entry) → P k 1 h → P k 1 (first_starts doc k h)
   walk_first zero h s = walk_below (processes doc) h s
   walk_first (suc k) h s = s
 
@@ -171,7 +170,7 @@ module _ (doc : Doc) (P : ℕ → ℕ → List Entry → Type 0) (keeps : Keeps 
   walk_happens k e scripted false is h s = s
   walk_happens k e scripted true is h s = walk_effect k e.what h (e, scripted, refl, is) (keeps.event k e.what h (e, scripted, refl, is) s)
 
-  walk_events : (k : ℕ) (es : List Event) → ((e : Event) → InScript e es → InScript e doc.events) → (h : List Entry) → P k 1 h → P k 1 (happen_all doc k es h)
+  pub walk_events : (k : ℕ) (es : List Event) → ((e : Event) → InScript e es → InScript e doc.events) → (h : List Entry) → P k 1 h → P k 1 (happen_all doc k es h)
   walk_events k [] among h s = s
   walk_events k (e ∷ es) among h s =
       walk_events k es (λ x at. among x (inr at)) (happens_if doc k e.what (e.beat.0 == k) h) (walk_happens k e (among e (inl refl)) (e.beat.0 == k) refl h s)

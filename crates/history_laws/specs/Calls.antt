@@ -4,7 +4,7 @@ use Rattle.kube_objects.specs.Document.{Doc}
 use Rattle.kube_objects.specs.Entry.{Entry, Identity}
 use Rattle.kube_objects.specs.Process.{begun}
 use Rattle.kube_objects.specs.Wire.{Sent, sent_of}
-use Rattle.history.specs.History.{history, at_turn}
+use Rattle.history.specs.History.{history}
 use Rattle.history_laws.specs.Tails.{IsTail}
 
 -- a request's number is one more than how many its sender had sent before

@@ -2,3 +2,4 @@ pub mod Tails
 pub mod Versions
 pub mod Order
 pub mod Calls
+pub mod Starts

@@ -3,6 +3,7 @@ use Rattle.std.specs.Prelude.{◌≡◌, ◌⊎◌, ℕ, suc, ◌<◌, ◌≤◌
 use Rattle.kube_objects.specs.Document.{Doc, processes}
 use Rattle.kube_objects.specs.Entry.{Entry}
 use Rattle.history.specs.History.{history, at_turn}
+use Rattle.history.specs.Steps.{step_one, step_two, step_three, turns}
 use Rattle.history_laws.specs.Tails.{In, IsTail}
 
 -- an entry stands at an earlier beat, or at this beat and no later step
@@ -29,3 +30,7 @@ TurnsArePositions = (doc : Doc) (p k : ℕ) → p ≤ processes doc → IsTail (
 -- the history before an earlier beat is a position of the history before a later one
 abbrev pub HistoriesArePositions : Type 0
 HistoriesArePositions = (doc : Doc) (k m : ℕ) → k ≤ m → IsTail (history doc k) (history doc m)
+
+-- each step only adds entries
+abbrev pub StepsOnlyAdd : Type 0
+StepsOnlyAdd = (doc : Doc) (k : ℕ) (h : List Entry) → IsTail h (step_one doc k h) × IsTail h (step_two k h) × IsTail h (step_three doc k h) × ((n : ℕ) → IsTail h (turns doc k n h))

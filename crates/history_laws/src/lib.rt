@@ -1,2 +1,36 @@
-//! Laws of every history, whatever its document.
+//! Laws of every history, whatever its document. Each is the contract of a function with an empty body.
 #![tactic(auto)]
+
+ghost use Rattle.history_laws.specs.Calls.{NumbersCount, NumbersDiffer, OneCallABeat, CallsAreFew};
+ghost use Rattle.history_laws.specs.Order.{EntriesAreOrdered, EntriesAreEarlier, TurnsArePositions, HistoriesArePositions, StepsOnlyAdd};
+ghost use Rattle.history_laws.specs.Starts.{StartsAreFew};
+ghost use Rattle.history_laws.specs.Versions.{VersionsAreGiven, VersionsRise, VersionsAreContents};
+
+/// A stored version was given by an earlier write, versions only rise, and equal versions of a key have equal contents.
+pub fn versions_are_writes()
+    ensures given { VersionsAreGiven }
+    ensures rise { VersionsRise }
+    ensures contents { VersionsAreContents }
+{}
+
+/// The numbers of an incarnation's requests count them, so they differ; it sends at most one request in a beat.
+pub fn calls_are_numbered()
+    ensures count { NumbersCount }
+    ensures differ { NumbersDiffer }
+    ensures one { OneCallABeat }
+    ensures few { CallsAreFew }
+{}
+
+/// A process starts at most once at first, once for each event, and once in each beat.
+pub fn starts_are_few()
+    ensures { StartsAreFew }
+{}
+
+/// Entries are ordered by beat and step, and what stands at a process's turn is a position of the history.
+pub fn entries_are_ordered()
+    ensures ordered { EntriesAreOrdered }
+    ensures earlier { EntriesAreEarlier }
+    ensures turns { TurnsArePositions }
+    ensures histories { HistoriesArePositions }
+    ensures adds { StepsOnlyAdd }
+{}
