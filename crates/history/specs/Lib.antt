@@ -2,4 +2,5 @@ pub mod History
 pub mod Premise
 pub mod Printed
 pub mod Safe
+pub mod Sound
 pub mod Steps

@@ -1,0 +1,5 @@
+pub mod Invariant
+pub mod Grown
+pub mod EachKind
+pub mod Clocks
+pub mod Answered
