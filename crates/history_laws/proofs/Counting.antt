@@ -13,19 +13,19 @@ pub record CountedFor (doc : Doc) (q : Identity) (k asked : ℕ) (h : List Entry
   pub number : waiting.number ≡ asked
   pub timely : is_late doc q k waiting ≡ false
 
-only_test : {A : Type 0} (b : Bool) (x : Option A) (a : A) → only_if b x ≡ Some a → b ≡ true
+pub only_test : {A : Type 0} (b : Bool) (x : Option A) (a : A) → only_if b x ≡ Some a → b ≡ true
 only_test true x a is = refl
 only_test false x a is = absurd (none_is a is)
 
-only_value : {A : Type 0} (b : Bool) (x : Option A) (a : A) → only_if b x ≡ Some a → x ≡ Some a
+pub only_value : {A : Type 0} (b : Bool) (x : Option A) (a : A) → only_if b x ≡ Some a → x ≡ Some a
 only_value true x a is = is
 only_value false x a is = absurd (none_is a is)
 
-when_test : {A : Type 0} (b : Bool) (x a : A) → when b x ≡ Some a → b ≡ true
+pub when_test : {A : Type 0} (b : Bool) (x a : A) → when b x ≡ Some a → b ≡ true
 when_test true x a is = refl
 when_test false x a is = absurd (none_is a is)
 
-when_value : {A : Type 0} (b : Bool) (x a : A) → when b x ≡ Some a → x ≡ a
+pub when_value : {A : Type 0} (b : Bool) (x a : A) → when b x ≡ Some a → x ≡ a
 when_value true x a is = some_is x a is
 when_value false x a is = absurd (none_is a is)
 

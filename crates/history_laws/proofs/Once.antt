@@ -225,10 +225,13 @@ once_keeps doc = record {
   counts = λ k b waiting h coming is s. counted_right k b waiting h coming (counted_is doc b.who k b.call.number h waiting is) s;
   follows = λ k b waiting h request coming is role follows s. follow_right k b waiting h request (counted_is doc b.who k b.call.number h waiting is) s;
   leads = λ k b waiting h version coming is role follows s. right_more doc k 3 _ (after_reply k b waiting h) tt (tt, tt) (λ q. refl) (λ q w. waits_more k 3 q _ (after_reply k b waiting h) refl (λ c. tt) w) s;
-  expires = λ k p i call h role up waits late s. expiry_right k p i call h up waits late s;
-  ends = λ k p i at h role up is before s. right_more doc k 4 _ h tt (tt, tt) (λ q. refl) (λ q w. waits_more k 4 q _ h refl (λ c. tt) w) s;
-  polls = λ k p i h role up waits s. try_right k (identity p i) Plain (Get election) h up waits refl s;
-  attempts = λ k p i h role up waits s. try_right k (identity p i) (attempt doc (identity p i) k h).0 (attempt doc (identity p i) k h).1 h up waits (attempt_opens doc (identity p i) k h _) s;
+  turns = record {
+    restarts = λ k p h s. right_more doc k 4 _ h (p, refl) (tt, tt) (λ q. refl) (λ q w. waits_more k 4 q _ h refl (λ c. tt) w) s;
+    expires = λ k p i call h role up waits late s. expiry_right k p i call h up waits late s;
+    ends = λ k p i at h role up is before s. right_more doc k 4 _ h tt (tt, tt) (λ q. refl) (λ q w. waits_more k 4 q _ h refl (λ c. tt) w) s;
+    polls = λ k p i h role up waits s. try_right k (identity p i) Plain (Get election) h up waits refl s;
+    attempts = λ k p i h role up waits s. try_right k (identity p i) (attempt doc (identity p i) k h).0 (attempt doc (identity p i) k h).1 h up waits (attempt_opens doc (identity p i) k h _) s;
+  };
 }
   where
     given_of : (k : ℕ) (x : Sent) (h : List Entry) → Arriving k h x → Right doc k 2 h → x.call.number ≤ begun x.who h

@@ -81,7 +81,7 @@ pub steps_add : (doc : Doc) (k : ℕ) (g h : List Entry) → IsTail g h → IsTa
 steps_add doc k g h at = walk_steps doc (λ k step h. IsTail g h) (adds doc g) k h at
 
 pub turns_add : (doc : Doc) (k n : ℕ) (g h : List Entry) → IsTail g h → IsTail g (turns doc k n h)
-turns_add doc k n g h at = walk_turns doc (λ k step h. IsTail g h) (adds doc g) k n h at
+turns_add doc k n g h at = walk_turns doc (λ k h. IsTail g h) (adds doc g).turns k n h at
 
 -- so does a part of step 2 or 3
 pub each_adds : (f : Entry → List Entry → List Entry) → ((e : Entry) (g h : List Entry) → IsTail g h → IsTail g (f e h)) → (l g h : List Entry) → IsTail g h → IsTail g (each f l h)
@@ -123,7 +123,7 @@ turns_on doc k p zero h = let e : p ≡ p + 0 = omega arith in subst (λ m. IsTa
 turns_on doc k p (suc n) h =
     let e : suc (p + n) ≡ p + suc n = omega arith in
     subst (λ m. IsTail (turns doc k p h) (turns doc k m h)) e
-    (walk_turn doc (λ j step g. IsTail (turns doc k p h) g) (adds doc (turns doc k p h)) k (p + n) (turns doc k (p + n) h) (turns_on doc k p n h))
+    (walk_turn doc (λ j g. IsTail (turns doc k p h) g) (adds doc (turns doc k p h)).turns k (p + n) (turns doc k (p + n) h) (turns_on doc k p n h))
 
 -- the history at a turn is a position of the history with that beat
 pub turn_tail : (doc : Doc) (p k : ℕ) → p ≤ processes doc → IsTail (at_turn doc p k) (history doc (suc k))

@@ -54,6 +54,18 @@ stopped_at k id i before = entry k 1 (identity id.0 i) Stops ∷ script_entry k 
 abbrev pub after_reply : ℕ → Back → Call → List Entry → List Entry
 after_reply k b waiting h = entry k 3 b.who (Delivers waiting b.reply true) ∷ h
 
+-- a property at a beat that each kind of entry of a turn keeps
+pub record KeepsTurn (doc : Doc) (P : ℕ → List Entry → Type 0) : Type 0 where
+  pub restarts : (k p : ℕ) (h : List Entry) → P k h → P k (start k 4 p h)
+  pub expires : (k p i : ℕ) (call : Call) (h : List Entry) → is_controller doc p ≡ true → alive p h ≡ Some i → call_in (identity p i) h ≡ Some call → is_late doc (identity p i) k call ≡ true
+      → P k h → P k (entry k 4 (identity p i) (Expires call) ∷ h)
+  pub ends : (k p i at : ℕ) (h : List Entry) → is_controller doc p ≡ true → alive p h ≡ Some i → deadline doc (identity p i) h ≡ Some at → nat_lt (local doc p k) at ≡ false
+      → P k h → P k (entry k 4 (identity p i) Ends ∷ h)
+  pub polls : (k p i : ℕ) (h : List Entry) → is_controller doc p ≡ true → alive p h ≡ Some i → call_in (identity p i) h ≡ None
+      → P k h → P k (send k 4 (identity p i) Plain (Get election) h)
+  pub attempts : (k p i : ℕ) (h : List Entry) → is_controller doc p ≡ true → alive p h ≡ Some i → call_in (identity p i) h ≡ None
+      → P k h → P k (send k 4 (identity p i) (attempt doc (identity p i) k h).0 (attempt doc (identity p i) k h).1 h)
+
 -- a property, at a beat and a step, that each kind of entry keeps
 pub record Keeps (doc : Doc) (P : ℕ → ℕ → List Entry → Type 0) : Type 0 where
   pub on : (k step : ℕ) (h : List Entry) → P k step h → P k (suc step) h
@@ -73,14 +85,7 @@ pub record Keeps (doc : Doc) (P : ℕ → ℕ → List Entry → Type 0) : Type 
   pub leads : (k : ℕ) (b : Back) (waiting : Call) (h : List Entry) (version : Version) → Coming k h b → counted doc b.who k b.call.number h ≡ Some waiting
       → is_controller doc b.who.process ≡ true → follow_on doc b.who k waiting.kind waiting.request b.reply (after_reply k b waiting h) ≡ Succeeds version
       → P k 3 (after_reply k b waiting h) → P k 3 (entry k 3 b.who (Leads version) ∷ after_reply k b waiting h)
-  pub expires : (k p i : ℕ) (call : Call) (h : List Entry) → is_controller doc p ≡ true → alive p h ≡ Some i → call_in (identity p i) h ≡ Some call → is_late doc (identity p i) k call ≡ true
-      → P k 4 h → P k 4 (entry k 4 (identity p i) (Expires call) ∷ h)
-  pub ends : (k p i at : ℕ) (h : List Entry) → is_controller doc p ≡ true → alive p h ≡ Some i → deadline doc (identity p i) h ≡ Some at → nat_lt (local doc p k) at ≡ false
-      → P k 4 h → P k 4 (entry k 4 (identity p i) Ends ∷ h)
-  pub polls : (k p i : ℕ) (h : List Entry) → is_controller doc p ≡ true → alive p h ≡ Some i → call_in (identity p i) h ≡ None
-      → P k 4 h → P k 4 (send k 4 (identity p i) Plain (Get election) h)
-  pub attempts : (k p i : ℕ) (h : List Entry) → is_controller doc p ≡ true → alive p h ≡ Some i → call_in (identity p i) h ≡ None
-      → P k 4 h → P k 4 (send k 4 (identity p i) (attempt doc (identity p i) k h).0 (attempt doc (identity p i) k h).1 h)
+  pub turns : KeepsTurn doc (λ k h. P k 4 h)
 
 -- what every new entry has: a call's number is the next one, and so is a start's incarnation
 abbrev pub StartIsNext : Actor → Deed → List Entry → Type 0
@@ -112,11 +117,101 @@ all_kinds doc P on next more = record {
   counts = λ k b waiting h coming is s. more _ h (tt, tt) s;
   follows = λ k b waiting h request coming is role follows s. more _ (after_reply k b waiting h) (tt, refl) s;
   leads = λ k b waiting h version coming is role follows s. more _ (after_reply k b waiting h) (tt, tt) s;
-  expires = λ k p i call h role up waits late s. more _ h (tt, tt) s;
-  ends = λ k p i at h role up is before s. more _ h (tt, tt) s;
-  polls = λ k p i h role up waits s. more _ h (tt, refl) s;
-  attempts = λ k p i h role up waits s. more _ h (tt, refl) s;
+  turns = record {
+    restarts = λ k p h s. more _ h ((p, refl), tt) s;
+    expires = λ k p i call h role up waits late s. more _ h (tt, tt) s;
+    ends = λ k p i at h role up is before s. more _ h (tt, tt) s;
+    polls = λ k p i h role up waits s. more _ h (tt, refl) s;
+    attempts = λ k p i h role up waits s. more _ h (tt, refl) s;
+  };
 }
+
+-- ---- step 4
+
+module _ (doc : Doc) (P : ℕ → List Entry → Type 0) (keeps : KeepsTurn doc P) where
+  walk_if_up : (k p : ℕ) (f : Identity → List Entry → List Entry) → ((i : ℕ) (h : List Entry) → alive p h ≡ Some i → P k h → P k (f (identity p i) h)) → (up : Option ℕ) (h : List Entry) → alive p h ≡ up → P k h → P k (if_up p f up h)
+  walk_if_up k p f one None h is s = s
+  walk_if_up k p f one (Some i) h is s = one i h is s
+
+  walk_restart_as : (k p : ℕ) (b : Bool) (h : List Entry) → P k h → P k (restart_as k p b h)
+  walk_restart_as k p false h s = s
+  walk_restart_as k p true h s = keeps.restarts k p h s
+
+  walk_restart : (k p : ℕ) (up : Option ℕ) (h : List Entry) → P k h → P k (restart_if doc k p up h)
+  walk_restart k p (Some i) h s = s
+  walk_restart k p None h s = walk_restart_as k p (is_restart_due doc p k (ended p h)) h s
+
+  walk_expire_as : (k p i : ℕ) (call : Call) → is_controller doc p ≡ true → (h : List Entry) → alive p h ≡ Some i → call_in (identity p i) h ≡ Some call → (b : Bool) → is_late doc (identity p i) k call ≡ b → P k h → P k (expire_as k (identity p i) call b h)
+  walk_expire_as k p i call role h up waits false late s = s
+  walk_expire_as k p i call role h up waits true late s = keeps.expires k p i call h role up waits late s
+
+  walk_expire : (k p i : ℕ) → is_controller doc p ≡ true → (h : List Entry) → alive p h ≡ Some i → (o : Option Call) → call_in (identity p i) h ≡ o → P k h → P k (expire_call doc k (identity p i) o h)
+  walk_expire k p i role h up None waits s = s
+  walk_expire k p i role h up (Some call) waits s = walk_expire_as k p i call role h up waits (is_late doc (identity p i) k call) refl s
+
+  walk_end_as : (k p i at : ℕ) → is_controller doc p ≡ true → (h : List Entry) → alive p h ≡ Some i → deadline doc (identity p i) h ≡ Some at → (b : Bool) → nat_lt (local doc p k) at ≡ b → P k h → P k (end_as k (identity p i) b h)
+  walk_end_as k p i at role h up is true before s = s
+  walk_end_as k p i at role h up is false before s = keeps.ends k p i at h role up is before s
+
+  walk_end : (k p i : ℕ) → is_controller doc p ≡ true → (h : List Entry) → alive p h ≡ Some i → (o : Option ℕ) → deadline doc (identity p i) h ≡ o → P k h → P k (end_term doc k (identity p i) o h)
+  walk_end k p i role h up None is s = s
+  walk_end k p i role h up (Some at) is s = walk_end_as k p i at role h up is (nat_lt (local doc p k) at) refl s
+
+  walk_attempt : (k p i : ℕ) → is_controller doc p ≡ true → (h : List Entry) → alive p h ≡ Some i → (fast due : Bool)
+      → (fast ≡ true → call_in (identity p i) h ≡ None) → (due ≡ true → call_in (identity p i) h ≡ None) → P k h → P k (attempt_if doc k (identity p i) fast due h)
+  walk_attempt k p i role h up true due a b s = keeps.polls k p i h role up (a refl) s
+  walk_attempt k p i role h up false true a b s = keeps.attempts k p i h role up (b refl) s
+  walk_attempt k p i role h up false false a b s = s
+
+  walk_try : (k p i : ℕ) → is_controller doc p ≡ true → (h : List Entry) → alive p h ≡ Some i → P k h → P k (try doc k (identity p i) h)
+  walk_try k p i role h up s =
+      walk_attempt k p i role h up (is_fast_call (just_expired (identity p i) k h)) (not (has (call_in (identity p i) h)) && not (nat_lt (local doc p k) (timer doc (identity p i) h)))
+      (by_expiry (just_expired (identity p i) k h) refl) (by_call (call_in (identity p i) h)) s
+    where
+      by_expiry : (o : Option Call) → just_expired (identity p i) k h ≡ o → is_fast_call o ≡ true → call_in (identity p i) h ≡ None
+      by_expiry None is fast = absurd (true_is (sym fast))
+      by_expiry (Some c) is fast = expired_none (identity p i) k h c is
+
+      by_call : (o : Option Call) → (not (has o) && not (nat_lt (local doc p k) (timer doc (identity p i) h))) ≡ true → o ≡ None
+      by_call None due = refl
+      by_call (Some c) due = absurd (true_is (sym due))
+
+  walk_tick : (k : ℕ) (q : Identity) (b : Bool) (h : List Entry) → P k h → P k (tick_as doc k q b h)
+  walk_tick k q false h s = s
+  walk_tick k q true h s = s
+
+  pub walk_after_end : (k p : ℕ) → is_controller doc p ≡ true → (h : List Entry) → P k h → P k (ticks doc k p (attempts doc k p h))
+  walk_after_end k p role h s =
+      let h4 = attempts doc k p h in
+      let s4 : P k h4 = walk_if_up k p (try doc k) (λ i T up s. walk_try k p i role T up s) (alive p h) h refl s in
+      walk_if_up k p (λ q T. tick_as doc k q (acts doc q k T) T) (λ i T up s. walk_tick k (identity p i) (acts doc (identity p i) k T) T s) (alive p h4) h4 refl s4
+
+  pub walk_expiry : (k p : ℕ) → is_controller doc p ≡ true → (h : List Entry) → P k h → P k (expire doc k p h)
+  walk_expiry k p role h s = walk_if_up k p (λ q T. expire_call doc k q (call_in q T) T) (λ i T up s. walk_expire k p i role T up (call_in (identity p i) T) refl s) (alive p h) h refl s
+
+  walk_finish : (k p : ℕ) → is_controller doc p ≡ true → (h : List Entry) → P k h → P k (finish doc k p h)
+  walk_finish k p role h s = walk_if_up k p (λ q T. end_term doc k q (deadline doc q T) T) (λ i T up s. walk_end k p i role T up (deadline doc (identity p i) T) refl s) (alive p h) h refl s
+
+  walk_controller : (k p : ℕ) → is_controller doc p ≡ true → (h : List Entry) → P k h → P k (controller_turn doc k p h)
+  walk_controller k p role h s =
+      let h1 = restart doc k p h in
+      let s1 : P k h1 = walk_restart k p (alive p h) h s in
+      let h2 = expire doc k p h1 in
+      let s2 : P k h2 = walk_expiry k p role h1 s1 in
+      walk_after_end k p role (finish doc k p h2) (walk_finish k p role h2 s2)
+
+  walk_turn_as : (k p : ℕ) (b : Bool) → is_controller doc p ≡ b → (h : List Entry) → P k h → P k (turn_as doc k p b h)
+  walk_turn_as k p true role h s = walk_controller k p role h s
+  walk_turn_as k p false role h s = s
+
+  pub walk_turn : (k p : ℕ) (h : List Entry) → P k h → P k (turn doc k p h)
+  walk_turn k p h s = walk_turn_as k p (is_controller doc p) refl h s
+
+  pub walk_turns : (k n : ℕ) (h : List Entry) → P k h → P k (turns doc k n h)
+  walk_turns k zero h s = s
+  walk_turns k (suc p) h s = walk_turn k p (turns doc k p h) (walk_turns k p h s)
+
+-- ---- steps 1 to 3, and histories
 
 module _ (doc : Doc) (P : ℕ → ℕ → List Entry → Type 0) (keeps : Keeps doc P) where
   -- ---- step 1
@@ -247,90 +342,6 @@ module _ (doc : Doc) (P : ℕ → ℕ → List Entry → Type 0) (keeps : Keeps 
       let s3 : P k 3 h3 = walk_three k h2 (keeps.on k 2 h2 s2) in
       keeps.on k 3 h3 s3
 
-  -- ---- step 4
-
-  walk_if_up : (k p : ℕ) (f : Identity → List Entry → List Entry) → ((i : ℕ) (h : List Entry) → alive p h ≡ Some i → P k 4 h → P k 4 (f (identity p i) h)) → (up : Option ℕ) (h : List Entry) → alive p h ≡ up → P k 4 h → P k 4 (if_up p f up h)
-  walk_if_up k p f one None h is s = s
-  walk_if_up k p f one (Some i) h is s = one i h is s
-
-  walk_restart_as : (k p : ℕ) (b : Bool) (h : List Entry) → P k 4 h → P k 4 (restart_as k p b h)
-  walk_restart_as k p false h s = s
-  walk_restart_as k p true h s = keeps.starts k 4 p h s
-
-  walk_restart : (k p : ℕ) (up : Option ℕ) (h : List Entry) → P k 4 h → P k 4 (restart_if doc k p up h)
-  walk_restart k p (Some i) h s = s
-  walk_restart k p None h s = walk_restart_as k p (is_restart_due doc p k (ended p h)) h s
-
-  walk_expire_as : (k p i : ℕ) (call : Call) → is_controller doc p ≡ true → (h : List Entry) → alive p h ≡ Some i → call_in (identity p i) h ≡ Some call → (b : Bool) → is_late doc (identity p i) k call ≡ b → P k 4 h → P k 4 (expire_as k (identity p i) call b h)
-  walk_expire_as k p i call role h up waits false late s = s
-  walk_expire_as k p i call role h up waits true late s = keeps.expires k p i call h role up waits late s
-
-  walk_expire : (k p i : ℕ) → is_controller doc p ≡ true → (h : List Entry) → alive p h ≡ Some i → (o : Option Call) → call_in (identity p i) h ≡ o → P k 4 h → P k 4 (expire_call doc k (identity p i) o h)
-  walk_expire k p i role h up None waits s = s
-  walk_expire k p i role h up (Some call) waits s = walk_expire_as k p i call role h up waits (is_late doc (identity p i) k call) refl s
-
-  walk_end_as : (k p i at : ℕ) → is_controller doc p ≡ true → (h : List Entry) → alive p h ≡ Some i → deadline doc (identity p i) h ≡ Some at → (b : Bool) → nat_lt (local doc p k) at ≡ b → P k 4 h → P k 4 (end_as k (identity p i) b h)
-  walk_end_as k p i at role h up is true before s = s
-  walk_end_as k p i at role h up is false before s = keeps.ends k p i at h role up is before s
-
-  walk_end : (k p i : ℕ) → is_controller doc p ≡ true → (h : List Entry) → alive p h ≡ Some i → (o : Option ℕ) → deadline doc (identity p i) h ≡ o → P k 4 h → P k 4 (end_term doc k (identity p i) o h)
-  walk_end k p i role h up None is s = s
-  walk_end k p i role h up (Some at) is s = walk_end_as k p i at role h up is (nat_lt (local doc p k) at) refl s
-
-  walk_attempt : (k p i : ℕ) → is_controller doc p ≡ true → (h : List Entry) → alive p h ≡ Some i → (fast due : Bool)
-      → (fast ≡ true → call_in (identity p i) h ≡ None) → (due ≡ true → call_in (identity p i) h ≡ None) → P k 4 h → P k 4 (attempt_if doc k (identity p i) fast due h)
-  walk_attempt k p i role h up true due a b s = keeps.polls k p i h role up (a refl) s
-  walk_attempt k p i role h up false true a b s = keeps.attempts k p i h role up (b refl) s
-  walk_attempt k p i role h up false false a b s = s
-
-  walk_try : (k p i : ℕ) → is_controller doc p ≡ true → (h : List Entry) → alive p h ≡ Some i → P k 4 h → P k 4 (try doc k (identity p i) h)
-  walk_try k p i role h up s =
-      walk_attempt k p i role h up (is_fast_call (just_expired (identity p i) k h)) (not (has (call_in (identity p i) h)) && not (nat_lt (local doc p k) (timer doc (identity p i) h)))
-      (by_expiry (just_expired (identity p i) k h) refl) (by_call (call_in (identity p i) h)) s
-    where
-      by_expiry : (o : Option Call) → just_expired (identity p i) k h ≡ o → is_fast_call o ≡ true → call_in (identity p i) h ≡ None
-      by_expiry None is fast = absurd (true_is (sym fast))
-      by_expiry (Some c) is fast = expired_none (identity p i) k h c is
-
-      by_call : (o : Option Call) → (not (has o) && not (nat_lt (local doc p k) (timer doc (identity p i) h))) ≡ true → o ≡ None
-      by_call None due = refl
-      by_call (Some c) due = absurd (true_is (sym due))
-
-  walk_tick : (k : ℕ) (q : Identity) (b : Bool) (h : List Entry) → P k 4 h → P k 4 (tick_as doc k q b h)
-  walk_tick k q false h s = s
-  walk_tick k q true h s = s
-
-  pub walk_after_end : (k p : ℕ) → is_controller doc p ≡ true → (h : List Entry) → P k 4 h → P k 4 (ticks doc k p (attempts doc k p h))
-  walk_after_end k p role h s =
-      let h4 = attempts doc k p h in
-      let s4 : P k 4 h4 = walk_if_up k p (try doc k) (λ i T up s. walk_try k p i role T up s) (alive p h) h refl s in
-      walk_if_up k p (λ q T. tick_as doc k q (acts doc q k T) T) (λ i T up s. walk_tick k (identity p i) (acts doc (identity p i) k T) T s) (alive p h4) h4 refl s4
-
-  pub walk_expiry : (k p : ℕ) → is_controller doc p ≡ true → (h : List Entry) → P k 4 h → P k 4 (expire doc k p h)
-  walk_expiry k p role h s = walk_if_up k p (λ q T. expire_call doc k q (call_in q T) T) (λ i T up s. walk_expire k p i role T up (call_in (identity p i) T) refl s) (alive p h) h refl s
-
-  walk_finish : (k p : ℕ) → is_controller doc p ≡ true → (h : List Entry) → P k 4 h → P k 4 (finish doc k p h)
-  walk_finish k p role h s = walk_if_up k p (λ q T. end_term doc k q (deadline doc q T) T) (λ i T up s. walk_end k p i role T up (deadline doc (identity p i) T) refl s) (alive p h) h refl s
-
-  walk_controller : (k p : ℕ) → is_controller doc p ≡ true → (h : List Entry) → P k 4 h → P k 4 (controller_turn doc k p h)
-  walk_controller k p role h s =
-      let h1 = restart doc k p h in
-      let s1 : P k 4 h1 = walk_restart k p (alive p h) h s in
-      let h2 = expire doc k p h1 in
-      let s2 : P k 4 h2 = walk_expiry k p role h1 s1 in
-      walk_after_end k p role (finish doc k p h2) (walk_finish k p role h2 s2)
-
-  walk_turn_as : (k p : ℕ) (b : Bool) → is_controller doc p ≡ b → (h : List Entry) → P k 4 h → P k 4 (turn_as doc k p b h)
-  walk_turn_as k p true role h s = walk_controller k p role h s
-  walk_turn_as k p false role h s = s
-
-  pub walk_turn : (k p : ℕ) (h : List Entry) → P k 4 h → P k 4 (turn doc k p h)
-  walk_turn k p h s = walk_turn_as k p (is_controller doc p) refl h s
-
-  pub walk_turns : (k n : ℕ) (h : List Entry) → P k 4 h → P k 4 (turns doc k n h)
-  walk_turns k zero h s = s
-  walk_turns k (suc p) h s = walk_turn k p (turns doc k p h) (walk_turns k p h s)
-
   -- ---- histories
 
   -- the history before a beat
@@ -338,8 +349,8 @@ module _ (doc : Doc) (P : ℕ → ℕ → List Entry → Type 0) (keeps : Keeps 
   walk_history first zero = first
   walk_history first (suc k) =
       let h = three_steps doc k (history doc k) in
-      keeps.next k (walk_turns k (processes doc) h (walk_steps k (history doc k) (walk_history first k)))
+      keeps.next k (walk_turns doc (λ k h. P k 4 h) keeps.turns k (processes doc) h (walk_steps k (history doc k) (walk_history first k)))
 
   -- the history at a turn
   pub walk_at_turn : P 0 1 (history doc 0) → (p k : ℕ) → P k 4 (at_turn doc p k)
-  walk_at_turn first p k = walk_turns k p (three_steps doc k (history doc k)) (walk_steps k (history doc k) (walk_history first k))
+  walk_at_turn first p k = walk_turns doc (λ k h. P k 4 h) keeps.turns k p (three_steps doc k (history doc k)) (walk_steps k (history doc k) (walk_history first k))

@@ -3,3 +3,5 @@ pub mod Grown
 pub mod EachKind
 pub mod Clocks
 pub mod Answered
+pub mod Follows
+pub mod Quiet
