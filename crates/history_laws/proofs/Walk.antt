@@ -81,10 +81,10 @@ pub record Keeps (doc : Doc) (P : ℕ → ℕ → List Entry → Type 0) : Type 
   pub counts : (k : ℕ) (b : Back) (waiting : Call) (h : List Entry) → Coming k h b → counted doc b.who k b.call.number h ≡ Some waiting → P k 3 h → P k 3 (after_reply k b waiting h)
   pub follows : (k : ℕ) (b : Back) (waiting : Call) (h : List Entry) (request : Request) → Coming k h b → counted doc b.who k b.call.number h ≡ Some waiting
       → is_controller doc b.who.process ≡ true → follow_on doc b.who k waiting.kind waiting.request b.reply (after_reply k b waiting h) ≡ Asks request
-      → P k 3 (after_reply k b waiting h) → P k 3 (send k 3 b.who Plain request (after_reply k b waiting h))
+      → P k 3 h → P k 3 (after_reply k b waiting h) → P k 3 (send k 3 b.who Plain request (after_reply k b waiting h))
   pub leads : (k : ℕ) (b : Back) (waiting : Call) (h : List Entry) (version : Version) → Coming k h b → counted doc b.who k b.call.number h ≡ Some waiting
       → is_controller doc b.who.process ≡ true → follow_on doc b.who k waiting.kind waiting.request b.reply (after_reply k b waiting h) ≡ Succeeds version
-      → P k 3 (after_reply k b waiting h) → P k 3 (entry k 3 b.who (Leads version) ∷ after_reply k b waiting h)
+      → P k 3 h → P k 3 (after_reply k b waiting h) → P k 3 (entry k 3 b.who (Leads version) ∷ after_reply k b waiting h)
   pub turns : KeepsTurn doc (λ k h. P k 4 h)
 
 -- what every new entry has: a call's number is the next one, and so is a start's incarnation
@@ -115,8 +115,8 @@ all_kinds doc P on next more = record {
   answers = λ k s h at t. more _ h (tt, tt) t;
   ignores = λ k b h coming is s. more _ h (tt, tt) s;
   counts = λ k b waiting h coming is s. more _ h (tt, tt) s;
-  follows = λ k b waiting h request coming is role follows s. more _ (after_reply k b waiting h) (tt, refl) s;
-  leads = λ k b waiting h version coming is role follows s. more _ (after_reply k b waiting h) (tt, tt) s;
+  follows = λ k b waiting h request coming is role follows was s. more _ (after_reply k b waiting h) (tt, refl) s;
+  leads = λ k b waiting h version coming is role follows was s. more _ (after_reply k b waiting h) (tt, tt) s;
   turns = record {
     restarts = λ k p h s. more _ h ((p, refl), tt) s;
     expires = λ k p i call h role up waits late s. more _ h (tt, tt) s;
@@ -305,21 +305,21 @@ module _ (doc : Doc) (P : ℕ → ℕ → List Entry → Type 0) (keeps : Keeps 
   walk_lead k g b waiting h false version s new = more_over g k 3 _ (after_reply k b waiting h) s (new s.0)
 
   walk_react : (k : ℕ) (g : List Entry) (b : Back) (waiting : Call) (h : List Entry) → Coming k h b → counted doc b.who k b.call.number h ≡ Some waiting → is_controller doc b.who.process ≡ true
-      → (led : Bool) (f : Follow) → follow_on doc b.who k waiting.kind waiting.request b.reply (after_reply k b waiting h) ≡ f → Over g k 3 (after_reply k b waiting h) → Over g k 3 (react k b.who led f (after_reply k b waiting h))
-  walk_react k g b waiting h coming is role led Fails follows s = s
-  walk_react k g b waiting h coming is role led (Asks request) follows s = more_over g k 3 _ (after_reply k b waiting h) s (keeps.follows k b waiting h request coming is role follows s.0)
-  walk_react k g b waiting h coming is role led (Succeeds version) follows s = walk_lead k g b waiting h led version s (keeps.leads k b waiting h version coming is role follows)
+      → (led : Bool) (f : Follow) → follow_on doc b.who k waiting.kind waiting.request b.reply (after_reply k b waiting h) ≡ f → P k 3 h → Over g k 3 (after_reply k b waiting h) → Over g k 3 (react k b.who led f (after_reply k b waiting h))
+  walk_react k g b waiting h coming is role led Fails follows was s = s
+  walk_react k g b waiting h coming is role led (Asks request) follows was s = more_over g k 3 _ (after_reply k b waiting h) s (keeps.follows k b waiting h request coming is role follows was s.0)
+  walk_react k g b waiting h coming is role led (Succeeds version) follows was s = walk_lead k g b waiting h led version s (keeps.leads k b waiting h version coming is role follows was)
 
   walk_react_as : (k : ℕ) (g : List Entry) (b : Back) (waiting : Call) (h : List Entry) → Coming k h b → counted doc b.who k b.call.number h ≡ Some waiting
-      → (role : Bool) → is_controller doc b.who.process ≡ role → Over g k 3 (after_reply k b waiting h) → Over g k 3 (react_as doc k b.who waiting b.reply role (after_reply k b waiting h))
-  walk_react_as k g b waiting h coming is true role s =
-      walk_react k g b waiting h coming is role (leads b.who (after_reply k b waiting h)) (follow_on doc b.who k waiting.kind waiting.request b.reply (after_reply k b waiting h)) refl s
-  walk_react_as k g b waiting h coming is false role s = s
+      → (role : Bool) → is_controller doc b.who.process ≡ role → P k 3 h → Over g k 3 (after_reply k b waiting h) → Over g k 3 (react_as doc k b.who waiting b.reply role (after_reply k b waiting h))
+  walk_react_as k g b waiting h coming is true role was s =
+      walk_react k g b waiting h coming is role (leads b.who (after_reply k b waiting h)) (follow_on doc b.who k waiting.kind waiting.request b.reply (after_reply k b waiting h)) refl was s
+  walk_react_as k g b waiting h coming is false role was s = s
 
   walk_deliver_as : (k : ℕ) (g : List Entry) (b : Back) (h : List Entry) → Coming k h b → (o : Option Call) → counted doc b.who k b.call.number h ≡ o → Over g k 3 h → Over g k 3 (deliver_as doc k b.who b.call b.reply o h)
   walk_deliver_as k g b h coming None is s = more_over g k 3 _ h s (keeps.ignores k b h coming is s.0)
   walk_deliver_as k g b h coming (Some waiting) is s =
-      walk_react_as k g b waiting h coming is (is_controller doc b.who.process) refl (more_over g k 3 _ h s (keeps.counts k b waiting h coming is s.0))
+      walk_react_as k g b waiting h coming is (is_controller doc b.who.process) refl s.0 (more_over g k 3 _ h s (keeps.counts k b waiting h coming is s.0))
 
   walk_deliver_if : (k : ℕ) (g : List Entry) (e : Entry) (x : Back) (b : Bool) → In e g → back_of e.actor e.deed ≡ Some x → comes_at k x.comes ≡ b → (h : List Entry) → Over g k 3 h → Over g k 3 (deliver_if doc k x b h)
   walk_deliver_if k g e x false stands is now h s = s

@@ -5,3 +5,4 @@ pub mod Clocks
 pub mod Answered
 pub mod Follows
 pub mod Quiet
+pub mod Steps
