@@ -6,3 +6,6 @@ pub mod Answered
 pub mod Follows
 pub mod Quiet
 pub mod Steps
+pub mod Premises
+pub mod Histories
+pub mod Claims
