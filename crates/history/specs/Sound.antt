@@ -1,6 +1,6 @@
 -- What every document keeps that was read: the script leaves the election Lease alone and stops controllers only,
 -- and its delays are at least one beat. Source: profile.
-use Rattle.std.specs.Prelude.{◌≡◌, ℕ, ◌≤◌, true, false, List, [], ◌∷◌}
+use Rattle.std.specs.Prelude.{◌≡◌, ◌≤◌, true, false, List, [], ◌∷◌}
 use Rattle.kube_objects.specs.declared.script.Event.{Event}
 use Rattle.kube_objects.specs.declared.script.What.{What}
 use Rattle.kube_objects.specs.declared.script.What.TheVariants.{Delay, Stop, Put, Remove}

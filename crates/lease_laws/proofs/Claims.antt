@@ -1,6 +1,6 @@
 -- Holder and Exclusive, from the invariant and the premise.
-use Rattle.std.proofs.Common.{◌≡◌, ◌<◌, ◌≤◌, ℕ, zero, suc, ◌+◌, ◌-◌, ◌*◌, ◌&&◌, not, nat_lt, Bool, true, false, cond, List, ◌∷◌, Option, Some, None, IfSome, refl, sym, ap, ◌∙◌, subst, inl, inr, ⊎_elim, arith}
-use Rattle.std.proofs.lemmas.Bool.{eqb-true, ltb-true, lt-ltb, cases_lt}
+use Rattle.std.proofs.Common.{◌≡◌, ◌<◌, ◌≤◌, ℕ, ◌+◌, ◌-◌, ◌*◌, true, List, Option, Some, None, IfSome, refl, sym, ap, ◌∙◌, subst, inl, inr, ⊎_elim, arith}
+use Rattle.std.proofs.lemmas.Bool.{ltb-true, cases_lt}
 use Rattle.std.proofs.Math.Nat.{mul-le-mul_right}
 use Rattle.kube_objects.specs.declared.lease.Holder.{Holder as HolderText}
 use Rattle.kube_objects.specs.declared.lease.Holder.TheVariants as holder
@@ -14,13 +14,13 @@ use Rattle.kube_objects.specs.Identities.{holder_of}
 use Rattle.kube_objects.specs.Process.{alive, stops, is_present}
 use Rattle.kube_objects.specs.Stored.{Held, election, stored}
 use Rattle.history.specs.History.{three_steps, history, at_turn}
-use Rattle.history.specs.Safe.{Acts, IsHeldBy, IsStoredHolder, Holder, Exclusive}
+use Rattle.history.specs.Safe.{IsHeldBy, IsStoredHolder, Holder, Exclusive}
 use Rattle.history.specs.Sound.{IsSound}
 use Rattle.history.specs.Steps.{turns}
 use Rattle.history_laws.proofs.Counting.{present_is}
 use Rattle.history_laws.proofs.Plainly.{and_left, and_right, false_is}
 use Rattle.history_laws.proofs.Walk.{KeepsTurn, walk_turns}
-use Rattle.lease_laws.proofs.Invariant.{view, Wide, Fit, FitObject, CoveredBy, HeldRight, Led, Inv}
+use Rattle.lease_laws.proofs.Invariant.{view, Wide, FitObject, CoveredBy, HeldRight, Led, Inv}
 use Rattle.lease_laws.proofs.Clocks.{local_at_least}
 use Rattle.lease_laws.proofs.Histories.{turn_right}
 use Rattle.lease_laws.proofs.Premises.{Premise}

@@ -4,7 +4,6 @@ use Rattle.std.proofs.lemmas.Bool.{eqb-true}
 use Rattle.kube_base.specs.declared.numbers.Version.{Version}
 use Rattle.kube_objects.specs.declared.call.Reply.{Reply}
 use Rattle.kube_objects.specs.declared.call.Request.{Request}
-use Rattle.kube_objects.specs.declared.object.Object.{Object}
 use Rattle.kube_objects.specs.declared.script.What.{What}
 use Rattle.kube_objects.specs.declared.script.What.TheVariants as what
 use Rattle.kube_objects.specs.Clocks.{local, store_wall, whole_second}
@@ -12,12 +11,11 @@ use Rattle.kube_objects.specs.Document.{Doc, is_controller, retry_period, renew_
 use Rattle.kube_objects.specs.Elector.{Shown, told, shown, observed, succeeds, deadline, leads, newly, is_known}
 use Rattle.kube_objects.specs.Entry.{Entry, Identity, Call, CallKind, Plain, Fast, Release, Event as Happens, Starts, Crashes, Stops, Ends, Sends, Delivers, Expires, Leads, actor_of, entry, script_entry}
 use Rattle.kube_objects.specs.Identities.{identity, is_same, of_process}
-use Rattle.kube_objects.specs.Keys.{key_eq}
 use Rattle.kube_objects.specs.Newest.{added, when, only_if, join, has, or_zero, or_else}
 use Rattle.kube_objects.specs.Process.{born, gone, life, alive, starts, stops, begun, open_as, last_call, call_in}
 use Rattle.kube_objects.specs.Stamps.{stamped}
 use Rattle.kube_objects.specs.Stored.{Held, election, event_write, at_key, holds, last_write, stored, write_of, writes, next_version}
-use Rattle.kube_objects.specs.Wire.{in_force, request_delay_of, reply_delay_of, request_delay, arrival, request_arrival, next_call, send, sent_of, back_of}
+use Rattle.kube_objects.specs.Wire.{in_force, request_delay_of, reply_delay_of, arrival, request_arrival, next_call, send, sent_of, back_of}
 use Rattle.history.specs.Sound.{IsSoundEvent}
 use Rattle.history.specs.Steps.{start, stamp, event_version}
 use Rattle.history_laws.specs.Tails.{In}

@@ -1,14 +1,10 @@
 -- What is sent is safe.
-use Rattle.std.proofs.Common.{◌≡◌, ◌⊎◌, ◌<◌, ◌≤◌, ℕ, ◌+◌, ◌-◌, ◌&&◌, not, nat_lt, Bool, true, false, cond, List, Option, Some, None, IfSome, refl, sym, ap, ◌∙◌, subst, inl, inr, ⊎_elim, arith}
+use Rattle.std.proofs.Common.{◌≡◌, ◌⊎◌, ◌<◌, ◌≤◌, ℕ, ◌+◌, ◌-◌, ◌&&◌, not, Bool, true, false, List, Option, Some, None, IfSome, refl, sym, ap, ◌∙◌, subst, inl, inr, ⊎_elim, arith}
 use Rattle.std.proofs.lemmas.Bool.{ltb-false, cases_lt}
 use Rattle.kube_base.specs.declared.numbers.Version.{Version}
 use Rattle.kube_objects.specs.declared.call.Request.TheVariants.{Update}
-use Rattle.kube_objects.specs.declared.lease.Holder.{Holder}
 use Rattle.kube_objects.specs.declared.lease.Holder.TheVariants as holder
 use Rattle.kube_objects.specs.declared.lease.Lease.{Lease}
-use Rattle.kube_objects.specs.declared.object.Object.{Object}
-use Rattle.kube_objects.specs.declared.object.Object.TheVariants as object
-use Rattle.kube_objects.specs.Answers.{lease_in}
 use Rattle.kube_objects.specs.Clocks.{local, rate}
 use Rattle.kube_objects.specs.Document.{Doc, end_beat, of_seconds, lease_seconds, lease_duration}
 use Rattle.kube_objects.specs.Elector.{Shown, observed, observed_at, is_valid, is_blocked}

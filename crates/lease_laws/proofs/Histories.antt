@@ -1,5 +1,5 @@
 -- The invariant holds of every history.
-use Rattle.std.proofs.Common.{◌≡◌, ◌≤◌, ◌<◌, ℕ, zero, suc, ◌+◌, Bool, true, false, List, [], ◌∷◌, Option, Some, None, IfSome, refl, sym, ap, ◌∙◌, subst, inl, inr, arith}
+use Rattle.std.proofs.Common.{◌≡◌, ◌≤◌, ℕ, Bool, true, false, List, [], ◌∷◌, Option, Some, None, IfSome, refl, sym, ◌∙◌, subst, arith}
 use Rattle.kube_objects.specs.declared.key.Key.{Key}
 use Rattle.kube_objects.specs.declared.object.Object.{Object}
 use Rattle.kube_objects.specs.Clocks.{store_wall, whole_second}
@@ -17,7 +17,7 @@ use Rattle.history.specs.Sound.{IsSound}
 use Rattle.history_laws.specs.Tails.{In}
 use Rattle.history_laws.proofs.Plainly.{upper, for_new, none_is}
 use Rattle.history_laws.proofs.Walk.{walk_at_turn}
-use Rattle.lease_laws.proofs.Invariant.{view, SentRight, BackRight, NumberedIn, EntryRight, EntryNumbered, HeldRight, Saw, Led, Inv}
+use Rattle.lease_laws.proofs.Invariant.{view, SentRight, BackRight, NumberedIn, HeldRight, Led, Inv}
 use Rattle.lease_laws.proofs.Steps.{AtMost, Kept, all_keep}
 
 -- ---- before beat 0

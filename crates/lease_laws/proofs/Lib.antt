@@ -9,3 +9,4 @@ pub mod Steps
 pub mod Premises
 pub mod Histories
 pub mod Claims
+pub mod Terms

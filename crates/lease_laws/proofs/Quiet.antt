@@ -1,19 +1,16 @@
 -- An entry that is no election write, no request, no answer, no counted reply, and no start, crash, stop or end.
-use Rattle.std.proofs.Common.{◌≡◌, ℕ, ◌&&◌, Bool, true, false, List, ◌∷◌, Option, Some, None, IfSome, refl, sym, ap, ◌∙◌, subst, inl, arith, ◌≤◌}
-use Rattle.kube_objects.specs.declared.deed.Actor.{Actor}
-use Rattle.kube_objects.specs.declared.node.Node.{Node}
+use Rattle.std.proofs.Common.{◌≡◌, ℕ, ◌&&◌, Bool, false, List, ◌∷◌, Option, Some, None, IfSome, refl, sym, ap, ◌∙◌, subst, inl, arith, ◌≤◌}
 use Rattle.kube_objects.specs.declared.call.Answer.{Answer}
 use Rattle.kube_objects.specs.declared.call.Answer.TheVariants as answer
-use Rattle.kube_objects.specs.declared.key.Key.{Key}
 use Rattle.kube_objects.specs.declared.script.What.{What}
 use Rattle.kube_objects.specs.Document.{Doc}
 use Rattle.kube_objects.specs.Elector.{shows, shown, newly, observed, leads, deadline_says, deadline}
-use Rattle.kube_objects.specs.Entry.{Entry, Identity, Call, Deed, Ticks, Tick, Sync, Pass, Mark, Mode, Zone, Untaint, Swap, Head, Delete, entry}
+use Rattle.kube_objects.specs.Entry.{Entry, Identity, Call, Ticks, Tick, Sync, Pass, Mark, Mode, Zone, Untaint, Swap, Head, Delete, entry}
 use Rattle.kube_objects.specs.Identities.{identity, is_by, of_process}
 use Rattle.kube_objects.specs.Keys.{key_eq}
 use Rattle.kube_objects.specs.Newest.{added, when, join, has, or_zero, or_else}
 use Rattle.kube_objects.specs.Process.{life, life_says, is_start, is_stop, is_send, starts, stops, begun, call_says, last_call}
-use Rattle.kube_objects.specs.Stored.{election, Write, node_write, try_write, tick_write, at_key, write_of, stored, writes}
+use Rattle.kube_objects.specs.Stored.{election, Write, node_write, try_write, tick_write, at_key, write_of, writes}
 use Rattle.kube_objects.specs.Wire.{of_event, in_force, request_delay_of, reply_delay_of, sent_of, back_of}
 use Rattle.history_laws.proofs.Plainly.{upper, for_new, added_more}
 use Rattle.lease_laws.proofs.Invariant.{view, SentRight, BackRight, Numbered, NumberedIn, EntryNumbered, Saw, Led, Inv}

@@ -1,6 +1,6 @@
 -- The invariant is kept by every kind of entry.
-use Rattle.std.proofs.Common.{◌≡◌, ◌⊎◌, ◌<◌, ◌≤◌, ℕ, zero, suc, ◌+◌, ◌==◌, ◌&&◌, not, nat_lt, Bool, true, false, cond, List, [], ◌∷◌, Option, Some, None, IfSome, refl, sym, ap, ◌∙◌, subst, inl, inr, arith}
-use Rattle.std.proofs.lemmas.Bool.{eqb-true, ltb-false, ltb-true}
+use Rattle.std.proofs.Common.{◌≡◌, ◌<◌, ◌≤◌, ℕ, suc, ◌+◌, ◌&&◌, Bool, true, false, cond, List, [], ◌∷◌, Option, Some, None, IfSome, refl, sym, ◌∙◌, subst, inl, inr, arith}
+use Rattle.std.proofs.lemmas.Bool.{eqb-true, ltb-false}
 use Rattle.kube_base.specs.declared.numbers.ProcId.{ProcId}
 use Rattle.kube_base.specs.declared.numbers.Version.{Version}
 use Rattle.kube_objects.specs.declared.call.Reply.{Reply}
@@ -12,22 +12,21 @@ use Rattle.kube_objects.specs.declared.script.Event.{Event}
 use Rattle.kube_objects.specs.declared.script.What.{What}
 use Rattle.kube_objects.specs.declared.script.What.TheVariants as what
 use Rattle.kube_objects.specs.Clocks.{local, rate}
-use Rattle.kube_objects.specs.Document.{Doc, end_beat, is_controller, call_timeout, retry_period, renew_deadline}
-use Rattle.kube_objects.specs.Elector.{Shown, told, shown, observed, observed_at, succeeds, deadline, leads, is_blocked, is_valid, created, renewed, taken, updated, given_up, Follow, Fails, Asks, Succeeds, not_done, follow_get, follow_write, follow_on, attempt_from, attempt, release_from, release}
-use Rattle.kube_objects.specs.Entry.{Entry, Identity, Call, CallKind, Plain, Fast, Release, Event as Happens, Stops, Delivers, entry, script_entry}
-use Rattle.kube_objects.specs.Identities.{identity, is_same, is_own}
-use Rattle.kube_objects.specs.Newest.{or_zero, added, when, only_if}
-use Rattle.kube_objects.specs.Process.{alive, stops, begun, call_in, counted, is_late}
+use Rattle.kube_objects.specs.Document.{Doc, end_beat, is_controller, call_timeout, renew_deadline}
+use Rattle.kube_objects.specs.Elector.{Shown, told, shown, observed, observed_at, succeeds, leads, is_blocked, is_valid, created, renewed, taken, updated, given_up, Fails, Asks, Succeeds, not_done, follow_on, attempt_from, attempt, release_from, release}
+use Rattle.kube_objects.specs.Entry.{Entry, Identity, Call, CallKind, Plain, Fast, Release}
+use Rattle.kube_objects.specs.Identities.{identity, is_own}
+use Rattle.kube_objects.specs.Newest.{or_zero, added, only_if}
+use Rattle.kube_objects.specs.Process.{stops}
 use Rattle.kube_objects.specs.Stored.{Held, election, key_of, stored}
 use Rattle.kube_objects.specs.Wire.{reply_arrival, send, Sent, Back, sent_of, back_of}
 use Rattle.history.specs.History.{history}
 use Rattle.history.specs.Sound.{IsSoundEvent, AreSound, IsSound}
 use Rattle.history.specs.Steps.{comes_at, answered}
-use Rattle.history_laws.specs.Tails.{In}
-use Rattle.history_laws.proofs.Plainly.{upper, if_some, same_self, some_is, none_is, false_is, and_left, and_right}
+use Rattle.history_laws.proofs.Plainly.{upper, if_some, same_self, none_is, false_is, and_left}
 use Rattle.history_laws.proofs.Counting.{CountedFor, counted_is, only_value, when_test, when_value}
 use Rattle.history_laws.proofs.Walk.{InScript, Scripted, Arriving, Coming, stopped_at, after_reply, Keeps}
-use Rattle.lease_laws.proofs.Invariant.{View, view, Fit, FitRequest, OnTop, Wrote, MayAsk, Base, After, AnswerRight, SentRight, BackRight, EntryRight, NumberedIn, EntryNumbered, HeldRight, Saw, Led, Inv}
+use Rattle.lease_laws.proofs.Invariant.{View, view, Fit, FitRequest, OnTop, Wrote, MayAsk, Base, After, AnswerRight, SentRight, BackRight, EntryRight, NumberedIn, HeldRight, Saw, Led, Inv}
 use Rattle.lease_laws.proofs.EachKind.{after_arrival, keep_starts, keep_crashes, keep_ends, keep_stops, keep_event, keep_leads, keep_expires, keep_uncounted, keep_counted, keep_sends}
 use Rattle.lease_laws.proofs.Answered.{keep_answers}
 use Rattle.lease_laws.proofs.Follows.{own_base, found_base}
