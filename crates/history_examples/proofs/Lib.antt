@@ -1,4 +1,5 @@
 pub mod Actors
 pub mod Elections
+pub mod Entries
 pub mod Renewals
 pub mod Takeovers

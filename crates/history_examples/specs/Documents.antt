@@ -2,7 +2,9 @@
 use Rattle.std.specs.Prelude.{ℕ, pos, Bool, true, false, List, [], ◌∷◌, None}
 use Rattle.kube_objects.specs.declared.deed.Act.{Act}
 use Rattle.kube_objects.specs.declared.deed.Deed.{Deed}
+use Rattle.kube_objects.specs.declared.deed.Actor.TheVariants as actor
 use Rattle.kube_objects.specs.declared.key.Key.{Key}
+use Rattle.kube_objects.specs.declared.key.Kind.TheVariants as kind
 use Rattle.kube_objects.specs.declared.lease.Holder.TheVariants as holder
 use Rattle.kube_objects.specs.declared.node.ReadyStatus.TheVariants as ready
 use Rattle.kube_objects.specs.declared.object.Object.{Object}
@@ -98,8 +100,22 @@ start p = what.Start (record { 0 = p })
 abbrev pub stop : ℕ → What
 stop p = what.Stop (record { 0 = p })
 
+-- a Lease that is no election record; 13 is the number of its name
+abbrev pub other : Key
+other = record { kind = kind.Lease; space = 7; name = 13 }
+
+abbrev pub put : Key → What
+put key = what.Put key (object.Lease (record { holder = holder.Nobody; duration = None; acquired = None; renewed = None; transitions = None }))
+
+abbrev pub remove : Key → What
+remove key = what.Remove key
+
 -- ---- lines
 
 -- what a process does in an incarnation at a beat
 abbrev pub line : ℕ → ℕ → ℕ → Act → Deed
 line k p i act = record { beat = record { 0 = k }; actor = actor_of (identity p i); act = act }
+
+-- what the script does at a beat
+abbrev pub script_line : ℕ → Act → Deed
+script_line k act = record { beat = record { 0 = k }; actor = actor.Script; act = act }

@@ -5,7 +5,7 @@ use Rattle.kube_objects.specs.declared.deed.Act.TheVariants as act
 use Rattle.kube_objects.specs.Stored.{election}
 use Rattle.history.specs.History.{whole_history}
 use Rattle.history.specs.Printed.{printed}
-use Rattle.history_examples.specs.Documents.{document, settings, c1, alone, pair, old_record, at_beat, crash, start, line}
+use Rattle.history_examples.specs.Documents.{document, settings, c1, alone, pair, old_record, other, at_beat, crash, start, put, remove, line, script_line}
 
 -- One controller creates the record, leads and renews.
 abbrev pub FirstElection : Type 0
@@ -47,6 +47,17 @@ SecondTakeoverIsRefused = printed (whole_history (pair 4 old_record [])) ≡
     ∷ line 3 0 1 (act.Update election (answer.Done (record { 0 = 2 })) 1)
     ∷ line 3 1 1 (act.Update election (answer.Conflict (record { 0 = 2 })) 1)
     ∷ line 4 0 1 (act.Lead (record { 0 = 2 }))
+    ∷ []
+
+-- Every accepted write of the store raises the version: puts and removes of other keys too, but no remove that finds nothing.
+abbrev pub VersionsCountEveryWrite : Type 0
+VersionsCountEveryWrite = printed (whole_history (alone 7 [] (at_beat 5 (put other) ∷ at_beat 6 (remove other) ∷ at_beat 6 (remove other) ∷ []))) ≡
+    line 0 0 1 act.Start
+    ∷ line 3 0 1 (act.Create election (answer.Done (record { 0 = 1 })) 0)
+    ∷ line 4 0 1 (act.Lead (record { 0 = 1 }))
+    ∷ script_line 5 (act.Put other (record { 0 = 2 }))
+    ∷ script_line 6 (act.Removed other (record { 0 = 3 }))
+    ∷ line 7 0 1 (act.Update election (answer.Done (record { 0 = 4 })) 0)
     ∷ []
 
 -- Crashes and starts within one beat: a start of a process that is up does nothing, and each other start is a new incarnation.

@@ -1,9 +1,10 @@
 //! Worked examples: documents and the traces that the definitions give them, worked out by hand before.
 #![tactic(auto)]
 
-ghost use Rattle.history_examples.specs.Elections.{FirstElection, DoubleSpeed, SecondCreateIsRefused, SecondTakeoverIsRefused, StormInOneBeat, ReplyToAnOldIncarnation};
-ghost use Rattle.history_examples.specs.Renewals.{LateRenewalConflicts, DeadlineEndsTheTerm, FastRenewal, FastRenewalFallsBack, StopIsFollowedByRelease, RenewalOutrunsRelease};
+ghost use Rattle.history_examples.specs.Elections.{FirstElection, DoubleSpeed, SecondCreateIsRefused, SecondTakeoverIsRefused, VersionsCountEveryWrite, StormInOneBeat, ReplyToAnOldIncarnation};
+ghost use Rattle.history_examples.specs.Renewals.{LateRenewalConflicts, DeadlineEndsTheTerm, ReplyAtTheTimeoutCounts, ReplyAfterTheTimeoutIsIgnored, SuccessAtTheDeadline, CrashCancelsARestart, FastRenewal, FastRenewalFallsBack, StopIsFollowedByRelease, ReleaseBeforeALoss, ReleaseAfterALoss, RenewalOutrunsRelease};
 ghost use Rattle.history_examples.specs.Takeovers.{OwnRecordAfterLostReply, TakeoverAfterCrash, DurationInTheRecordCounts, CreateOutlivesItsSender, SlowReplyCounts};
+ghost use Rattle.history_examples.specs.Entries.{TenEntries};
 ghost use Rattle.history_examples.specs.Actors.{TwoActWithoutPremise, OneActsUnderPremise};
 
 /// The traces of first elections.
@@ -12,6 +13,7 @@ pub fn worked_elections()
     ensures double_speed { DoubleSpeed }
     ensures second_create_is_refused { SecondCreateIsRefused }
     ensures second_takeover_is_refused { SecondTakeoverIsRefused }
+    ensures versions_count_every_write { VersionsCountEveryWrite }
     ensures storm_in_one_beat { StormInOneBeat }
     ensures reply_to_an_old_incarnation { ReplyToAnOldIncarnation }
 {}
@@ -20,9 +22,15 @@ pub fn worked_elections()
 pub fn worked_renewals()
     ensures late_renewal_conflicts { LateRenewalConflicts }
     ensures deadline_ends_the_term { DeadlineEndsTheTerm }
+    ensures reply_at_the_timeout_counts { ReplyAtTheTimeoutCounts }
+    ensures reply_after_the_timeout_is_ignored { ReplyAfterTheTimeoutIsIgnored }
+    ensures success_at_the_deadline { SuccessAtTheDeadline }
+    ensures crash_cancels_a_restart { CrashCancelsARestart }
     ensures fast_renewal { FastRenewal }
     ensures fast_renewal_falls_back { FastRenewalFallsBack }
     ensures stop_is_followed_by_release { StopIsFollowedByRelease }
+    ensures release_before_a_loss { ReleaseBeforeALoss }
+    ensures release_after_a_loss { ReleaseAfterALoss }
     ensures renewal_outruns_release { RenewalOutrunsRelease }
 {}
 
@@ -33,6 +41,11 @@ pub fn worked_takeovers()
     ensures duration_in_the_record_counts { DurationInTheRecordCounts }
     ensures create_outlives_its_sender { CreateOutlivesItsSender }
     ensures slow_reply_counts { SlowReplyCounts }
+{}
+
+/// The first ten entries of a history.
+pub fn worked_entries()
+    ensures { TenEntries }
 {}
 
 /// Who acts, where the lease premise fails and where it holds.

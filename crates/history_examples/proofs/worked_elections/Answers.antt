@@ -13,6 +13,9 @@ returns-clause-second_create_is_refused c = worked.second_create_is_refused
 pub returns-clause-second_takeover_is_refused : goal.returns-clause-second_takeover_is_refused
 returns-clause-second_takeover_is_refused c = worked.second_takeover_is_refused
 
+pub returns-clause-versions_count_every_write : goal.returns-clause-versions_count_every_write
+returns-clause-versions_count_every_write c = worked.versions_count_every_write
+
 pub returns-clause-storm_in_one_beat : goal.returns-clause-storm_in_one_beat
 returns-clause-storm_in_one_beat c = worked.storm_in_one_beat
 
