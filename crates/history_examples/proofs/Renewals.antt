@@ -1,7 +1,7 @@
 -- Renewals, ends and releases. Each is shown by computation.
 use Rattle.std.specs.Prelude.{refl}
 use Rattle.kube_objects.specs.Document.{of_seconds, of_millis}
-use Rattle.history_examples.specs.Renewals.{LateRenewalConflicts, DeadlineEndsTheTerm, ReplyAtTheTimeoutCounts, ReplyAfterTheTimeoutIsIgnored, SuccessAtTheDeadline, CrashCancelsARestart, FastRenewal, FastRenewalFallsBack, StopIsFollowedByRelease, ReleaseBeforeALoss, ReleaseAfterALoss, RenewalOutrunsRelease}
+use Rattle.history_examples.specs.Renewals.{LateRenewalConflicts, DeadlineEndsTheTerm, ReplyAtTheTimeoutCounts, ReplyAfterTheTimeoutIsIgnored, ReplyToAnotherCallIsIgnored, SuccessAtTheDeadline, CrashCancelsARestart, FastRenewal, FastRenewalFallsBack, StopIsFollowedByRelease, ReleaseBeforeALoss, ReleaseAfterALoss, RenewalOutrunsRelease}
 
 pub late_renewal_conflicts : LateRenewalConflicts
 unfolding of_seconds of_millis
@@ -18,6 +18,10 @@ reply_at_the_timeout_counts = refl
 pub reply_after_the_timeout_is_ignored : ReplyAfterTheTimeoutIsIgnored
 unfolding of_seconds of_millis
 reply_after_the_timeout_is_ignored = refl
+
+pub reply_to_another_call_is_ignored : ReplyToAnotherCallIsIgnored
+unfolding of_seconds of_millis
+reply_to_another_call_is_ignored = refl
 
 pub success_at_the_deadline : SuccessAtTheDeadline
 unfolding of_seconds of_millis

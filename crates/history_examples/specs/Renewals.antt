@@ -49,6 +49,16 @@ ReplyAfterTheTimeoutIsIgnored = printed (whole_history (alone 114 [] (at_beat 7 
     ∷ line 114 0 2 act.Start
     ∷ []
 
+-- The reply to a renewal that has expired comes while the Get of the next attempt waits. It doesn't count for that Get.
+abbrev pub ReplyToAnotherCallIsIgnored : Type 0
+ReplyToAnotherCallIsIgnored = printed (whole_history (alone 50 [] (at_beat 7 (delay 0 1 41) ∷ at_beat 8 (delay 0 1 1) ∷ []))) ≡
+    line 0 0 1 act.Start
+    ∷ line 3 0 1 (act.Create election (answer.Done (record { 0 = 1 })) 0)
+    ∷ line 4 0 1 (act.Lead (record { 0 = 1 }))
+    ∷ line 7 0 1 (act.Update election (answer.Done (record { 0 = 2 })) 0)
+    ∷ line 50 0 1 (act.Update election (answer.Done (record { 0 = 3 })) 0)
+    ∷ []
+
 -- A success that is delivered in the very beat of the deadline moves it, and the term goes on.
 abbrev pub SuccessAtTheDeadline : Type 0
 SuccessAtTheDeadline = printed (whole_history (alone 127 [] (at_beat 5 (loss 0 true false) ∷ at_beat 80 (loss 0 false false) ∷ at_beat 91 (delay 0 1 13) ∷ at_beat 92 (delay 0 1 1) ∷ []))) ≡

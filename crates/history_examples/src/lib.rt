@@ -2,7 +2,7 @@
 #![tactic(auto)]
 
 ghost use Rattle.history_examples.specs.Elections.{FirstElection, DoubleSpeed, SecondCreateIsRefused, SecondTakeoverIsRefused, VersionsCountEveryWrite, StormInOneBeat, ReplyToAnOldIncarnation};
-ghost use Rattle.history_examples.specs.Renewals.{LateRenewalConflicts, DeadlineEndsTheTerm, ReplyAtTheTimeoutCounts, ReplyAfterTheTimeoutIsIgnored, SuccessAtTheDeadline, CrashCancelsARestart, FastRenewal, FastRenewalFallsBack, StopIsFollowedByRelease, ReleaseBeforeALoss, ReleaseAfterALoss, RenewalOutrunsRelease};
+ghost use Rattle.history_examples.specs.Renewals.{LateRenewalConflicts, DeadlineEndsTheTerm, ReplyAtTheTimeoutCounts, ReplyAfterTheTimeoutIsIgnored, ReplyToAnotherCallIsIgnored, SuccessAtTheDeadline, CrashCancelsARestart, FastRenewal, FastRenewalFallsBack, StopIsFollowedByRelease, ReleaseBeforeALoss, ReleaseAfterALoss, RenewalOutrunsRelease};
 ghost use Rattle.history_examples.specs.Takeovers.{OwnRecordAfterLostReply, TakeoverAfterCrash, DurationInTheRecordCounts, CreateOutlivesItsSender, SlowReplyCounts};
 ghost use Rattle.history_examples.specs.Entries.{TenEntries};
 ghost use Rattle.history_examples.specs.Actors.{TwoActWithoutPremise, OneActsUnderPremise};
@@ -24,6 +24,7 @@ pub fn worked_renewals()
     ensures deadline_ends_the_term { DeadlineEndsTheTerm }
     ensures reply_at_the_timeout_counts { ReplyAtTheTimeoutCounts }
     ensures reply_after_the_timeout_is_ignored { ReplyAfterTheTimeoutIsIgnored }
+    ensures reply_to_another_call_is_ignored { ReplyToAnotherCallIsIgnored }
     ensures success_at_the_deadline { SuccessAtTheDeadline }
     ensures crash_cancels_a_restart { CrashCancelsARestart }
     ensures fast_renewal { FastRenewal }

@@ -13,6 +13,9 @@ returns-clause-reply_at_the_timeout_counts c = worked.reply_at_the_timeout_count
 pub returns-clause-reply_after_the_timeout_is_ignored : goal.returns-clause-reply_after_the_timeout_is_ignored
 returns-clause-reply_after_the_timeout_is_ignored c = worked.reply_after_the_timeout_is_ignored
 
+pub returns-clause-reply_to_another_call_is_ignored : goal.returns-clause-reply_to_another_call_is_ignored
+returns-clause-reply_to_another_call_is_ignored c = worked.reply_to_another_call_is_ignored
+
 pub returns-clause-success_at_the_deadline : goal.returns-clause-success_at_the_deadline
 returns-clause-success_at_the_deadline c = worked.success_at_the_deadline
 
