@@ -1,0 +1,21 @@
+-- A call slot stands for an identity's call.
+use Rattle.std.specs.Prelude.{◌≡◌, ℕ, Bool, true, false, List, Option, Some, None, option_map}
+use Rattle.kube_base.specs.declared.numbers.Local.{Local}
+use Rattle.kube_objects.specs.Clocks.{local}
+use Rattle.kube_objects.specs.Document.{Doc}
+use Rattle.kube_objects.specs.Entry.{Entry, Identity, Call, CallKind, Plain, Fast, Release}
+use Rattle.kube_objects.specs.Process.{begun, call_in, is_late}
+use Rattle.leader_elector.specs.declared.call_slot.CallSlot.{CallSlot}
+
+abbrev pub waits : CallKind → Bool
+waits Plain = true
+waits Fast = true
+waits Release = false
+
+abbrev pub is_late_call : Doc → Identity → ℕ → Option Call → Bool
+is_late_call doc q k None = false
+is_late_call doc q k (Some call) = is_late doc q k call
+
+pub record CallSlotStands (doc : Doc) (q : Identity) (h : List Entry) (s : CallSlot) : Type 0 where
+  pub begun : s.begun ≡ begun q h
+  pub held : option_map (λ held. (held.0, held.1.0)) s.held ≡ option_map (λ call. (call.number, local doc q.process call.sent)) (call_in q h)

@@ -1,0 +1,3 @@
+pub mod CallSlots
+pub mod Stands
+pub mod Moves
