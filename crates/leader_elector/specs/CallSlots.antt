@@ -1,5 +1,6 @@
 -- A call slot stands for an identity's call.
-use Rattle.std.specs.Prelude.{◌≡◌, ℕ, Bool, true, false, List, Option, Some, None, option_map}
+use Rattle.std.specs.Prelude.{◌≡◌, ℕ, Bool, true, false, List, Option, Some, None}
+use Rattle.kube_base.specs.declared.numbers.Local.{Local}
 use Rattle.kube_base.specs.declared.numbers.Local.{Local}
 use Rattle.kube_objects.specs.Clocks.{local}
 use Rattle.kube_objects.specs.Document.{Doc}
@@ -16,6 +17,11 @@ abbrev pub is_late_call : Doc → Identity → ℕ → Option Call → Bool
 is_late_call doc q k None = false
 is_late_call doc q k (Some call) = is_late doc q k call
 
-pub record CallSlotStands (doc : Doc) (q : Identity) (h : List Entry) (s : CallSlot) : Type 0 where
-  pub begun : s.begun ≡ begun q h
-  pub held : option_map (λ held. (held.0, held.1.0)) s.held ≡ option_map (λ call. (call.number, local doc q.process call.sent)) (call_in q h)
+-- a call by its number and the reading at which it was sent
+abbrev pub waiting_as : Doc → Identity → Option Call → Option (ℕ × Local)
+waiting_as doc q None = None
+waiting_as doc q (Some call) = Some (call.number, record { 0 = local doc q.process call.sent })
+
+pub record CallSlotStands (doc : Doc) (q : Identity) (h : List Entry) (slot : CallSlot) : Type 0 where
+  pub begun : slot.begun ≡ begun q h
+  pub held : slot.held ≡ waiting_as doc q (call_in q h)

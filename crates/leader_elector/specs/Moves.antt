@@ -1,12 +1,12 @@
 -- What a state's call answers, beside what the history says.
-use Rattle.std.specs.Prelude.{◌≡◌, ⊥, ℕ, ◌+◌, Bool, true, false, cond, nat_lt, List, ◌∷◌, Option, Some, None}
+use Rattle.std.specs.Prelude.{◌≡◌, ℕ, ◌+◌, Bool, true, false, cond, nat_lt, List, ◌∷◌, Option, Some, None}
 use Rattle.kube_base.specs.declared.numbers.Version.{Version}
 use Rattle.kube_objects.specs.declared.call.Ask.{Ask}
 use Rattle.kube_objects.specs.declared.call.Reply.{Reply}
 use Rattle.kube_objects.specs.declared.call.Request.{Request}
 use Rattle.kube_objects.specs.Clocks.{local}
 use Rattle.kube_objects.specs.Document.{Doc, call_timeout}
-use Rattle.kube_objects.specs.Elector.{leads, deadline, follow_on}
+use Rattle.kube_objects.specs.Elector.{Shown, leads, deadline, follow_on}
 use Rattle.kube_objects.specs.Entry.{Entry, Identity, Call, CallKind, Sends, Delivers, Leads, Ends, entry}
 use Rattle.kube_objects.specs.Process.{begun, call_in}
 use Rattle.kube_objects.specs.Turns.{react, expire_call, end_term, try}
@@ -16,10 +16,12 @@ use Rattle.leader_elector.specs.declared.candidate.CandidateNext.{CandidateNext}
 use Rattle.leader_elector.specs.declared.candidate.CandidateNext.TheVariants as candidate
 use Rattle.leader_elector.specs.declared.ended.Ended.{Ended}
 use Rattle.leader_elector.specs.declared.ended.Released.{Released}
+use Rattle.leader_elector.specs.declared.elector.Elector.{Elector}
+use Rattle.leader_elector.specs.declared.follow.Follow as code
 use Rattle.leader_elector.specs.declared.leading.Leading.{Leading}
 use Rattle.leader_elector.specs.declared.leading.LeadingNext.{LeadingNext}
 use Rattle.leader_elector.specs.declared.leading.LeadingNext.TheVariants as leading
-use Rattle.leader_elector.specs.Stands.{CandidateStands, LeadingStands, ended_identity}
+use Rattle.leader_elector.specs.Stands.{CandidateStands, ElectorStands, LeadingStands, ended_identity, follow_of}
 
 -- next is h with the request sent, whose arrival the state doesn't look at
 pub record Asked (k step : ℕ) (q : Identity) (h next : List Entry) (Stands : List Entry → Type 0) (ask : Ask) : Type 0 where
@@ -100,3 +102,20 @@ wake_from doc q timer (Some call) = local doc q.process call.sent + call_timeout
 abbrev pub wake_before : ℕ → Option ℕ → ℕ
 wake_before wake None = wake
 wake_before wake (Some deadline) = cond (nat_lt deadline wake) deadline wake
+
+-- ---- the part that candidates and leaders have in common
+
+-- the last that is shown
+abbrev pub last_of : Option Shown → Option Shown → Option Shown
+last_of None old = old
+last_of (Some x) old = Some x
+
+-- an attempt starts, or nothing happens; next is the history with it
+abbrev pub Tried : Doc → ℕ → Identity → List Entry → List Entry → Elector → Bool → Option Ask → Type 0
+Tried doc k q h next e expired None = (expired ≡ false) × (next ≡ h) × ElectorStands doc q h e
+Tried doc k q h next e expired (Some ask) = Asked k 4 q h next (λ x. ElectorStands doc q x e) ask
+
+-- what a counted reply is followed by
+abbrev pub Received : Doc → ℕ → Identity → Call → Reply → List Entry → Elector → Option code.Follow → Type 0
+Received doc k q call reply h e None = ⊥
+Received doc k q call reply h e (Some follow) = (follow_of follow ≡ follow_on doc q k call.kind call.request reply (delivered k q call reply h)) × ElectorStands doc q (delivered k q call reply h) e

@@ -4,7 +4,7 @@ use Rattle.kube_base.specs.declared.numbers.ProcId.{ProcId}
 use Rattle.kube_objects.specs.declared.call.Request.{Request}
 use Rattle.kube_objects.specs.Clocks.{local}
 use Rattle.kube_objects.specs.Document.{Doc, lease_seconds, renew_deadline, retry_period, call_timeout}
-use Rattle.kube_objects.specs.Elector.{Shown, Follow, Fails, Asks, Succeeds, shown, observed_at, timer, leads, deadline}
+use Rattle.kube_objects.specs.Elector.{Shown, Follow, Fails, Asks, Succeeds, is_fast, shown, observed_at, timer, leads, deadline}
 use Rattle.kube_objects.specs.Entry.{Entry, Identity, Call, CallKind, Plain, Fast}
 use Rattle.kube_objects.specs.Identities.{identity}
 use Rattle.kube_objects.specs.Process.{begun, call_in}
@@ -44,6 +44,10 @@ waiting_of = option_map (λ w. record { request = w.request; kind = kind_of w.fa
 
 abbrev pub waiting_in : Doc → Identity → Option Call → Option Wait
 waiting_in doc q = option_map (λ call. record { request = call.request; kind = call.kind; late = local doc q.process call.sent + call_timeout doc q.process + 1 })
+
+abbrev pub is_fast_wait : Option Wait → Bool
+is_fast_wait None = false
+is_fast_wait (Some w) = is_fast w.kind
 
 abbrev pub shown_of : Option Seen → Option Shown
 shown_of = option_map (λ s. (s.version, s.lease))

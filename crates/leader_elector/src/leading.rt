@@ -1,12 +1,13 @@
 // A leader renews the election Lease until its deadline.
 ghost use Rattle.std.specs.Prelude.{◌≡◌, ◌≤◌, ◌<◌, ◌+◌, ◌^◌, ℕ, not, nat_lt, is_some, true, false, List, ◌∷◌, Some, None, IfSome};
+ghost use Rattle.kube_base.specs.declared.numbers.Version.{Version};
 ghost use Rattle.kube_objects.specs.Clocks.{local, wall as wall_at};
 ghost use Rattle.kube_objects.specs.Document.{Doc};
 ghost use Rattle.kube_objects.specs.Elector.{acts, deadline, release, timer};
-ghost use Rattle.kube_objects.specs.Entry.{Call, Delivers, Entry, Identity, entry};
+ghost use Rattle.kube_objects.specs.Entry.{Call, Delivers, Entry, Identity, Leads, entry};
 ghost use Rattle.kube_objects.specs.Process.{alive, begun, call_in, counted};
 ghost use Rattle.leader_elector.specs.Moves.{LeadingReplies, LeadingStays, LeadingTurns, Releases, delivered, ends, expired, reacted, wake_before, wake_from};
-ghost use Rattle.leader_elector.specs.Stands.{LeadingStands, acting_identity, deadline_of, ended_identity, leading_identity};
+ghost use Rattle.leader_elector.specs.Stands.{ElectorStands, LeadingStands, acting_identity, deadline_of, ended_identity, leading_identity};
 
 use crate::elector::{Elector, given_up};
 use crate::follow::{ELECTION, Follow};
@@ -31,7 +32,11 @@ pub enum LeadingNext {
 
 impl Leading {
     /// A candidate's success begins a term, and its next attempt starts at its next turn.
-    pub(crate) fn new(elector: Elector, now: Local) -> Leading {
+    pub(crate) fn new(elector: Elector, now: Local) -> Leading
+        requires now { now.0 ≤ 2000000000000000000 }
+        ensures { (doc : Doc) (q : Identity) (h : List Entry) (k step : ℕ) (version : Version) → ElectorStands doc q h elector → now.0 ≡ local doc q.process k
+            → LeadingStands doc q (entry k step q (Leads version) ∷ h) result }
+    {
         let deadline = Local(now.0 + elector.timing.renew);
         Leading {
             elector: Elector {
@@ -134,7 +139,9 @@ impl Leading {
         }
     }
 
-    fn ended(&self) -> Ended {
+    fn ended(&self) -> Ended
+        ensures { ended_identity result ≡ leading_identity self.now }
+    {
         Ended {
             me: self.elector.me,
             incarnation: self.elector.incarnation,
