@@ -15,7 +15,8 @@ impl<'a> Since<'a> {
     ghost use Rattle.object_store.specs.Stands.{start_since, keys_since, shown_since, changed_in, shown_in};
 
     pub(crate) fn new(store: &'a Store, position: u64) -> Since<'a>
-        ensures { result ≡ record { store = store; position = position } }
+        ensures store { result.store.now ≡ store.now }
+        ensures position { result.position ≡ position }
     {
         Since { store, position }
     }

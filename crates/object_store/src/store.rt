@@ -46,7 +46,7 @@ impl Store {
         ensures { (h : List Entry) → StoreStands h self.now → shown_pair result ≡ kept_of (stored key.now h) }
     {
         match self.objects.get(key) {
-            Some((version, object)) => Some((*version, object)),
+            Some(kept) => Some((kept.0, &kept.1)),
             None => None,
         }
     }
@@ -234,7 +234,7 @@ impl Store {
         ensures { result ≡ version_in (shown_in self.now key.now) }
     {
         match self.objects.get(key) {
-            Some((version, _)) => Some(*version),
+            Some(kept) => Some(kept.0),
             None => None,
         }
     }
@@ -243,8 +243,11 @@ impl Store {
         ensures { option_copied result ≡ node_in_pair (shown_in self.now key.now) }
     {
         match self.objects.get(key) {
-            Some((_, Object::Node(node))) => Some(node),
-            _ => None,
+            Some(kept) => match &kept.1 {
+                Object::Node(node) => Some(node),
+                _ => None,
+            },
+            None => None,
         }
     }
 }
@@ -276,7 +279,7 @@ impl Feed for Store {
 
     fn object(&self, key: &Key) -> Option<(Version, &Object)> {
         match self.objects.get(key) {
-            Some((version, object)) => Some((*version, object)),
+            Some(kept) => Some((kept.0, &kept.1)),
             None => None,
         }
     }

@@ -1,13 +1,10 @@
-// A library with one function.
+//! Requests and replies in flight between processes and the store.
 #![tactic(auto)]
 
-ghost use Rattle.std.specs.Prelude.{◌≡◌};
-ghost use Rattle.wire_calls.specs.Echo.{echo_of};
+mod flight;
+mod link;
+mod message;
+mod wire;
 
-// The `ensures` clause is the contract: what `echo` returns is `echo_of` of its argument, a definition
-// in `specs/Echo.antt`, which a caller's clause can cite too.
-pub fn echo(x: usize) -> usize
-    ensures { result ≡ echo_of x }
-{
-    x
-}
+pub use message::{Arrived, Delivered, Sent};
+pub use wire::Wire;
