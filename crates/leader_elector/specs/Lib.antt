@@ -1,3 +1,2 @@
-pub mod CallSlots
 pub mod Stands
 pub mod Moves

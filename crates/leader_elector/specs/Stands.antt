@@ -19,7 +19,7 @@ use Rattle.leader_elector.specs.declared.leading.Leading.{Leading}
 use Rattle.leader_elector.specs.declared.seen.Seen.{Seen}
 use Rattle.leader_elector.specs.declared.timing.Timing.{Timing}
 use Rattle.leader_elector.specs.declared.waiting.Waiting.{Waiting}
-use Rattle.leader_elector.specs.CallSlots.{CallSlotStands}
+use Rattle.kube_objects.specs.CallSlots.{CallSlotStands}
 
 -- the timings are those of a process of the document
 pub record IsTimingOf (doc : Doc) (p : ℕ) (t : Timing) : Type 0 where

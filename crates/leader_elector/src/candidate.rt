@@ -31,7 +31,7 @@ pub enum CandidateNext {
 impl Candidate {
     /// A candidate that has sent nothing. Its first attempt starts at its next turn.
     pub fn start(me: ProcId, incarnation: u32, timing: Timing, now: Local) -> Candidate
-        ensures stands { (doc : Doc) (q : Identity) (h : List Entry) (k step : ℕ) → me.0 ≡ q.process → incarnation ≡ q.incarnation → IsTimingOf doc q.process timing → now.0 ≡ local doc q.process k → IsNew doc q h
+        ensures { (doc : Doc) (q : Identity) (h : List Entry) (k step : ℕ) → me.0 ≡ q.process → incarnation ≡ q.incarnation → IsTimingOf doc q.process timing → now.0 ≡ local doc q.process k → IsNew doc q h
             → CandidateStands doc q (entry k step q Starts ∷ h) result }
     {
         Candidate {
@@ -42,7 +42,7 @@ impl Candidate {
     /// A turn: a call that has expired is forgotten, then an attempt starts where it is time. It never leads.
     pub fn on_timer(mut self, now: Local, wall: Wall) -> CandidateNext
         requires now { now.0 ≤ 2000000000000000000 }
-        ensures turns { (doc : Doc) (q : Identity) (h : List Entry) (k : ℕ) → CandidateStands doc q h self → now.0 ≡ local doc q.process k → wall.0 ≡ wall_at doc q.process k → begun q h + 1 < 2 ^ 64
+        ensures { (doc : Doc) (q : Identity) (h : List Entry) (k : ℕ) → CandidateStands doc q h self → now.0 ≡ local doc q.process k → wall.0 ≡ wall_at doc q.process k → begun q h + 1 < 2 ^ 64
             → CandidateTurns doc k q (expired doc k q h) result }
     {
         let expired = self.elector.expire(now);

@@ -13,12 +13,11 @@ ghost use Rattle.leader_elector.specs.Moves.{Asked, Received, Tried, delivered, 
 ghost use Rattle.leader_elector.specs.Stands.{ElectorStands, IsNew, IsSettled, IsTimingOf, follow_of, is_fast_wait, kind_of, observed_of, shown_of, waiting_of};
 
 use crate::Timing;
-use crate::call_slot::CallSlot;
 use crate::follow::{ELECTION, Follow, follow_write, told};
 use crate::seen::Seen;
 use crate::waiting::Waiting;
 use kube_base::{Local, ProcId, Version, Wall};
-use kube_objects::{Ask, Holder, Lease, Reply, Request};
+use kube_objects::{Ask, CallSlot, Holder, Lease, Reply, Request};
 
 const MOST_TRANSITIONS: u32 = 2147483647;
 
@@ -35,7 +34,7 @@ pub(crate) struct Elector {
 
 impl Elector {
     pub(crate) fn start(me: ProcId, incarnation: u32, timing: Timing, now: Local) -> Elector
-        ensures stands { (doc : Doc) (q : Identity) (h : List Entry) (k step : ℕ) → me.0 ≡ q.process → incarnation ≡ q.incarnation → IsTimingOf doc q.process timing → now.0 ≡ local doc q.process k → IsNew doc q h
+        ensures { (doc : Doc) (q : Identity) (h : List Entry) (k step : ℕ) → me.0 ≡ q.process → incarnation ≡ q.incarnation → IsTimingOf doc q.process timing → now.0 ≡ local doc q.process k → IsNew doc q h
             → ElectorStands doc q (entry k step q Starts ∷ h) result }
     {
         Elector {

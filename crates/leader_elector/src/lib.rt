@@ -2,7 +2,6 @@
 #![tactic(auto)]
 
 mod acting;
-mod call_slot;
 mod candidate;
 mod elector;
 mod ended;
