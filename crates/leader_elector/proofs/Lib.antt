@@ -1,1 +1,4 @@
 pub mod Own
+pub mod Expiry
+pub mod Attempts
+pub mod Replies

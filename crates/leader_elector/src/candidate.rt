@@ -60,13 +60,16 @@ impl Candidate {
         ensures counts { (doc : Doc) (q : Identity) (h : List Entry) (k : ℕ) (call : Call) → CandidateStands doc q h self → now.0 ≡ local doc q.process k → wall.0 ≡ wall_at doc q.process k → begun q h + 1 < 2 ^ 64
             → counted doc q k number h ≡ Some call → CandidateReplies doc k q (delivered k q call reply h) (reacted doc k q call reply h) result }
     {
-        match self.elector.receive(false, number, &reply, now, wall) {
-            None | Some(Follow::Fails) => CandidateNext::Stay(self),
-            Some(Follow::Asks(request)) => {
+        let Some(follow) = self.elector.receive(false, number, &reply, now, wall) else {
+            return CandidateNext::Stay(self);
+        };
+        match follow {
+            Follow::Fails => CandidateNext::Stay(self),
+            Follow::Asks(request) => {
                 let ask = self.elector.ask(request, false, now);
                 CandidateNext::Ask(self, ask)
             }
-            Some(Follow::Succeeds(_)) => CandidateNext::Lead(Leading::new(self.elector, now)),
+            Follow::Succeeds(_) => CandidateNext::Lead(Leading::new(self.elector, now)),
         }
     }
 

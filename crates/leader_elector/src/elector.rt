@@ -1,5 +1,5 @@
 // What a candidate and a leader have in common: the call that waits, the record last shown, the timer.
-ghost use Rattle.std.specs.Prelude.{◌≡◌, ◌≤◌, ◌<◌, ◌+◌, ◌^◌, ℕ, false, true, List, ◌∷◌, Option, Some, None};
+ghost use Rattle.std.specs.Prelude.{◌≡◌, ◌&&◌, ◌≤◌, ◌<◌, ◌+◌, ◌^◌, ℕ, false, true, List, ◌∷◌, Option, Some, None};
 ghost use Rattle.kube_objects.specs.Clocks.{local, wall as wall_at};
 ghost use Rattle.kube_objects.specs.Document.{Doc};
 ghost use Rattle.kube_objects.specs.Elector.{attempt, attempt_from, created, follow_get, follow_on, given_up, is_blocked, is_valid, leads, newly, observed_at, one_more, renewed, shown, taken, timer, timer_follow, updated};
@@ -110,7 +110,7 @@ impl Elector {
         let Some(seen) = self.seen else {
             return self.ask(Request::Get(ELECTION), false, now);
         };
-        if !(self.holds(&seen.lease) && is_valid(now, seen.at, &seen.lease)) {
+        if !self.is_renewable(&seen, now) {
             return self.ask(Request::Get(ELECTION), false, now);
         }
         let lease = self.renewed(&seen.lease, wall);
@@ -249,6 +249,13 @@ impl Elector {
             Holder::Proc(id, incarnation) => id == self.me && incarnation == self.incarnation,
             Holder::Nobody | Holder::Foreign(_) => false,
         }
+    }
+
+    /// Whether the record last shown is one's own and still valid.
+    fn is_renewable(&self, seen: &Seen, now: Local) -> bool
+        ensures { (q : Identity) → self.now.me.0 ≡ q.process → self.now.incarnation ≡ q.incarnation → result ≡ (is_own q seen.now.lease.holder && is_valid now.0 seen.now.at.0 seen.now.lease) }
+    {
+        self.holds(&seen.lease) && is_valid(now, seen.at, &seen.lease)
     }
 
     /// Whether somebody else holds the record.

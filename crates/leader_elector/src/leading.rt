@@ -72,13 +72,16 @@ impl Leading {
         ensures counts { (doc : Doc) (q : Identity) (h : List Entry) (k : ℕ) (call : Call) → LeadingStands doc q h self → now.0 ≡ local doc q.process k → wall.0 ≡ wall_at doc q.process k → begun q h + 1 < 2 ^ 64
             → counted doc q k number h ≡ Some call → LeadingReplies doc k q (delivered k q call reply h) (reacted doc k q call reply h) result }
     {
-        match self.elector.receive(true, number, &reply, now, wall) {
-            None | Some(Follow::Fails) => LeadingNext::Stay(self),
-            Some(Follow::Asks(request)) => {
+        let Some(follow) = self.elector.receive(true, number, &reply, now, wall) else {
+            return LeadingNext::Stay(self);
+        };
+        match follow {
+            Follow::Fails => LeadingNext::Stay(self),
+            Follow::Asks(request) => {
                 let ask = self.elector.ask(request, false, now);
                 LeadingNext::Ask(self, ask)
             }
-            Some(Follow::Succeeds(_)) => {
+            Follow::Succeeds(_) => {
                 self.deadline = Local(now.0 + self.elector.timing.retry + self.elector.timing.renew);
                 LeadingNext::Stay(self)
             }

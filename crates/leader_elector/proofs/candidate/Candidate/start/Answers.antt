@@ -1,11 +1,12 @@
 use Rattle.std.proofs.Common.{refl}
-use Rattle.leader_elector.proofs.Own.{mine}
+use Rattle.kube_objects.specs.Entry.{Starts}
+use Rattle.leader_elector.proofs.Own.{settled-own}
 use Rattle.leader_elector.proofs.candidate.Candidate.start.Goals as goal
 
 pub returns : goal.returns
 returns c doc q h k step me incarnation timing now new =
     record {
       elector = c.start.ensures doc q h k step me incarnation timing now new;
-      settled = λ n. rw (mine q) refl;
+      settled = settled-own q h k step Starts (λ n. refl);
       leads = new.leads;
     }

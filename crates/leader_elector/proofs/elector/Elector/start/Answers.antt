@@ -1,6 +1,6 @@
-use Rattle.std.proofs.Common.{◌≡◌, sym, ap}
+use Rattle.std.proofs.Common.{◌≡◌, ◌∙◌, sym, ap}
 use Rattle.leader_elector.specs.Stands.{waiting_in}
-use Rattle.leader_elector.proofs.Own.{mine}
+use Rattle.leader_elector.proofs.Own.{timer-started}
 use Rattle.leader_elector.proofs.elector.Elector.start.Goals as goal
 
 pub returns : goal.returns
@@ -14,5 +14,5 @@ returns c doc q h k step me incarnation timing now new =
       waiting = sym (ap (waiting_in doc q) new.call);
       shown = sym new.shown;
       observed = sym new.observed;
-      timer = rw (mine q) now;
+      timer = now ∙ sym (timer-started doc q h k step);
     }
