@@ -2,3 +2,4 @@ pub mod Own
 pub mod Expiry
 pub mod Attempts
 pub mod Replies
+pub mod Frames
