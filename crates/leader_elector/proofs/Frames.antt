@@ -14,6 +14,7 @@ use Rattle.kube_objects.proofs.CallFrames.{call_slot-beside}
 use Rattle.leader_elector.specs.declared.candidate.Candidate.{Candidate}
 use Rattle.leader_elector.specs.declared.elector.Elector.{Elector}
 use Rattle.leader_elector.specs.declared.leading.Leading.{Leading}
+use Rattle.leader_elector.specs.Moves.{is_of_elector}
 use Rattle.leader_elector.specs.Stands.{CandidateStands, ElectorStands, IsNew, IsSettled, LeadingStands, waiting_in}
 use Rattle.leader_elector.proofs.Own.{last_expired, last_timer, said}
 
@@ -131,31 +132,23 @@ module _ (doc : Doc) (q : Identity) (h : List Entry) (e : Entry) (other : is_by 
         deadline = deadline-foreign (leads q h) e.deed;
       }
 
-  pub candidate-foreign : (c : Candidate) → CandidateStands doc q h c → CandidateStands doc q (e ∷ h) c
-  candidate-foreign c s = candidate-beside doc q h e c quiet-foreign s
+pub candidate-foreign : (doc : Doc) (q : Identity) (e : Entry) (h : List Entry) (c : Candidate) → is_by q e.actor ≡ false → CandidateStands doc q h c → CandidateStands doc q (e ∷ h) c
+candidate-foreign doc q e h c other s = candidate-beside doc q h e c (quiet-foreign doc q h e other) s
 
-  pub leading-foreign : (l : Leading) → LeadingStands doc q h l → LeadingStands doc q (e ∷ h) l
-  leading-foreign l s = leading-beside doc q h e l quiet-foreign s
+pub leading-foreign : (doc : Doc) (q : Identity) (e : Entry) (h : List Entry) (l : Leading) → is_by q e.actor ≡ false → LeadingStands doc q h l → LeadingStands doc q (e ∷ h) l
+leading-foreign doc q e h l other s = leading-beside doc q h e l (quiet-foreign doc q h e other) s
 
-  pub new-foreign : IsNew doc q h → IsNew doc q (e ∷ h)
-  new-foreign n = new-beside doc q h e quiet-foreign n
+pub new-foreign : (doc : Doc) (q : Identity) (e : Entry) (h : List Entry) → is_by q e.actor ≡ false → IsNew doc q h → IsNew doc q (e ∷ h)
+new-foreign doc q e h other n = new-beside doc q h e (quiet-foreign doc q h e other) n
 
 -- ---- entries of a kind that an elector doesn't look at, whoever's
-
-abbrev pub is_looked_at : Deed → Bool
-is_looked_at Starts = true
-is_looked_at (Sends call arrives) = true
-is_looked_at (Delivers call reply counted) = true
-is_looked_at (Expires call) = true
-is_looked_at (Leads version) = true
-is_looked_at _ = false
 
 still_settled : (b : Bool) (before : Option (Option Call)) → is_fast_call (join before) ≡ false → is_fast_call (join (said (when {A = Option Call} b None) before)) ≡ false
 still_settled true before s = refl
 still_settled false before s = s
 
 module _ (doc : Doc) (q : Identity) (h : List Entry) (beat step : ℕ) (who : Actor) where
-  pub quiet-kind : (d : Deed) → is_looked_at d ≡ false → IsQuiet doc q h (record { beat = beat; step = step; actor = who; deed = d })
+  pub quiet-kind : (d : Deed) → is_of_elector d ≡ false → IsQuiet doc q h (record { beat = beat; step = step; actor = who; deed = d })
   quiet-kind Starts is = absurd (cc)
   quiet-kind (Sends call arrives) is = absurd (cc)
   quiet-kind (Delivers call reply counted) is = absurd (cc)
@@ -163,8 +156,11 @@ module _ (doc : Doc) (q : Identity) (h : List Entry) (beat step : ℕ) (who : Ac
   quiet-kind (Leads version) is = absurd (cc)
   quiet-kind _ is = record { unsent = refl; call = refl; shows = refl; timer = refl; settled = λ s n. still_settled (is_by q who) (last_expired q n h) (s n); lead = refl; deadline = refl }
 
-pub candidate-quiet : (doc : Doc) (q : Identity) (h : List Entry) (e : Entry) (c : Candidate) → is_looked_at e.deed ≡ false → CandidateStands doc q h c → CandidateStands doc q (e ∷ h) c
-candidate-quiet doc q h e c is s = candidate-beside doc q h e c (quiet-kind doc q h e.beat e.step e.actor e.deed is) s
+pub candidate-quiet : (doc : Doc) (q : Identity) (e : Entry) (h : List Entry) (c : Candidate) → is_of_elector e.deed ≡ false → CandidateStands doc q h c → CandidateStands doc q (e ∷ h) c
+candidate-quiet doc q e h c is s = candidate-beside doc q h e c (quiet-kind doc q h e.beat e.step e.actor e.deed is) s
 
-pub leading-quiet : (doc : Doc) (q : Identity) (h : List Entry) (e : Entry) (l : Leading) → is_looked_at e.deed ≡ false → LeadingStands doc q h l → LeadingStands doc q (e ∷ h) l
-leading-quiet doc q h e l is s = leading-beside doc q h e l (quiet-kind doc q h e.beat e.step e.actor e.deed is) s
+pub leading-quiet : (doc : Doc) (q : Identity) (e : Entry) (h : List Entry) (l : Leading) → is_of_elector e.deed ≡ false → LeadingStands doc q h l → LeadingStands doc q (e ∷ h) l
+leading-quiet doc q e h l is s = leading-beside doc q h e l (quiet-kind doc q h e.beat e.step e.actor e.deed is) s
+
+pub new-quiet : (doc : Doc) (q : Identity) (e : Entry) (h : List Entry) → is_of_elector e.deed ≡ false → IsNew doc q h → IsNew doc q (e ∷ h)
+new-quiet doc q e h is n = new-beside doc q h e (quiet-kind doc q h e.beat e.step e.actor e.deed is) n

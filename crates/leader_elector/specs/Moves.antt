@@ -7,7 +7,7 @@ use Rattle.kube_objects.specs.declared.call.Request.{Request}
 use Rattle.kube_objects.specs.Clocks.{local}
 use Rattle.kube_objects.specs.Document.{Doc, call_timeout}
 use Rattle.kube_objects.specs.Elector.{Shown, leads, deadline, follow_on}
-use Rattle.kube_objects.specs.Entry.{Entry, Identity, Call, CallKind, Sends, Delivers, Leads, Ends, entry}
+use Rattle.kube_objects.specs.Entry.{Entry, Identity, Call, CallKind, Deed, Starts, Sends, Delivers, Expires, Leads, Ends, entry}
 use Rattle.kube_objects.specs.Process.{begun, call_in}
 use Rattle.kube_objects.specs.Turns.{react, expire_call, end_term, try}
 use Rattle.kube_objects.specs.Wire.{next_call, send}
@@ -49,6 +49,12 @@ abbrev pub LeadingTurns : Doc → ℕ → Identity → List Entry → LeadingNex
 LeadingTurns doc k q h (leading.Stay l) = (tested doc k q h ≡ h) × (try doc k q h ≡ h) × LeadingStands doc q h l
 LeadingTurns doc k q h (leading.Ask l ask) = (tested doc k q h ≡ h) × Asked k 4 q h (try doc k q h) (λ x. LeadingStands doc q x l) ask
 LeadingTurns doc k q h (leading.End x) = (tested doc k q h ≡ entry k 4 q Ends ∷ h) × (ended_identity x ≡ q)
+
+-- whether a candidate leads
+abbrev pub becomes_leader : CandidateNext → Bool
+becomes_leader (candidate.Stay c) = false
+becomes_leader (candidate.Ask c ask) = false
+becomes_leader (candidate.Lead l) = true
 
 -- whether a term ends
 abbrev pub ends : LeadingNext → Bool
@@ -119,3 +125,13 @@ Tried doc k q h next e expired (Some ask) = Asked k 4 q h next (λ x. ElectorSta
 abbrev pub Received : Doc → ℕ → Identity → Call → Reply → List Entry → Elector → Option code.Follow → Type 0
 Received doc k q call reply h e None = ⊥
 Received doc k q call reply h e (Some follow) = (follow_of follow ≡ follow_on doc q k call.kind call.request reply (delivered k q call reply h)) × ElectorStands doc q (delivered k q call reply h) e
+
+-- ---- entries that an elector looks at, where they are its own
+
+abbrev pub is_of_elector : Deed → Bool
+is_of_elector Starts = true
+is_of_elector (Sends call arrives) = true
+is_of_elector (Delivers call reply counted) = true
+is_of_elector (Expires call) = true
+is_of_elector (Leads version) = true
+is_of_elector _ = false

@@ -5,7 +5,7 @@ ghost use Rattle.kube_objects.specs.Document.{Doc};
 ghost use Rattle.kube_objects.specs.Elector.{timer};
 ghost use Rattle.kube_objects.specs.Entry.{Call, Delivers, Entry, Identity, Starts, entry};
 ghost use Rattle.kube_objects.specs.Process.{alive, begun, call_in, counted};
-ghost use Rattle.leader_elector.specs.Moves.{CandidateReplies, CandidateStays, CandidateTurns, delivered, expired, reacted, wake_from};
+ghost use Rattle.leader_elector.specs.Moves.{CandidateReplies, CandidateStays, CandidateTurns, becomes_leader, delivered, expired, reacted, wake_from};
 ghost use Rattle.leader_elector.specs.Stands.{CandidateStands, IsNew, IsTimingOf};
 
 use crate::elector::Elector;
@@ -42,7 +42,8 @@ impl Candidate {
     /// A turn: a call that has expired is forgotten, then an attempt starts where it is time. It never leads.
     pub fn on_timer(mut self, now: Local, wall: Wall) -> CandidateNext
         requires now { now.0 ≤ 2000000000000000000 }
-        ensures { (doc : Doc) (q : Identity) (h : List Entry) (k : ℕ) → CandidateStands doc q h self → now.0 ≡ local doc q.process k → wall.0 ≡ wall_at doc q.process k → begun q h + 1 < 2 ^ 64
+        ensures never_leads { becomes_leader result ≡ false }
+        ensures turns { (doc : Doc) (q : Identity) (h : List Entry) (k : ℕ) → CandidateStands doc q h self → now.0 ≡ local doc q.process k → wall.0 ≡ wall_at doc q.process k → begun q h + 1 < 2 ^ 64
             → CandidateTurns doc k q (expired doc k q h) result }
     {
         let expired = self.elector.expire(now);

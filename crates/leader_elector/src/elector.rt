@@ -361,7 +361,7 @@ pub(crate) fn given_up(lease: &Lease, wall: Wall) -> Lease
         duration: Some(1),
         acquired: Some(wall),
         renewed: Some(wall),
-        transitions: lease.transitions,
+        ..*lease
     }
 }
 

@@ -67,6 +67,7 @@ impl Leading {
     /// A reply. Only one to the call that waits, with its number and within its timeout, counts. The term goes on.
     pub fn on_reply(mut self, number: u64, reply: Reply, now: Local, wall: Wall) -> LeadingNext
         requires now { now.0 ≤ 2000000000000000000 }
+        ensures goes_on { ends result ≡ false }
         ensures uncounted { (doc : Doc) (q : Identity) (h : List Entry) (k : ℕ) → LeadingStands doc q h self → now.0 ≡ local doc q.process k → alive q.process h ≡ Some q.incarnation
             → counted doc q k number h ≡ None → (call : Call) → LeadingStays doc q (entry k 3 q (Delivers call reply false) ∷ h) result }
         ensures counts { (doc : Doc) (q : Identity) (h : List Entry) (k : ℕ) (call : Call) → LeadingStands doc q h self → now.0 ≡ local doc q.process k → wall.0 ≡ wall_at doc q.process k → begun q h + 1 < 2 ^ 64

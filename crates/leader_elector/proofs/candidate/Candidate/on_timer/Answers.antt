@@ -10,8 +10,8 @@ use Rattle.leader_elector.proofs.Expiry.{begun-expiry, leads-expiry}
 use Rattle.leader_elector.proofs.Own.{settled-own}
 use Rattle.leader_elector.proofs.candidate.Candidate.on_timer.Goals as goal
 
-pub returns-in-Some : goal.returns-in-Some
-returns-in-Some c doc q h k s now wall room =
+pub returns-in-Some-clause-turns : goal.returns-in-Some-clause-turns
+returns-in-Some-clause-turns c doc q h k s now wall room =
     let e = expired doc k q h in
     let led : leads q e ≡ false = leads-expiry doc k q h (call_in q h) ∙ s.leads in
     let room_now : begun q e + 1 < 2 ^ 64 = subst (λ n. n + 1 < 2 ^ 64) (sym (begun-expiry doc k q h (call_in q h))) room in
@@ -28,8 +28,8 @@ returns-in-Some c doc q h k s now wall room =
       };
     }
 
-pub returns-in-None : goal.returns-in-None
-returns-in-None c doc q h k s now wall room =
+pub returns-in-None-clause-turns : goal.returns-in-None-clause-turns
+returns-in-None-clause-turns c doc q h k s now wall room =
     let e = expired doc k q h in
     let led : leads q e ≡ false = leads-expiry doc k q h (call_in q h) ∙ s.leads in
     let room_now : begun q e + 1 < 2 ^ 64 = subst (λ n. n + 1 < 2 ^ 64) (sym (begun-expiry doc k q h (call_in q h))) room in
