@@ -36,7 +36,6 @@ module _ (doc : Doc) (k : ℕ) (q : Identity) (h : List Entry) where
   pub try-none : is_fast_call (just_expired q k h) ≡ false → (not (has (call_in q h)) && not (nat_lt (local doc q.process k) (timer doc q h))) ≡ false → try doc k q h ≡ h
   try-none slow is = λ i. attempt_if doc k q (slow i) (is i) h
 
-
   pub attempt-fast : doc.settings.fast_renew ≡ true → leads q h ≡ true → attempt doc q k h ≡ attempt_from doc q k (observed_at doc q h) (shown q h)
   attempt-fast fast led = λ i. cond (fast i && led i) (attempt_from doc q k (observed_at doc q h) (shown q h)) (Plain, Get election)
 

@@ -60,7 +60,6 @@ module _ (doc : Doc) (k : ℕ) (q : Identity) (call : Call) (answered : Reply) (
       ap (λ b. local doc q.process (or_zero (said (newly (only_if (true && b) (told call.request answered)) (shown q h) k) (observed q h)))) (mine q)
       ∙ newly_seen doc q.process k (observed q h) (told call.request answered) (shown q h)
 
-
   pub timer-delivered : timer doc q (delivered k q call answered h) ≡ or_else (timer doc q h) (timer_follow (follow_on doc q k call.kind call.request answered (delivered k q call answered h)) (leads q h) (local doc q.process k + retry_period doc q.process))
   timer-delivered =
       ap (λ b. or_zero (said (only_if (true && b) (timer_follow (follow_on doc q k call.kind call.request answered (delivered k q call answered h)) (leads q h) (local doc q.process k + retry_period doc q.process))) (last_timer doc q h))) (mine q)

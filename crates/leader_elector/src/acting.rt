@@ -6,6 +6,7 @@ use crate::Leading;
 use kube_base::ProcId;
 
 /// A leader whose deadline isn't reached. It exists only while its `Leading` is borrowed.
+#[derive(Drop)]
 pub struct Acting<'a> {
     pub(crate) leading: &'a Leading,
 }

@@ -72,7 +72,13 @@ impl Elector {
     }
 
     /// After an update without a Get that expired, the Get; else an attempt where it is time.
-    pub(crate) fn attempt(&mut self, expired: bool, led: bool, now: Local, wall: Wall) -> Option<Ask>
+    pub(crate) fn attempt(
+        &mut self,
+        expired: bool,
+        led: bool,
+        now: Local,
+        wall: Wall,
+    ) -> Option<Ask>
         requires now { now.0 ≤ 2000000000000000000 }
         ensures { (doc : Doc) (q : Identity) (h : List Entry) (k : ℕ) → ElectorStands doc q h self.old → leads q h ≡ led → expired ≡ is_fast_call (just_expired q k h)
             → now.0 ≡ local doc q.process k → wall.0 ≡ wall_at doc q.process k → begun q h + 1 < 2 ^ 64
@@ -135,7 +141,14 @@ impl Elector {
     // ---- replies
 
     /// What a reply is followed by; None where it doesn't count. led says whether the process leads.
-    pub(crate) fn receive(&mut self, led: bool, number: u64, reply: &Reply, now: Local, wall: Wall) -> Option<Follow>
+    pub(crate) fn receive(
+        &mut self,
+        led: bool,
+        number: u64,
+        reply: &Reply,
+        now: Local,
+        wall: Wall,
+    ) -> Option<Follow>
         requires now { now.0 ≤ 2000000000000000000 }
         ensures uncounted { (doc : Doc) (q : Identity) (h : List Entry) (k : ℕ) → ElectorStands doc q h self.old → now.0 ≡ local doc q.process k → alive q.process h ≡ Some q.incarnation
             → counted doc q k number h ≡ None → (result ≡ None) × ElectorStands doc q h self.new }

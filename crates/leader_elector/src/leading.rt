@@ -83,7 +83,9 @@ impl Leading {
                 LeadingNext::Ask(self, ask)
             }
             Follow::Succeeds(_) => {
-                self.deadline = Local(now.0 + self.elector.timing.retry + self.elector.timing.renew);
+                self.deadline = Local(
+                    now.0 + self.elector.timing.retry + self.elector.timing.renew,
+                );
                 LeadingNext::Stay(self)
             }
         }

@@ -16,3 +16,6 @@ pub use candidate::{Candidate, CandidateNext};
 pub use ended::{Ended, Released};
 pub use leading::{Leading, LeadingNext};
 pub use timing::Timing;
+
+#[cfg(test)]
+mod tests;

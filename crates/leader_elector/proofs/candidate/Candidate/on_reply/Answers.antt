@@ -15,12 +15,14 @@ returns-in_default-clause-counts c doc q h k call s now wall room is =
 pub returns-in-Fails-clause-counts : goal.returns-in-Fails-clause-counts
 returns-in-Fails-clause-counts c doc q h k call s now wall room is =
     let g = delivered k q call c.args.reply h in
-    let t = c.in-Some.ensures.counts doc q h k call s.elector s.leads now wall is in
-    (ap (λ f. react k q (leads q h) f g) (sym t.0 ∙ ap follow_of c.in-Fails.is), record {
-      elector = t.1;
-      settled = settled-own q h k 3 (Delivers call c.args.reply true) (λ n. refl);
-      leads = s.leads;
-    })
+    let t = c.in-Some.ensures.counts doc q h k call s.elector s.leads now wall is in (
+      ap (λ f. react k q (leads q h) f g) (sym t.0 ∙ ap follow_of c.in-Fails.is),
+      record {
+        elector = t.1;
+        settled = settled-own q h k 3 (Delivers call c.args.reply true) (λ n. refl);
+        leads = s.leads;
+      },
+    )
 
 pub returns-in-Asks-clause-counts : goal.returns-in-Asks-clause-counts
 returns-in-Asks-clause-counts c doc q h k call s now wall room is =
@@ -45,5 +47,5 @@ returns-in-Succeeds-clause-counts c doc q h k call s now wall room is =
     let version = c.in-Succeeds.field-0 in
     let t = c.in-Some.ensures.counts doc q h k call s.elector s.leads now wall is in
     let next : reacted doc k q call c.args.reply h ≡ entry k 3 q (Leads version) ∷ g =
-        ap (λ f. react k q (leads q h) f g) (sym t.0 ∙ ap follow_of c.in-Succeeds.is) ∙ ap (λ b. lead_if k q b version g) s.leads in
+    ap (λ f. react k q (leads q h) f g) (sym t.0 ∙ ap follow_of c.in-Succeeds.is) ∙ ap (λ b. lead_if k q b version g) s.leads in
     (version, next, subst (λ x. LeadingStands doc q x c.new.result) (sym next) (c.new.ensures doc q g k 3 version t.1 now))

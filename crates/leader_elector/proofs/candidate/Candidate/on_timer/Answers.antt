@@ -16,7 +16,7 @@ returns-in-Some-clause-turns c doc q h k s now wall room =
     let led : leads q e ≡ false = leads-expiry doc k q h (call_in q h) ∙ s.leads in
     let room_now : begun q e + 1 < 2 ^ 64 = subst (λ n. n + 1 < 2 ^ 64) (sym (begun-expiry doc k q h (call_in q h))) room in
     let a : Asked k 4 q e (try doc k q e) (λ x. ElectorStands doc q x c.attempt.new.self) c.in-Some.ask =
-        c.in-Some.ensures doc q e k (c.expire-expired.ensures.stands doc q h k s.elector now) led (c.expire-expired.ensures.fast doc q h k s.elector s.settled now) now wall room_now in
+    c.in-Some.ensures doc q e k (c.expire-expired.ensures.stands doc q h k s.elector now) led (c.expire-expired.ensures.fast doc q h k s.elector s.settled now) now wall room_now in
     record {
       kind = a.kind;
       sent = a.sent;
@@ -33,9 +33,11 @@ returns-in-None-clause-turns c doc q h k s now wall room =
     let e = expired doc k q h in
     let led : leads q e ≡ false = leads-expiry doc k q h (call_in q h) ∙ s.leads in
     let room_now : begun q e + 1 < 2 ^ 64 = subst (λ n. n + 1 < 2 ^ 64) (sym (begun-expiry doc k q h (call_in q h))) room in
-    let t = c.in-None.ensures doc q e k (c.expire-expired.ensures.stands doc q h k s.elector now) led (c.expire-expired.ensures.fast doc q h k s.elector s.settled now) now wall room_now in
-    (t.1, record {
-      elector = t.2;
-      settled = c.expire-expired.ensures.settled doc q h k s.elector s.settled now t.0;
-      leads = led;
-    })
+    let t = c.in-None.ensures doc q e k (c.expire-expired.ensures.stands doc q h k s.elector now) led (c.expire-expired.ensures.fast doc q h k s.elector s.settled now) now wall room_now in (
+      t.1,
+      record {
+        elector = t.2;
+        settled = c.expire-expired.ensures.settled doc q h k s.elector s.settled now t.0;
+        leads = led;
+      },
+    )

@@ -20,7 +20,8 @@ returns-then-led c doc q h k s led now wall room =
 pub returns : goal.returns
 returns c doc q h k s led now wall room =
     let plain : attempt doc q k h ≡ (Plain, Get election) =
-        elim c.else-self.branch [
-          else-self-via-then-self+else-led w ↦ attempt-candidate doc k q h (sym s.timing.fast ∙ w.if-self.true) (led ∙ w.if-led.false)
-          | else-self-via-else-self w ↦ attempt-slow doc k q h (sym s.timing.fast ∙ w.if-self.false) ] in
+    elim c.else-self.branch [
+      | else-self-via-then-self+else-led w ↦ attempt-candidate doc k q h (sym s.timing.fast ∙ w.if-self.true) (led ∙ w.if-led.false)
+      | else-self-via-else-self w ↦ attempt-slow doc k q h (sym s.timing.fast ∙ w.if-self.false)
+    ] in
     c.ask.ensures doc q h _ k 4 s now room (ap (λ (x : CallKind × Request). send k 4 q x.0 x.1 h) plain)

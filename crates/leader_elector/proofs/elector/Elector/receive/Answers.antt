@@ -33,13 +33,13 @@ returns-clause-counts c doc q h k call s led now wall is =
     let noted_is = c.note.ensures.changed in
     let shown_is : shown_of noted.seen ≡ last_of (told call.request reply) (shown_of self.seen) = c.note.ensures.shown ∙ ap (λ t. last_of t (shown_of self.seen)) told_is in
     let observed_is : observed_of noted.seen ≡ observed_at doc q g =
-        c.note.ensures.observed
-        ∙ (λ i. or_else (s.observed i) (newly (told_is i) (s.shown i) (now i)))
-        ∙ sym (observed_at-delivered doc k q call reply h) in
+    c.note.ensures.observed
+    ∙ (λ i. or_else (s.observed i) (newly (told_is i) (s.shown i) (now i)))
+    ∙ sym (observed_at-delivered doc k q call reply h) in
     let timing_is : noted.timing ≡ self.timing = ap (λ x. x.timing) noted_is in
     let follow_is : follow_of c.follow-follow.result ≡ follow_on doc q k call.kind call.request reply g =
-        c.follow-follow.ensures doc q g k (ap (λ x. x.me.0) noted_is ∙ s.process) (ap (λ x. x.incarnation) noted_is ∙ s.incarnation) (subst (λ t. IsTimingOf doc q.process t) (sym timing_is) s.timing) now wall observed_is
-        ∙ (λ i. follow_on doc q k (kind i) (request i) reply g) in
+    c.follow-follow.ensures doc q g k (ap (λ x. x.me.0) noted_is ∙ s.process) (ap (λ x. x.incarnation) noted_is ∙ s.incarnation) (subst (λ t. IsTimingOf doc q.process t) (sym timing_is) s.timing) now wall observed_is
+    ∙ (λ i. follow_on doc q k (kind i) (request i) reply g) in
     let retry : noted.timing.retry ≡ retry_period doc q.process = ap (λ t. t.retry) timing_is ∙ s.timing.retry in
     let timer_is = c.set_timer.ensures.timer ∙ (λ i. or_else noted.timer.0 (timer_follow (follow_is i) (sym led i) (now i + retry i))) in
     (follow_is, delivered-stands doc k q call reply h self noted c.set_timer.new.self c.finish.new.self s (c.finish.ensures.delivered doc q h k 3 call reply s.slot) noted_is shown_is observed_is c.set_timer.ensures.changed timer_is)

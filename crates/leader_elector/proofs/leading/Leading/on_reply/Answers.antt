@@ -19,13 +19,15 @@ pub returns-in-Fails-clause-counts : goal.returns-in-Fails-clause-counts
 returns-in-Fails-clause-counts c doc q h k call s now wall room is =
     let g = delivered k q call c.args.reply h in
     let t = c.in-Some.ensures.counts doc q h k call s.elector s.leads now wall is in
-    let fails : follow_on doc q k call.kind call.request c.args.reply g ≡ Fails = sym t.0 ∙ ap follow_of c.in-Fails.is in
-    (ap (λ f. react k q (leads q h) f g) fails, record {
-      elector = t.1;
-      settled = settled-own q h k 3 (Delivers call c.args.reply true) (λ n. refl);
-      leads = s.leads;
-      deadline = s.deadline ∙ sym (deadline-delivered doc k q call c.args.reply h Fails s.leads fails);
-    })
+    let fails : follow_on doc q k call.kind call.request c.args.reply g ≡ Fails = sym t.0 ∙ ap follow_of c.in-Fails.is in (
+      ap (λ f. react k q (leads q h) f g) fails,
+      record {
+        elector = t.1;
+        settled = settled-own q h k 3 (Delivers call c.args.reply true) (λ n. refl);
+        leads = s.leads;
+        deadline = s.deadline ∙ sym (deadline-delivered doc k q call c.args.reply h Fails s.leads fails);
+      },
+    )
 
 pub returns-in-Asks-clause-counts : goal.returns-in-Asks-clause-counts
 returns-in-Asks-clause-counts c doc q h k call s now wall room is =
@@ -51,10 +53,12 @@ returns-in-Succeeds-clause-counts c doc q h k call s now wall room is =
     let g = delivered k q call c.args.reply h in
     let version = c.in-Succeeds.field-0 in
     let t = c.in-Some.ensures.counts doc q h k call s.elector s.leads now wall is in
-    let succeeds : follow_on doc q k call.kind call.request c.args.reply g ≡ Succeeds version = sym t.0 ∙ ap follow_of c.in-Succeeds.is in
-    (ap (λ f. react k q (leads q h) f g) succeeds ∙ ap (λ b. lead_if k q b version g) s.leads, record {
-      elector = t.1;
-      settled = settled-own q h k 3 (Delivers call c.args.reply true) (λ n. refl);
-      leads = s.leads;
-      deadline = (λ i. Some (now i + t.1.timing.retry i + t.1.timing.renew i)) ∙ sym (deadline-delivered doc k q call c.args.reply h (Succeeds version) s.leads succeeds);
-    })
+    let succeeds : follow_on doc q k call.kind call.request c.args.reply g ≡ Succeeds version = sym t.0 ∙ ap follow_of c.in-Succeeds.is in (
+      ap (λ f. react k q (leads q h) f g) succeeds ∙ ap (λ b. lead_if k q b version g) s.leads,
+      record {
+        elector = t.1;
+        settled = settled-own q h k 3 (Delivers call c.args.reply true) (λ n. refl);
+        leads = s.leads;
+        deadline = (λ i. Some (now i + t.1.timing.retry i + t.1.timing.renew i)) ∙ sym (deadline-delivered doc k q call c.args.reply h (Succeeds version) s.leads succeeds);
+      },
+    )

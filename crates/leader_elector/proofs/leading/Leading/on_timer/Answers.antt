@@ -29,18 +29,20 @@ returns-in-Some-clause-turns c doc q h k s now wall room =
     let led : leads q e ≡ true = leads-expiry doc k q h (call_in q h) ∙ s.leads in
     let room_now : begun q e + 1 < 2 ^ 64 = subst (λ n. n + 1 < 2 ^ 64) (sym (begun-expiry doc k q h (call_in q h))) room in
     let a : Asked k 4 q e (try doc k q e) (λ x. ElectorStands doc q x c.attempt.new.self) c.in-Some.ask =
-        c.in-Some.ensures doc q e k (c.expire-expired.ensures.stands doc q h k s.elector now) led (c.expire-expired.ensures.fast doc q h k s.elector s.settled now) now wall room_now in
-    (ap (λ x. end_term doc k q x e) at ∙ ap (λ b. end_as k q b e) early, record {
-      kind = a.kind;
-      sent = a.sent;
-      number = a.number;
-      stands = λ arrives. record {
-        elector = a.stands arrives;
-        settled = settled-own q e k 4 (Sends (next_call q k a.kind c.in-Some.ask.request e) arrives) (λ n. refl);
-        leads = led;
-        deadline = sym at;
-      };
-    })
+    c.in-Some.ensures doc q e k (c.expire-expired.ensures.stands doc q h k s.elector now) led (c.expire-expired.ensures.fast doc q h k s.elector s.settled now) now wall room_now in (
+      ap (λ x. end_term doc k q x e) at ∙ ap (λ b. end_as k q b e) early,
+      record {
+        kind = a.kind;
+        sent = a.sent;
+        number = a.number;
+        stands = λ arrives. record {
+          elector = a.stands arrives;
+          settled = settled-own q e k 4 (Sends (next_call q k a.kind c.in-Some.ask.request e) arrives) (λ n. refl);
+          leads = led;
+          deadline = sym at;
+        };
+      },
+    )
 
 pub returns-in-None-clause-turns : goal.returns-in-None-clause-turns
 returns-in-None-clause-turns c doc q h k s now wall room =
@@ -49,10 +51,13 @@ returns-in-None-clause-turns c doc q h k s now wall room =
     let at : deadline doc q e ≡ Some c.args.self.deadline.0 = deadline-expiry doc k q h (call_in q h) ∙ sym s.deadline in
     let led : leads q e ≡ true = leads-expiry doc k q h (call_in q h) ∙ s.leads in
     let room_now : begun q e + 1 < 2 ^ 64 = subst (λ n. n + 1 < 2 ^ 64) (sym (begun-expiry doc k q h (call_in q h))) room in
-    let t = c.in-None.ensures doc q e k (c.expire-expired.ensures.stands doc q h k s.elector now) led (c.expire-expired.ensures.fast doc q h k s.elector s.settled now) now wall room_now in
-    (ap (λ x. end_term doc k q x e) at ∙ ap (λ b. end_as k q b e) early, t.1, record {
-      elector = t.2;
-      settled = c.expire-expired.ensures.settled doc q h k s.elector s.settled now t.0;
-      leads = led;
-      deadline = sym at;
-    })
+    let t = c.in-None.ensures doc q e k (c.expire-expired.ensures.stands doc q h k s.elector now) led (c.expire-expired.ensures.fast doc q h k s.elector s.settled now) now wall room_now in (
+      ap (λ x. end_term doc k q x e) at ∙ ap (λ b. end_as k q b e) early,
+      t.1,
+      record {
+        elector = t.2;
+        settled = c.expire-expired.ensures.settled doc q h k s.elector s.settled now t.0;
+        leads = led;
+        deadline = sym at;
+      },
+    )
