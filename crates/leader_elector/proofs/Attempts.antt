@@ -1,12 +1,11 @@
 -- An attempt starts, or nothing happens.
-use Rattle.std.proofs.Common.{◌≡◌, ◌∙◌, ℕ, ◌≤◌, ◌<◌, ◌&&◌, not, nat_lt, Bool, true, false, cond, List, Option, Some, None, refl, sym, ap, arith}
+use Rattle.std.proofs.Common.{◌≡◌, ◌∙◌, ℕ, ◌≤◌, ◌<◌, ◌&&◌, not, nat_lt, Bool, true, false, cond, List, Option, Some, sym, ap, arith}
 use Rattle.std.proofs.lemmas.Bool.Decides.{nat_tests}
-use Rattle.kube_objects.specs.declared.call.Request.{Request}
 use Rattle.kube_objects.specs.declared.call.Request.TheVariants.{Get, Update}
 use Rattle.kube_objects.specs.Clocks.{local}
 use Rattle.kube_objects.specs.Document.{Doc}
 use Rattle.kube_objects.specs.Elector.{Shown, attempt, attempt_from, is_valid, leads, observed_at, renewed, shown, timer}
-use Rattle.kube_objects.specs.Entry.{CallKind, Entry, Fast, Identity, Plain}
+use Rattle.kube_objects.specs.Entry.{Entry, Fast, Identity, Plain}
 use Rattle.kube_objects.specs.Identities.{is_own}
 use Rattle.kube_objects.specs.Newest.{has}
 use Rattle.kube_objects.specs.Process.{call_in}

@@ -1,15 +1,15 @@
 -- Entries through which a state stands: those of another actor, and those of a kind that an elector doesn't look at.
-use Rattle.std.proofs.Common.{◌≡◌, ◌∙◌, ℕ, ◌+◌, ◌&&◌, not, Bool, true, false, List, [], ◌∷◌, Option, Some, None, refl, sym, ap, subst}
+use Rattle.std.proofs.Common.{◌≡◌, ◌∙◌, ℕ, ◌+◌, ◌&&◌, not, Bool, true, false, List, [], ◌∷◌, Option, None, refl, sym, ap}
 use Rattle.kube_base.specs.declared.numbers.Version.{Version}
 use Rattle.kube_objects.specs.declared.deed.Actor.{Actor}
 use Rattle.kube_objects.specs.Clocks.{local}
 use Rattle.kube_objects.specs.Document.{Doc, renew_deadline, retry_period}
-use Rattle.kube_objects.specs.Elector.{Shown, deadline, deadline_says, follow_on, is_fast, lead_says, leads, newly, observed, observed_at, shown, shows, succeeds, timer, timer_follow, timer_says, told}
+use Rattle.kube_objects.specs.Elector.{deadline, deadline_says, follow_on, is_fast, lead_says, leads, newly, observed, shown, shows, succeeds, timer_follow, timer_says, told}
 use Rattle.kube_objects.specs.Entry.{Call, Deed, Delivers, Entry, Expires, Identity, Leads, Sends, Starts}
 use Rattle.kube_objects.specs.Identities.{is_by}
 use Rattle.kube_objects.specs.Newest.{added, has, join, newest, only_if, or_zero, when}
-use Rattle.kube_objects.specs.Process.{begun, call_in, call_says, is_send, last_call, open_as}
-use Rattle.kube_objects.specs.Turns.{expired_in, is_fast_call, just_expired}
+use Rattle.kube_objects.specs.Process.{begun, call_says, is_send, last_call, open_as}
+use Rattle.kube_objects.specs.Turns.{expired_in, is_fast_call}
 use Rattle.kube_objects.proofs.CallFrames.{call_slot-beside}
 use Rattle.leader_elector.specs.declared.candidate.Candidate.{Candidate}
 use Rattle.leader_elector.specs.declared.elector.Elector.{Elector}

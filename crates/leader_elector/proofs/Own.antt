@@ -2,12 +2,11 @@
 use Rattle.std.proofs.Common.{◌≡◌, ◌∙◌, ℕ, ◌+◌, ◌==◌, ◌&&◌, not, Bool, true, false, List, ◌∷◌, Option, Some, None, refl, ap, arith}
 use Rattle.std.proofs.lemmas.Bool.Decides.{nat_tests}
 use Rattle.kube_objects.specs.declared.call.Request.{Request}
-use Rattle.kube_objects.specs.declared.call.Reply.{Reply}
 use Rattle.kube_objects.specs.CallSlots.{waits}
 use Rattle.kube_objects.specs.Clocks.{local}
 use Rattle.kube_objects.specs.Document.{Doc, retry_period}
 use Rattle.kube_objects.specs.Elector.{timer, timer_says, is_fast}
-use Rattle.kube_objects.specs.Entry.{Entry, Identity, Call, CallKind, Deed, Sends, Starts, Expires, actor_of, entry}
+use Rattle.kube_objects.specs.Entry.{Entry, Identity, Call, Deed, Sends, Starts, Expires, actor_of, entry}
 use Rattle.kube_objects.specs.Identities.{is_by}
 use Rattle.kube_objects.specs.Newest.{newest, when, join, or_zero, or_else}
 use Rattle.kube_objects.specs.Process.{call_in, last_call}

@@ -1,6 +1,5 @@
 -- A counted reply: what is shown, the timer, the deadline.
-use Rattle.std.proofs.Common.{◌≡◌, ◌∙◌, ℕ, ◌+◌, ◌&&◌, Bool, true, false, cond, List, ◌∷◌, Option, Some, None, refl, sym, ap, subst}
-use Rattle.kube_base.specs.declared.numbers.Version.{Version}
+use Rattle.std.proofs.Common.{◌≡◌, ◌∙◌, ℕ, ◌+◌, ◌&&◌, Bool, true, false, cond, List, Option, Some, None, refl, sym, ap, subst}
 use Rattle.kube_objects.specs.declared.call.Reply.{Reply}
 use Rattle.kube_objects.specs.declared.call.Reply.TheVariants as reply
 use Rattle.kube_objects.specs.declared.call.Request.{Request}
@@ -9,15 +8,14 @@ use Rattle.kube_objects.specs.declared.call_slot.CallSlot.{CallSlot}
 use Rattle.kube_objects.specs.CallSlots.{CallSlotStands}
 use Rattle.kube_objects.specs.Clocks.{local}
 use Rattle.kube_objects.specs.Document.{Doc, renew_deadline, retry_period}
-use Rattle.kube_objects.specs.Elector.{Follow, Fails, Asks, Succeeds, Shown, deadline, deadline_says, follow_get, follow_on, follow_write, is_blocked, is_done, is_known, leads, newly, not_done, observed, observed_at, shown, succeeds, timer, timer_follow, told, updated}
-use Rattle.kube_objects.specs.Entry.{Call, CallKind, Delivers, Entry, Fast, Identity, Plain, Release, entry}
-use Rattle.kube_objects.specs.Identities.{is_by}
-use Rattle.kube_objects.specs.Newest.{join, newest, only_if, or_else, or_zero, when}
-use Rattle.kube_objects.specs.Process.{answered_call, call_in, counted, is_late, last_call}
+use Rattle.kube_objects.specs.Elector.{Follow, Fails, Asks, Succeeds, Shown, deadline, follow_get, follow_on, follow_write, is_blocked, is_done, is_known, leads, newly, not_done, observed, observed_at, shown, succeeds, timer, timer_follow, told, updated}
+use Rattle.kube_objects.specs.Entry.{Call, CallKind, Entry, Fast, Identity, Plain, Release}
+use Rattle.kube_objects.specs.Newest.{join, only_if, or_else, or_zero, when}
+use Rattle.kube_objects.specs.Process.{answered_call, call_in, counted, last_call}
 use Rattle.kube_objects.specs.Stored.{election}
 use Rattle.leader_elector.specs.declared.elector.Elector.{Elector}
 use Rattle.leader_elector.specs.Moves.{delivered, last_of}
-use Rattle.leader_elector.specs.Stands.{ElectorStands, IsTimingOf, Wait, observed_of, shown_of, waiting_in, waiting_of}
+use Rattle.leader_elector.specs.Stands.{ElectorStands, IsTimingOf, observed_of, shown_of, waiting_in, waiting_of}
 use Rattle.leader_elector.proofs.Own.{last_timer, mine, or_zero-said, said}
 
 -- a reply that counts, counts for the call that waits

@@ -11,14 +11,10 @@ use Rattle.kube_objects.specs.Entry.{Entry, Identity, Call, CallKind, Deed, Star
 use Rattle.kube_objects.specs.Process.{begun, call_in}
 use Rattle.kube_objects.specs.Turns.{react, expire_call, end_term, try}
 use Rattle.kube_objects.specs.Wire.{next_call, send}
-use Rattle.leader_elector.specs.declared.candidate.Candidate.{Candidate}
 use Rattle.leader_elector.specs.declared.candidate.CandidateNext.{CandidateNext}
 use Rattle.leader_elector.specs.declared.candidate.CandidateNext.TheVariants as candidate
-use Rattle.leader_elector.specs.declared.ended.Ended.{Ended}
-use Rattle.leader_elector.specs.declared.ended.Released.{Released}
 use Rattle.leader_elector.specs.declared.elector.Elector.{Elector}
 use Rattle.leader_elector.specs.declared.follow.Follow as code
-use Rattle.leader_elector.specs.declared.leading.Leading.{Leading}
 use Rattle.leader_elector.specs.declared.leading.LeadingNext.{LeadingNext}
 use Rattle.leader_elector.specs.declared.leading.LeadingNext.TheVariants as leading
 use Rattle.leader_elector.specs.Stands.{CandidateStands, ElectorStands, LeadingStands, ended_identity, follow_of}

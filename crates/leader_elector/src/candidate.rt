@@ -31,7 +31,9 @@ pub enum CandidateNext {
 impl Candidate {
     /// A candidate that has sent nothing. Its first attempt starts at its next turn.
     pub fn start(me: ProcId, incarnation: u32, timing: Timing, now: Local) -> Candidate
-        ensures { (doc : Doc) (q : Identity) (h : List Entry) (k step : ℕ) → me.0 ≡ q.process → incarnation ≡ q.incarnation → IsTimingOf doc q.process timing → now.0 ≡ local doc q.process k → IsNew doc q h
+        ensures { (doc : Doc) (q : Identity) (h : List Entry) (k step : ℕ) → me.0 ≡ q.process
+            → incarnation ≡ q.incarnation → IsTimingOf doc q.process timing
+            → now.0 ≡ local doc q.process k → IsNew doc q h
             → CandidateStands doc q (entry k step q Starts ∷ h) result }
     {
         Candidate {
@@ -43,7 +45,9 @@ impl Candidate {
     pub fn on_timer(mut self, now: Local, wall: Wall) -> CandidateNext
         requires now { now.0 ≤ 2000000000000000000 }
         ensures never_leads { becomes_leader result ≡ false }
-        ensures turns { (doc : Doc) (q : Identity) (h : List Entry) (k : ℕ) → CandidateStands doc q h self → now.0 ≡ local doc q.process k → wall.0 ≡ wall_at doc q.process k → begun q h + 1 < 2 ^ 64
+        ensures turns { (doc : Doc) (q : Identity) (h : List Entry) (k : ℕ)
+            → CandidateStands doc q h self → now.0 ≡ local doc q.process k
+            → wall.0 ≡ wall_at doc q.process k → begun q h + 1 < 2 ^ 64
             → CandidateTurns doc k q (expired doc k q h) result }
     {
         let expired = self.elector.expire(now);
@@ -56,10 +60,16 @@ impl Candidate {
     /// A reply. Only one to the call that waits, with its number and within its timeout, counts.
     pub fn on_reply(mut self, number: u64, reply: Reply, now: Local, wall: Wall) -> CandidateNext
         requires now { now.0 ≤ 2000000000000000000 }
-        ensures uncounted { (doc : Doc) (q : Identity) (h : List Entry) (k : ℕ) → CandidateStands doc q h self → now.0 ≡ local doc q.process k → alive q.process h ≡ Some q.incarnation
-            → counted doc q k number h ≡ None → (call : Call) → CandidateStays doc q (entry k 3 q (Delivers call reply false) ∷ h) result }
-        ensures counts { (doc : Doc) (q : Identity) (h : List Entry) (k : ℕ) (call : Call) → CandidateStands doc q h self → now.0 ≡ local doc q.process k → wall.0 ≡ wall_at doc q.process k → begun q h + 1 < 2 ^ 64
-            → counted doc q k number h ≡ Some call → CandidateReplies doc k q (delivered k q call reply h) (reacted doc k q call reply h) result }
+        ensures uncounted { (doc : Doc) (q : Identity) (h : List Entry) (k : ℕ)
+            → CandidateStands doc q h self → now.0 ≡ local doc q.process k
+            → alive q.process h ≡ Some q.incarnation
+            → counted doc q k number h ≡ None → (call : Call)
+            → CandidateStays doc q (entry k 3 q (Delivers call reply false) ∷ h) result }
+        ensures counts { (doc : Doc) (q : Identity) (h : List Entry) (k : ℕ) (call : Call)
+            → CandidateStands doc q h self → now.0 ≡ local doc q.process k
+            → wall.0 ≡ wall_at doc q.process k → begun q h + 1 < 2 ^ 64
+            → counted doc q k number h ≡ Some call
+            → CandidateReplies doc k q (delivered k q call reply h) (reacted doc k q call reply h) result }
     {
         let Some(follow) = self.elector.receive(false, number, &reply, now, wall) else {
             return CandidateNext::Stay(self);
@@ -76,7 +86,8 @@ impl Candidate {
 
     /// The least reading at which `on_timer` does anything.
     pub fn wake(&self) -> Local
-        ensures { (doc : Doc) (q : Identity) (h : List Entry) → CandidateStands doc q h self.now → result.0 ≡ wake_from doc q (timer doc q h) (call_in q h) }
+        ensures { (doc : Doc) (q : Identity) (h : List Entry) → CandidateStands doc q h self.now
+            → result.0 ≡ wake_from doc q (timer doc q h) (call_in q h) }
     {
         self.elector.wake()
     }

@@ -34,7 +34,9 @@ pub(crate) struct Elector {
 
 impl Elector {
     pub(crate) fn start(me: ProcId, incarnation: u32, timing: Timing, now: Local) -> Elector
-        ensures { (doc : Doc) (q : Identity) (h : List Entry) (k step : ℕ) → me.0 ≡ q.process → incarnation ≡ q.incarnation → IsTimingOf doc q.process timing → now.0 ≡ local doc q.process k → IsNew doc q h
+        ensures { (doc : Doc) (q : Identity) (h : List Entry) (k step : ℕ) → me.0 ≡ q.process
+            → incarnation ≡ q.incarnation → IsTimingOf doc q.process timing
+            → now.0 ≡ local doc q.process k → IsNew doc q h
             → ElectorStands doc q (entry k step q Starts ∷ h) result }
     {
         Elector {
@@ -53,10 +55,14 @@ impl Elector {
     /// Forgets a call that has expired. Whether it was an update without a Get.
     pub(crate) fn expire(&mut self, now: Local) -> bool
         requires now { now.0 ≤ 2000000000000000000 }
-        ensures stands { (doc : Doc) (q : Identity) (h : List Entry) (k : ℕ) → ElectorStands doc q h self.old → now.0 ≡ local doc q.process k → ElectorStands doc q (expired doc k q h) self.new }
-        ensures fast { (doc : Doc) (q : Identity) (h : List Entry) (k : ℕ) → ElectorStands doc q h self.old → IsSettled q h → now.0 ≡ local doc q.process k
+        ensures stands { (doc : Doc) (q : Identity) (h : List Entry) (k : ℕ)
+            → ElectorStands doc q h self.old → now.0 ≡ local doc q.process k
+            → ElectorStands doc q (expired doc k q h) self.new }
+        ensures fast { (doc : Doc) (q : Identity) (h : List Entry) (k : ℕ)
+            → ElectorStands doc q h self.old → IsSettled q h → now.0 ≡ local doc q.process k
             → result ≡ is_fast_call (just_expired q k (expired doc k q h)) }
-        ensures settled { (doc : Doc) (q : Identity) (h : List Entry) (k : ℕ) → ElectorStands doc q h self.old → IsSettled q h → now.0 ≡ local doc q.process k
+        ensures settled { (doc : Doc) (q : Identity) (h : List Entry) (k : ℕ)
+            → ElectorStands doc q h self.old → IsSettled q h → now.0 ≡ local doc q.process k
             → result ≡ false → IsSettled q (expired doc k q h) }
     {
         if !self.slot.expired(now, self.timing.timeout) {
@@ -80,8 +86,11 @@ impl Elector {
         wall: Wall,
     ) -> Option<Ask>
         requires now { now.0 ≤ 2000000000000000000 }
-        ensures { (doc : Doc) (q : Identity) (h : List Entry) (k : ℕ) → ElectorStands doc q h self.old → leads q h ≡ led → expired ≡ is_fast_call (just_expired q k h)
-            → now.0 ≡ local doc q.process k → wall.0 ≡ wall_at doc q.process k → begun q h + 1 < 2 ^ 64
+        ensures { (doc : Doc) (q : Identity) (h : List Entry) (k : ℕ)
+            → ElectorStands doc q h self.old → leads q h ≡ led
+            → expired ≡ is_fast_call (just_expired q k h)
+            → now.0 ≡ local doc q.process k → wall.0 ≡ wall_at doc q.process k
+            → begun q h + 1 < 2 ^ 64
             → Tried doc k q h (try doc k q h) self.new expired result }
     {
         if expired {
@@ -96,8 +105,10 @@ impl Elector {
     /// Begins an attempt: a leader may renew without a Get.
     fn begin(&mut self, led: bool, now: Local, wall: Wall) -> Ask
         requires now { now.0 ≤ 2000000000000000000 }
-        ensures { (doc : Doc) (q : Identity) (h : List Entry) (k : ℕ) → ElectorStands doc q h self.old → leads q h ≡ led
-            → now.0 ≡ local doc q.process k → wall.0 ≡ wall_at doc q.process k → begun q h + 1 < 2 ^ 64
+        ensures { (doc : Doc) (q : Identity) (h : List Entry) (k : ℕ)
+            → ElectorStands doc q h self.old → leads q h ≡ led
+            → now.0 ≡ local doc q.process k → wall.0 ≡ wall_at doc q.process k
+            → begun q h + 1 < 2 ^ 64
             → Asked k 4 q h (send k 4 q (attempt doc q k h).0 (attempt doc q k h).1 h) (λ x. ElectorStands doc q x self.new) result }
     {
         if self.timing.fast && led {
@@ -109,8 +120,10 @@ impl Elector {
     /// An update without a Get where the record last shown is one's own and valid.
     fn renew(&mut self, now: Local, wall: Wall) -> Ask
         requires now { now.0 ≤ 2000000000000000000 }
-        ensures { (doc : Doc) (q : Identity) (h : List Entry) (k : ℕ) → ElectorStands doc q h self.old
-            → now.0 ≡ local doc q.process k → wall.0 ≡ wall_at doc q.process k → begun q h + 1 < 2 ^ 64
+        ensures { (doc : Doc) (q : Identity) (h : List Entry) (k : ℕ)
+            → ElectorStands doc q h self.old
+            → now.0 ≡ local doc q.process k → wall.0 ≡ wall_at doc q.process k
+            → begun q h + 1 < 2 ^ 64
             → Asked k 4 q h (send k 4 q (attempt_from doc q k (observed_at doc q h) (shown q h)).0 (attempt_from doc q k (observed_at doc q h) (shown q h)).1 h) (λ x. ElectorStands doc q x self.new) result }
     {
         let Some(seen) = self.seen else {
@@ -126,7 +139,9 @@ impl Elector {
     /// Begins a call.
     pub(crate) fn ask(&mut self, request: Request, fast: bool, now: Local) -> Ask
         requires now { now.0 ≤ 2000000000000000000 }
-        ensures { (doc : Doc) (q : Identity) (h next : List Entry) (k step : ℕ) → ElectorStands doc q h self.old → now.0 ≡ local doc q.process k → begun q h + 1 < 2 ^ 64 → next ≡ send k step q (kind_of fast) request h
+        ensures { (doc : Doc) (q : Identity) (h next : List Entry) (k step : ℕ)
+            → ElectorStands doc q h self.old → now.0 ≡ local doc q.process k
+            → begun q h + 1 < 2 ^ 64 → next ≡ send k step q (kind_of fast) request h
             → Asked k step q h next (λ x. ElectorStands doc q x self.new) result }
     {
         let number = self.slot.begin(now);
@@ -150,10 +165,15 @@ impl Elector {
         wall: Wall,
     ) -> Option<Follow>
         requires now { now.0 ≤ 2000000000000000000 }
-        ensures uncounted { (doc : Doc) (q : Identity) (h : List Entry) (k : ℕ) → ElectorStands doc q h self.old → now.0 ≡ local doc q.process k → alive q.process h ≡ Some q.incarnation
+        ensures uncounted { (doc : Doc) (q : Identity) (h : List Entry) (k : ℕ)
+            → ElectorStands doc q h self.old → now.0 ≡ local doc q.process k
+            → alive q.process h ≡ Some q.incarnation
             → counted doc q k number h ≡ None → (result ≡ None) × ElectorStands doc q h self.new }
-        ensures counts { (doc : Doc) (q : Identity) (h : List Entry) (k : ℕ) (call : Call) → ElectorStands doc q h self.old → leads q h ≡ led → now.0 ≡ local doc q.process k → wall.0 ≡ wall_at doc q.process k
-            → counted doc q k number h ≡ Some call → Received doc k q call reply.now h self.new result }
+        ensures counts { (doc : Doc) (q : Identity) (h : List Entry) (k : ℕ) (call : Call)
+            → ElectorStands doc q h self.old → leads q h ≡ led → now.0 ≡ local doc q.process k
+            → wall.0 ≡ wall_at doc q.process k
+            → counted doc q k number h ≡ Some call
+            → Received doc k q call reply.now h self.new result }
     {
         if !self.slot.accepts(number, now, self.timing.timeout) {
             return None;
@@ -184,7 +204,8 @@ impl Elector {
 
     /// The reading at which this version was first seen.
     fn first_seen(&self, version: Version, now: Local) -> Local
-        ensures { (lease : Lease) → result.0 ≡ or_else (observed_of self.now.seen) (newly (Some (version, lease)) (shown_of self.now.seen) now.0) }
+        ensures { (lease : Lease)
+            → result.0 ≡ or_else (observed_of self.now.seen) (newly (Some (version, lease)) (shown_of self.now.seen) now.0) }
     {
         match self.seen {
             Some(seen) => {
@@ -214,8 +235,10 @@ impl Elector {
     }
 
     fn follow(&self, waiting: &Waiting, reply: &Reply, now: Local, wall: Wall) -> Follow
-        ensures { (doc : Doc) (q : Identity) (h : List Entry) (k : ℕ) → self.now.me.0 ≡ q.process → self.now.incarnation ≡ q.incarnation → IsTimingOf doc q.process self.now.timing
-            → now.0 ≡ local doc q.process k → wall.0 ≡ wall_at doc q.process k → observed_of self.now.seen ≡ observed_at doc q h
+        ensures { (doc : Doc) (q : Identity) (h : List Entry) (k : ℕ) → self.now.me.0 ≡ q.process
+            → self.now.incarnation ≡ q.incarnation → IsTimingOf doc q.process self.now.timing
+            → now.0 ≡ local doc q.process k → wall.0 ≡ wall_at doc q.process k
+            → observed_of self.now.seen ≡ observed_at doc q h
             → follow_of result ≡ follow_on doc q k (kind_of waiting.now.fast) waiting.now.request reply.now h }
     {
         match waiting.request {
@@ -227,7 +250,8 @@ impl Elector {
     }
 
     fn follow_get(&self, reply: &Reply, now: Local, wall: Wall) -> Follow
-        ensures { (doc : Doc) (q : Identity) (k : ℕ) → self.now.me.0 ≡ q.process → self.now.incarnation ≡ q.incarnation → IsTimingOf doc q.process self.now.timing
+        ensures { (doc : Doc) (q : Identity) (k : ℕ) → self.now.me.0 ≡ q.process
+            → self.now.incarnation ≡ q.incarnation → IsTimingOf doc q.process self.now.timing
             → now.0 ≡ local doc q.process k → wall.0 ≡ wall_at doc q.process k
             → follow_of result ≡ follow_get doc q k (observed_of self.now.seen) reply.now }
     {
@@ -245,7 +269,8 @@ impl Elector {
 
     /// The least reading at which a turn does anything, a leader's deadline aside.
     pub(crate) fn wake(&self) -> Local
-        ensures { (doc : Doc) (q : Identity) (h : List Entry) → ElectorStands doc q h self.now → result.0 ≡ wake_from doc q (timer doc q h) (call_in q h) }
+        ensures { (doc : Doc) (q : Identity) (h : List Entry) → ElectorStands doc q h self.now
+            → result.0 ≡ wake_from doc q (timer doc q h) (call_in q h) }
     {
         match self.waiting {
             Some(waiting) => waiting.late,
@@ -256,7 +281,8 @@ impl Elector {
     // ---- records
 
     pub(crate) fn holds(&self, lease: &Lease) -> bool
-        ensures { (q : Identity) → self.now.me.0 ≡ q.process → self.now.incarnation ≡ q.incarnation → result ≡ is_own q lease.now.holder }
+        ensures { (q : Identity) → self.now.me.0 ≡ q.process → self.now.incarnation ≡ q.incarnation
+            → result ≡ is_own q lease.now.holder }
     {
         match lease.holder {
             Holder::Proc(id, incarnation) => id == self.me && incarnation == self.incarnation,
@@ -266,14 +292,16 @@ impl Elector {
 
     /// Whether the record last shown is one's own and still valid.
     fn is_renewable(&self, seen: &Seen, now: Local) -> bool
-        ensures { (q : Identity) → self.now.me.0 ≡ q.process → self.now.incarnation ≡ q.incarnation → result ≡ (is_own q seen.now.lease.holder && is_valid now.0 seen.now.at.0 seen.now.lease) }
+        ensures { (q : Identity) → self.now.me.0 ≡ q.process → self.now.incarnation ≡ q.incarnation
+            → result ≡ (is_own q seen.now.lease.holder && is_valid now.0 seen.now.at.0 seen.now.lease) }
     {
         self.holds(&seen.lease) && is_valid(now, seen.at, &seen.lease)
     }
 
     /// Whether somebody else holds the record.
     fn is_rival(&self, lease: &Lease) -> bool
-        ensures { (q : Identity) → self.now.me.0 ≡ q.process → self.now.incarnation ≡ q.incarnation → result ≡ is_other q lease.now.holder }
+        ensures { (q : Identity) → self.now.me.0 ≡ q.process → self.now.incarnation ≡ q.incarnation
+            → result ≡ is_other q lease.now.holder }
     {
         match lease.holder {
             Holder::Nobody => false,
@@ -284,7 +312,8 @@ impl Elector {
 
     /// Whether another's record is still valid.
     fn is_blocked(&self, lease: &Lease, now: Local) -> bool
-        ensures { (q : Identity) → self.now.me.0 ≡ q.process → self.now.incarnation ≡ q.incarnation → result ≡ is_blocked q now.0 (observed_of self.now.seen) lease.now }
+        ensures { (q : Identity) → self.now.me.0 ≡ q.process → self.now.incarnation ≡ q.incarnation
+            → result ≡ is_blocked q now.0 (observed_of self.now.seen) lease.now }
     {
         self.is_rival(lease) && is_valid(now, self.observed(), lease)
     }
@@ -300,13 +329,16 @@ impl Elector {
     }
 
     fn holder(&self) -> Holder
-        ensures { (q : Identity) → self.now.me.0 ≡ q.process → self.now.incarnation ≡ q.incarnation → result ≡ holder_of q }
+        ensures { (q : Identity) → self.now.me.0 ≡ q.process → self.now.incarnation ≡ q.incarnation
+            → result ≡ holder_of q }
     {
         Holder::Proc(self.me, self.incarnation)
     }
 
     fn created(&self, wall: Wall) -> Lease
-        ensures { (doc : Doc) (q : Identity) (k : ℕ) → self.now.me.0 ≡ q.process → self.now.incarnation ≡ q.incarnation → IsTimingOf doc q.process self.now.timing → wall.0 ≡ wall_at doc q.process k
+        ensures { (doc : Doc) (q : Identity) (k : ℕ) → self.now.me.0 ≡ q.process
+            → self.now.incarnation ≡ q.incarnation → IsTimingOf doc q.process self.now.timing
+            → wall.0 ≡ wall_at doc q.process k
             → result ≡ created doc q k }
     {
         Lease {
@@ -319,7 +351,9 @@ impl Elector {
     }
 
     fn renewed(&self, lease: &Lease, wall: Wall) -> Lease
-        ensures { (doc : Doc) (q : Identity) (k : ℕ) → self.now.me.0 ≡ q.process → self.now.incarnation ≡ q.incarnation → IsTimingOf doc q.process self.now.timing → wall.0 ≡ wall_at doc q.process k
+        ensures { (doc : Doc) (q : Identity) (k : ℕ) → self.now.me.0 ≡ q.process
+            → self.now.incarnation ≡ q.incarnation → IsTimingOf doc q.process self.now.timing
+            → wall.0 ≡ wall_at doc q.process k
             → result ≡ renewed doc q k lease.now }
     {
         Lease {
@@ -332,7 +366,9 @@ impl Elector {
     }
 
     fn taken(&self, lease: &Lease, wall: Wall) -> Lease
-        ensures { (doc : Doc) (q : Identity) (k : ℕ) → self.now.me.0 ≡ q.process → self.now.incarnation ≡ q.incarnation → IsTimingOf doc q.process self.now.timing → wall.0 ≡ wall_at doc q.process k
+        ensures { (doc : Doc) (q : Identity) (k : ℕ) → self.now.me.0 ≡ q.process
+            → self.now.incarnation ≡ q.incarnation → IsTimingOf doc q.process self.now.timing
+            → wall.0 ≡ wall_at doc q.process k
             → result ≡ taken doc q k lease.now }
     {
         Lease {
@@ -345,7 +381,9 @@ impl Elector {
     }
 
     fn updated(&self, lease: &Lease, wall: Wall) -> Lease
-        ensures { (doc : Doc) (q : Identity) (k : ℕ) → self.now.me.0 ≡ q.process → self.now.incarnation ≡ q.incarnation → IsTimingOf doc q.process self.now.timing → wall.0 ≡ wall_at doc q.process k
+        ensures { (doc : Doc) (q : Identity) (k : ℕ) → self.now.me.0 ≡ q.process
+            → self.now.incarnation ≡ q.incarnation → IsTimingOf doc q.process self.now.timing
+            → wall.0 ≡ wall_at doc q.process k
             → result ≡ updated doc q k lease.now }
     {
         if self.holds(lease) {
@@ -367,7 +405,8 @@ fn is_fast(waiting: &Option<Waiting>) -> bool
 
 /// The record that gives up the lead.
 pub(crate) fn given_up(lease: &Lease, wall: Wall) -> Lease
-    ensures { (doc : Doc) (q : Identity) (k : ℕ) → wall.0 ≡ wall_at doc q.process k → result ≡ given_up doc q k lease.now }
+    ensures { (doc : Doc) (q : Identity) (k : ℕ) → wall.0 ≡ wall_at doc q.process k
+        → result ≡ given_up doc q k lease.now }
 {
     Lease {
         holder: Holder::Nobody,

@@ -34,7 +34,8 @@ impl Leading {
     /// A candidate's success begins a term, and its next attempt starts at its next turn.
     pub(crate) fn new(elector: Elector, now: Local) -> Leading
         requires now { now.0 ≤ 2000000000000000000 }
-        ensures { (doc : Doc) (q : Identity) (h : List Entry) (k step : ℕ) (version : Version) → ElectorStands doc q h elector → now.0 ≡ local doc q.process k
+        ensures { (doc : Doc) (q : Identity) (h : List Entry) (k step : ℕ) (version : Version)
+            → ElectorStands doc q h elector → now.0 ≡ local doc q.process k
             → LeadingStands doc q (entry k step q (Leads version) ∷ h) result }
     {
         let deadline = Local(now.0 + elector.timing.renew);
@@ -51,7 +52,9 @@ impl Leading {
     pub fn on_timer(mut self, now: Local, wall: Wall) -> LeadingNext
         requires now { now.0 ≤ 2000000000000000000 }
         ensures ends { ends result ≡ not (nat_lt now.0 (deadline_of self)) }
-        ensures turns { (doc : Doc) (q : Identity) (h : List Entry) (k : ℕ) → LeadingStands doc q h self → now.0 ≡ local doc q.process k → wall.0 ≡ wall_at doc q.process k → begun q h + 1 < 2 ^ 64
+        ensures turns { (doc : Doc) (q : Identity) (h : List Entry) (k : ℕ)
+            → LeadingStands doc q h self → now.0 ≡ local doc q.process k
+            → wall.0 ≡ wall_at doc q.process k → begun q h + 1 < 2 ^ 64
             → LeadingTurns doc k q (expired doc k q h) result }
     {
         let expired = self.elector.expire(now);
@@ -68,10 +71,16 @@ impl Leading {
     pub fn on_reply(mut self, number: u64, reply: Reply, now: Local, wall: Wall) -> LeadingNext
         requires now { now.0 ≤ 2000000000000000000 }
         ensures goes_on { ends result ≡ false }
-        ensures uncounted { (doc : Doc) (q : Identity) (h : List Entry) (k : ℕ) → LeadingStands doc q h self → now.0 ≡ local doc q.process k → alive q.process h ≡ Some q.incarnation
-            → counted doc q k number h ≡ None → (call : Call) → LeadingStays doc q (entry k 3 q (Delivers call reply false) ∷ h) result }
-        ensures counts { (doc : Doc) (q : Identity) (h : List Entry) (k : ℕ) (call : Call) → LeadingStands doc q h self → now.0 ≡ local doc q.process k → wall.0 ≡ wall_at doc q.process k → begun q h + 1 < 2 ^ 64
-            → counted doc q k number h ≡ Some call → LeadingReplies doc k q (delivered k q call reply h) (reacted doc k q call reply h) result }
+        ensures uncounted { (doc : Doc) (q : Identity) (h : List Entry) (k : ℕ)
+            → LeadingStands doc q h self → now.0 ≡ local doc q.process k
+            → alive q.process h ≡ Some q.incarnation
+            → counted doc q k number h ≡ None → (call : Call)
+            → LeadingStays doc q (entry k 3 q (Delivers call reply false) ∷ h) result }
+        ensures counts { (doc : Doc) (q : Identity) (h : List Entry) (k : ℕ) (call : Call)
+            → LeadingStands doc q h self → now.0 ≡ local doc q.process k
+            → wall.0 ≡ wall_at doc q.process k → begun q h + 1 < 2 ^ 64
+            → counted doc q k number h ≡ Some call
+            → LeadingReplies doc k q (delivered k q call reply h) (reacted doc k q call reply h) result }
     {
         let Some(follow) = self.elector.receive(true, number, &reply, now, wall) else {
             return LeadingNext::Stay(self);
@@ -94,7 +103,9 @@ impl Leading {
     /// What shows that the process acts; None from the deadline on.
     pub fn acting(&self, now: Local) -> Option<Acting<'_>>
         ensures before { is_some result ≡ nat_lt now.0 (deadline_of self.now) }
-        ensures acts { (doc : Doc) (q : Identity) (h : List Entry) (k : ℕ) → LeadingStands doc q h self.now → now.0 ≡ local doc q.process k → alive q.process h ≡ Some q.incarnation
+        ensures acts { (doc : Doc) (q : Identity) (h : List Entry) (k : ℕ)
+            → LeadingStands doc q h self.now → now.0 ≡ local doc q.process k
+            → alive q.process h ≡ Some q.incarnation
             → is_some result ≡ acts doc q k h }
         ensures identity { IfSome result (λ a. acting_identity a ≡ leading_identity self.now) }
     {
@@ -114,7 +125,8 @@ impl Leading {
 
     /// The least reading at which `on_timer` does anything.
     pub fn wake(&self) -> Local
-        ensures { (doc : Doc) (q : Identity) (h : List Entry) → LeadingStands doc q h self.now → result.0 ≡ wake_before (wake_from doc q (timer doc q h) (call_in q h)) (deadline doc q h) }
+        ensures { (doc : Doc) (q : Identity) (h : List Entry) → LeadingStands doc q h self.now
+            → result.0 ≡ wake_before (wake_from doc q (timer doc q h) (call_in q h)) (deadline doc q h) }
     {
         let wake = self.elector.wake();
         if self.deadline.0 < wake.0 {
@@ -127,7 +139,8 @@ impl Leading {
     /// Gives up the lead in order: where the holder last shown is this identity, an update says that nobody holds it.
     pub fn release(mut self, _now: Local, wall: Wall) -> Released
         ensures identity { ended_identity result.ended ≡ leading_identity self }
-        ensures ask { (doc : Doc) (q : Identity) (h : List Entry) (k : ℕ) → LeadingStands doc q h self → wall.0 ≡ wall_at doc q.process k → begun q h + 1 < 2 ^ 64
+        ensures ask { (doc : Doc) (q : Identity) (h : List Entry) (k : ℕ)
+            → LeadingStands doc q h self → wall.0 ≡ wall_at doc q.process k → begun q h + 1 < 2 ^ 64
             → Releases q h (release doc q k h) result.ask }
     {
         let ask = match self.elector.seen {

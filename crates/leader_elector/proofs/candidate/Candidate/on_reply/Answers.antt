@@ -1,5 +1,5 @@
-use Rattle.std.proofs.Common.{◌≡◌, ◌∙◌, ◌∷◌, Bool, false, true, sym, ap, subst, refl}
-use Rattle.kube_objects.specs.Elector.{Follow, Fails, Asks, Succeeds, leads}
+use Rattle.std.proofs.Common.{◌≡◌, ◌∙◌, ◌∷◌, true, sym, ap, subst, refl}
+use Rattle.kube_objects.specs.Elector.{leads}
 use Rattle.kube_objects.specs.Entry.{Delivers, Leads, Plain, Sends, entry}
 use Rattle.kube_objects.specs.Turns.{lead_if, react}
 use Rattle.kube_objects.specs.Wire.{next_call, send}

@@ -1,4 +1,4 @@
-use Rattle.std.proofs.Common.{◌≡◌, ◌∙◌, ◌+◌, ◌<◌, ◌^◌, sym, ap, subst, refl, false}
+use Rattle.std.proofs.Common.{◌≡◌, ◌∙◌, ◌+◌, ◌<◌, ◌^◌, sym, subst, refl, false}
 use Rattle.kube_objects.specs.Elector.{leads}
 use Rattle.kube_objects.specs.Entry.{Sends}
 use Rattle.kube_objects.specs.Process.{begun, call_in}

@@ -1,4 +1,4 @@
-use Rattle.std.proofs.Common.{◌≡◌, ◌∙◌, ◌+◌, Some, sym, ap}
+use Rattle.std.proofs.Common.{◌∙◌, ◌+◌, Some, sym, ap}
 use Rattle.leader_elector.specs.Stands.{kind_of, waiting_in}
 use Rattle.leader_elector.proofs.Own.{call_in-sent, waits-kind}
 use Rattle.leader_elector.proofs.elector.Elector.ask.Goals as goal

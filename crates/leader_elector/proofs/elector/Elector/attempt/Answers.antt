@@ -1,4 +1,4 @@
-use Rattle.std.proofs.Common.{◌≡◌, ◌∙◌, ◌≤◌, ◌&&◌, not, nat_lt, true, false, sym, ap, subst}
+use Rattle.std.proofs.Common.{◌≡◌, ◌∙◌, ◌≤◌, ◌&&◌, not, nat_lt, true, sym, subst}
 use Rattle.kube_objects.specs.Clocks.{local}
 use Rattle.kube_objects.specs.Elector.{timer}
 use Rattle.kube_objects.specs.Newest.{has}

@@ -1,11 +1,9 @@
 use Rattle.std.proofs.Common.{◌≡◌, ◌∙◌, ◌+◌, Option, Some, None, sym, ap, subst}
 use Rattle.kube_objects.specs.declared.call.Request.{Request}
-use Rattle.kube_objects.specs.Clocks.{local}
 use Rattle.kube_objects.specs.Document.{retry_period}
-use Rattle.kube_objects.specs.Elector.{follow_on, leads, newly, observed_at, shown, timer_follow, told}
+use Rattle.kube_objects.specs.Elector.{follow_on, newly, observed_at, timer_follow, told}
 use Rattle.kube_objects.specs.Entry.{CallKind}
 use Rattle.kube_objects.specs.Newest.{or_else}
-use Rattle.kube_objects.specs.Process.{call_in}
 use Rattle.leader_elector.specs.Moves.{delivered, last_of}
 use Rattle.leader_elector.specs.Stands.{IsTimingOf, Wait, follow_of, kind_of, observed_of, shown_of, waiting_in, waiting_of}
 use Rattle.leader_elector.proofs.Replies.{counted-call, delivered-stands, observed_at-delivered}

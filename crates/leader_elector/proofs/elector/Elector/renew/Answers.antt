@@ -1,4 +1,4 @@
-use Rattle.std.proofs.Common.{◌≡◌, ◌∙◌, sym, ap, subst, cond, Some}
+use Rattle.std.proofs.Common.{◌∙◌, sym, ap, cond}
 use Rattle.kube_objects.specs.declared.call.Request.TheVariants.{Get, Update}
 use Rattle.kube_objects.specs.Elector.{attempt_from, observed_at, renewed, shown}
 use Rattle.kube_objects.specs.Entry.{Fast, Plain}

@@ -1,4 +1,4 @@
-use Rattle.std.proofs.Common.{◌≡◌, ◌∙◌, sym, ap}
+use Rattle.std.proofs.Common.{◌∙◌, sym, ap}
 use Rattle.leader_elector.specs.Stands.{waiting_in}
 use Rattle.leader_elector.proofs.Own.{timer-started}
 use Rattle.leader_elector.proofs.elector.Elector.start.Goals as goal

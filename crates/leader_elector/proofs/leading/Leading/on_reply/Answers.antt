@@ -1,8 +1,6 @@
-use Rattle.std.proofs.Common.{◌≡◌, ◌∙◌, ◌+◌, ◌∷◌, Bool, false, true, Some, sym, ap, subst, refl}
-use Rattle.kube_objects.specs.Clocks.{local}
-use Rattle.kube_objects.specs.Document.{renew_deadline, retry_period}
-use Rattle.kube_objects.specs.Elector.{Follow, Fails, Asks, Succeeds, deadline, follow_on, leads}
-use Rattle.kube_objects.specs.Entry.{Delivers, Plain, Sends, entry}
+use Rattle.std.proofs.Common.{◌≡◌, ◌∙◌, ◌+◌, true, Some, sym, ap, subst, refl}
+use Rattle.kube_objects.specs.Elector.{Fails, Asks, Succeeds, follow_on, leads}
+use Rattle.kube_objects.specs.Entry.{Delivers, Plain, Sends}
 use Rattle.kube_objects.specs.Turns.{lead_if, react}
 use Rattle.kube_objects.specs.Wire.{next_call, send}
 use Rattle.leader_elector.specs.Moves.{Asked, Received, delivered, reacted}

@@ -1,12 +1,12 @@
-use Rattle.std.proofs.Common.{◌≡◌, ◌∙◌, ◌≤◌, ◌+◌, ◌<◌, ◌^◌, ◌∷◌, Option, Some, nat_lt, sym, ap, subst, refl, true, false}
+use Rattle.std.proofs.Common.{◌≡◌, ◌∙◌, ◌+◌, ◌<◌, ◌^◌, Some, nat_lt, sym, ap, subst, refl, true, false}
 use Rattle.kube_objects.specs.Clocks.{local}
 use Rattle.kube_objects.specs.Elector.{deadline, leads}
-use Rattle.kube_objects.specs.Entry.{Ends, Entry, Sends, entry}
+use Rattle.kube_objects.specs.Entry.{Sends}
 use Rattle.kube_objects.specs.Identities.{identity}
 use Rattle.kube_objects.specs.Process.{begun, call_in}
 use Rattle.kube_objects.specs.Turns.{end_as, end_term, try}
 use Rattle.kube_objects.specs.Wire.{next_call}
-use Rattle.leader_elector.specs.Moves.{Asked, expired, tested}
+use Rattle.leader_elector.specs.Moves.{Asked, expired}
 use Rattle.leader_elector.specs.Stands.{ElectorStands}
 use Rattle.leader_elector.proofs.Attempts.{before, reached}
 use Rattle.leader_elector.proofs.Expiry.{begun-expiry, deadline-expiry, leads-expiry}
