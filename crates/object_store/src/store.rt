@@ -243,10 +243,7 @@ impl Store {
         ensures { option_copied result ≡ node_in_pair (shown_in self.now key.now) }
     {
         match self.objects.get(key) {
-            Some(kept) => match &kept.1 {
-                Object::Node(node) => Some(node),
-                _ => None,
-            },
+            Some(kept) => status::as_node(&kept.1),
             None => None,
         }
     }

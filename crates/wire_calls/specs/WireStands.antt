@@ -57,10 +57,10 @@ abbrev pub IsDelay : ℕ → Type 0
 IsDelay n = (1 ≤ n) × (n ≤ 6000)
 
 -- one way: what is in flight, as messages, at beat k and after it
-pub record InOrder {S T : Type 0} (as_kept : S → T) (k : ℕ) (now : List S) (later : ℕ → List S) (kept : ℕ → List T) : Type 0 where
+pub record InOrder {S T : Type 0} (as_kept : S → T) (k : ℕ) (due : List S) (later : ℕ → List S) (kept : ℕ → List T) : Type 0 where
   pub before : (j : ℕ) → j < k → kept j ≡ []
-  pub now : kept k ≡ map as_kept now
-  pub later : (j : ℕ) → k < j → kept j ≡ map as_kept (later j)
+  pub present : kept k ≡ map as_kept due
+  pub after : (j : ℕ) → k < j → kept j ≡ map as_kept (later j)
 
 -- arriving and coming are what is still to arrive at beat k
 pub record WireStands (processes k : ℕ) (arriving : List Sent) (coming : List Back) (h : List Entry) (w : Wire) : Type 0 where
@@ -76,7 +76,7 @@ pub record WireStands (processes k : ℕ) (arriving : List Sent) (coming : List 
 
 -- what arrives at a beat, as it is seen within beat k
 abbrev pub at_beat : {S : Type 0} → ℕ → List S → (ℕ → List S) → ℕ → List S
-at_beat k now later j = cond (j == k) now (cond (nat_lt k j) (later j) [])
+at_beat k due later j = cond (j == k) due (cond (nat_lt k j) (later j) [])
 
 -- nothing is in flight that arrives at a beat
 abbrev pub IsQuiet : ℕ → List Sent → List Back → List Entry → ℕ → Type 0
