@@ -1,15 +1,14 @@
 -- The wire stands for a history within a beat.
-use Rattle.std.specs.Prelude.{◌≡◌, ℕ, ◌<◌, ◌≤◌, ◌==◌, nat_lt, Bool, false, cond, List, [], ◌∷◌, length, map, Option, Some, None, slice_get}
+use Rattle.std.specs.Prelude.{◌≡◌, ℕ, ◌<◌, ◌≤◌, ◌==◌, nat_lt, Bool, true, false, cond, List, [], ◌∷◌, length, map, Option, Some, None, slice_get}
 use Rattle.kube_base.specs.declared.numbers.Beat.{Beat}
-use Rattle.kube_objects.specs.Entry.{Entry}
+use Rattle.kube_objects.specs.declared.script.What.TheVariants.{Delay, Loss}
+use Rattle.kube_objects.specs.Entry.{Entry, Deed, Event, Sends, Answers}
 use Rattle.kube_objects.specs.InFlight.{requests_due, replies_due}
 use Rattle.kube_objects.specs.Wire.{Sent, Back, request_delay, reply_delay, loses_requests, loses_replies}
 use Rattle.wire_calls.specs.InFlight.{pending, HasNoEmpty}
 use Rattle.wire_calls.specs.declared.link.Link.{Link}
 use Rattle.wire_calls.specs.declared.message.Arrived.{Arrived}
 use Rattle.wire_calls.specs.declared.message.Delivered.{Delivered}
-use Rattle.wire_calls.specs.declared.message.Sent as told
-use Rattle.wire_calls.specs.declared.message.Sent.TheVariants.{Lost, InFlight}
 use Rattle.wire_calls.specs.declared.wire.Wire.{Wire}
 
 -- ---- messages as the code keeps them
@@ -27,11 +26,6 @@ arrived_of (Some s) = Some (as_arrived s)
 abbrev pub delivered_of : Option Back → Option Delivered
 delivered_of None = None
 delivered_of (Some b) = Some (as_delivered b)
-
--- a message is lost, or arrives at a beat
-abbrev pub sent_as_told : Option ℕ → told.Sent
-sent_as_told None = Lost
-sent_as_told (Some j) = InFlight (record { 0 = j })
 
 -- ---- delays and losses
 
@@ -86,3 +80,13 @@ IsQuiet k arriving coming h j = (at_beat k arriving (λ i. requests_due i h) j �
 abbrev pub NextIs : ℕ → List Sent → List Back → List Entry → Option Beat → Type 0
 NextIs k arriving coming h None = (j : ℕ) → IsQuiet k arriving coming h j
 NextIs k arriving coming h (Some beat) = (IsQuiet k arriving coming h beat.0 → ⊥) × ((j : ℕ) → j < beat.0 → IsQuiet k arriving coming h j)
+
+-- ---- what the wire doesn't look at
+
+-- whether a deed sends a message, or changes how messages travel
+abbrev pub is_of_wire : Deed → Bool
+is_of_wire (Event (Delay id requests replies) version) = true
+is_of_wire (Event (Loss id requests replies) version) = true
+is_of_wire (Sends call arrives) = true
+is_of_wire (Answers call reply comes written) = true
+is_of_wire _ = false

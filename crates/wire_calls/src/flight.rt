@@ -59,7 +59,7 @@ impl<T: Copy + Drop> Flight<T> {
         ensures { HasNoEmpty self.now → IsLeast self.now result }
     {
         match self.beats.first_key_value() {
-            Some((beat, _)) => Some(*beat),
+            Some(entry) => Some(*entry.0),
             None => None,
         }
     }
