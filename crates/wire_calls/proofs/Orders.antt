@@ -1,5 +1,6 @@
 -- What is in flight one way, in the order of its beats.
-use Rattle.std.proofs.Common.{◌≡◌, ℕ, ◌+◌, ◌<◌, ◌==◌, nat_lt, Bool, true, false, cond, List, [], ◌∷◌, ◌++◌, map, ◌⊎◌, inl, inr, refl, sym, ap, ◌∙◌, subst, arith}
+use Rattle.std.proofs.Common.{◌≡◌, ℕ, ◌+◌, ◌<◌, ◌==◌, ◌≤◌, nat_lt, Bool, true, false, cond, List, [], ◌∷◌, ◌++◌, map, ◌⊎◌, inl, inr, refl, sym, ap, ◌∙◌, subst, arith}
+use Rattle.std.proofs.lemmas.Bool.{eqb-true, eqb-false, ltb-true, ltb-false}
 use Rattle.std.proofs.lemmas.Bool.Decides.{nat_tests}
 use Rattle.wire_calls.specs.InFlight.{rest_of}
 use Rattle.wire_calls.specs.WireStands.{InOrder, at_beat}
@@ -44,3 +45,18 @@ in_order-next f k later kept o =
 pub map-nil : {S T : Type 0} (f : S → T) (xs : List S) → map f xs ≡ [] → xs ≡ []
 map-nil f [] is = refl
 map-nil f (x ∷ xs) is = absurd (cc)
+
+-- what is kept for a beat is what comes at it
+pub kept-at : {S T : Type 0} (f : S → T) (k : ℕ) (due : List S) (later : ℕ → List S) (kept : ℕ → List T) → InOrder f k due later kept → (j : ℕ) → kept j ≡ map f (at_beat k due later j)
+kept-at f k due later kept o j = by_tests (j == k) refl (nat_lt k j) refl
+  where
+    by_tests : (a : Bool) → (j == k) ≡ a → (b : Bool) → nat_lt k j ≡ b → kept j ≡ map f (cond a due (cond b (later j) []))
+    by_tests true same b is = subst (λ i. kept i ≡ map f due) (sym (eqb-true j k same)) o.present
+    by_tests false apart true is = o.after j (ltb-true k j is)
+    by_tests false apart false is = o.before j (let le : j ≤ k = ltb-false k j is in let ne : j ≡ k → ⊥ = eqb-false j k apart in omega (arith, le, ne))
+
+pub quiet-kept : {S T : Type 0} (f : S → T) (k : ℕ) (due : List S) (later : ℕ → List S) (kept : ℕ → List T) → InOrder f k due later kept → (j : ℕ) → kept j ≡ [] → at_beat k due later j ≡ []
+quiet-kept f k due later kept o j none = map-nil f (at_beat k due later j) (sym (kept-at f k due later kept o j) ∙ none)
+
+pub kept-quiet : {S T : Type 0} (f : S → T) (k : ℕ) (due : List S) (later : ℕ → List S) (kept : ℕ → List T) → InOrder f k due later kept → (j : ℕ) → at_beat k due later j ≡ [] → kept j ≡ []
+kept-quiet f k due later kept o j quiet = kept-at f k due later kept o j ∙ ap (map f) quiet

@@ -10,7 +10,7 @@ ghost use Rattle.kube_objects.specs.declared.script.What.TheVariants.{Delay, Los
 ghost use Rattle.kube_base.specs.declared.numbers.Version.{Version};
 ghost use Rattle.wire_calls.specs.InFlight.{first_of, rest_of};
 ghost use Rattle.wire_calls.specs.Messages.{sent_as_told};
-ghost use Rattle.wire_calls.specs.WireStands.{WireStands, arrived_of, delivered_of, NextIs, link_at};
+ghost use Rattle.wire_calls.specs.WireStands.{WireStands, arrived_of, delivered_of, NextIs, earlier_of, link_at};
 
 use crate::flight::Flight;
 use crate::link::{Link, travel};
@@ -32,12 +32,8 @@ impl Wire {
     pub fn new(alloc: Global, processes: u32) -> Result<Wire, NoMemory>
         ensures { IfOk result (λ wire. (k : ℕ) → WireStands processes k [] [] [] wire) }
     {
-        let mut links = Vec::new(alloc);
-        for _ in 0..processes {
-            links.push(Link::first())?;
-        }
         Ok(Wire {
-            links,
+            links: vec![in alloc; Link::first(); processes as usize]?,
             requests: Flight::new(alloc),
             replies: Flight::new(alloc),
         })
@@ -162,17 +158,7 @@ impl Wire {
         ensures { (processes k : ℕ) (arriving : List flights.Sent) (coming : List flights.Back) (h : List Entry) → WireStands processes k arriving coming h self.now
             → NextIs k arriving coming h result }
     {
-        match (self.requests.least(), self.replies.least()) {
-            (Some(request), Some(reply)) => {
-                if reply.0 < request.0 {
-                    Some(reply)
-                } else {
-                    Some(request)
-                }
-            }
-            (Some(request), None) => Some(request),
-            (None, reply) => reply,
-        }
+        earlier(self.requests.least(), self.replies.least())
     }
 
     fn link(&self, who: ProcId) -> Link
@@ -182,5 +168,15 @@ impl Wire {
             Some(link) => *link,
             None => Link::first(),
         }
+    }
+}
+
+fn earlier(a: Option<Beat>, b: Option<Beat>) -> Option<Beat>
+    ensures { result ≡ earlier_of a b }
+{
+    match (a, b) {
+        (Some(a), Some(b)) => { if b.0 < a.0 { Some(b) } else { Some(a) } }
+        (Some(a), None) => Some(a),
+        (None, b) => b,
     }
 }

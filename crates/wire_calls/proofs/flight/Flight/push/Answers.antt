@@ -17,7 +17,7 @@ returns-in_err-push_back-clause-err g c =
     let u = updates-get m (c.get_mut.follows.lender w) c.args.beat (Some w) ((c.get_mut.follows.holds w).3 (search rules)) in
     on-err c.from_residual.result
     (λ j. change-pending deque_items m (c.get_mut.follows.lender w) c.args.beat (Some w) (λ xs. xs) u (c.in_err-push_back.ensures.items ∙ ap (items_by deque_items) c.in-Some.ensures.value) j
-        ∙ either (c.args.beat.0 == j) (pending_by deque_items m j))
+    ∙ either (c.args.beat.0 == j) (pending_by deque_items m j))
 
 pub returns-in_err-push_back-clause-live : goal.returns-in_err-push_back-clause-live
 returns-in_err-push_back-clause-live g c live =
