@@ -52,7 +52,6 @@ call_slot-foreign doc q h e slot other = call_slot-beside doc q h e slot (ap (λ
     unsent true = refl
     unsent false = refl
 
-
     never : (c : Bool) → when {A = Option Call} (c && false) None ≡ None
     never true = refl
     never false = refl

@@ -1,21 +1,20 @@
 -- How a write of the map is a write of the history.
-use Rattle.std.proofs.Common.{◌≡◌, ℕ, ◌+◌, ◌==◌, Bool, true, false, cond, List, [], ◌∷◌, ◌++◌, length, Option, Some, None, Result, Ok, Err, IfOk, IfErr, OnOk, OnErr, refl, sym, ap, ◌∙◌, vec_len, subst, length-append}
+use Rattle.std.proofs.Common.{◌≡◌, ℕ, ◌+◌, Bool, true, false, cond, List, [], ◌∷◌, ◌++◌, Option, Some, None, Result, Ok, Err, IfOk, IfErr, OnOk, refl, sym, ap, ◌∙◌, vec_len, subst}
 use Rattle.std.specs.BTreeMap.{get, Updates}
 use Rattle.kube_base.specs.declared.numbers.Version.{Version}
 use Rattle.kube_objects.specs.contracts.key.KeyOrd.TheImpl as key_ord
-use Rattle.kube_objects.specs.declared.call.Reply.{Reply}
 use Rattle.kube_objects.specs.declared.call.Reply.TheVariants as reply
 use Rattle.kube_objects.specs.declared.key.Key.{Key}
 use Rattle.kube_objects.specs.declared.object.Object.{Object}
 use Rattle.kube_objects.specs.Entry.{Entry}
 use Rattle.kube_objects.specs.Keys.{key_cmp, key_eq}
 use Rattle.kube_objects.specs.Newest.{added, has, when, join}
-use Rattle.kube_objects.specs.Stored.{Held, Write, stored, writes, write_of, next_version, held_as, holds, at_key, last_write}
+use Rattle.kube_objects.specs.Stored.{Held, Write, stored, writes, write_of, next_version, holds, at_key, last_write}
 use Rattle.kube_objects.proofs.KeyOrder.{key_order}
 use Rattle.object_store.specs.declared.faults.StoreFault.{StoreFault}
 use Rattle.object_store.specs.declared.faults.StoreFault.TheVariants as fault
 use Rattle.object_store.specs.declared.store.Store.{Store}
-use Rattle.object_store.specs.Stands.{StoreStands, Writes, SameStore, kept_as, shown_in, version_in}
+use Rattle.object_store.specs.Stands.{StoreStands, Writes, SameStore, kept_as, shown_in}
 use Rattle.object_store.specs.StoreAnswers.{and_key, changed_keys, kept_of, Told}
 
 -- ---- the history's words at one more entry

@@ -86,7 +86,7 @@ reply_of (Ok version) = Ok (reply.Done version)
 reply_of (Err fault.Absent) = Ok reply.Absent
 reply_of (Err fault.Exists) = Ok reply.Exists
 reply_of (Err (fault.Conflict version)) = Ok (reply.Conflict version)
-reply_of (Err fault.NoMemory) = Err (record { })
+reply_of (Err fault.NoMemory) = Err (record {})
 
 abbrev pub reply_of_post : Result Posted StoreFault → Result Reply NoMemory
 reply_of_post (Ok (posted.Done version)) = Ok (reply.Done version)
@@ -94,4 +94,4 @@ reply_of_post (Ok posted.Unchanged) = Ok reply.Unchanged
 reply_of_post (Err fault.Absent) = Ok reply.Absent
 reply_of_post (Err fault.Exists) = Ok reply.Exists
 reply_of_post (Err (fault.Conflict version)) = Ok (reply.Conflict version)
-reply_of_post (Err fault.NoMemory) = Err (record { })
+reply_of_post (Err fault.NoMemory) = Err (record {})

@@ -1,5 +1,5 @@
 -- What a change of the map of beats makes of what is pending.
-use Rattle.std.proofs.Common.{◌≡◌, ℕ, ◌<◌, ◌≤◌, ◌==◌, Bool, true, false, cond, List, [], ◌∷◌, ◌++◌, Option, Some, None, IsSome, length, drop, refl, sym, ap, ◌∙◌, subst, arith}
+use Rattle.std.proofs.Common.{◌≡◌, ℕ, ◌<◌, ◌≤◌, ◌==◌, Bool, true, false, cond, List, [], ◌∷◌, ◌++◌, Option, Some, None, IsSome, length, refl, sym, ap, ◌∙◌, subst, arith}
 use Rattle.std.proofs.lemmas.Map.Keys.{le_from_not_gt}
 use Rattle.std.specs.BTreeMap.{BTreeMap, get, Updates, IsLowerBound}
 use Rattle.std.specs.Cmp.{unsigned_tied}
@@ -7,7 +7,7 @@ use Rattle.std.specs.Ordering.{nat_cmp, is_eq, is_gt}
 use Rattle.std.specs.declared.cmp.Ordering.{Ordering}
 use Rattle.kube_base.specs.contracts.numbers.BeatOrd.TheImpl as beat_ord
 use Rattle.kube_base.specs.declared.numbers.Beat.{Beat}
-use Rattle.wire_calls.specs.InFlight.{beat_cmp, rest_of}
+use Rattle.wire_calls.specs.InFlight.{beat_cmp}
 use borrow.Author.Tests.{eqb-true}
 
 pub beat_order : (beat_ord.cmp-value).it ≡ beat_cmp
@@ -71,10 +71,6 @@ either false x = refl
 pub never-empty : {T : Type 0} (xs : List T) (x : T) → xs ++ x ∷ [] ≡ [] → ⊥
 never-empty [] x is = absurd (cc)
 never-empty (y ∷ xs) x is = absurd (cc)
-
-pub rest-drop : {T : Type 0} (xs : List T) → drop 1 xs ≡ rest_of xs
-rest-drop [] = refl
-rest-drop (x ∷ xs) = refl
 
 pub nil-from-length : {T : Type 0} (xs : List T) → length xs ≡ 0 → xs ≡ []
 nil-from-length [] is = refl
