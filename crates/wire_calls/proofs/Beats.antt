@@ -3,8 +3,6 @@ use Rattle.std.proofs.Common.{◌≡◌, ℕ, ◌<◌, ◌≤◌, ◌==◌, Bool
 use Rattle.std.proofs.lemmas.Map.Keys.{le_from_not_gt}
 use Rattle.std.specs.BTreeMap.{BTreeMap, get, Updates, IsLowerBound}
 use Rattle.std.specs.Cmp.{unsigned_tied}
-use Rattle.std.specs.Ordering.{nat_cmp, is_eq, is_gt}
-use Rattle.std.specs.declared.cmp.Ordering.{Ordering}
 use Rattle.kube_base.specs.contracts.numbers.BeatOrd.TheImpl as beat_ord
 use Rattle.kube_base.specs.declared.numbers.Beat.{Beat}
 use Rattle.wire_calls.specs.InFlight.{beat_cmp}

@@ -1,15 +1,15 @@
 -- Which entries the wire stands through, and from beat to beat.
-use Rattle.std.proofs.Common.{◌≡◌, ℕ, ◌+◌, ◌<◌, ◌≤◌, ◌==◌, Bool, true, false, cond, List, [], ◌∷◌, ◌++◌, map, Option, Some, None, refl, sym, ap, ◌∙◌, subst, arith}
+use Rattle.std.proofs.Common.{◌≡◌, ℕ, ◌+◌, false, List, [], ◌∷◌, map, Option, Some, None, refl, sym, ap, ◌∙◌, subst}
 use Rattle.kube_objects.specs.declared.deed.Actor.{Actor}
 use Rattle.kube_objects.specs.declared.script.What.{What}
 use Rattle.kube_objects.specs.declared.script.What.TheVariants as what
 use Rattle.kube_objects.specs.Entry.{Entry, Deed, Event, Sends, Answers}
 use Rattle.kube_objects.specs.InFlight.{requests_due, replies_due, and_request, and_reply}
 use Rattle.kube_objects.specs.Newest.{or_else}
-use Rattle.kube_objects.specs.Wire.{Sent, Back, sent_of, back_of, of_event, in_force, request_delay, reply_delay, loses_requests, loses_replies, request_delay_of, reply_delay_of, request_loss_of, reply_loss_of}
+use Rattle.kube_objects.specs.Wire.{Sent, Back, sent_of, back_of, of_event, in_force, request_delay, reply_delay, request_delay_of, reply_delay_of, request_loss_of, reply_loss_of}
 use Rattle.wire_calls.specs.declared.wire.Wire.{Wire}
 use Rattle.wire_calls.specs.InFlight.{pending}
-use Rattle.wire_calls.specs.WireStands.{WireStands, InOrder, IsDelay, as_arrived, as_delivered, link_at, link_in, is_of_wire}
+use Rattle.wire_calls.specs.WireStands.{WireStands, IsDelay, as_arrived, as_delivered, link_in, is_of_wire}
 use Rattle.wire_calls.proofs.Orders.{in_order-next}
 
 -- from the end of a beat to the next one

@@ -1,10 +1,10 @@
 -- Delays and losses that are set.
-use Rattle.std.proofs.Common.{◌≡◌, ℕ, zero, suc, ◌<◌, ◌==◌, Bool, true, false, cond, List, [], ◌∷◌, length, slice_get, slice_set, get_or, Option, Some, None, refl, sym, ap, ◌∙◌, subst, arith}
+use Rattle.std.proofs.Common.{◌≡◌, ℕ, zero, suc, ◌<◌, ◌==◌, Bool, true, false, cond, List, [], ◌∷◌, length, slice_get, slice_set, get_or, Option, Some, None, refl, ap, ◌∙◌, arith}
 use Rattle.std.proofs.lemmas.Bool.{eqb-true}
 use Rattle.std.proofs.lemmas.Bool.Decides.{nat_tests}
 use Rattle.kube_objects.specs.Entry.{Entry}
 use Rattle.kube_objects.specs.Newest.{or_else, when}
-use Rattle.kube_objects.specs.Wire.{in_force, request_delay, reply_delay, loses_requests, loses_replies, request_delay_of, reply_delay_of, request_loss_of, reply_loss_of}
+use Rattle.kube_objects.specs.Wire.{in_force, request_delay_of, reply_delay_of, request_loss_of, reply_loss_of}
 use Rattle.wire_calls.specs.declared.link.Link.{Link}
 use Rattle.wire_calls.specs.WireStands.{IsDelay, or_first, link_at, link_in}
 

@@ -6,7 +6,7 @@ use Rattle.kube_objects.specs.declared.object.Object.{Object}
 use Rattle.kube_objects.specs.Entry.{Entry, Identity, Call, Sends, Answers, entry}
 use Rattle.kube_objects.specs.InFlight.{requests_due, replies_due}
 use Rattle.kube_objects.specs.Newest.{or_zero}
-use Rattle.kube_objects.specs.Wire.{Sent, Back, arrival, request_arrival, reply_arrival, request_delay, reply_delay, loses_requests, loses_replies}
+use Rattle.kube_objects.specs.Wire.{Sent, Back, arrival, request_arrival, reply_arrival}
 use Rattle.wire_calls.specs.declared.flight.Flight.{Flight}
 use Rattle.wire_calls.specs.declared.link.Link.{Link}
 use Rattle.wire_calls.specs.declared.message.Arrived.{Arrived}
@@ -16,7 +16,7 @@ use Rattle.wire_calls.specs.declared.message.Sent.TheVariants.{Lost, InFlight}
 use Rattle.wire_calls.specs.declared.wire.Wire.{Wire}
 use Rattle.wire_calls.specs.InFlight.{pending, HasNoEmpty}
 use Rattle.wire_calls.specs.Messages.{sent_as_told}
-use Rattle.wire_calls.specs.WireStands.{WireStands, as_arrived, as_delivered, link_at, link_in}
+use Rattle.wire_calls.specs.WireStands.{WireStands, as_arrived, as_delivered, link_at}
 use Rattle.wire_calls.proofs.Orders.{in_order-push}
 
 -- ---- what is told

@@ -1,5 +1,5 @@
 -- The wire stands for a history within a beat.
-use Rattle.std.specs.Prelude.{◌≡◌, ℕ, ◌<◌, ◌≤◌, ◌==◌, nat_lt, Bool, true, false, cond, List, [], ◌∷◌, length, map, Option, Some, None, slice_get}
+use Rattle.std.specs.Prelude.{◌≡◌, ℕ, ◌<◌, ◌≤◌, ◌==◌, nat_lt, Bool, true, false, cond, List, [], length, map, Option, Some, None, slice_get}
 use Rattle.kube_base.specs.declared.numbers.Beat.{Beat}
 use Rattle.kube_objects.specs.declared.script.What.TheVariants.{Delay, Loss}
 use Rattle.kube_objects.specs.Entry.{Entry, Deed, Event, Sends, Answers}

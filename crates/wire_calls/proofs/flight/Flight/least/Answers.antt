@@ -1,4 +1,4 @@
-use Rattle.std.proofs.Common.{◌≡◌, [], ◌∙◌, Some, None, sym, ap, subst}
+use Rattle.std.proofs.Common.{◌∙◌, sym, ap, subst}
 use Rattle.std.specs.VecDeque.{deque_items}
 use Rattle.wire_calls.proofs.Beats.{below-least, items_by, IsLive}
 use Rattle.wire_calls.proofs.flight.Flight.least.Goals as goal

@@ -1,9 +1,8 @@
-use Rattle.std.proofs.Common.{◌≡◌, ◌==◌, ◌∷◌, [], ◌++◌, ◌∙◌, ℕ, Option, Some, Result, Ok, Err, OnErr, sym, ap, subst, rules}
+use Rattle.std.proofs.Common.{◌==◌, ◌∷◌, [], ◌++◌, ◌∙◌, Some, Result, Ok, Err, OnErr, sym, ap, subst, rules}
 use Rattle.kube_base.specs.contracts.numbers.BeatOrd.TheImpl as beat_ord
-use Rattle.std.specs.BTreeMap.{get, Updates}
+use Rattle.std.specs.BTreeMap.{Updates}
 use Rattle.std.specs.VecDeque.{deque_items}
-use Rattle.wire_calls.specs.InFlight.{beat_cmp}
-use Rattle.wire_calls.proofs.Beats.{updates-get, change-pending, change-live, items_by, pending_by, IsLive, at_beat, either, never-empty}
+use Rattle.wire_calls.proofs.Beats.{updates-get, change-pending, change-live, items_by, pending_by, IsLive, either, never-empty}
 use Rattle.wire_calls.proofs.flight.Flight.push.Goals as goal
 
 on-err : {A E : Type 0} {P : Type 0} (r : Result A E) → P → OnErr r P

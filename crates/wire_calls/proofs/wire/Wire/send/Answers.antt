@@ -1,4 +1,4 @@
-use Rattle.std.proofs.Common.{◌≡◌, ◌∙◌, ◌∷◌, ℕ, sym, ap, subst, refl}
+use Rattle.std.proofs.Common.{◌∙◌, ◌∷◌, ℕ, sym, ap, subst}
 use Rattle.kube_objects.specs.declared.call.Request.{Request}
 use Rattle.kube_objects.specs.Entry.{Identity, Sends, entry}
 use Rattle.kube_objects.specs.Wire.{request_arrival}

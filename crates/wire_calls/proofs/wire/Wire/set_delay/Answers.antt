@@ -1,4 +1,4 @@
-use Rattle.std.proofs.Common.{◌≡◌, ◌==◌, ◌∙◌, ◌<◌, ◌∷◌, length, sym, ap, arith, length-set}
+use Rattle.std.proofs.Common.{◌==◌, ◌∙◌, ◌<◌, length, ap, arith, length-set}
 use Rattle.kube_objects.specs.Wire.{in_force, request_delay_of, reply_delay_of}
 use Rattle.wire_calls.specs.declared.link.Link.{Link}
 use Rattle.wire_calls.specs.WireStands.{link_in}

@@ -1,4 +1,4 @@
-use Rattle.std.proofs.Common.{◌≡◌, ◌==◌, ◌∙◌, ◌<◌, ◌∷◌, length, sym, ap, arith, length-set}
+use Rattle.std.proofs.Common.{◌==◌, ◌∙◌, ◌<◌, length, ap, arith, length-set}
 use Rattle.wire_calls.specs.declared.link.Link.{Link}
 use Rattle.wire_calls.specs.WireStands.{link_in}
 use Rattle.wire_calls.proofs.Links.{changed-link, link_at-get_or, set-losses}
