@@ -1,5 +1,5 @@
 -- Which entries a call slot stands through.
-use Rattle.std.proofs.Common.{◌≡◌, ℕ, ◌&&◌, Bool, true, false, List, [], ◌∷◌, Option, Some, None, refl, sym, ap, ◌∙◌, arith}
+use Rattle.std.proofs.Common.{◌≡◌, ◌&&◌, Bool, true, false, List, [], ◌∷◌, Option, Some, None, refl, sym, ap, ◌∙◌, arith}
 use Rattle.kube_objects.specs.declared.call_slot.CallSlot.{CallSlot}
 use Rattle.kube_objects.specs.declared.deed.Actor.{Actor}
 use Rattle.kube_objects.specs.CallSlots.{CallSlotStands, waiting_as}
@@ -51,7 +51,6 @@ call_slot-foreign doc q h e slot other = call_slot-beside doc q h e slot (ap (λ
     unsent : (b : Bool) → (b && false) ≡ false
     unsent true = refl
     unsent false = refl
-
 
     never : (c : Bool) → when {A = Option Call} (c && false) None ≡ None
     never true = refl

@@ -12,6 +12,8 @@ mod object;
 mod pod;
 mod script;
 mod settings;
+#[cfg(test)]
+mod tests;
 
 pub use call::{Answer, Ask, Reply, Request};
 pub use call_slot::CallSlot;

@@ -8,7 +8,7 @@ use Rattle.kube_objects.specs.declared.node.Node.{Node}
 use Rattle.kube_objects.specs.Answers.{node_in}
 use Rattle.kube_objects.specs.Entry.{Entry}
 use Rattle.kube_objects.specs.Keys.{key_cmp, key_eq}
-use Rattle.kube_objects.specs.Stored.{stored}
+use Rattle.kube_objects.specs.Stored.{stored, writes}
 use Rattle.object_store.specs.declared.since.Since.{Since}
 use Rattle.object_store.specs.declared.store.Store.{Store}
 use Rattle.object_store.specs.StoreAnswers.{changed_keys, kept_of}
@@ -17,6 +17,7 @@ use Rattle.object_store.specs.StoreAnswers.{changed_keys, kept_of}
 pub record StoreStands (h : List Entry) (s : Store) : Type 0 where
   pub objects : (key : Key) → get key_cmp s.objects key ≡ kept_of (stored key h)
   pub changes : s.changes.items ≡ changed_keys h
+  pub count : vec_len s.changes ≡ writes h
 
 -- what a write leaves at its key
 abbrev pub kept_as : ℕ → Option Object → Option (Version × Object)
@@ -27,11 +28,13 @@ kept_as n (Some object) = Some (record { 0 = n }, object)
 pub record Writes (old new : Store) (key : Key) (content : Option Object) : Type 0 where
   pub objects : (q : Key) → get key_cmp new.objects q ≡ cond (key_eq key q) (kept_as (vec_len old.changes + 1) content) (get key_cmp old.objects q)
   pub changes : new.changes.items ≡ old.changes.items ++ key ∷ []
+  pub count : vec_len new.changes ≡ vec_len old.changes + 1
 
 -- what callers see is as before
 pub record SameStore (old new : Store) : Type 0 where
   pub objects : (q : Key) → get key_cmp new.objects q ≡ get key_cmp old.objects q
   pub changes : new.changes.items ≡ old.changes.items
+  pub count : vec_len new.changes ≡ vec_len old.changes
 
 -- ---- what a look-up finds
 

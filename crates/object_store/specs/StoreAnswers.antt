@@ -1,5 +1,6 @@
 -- What the store answers to its own calls after a history. Source: Kubernetes API concepts, resource versions; profile.
 use Rattle.std.specs.Prelude.{◌≡◌, ◌==◌, cond, List, [], ◌∷◌, ◌++◌, Option, Some, None, Result, Ok, Err}
+use Rattle.kube_base.specs.declared.memory.NoMemory.{NoMemory}
 use Rattle.kube_base.specs.declared.numbers.Version.{Version}
 use Rattle.kube_objects.specs.declared.call.Reply.{Reply}
 use Rattle.kube_objects.specs.declared.call.Reply.TheVariants as reply
@@ -77,3 +78,20 @@ abbrev pub UnlessPosted : Result Posted StoreFault → Type 0 → Type 0
 UnlessPosted (Ok (posted.Done version)) holds = Unit {0}
 UnlessPosted (Ok posted.Unchanged) holds = holds
 UnlessPosted (Err fault) holds = holds
+
+-- ---- a result as a reply
+
+abbrev pub reply_of : Result Version StoreFault → Result Reply NoMemory
+reply_of (Ok version) = Ok (reply.Done version)
+reply_of (Err fault.Absent) = Ok reply.Absent
+reply_of (Err fault.Exists) = Ok reply.Exists
+reply_of (Err (fault.Conflict version)) = Ok (reply.Conflict version)
+reply_of (Err fault.NoMemory) = Err (record {})
+
+abbrev pub reply_of_post : Result Posted StoreFault → Result Reply NoMemory
+reply_of_post (Ok (posted.Done version)) = Ok (reply.Done version)
+reply_of_post (Ok posted.Unchanged) = Ok reply.Unchanged
+reply_of_post (Err fault.Absent) = Ok reply.Absent
+reply_of_post (Err fault.Exists) = Ok reply.Exists
+reply_of_post (Err (fault.Conflict version)) = Ok (reply.Conflict version)
+reply_of_post (Err fault.NoMemory) = Err (record {})

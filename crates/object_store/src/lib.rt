@@ -7,6 +7,8 @@ mod since;
 mod stamp;
 mod status;
 mod store;
+#[cfg(test)]
+mod tests;
 
 pub use faults::{Posted, StoreFault};
 pub use since::Since;

@@ -1,9 +1,8 @@
 // Results of the store's calls as replies.
-ghost use Rattle.std.specs.Prelude.{◌≡◌, IfOk, Option};
-ghost use Rattle.kube_objects.specs.Answers.{answer_get, lease_in};
+ghost use Rattle.std.specs.Prelude.{◌≡◌};
+ghost use Rattle.kube_objects.specs.Answers.{answer_get};
 ghost use Rattle.kube_objects.specs.Feeds.{shown_pair};
-ghost use Rattle.kube_objects.specs.declared.call.Reply.{Reply};
-ghost use Rattle.object_store.specs.StoreAnswers.{Told, ToldPost, lease_pair};
+ghost use Rattle.object_store.specs.StoreAnswers.{lease_pair, reply_of, reply_of_post};
 
 use crate::{Posted, StoreFault};
 use kube_base::{NoMemory, Version};
@@ -21,7 +20,7 @@ pub(crate) fn found(stored: Option<(Version, &Object)>) -> Reply
 
 /// The reply to a Create or an Update.
 pub(crate) fn told(outcome: Result<Version, StoreFault>) -> Result<Reply, NoMemory>
-    ensures { (answered : Reply) → Told outcome answered → IfOk result (λ reply. reply ≡ answered) }
+    ensures { result ≡ reply_of outcome }
 {
     match outcome {
         Ok(version) => Ok(Reply::Done(version)),
@@ -34,7 +33,7 @@ pub(crate) fn told(outcome: Result<Version, StoreFault>) -> Result<Reply, NoMemo
 
 /// The reply to a posted status.
 pub(crate) fn told_post(outcome: Result<Posted, StoreFault>) -> Result<Reply, NoMemory>
-    ensures { (answered : Reply) → ToldPost outcome answered → IfOk result (λ reply. reply ≡ answered) }
+    ensures { result ≡ reply_of_post outcome }
 {
     match outcome {
         Ok(Posted::Done(version)) => Ok(Reply::Done(version)),

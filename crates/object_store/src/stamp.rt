@@ -27,6 +27,7 @@ fn stamped_taint(taint: &Taint, at: Wall) -> Taint
     }
 }
 
+#[tactic(auto, using(crate::proofs::Stamped::stamp_all_more))]
 fn stamped_taints(taints: &Taints, at: Wall) -> Result<Taints, NoMemory>
     ensures { IfOk result (λ stamped. stamped ≡ stamps.stamp_all at.0 taints.now) }
 {

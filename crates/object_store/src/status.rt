@@ -1,9 +1,9 @@
 // What a posted status makes of a node.
-ghost use Rattle.std.specs.Prelude.{◌≡◌, ℕ, Some, MatchOption, IfOk, option_map};
+ghost use Rattle.std.specs.Prelude.{◌≡◌, Some, IfOk, option_copied};
 ghost use Rattle.kube_objects.specs.Answers as answers;
 
 use kube_base::{NoMemory, Wall};
-use kube_objects::{Node, Ready, ReadyStatus};
+use kube_objects::{Node, Object, Ready, ReadyStatus};
 
 // The numbers of the names KubeletReady and KubeletNotReady.
 const KUBELET_READY: u32 = 1;
@@ -34,6 +34,16 @@ fn posted_as(status: ReadyStatus, at: Wall, transition: Option<Wall>) -> Ready
         reason,
         heartbeat: Some(at),
         transition,
+    }
+}
+
+/// The node that an object is.
+pub(crate) fn as_node(object: &Object) -> Option<&Node>
+    ensures { option_copied result ≡ answers.node_in object.now }
+{
+    match object {
+        Object::Node(node) => Some(node),
+        _ => None,
     }
 }
 

@@ -128,14 +128,14 @@ impl Store {
         ensures ok { (h : List Entry) (e : Entry) → StoreStands h self.old → write_of e.deed ≡ Some (pod, None) → OnOk result (StoreStands (e ∷ h) self.new) }
         ensures err { (h : List Entry) → StoreStands h self.old → OnErr result (StoreStands h self.new) }
     {
-        let Some(held) = self.version_at(&pod) else {
+        let Some(pod_held) = self.version_at(&pod) else {
             return Err(StoreFault::Absent);
         };
         let Some(node_held) = self.version_at(&node) else {
             return Err(StoreFault::Absent);
         };
-        if held != pod_version {
-            return Err(StoreFault::Conflict(held));
+        if pod_held != pod_version {
+            return Err(StoreFault::Conflict(pod_held));
         }
         if node_held != node_version {
             return Err(StoreFault::Conflict(node_held));
@@ -243,10 +243,7 @@ impl Store {
         ensures { option_copied result ≡ node_in_pair (shown_in self.now key.now) }
     {
         match self.objects.get(key) {
-            Some(kept) => match &kept.1 {
-                Object::Node(node) => Some(node),
-                _ => None,
-            },
+            Some(kept) => status::as_node(&kept.1),
             None => None,
         }
     }

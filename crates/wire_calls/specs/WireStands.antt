@@ -1,15 +1,14 @@
 -- The wire stands for a history within a beat.
-use Rattle.std.specs.Prelude.{◌≡◌, ℕ, ◌<◌, ◌≤◌, ◌==◌, nat_lt, Bool, false, cond, List, [], ◌∷◌, length, map, Option, Some, None, slice_get}
+use Rattle.std.specs.Prelude.{◌≡◌, ℕ, ◌<◌, ◌≤◌, ◌==◌, nat_lt, Bool, true, false, cond, List, [], length, map, Option, Some, None, slice_get}
 use Rattle.kube_base.specs.declared.numbers.Beat.{Beat}
-use Rattle.kube_objects.specs.Entry.{Entry}
+use Rattle.kube_objects.specs.declared.script.What.TheVariants.{Delay, Loss}
+use Rattle.kube_objects.specs.Entry.{Entry, Deed, Event, Sends, Answers}
 use Rattle.kube_objects.specs.InFlight.{requests_due, replies_due}
 use Rattle.kube_objects.specs.Wire.{Sent, Back, request_delay, reply_delay, loses_requests, loses_replies}
 use Rattle.wire_calls.specs.InFlight.{pending, HasNoEmpty}
 use Rattle.wire_calls.specs.declared.link.Link.{Link}
 use Rattle.wire_calls.specs.declared.message.Arrived.{Arrived}
 use Rattle.wire_calls.specs.declared.message.Delivered.{Delivered}
-use Rattle.wire_calls.specs.declared.message.Sent as told
-use Rattle.wire_calls.specs.declared.message.Sent.TheVariants.{Lost, InFlight}
 use Rattle.wire_calls.specs.declared.wire.Wire.{Wire}
 
 -- ---- messages as the code keeps them
@@ -27,11 +26,6 @@ arrived_of (Some s) = Some (as_arrived s)
 abbrev pub delivered_of : Option Back → Option Delivered
 delivered_of None = None
 delivered_of (Some b) = Some (as_delivered b)
-
--- a message is lost, or arrives at a beat
-abbrev pub sent_as_told : Option ℕ → told.Sent
-sent_as_told None = Lost
-sent_as_told (Some j) = InFlight (record { 0 = j })
 
 -- ---- delays and losses
 
@@ -57,10 +51,10 @@ abbrev pub IsDelay : ℕ → Type 0
 IsDelay n = (1 ≤ n) × (n ≤ 6000)
 
 -- one way: what is in flight, as messages, at beat k and after it
-pub record InOrder {S T : Type 0} (as_kept : S → T) (k : ℕ) (now : List S) (later : ℕ → List S) (kept : ℕ → List T) : Type 0 where
+pub record InOrder {S T : Type 0} (as_kept : S → T) (k : ℕ) (due : List S) (later : ℕ → List S) (kept : ℕ → List T) : Type 0 where
   pub before : (j : ℕ) → j < k → kept j ≡ []
-  pub now : kept k ≡ map as_kept now
-  pub later : (j : ℕ) → k < j → kept j ≡ map as_kept (later j)
+  pub present : kept k ≡ map as_kept due
+  pub after : (j : ℕ) → k < j → kept j ≡ map as_kept (later j)
 
 -- arriving and coming are what is still to arrive at beat k
 pub record WireStands (processes k : ℕ) (arriving : List Sent) (coming : List Back) (h : List Entry) (w : Wire) : Type 0 where
@@ -76,7 +70,7 @@ pub record WireStands (processes k : ℕ) (arriving : List Sent) (coming : List 
 
 -- what arrives at a beat, as it is seen within beat k
 abbrev pub at_beat : {S : Type 0} → ℕ → List S → (ℕ → List S) → ℕ → List S
-at_beat k now later j = cond (j == k) now (cond (nat_lt k j) (later j) [])
+at_beat k due later j = cond (j == k) due (cond (nat_lt k j) (later j) [])
 
 -- nothing is in flight that arrives at a beat
 abbrev pub IsQuiet : ℕ → List Sent → List Back → List Entry → ℕ → Type 0
@@ -86,3 +80,19 @@ IsQuiet k arriving coming h j = (at_beat k arriving (λ i. requests_due i h) j �
 abbrev pub NextIs : ℕ → List Sent → List Back → List Entry → Option Beat → Type 0
 NextIs k arriving coming h None = (j : ℕ) → IsQuiet k arriving coming h j
 NextIs k arriving coming h (Some beat) = (IsQuiet k arriving coming h beat.0 → ⊥) × ((j : ℕ) → j < beat.0 → IsQuiet k arriving coming h j)
+
+-- the earlier of two beats, where there is one
+abbrev pub earlier_of : Option Beat → Option Beat → Option Beat
+earlier_of None b = b
+earlier_of (Some a) None = Some a
+earlier_of (Some a) (Some b) = cond (nat_lt b.0 a.0) (Some b) (Some a)
+
+-- ---- what the wire doesn't look at
+
+-- whether a deed sends a message, or changes how messages travel
+abbrev pub is_of_wire : Deed → Bool
+is_of_wire (Event (Delay id requests replies) version) = true
+is_of_wire (Event (Loss id requests replies) version) = true
+is_of_wire (Sends call arrives) = true
+is_of_wire (Answers call reply comes written) = true
+is_of_wire _ = false

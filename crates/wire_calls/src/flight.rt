@@ -1,5 +1,6 @@
 // Messages in flight one way, by the beats at which they arrive.
 ghost use Rattle.std.specs.Prelude.{◌≡◌, ◌==◌, ◌∷◌, ◌++◌, [], ℕ, List, Option, cond, OnOk, OnErr, MatchOption, ◌<◌};
+ghost use Rattle.std.specs.VecDeque.{deque_items};
 ghost use Rattle.wire_calls.specs.InFlight.{pending, HasNoEmpty, IsLeast, first_of, rest_of};
 
 use kube_base::{Beat, NoMemory};
@@ -47,7 +48,7 @@ impl<T: Copy + Drop> Flight<T> {
         ensures live { HasNoEmpty self.old → HasNoEmpty self.new }
     {
         let queue = self.beats.get_mut(&beat)?;
-        let first = queue.pop_front();
+        let first = take_first(queue);
         if queue.is_empty() {
             self.beats.remove(&beat);
         }
@@ -59,8 +60,15 @@ impl<T: Copy + Drop> Flight<T> {
         ensures { HasNoEmpty self.now → IsLeast self.now result }
     {
         match self.beats.first_key_value() {
-            Some((beat, _)) => Some(*beat),
+            Some(entry) => Some(*entry.0),
             None => None,
         }
     }
+}
+
+fn take_first<T: Drop>(queue: &mut VecDeque<T>) -> Option<T>
+    ensures first { result ≡ first_of (deque_items queue.old) }
+    ensures rest { deque_items queue.new ≡ rest_of (deque_items queue.old) }
+{
+    queue.pop_front()
 }

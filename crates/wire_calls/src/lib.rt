@@ -4,6 +4,8 @@
 mod flight;
 mod link;
 mod message;
+#[cfg(test)]
+mod tests;
 mod wire;
 
 pub use message::{Arrived, Delivered, Sent};

@@ -9,10 +9,11 @@ ghost use Rattle.kube_objects.specs.declared.object.Object.{Object};
 ghost use Rattle.kube_objects.specs.declared.script.What.TheVariants.{Delay, Loss};
 ghost use Rattle.kube_base.specs.declared.numbers.Version.{Version};
 ghost use Rattle.wire_calls.specs.InFlight.{first_of, rest_of};
-ghost use Rattle.wire_calls.specs.WireStands.{WireStands, sent_as_told, arrived_of, delivered_of, NextIs, link_at};
+ghost use Rattle.wire_calls.specs.Messages.{sent_as_told};
+ghost use Rattle.wire_calls.specs.WireStands.{WireStands, arrived_of, delivered_of, NextIs, earlier_of, link_at};
 
 use crate::flight::Flight;
-use crate::link::Link;
+use crate::link::{Link, travel};
 use crate::{Arrived, Delivered, Sent};
 use kube_base::{Beat, NoMemory, ProcId};
 use kube_objects::{Ask, Reply};
@@ -31,12 +32,8 @@ impl Wire {
     pub fn new(alloc: Global, processes: u32) -> Result<Wire, NoMemory>
         ensures { IfOk result (λ wire. (k : ℕ) → WireStands processes k [] [] [] wire) }
     {
-        let mut links = Vec::new(alloc);
-        for _ in 0..processes {
-            links.push(Link::first())?;
-        }
         Ok(Wire {
-            links,
+            links: vec![in alloc; Link::first(); processes as usize]?,
             requests: Flight::new(alloc),
             replies: Flight::new(alloc),
         })
@@ -94,18 +91,19 @@ impl Wire {
             → OnErr result (WireStands processes k arriving coming h self.new) }
     {
         let link = self.link(who);
-        if link.loses_requests {
-            return Ok(Sent::Lost);
+        match travel(link.loses_requests, now, link.request_delay) {
+            Sent::Lost => Ok(Sent::Lost),
+            Sent::InFlight(arrives) => {
+                let message = Arrived {
+                    who,
+                    incarnation,
+                    number: ask.number,
+                    request: ask.request,
+                };
+                self.requests.push(arrives, message)?;
+                Ok(Sent::InFlight(arrives))
+            }
         }
-        let arrives = Beat(now.0.saturating_add(link.request_delay));
-        let message = Arrived {
-            who,
-            incarnation,
-            number: ask.number,
-            request: ask.request,
-        };
-        self.requests.push(arrives, message)?;
-        Ok(Sent::InFlight(arrives))
     }
 
     /// Takes out the first sent request that arrives now. None exactly where there is none.
@@ -130,18 +128,19 @@ impl Wire {
             → OnErr result (WireStands processes k arriving coming h self.new) }
     {
         let link = self.link(to.who);
-        if link.loses_replies {
-            return Ok(Sent::Lost);
+        match travel(link.loses_replies, now, link.reply_delay) {
+            Sent::Lost => Ok(Sent::Lost),
+            Sent::InFlight(comes) => {
+                let message = Delivered {
+                    who: to.who,
+                    incarnation: to.incarnation,
+                    number: to.number,
+                    reply,
+                };
+                self.replies.push(comes, message)?;
+                Ok(Sent::InFlight(comes))
+            }
         }
-        let comes = Beat(now.0.saturating_add(link.reply_delay));
-        let message = Delivered {
-            who: to.who,
-            incarnation: to.incarnation,
-            number: to.number,
-            reply,
-        };
-        self.replies.push(comes, message)?;
-        Ok(Sent::InFlight(comes))
     }
 
     /// Takes out the first answered reply that comes now. None exactly where there is none.
@@ -159,17 +158,7 @@ impl Wire {
         ensures { (processes k : ℕ) (arriving : List flights.Sent) (coming : List flights.Back) (h : List Entry) → WireStands processes k arriving coming h self.now
             → NextIs k arriving coming h result }
     {
-        match (self.requests.least(), self.replies.least()) {
-            (Some(request), Some(reply)) => {
-                if reply.0 < request.0 {
-                    Some(reply)
-                } else {
-                    Some(request)
-                }
-            }
-            (Some(request), None) => Some(request),
-            (None, reply) => reply,
-        }
+        earlier(self.requests.least(), self.replies.least())
     }
 
     fn link(&self, who: ProcId) -> Link
@@ -179,5 +168,15 @@ impl Wire {
             Some(link) => *link,
             None => Link::first(),
         }
+    }
+}
+
+fn earlier(a: Option<Beat>, b: Option<Beat>) -> Option<Beat>
+    ensures { result ≡ earlier_of a b }
+{
+    match (a, b) {
+        (Some(a), Some(b)) => { if b.0 < a.0 { Some(b) } else { Some(a) } }
+        (Some(a), None) => Some(a),
+        (None, b) => b,
     }
 }
