@@ -3,3 +3,4 @@ pub mod Expiry
 pub mod Attempts
 pub mod Replies
 pub mod Frames
+pub mod Wakes

@@ -6,7 +6,7 @@ use Rattle.kube_objects.specs.declared.call.Reply.{Reply}
 use Rattle.kube_objects.specs.declared.call.Request.{Request}
 use Rattle.kube_objects.specs.Clocks.{local}
 use Rattle.kube_objects.specs.Document.{Doc, call_timeout}
-use Rattle.kube_objects.specs.Elector.{Shown, leads, deadline, follow_on}
+use Rattle.kube_objects.specs.Elector.{Shown, leads, deadline, follow_on, is_before}
 use Rattle.kube_objects.specs.Entry.{Entry, Identity, Call, CallKind, Deed, Starts, Sends, Delivers, Expires, Leads, Ends, entry}
 use Rattle.kube_objects.specs.Process.{begun, call_in}
 use Rattle.kube_objects.specs.Turns.{react, expire_call, end_term, try}
@@ -104,6 +104,23 @@ wake_from doc q timer (Some call) = local doc q.process call.sent + call_timeout
 abbrev pub wake_before : ℕ → Option ℕ → ℕ
 wake_before wake None = wake
 wake_before wake (Some deadline) = cond (nat_lt deadline wake) deadline wake
+
+-- a candidate's whole turn
+abbrev pub candidate_turn : Doc → ℕ → Identity → List Entry → List Entry
+candidate_turn doc k q h = try doc k q (expired doc k q h)
+
+-- after its term has ended an elector starts no attempt; h is the history after the expiry
+abbrev pub try_before : Doc → ℕ → Identity → Bool → List Entry → List Entry
+try_before doc k q true h = try doc k q h
+try_before doc k q false h = tested doc k q h
+
+-- a leader's whole turn
+abbrev pub leading_turn : Doc → ℕ → Identity → List Entry → List Entry
+leading_turn doc k q h = try_before doc k q (is_before (local doc q.process k) (deadline doc q (expired doc k q h))) (expired doc k q h)
+
+-- before this reading a turn adds nothing to the history, and from it on something
+abbrev pub IsLeast : ℕ → ℕ → List Entry → List Entry → Type 0
+IsLeast wake now h next = (nat_lt now wake ≡ true → next ≡ h) × (nat_lt now wake ≡ false → next ≡ h → ⊥)
 
 -- ---- the part that candidates and leaders have in common
 

@@ -5,7 +5,7 @@ ghost use Rattle.kube_objects.specs.Document.{Doc};
 ghost use Rattle.kube_objects.specs.Elector.{timer};
 ghost use Rattle.kube_objects.specs.Entry.{Call, Delivers, Entry, Identity, Starts, entry};
 ghost use Rattle.kube_objects.specs.Process.{alive, begun, call_in, counted};
-ghost use Rattle.leader_elector.specs.Moves.{CandidateReplies, CandidateStays, CandidateTurns, becomes_leader, delivered, expired, reacted, wake_from};
+ghost use Rattle.leader_elector.specs.Moves.{CandidateReplies, CandidateStays, CandidateTurns, IsLeast, becomes_leader, candidate_turn, delivered, expired, reacted, wake_from};
 ghost use Rattle.leader_elector.specs.Stands.{CandidateStands, IsNew, IsTimingOf};
 
 use crate::elector::Elector;
@@ -84,10 +84,14 @@ impl Candidate {
         }
     }
 
-    /// The least reading at which `on_timer` does anything.
+    /// The least reading at which `on_timer` does anything: that at which the call that waits has expired, or else the timer.
     pub fn wake(&self) -> Local
-        ensures { (doc : Doc) (q : Identity) (h : List Entry) → CandidateStands doc q h self.now
+        ensures reading { (doc : Doc) (q : Identity) (h : List Entry)
+            → CandidateStands doc q h self.now
             → result.0 ≡ wake_from doc q (timer doc q h) (call_in q h) }
+        ensures least { (doc : Doc) (q : Identity) (h : List Entry) (k : ℕ)
+            → CandidateStands doc q h self.now
+            → IsLeast result.0 (local doc q.process k) h (candidate_turn doc k q h) }
     {
         self.elector.wake()
     }

@@ -6,7 +6,7 @@ ghost use Rattle.kube_objects.specs.Document.{Doc};
 ghost use Rattle.kube_objects.specs.Elector.{acts, deadline, release, timer};
 ghost use Rattle.kube_objects.specs.Entry.{Call, Delivers, Entry, Identity, Leads, entry};
 ghost use Rattle.kube_objects.specs.Process.{alive, begun, call_in, counted};
-ghost use Rattle.leader_elector.specs.Moves.{LeadingReplies, LeadingStays, LeadingTurns, Releases, delivered, ends, expired, reacted, wake_before, wake_from};
+ghost use Rattle.leader_elector.specs.Moves.{LeadingReplies, LeadingStays, LeadingTurns, IsLeast, Releases, delivered, ends, expired, leading_turn, reacted, wake_before, wake_from};
 ghost use Rattle.leader_elector.specs.Stands.{ElectorStands, LeadingStands, acting_identity, deadline_of, ended_identity, leading_identity};
 
 use crate::elector::{Elector, given_up};
@@ -123,10 +123,14 @@ impl Leading {
         self.deadline
     }
 
-    /// The least reading at which `on_timer` does anything.
+    /// The least reading at which `on_timer` does anything: as a candidate's, or the deadline where that is before.
     pub fn wake(&self) -> Local
-        ensures { (doc : Doc) (q : Identity) (h : List Entry) → LeadingStands doc q h self.now
+        ensures reading { (doc : Doc) (q : Identity) (h : List Entry)
+            → LeadingStands doc q h self.now
             → result.0 ≡ wake_before (wake_from doc q (timer doc q h) (call_in q h)) (deadline doc q h) }
+        ensures least { (doc : Doc) (q : Identity) (h : List Entry) (k : ℕ)
+            → LeadingStands doc q h self.now
+            → IsLeast result.0 (local doc q.process k) h (leading_turn doc k q h) }
     {
         let wake = self.elector.wake();
         if self.deadline.0 < wake.0 {
