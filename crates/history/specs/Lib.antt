@@ -1,3 +1,4 @@
+pub mod Due
 pub mod History
 pub mod Premise
 pub mod Printed

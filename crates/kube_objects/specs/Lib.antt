@@ -1,9 +1,12 @@
 pub mod Answers
+pub mod CallSlots
 pub mod Clocks
 pub mod Document
 pub mod Elector
 pub mod Entry
+pub mod Feeds
 pub mod Identities
+pub mod InFlight
 pub mod Keys
 pub mod Newest
 pub mod Process

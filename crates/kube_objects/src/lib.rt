@@ -2,7 +2,9 @@
 #![tactic(auto)]
 
 mod call;
+mod call_slot;
 mod deed;
+mod feed;
 mod key;
 mod lease;
 mod node;
@@ -10,9 +12,13 @@ mod object;
 mod pod;
 mod script;
 mod settings;
+#[cfg(test)]
+mod tests;
 
 pub use call::{Answer, Ask, Reply, Request};
+pub use call_slot::CallSlot;
 pub use deed::{Act, Actor, Deed, Deeds};
+pub use feed::{Changed, Feed};
 pub use key::{Key, KeyList, Kind, NumberList, order};
 pub use lease::{Holder, Lease};
 pub use node::{Effect, Node, Ready, ReadyStatus, Taint, Taints, ZoneState};

@@ -1,0 +1,2 @@
+pub mod CallFrames
+pub mod KeyOrder

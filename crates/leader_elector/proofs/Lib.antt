@@ -1,0 +1,6 @@
+pub mod Own
+pub mod Expiry
+pub mod Attempts
+pub mod Replies
+pub mod Frames
+pub mod Wakes

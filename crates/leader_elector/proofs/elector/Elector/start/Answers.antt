@@ -1,0 +1,18 @@
+use Rattle.std.proofs.Common.{◌∙◌, sym, ap}
+use Rattle.leader_elector.specs.Stands.{waiting_in}
+use Rattle.leader_elector.proofs.Own.{timer-started}
+use Rattle.leader_elector.proofs.elector.Elector.start.Goals as goal
+
+pub returns : goal.returns
+returns c doc q h k step me incarnation timing now new =
+    let slot = c.new.ensures.stands doc q h new.begun in
+    record {
+      process = me;
+      incarnation = incarnation;
+      timing = timing;
+      slot = record { begun = slot.begun; waiting = slot.waiting };
+      waiting = sym (ap (waiting_in doc q) new.call);
+      shown = sym new.shown;
+      observed = sym new.observed;
+      timer = now ∙ sym (timer-started doc q h k step);
+    }

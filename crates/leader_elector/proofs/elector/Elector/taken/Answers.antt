@@ -1,0 +1,12 @@
+use Rattle.std.proofs.Common.{Some}
+use Rattle.leader_elector.proofs.elector.Elector.taken.Goals as goal
+
+pub returns : goal.returns
+returns c doc q k me incarnation timing wall =
+    λ i. record {
+      holder = c.holder.ensures q me incarnation i;
+      duration = Some (timing.lease i);
+      acquired = Some (record { 0 = wall i });
+      renewed = Some (record { 0 = wall i });
+      transitions = Some (c.one_more.ensures i);
+    }

@@ -1,0 +1,63 @@
+use Rattle.std.proofs.Common.{◌≡◌, ◌∙◌, ◌+◌, ◌<◌, ◌^◌, Some, nat_lt, sym, ap, subst, refl, true, false}
+use Rattle.kube_objects.specs.Clocks.{local}
+use Rattle.kube_objects.specs.Elector.{deadline, leads}
+use Rattle.kube_objects.specs.Entry.{Sends}
+use Rattle.kube_objects.specs.Identities.{identity}
+use Rattle.kube_objects.specs.Process.{begun, call_in}
+use Rattle.kube_objects.specs.Turns.{end_as, end_term, try}
+use Rattle.kube_objects.specs.Wire.{next_call}
+use Rattle.leader_elector.specs.Moves.{Asked, expired}
+use Rattle.leader_elector.specs.Stands.{ElectorStands}
+use Rattle.leader_elector.proofs.Attempts.{before, reached}
+use Rattle.leader_elector.proofs.Expiry.{begun-expiry, deadline-expiry, leads-expiry}
+use Rattle.leader_elector.proofs.Own.{settled-own}
+use Rattle.leader_elector.proofs.leading.Leading.on_timer.Goals as goal
+
+pub returns-then-now-self-clause-turns : goal.returns-then-now-self-clause-turns
+returns-then-now-self-clause-turns c doc q h k s now wall room =
+    let e = expired doc k q h in
+    let after = c.expire-expired.ensures.stands doc q h k s.elector now in
+    let over : nat_lt (local doc q.process k) c.args.self.deadline.0 ≡ false = ap (λ x. nat_lt x c.args.self.deadline.0) (sym now) ∙ reached c.args.now.0 c.args.self.deadline.0 c.if-now-self.true in
+    let at : deadline doc q e ≡ Some c.args.self.deadline.0 = deadline-expiry doc k q h (call_in q h) ∙ sym s.deadline in
+    (ap (λ x. end_term doc k q x e) at ∙ ap (λ b. end_as k q b e) over, c.ended.ensures ∙ (λ i. identity (after.process i) (after.incarnation i)))
+
+pub returns-in-Some-clause-turns : goal.returns-in-Some-clause-turns
+returns-in-Some-clause-turns c doc q h k s now wall room =
+    let e = expired doc k q h in
+    let early : nat_lt (local doc q.process k) c.args.self.deadline.0 ≡ true = ap (λ x. nat_lt x c.args.self.deadline.0) (sym now) ∙ before c.args.now.0 c.args.self.deadline.0 c.if-now-self.false in
+    let at : deadline doc q e ≡ Some c.args.self.deadline.0 = deadline-expiry doc k q h (call_in q h) ∙ sym s.deadline in
+    let led : leads q e ≡ true = leads-expiry doc k q h (call_in q h) ∙ s.leads in
+    let room_now : begun q e + 1 < 2 ^ 64 = subst (λ n. n + 1 < 2 ^ 64) (sym (begun-expiry doc k q h (call_in q h))) room in
+    let a : Asked k 4 q e (try doc k q e) (λ x. ElectorStands doc q x c.attempt.new.self) c.in-Some.ask =
+    c.in-Some.ensures doc q e k (c.expire-expired.ensures.stands doc q h k s.elector now) led (c.expire-expired.ensures.fast doc q h k s.elector s.settled now) now wall room_now in (
+      ap (λ x. end_term doc k q x e) at ∙ ap (λ b. end_as k q b e) early,
+      record {
+        kind = a.kind;
+        sent = a.sent;
+        number = a.number;
+        stands = λ arrives. record {
+          elector = a.stands arrives;
+          settled = settled-own q e k 4 (Sends (next_call q k a.kind c.in-Some.ask.request e) arrives) (λ n. refl);
+          leads = led;
+          deadline = sym at;
+        };
+      },
+    )
+
+pub returns-in-None-clause-turns : goal.returns-in-None-clause-turns
+returns-in-None-clause-turns c doc q h k s now wall room =
+    let e = expired doc k q h in
+    let early : nat_lt (local doc q.process k) c.args.self.deadline.0 ≡ true = ap (λ x. nat_lt x c.args.self.deadline.0) (sym now) ∙ before c.args.now.0 c.args.self.deadline.0 c.if-now-self.false in
+    let at : deadline doc q e ≡ Some c.args.self.deadline.0 = deadline-expiry doc k q h (call_in q h) ∙ sym s.deadline in
+    let led : leads q e ≡ true = leads-expiry doc k q h (call_in q h) ∙ s.leads in
+    let room_now : begun q e + 1 < 2 ^ 64 = subst (λ n. n + 1 < 2 ^ 64) (sym (begun-expiry doc k q h (call_in q h))) room in
+    let t = c.in-None.ensures doc q e k (c.expire-expired.ensures.stands doc q h k s.elector now) led (c.expire-expired.ensures.fast doc q h k s.elector s.settled now) now wall room_now in (
+      ap (λ x. end_term doc k q x e) at ∙ ap (λ b. end_as k q b e) early,
+      t.1,
+      record {
+        elector = t.2;
+        settled = c.expire-expired.ensures.settled doc q h k s.elector s.settled now t.0;
+        leads = led;
+        deadline = sym at;
+      },
+    )

@@ -1,0 +1,98 @@
+// A candidate asks for the election Lease until it leads.
+ghost use Rattle.std.specs.Prelude.{◌≡◌, ◌≤◌, ◌<◌, ◌+◌, ◌^◌, ℕ, nat_lt, true, false, List, ◌∷◌, Some, None};
+ghost use Rattle.kube_objects.specs.Clocks.{local, wall as wall_at};
+ghost use Rattle.kube_objects.specs.Document.{Doc};
+ghost use Rattle.kube_objects.specs.Elector.{timer};
+ghost use Rattle.kube_objects.specs.Entry.{Call, Delivers, Entry, Identity, Starts, entry};
+ghost use Rattle.kube_objects.specs.Process.{alive, begun, call_in, counted};
+ghost use Rattle.leader_elector.specs.Moves.{CandidateReplies, CandidateStays, CandidateTurns, IsLeast, becomes_leader, candidate_turn, delivered, expired, reacted, wake_from};
+ghost use Rattle.leader_elector.specs.Stands.{CandidateStands, IsNew, IsTimingOf};
+
+use crate::elector::Elector;
+use crate::follow::Follow;
+use crate::{Leading, Timing};
+use kube_base::{Local, ProcId, Wall};
+use kube_objects::{Ask, Reply};
+
+/// A process that is up and doesn't lead.
+#[derive(Drop)]
+pub struct Candidate {
+    pub(crate) elector: Elector,
+}
+
+/// What a candidate does: nothing, a request, or it leads.
+#[derive(Drop)]
+pub enum CandidateNext {
+    Stay(Candidate),
+    Ask(Candidate, Ask),
+    Lead(Leading),
+}
+
+impl Candidate {
+    /// A candidate that has sent nothing. Its first attempt starts at its next turn.
+    pub fn start(me: ProcId, incarnation: u32, timing: Timing, now: Local) -> Candidate
+        ensures { (doc : Doc) (q : Identity) (h : List Entry) (k step : ℕ) → me.0 ≡ q.process
+            → incarnation ≡ q.incarnation → IsTimingOf doc q.process timing
+            → now.0 ≡ local doc q.process k → IsNew doc q h
+            → CandidateStands doc q (entry k step q Starts ∷ h) result }
+    {
+        Candidate {
+            elector: Elector::start(me, incarnation, timing, now),
+        }
+    }
+
+    /// A turn: a call that has expired is forgotten, then an attempt starts where it is time. It never leads.
+    pub fn on_timer(mut self, now: Local, wall: Wall) -> CandidateNext
+        requires now { now.0 ≤ 2000000000000000000 }
+        ensures never_leads { becomes_leader result ≡ false }
+        ensures turns { (doc : Doc) (q : Identity) (h : List Entry) (k : ℕ)
+            → CandidateStands doc q h self → now.0 ≡ local doc q.process k
+            → wall.0 ≡ wall_at doc q.process k → begun q h + 1 < 2 ^ 64
+            → CandidateTurns doc k q (expired doc k q h) result }
+    {
+        let expired = self.elector.expire(now);
+        match self.elector.attempt(expired, false, now, wall) {
+            Some(ask) => CandidateNext::Ask(self, ask),
+            None => CandidateNext::Stay(self),
+        }
+    }
+
+    /// A reply. Only one to the call that waits, with its number and within its timeout, counts.
+    pub fn on_reply(mut self, number: u64, reply: Reply, now: Local, wall: Wall) -> CandidateNext
+        requires now { now.0 ≤ 2000000000000000000 }
+        ensures uncounted { (doc : Doc) (q : Identity) (h : List Entry) (k : ℕ)
+            → CandidateStands doc q h self → now.0 ≡ local doc q.process k
+            → alive q.process h ≡ Some q.incarnation
+            → counted doc q k number h ≡ None → (call : Call)
+            → CandidateStays doc q (entry k 3 q (Delivers call reply false) ∷ h) result }
+        ensures counts { (doc : Doc) (q : Identity) (h : List Entry) (k : ℕ) (call : Call)
+            → CandidateStands doc q h self → now.0 ≡ local doc q.process k
+            → wall.0 ≡ wall_at doc q.process k → begun q h + 1 < 2 ^ 64
+            → counted doc q k number h ≡ Some call
+            → CandidateReplies doc k q (delivered k q call reply h) (reacted doc k q call reply h) result }
+    {
+        let Some(follow) = self.elector.receive(false, number, &reply, now, wall) else {
+            return CandidateNext::Stay(self);
+        };
+        match follow {
+            Follow::Fails => CandidateNext::Stay(self),
+            Follow::Asks(request) => {
+                let ask = self.elector.ask(request, false, now);
+                CandidateNext::Ask(self, ask)
+            }
+            Follow::Succeeds(_) => CandidateNext::Lead(Leading::new(self.elector, now)),
+        }
+    }
+
+    /// The least reading at which `on_timer` does anything: that at which the call that waits has expired, or else the timer.
+    pub fn wake(&self) -> Local
+        ensures reading { (doc : Doc) (q : Identity) (h : List Entry)
+            → CandidateStands doc q h self.now
+            → result.0 ≡ wake_from doc q (timer doc q h) (call_in q h) }
+        ensures least { (doc : Doc) (q : Identity) (h : List Entry) (k : ℕ)
+            → CandidateStands doc q h self.now
+            → IsLeast result.0 (local doc q.process k) h (candidate_turn doc k q h) }
+    {
+        self.elector.wake()
+    }
+}

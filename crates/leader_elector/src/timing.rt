@@ -1,0 +1,16 @@
+// The timings of an elector, with their ranges.
+ghost use Rattle.std.specs.Prelude.{◌≤◌};
+
+/// A lease duration in seconds; renew deadline, retry period and timeout of a call in units of 10^-12 s;
+/// and whether a leader renews without a Get where it can.
+#[derive(Clone, Copy)]
+pub struct Timing {
+    pub lease_seconds: u32,
+    pub renew: u64,
+    pub retry: u64,
+    pub timeout: u64,
+    pub fast: bool,
+    ghost renew_fits: { renew ≤ 86400000000000000 },
+    ghost retry_fits: { retry ≤ 86400000000000000 },
+    ghost timeout_fits: { timeout ≤ 600000000000000 },
+}

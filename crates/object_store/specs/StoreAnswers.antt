@@ -1,0 +1,97 @@
+-- What the store answers to its own calls after a history. Source: Kubernetes API concepts, resource versions; profile.
+use Rattle.std.specs.Prelude.{◌≡◌, ◌==◌, cond, List, [], ◌∷◌, ◌++◌, Option, Some, None, Result, Ok, Err}
+use Rattle.kube_base.specs.declared.memory.NoMemory.{NoMemory}
+use Rattle.kube_base.specs.declared.numbers.Version.{Version}
+use Rattle.kube_objects.specs.declared.call.Reply.{Reply}
+use Rattle.kube_objects.specs.declared.call.Reply.TheVariants as reply
+use Rattle.kube_objects.specs.declared.key.Key.{Key}
+use Rattle.kube_objects.specs.declared.object.Object.{Object}
+use Rattle.kube_objects.specs.declared.lease.Lease.{Lease}
+use Rattle.kube_objects.specs.Answers.{lease_in, versioned}
+use Rattle.kube_objects.specs.Entry.{Entry}
+use Rattle.kube_objects.specs.Newest.{has, when}
+use Rattle.kube_objects.specs.Stored.{Held, Write, stored, write_of, next_version}
+use Rattle.object_store.specs.declared.faults.Posted.{Posted}
+use Rattle.object_store.specs.declared.faults.Posted.TheVariants as posted
+use Rattle.object_store.specs.declared.faults.StoreFault.{StoreFault}
+use Rattle.object_store.specs.declared.faults.StoreFault.TheVariants as fault
+
+-- ---- the list of changes: the key of each accepted write, the oldest first
+
+abbrev pub and_key : Option Write → List Key → List Key
+and_key None keys = keys
+and_key (Some write) keys = keys ++ write.0 ∷ []
+
+abbrev pub changed_keys : List Entry → List Key
+changed_keys [] = []
+changed_keys (e ∷ h) = and_key (write_of e.deed) (changed_keys h)
+
+-- ---- what is stored, as a look-up shows it
+
+abbrev pub kept_of : Option Held → Option (Version × Object)
+kept_of None = None
+kept_of (Some x) = Some (x.version, x.object)
+
+-- a Lease that a look-up shows, with its version
+abbrev pub lease_pair : Option (Version × Object) → Option (Version × Lease)
+lease_pair None = None
+lease_pair (Some p) = versioned p.0 (lease_in p.1)
+
+-- ---- the answer to a delete of a pod, by the versions of the pod and of its node
+
+abbrev pub delete_at_node : Version → Version → Option Held → Reply
+delete_at_node next node_given None = reply.Absent
+delete_at_node next node_given (Some node) = cond (node.version.0 == node_given.0) (reply.Done next) (reply.Conflict node.version)
+
+-- the pod's conflict comes before the node's, and what is absent before both
+abbrev pub delete_over : Version → Version → Version → Option Held → Option Held → Reply
+delete_over next given node_given None node = reply.Absent
+delete_over next given node_given (Some pod) None = reply.Absent
+delete_over next given node_given (Some pod) (Some node) = cond (pod.version.0 == given.0) (delete_at_node next node_given (Some node)) (reply.Conflict pod.version)
+
+abbrev pub answer_delete : Key → Version → Key → Version → List Entry → Reply
+answer_delete pod given node node_given h = delete_over (next_version h) given node_given (stored pod h) (stored node h)
+
+-- the version that a removal writes, where the key is stored
+abbrev pub answer_remove : Key → List Entry → Option Version
+answer_remove key h = when (has (stored key h)) (next_version h)
+
+-- ---- a result tells this reply, or that memory ran out
+
+abbrev pub Told : Result Version StoreFault → Reply → Type 0
+Told (Ok version) answered = answered ≡ reply.Done version
+Told (Err fault.Absent) answered = answered ≡ reply.Absent
+Told (Err fault.Exists) answered = answered ≡ reply.Exists
+Told (Err (fault.Conflict version)) answered = answered ≡ reply.Conflict version
+Told (Err fault.NoMemory) answered = Unit {0}
+
+abbrev pub ToldPost : Result Posted StoreFault → Reply → Type 0
+ToldPost (Ok (posted.Done version)) answered = answered ≡ reply.Done version
+ToldPost (Ok posted.Unchanged) answered = answered ≡ reply.Unchanged
+ToldPost (Err fault.Absent) answered = answered ≡ reply.Absent
+ToldPost (Err fault.Exists) answered = answered ≡ reply.Exists
+ToldPost (Err (fault.Conflict version)) answered = answered ≡ reply.Conflict version
+ToldPost (Err fault.NoMemory) answered = Unit {0}
+
+-- where a post wrote nothing, this holds
+abbrev pub UnlessPosted : Result Posted StoreFault → Type 0 → Type 0
+UnlessPosted (Ok (posted.Done version)) holds = Unit {0}
+UnlessPosted (Ok posted.Unchanged) holds = holds
+UnlessPosted (Err fault) holds = holds
+
+-- ---- a result as a reply
+
+abbrev pub reply_of : Result Version StoreFault → Result Reply NoMemory
+reply_of (Ok version) = Ok (reply.Done version)
+reply_of (Err fault.Absent) = Ok reply.Absent
+reply_of (Err fault.Exists) = Ok reply.Exists
+reply_of (Err (fault.Conflict version)) = Ok (reply.Conflict version)
+reply_of (Err fault.NoMemory) = Err (record {})
+
+abbrev pub reply_of_post : Result Posted StoreFault → Result Reply NoMemory
+reply_of_post (Ok (posted.Done version)) = Ok (reply.Done version)
+reply_of_post (Ok posted.Unchanged) = Ok reply.Unchanged
+reply_of_post (Err fault.Absent) = Ok reply.Absent
+reply_of_post (Err fault.Exists) = Ok reply.Exists
+reply_of_post (Err (fault.Conflict version)) = Ok (reply.Conflict version)
+reply_of_post (Err fault.NoMemory) = Err (record {})

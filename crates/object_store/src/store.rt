@@ -1,0 +1,283 @@
+// The store: a map from keys to objects with their versions, and the key of each accepted write.
+ghost use Rattle.std.specs.Prelude.{◌≡◌, ◌+◌, ◌∷◌, [], List, Option, Some, None, IfOk, OnOk, IfErr, OnErr, option_copied, vec_len, drop};
+ghost use Rattle.std.specs.BTreeMap.{get};
+ghost use Rattle.kube_objects.specs.Answers.{answer, written};
+ghost use Rattle.kube_objects.specs.Answers as answers;
+ghost use Rattle.kube_objects.specs.Clocks.{whole_second};
+ghost use Rattle.kube_objects.specs.Entry.{Entry};
+ghost use Rattle.kube_objects.specs.Feeds.{shown_pair};
+ghost use Rattle.kube_objects.specs.Keys.{key_cmp};
+ghost use Rattle.kube_objects.specs.Newest.{has, when};
+ghost use Rattle.kube_objects.specs.Stamps.{stamped};
+ghost use Rattle.kube_objects.specs.Stored.{stored, write_of, next_version, request_write};
+ghost use Rattle.kube_objects.specs.declared.call.Request.TheVariants.{PostStatus};
+ghost use Rattle.object_store.specs.StoreAnswers.{Told, ToldPost, UnlessPosted, answer_delete, answer_remove, kept_of, changed_keys};
+ghost use Rattle.kube_objects.specs.Stored as stored_words;
+ghost use Rattle.object_store.specs.Stands.{StoreStands, Writes, SameStore, shown_in, version_in, node_in_pair, start_since, keys_since, shown_since};
+ghost use Rattle.kube_objects.specs.declared.key.Key.{Key};
+
+use crate::replies::{found, told, told_post};
+use crate::{Posted, Since, StoreFault, stamp, status};
+use kube_base::{NoMemory, Version, Wall};
+use kube_objects::{Feed, Key, Kind, Node, Object, ReadyStatus, Reply, Request};
+use std::alloc::Global;
+use std::collections::BTreeMap;
+
+/// Objects under their keys, each with the version of its last write. The store's version is the number of accepted writes.
+#[derive(Drop)]
+pub struct Store {
+    objects: BTreeMap<Key, (Version, Object)>,
+    changes: Vec<Key>,
+}
+
+impl Store {
+    /// Holds nothing; its version is 0.
+    pub fn new(alloc: Global) -> Store
+        ensures { StoreStands [] result }
+    {
+        Store {
+            objects: BTreeMap::new(alloc),
+            changes: Vec::new(alloc),
+        }
+    }
+
+    /// The object under a key, with its version. None exactly where the key isn't stored.
+    pub fn get(&self, key: &Key) -> Option<(Version, &Object)>
+        ensures { (h : List Entry) → StoreStands h self.now → shown_pair result ≡ kept_of (stored key.now h) }
+    {
+        match self.objects.get(key) {
+            Some(kept) => Some((kept.0, &kept.1)),
+            None => None,
+        }
+    }
+
+    /// Writes an object under a key that isn't stored. Exists exactly where it is stored.
+    pub fn create(&mut self, key: Key, object: Object) -> Result<Version, StoreFault>
+        ensures answer { (h : List Entry) → StoreStands h self.old → Told result (answers.answer_create (next_version h) (stored key h)) }
+        ensures ok { (h : List Entry) (e : Entry) → StoreStands h self.old → write_of e.deed ≡ Some (key, Some object) → OnOk result (StoreStands (e ∷ h) self.new) }
+        ensures err { (h : List Entry) → StoreStands h self.old → OnErr result (StoreStands h self.new) }
+    {
+        match self.version_at(&key) {
+            Some(_) => Err(StoreFault::Exists),
+            None => self.write_or_fault(key, object),
+        }
+    }
+
+    /// Writes an object in the place of the one with that version. Absent exactly where the key isn't stored,
+    /// Conflict exactly where the stored version differs.
+    pub fn update(
+        &mut self,
+        key: Key,
+        version: Version,
+        object: Object,
+    ) -> Result<Version, StoreFault>
+        ensures answer { (h : List Entry) → StoreStands h self.old → Told result (answers.answer_update (next_version h) version (stored key h)) }
+        ensures ok { (h : List Entry) (e : Entry) → StoreStands h self.old → write_of e.deed ≡ Some (key, Some object) → OnOk result (StoreStands (e ∷ h) self.new) }
+        ensures err { (h : List Entry) → StoreStands h self.old → OnErr result (StoreStands h self.new) }
+    {
+        match self.version_at(&key) {
+            None => Err(StoreFault::Absent),
+            Some(held) => {
+                if held != version {
+                    return Err(StoreFault::Conflict(held));
+                }
+                self.write_or_fault(key, object)
+            }
+        }
+    }
+
+    /// Writes a node's Ready at a time of day. Absent exactly where the node isn't stored; Unchanged where the same
+    /// status was written less than 300 s before.
+    pub fn post_status(
+        &mut self,
+        node: u32,
+        status: ReadyStatus,
+        at: Wall,
+    ) -> Result<Posted, StoreFault>
+        ensures answer { (h : List Entry) → StoreStands h self.old → ToldPost result (answer (PostStatus node status at) h) }
+        ensures ok { (h : List Entry) (e : Entry) → StoreStands h self.old → write_of e.deed ≡ request_write (PostStatus node status at) (written (PostStatus node status at) h)
+            → OnOk result (StoreStands (e ∷ h) self.new) }
+        ensures same { (h : List Entry) → StoreStands h self.old → UnlessPosted result (StoreStands h self.new) }
+    {
+        let key = node_key(node);
+        let Some(stored) = self.node_at(&key) else {
+            return Err(StoreFault::Absent);
+        };
+        let Some(ready) = status::posted_ready(status, stamp::whole_second(at), stored.ready) else {
+            return Ok(Posted::Unchanged);
+        };
+        let Ok(written) = status::with_ready(stored, ready) else {
+            return Err(StoreFault::NoMemory);
+        };
+        match self.write_or_fault(key, Object::Node(written)) {
+            Ok(version) => Ok(Posted::Done(version)),
+            Err(fault) => Err(fault),
+        }
+    }
+
+    /// Removes a pod. Absent exactly where the pod or the node isn't stored. Otherwise Conflict exactly where the pod's
+    /// version differs from the given one, or, that agreeing, the node's.
+    pub fn delete_pod(
+        &mut self,
+        pod: Key,
+        pod_version: Version,
+        node: Key,
+        node_version: Version,
+    ) -> Result<Version, StoreFault>
+        ensures answer { (h : List Entry) → StoreStands h self.old → Told result (answer_delete pod pod_version node node_version h) }
+        ensures ok { (h : List Entry) (e : Entry) → StoreStands h self.old → write_of e.deed ≡ Some (pod, None) → OnOk result (StoreStands (e ∷ h) self.new) }
+        ensures err { (h : List Entry) → StoreStands h self.old → OnErr result (StoreStands h self.new) }
+    {
+        let Some(pod_held) = self.version_at(&pod) else {
+            return Err(StoreFault::Absent);
+        };
+        let Some(node_held) = self.version_at(&node) else {
+            return Err(StoreFault::Absent);
+        };
+        if pod_held != pod_version {
+            return Err(StoreFault::Conflict(pod_held));
+        }
+        if node_held != node_version {
+            return Err(StoreFault::Conflict(node_held));
+        }
+        match self.take_out(pod) {
+            Ok(version) => Ok(version),
+            Err(NoMemory) => Err(StoreFault::NoMemory),
+        }
+    }
+
+    /// Writes an object, whatever is stored. A NoExecute taint without a time gets the whole second of `now`.
+    pub fn put(&mut self, key: Key, object: Object, now: Wall) -> Result<Version, NoMemory>
+        ensures answer { (h : List Entry) → StoreStands h self.old → IfOk result (λ version. version ≡ next_version h) }
+        ensures ok { (h : List Entry) (e : Entry) → StoreStands h self.old → write_of e.deed ≡ Some (key, Some (stamped (whole_second now.0) object)) → OnOk result (StoreStands (e ∷ h) self.new) }
+        ensures err { (h : List Entry) → StoreStands h self.old → OnErr result (StoreStands h self.new) }
+    {
+        let stamped = stamp::stamped(object, stamp::whole_second(now))?;
+        self.write(key, stamped)
+    }
+
+    /// Removes what is under a key. None exactly where the key isn't stored, and nothing changes then.
+    pub fn remove(&mut self, key: Key) -> Result<Option<Version>, NoMemory>
+        ensures answer { (h : List Entry) → StoreStands h self.old → IfOk result (λ version. version ≡ answer_remove key h) }
+        ensures ok { (h : List Entry) (e : Entry) → StoreStands h self.old → IfOk result (λ version. write_of e.deed ≡ when (has version) (key, None) → StoreStands (e ∷ h) self.new) }
+        ensures same { (h : List Entry) → StoreStands h self.old → IfOk result (λ version. version ≡ None → StoreStands h self.new) }
+        ensures err { (h : List Entry) → StoreStands h self.old → OnErr result (StoreStands h self.new) }
+    {
+        match self.version_at(&key) {
+            None => Ok(None),
+            Some(_) => Ok(Some(self.take_out(key)?)),
+        }
+    }
+
+    /// Answers a request that arrives.
+    pub fn answer(&mut self, request: Request) -> Result<Reply, NoMemory>
+        ensures answer { (h : List Entry) → StoreStands h self.old → IfOk result (λ reply. reply ≡ answer request h) }
+        ensures ok { (h : List Entry) (e : Entry) → StoreStands h self.old → write_of e.deed ≡ request_write request (written request h) → OnOk result (StoreStands (e ∷ h) self.new) }
+        ensures err { (h : List Entry) → StoreStands h self.old → OnErr result (StoreStands h self.new) }
+    {
+        match request {
+            Request::Get(key) => Ok(found(self.get(&key))),
+            Request::Create(key, lease) => told(self.create(key, Object::Lease(lease))),
+            Request::Update(key, version, lease) => {
+                told(self.update(key, version, Object::Lease(lease)))
+            }
+            Request::PostStatus(node, status, at) => told_post(self.post_status(node, status, at)),
+        }
+    }
+
+    /// The changes from a position on. Costs nothing.
+    pub fn since(&self, position: u64) -> Since<'_>
+        ensures start { start_since result ≡ position }
+        ensures keys { (h : List Entry) → StoreStands h self.now → keys_since result ≡ drop position (changed_keys h) }
+        ensures shown { (h : List Entry) (key : Key) → StoreStands h self.now → shown_since result key ≡ kept_of (stored key h) }
+    {
+        Since::new(self, position)
+    }
+
+    /// Writes an object under the next version.
+    fn write(&mut self, key: Key, object: Object) -> Result<Version, NoMemory>
+        ensures ok { IfOk result (λ version. Writes self.old self.new key (Some object) × (version.0 ≡ vec_len self.old.changes + 1)) }
+        ensures err { OnErr result (SameStore self.old self.new) }
+    {
+        self.changes.push(key)?;
+        let version = Version(self.changes.len() as u64);
+        match self.objects.insert(key, (version, object)) {
+            Ok(_) => Ok(version),
+            Err(_) => {
+                self.changes.pop();
+                Err(NoMemory)
+            }
+        }
+    }
+
+    fn write_or_fault(&mut self, key: Key, object: Object) -> Result<Version, StoreFault>
+        ensures ok { IfOk result (λ version. Writes self.old self.new key (Some object) × (version.0 ≡ vec_len self.old.changes + 1)) }
+        ensures err { IfErr result (λ fault. (fault ≡ StoreFault.NoMemory) × SameStore self.old self.new) }
+    {
+        match self.write(key, object) {
+            Ok(version) => Ok(version),
+            Err(NoMemory) => Err(StoreFault::NoMemory),
+        }
+    }
+
+    /// Removes what is under a key. The removal is a write, and has the next version.
+    fn take_out(&mut self, key: Key) -> Result<Version, NoMemory>
+        ensures ok { IfOk result (λ version. Writes self.old self.new key None × (version.0 ≡ vec_len self.old.changes + 1)) }
+        ensures err { OnErr result (SameStore self.old self.new) }
+    {
+        self.changes.push(key)?;
+        self.objects.remove(&key);
+        Ok(Version(self.changes.len() as u64))
+    }
+
+    fn version_at(&self, key: &Key) -> Option<Version>
+        ensures { result ≡ version_in (shown_in self.now key.now) }
+    {
+        match self.objects.get(key) {
+            Some(kept) => Some(kept.0),
+            None => None,
+        }
+    }
+
+    fn node_at(&self, key: &Key) -> Option<&Node>
+        ensures { option_copied result ≡ node_in_pair (shown_in self.now key.now) }
+    {
+        match self.objects.get(key) {
+            Some(kept) => status::as_node(&kept.1),
+            None => None,
+        }
+    }
+}
+
+fn node_key(name: u32) -> Key
+    ensures { result ≡ stored_words.node_key name }
+{
+    Key {
+        kind: Kind::Node,
+        space: 0,
+        name,
+    }
+}
+
+impl Feed for Store {
+    ghost use Rattle.object_store.specs.Stands.{changed_in, shown_in};
+
+    ghost changed = { changed_in };
+
+    ghost shown = { shown_in };
+
+    fn changes(&self) -> u64 {
+        self.changes.len() as u64
+    }
+
+    fn change(&self, position: u64) -> Option<Key> {
+        self.changes.get(position as usize).copied()
+    }
+
+    fn object(&self, key: &Key) -> Option<(Version, &Object)> {
+        match self.objects.get(key) {
+            Some(kept) => Some((kept.0, &kept.1)),
+            None => None,
+        }
+    }
+}

@@ -1,0 +1,6 @@
+pub mod Beats
+pub mod Frames
+pub mod Links
+pub mod Nexts
+pub mod Orders
+pub mod Sends

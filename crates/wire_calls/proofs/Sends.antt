@@ -1,0 +1,85 @@
+-- A message is lost, or is in flight until its delay is over.
+use Rattle.std.proofs.Common.{◌≡◌, ℕ, ◌+◌, ◌<◌, ◌≤◌, ◌==◌, Bool, true, false, cond, List, [], ◌∷◌, ◌++◌, Option, Some, None, refl, sym, ap, ◌∙◌, subst, arith}
+use Rattle.kube_base.specs.declared.numbers.Beat.{Beat}
+use Rattle.kube_objects.specs.declared.call.Reply.{Reply}
+use Rattle.kube_objects.specs.declared.object.Object.{Object}
+use Rattle.kube_objects.specs.Entry.{Entry, Identity, Call, Sends, Answers, entry}
+use Rattle.kube_objects.specs.InFlight.{requests_due, replies_due}
+use Rattle.kube_objects.specs.Newest.{or_zero}
+use Rattle.kube_objects.specs.Wire.{Sent, Back, arrival, request_arrival, reply_arrival}
+use Rattle.wire_calls.specs.declared.flight.Flight.{Flight}
+use Rattle.wire_calls.specs.declared.link.Link.{Link}
+use Rattle.wire_calls.specs.declared.message.Arrived.{Arrived}
+use Rattle.wire_calls.specs.declared.message.Delivered.{Delivered}
+use Rattle.wire_calls.specs.declared.message.Sent as told
+use Rattle.wire_calls.specs.declared.message.Sent.TheVariants.{Lost, InFlight}
+use Rattle.wire_calls.specs.declared.wire.Wire.{Wire}
+use Rattle.wire_calls.specs.InFlight.{pending, HasNoEmpty}
+use Rattle.wire_calls.specs.Messages.{sent_as_told}
+use Rattle.wire_calls.specs.WireStands.{WireStands, as_arrived, as_delivered, link_at}
+use Rattle.wire_calls.proofs.Orders.{in_order-push}
+
+-- ---- what is told
+
+pub lost-from : (o : Option ℕ) → Lost ≡ sent_as_told o → o ≡ None
+lost-from None is = refl
+lost-from (Some j) is = absurd (cc)
+
+abbrev beat_told : told.Sent → ℕ
+beat_told Lost = 0
+beat_told (InFlight beat) = beat.0
+
+pub beat-from : (o : Option ℕ) (beat : Beat) → InFlight beat ≡ sent_as_told o → o ≡ Some beat.0
+beat-from None beat is = absurd (cc)
+beat-from (Some j) beat is = ap (λ n. Some n) (sym (ap beat_told is))
+
+pub told-request : (processes k : ℕ) (arriving : List Sent) (coming : List Back) (h : List Entry) (w : Wire) (p now : ℕ) (link : Link) (t : told.Sent) → WireStands processes k arriving coming h w → link ≡ link_at w.links.items p → (link.request_delay ≤ 6000 → t ≡ sent_as_told (arrival link.loses_requests now link.request_delay)) → t ≡ sent_as_told (request_arrival p now h)
+told-request processes k arriving coming h w p now link t s is travels =
+    let here = is ∙ s.links p in
+    travels (subst (λ n. n ≤ 6000) (ap (λ l. l.request_delay) (sym here)) (s.delays p).0.1) ∙ ap (λ l. sent_as_told (arrival l.loses_requests now l.request_delay)) here
+
+pub told-reply : (processes k : ℕ) (arriving : List Sent) (coming : List Back) (h : List Entry) (w : Wire) (p now : ℕ) (link : Link) (t : told.Sent) → WireStands processes k arriving coming h w → link ≡ link_at w.links.items p → (link.reply_delay ≤ 6000 → t ≡ sent_as_told (arrival link.loses_replies now link.reply_delay)) → t ≡ sent_as_told (reply_arrival p now h)
+told-reply processes k arriving coming h w p now link t s is travels =
+    let here = is ∙ s.links p in
+    travels (subst (λ n. n ≤ 6000) (ap (λ l. l.reply_delay) (sym here)) (s.delays p).1.1) ∙ ap (λ l. sent_as_told (arrival l.loses_replies now l.reply_delay)) here
+
+-- what arrives does so after it was sent
+pub arrival-after : (lost : Bool) (k delay j : ℕ) → 1 ≤ delay → arrival lost k delay ≡ Some j → k < j
+arrival-after true k delay j some is = absurd (cc)
+arrival-after false k delay j some is = let same : k + delay ≡ j = ap or_zero is in omega (arith, some, same)
+
+-- ---- the wire with one more message
+
+pub wire-lost-request : (processes k step : ℕ) (arriving : List Sent) (coming : List Back) (h : List Entry) (q : Identity) (call : Call) (w : Wire) → WireStands processes k arriving coming h w → WireStands processes k arriving coming (entry k step q (Sends call None) ∷ h) w
+wire-lost-request processes k step arriving coming h q call w s =
+    record { count = s.count; links = s.links; requests = s.requests; replies = s.replies; live_requests = s.live_requests; live_replies = s.live_replies; delays = s.delays }
+
+pub wire-lost-reply : (processes k step : ℕ) (arriving : List Sent) (coming : List Back) (h : List Entry) (q : Identity) (call : Call) (reply : Reply) (written : Option Object) (w : Wire) → WireStands processes k arriving coming h w → WireStands processes k arriving coming (entry k step q (Answers call reply None written) ∷ h) w
+wire-lost-reply processes k step arriving coming h q call reply written w s =
+    record { count = s.count; links = s.links; requests = s.requests; replies = s.replies; live_requests = s.live_requests; live_replies = s.live_replies; delays = s.delays }
+
+pub wire-request : (processes k step j : ℕ) (arriving : List Sent) (coming : List Back) (h : List Entry) (q : Identity) (call : Call) (w : Wire) (f : Flight Arrived) (message : Arrived) → WireStands processes k arriving coming h w → k < j → message ≡ as_arrived (record { who = q; call = call; arrives = Some j }) → ((i : ℕ) → pending f i ≡ cond (j == i) (pending w.requests i ++ message ∷ []) (pending w.requests i)) → HasNoEmpty f → WireStands processes k arriving coming (entry k step q (Sends call (Some j)) ∷ h) (record { links = w.links; requests = f; replies = w.replies })
+wire-request processes k step j arriving coming h q call w f message s after is pushed live =
+    record {
+      count = s.count;
+      links = s.links;
+      requests = in_order-push as_arrived k j arriving (λ i. requests_due i h) (pending w.requests) (pending f) (record { who = q; call = call; arrives = Some j }) after s.requests
+          (λ i. pushed i ∙ ap (λ m. cond (j == i) (pending w.requests i ++ m ∷ []) (pending w.requests i)) is);
+      replies = s.replies;
+      live_requests = live;
+      live_replies = s.live_replies;
+      delays = s.delays;
+    }
+
+pub wire-reply : (processes k step j : ℕ) (arriving : List Sent) (coming : List Back) (h : List Entry) (q : Identity) (call : Call) (reply : Reply) (written : Option Object) (w : Wire) (f : Flight Delivered) (message : Delivered) → WireStands processes k arriving coming h w → k < j → message ≡ as_delivered (record { who = q; call = call; reply = reply; comes = Some j }) → ((i : ℕ) → pending f i ≡ cond (j == i) (pending w.replies i ++ message ∷ []) (pending w.replies i)) → HasNoEmpty f → WireStands processes k arriving coming (entry k step q (Answers call reply (Some j) written) ∷ h) (record { links = w.links; requests = w.requests; replies = f })
+wire-reply processes k step j arriving coming h q call reply written w f message s after is pushed live =
+    record {
+      count = s.count;
+      links = s.links;
+      requests = s.requests;
+      replies = in_order-push as_delivered k j coming (λ i. replies_due i h) (pending w.replies) (pending f) (record { who = q; call = call; reply = reply; comes = Some j }) after s.replies
+          (λ i. pushed i ∙ ap (λ m. cond (j == i) (pending w.replies i ++ m ∷ []) (pending w.replies i)) is);
+      live_requests = s.live_requests;
+      live_replies = live;
+      delays = s.delays;
+    }

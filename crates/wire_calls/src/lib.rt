@@ -1,0 +1,12 @@
+//! Requests and replies in flight between processes and the store.
+#![tactic(auto)]
+
+mod flight;
+mod link;
+mod message;
+#[cfg(test)]
+mod tests;
+mod wire;
+
+pub use message::{Arrived, Delivered, Sent};
+pub use wire::Wire;
