@@ -1,0 +1,3 @@
+pub mod Readings
+mod SegmentsLemmas
+mod Keeping
