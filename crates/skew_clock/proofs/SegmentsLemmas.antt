@@ -1,14 +1,15 @@
 -- What the segments of a clock say of its rates and readings.
-use Rattle.std.proofs.Common.{◌≡◌, ℕ, zero, suc, ◌+◌, ◌-◌, ◌*◌, ◌<◌, ◌≤◌, true, false, leb, leb-true, leb-false, List, [], ◌∷◌, length, map, get_or, refl, sym, ◌∙◌, subst, arith}
-use Rattle.std.specs.List.Sorted.{IsPartitionPoint}
+use Rattle.std.proofs.Common.{◌≡◌, ℕ, zero, suc, ◌+◌, ◌-◌, ◌*◌, ◌<◌, ◌≤◌, true, false, leb, leb-true, leb-false, ltb, ltb-true, ltb-false, ap, inl, inr, List, [], ◌∷◌, length, map, get_or, refl, sym, ◌∙◌, subst, arith}
+use Rattle.std.specs.List.Sorted.{IsPartitionPoint, IsNonDecreasingBy}
 use Rattle.std.proofs.Math.Nat.{mul-le-mul_left}
+use Rattle.std.proofs.lemmas.Bool.{cases_lt}
 use Rattle.std.proofs.lemmas.Bool.Decides.{nat_tests}
 use mathlib.Core.List.{reverse_aux}
 use Rattle.skew_clock.specs.Clocking.{Clocking, rate_at, reading}
-use Rattle.skew_clock.specs.Segments.{set_of, sets_of, clocking_of, IsKept}
+use Rattle.skew_clock.specs.Segments.{set_of, sets_of, clocking_of, Keeps, IsKept}
 use Rattle.skew_clock.specs.declared.clock.Segment.{Segment}
 use Rattle.skew_clock.specs.declared.clock.Clock.TheInside.{Inside}
-use Rattle.skew_clock.proofs.Readings.{reading-bound, reading-even}
+use Rattle.skew_clock.proofs.Readings.{reading-bound, reading-even, reading-monotone, reading-zero}
 
 -- a set after a beat doesn't count at the beat, and one at or before it counts before all older ones
 pub skipped : (newest : ℕ × ℕ) (older : List (ℕ × ℕ)) (j : ℕ) → j < newest.0 → rate_at (newest ∷ older) j ≡ rate_at older j
@@ -76,3 +77,50 @@ reading-segment c s beat begins begun rate =
     let even = reading-even c s.beat.0 (beat - s.beat.0) s.ppm (λ j from to. rate j from (omega arith)) in
     let same : s.beat.0 + (beat - s.beat.0) ≡ beat = omega arith in
     rw begins (sym (rw same at even))
+
+-- the segments from n on are those that begin at the reading or above
+abbrev pub AreBefore : List Segment → ℕ → ℕ → Type 0
+AreBefore segments at n = IsPartitionPoint (λ s. ltb s.reading.0 at ≡ true) (λ s. ltb s.reading.0 at ≡ false) segments n
+
+pub kept-at : (a : Inside) (n : ℕ) (s : Segment) → IsKept a → 1 ≤ n → n ≤ length a.segments.items → s ≡ get_or a.segments.items (n - 1) s → Keeps (clocking_of a) s
+kept-at a n s kept some inside found = subst (Keeps (clocking_of a)) (sym found) (kept.each (n - 1) s (omega arith))
+
+pub readings-ordered : (a : Inside) → IsKept a → IsNonDecreasingBy (λ s. s.reading.0) a.segments.items
+readings-ordered a kept i j d below inside =
+    let first = kept.each i d (omega arith) in
+    let second = kept.each j d inside in
+    let beats = kept.ordered i j d below inside in
+    rw (first.at_reading, second.at_reading) (reading-monotone (clocking_of a) _ _ beats)
+
+pub before-some : (a : Inside) (at n : ℕ) → IsKept a → 0 < at → AreBefore a.segments.items at n → 1 ≤ n
+before-some a at n kept positive before =
+    elim (cases_lt 0 n) [
+      | inl more ↦ omega arith
+      | inr none ↦
+          absurd (let d : Segment = record { beat = record { 0 = 0 }; reading = record { 0 = 0 }; ppm = 0 } in
+          let above = ltb-false _ _ (before.1 0 d none kept.some) in
+          let reads = (kept.each 0 d kept.some).at_reading in
+          let zero : (get_or a.segments.items 0 d).reading.0 ≡ 0 = reads ∙ ap (reading (clocking_of a)) (kept.first d) ∙ reading-zero (clocking_of a) in
+          omega arith)
+    ]
+
+pub before-last : (segments : List Segment) (at n : ℕ) (s : Segment) → AreBefore segments at n → 1 ≤ n → s ≡ get_or segments (n - 1) s → s.reading.0 < at
+before-last segments at n s before some found =
+    let tested = before.0 (n - 1) s (omega arith) (omega arith) in
+    ltb-true s.reading.0 at (subst (λ (t : Segment). ltb t.reading.0 at ≡ true) (sym found) tested)
+
+pub before-rate : (a : Inside) (at n : ℕ) (s : Segment) → IsKept a → AreBefore a.segments.items at n → 1 ≤ n → n ≤ length a.segments.items → s ≡ get_or a.segments.items (n - 1) s → (j : ℕ) → s.beat.0 ≤ j → reading (clocking_of a) j < at → rate_at (sets_of a.segments.items) j ≡ s.ppm
+before-rate a at n s kept before some inside found j from below =
+    let c = clocking_of a in
+    let segments = a.segments.items in
+    let later : (k : ℕ) (e : Segment) → n - 1 < k → k < length segments → j < (get_or segments k e).beat.0 =
+    λ k e after within. elim (cases_lt j (get_or segments k e).beat.0) [
+      | inl less ↦ less
+      | inr more ↦
+          absurd (let above = ltb-false _ _ (before.1 k e (omega arith) within) in
+          let reads = (kept.each k e within).at_reading in
+          let rises = reading-monotone c _ _ more in
+          omega arith)
+    ] in
+    let ran = rate_at-segment segments (n - 1) j s (omega arith) (subst (λ (t : Segment). t.beat.0 ≤ j) found from) later in
+    ran ∙ sym (subst (λ (t : Segment). s.ppm ≡ t.ppm) found refl)

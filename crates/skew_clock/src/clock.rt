@@ -1,12 +1,12 @@
 // A clock whose rate changes at beats.
-ghost use Rattle.std.specs.Prelude.{◌≡◌, ℕ, ◌+◌, ◌*◌, ◌^◌, ◌<◌, ◌≤◌, [], ◌∷◌, IfOk, OnOk, OnErr};
-ghost use Rattle.skew_clock.specs.Clocking.{rate_at, last_set, reading, wall_of, IsRate, IsEpoch, IsOffset, IsSpan};
+ghost use Rattle.std.specs.Prelude.{◌≡◌, ℕ, pos, ◌+ℤ◌, ◌+◌, ◌*◌, ◌/◌, ◌^◌, ◌<◌, ◌≤◌, [], ◌∷◌, IfOk, IfSome, IfNone, OnOk, OnErr};
+ghost use Rattle.skew_clock.specs.Clocking.{rate_at, last_set, reading, wall_of, IsFirst, IsRate, IsEpoch, IsOffset, IsSpan};
 
 use kube_base::{Beat, Local, NoMemory, Wall};
 use std::alloc::Global;
 use std::marker::Model;
 
-const MICROS_UNITS: u64 = 1_000_000;
+const UNITS_PER_MICRO: u64 = 1_000_000;
 
 // From its beat on the clock runs at its rate, on from its reading.
 #[derive(Clone, Copy, Debug)]
@@ -106,10 +106,38 @@ impl Clock {
     pub fn wall(&self, beat: Beat) -> Wall
         requires { beat.0 ≤ self.now.end }
         ensures value { result.0 ≡ wall_of self.now beat.0 }
+        ensures exact { pos result.0 ≡ pos (self.now.epoch + reading self.now beat.0 / 1000000) +ℤ self.now.offset }
         ensures range { result.0 ≤ 10 ^ 16 }
     {
-        let micros = self.local(beat).0 / MICROS_UNITS;
+        let micros = self.local(beat).0 / UNITS_PER_MICRO;
         Wall((self.epoch.0 + micros).saturating_add_signed(self.offset_micros))
+    }
+
+    /// The first beat, up to the end, at which the clock reads at least this, under the rates set so far. Takes no memory.
+    pub fn first_beat(&self, at: Local) -> Option<Beat>
+        ensures first { IfSome result (λ beat. IsFirst (reading self.now) self.now.end at.0 beat.0) }
+        ensures none { IfNone result ((k : ℕ) → k ≤ self.now.end → reading self.now k < at.0) }
+    {
+        if at.0 == 0 {
+            return Some(Beat(0));
+        }
+        let segment = self.segment_before(at);
+        let beats = (at.0 - segment.reading.0).div_ceil(segment.step(self.beat_micros));
+        if beats <= u64::from(self.end.0 - segment.beat.0) {
+            Some(Beat(segment.beat.0 + beats as u32))
+        } else {
+            None
+        }
+    }
+
+    /// The first beat, up to the end, at which the time of day is at least this, under the rates set so far. Takes no memory.
+    pub fn first_wall(&self, at: Wall) -> Option<Beat>
+        ensures first { IfSome result (λ beat. IsFirst (wall_of self.now) self.now.end at.0 beat.0) }
+        ensures none { IfNone result ((k : ℕ) → k ≤ self.now.end → wall_of self.now k < at.0) }
+    {
+        let start = self.epoch.0.saturating_add_signed(self.offset_micros);
+        let units = at.0.saturating_sub(start).checked_mul(UNITS_PER_MICRO)?;
+        self.first_beat(Local(units))
     }
 
     // The segment that the clock is in at a beat.
@@ -120,5 +148,18 @@ impl Clock {
     {
         let begun = self.segments.partition_point(|s| s.beat.0 <= beat.0);
         self.segments[begun - 1]
+    }
+
+    // The last segment that begins below a reading.
+    fn segment_before(&self, at: Local) -> Segment
+        requires { 0 < at.0 }
+        ensures begins { result.reading.0 ≡ reading self.now result.beat.0 }
+        ensures before { result.reading.0 < at.0 }
+        ensures within { result.beat.0 ≤ self.now.end }
+        ensures runs { 0 < result.ppm }
+        ensures rate { (j : ℕ) → result.beat.0 ≤ j → reading self.now j < at.0 → rate_at self.now.sets j ≡ result.ppm }
+    {
+        let below = self.segments.partition_point(|s| s.reading.0 < at.0);
+        self.segments[below - 1]
     }
 }
