@@ -6,6 +6,7 @@ use kube_base::{Beat, Local, NoMemory, Wall};
 use std::alloc::Global;
 use std::marker::Model;
 
+// A reading counts units of 10^-12 s.
 const UNITS_PER_MICRO: u64 = 1_000_000;
 
 // From its beat on the clock runs at its rate, on from its reading.
@@ -163,3 +164,6 @@ impl Clock {
         self.segments[below - 1]
     }
 }
+
+#[cfg(test)]
+mod tests;
