@@ -1,0 +1,5 @@
+pub mod Readings
+mod SegmentsLemmas
+mod Keeping
+mod FirstBeat
+pub mod Walls
