@@ -1,13 +1,13 @@
-// A library with one function.
+//! Zone states, and the rates at which the nodes of a zone are tainted. Nothing here takes memory.
 #![tactic(auto)]
 
-ghost use Rattle.std.specs.Prelude.{◌≡◌};
-ghost use Rattle.zone_state.specs.Echo.{echo_of};
+mod policies;
+mod state;
+mod view;
 
-// The `ensures` clause is the contract: what `echo` returns is `echo_of` of its argument, a definition
-// in `specs/Echo.antt`, which a caller's clause can cite too.
-pub fn echo(x: usize) -> usize
-    ensures { result ≡ echo_of x }
-{
-    x
-}
+pub use policies::{FullRate, PartialRate, Policies};
+pub use state::state_of;
+pub use view::ZoneView;
+
+#[cfg(test)]
+mod tests;

@@ -39,8 +39,8 @@ fn first_tolerating(tolerations: &Tolerations, taint: &Taint) -> Option<Tolerati
     tolerations
         .as_slice()
         .iter()
-        .find(|toleration| tolerates(toleration, taint))
         .copied()
+        .find(|toleration| tolerates(toleration, taint))
 }
 
 fn taint_due(tolerations: &Tolerations, taint: &Taint) -> Due
