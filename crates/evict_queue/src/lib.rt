@@ -1,13 +1,12 @@
-// A library with one function.
+//! Pods by the time at which they are due to be evicted.
 #![tactic(auto)]
 
-ghost use Rattle.std.specs.Prelude.{◌≡◌};
-ghost use Rattle.evict_queue.specs.Echo.{echo_of};
+mod change;
+mod dues;
+mod queue;
+mod timed;
 
-// The `ensures` clause is the contract: what `echo` returns is `echo_of` of its argument, a definition
-// in `specs/Echo.antt`, which a caller's clause can cite too.
-pub fn echo(x: usize) -> usize
-    ensures { result ≡ echo_of x }
-{
-    x
-}
+pub use queue::EvictQueue;
+
+#[cfg(test)]
+mod tests;

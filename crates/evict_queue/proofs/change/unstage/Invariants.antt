@@ -1,0 +1,12 @@
+use Rattle.std.proofs.Common.{◌≡◌, ℕ, length}
+use Rattle.kube_objects.specs.declared.key.Key.{Key}
+use Rattle.evict_queue.specs.Ahead.{Ahead, HasRoomsBut, IsWithin, MissesAtMost}
+use Rattle.evict_queue.specs.Changed.{changed, KeysDiffer}
+use Rattle.evict_queue.specs.Held.{due_of}
+use Rattle.evict_queue.proofs.change.unstage.Given as goal
+
+abbrev pub decreases-loop-pair : goal.decreases-loop-pair
+decreases-loop-pair l = length l.rest
+
+abbrev pub invariant-loop-pair : goal.invariant-loop-pair
+invariant-loop-pair l = IsWithin l.dues l.timed l.rest
