@@ -1,10 +1,15 @@
+ghost use Rattle.std.specs.Prelude.{◌≡◌};
+ghost use Rattle.kube_objects.specs.declared.key.Kind.TheVariants.{Pod};
+
 use super::*;
 use kube_base::{ListOf, Steps};
 use kube_objects::{Due, Key, Kind};
 use std::sync::ledger::Blank;
 use std::test::Fail;
 
-fn pod(name: u32) -> Key {
+fn pod(name: u32) -> Key
+    ensures { result ≡ record { kind = Pod; space = 1; name = name } }
+{
     Key {
         kind: Kind::Pod,
         space: 1,
