@@ -1,5 +1,5 @@
 -- What it means that the two maps of an eviction queue are in step.
-use Rattle.std.proofs.Common.{◌≡◌, ℕ, ◌≤◌, Bool, true, false, not, ◌&&◌, ◌||◌, ◌==◌, List, [], ◌∷◌, Option, Some, None, cond, refl, ap, sym, ◌∙◌, subst, arith, is_some, unwrap_or}
+use Rattle.std.proofs.Common.{◌≡◌, ℕ, Bool, true, false, not, ◌&&◌, ◌||◌, ◌==◌, List, [], ◌∷◌, cond, refl, ap, sym, ◌∙◌, subst, arith, is_some}
 use Rattle.std.proofs.lemmas.Bool.Decides.{nat_tests}
 use Rattle.kube_objects.specs.declared.key.Key.{Key}
 use Rattle.kube_objects.specs.declared.pod.Due.{Due}
@@ -7,11 +7,11 @@ use Rattle.kube_objects.specs.declared.pod.Due.TheVariants.{Never, At}
 use Rattle.kube_objects.specs.Keys.{key_eq}
 use Rattle.evict_queue.specs.Ahead.{Ahead, HasRoomsBut, InStep, IsPart, IsWithin, MissesAtMost}
 use Rattle.evict_queue.specs.Order.{is_entry}
-use Rattle.evict_queue.specs.Changed.{changed, is_time, names_key, sets_time, KeysDiffer}
+use Rattle.evict_queue.specs.Changed.{changed, is_time, names_key, sets_time}
 use Rattle.evict_queue.specs.Held.{due_of, has_entry, room_of}
 use Rattle.evict_queue.specs.declared.dues.Dues.{Dues}
 use Rattle.evict_queue.specs.declared.timed.Timed.{Timed}
-use Rattle.evict_queue.proofs.KeyOrder.{same_key, key_itself}
+use Rattle.evict_queue.proofs.KeyOrder.{same_key}
 
 time_itself : (time : ℕ) → (time == time) ≡ true
 time_itself time = grind (arith, nat_tests)

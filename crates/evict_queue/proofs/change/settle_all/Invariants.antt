@@ -1,6 +1,6 @@
 use Rattle.std.proofs.Common.{◌≡◌, [], length}
 use Rattle.kube_objects.specs.declared.key.Key.{Key}
-use Rattle.evict_queue.specs.Ahead.{Ahead, HasRoomsBut, IsWithin, MissesAtMost}
+use Rattle.evict_queue.specs.Ahead.{Ahead, HasRoomsBut}
 use Rattle.evict_queue.specs.Changed.{changed, KeysDiffer}
 use Rattle.evict_queue.specs.Held.{due_of}
 use Rattle.evict_queue.proofs.change.settle_all.Given as goal

@@ -1,8 +1,5 @@
-use Rattle.std.proofs.Common.{◌≡◌, ℕ, length}
-use Rattle.kube_objects.specs.declared.key.Key.{Key}
-use Rattle.evict_queue.specs.Ahead.{Ahead, HasRoomsBut, IsWithin, MissesAtMost}
-use Rattle.evict_queue.specs.Changed.{changed, KeysDiffer}
-use Rattle.evict_queue.specs.Held.{due_of}
+use Rattle.std.proofs.Common.{length}
+use Rattle.evict_queue.specs.Ahead.{IsWithin}
 use Rattle.evict_queue.proofs.change.unstage.Given as goal
 
 abbrev pub decreases-loop-pair : goal.decreases-loop-pair

@@ -1,4 +1,4 @@
-use Rattle.std.proofs.Common.{None, sym, ap, ◌∙◌, unwrap_or}
+use Rattle.std.proofs.Common.{None, ap, ◌∙◌, unwrap_or}
 use Rattle.kube_objects.specs.declared.pod.Due.TheVariants.{Never}
 use Rattle.evict_queue.proofs.KeyOrder.{updated, got}
 use Rattle.evict_queue.proofs.dues.Dues.remove.Goals as goal

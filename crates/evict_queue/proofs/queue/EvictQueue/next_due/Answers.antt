@@ -1,5 +1,5 @@
-use Rattle.std.proofs.Common.{◌≡◌, ℕ, ◌≤◌, ap, sym, ◌∙◌, subst, arith}
-use Rattle.kube_objects.specs.declared.pod.Due.TheVariants.{Never, At}
+use Rattle.std.proofs.Common.{◌≡◌, ℕ, ◌≤◌, sym, ◌∙◌, subst, arith}
+use Rattle.kube_objects.specs.declared.pod.Due.TheVariants.{At}
 use Rattle.evict_queue.specs.Order.{IsNotAfter}
 use Rattle.evict_queue.proofs.KeyOrder.{time_of_first}
 use Rattle.evict_queue.proofs.QueueLaws.{due_there, has_time, nothing_due}
