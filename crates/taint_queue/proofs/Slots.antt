@@ -5,7 +5,7 @@ use Rattle.std.proofs.lemmas.Bool.{cases_eq, cases_lt}
 use Rattle.std.proofs.lemmas.Option.{slice_get-get_or, slice_get_past, slice_get_within}
 use Rattle.std.proofs.lemmas.Bool.Decides.{nat_tests}
 use Rattle.std.specs.List.{slice_get}
-use Rattle.taint_queue.specs.Order.{comes_first, earlier, earliest}
+use Rattle.taint_queue.specs.Order.{comes_first, earliest}
 use Rattle.taint_queue.specs.Tidy.{best, IsTidy, IsTidyBut}
 use Rattle.taint_queue.specs.declared.waiting.Waiting.{Waiting}
 
@@ -27,13 +27,13 @@ best_same waiting least i at v left right =
     ∙ ap (λ x. earliest (earliest (slice_get waiting i) (slice_get least (2 * i + 1))) x) (get_set_other least at (2 * i + 2) v right)
 
 written : (waiting least : List Waiting) (at : ℕ) (v : Waiting) → at < length least → Some v ≡ best waiting least at
-  → slice_get (set least at v) at ≡ best waiting (set least at v) at
+    → slice_get (set least at v) at ≡ best waiting (set least at v) at
 written waiting least at v h is =
     get_set_same least at v h ∙ is ∙ sym (best_same waiting least at at v (λ e. omega (arith, e)) (λ e. omega (arith, e)))
 
 -- the slot above is the one that a write may leave untidy
 pub one_up : (waiting least : List Waiting) (at : ℕ) (v : Waiting) → IsTidyBut waiting least at → 0 < at → at < length least → Some v ≡ best waiting least at
-  → IsTidyBut waiting (set least at v) ((at - 1) / 2)
+    → IsTidyBut waiting (set least at v) ((at - 1) / 2)
 one_up waiting least at v tidy up h is i apart = by_slot (cases_eq i at)
   where
     left : 2 * i + 1 ≢ at
@@ -48,7 +48,7 @@ one_up waiting least at v tidy up h is i apart = by_slot (cases_eq i at)
 
 -- above the first slot there is none
 pub at_top : (waiting least : List Waiting) (v : Waiting) → IsTidyBut waiting least 0 → 0 < length least → Some v ≡ best waiting least 0
-  → IsTidy waiting (set least 0 v)
+    → IsTidy waiting (set least 0 v)
 at_top waiting least v tidy h is i = by_slot (cases_eq i 0)
   where
     by_slot : (i ≡ 0) ⊎ (i ≢ 0) → slice_get (set least 0 v) i ≡ best waiting (set least 0 v) i
@@ -56,7 +56,7 @@ at_top waiting least v tidy h is i = by_slot (cases_eq i 0)
     by_slot (inr ne) = get_set_other least 0 i v ne ∙ tidy i ne ∙ sym (best_same waiting least i 0 v (λ e. omega (arith, e)) (λ e. omega (arith, e)))
 
 -- ---- a slot at the end
-front_same : (xs ys : List Waiting) (k : ℕ) → k < length xs → slice_get (xs ++ ys) k ≡ slice_get xs k
+pub front_same : (xs ys : List Waiting) (k : ℕ) → k < length xs → slice_get (xs ++ ys) k ≡ slice_get xs k
 front_same [] ys k h = absurd (omega (arith, h))
 front_same (x ∷ xs) ys zero h = refl
 front_same (x ∷ xs) ys (suc k) h = front_same xs ys k (omega (arith, h))
@@ -69,13 +69,13 @@ same_beside xs ys k long apart = by_order (cases_lt k (length xs))
     by_order (inr h) = slice_get_past (xs ++ ys) k (omega (arith, h, apart, long)) ∙ sym (slice_get_past xs k h)
 
 best_beside : (ws ls wr lr : List Waiting) (i n : ℕ) → n ≡ length ws → n ≡ length ls → length (ws ++ wr) ≤ length ws + 1 → length (ls ++ lr) ≤ length ls + 1
-  → i ≢ n → 2 * i + 1 ≢ n → 2 * i + 2 ≢ n → best (ws ++ wr) (ls ++ lr) i ≡ best ws ls i
+    → i ≢ n → 2 * i + 1 ≢ n → 2 * i + 2 ≢ n → best (ws ++ wr) (ls ++ lr) i ≡ best ws ls i
 best_beside ws ls wr lr i n wn ln wl ll own left right =
     ap (λ x. earliest (earliest x (slice_get (ls ++ lr) (2 * i + 1))) (slice_get (ls ++ lr) (2 * i + 2))) (same_beside ws wr i wl (λ e. own (e ∙ sym wn)))
     ∙ ap (λ x. earliest (earliest (slice_get ws i) x) (slice_get (ls ++ lr) (2 * i + 2))) (same_beside ls lr (2 * i + 1) ll (λ e. left (e ∙ sym ln)))
     ∙ ap (λ x. earliest (earliest (slice_get ws i) (slice_get ls (2 * i + 1))) x) (same_beside ls lr (2 * i + 2) ll (λ e. right (e ∙ sym ln)))
 
-end_of : (xs : List Waiting) (w : Waiting) → slice_get (xs ++ w ∷ []) (length xs) ≡ Some w
+pub end_of : (xs : List Waiting) (w : Waiting) → slice_get (xs ++ w ∷ []) (length xs) ≡ Some w
 end_of [] w = refl
 end_of (x ∷ xs) w = end_of xs w
 
@@ -84,7 +84,7 @@ one_more xs w = omega (arith, length-append xs (w ∷ []))
 
 -- a slot was added at the end, below the slot (n - 1) / 2
 pub pushed_tidy : (waiting least : List Waiting) (w : Waiting) (n : ℕ) → IsTidy waiting least → n ≡ length waiting → n ≡ length least → 0 < n
-  → IsTidyBut (waiting ++ w ∷ []) (least ++ w ∷ []) ((n - 1) / 2)
+    → IsTidyBut (waiting ++ w ∷ []) (least ++ w ∷ []) ((n - 1) / 2)
 pushed_tidy waiting least w n tidy wn ln up i apart = by_slot (cases_eq i n)
   where
     ws : List Waiting
@@ -100,15 +100,15 @@ pushed_tidy waiting least w n tidy wn ln up i apart = by_slot (cases_eq i n)
     by_slot (inl e) =
         ap (slice_get ls) (e ∙ ln) ∙ end_of least w
         ∙ sym (ap (λ x. earliest (earliest x (slice_get ls (2 * i + 1))) (slice_get ls (2 * i + 2))) (ap (slice_get ws) (e ∙ wn) ∙ end_of waiting w)
-          ∙ ap (λ x. earliest (earliest (Some w) x) (slice_get ls (2 * i + 2))) (past (2 * i + 1) (omega (arith, e)))
-          ∙ ap (λ x. earliest (Some w) x) (past (2 * i + 2) (omega (arith, e))))
+        ∙ ap (λ x. earliest (earliest (Some w) x) (slice_get ls (2 * i + 2))) (past (2 * i + 1) (omega (arith, e)))
+        ∙ ap (λ x. earliest (Some w) x) (past (2 * i + 2) (omega (arith, e))))
     by_slot (inr ne) =
         same_beside least (w ∷ []) i (one_more least w) (λ e. ne (e ∙ sym ln)) ∙ tidy i
         ∙ sym (best_beside waiting least (w ∷ []) (w ∷ []) i n wn ln (one_more waiting w) (one_more least w) ne (λ e. apart (omega (arith, e))) (λ e. apart (omega (arith, e))))
 
 -- the slot at the end was taken out
 pub popped_tidy : (ws ls wr lr : List Waiting) (n : ℕ) → IsTidy (ws ++ wr) (ls ++ lr) → n ≡ length ws → n ≡ length ls → length (ws ++ wr) ≤ length ws + 1 → length (ls ++ lr) ≤ length ls + 1 → 0 < n
-  → IsTidyBut ws ls ((n - 1) / 2)
+    → IsTidyBut ws ls ((n - 1) / 2)
 popped_tidy ws ls wr lr n tidy wn ln wl ll up i apart = by_order (cases_lt i n)
   where
     past : (k : ℕ) → n ≤ k → slice_get ls k ≡ None
@@ -121,8 +121,8 @@ popped_tidy ws ls wr lr n tidy wn ln wl ll up i apart = by_order (cases_lt i n)
     by_order (inr h) =
         past i h
         ∙ sym (ap (λ x. earliest (earliest x (slice_get ls (2 * i + 1))) (slice_get ls (2 * i + 2))) (slice_get_past ws i (omega (arith, wn, h)))
-          ∙ ap (λ x. earliest x (slice_get ls (2 * i + 2))) (past (2 * i + 1) (omega (arith, h)))
-          ∙ past (2 * i + 2) (omega (arith, h)))
+        ∙ ap (λ x. earliest x (slice_get ls (2 * i + 2))) (past (2 * i + 1) (omega (arith, h)))
+        ∙ past (2 * i + 2) (omega (arith, h)))
 
 -- the entry of a slot was replaced
 pub put_tidy : (waiting least : List Waiting) (slot : ℕ) (w : Waiting) → IsTidy waiting least → IsTidyBut (set waiting slot w) least slot
@@ -227,33 +227,33 @@ earliest_of (Some a) (Some b) v h = by_test (comes_first a b) h
 
 -- what a slot has is the node of some slot
 attained : (waiting least : List Waiting) → IsTidy waiting least → (n i : ℕ) (v : Waiting) → length least ≤ n + i → slice_get least i ≡ Some v
-  → (slot : ℕ) × (slice_get waiting slot ≡ Some v)
+    → (slot : ℕ) × (slice_get waiting slot ≡ Some v)
 attained waiting least tidy zero i v long h = absurd (omega (arith, slice_get_within least i v h, long))
 attained waiting least tidy (suc n) i v long h =
     from_side (earliest_of (earliest (slice_get waiting i) (slice_get least (2 * i + 1))) (slice_get least (2 * i + 2)) v (sym (tidy i) ∙ h))
-      (attained waiting least tidy n (2 * i + 1) v (omega (arith, long)))
-      (attained waiting least tidy n (2 * i + 2) v (omega (arith, long)))
+    (attained waiting least tidy n (2 * i + 1) v (omega (arith, long)))
+    (attained waiting least tidy n (2 * i + 2) v (omega (arith, long)))
   where
     from_pair : (slice_get waiting i ≡ Some v) ⊎ (slice_get least (2 * i + 1) ≡ Some v) → (slice_get least (2 * i + 1) ≡ Some v → (slot : ℕ) × (slice_get waiting slot ≡ Some v)) → (slot : ℕ) × (slice_get waiting slot ≡ Some v)
     from_pair (inl e) f = (i, e)
     from_pair (inr e) f = f e
 
     from_side : (earliest (slice_get waiting i) (slice_get least (2 * i + 1)) ≡ Some v) ⊎ (slice_get least (2 * i + 2) ≡ Some v)
-      → (slice_get least (2 * i + 1) ≡ Some v → (slot : ℕ) × (slice_get waiting slot ≡ Some v)) → (slice_get least (2 * i + 2) ≡ Some v → (slot : ℕ) × (slice_get waiting slot ≡ Some v))
-      → (slot : ℕ) × (slice_get waiting slot ≡ Some v)
+        → (slice_get least (2 * i + 1) ≡ Some v → (slot : ℕ) × (slice_get waiting slot ≡ Some v)) → (slice_get least (2 * i + 2) ≡ Some v → (slot : ℕ) × (slice_get waiting slot ≡ Some v))
+        → (slot : ℕ) × (slice_get waiting slot ≡ Some v)
     from_side (inl e) f g = from_pair (earliest_of (slice_get waiting i) (slice_get least (2 * i + 1)) v e) f
     from_side (inr e) f g = g e
 
 -- what the first slot has, if there is one
 pub first_there : (waiting least : List Waiting) → IsTidy waiting least → (r : Option Waiting) → r ≡ slice_get least 0
-  → IfSome r (λ first. (slot : ℕ) × (slice_get waiting slot ≡ Some first))
+    → IfSome r (λ first. (slot : ℕ) × (slice_get waiting slot ≡ Some first))
 first_there waiting least tidy None e = tt
 first_there waiting least tidy (Some v) e = attained waiting least tidy (length least) 0 v (omega arith) (sym e)
 
 pub first_least : (waiting least : List Waiting) → IsTidy waiting least → (r : Option Waiting) → r ≡ slice_get least 0
-  → IfSome r (λ first. (slot : ℕ) (entry : Waiting) → slice_get waiting slot ≡ Some entry → comes_first first entry ≡ true)
+    → IfSome r (λ first. (slot : ℕ) (entry : Waiting) → slice_get waiting slot ≡ Some entry → comes_first first entry ≡ true)
 first_least waiting least tidy None e = tt
 first_least waiting least tidy (Some v) e = λ slot entry h.
     subst (λ x. Leq x (Some entry)) (sym e)
-      (subst (λ x. Leq (slice_get least 0) x) h
-        (leq_trans (slice_get least 0) (slice_get least slot) (slice_get waiting slot) (lower waiting least tidy slot slot (omega arith)) (leq_own waiting least tidy slot)))
+    (subst (λ x. Leq (slice_get least 0) x) h
+    (leq_trans (slice_get least 0) (slice_get least slot) (slice_get waiting slot) (lower waiting least tidy slot slot (omega arith)) (leq_own waiting least tidy slot)))

@@ -4,8 +4,6 @@ use Rattle.std.specs.BTreeMap.{get, BTreeMap}
 use Rattle.std.specs.Option.{option_map}
 use Rattle.std.specs.Ordering.{nat_cmp}
 use Rattle.kube_base.specs.declared.numbers.Beat.{Beat}
-use Rattle.taint_queue.specs.Slots.{slots}
-use Rattle.taint_queue.specs.declared.tournament.Tournament.{Tournament}
 use Rattle.taint_queue.specs.declared.waiting.Waiting.{Waiting}
 
 -- the slot that is kept for a node

@@ -1,5 +1,5 @@
 // The queue of waiting nodes.
-ghost use Rattle.std.specs.Prelude.{◌≡◌, ℕ, ◌==◌, true, None, Some, IfSome, IfNone, OnOk, OnErr, unwrap_or, if◌then◌else◌};
+ghost use Rattle.std.specs.Prelude.{◌≡◌, ℕ, ◌<◌, ◌==◌, true, None, Some, IsSome, IfSome, IfNone, length, slice_set, OnOk, OnErr, unwrap_or, if◌then◌else◌};
 ghost use Rattle.taint_queue.specs.Placed.{HasItsNode, IsKept, place};
 ghost use Rattle.taint_queue.specs.Slots.{slots};
 
@@ -20,6 +20,19 @@ pub struct Queue {
     tree: Tournament,
     ghost has_its_node: { HasItsNode (place places) (slots tree) },
     ghost is_kept: { IsKept (place places) (slots tree) },
+}
+
+// Moves a node into a slot.
+fn fill(places: &mut BTreeMap<u32, usize>, tree: &mut Tournament, slot: usize, last: Waiting)
+    requires known { IsSome (place places.old last.node) }
+    requires within { slot < length (slots tree.old) }
+    ensures moved { (q : ℕ) → place places.new q ≡ (if last.node == q then Some slot else place places.old q) }
+    ensures filled { slots tree.new ≡ slice_set (slots tree.old) slot last }
+{
+    let Ok(_) = places.insert(last.node, slot) else {
+        unreachable!()
+    };
+    tree.put(slot, last);
 }
 
 impl Queue {
@@ -63,20 +76,17 @@ impl Queue {
             return;
         };
         let Some(last) = self.tree.pop() else {
-            return;
+            unreachable!()
         };
         if last.node != node {
-            let Ok(_) = self.places.insert(last.node, slot) else {
-                unreachable!()
-            };
-            self.tree.put(slot, last);
+            fill(&mut self.places, &mut self.tree, slot, last);
         }
     }
 
     /// The node that waits since the least beat, and of equal ones the least; none exactly where nobody waits. Takes no
     /// memory.
     pub fn head(&self) -> Option<u32>
-        ensures first { IfSome result (λ node. (at : Since) × (waits_since self.now node ≡ Some at) × ((other : ℕ) (then : Since) → waits_since self.now other ≡ Some then → precedes at.0 node then.0 other ≡ true)) }
+        ensures first { IfSome result (λ node. (at : Since) × (waits_since self.now node ≡ Some at) × ((other : ℕ) (since : Since) → waits_since self.now other ≡ Some since → precedes at.0 node since.0 other ≡ true)) }
         ensures none { IfNone result ((node : ℕ) → waits_since self.now node ≡ None) }
     {
         match self.tree.first() {
@@ -92,5 +102,49 @@ impl Queue {
         if let Some(slot) = self.places.get(&node) {
             self.tree.put(*slot, Waiting { at, node });
         }
+    }
+}
+
+#[cfg(test)]
+mod tests {
+    use super::*;
+    use std::test::Fail;
+
+    #[test]
+    fn the_least_beat_and_then_the_least_node_is_the_head(rt: HostRuntime) -> Result<(), Fail> {
+        let mut queue = Queue::new(rt.alloc());
+        assert_eq!(rt; queue.head(), None);
+        queue.want(10, Beat(5))?;
+        queue.want(11, Beat(5))?;
+        assert_eq!(rt; queue.head(), Some(10));
+        queue.to_back(10, Beat(7));
+        assert_eq!(rt; queue.head(), Some(11));
+        queue.want(10, Beat(9))?;
+        queue.leave(11);
+        assert_eq!(rt; queue.head(), Some(10));
+        queue.want(3, Beat(7))?;
+        assert_eq!(rt; queue.head(), Some(3));
+        queue.leave(3);
+        queue.leave(10);
+        queue.leave(10);
+        assert_eq!(rt; queue.head(), None);
+        Ok(())
+    }
+
+    #[test]
+    fn many_nodes_wait_in_order(rt: HostRuntime) -> Result<(), Fail> {
+        let mut queue = Queue::new(rt.alloc());
+        for i in 0..20u32 {
+            queue.want(i, Beat((i * 7) % 20))?;
+        }
+        let heads = [
+            0, 3, 6, 9, 12, 15, 18, 1, 4, 7, 10, 13, 16, 19, 2, 5, 8, 11, 14, 17,
+        ];
+        for head in heads {
+            assert_eq!(rt; queue.head(), Some(head));
+            queue.leave(head);
+        }
+        assert_eq!(rt; queue.head(), None);
+        Ok(())
     }
 }

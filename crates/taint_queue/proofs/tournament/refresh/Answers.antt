@@ -1,4 +1,4 @@
-use Rattle.std.proofs.Common.{◌≡◌, ◌<◌, ◌≤◌, ◌-◌, ◌/◌, length, subst, arith}
+use Rattle.std.proofs.Common.{◌≡◌, ◌<◌, ◌-◌, ◌/◌, length, subst, arith}
 use Rattle.taint_queue.specs.Tidy.{IsTidyBut}
 use Rattle.taint_queue.proofs.Slots.{one_up, at_top}
 use Rattle.taint_queue.proofs.tournament.refresh.Goals as goal

@@ -1,4 +1,4 @@
-use Rattle.std.proofs.Common.{◌≡◌, ℕ, ◌+◌, ◌-◌, ◌/◌, ◌<◌, ◌≤◌, ◌++◌, Option, Some, None, MatchOption, length, vec_len, ap, sym, ◌∙◌, subst, rules, arith}
+use Rattle.std.proofs.Common.{◌≡◌, ℕ, ◌+◌, ◌-◌, ◌/◌, ◌<◌, ◌≤◌, ◌++◌, Option, Some, None, MatchOption, length, vec_len, ap, sym, subst, rules, arith}
 use Rattle.std.specs.Option.{option_to_list}
 use Rattle.taint_queue.specs.Tidy.{IsTidy, IsTidyBut}
 use Rattle.taint_queue.specs.declared.waiting.Waiting.{Waiting}
@@ -41,4 +41,4 @@ refresh-requires-clause-tidy c =
     let wv : ws ≡ c.as_slice.result.now = sym c.as_slice.ensures.value in
     let lv : ls ≡ c.as_mut_slice.result.now = sym c.as_mut_slice.ensures.value in
     subst (λ xs. IsTidyBut c.as_slice.result.now xs ((n - 1) / 2)) lv
-      (subst (λ xs. IsTidyBut xs ls ((n - 1) / 2)) wv (popped_tidy ws ls wr lr n tidy wn ln wl ll up))
+    (subst (λ xs. IsTidyBut xs ls ((n - 1) / 2)) wv (popped_tidy ws ls wr lr n tidy wn ln wl ll up))

@@ -1,4 +1,4 @@
-use Rattle.std.proofs.Common.{◌≡◌, ◌-◌, ◌/◌, ◌<◌, [], ◌∷◌, ◌++◌, length, sym, subst, rules, arith}
+use Rattle.std.proofs.Common.{◌≡◌, ◌-◌, ◌/◌, ◌<◌, [], ◌∷◌, ◌++◌, length, subst, rules, arith}
 use Rattle.taint_queue.specs.Tidy.{IsTidyBut}
 use Rattle.taint_queue.proofs.Slots.{pushed_tidy}
 use Rattle.taint_queue.proofs.tournament.Tournament.push.Goals as goal
@@ -14,4 +14,4 @@ refresh-requires-clause-tidy c =
     let ws : waiting ++ c.args.entry ∷ [] ≡ c.as_slice.result.now = search rules in
     let ls : least ++ c.args.entry ∷ [] ≡ c.as_mut_slice.result.now = search rules in
     subst (λ xs. IsTidyBut c.as_slice.result.now xs ((n - 1) / 2)) ls
-      (subst (λ xs. IsTidyBut xs (least ++ c.args.entry ∷ []) ((n - 1) / 2)) ws (pushed_tidy waiting least c.args.entry n c.args.self.now.tidy wn ln up))
+    (subst (λ xs. IsTidyBut xs (least ++ c.args.entry ∷ []) ((n - 1) / 2)) ws (pushed_tidy waiting least c.args.entry n c.args.self.now.tidy wn ln up))
