@@ -1,4 +1,4 @@
--- The order of due pods: by due time, then by key.
+-- The order of due pods: by due time, then by key (profile).
 use Rattle.std.specs.Prelude.{◌≡◌, ℕ, Bool, false, ◌==◌, ◌&&◌}
 use Rattle.std.specs.Ordering.{nat_cmp, ordering_then, is_gt}
 use Rattle.std.specs.declared.cmp.Ordering.{Ordering}

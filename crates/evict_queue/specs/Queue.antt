@@ -1,4 +1,4 @@
--- What an eviction queue keeps: a due for each pod. What orders the dues is not seen.
+-- What an eviction queue keeps: a due for each pod. What orders the dues is not seen (profile).
 use Rattle.kube_objects.specs.declared.key.Key.{Key}
 use Rattle.kube_objects.specs.declared.pod.Due.{Due}
 use Rattle.evict_queue.specs.Held.{due_of}

@@ -1,4 +1,5 @@
 -- The order of waiting nodes: by the beat since which they wait, then by number.
+-- Profile. The node lifecycle controller of Kubernetes tries waiting nodes in the order in which they came.
 use Rattle.std.specs.Prelude.{ℕ, Bool, nat_lt, nat_le, ◌==◌, ◌&&◌, ◌||◌, Option, Some, None, if◌then◌else◌}
 use Rattle.taint_queue.specs.declared.waiting.Waiting.{Waiting}
 

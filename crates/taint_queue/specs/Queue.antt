@@ -1,4 +1,4 @@
--- What a queue of waiting nodes keeps.
+-- What a queue of waiting nodes keeps (profile).
 use Rattle.std.specs.Prelude.{ℕ, Option}
 use Rattle.kube_base.specs.declared.numbers.Beat.{Beat}
 use Rattle.taint_queue.specs.Placed.{beat_at, place}
