@@ -12,5 +12,7 @@ pub mod Newest
 pub mod Process
 pub mod Stamps
 pub mod Stored
+pub mod Tolerations
 pub mod Turns
 pub mod Wire
+pub mod Zones

@@ -1,0 +1,173 @@
+-- The derived orders of the maps' keys are those that the definitions name.
+use Rattle.std.proofs.Common.{◌≡◌, ℕ, ◌≤◌, Bool, true, false, cond, not, ◌&&◌, ◌||◌, ◌==◌, Some, None, refl, ap, sym, ◌∙◌, subst, arith, Less, Equal, Greater}
+use Rattle.std.proofs.lemmas.Bool.Decides.{nat_tests}
+use Rattle.std.specs.Ordering.{nat_cmp, ordering_then, is_eq, is_gt}
+use Rattle.std.specs.declared.cmp.Ordering.{Ordering}
+use Rattle.std.specs.BTreeSet as set
+use Rattle.std.specs.BTreeSet.{BTreeSet}
+use Rattle.std.specs.BTreeMap as tree
+use Rattle.std.specs.BTreeMap.{BTreeMap}
+use Rattle.std.specs.Prelude.{Option, IsTrue, IsSome, is_some, unwrap_or}
+use Rattle.kube_objects.specs.declared.key.Key.{Key}
+use Rattle.kube_objects.specs.declared.key.Kind.{Kind}
+use Rattle.kube_objects.specs.declared.key.Kind.TheVariants.{Node, Lease, Pod}
+use Rattle.kube_objects.specs.declared.pod.Due.{Due}
+use Rattle.kube_objects.specs.declared.pod.Due.TheVariants.{Never}
+use Rattle.kube_objects.specs.contracts.key.KeyOrd.TheImpl as key_ord
+use Rattle.kube_objects.specs.contracts.key.KindOrd.TheImpl as kind_ord
+use Rattle.kube_objects.specs.Keys.{key_cmp, key_eq, kind_rank}
+use Rattle.evict_queue.specs.Order.{timed_cmp, is_entry}
+
+kind_order : (a b : Kind) → (kind_ord.cmp-value).it a b ≡ nat_cmp (kind_rank a) (kind_rank b)
+kind_order Node Node = refl
+kind_order Node Lease = refl
+kind_order Node Pod = refl
+kind_order Lease Node = refl
+kind_order Lease Lease = refl
+kind_order Lease Pod = refl
+kind_order Pod Node = refl
+kind_order Pod Lease = refl
+kind_order Pod Pod = refl
+
+key_order_at : (a b : Key) → (key_ord.cmp-value).it a b ≡ key_cmp a b
+key_order_at a b = ap (λ o. ordering_then o (ordering_then (nat_cmp a.space b.space) (nat_cmp a.name b.name))) (kind_order a.kind b.kind)
+
+-- one function, so a map's clause by the derived order is rewritten whole, by `subst`
+pub key_order : (key_ord.cmp-value).it ≡ key_cmp
+key_order = λ i a b. key_order_at a b i
+
+-- by number and then by an order of keys
+abbrev pub pairs_by : (Key → Key → Ordering) → ℕ × Key → ℕ × Key → Ordering
+pairs_by cmp a b = ordering_then (nat_cmp a.0 b.0) (cmp a.1 b.1)
+
+then_eq : (o p : Ordering) → is_eq (ordering_then o p) ≡ (is_eq o && is_eq p)
+then_eq Less p = refl
+then_eq Equal p = refl
+then_eq Greater p = refl
+
+nat_cmp_eq : (a b : ℕ) → is_eq (nat_cmp a b) ≡ (a == b)
+nat_cmp_eq a b = grind (arith, nat_tests)
+
+-- the order doesn't tell an entry from itself alone
+pub entry_eq : (due : ℕ) (key : Key) (d : ℕ) (k : Key) → is_eq (timed_cmp (due, key) (d, k)) ≡ is_entry due key d k
+entry_eq due key d k = then_eq (nat_cmp due d) (key_cmp key k) ∙ ap (λ b. b && key_eq key k) (nat_cmp_eq due d)
+
+cond_or : (b c : Bool) → cond b true c ≡ (b || c)
+cond_or true c = refl
+cond_or false c = refl
+
+cond_and : (b c : Bool) → cond b false c ≡ (not b && c)
+cond_and true c = refl
+cond_and false c = refl
+
+-- an entry was added to the ordered map
+pub added : (m n : BTreeSet (ℕ × Key)) (due : ℕ) (key : Key) → set.Updates (pairs_by (key_ord.cmp-value).it) m n (due, key) true
+    → (d : ℕ) (k : Key) → set.contains timed_cmp n (d, k) ≡ (is_entry due key d k || set.contains timed_cmp m (d, k))
+added m n due key u d k =
+    (subst (λ cmp. set.Updates (pairs_by cmp) m n (due, key) true) key_order u).0 (d, k)
+    ∙ cond_or (is_eq (timed_cmp (due, key) (d, k))) (set.contains timed_cmp m (d, k))
+    ∙ ap (λ b. b || set.contains timed_cmp m (d, k)) (entry_eq due key d k)
+
+-- an entry was taken out of it
+pub taken : (m n : BTreeSet (ℕ × Key)) (due : ℕ) (key : Key) → set.Updates (pairs_by (key_ord.cmp-value).it) m n (due, key) false
+    → (d : ℕ) (k : Key) → set.contains timed_cmp n (d, k) ≡ (not (is_entry due key d k) && set.contains timed_cmp m (d, k))
+taken m n due key u d k =
+    (subst (λ cmp. set.Updates (pairs_by cmp) m n (due, key) false) key_order u).0 (d, k)
+    ∙ cond_and (is_eq (timed_cmp (due, key) (d, k))) (set.contains timed_cmp m (d, k))
+    ∙ ap (λ b. not b && set.contains timed_cmp m (d, k)) (entry_eq due key d k)
+
+-- no entry is below the first
+pub none_below : (m : BTreeSet (ℕ × Key)) (p : ℕ × Key) → set.IsLowerBound (pairs_by (key_ord.cmp-value).it) m p
+    → (d : ℕ) (k : Key) → set.contains timed_cmp m (d, k) ≡ true → is_gt (timed_cmp p (d, k)) ≡ false
+none_below m p b d k there = subst (λ cmp. set.IsLowerBound (pairs_by cmp) m p) key_order b (d, k) there
+
+-- an entry that is not below another has no lesser time
+pub time_of_first : (a b : ℕ) (k l : Key) → is_gt (timed_cmp (a, k) (b, l)) ≡ false → a ≤ b
+time_of_first a b k l h = by_order (nat_cmp a b) (key_cmp k l) h (grind (arith, nat_tests))
+  where
+    by_order : (o p : Ordering) → is_gt (ordering_then o p) ≡ false → (is_gt o ≡ false → a ≤ b) → a ≤ b
+    by_order Less p h f = f refl
+    by_order Equal p h f = f refl
+    by_order Greater p h f = f h
+
+-- a map's value was set, or taken out
+pub updated : (m n : BTreeMap Key Due) (key : Key) (w : Option Due) → tree.Updates (key_ord.cmp-value).it m n key w
+    → (k : Key) → tree.get key_cmp n k ≡ cond (key_eq key k) w (tree.get key_cmp m k)
+updated m n key w u k = (subst (λ cmp. tree.Updates cmp m n key w) key_order u).0 k
+
+-- what a map has, by either order
+pub got : (m : BTreeMap Key Due) (key : Key) → tree.get (key_ord.cmp-value).it m key ≡ tree.get key_cmp m key
+got m key = ap (λ cmp. tree.get cmp m key) key_order
+
+-- the first entry is there
+pub member : (m : BTreeSet (ℕ × Key)) (p : ℕ × Key) → IsTrue (set.contains (pairs_by (key_ord.cmp-value).it) m p) → set.contains timed_cmp m p ≡ true
+member m p there = subst (λ cmp. set.contains (pairs_by cmp) m p ≡ true) key_order there
+
+-- ---- keys that the order doesn't tell apart are one
+number_same : (a b : ℕ) → is_eq (nat_cmp a b) ≡ true → a ≡ b
+number_same a b h = grind (arith, nat_tests)
+
+kind_same : (a b : Kind) → kind_rank a ≡ kind_rank b → a ≡ b
+kind_same Node Node e = refl
+kind_same Node Lease e = cc
+kind_same Node Pod e = cc
+kind_same Lease Node e = cc
+kind_same Lease Lease e = refl
+kind_same Lease Pod e = cc
+kind_same Pod Node e = cc
+kind_same Pod Lease e = cc
+kind_same Pod Pod e = refl
+
+first_of_and : (b c : Bool) → (b && c) ≡ true → b ≡ true
+first_of_and true c h = refl
+first_of_and false c h = h
+
+second_of_and : (b c : Bool) → (b && c) ≡ true → c ≡ true
+second_of_and true c h = h
+second_of_and false c h = cc
+
+pub same_key : (a b : Key) → key_eq a b ≡ true → a ≡ b
+same_key a b h =
+    let kinds = nat_cmp (kind_rank a.kind) (kind_rank b.kind) in
+    let spaces = nat_cmp a.space b.space in
+    let names = nat_cmp a.name b.name in
+    let whole : (is_eq kinds && is_eq (ordering_then spaces names)) ≡ true = sym (then_eq kinds (ordering_then spaces names)) ∙ h in
+    let rest : (is_eq spaces && is_eq names) ≡ true = sym (then_eq spaces names) ∙ second_of_and (is_eq kinds) (is_eq (ordering_then spaces names)) whole in
+    let kind : a.kind ≡ b.kind = kind_same a.kind b.kind (number_same (kind_rank a.kind) (kind_rank b.kind) (first_of_and (is_eq kinds) (is_eq (ordering_then spaces names)) whole)) in
+    let space : a.space ≡ b.space = number_same a.space b.space (first_of_and (is_eq spaces) (is_eq names) rest) in
+    let name : a.name ≡ b.name = number_same a.name b.name (second_of_and (is_eq spaces) (is_eq names) rest) in
+    joined a b kind space name
+  where
+    joined : (a b : Key) → a.kind ≡ b.kind → a.space ≡ b.space → a.name ≡ b.name → a ≡ b
+    joined a b kind space name = λ i. record { kind = kind i; space = space i; name = name i }
+
+number_eq_itself : (a : ℕ) → is_eq (nat_cmp a a) ≡ true
+number_eq_itself a = grind (arith, nat_tests)
+
+pub key_itself : (a : Key) → key_eq a a ≡ true
+key_itself a =
+    then_eq (nat_cmp (kind_rank a.kind) (kind_rank a.kind)) (ordering_then (nat_cmp a.space a.space) (nat_cmp a.name a.name))
+    ∙ ap (λ b. b && is_eq (ordering_then (nat_cmp a.space a.space) (nat_cmp a.name a.name))) (number_eq_itself (kind_rank a.kind))
+    ∙ then_eq (nat_cmp a.space a.space) (nat_cmp a.name a.name)
+    ∙ ap (λ b. b && is_eq (nat_cmp a.name a.name)) (number_eq_itself a.space)
+    ∙ number_eq_itself a.name
+
+-- ---- room for a key
+pub room_kept : (b : Bool) (old : Option Due) → IsSome old → IsSome (cond b (Some Never) old)
+room_kept true old h = refl
+room_kept false old h = h
+
+no_due : (o : Option Due) → is_some o ≡ false → unwrap_or o Never ≡ Never
+no_due None h = refl
+no_due (Some x) h = cc
+
+pub room_same : (m n : BTreeMap Key Due) (key : Key) → tree.Updates (key_ord.cmp-value).it m n key (Some Never) → is_some (tree.get (key_ord.cmp-value).it m key) ≡ false
+    → (k : Key) → unwrap_or (tree.get key_cmp n k) Never ≡ unwrap_or (tree.get key_cmp m k) Never
+room_same m n key u absent k = ap (λ o. unwrap_or o Never) (updated m n key (Some Never) u k) ∙ by_key (key_eq key k) (λ same. subst (λ q. unwrap_or (tree.get key_cmp m q) Never ≡ Never) (same_key key k same) gone)
+  where
+    gone : unwrap_or (tree.get key_cmp m key) Never ≡ Never
+    gone = no_due (tree.get key_cmp m key) (ap is_some (sym (got m key)) ∙ absent)
+
+    by_key : (b : Bool) → (b ≡ true → unwrap_or (tree.get key_cmp m k) Never ≡ Never) → unwrap_or (cond b (Some Never) (tree.get key_cmp m k)) Never ≡ unwrap_or (tree.get key_cmp m k) Never
+    by_key true f = sym (f refl)
+    by_key false f = refl

@@ -1,0 +1,5 @@
+pub mod Ahead
+pub mod Changed
+pub mod Held
+pub mod Order
+pub mod Queue

@@ -1,0 +1,13 @@
+//! Zone states, and the rates at which the nodes of a zone are tainted. Nothing here takes memory.
+#![tactic(auto)]
+
+mod policies;
+mod state;
+mod view;
+
+pub use policies::{FullRate, PartialRate, Policies};
+pub use state::state_of;
+pub use view::ZoneView;
+
+#[cfg(test)]
+mod tests;
