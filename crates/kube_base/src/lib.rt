@@ -4,9 +4,11 @@
 mod list_of;
 mod memory;
 mod name;
+mod names;
 mod numbers;
 
 pub use list_of::ListOf;
 pub use memory::NoMemory;
 pub use name::Name;
+pub use names::Names;
 pub use numbers::{Beat, Local, NodeId, ProcId, Version, Wall};
