@@ -103,3 +103,23 @@ fn add(alloc: Global, texts: &mut IndexSet<Vec<u8>>, text: &[u8]) -> Result<usiz
     let (index, _) = texts.insert_full(owned)?;
     Ok(index)
 }
+
+#[cfg(test)]
+mod tests {
+    use super::*;
+    use std::test::Fail;
+
+    #[test]
+    fn numbers_names(rt: HostRuntime) -> Result<(), Fail> {
+        let mut names = Names::new(rt.alloc()).ok().ok_or("memory")?;
+        assert_eq!(rt; names.len(), 10);
+        let first = names.number(b"n1").ok().ok_or("memory")?;
+        assert_eq!(rt; first, 10);
+        assert_eq!(rt; names.find(b"n1"), Some(10));
+        assert_eq!(rt; names.find(b""), Some(0));
+        assert_eq!(rt; names.find(b"n2"), None);
+        assert_eq!(rt; names.bytes(9), Some(b"kube-node-lease".as_slice()));
+        assert_eq!(rt; names.bytes(11), None);
+        Ok(())
+    }
+}
