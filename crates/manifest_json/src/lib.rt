@@ -15,6 +15,3 @@ mod pod;
 pub use fault::{Path, ReadFault, Refusal};
 pub use list::{Objects, read_list};
 pub use object::read_object;
-
-#[cfg(test)]
-mod tests;
