@@ -64,7 +64,7 @@ or_refuse (Some x) code path = Ok x
 
 abbrev pub object_or : Data → List ℕ → Option Members → Result Data Refusal
 object_or d path None = refuse 10 path
-object_or d path (Some members) = Ok d
+object_or d path (Some _) = Ok d
 
 -- the value is an object
 abbrev pub object_at : List ℕ → Data → Result Data Refusal
