@@ -1,0 +1,125 @@
+// Numbers for names.
+ghost use Rattle.std.specs.Prelude.{◌≡◌, ◌<◌, ◌-◌, ◌^◌, length, map, slice_get, option_copied, IfOk, IfSome, OnOk, OnErr};
+ghost use Rattle.std.specs.Str.{IsUtf8};
+ghost use Rattle.kube_base.specs.Names.{fixed_names, number_of, number_in, with_name, AreNames, EachOnce};
+
+use crate::NoMemory;
+use indexmap::IndexSet;
+use std::alloc::{AllocFailed, Global};
+use std::marker::Model;
+
+/// Texts with their numbers, which contracts see as the list of the texts in the order of their numbers.
+///
+/// It begins with ten fixed names, of which number 0 is the empty text. A text's number never changes.
+#[derive(Drop)]
+pub struct Names {
+    alloc: Global,
+    texts: IndexSet<Vec<u8>>,
+}
+
+impl Model for Names {
+    ghost use Rattle.std.specs.Prelude.{ℕ, List, map};
+    ghost use Rattle.kube_base.specs.Names.{AreNames};
+
+    ghost Value = { List (List ℕ) };
+
+    ghost view = { λ n. map (λ text. text.items) n.texts.keys };
+
+    ghost invariant = { λ n. AreNames (map (λ text. text.items) n.texts.keys) };
+}
+
+impl Names {
+    /// The ten fixed names.
+    pub fn new(alloc: Global) -> Result<Names, NoMemory>
+        ensures { IfOk result (λ names. names ≡ fixed_names) }
+    {
+        let mut texts = IndexSet::new(alloc);
+        add(alloc, &mut texts, b"")?;
+        add(alloc, &mut texts, b"KubeletReady")?;
+        add(alloc, &mut texts, b"KubeletNotReady")?;
+        add(alloc, &mut texts, b"NodeStatusUnknown")?;
+        add(alloc, &mut texts, b"NodeStatusNeverUpdated")?;
+        add(alloc, &mut texts, b"node.kubernetes.io/not-ready")?;
+        add(alloc, &mut texts, b"node.kubernetes.io/unreachable")?;
+        add(alloc, &mut texts, b"kube-system")?;
+        add(alloc, &mut texts, b"kube-controller-manager")?;
+        add(alloc, &mut texts, b"kube-node-lease")?;
+        Ok(Names { alloc, texts })
+    }
+
+    /// How many names are held.
+    pub fn len(&self) -> usize
+        ensures len { result ≡ length self.now }
+        ensures names { AreNames self.now }
+        ensures once { EachOnce self.now }
+    {
+        self.texts.len()
+    }
+
+    /// The number of the name. A new name gets the next number.
+    pub fn number(&mut self, bytes: &[u8]) -> Result<u32, NoMemory>
+        requires few { length self.old < 2 ^ 32 - 1 }
+        requires text { IsUtf8 bytes.now }
+        ensures number { IfOk result (λ number. number ≡ number_in self.old bytes.now) }
+        ensures held { OnOk result (self.new ≡ with_name self.old bytes.now) }
+        ensures err { OnErr result (self.new ≡ self.old) }
+    {
+        if let Some(index) = self.texts.get_index_of(bytes) {
+            return Ok(index as u32);
+        }
+        let index = add(self.alloc, &mut self.texts, bytes)?;
+        Ok(index as u32)
+    }
+
+    /// The number of a name that is held.
+    pub fn find(&self, bytes: &[u8]) -> Option<u32>
+        ensures { result ≡ number_of self.now bytes.now }
+    {
+        match self.texts.get_index_of(bytes) {
+            Some(index) => Some(index as u32),
+            None => None,
+        }
+    }
+
+    /// The text of a number that is given.
+    pub fn bytes(&self, number: u32) -> Option<&[u8]>
+        ensures text { option_copied result ≡ slice_get self.now number }
+        ensures utf8 { IfSome result (λ bytes. IsUtf8 bytes.now) }
+    {
+        match self.texts.get_index(number as usize) {
+            Some(text) => Some(text.as_slice()),
+            None => None,
+        }
+    }
+}
+
+/// Adds a text, and tells its place.
+fn add(alloc: Global, texts: &mut IndexSet<Vec<u8>>, text: &[u8]) -> Result<usize, NoMemory>
+    ensures place { IfOk result (λ place. place ≡ number_in (map (λ t. t.items) texts.old.keys) text.now) }
+    ensures held { OnOk result (map (λ t. t.items) texts.new.keys ≡ with_name (map (λ t. t.items) texts.old.keys) text.now) }
+    ensures err { OnErr result (map (λ t. t.items) texts.new.keys ≡ map (λ t. t.items) texts.old.keys) }
+{
+    let owned = Vec::from_slice(alloc, text)?;
+    let (index, _) = texts.insert_full(owned)?;
+    Ok(index)
+}
+
+#[cfg(test)]
+mod tests {
+    use super::*;
+    use std::test::Fail;
+
+    #[test]
+    fn numbers_names(rt: HostRuntime) -> Result<(), Fail> {
+        let mut names = Names::new(rt.alloc()).ok().ok_or("memory")?;
+        assert_eq!(rt; names.len(), 10);
+        let first = names.number(b"n1").ok().ok_or("memory")?;
+        assert_eq!(rt; first, 10);
+        assert_eq!(rt; names.find(b"n1"), Some(10));
+        assert_eq!(rt; names.find(b""), Some(0));
+        assert_eq!(rt; names.find(b"n2"), None);
+        assert_eq!(rt; names.bytes(9), Some(b"kube-node-lease".as_slice()));
+        assert_eq!(rt; names.bytes(11), None);
+        Ok(())
+    }
+}

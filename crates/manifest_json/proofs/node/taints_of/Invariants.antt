@@ -1,0 +1,9 @@
+use Rattle.std.proofs.Common.{◌≡◌, [], drop}
+use Rattle.serde_json.specs.View.{items_view}
+use Rattle.manifest_json.specs.Walk.{taints_from}
+use Rattle.manifest_json.proofs.node.taints_of.Given as goal
+
+-- what is left decides
+abbrev pub invariant-loop-place : goal.invariant-loop-place
+invariant-loop-place l =
+    taints_from l.initial.names l.path 0 [] (items_view l.list) ≡ taints_from l.names l.path l.place l.taints (items_view (drop l.place l.list))

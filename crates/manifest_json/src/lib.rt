@@ -1,0 +1,17 @@
+//! Kubernetes manifests as `serde_json` values, read into typed objects and written back.
+#![tactic(auto)]
+
+mod fault;
+mod field;
+mod grammar;
+mod kept;
+mod lease;
+mod list;
+mod metadata;
+mod node;
+mod object;
+mod pod;
+
+pub use fault::{Path, ReadFault, Refusal};
+pub use list::{Objects, read_list};
+pub use object::read_object;

@@ -1,0 +1,189 @@
+// Pods and their tolerations.
+ghost use Rattle.std.specs.Prelude.{◌≡◌, ◌++◌, codes, []};
+ghost use Rattle.std.specs.Option.{option_map};
+ghost use Rattle.serde_json.specs.View.{view, items_view};
+ghost use Rattle.manifest_json.specs.Faults.{Gives};
+ghost use Rattle.manifest_json.specs.Walk as walk;
+
+use crate::fault::{fault, fault_below};
+use crate::field::{field, field_in, hundred, items, named, number, object, parent, signed, text};
+use crate::metadata::{spaced_key, text_number};
+use crate::node::effect_of;
+use crate::{Path, ReadFault};
+use kube_base::Names;
+use kube_objects::{Effect, Key, Kind, Object, Operator, Pod, Toleration, Tolerations};
+use serde_json::Value;
+use std::alloc::Global;
+
+/// A Pod with its key.
+#[tactic(auto, unfolding(crate::specs::Walk::pod_at))]
+pub(crate) fn pod(
+    alloc: Global,
+    names: &mut Names,
+    path: &Path,
+    value: &Value,
+) -> Result<(Key, Object), ReadFault>
+    ensures { Gives (λ found. (found, names.new)) result (walk.pod_at names.old path.now (view value.now)) }
+{
+    let metadata = parent(path, "/metadata", field(value, "metadata"))?;
+    let key = spaced_key(names, path, Kind::Pod, metadata)?;
+    let spec = parent(path, "/spec", field(value, "spec"))?;
+    let node = node_name(names, path, spec)?;
+    let tolerations = tolerations(alloc, names, path, spec)?;
+    Ok((key, Object::Pod(Pod { node, tolerations })))
+}
+
+/// The number of `walk.nodeName`.
+#[tactic(auto, unfolding(crate::specs::Walk::node_name_at))]
+fn node_name(names: &mut Names, path: &Path, spec: Option<&Value>) -> Result<u32, ReadFault>
+    ensures { Gives (λ n. (n, names.new)) result
+        (walk.node_name_at names.old path.now (option_map (λ v. view v.now) spec.entry)) }
+{
+    let text = text(10, path, "/spec/nodeName", field_in(spec, "nodeName"))?;
+    if text.is_empty() {
+        number(names, text)
+    } else {
+        named(names, path, "/spec/nodeName", text)
+    }
+}
+
+/// The tolerations of a Pod.
+#[tactic(auto, unfolding(crate::specs::Walk::tolerations_at))]
+fn tolerations(
+    alloc: Global,
+    names: &mut Names,
+    path: &Path,
+    spec: Option<&Value>,
+) -> Result<Tolerations, ReadFault>
+    ensures { Gives (λ tolerations. (tolerations, names.new)) result
+        (walk.tolerations_at names.old path.now (option_map (λ v. view v.now) spec.entry)) }
+{
+    let all = items(path, "/spec/tolerations", field_in(spec, "tolerations"))?;
+    let few = hundred(path, "/spec/tolerations", all)?;
+    tolerations_of(alloc, names, path, few)
+}
+
+fn tolerations_of(
+    alloc: Global,
+    names: &mut Names,
+    path: &Path,
+    list: &[Value],
+) -> Result<Tolerations, ReadFault>
+    ensures { Gives (λ tolerations. (tolerations, names.new)) result
+        (walk.tolerations_from names.old path.now 0 [] (items_view list.now)) }
+{
+    let mut tolerations = Tolerations::new(alloc);
+    for (place, item) in list.iter().enumerate() {
+        match toleration_in(names, path, place, item) {
+            Ok(toleration) => tolerations.push(toleration)?,
+            Err(fault) => return Err(fault),
+        }
+    }
+    Ok(tolerations)
+}
+
+fn toleration_in(
+    names: &mut Names,
+    path: &Path,
+    place: usize,
+    value: &Value,
+) -> Result<Toleration, ReadFault>
+    ensures { Gives (λ toleration. (toleration, names.new)) result
+        (walk.toleration_at names.old (walk.member_path path.now (codes "/spec/tolerations/") place) (view value.now)) }
+{
+    let path = path.member("/spec/tolerations/", place)?;
+    toleration(names, &path, value)
+}
+
+#[tactic(auto, unfolding(crate::specs::Walk::toleration_at))]
+fn toleration(names: &mut Names, path: &Path, value: &Value) -> Result<Toleration, ReadFault>
+    ensures { Gives (λ toleration. (toleration, names.new)) result
+        (walk.toleration_at names.old path.now (view value.now)) }
+{
+    let value = object(path, value)?;
+    let key = text_number(names, path, "/key", field(value, "key"))?;
+    let text = text_number(names, path, "/value", field(value, "value"))?;
+    let operator = operator(path, field(value, "operator"))?;
+    let effect = any_effect(path, field(value, "effect"))?;
+    let seconds = signed(
+        path,
+        "/tolerationSeconds",
+        field(value, "tolerationSeconds"),
+    )?;
+    let toleration = Toleration {
+        key,
+        operator,
+        value: text,
+        effect,
+        seconds,
+    };
+    if is_lawful(&toleration) {
+        Ok(toleration)
+    } else {
+        Err(fault(17, path))
+    }
+}
+
+#[tactic(auto, unfolding(crate::specs::Walk::operator_at))]
+fn operator(path: &Path, value: Option<&Value>) -> Result<Operator, ReadFault>
+    ensures { Gives (λ operator. operator) result
+        (walk.operator_at (path.now ++ codes "/operator") (option_map (λ v. view v.now) value.entry)) }
+{
+    let text = text(16, path, "/operator", value)?;
+    match operator_of(text) {
+        Some(operator) => Ok(operator),
+        None => Err(fault_below(16, path, "/operator")),
+    }
+}
+
+fn operator_of(text: &str) -> Option<Operator>
+    ensures { result ≡ walk.operator_of text.now }
+{
+    if text.is_empty() || text == "Equal" {
+        Some(Operator::Equal)
+    } else if text == "Exists" {
+        Some(Operator::Exists)
+    } else {
+        None
+    }
+}
+
+#[tactic(auto, unfolding(crate::specs::Walk::any_effect_at))]
+fn any_effect(path: &Path, value: Option<&Value>) -> Result<Option<Effect>, ReadFault>
+    ensures { Gives (λ effect. effect) result
+        (walk.any_effect_at (path.now ++ codes "/effect") (option_map (λ v. view v.now) value.entry)) }
+{
+    let text = text(15, path, "/effect", value)?;
+    if text.is_empty() {
+        return Ok(None);
+    }
+    match effect_of(text) {
+        Some(effect) => Ok(Some(effect)),
+        None => Err(fault_below(15, path, "/effect")),
+    }
+}
+
+/// An empty key has Exists, Exists has an empty value, and seconds come with the effect NoExecute.
+fn is_lawful(toleration: &Toleration) -> bool
+    ensures { result ≡ walk.is_lawful toleration.now }
+{
+    fits_operator(toleration) && (toleration.seconds.is_none() || is_no_execute(toleration.effect))
+}
+
+fn fits_operator(toleration: &Toleration) -> bool
+    ensures { result ≡ walk.fits_operator toleration.now.operator toleration.now.key toleration.now.value }
+{
+    match toleration.operator {
+        Operator::Exists => toleration.value == 0,
+        Operator::Equal => toleration.key != 0,
+    }
+}
+
+fn is_no_execute(effect: Option<Effect>) -> bool
+    ensures { result ≡ walk.is_no_execute effect }
+{
+    match effect {
+        Some(Effect::NoExecute) => true,
+        _ => false,
+    }
+}
