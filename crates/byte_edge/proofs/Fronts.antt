@@ -3,7 +3,7 @@ use Rattle.std.proofs.Common.{◌≡◌, ℕ, ◌+◌, ◌≤◌, List, [], ◌�
 use Rattle.std.proofs.lemmas.List.{append-nil, length-take}
 use Rattle.byte_edge.specs.Bytes.{Gives, GaveFront, Gave, Rose, Took, TakesPiece, TookAll, TookAtMost}
 
-gives-both : (before mid after : Option (List ℕ)) (xs ys : List ℕ) → Gives before mid xs → Gives mid after ys → Gives before after (xs ++ ys)
+pub gives-both : (before mid after : Option (List ℕ)) (xs ys : List ℕ) → Gives before mid xs → Gives mid after ys → Gives before after (xs ++ ys)
 gives-both None mid after xs ys first second = subst (λ m. Gives m after ys) first second
 gives-both (Some b) mid after xs ys first second =
     subst (λ m. Gives m after ys) first second ∙ ap (λ (l : List ℕ). Some l) (append_assoc b xs ys)

@@ -1,0 +1,6 @@
+pub mod Form
+pub mod Lines
+pub mod Names
+pub mod Outcome
+pub mod Readings
+pub mod Spoken
