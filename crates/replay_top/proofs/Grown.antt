@@ -1,5 +1,5 @@
 -- The trace grows with the beats.
-use Rattle.std.proofs.Common.{◌≡◌, ℕ, suc, ◌+◌, ◌≤◌, List, [], ◌∷◌, ◌++◌, Option, Bool, true, false, nat_lt, refl, inl, inr, sym, ap, ◌∙◌, subst, append_assoc, add-one, arith}
+use Rattle.std.proofs.Common.{◌≡◌, ℕ, suc, ◌+◌, ◌≤◌, List, [], ◌∷◌, ◌++◌, Option, Bool, true, false, nat_lt, IsTrue, ◌↔◌, ◌<◌, length, refl, inl, inr, sym, ap, ◌∙◌, subst, append_assoc, add-one, arith}
 use Rattle.std.proofs.lemmas.Bool.{ltb-true, ltb-false}
 use Rattle.std.proofs.lemmas.List.{append-nil}
 use Rattle.std.proofs.lemmas.Grind.{flat_map-append}
@@ -9,12 +9,17 @@ use Rattle.byte_edge.specs.Bytes.{Gave}
 use Rattle.history.specs.History.{beat, history}
 use Rattle.history.specs.Printed.{printed, deeds_of, act_of}
 use Rattle.history_laws.specs.Tails.{IsTail}
+use Rattle.history_laws.proofs.Once.{calls_are_few}
+use Rattle.history_laws.proofs.Starts.{starts_are_few}
+use Rattle.world_core.specs.Plain.{IsFew}
 use Rattle.history_laws.proofs.Order.{histories_are_positions}
 use Rattle.kube_objects.specs.Entry.{Entry}
-use Rattle.world_core.specs.declared.plain.World.{World}
-use Rattle.world_core.specs.Stand.{doc_of, WorldStands}
-use Rattle.world_core.specs.declared.plain.Document.{Document}
+use Rattle.world_core.specs.declared.world.World.{World}
+use Rattle.replay_top.specs.Defaults.{doc_of}
+use Rattle.world_core.specs.Worlds.{WorldStands}
+use Rattle.replay_top.specs.declared.document.OneController.{OneController}
 use Rattle.replay_top.specs.Lines.{first_line, line_of, lines_of, trace_before, trace_of, trace}
+use Rattle.replay_top.proofs.Parsed.{never}
 use Rattle.replay_top.proofs.Said.{gave-longer}
 
 -- the printed entries of a position of a history are a front of the history's
@@ -44,7 +49,7 @@ gave-whole doc name k before after within g = from (printed-later doc k (suc (en
     from : (more : List Deed) × (printed (history doc k) ++ more ≡ printed (history doc (suc (end_beat doc)))) → Gave before after (trace_of doc name)
     from later =
         gave-longer before after (trace_before doc name k) (lines_of name later.0) (trace_of doc name)
-          (lines-more doc name (printed (history doc k)) later.0 ∙ ap (λ x. first_line doc ++ lines_of name x) later.1) g
+        (lines-more doc name (printed (history doc k)) later.0 ∙ ap (λ x. first_line doc ++ lines_of name x) later.1) g
 
 pub next-stands : (doc : Doc) (k n : ℕ) (w : World) → n ≡ k + 1 → WorldStands doc (k + 1) (beat doc (history doc k) k) w → WorldStands doc n (history doc n) w
 next-stands doc k n w is s =
@@ -60,14 +65,26 @@ trace-next doc name k n deeds is told =
     ∙ ap (λ x. first_line doc ++ lines_of name x) told
     ∙ ap (trace_before doc name) (sym (is ∙ add-one k))
 
-pub not-over : (end at : ℕ) (b : Bool) → b ≡ nat_lt end at → b ≡ false → at ≤ end
-not-over end at b is answer = ltb-false end at (sym is ∙ answer)
+pub not-over : (end at : ℕ) (b : Bool) → (IsTrue b ↔ (end < at)) → b ≡ false → at ≤ end
+not-over end at b tells answer = by_test (nat_lt end at) refl
+  where
+    by_test : (t : Bool) → nat_lt end at ≡ t → at ≤ end
+    by_test false is = ltb-false end at is
+    by_test true is = absurd (never (sym answer ∙ tells.1 (ltb-true end at is)))
 
-pub over : (end at : ℕ) (b : Bool) → b ≡ nat_lt end at → b ≡ true → at ≤ end + 1 → at ≡ end + 1
-over end at b is answer within = omega (arith, ltb-true end at (sym is ∙ answer), within)
+pub over : (end at : ℕ) (b : Bool) → (IsTrue b ↔ (end < at)) → b ≡ true → at ≤ end + 1 → at ≡ end + 1
+over end at b tells answer within = omega (arith, tells.0 answer, within)
+
+-- what the world counts stays within its types
+pub few : (doc : Doc) (k : ℕ) → doc.events ≡ [] → k ≤ 604800000 → IsFew (history doc (suc k))
+few doc k eventless within =
+    record {
+      calls = λ q. omega (arith, calls_are_few doc q (suc k), within);
+      starts = λ p. omega (arith, starts_are_few doc p (suc k), ap length eventless, within);
+    }
 
 -- the text begins with the first line
-pub trace-first : (d : Document) (empty text name : List ℕ) → empty ≡ [] → text ≡ empty ++ first_line (doc_of d) → name ≡ d.name → text ≡ trace_before (doc_of d) name 0
+pub trace-first : (d : OneController) (empty text name : List ℕ) → empty ≡ [] → text ≡ empty ++ first_line (doc_of d) → name ≡ d.name → text ≡ trace_before (doc_of d) name 0
 unfolding trace_before
 trace-first d empty text name none is named = is ∙ ap (λ l. l ++ first_line (doc_of d)) none ∙ sym (append-nil (first_line (doc_of d)))
 
@@ -75,6 +92,6 @@ pub trace-end : (doc : Doc) (name : List ℕ) → trace_before doc name (suc (en
 unfolding trace_before trace_of
 trace-end doc name = refl
 
-pub trace-named : (d : Document) (name : List ℕ) → name ≡ d.name → trace_of (doc_of d) name ≡ trace d
+pub trace-named : (d : OneController) (name : List ℕ) → name ≡ d.name → trace_of (doc_of d) name ≡ trace d
 unfolding trace
 trace-named d name named = ap (trace_of (doc_of d)) named

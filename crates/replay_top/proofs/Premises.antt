@@ -2,15 +2,15 @@
 use Rattle.std.proofs.Common.{◌≡◌, ℕ, zero, suc, ◌+◌, ◌*◌, ◌&&◌, nat_lt, Bool, true, refl, ap, ◌∙◌, ◌++◌, append_assoc, codes, decimal, List}
 use Rattle.kube_objects.specs.Document.{end_beat, of_seconds, of_millis}
 use Rattle.history.specs.Premise.{less, more, least_rate, greatest_rate, lease_premise}
-use Rattle.world_core.specs.declared.plain.Document.{Document}
+use Rattle.replay_top.specs.declared.document.OneController.{OneController}
 use Rattle.replay_top.specs.Lines.{first_line, yes_or_no}
-use Rattle.world_core.specs.Stand.{doc_of}
+use Rattle.replay_top.specs.Defaults.{doc_of}
 
-least : (d : Document) (k : ℕ) → least_rate (doc_of d) 0 k ≡ 1000000
+least : (d : OneController) (k : ℕ) → least_rate (doc_of d) 0 k ≡ 1000000
 least d zero = refl
 least d (suc k) = ap (λ r. less r 1000000) (least d k)
 
-greatest : (d : Document) (k : ℕ) → greatest_rate (doc_of d) 0 k ≡ 1000000
+greatest : (d : OneController) (k : ℕ) → greatest_rate (doc_of d) 0 k ≡ 1000000
 greatest d zero = refl
 greatest d (suc k) = ap (λ r. more r 1000000) (greatest d k)
 
@@ -21,12 +21,12 @@ default_rates : holds_at 1000000 1000000 ≡ true
 unfolding of_seconds of_millis
 default_rates = refl
 
-pub premise_holds : (d : Document) → lease_premise (doc_of d) ≡ true
+pub premise_holds : (d : OneController) → lease_premise (doc_of d) ≡ true
 premise_holds d =
     let end = end_beat (doc_of d) in
     ap (λ high. holds_at high (least_rate (doc_of d) 0 end)) (greatest d end) ∙ ap (λ low. holds_at 1000000 low) (least d end) ∙ default_rates
 
-pub first_line_is : (d : Document) → first_line (doc_of d) ≡ codes "trace 1 beat=" ++ decimal 100 ++ codes " end=" ++ decimal d.end.0 ++ codes " premise=yes\n"
+pub first_line_is : (d : OneController) → first_line (doc_of d) ≡ codes "trace 1 beat=" ++ decimal 100 ++ codes " end=" ++ decimal d.end.0 ++ codes " premise=yes\n"
 unfolding first_line
 first_line_is d =
     let front = codes "trace 1 beat=" ++ decimal 100 ++ codes " end=" ++ decimal d.end.0 in

@@ -1,19 +1,19 @@
 -- What `replay` does with the bytes that were taken.
-use Rattle.std.proofs.Common.{◌≡◌, ◌≤◌, ◌<◌, ◌+◌, ℕ, nat_le, Bool, true, false, cond, List, [], ◌∷◌, ◌++◌, length, drop, Option, Some, None, Result, Ok, Err, refl, sym, ap, ◌∙◌, subst, arith, length-append}
+use Rattle.std.proofs.Common.{◌≡◌, ◌≤◌, ◌<◌, ℕ, cond, List, [], ◌∷◌, ◌++◌, length, drop, Option, Some, Result, refl, sym, ap, ◌∙◌, subst, arith, length-append}
 use Rattle.std.proofs.lemmas.Bool.{le-leb, lt-leb}
 use Rattle.byte_edge.specs.Bytes.{Took, TookAll, IsTooLarge}
-use Rattle.world_core.specs.declared.plain.Document.{Document}
+use Rattle.replay_top.specs.declared.document.OneController.{OneController}
 use Rattle.replay_top.specs.declared.refusal.Refusal.{Refusal}
 use Rattle.replay_top.specs.declared.refusal.Refusal.TheVariants.{TooLarge}
 use Rattle.replay_top.specs.Form.{document_in}
-use Rattle.replay_top.specs.Outcome.{Outcome, replay, replayed, refused}
+use Rattle.replay_top.specs.Outcome.{replay, replayed, refused}
 
 -- all bytes were taken, and what they mean is known
-pub replay-read : (bytes shown : List ℕ) (found : Result Document Refusal) → length shown ≤ 16777216 → shown ≡ bytes → found ≡ document_in shown → replay bytes ≡ replayed found
+pub replay-read : (bytes shown : List ℕ) (found : Result OneController Refusal) → length shown ≤ 16777216 → shown ≡ bytes → found ≡ document_in shown → replay bytes ≡ replayed found
 unfolding replay
 replay-read bytes shown found short is exact =
     subst (λ l. replay l ≡ replayed found) is
-      (ap (λ b. cond b (replayed (document_in shown)) (refused TooLarge (drop 16777217 shown))) (le-leb (length shown) 16777216 short) ∙ ap replayed (sym exact))
+    (ap (λ b. cond b (replayed (document_in shown)) (refused TooLarge (drop 16777217 shown))) (le-leb (length shown) 16777216 short) ∙ ap replayed (sym exact))
 
 pub took-told : (left after : Option (List ℕ)) (bytes taken : List ℕ) → left ≡ Some bytes → TookAll left after taken → (taken ≡ bytes) × (after ≡ Some [])
 took-told left after bytes taken told all = let P : Option (List ℕ) → Type 0 = λ l. TookAll l after taken in subst P told all

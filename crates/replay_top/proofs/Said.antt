@@ -1,7 +1,7 @@
 -- A text that is written from a buffer.
-use Rattle.std.proofs.Common.{◌≡◌, ℕ, List, [], ◌++◌, Option, Result, Ok, Err, OnOk, OnErr, refl, sym, ap, ◌∙◌, subst, append_assoc}
+use Rattle.std.proofs.Common.{◌≡◌, ℕ, List, [], ◌++◌, Option, Result, Ok, Err, OnOk, OnErr, sym, ap, ◌∙◌, subst, append_assoc}
 use Rattle.std.proofs.lemmas.List.{append-nil}
-use Rattle.byte_edge.specs.Bytes.{Gives, Gave, GaveFront}
+use Rattle.byte_edge.specs.Bytes.{Gives, Gave}
 use Rattle.byte_edge.proofs.Fronts.{gives-both, gives-nothing}
 use Rattle.replay_top.specs.Spoken.{Spoken, Written}
 use Rattle.replay_top.specs.declared.trace.WriteFault.{WriteFault}

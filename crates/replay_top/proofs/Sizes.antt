@@ -1,5 +1,5 @@
 -- How many members and items there are.
-use Rattle.std.proofs.Common.{◌≡◌, ℕ, ◌+◌, suc, List, [], ◌∷◌, length, map, refl, ap, ◌∙◌, sym, String, None, Some, Option, add-one, get_or, arith, ◌≢◌}
+use Rattle.std.proofs.Common.{◌≡◌, suc, List, [], ◌∷◌, length, refl, ap, String, None, Some, get_or, arith, ◌≢◌}
 use Rattle.std.specs.declared.alloc.Global.{Global}
 use Rattle.serde_json.specs.Data.{Data, null, boolean, number, string, array, object, Members}
 use Rattle.serde_json.specs.Find.{as_object}

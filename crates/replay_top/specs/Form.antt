@@ -1,11 +1,10 @@
 -- The documents that are run in this stage, and how they are told from all other bytes.
 use Rattle.std.specs.Prelude.{ℕ, suc, ◌==◌, ◌&&◌, nat_le, Bool, false, List, codes, Option, Some, None, option_map, option_and_then, Result, Ok, Err, if◌then◌else◌}
 use Rattle.std.specs.Str.{is_utf8}
-use Rattle.kube_base.specs.declared.numbers.Beat.{Beat}
 use Rattle.serde_json.specs.Data.{Data, null, boolean, number, string, array, object, Items, no_items, item, Members, no_members, member}
 use Rattle.serde_json.specs.Find.{get, as_number, as_str, as_array, as_u64}
 use Rattle.serde_json.specs.Read.{read}
-use Rattle.world_core.specs.declared.plain.Document.{Document}
+use Rattle.replay_top.specs.declared.document.OneController.{OneController}
 use Rattle.replay_top.specs.declared.refusal.Refusal.{Refusal}
 use Rattle.replay_top.specs.declared.refusal.Refusal.TheVariants.{BadJson, NotBuilt}
 use Rattle.replay_top.specs.Names.{is_subdomain}
@@ -64,21 +63,21 @@ name_at d = option_and_then only_name (option_and_then as_array (get (codes "con
 abbrev pub is_top : Data → Bool
 is_top d = size_of d == 3 && is_number 1 (whole_at (codes "version") d)
 
-abbrev pub made_of : ℕ → List ℕ → Document
+abbrev pub made_of : ℕ → List ℕ → OneController
 made_of end name = record { end = record { 0 = end }; name = name }
 
 -- one controller, with all settings but the last beat by their defaults
-abbrev pub form : Data → Option Document
+abbrev pub form : Data → Option OneController
 form d = if is_top d then option_and_then (λ end. option_map (made_of end) (name_at d)) (end_at d) else None
 
-abbrev pub or_refusal : Refusal → Option Document → Result Document Refusal
+abbrev pub or_refusal : Refusal → Option OneController → Result OneController Refusal
 or_refusal refusal None = Err refusal
 or_refusal refusal (Some document) = Ok document
 
-abbrev pub form_or : Option Data → Result Document Refusal
+abbrev pub form_or : Option Data → Result OneController Refusal
 form_or None = Err BadJson
 form_or (Some d) = or_refusal NotBuilt (form d)
 
 -- what the bytes of a document mean
-abbrev pub document_in : List ℕ → Result Document Refusal
+abbrev pub document_in : List ℕ → Result OneController Refusal
 document_in bytes = form_or (json_of bytes)

@@ -1,3 +1,4 @@
+pub mod Defaults
 pub mod Form
 pub mod Lines
 pub mod Names

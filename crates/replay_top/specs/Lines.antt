@@ -11,8 +11,8 @@ use Rattle.kube_objects.specs.Document.{Doc, end_beat}
 use Rattle.history.specs.History.{history, whole_history}
 use Rattle.history.specs.Premise.{lease_premise}
 use Rattle.history.specs.Printed.{printed}
-use Rattle.world_core.specs.declared.plain.Document.{Document}
-use Rattle.world_core.specs.Stand.{doc_of}
+use Rattle.replay_top.specs.declared.document.OneController.{OneController}
+use Rattle.replay_top.specs.Defaults.{doc_of}
 
 -- the script, or an identity: the process's name with its incarnation
 abbrev pub actor_text : List ℕ → Actor → List ℕ
@@ -56,5 +56,5 @@ trace_before doc name k = first_line doc ++ lines_of name (printed (history doc 
 unfoldable pub trace_of : Doc → List ℕ → List ℕ
 trace_of doc name = first_line doc ++ lines_of name (printed (whole_history doc))
 
-unfoldable pub trace : Document → List ℕ
+unfoldable pub trace : OneController → List ℕ
 trace d = trace_of (doc_of d) d.name

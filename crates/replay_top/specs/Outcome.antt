@@ -2,7 +2,7 @@
 use Rattle.std.specs.Prelude.{◌≡◌, ℕ, ◌++◌, nat_le, Bool, false, List, [], ◌∷◌, length, drop, codes, decimal, Option, Some, Result, Ok, Err, if◌then◌else◌}
 use Rattle.std.specs.Str.{bytes_eq}
 use Rattle.byte_edge.specs.Bytes.{Gives, Gave}
-use Rattle.world_core.specs.declared.plain.Document.{Document}
+use Rattle.replay_top.specs.declared.document.OneController.{OneController}
 use Rattle.replay_top.specs.declared.refusal.Refusal.{Refusal}
 use Rattle.replay_top.specs.declared.refusal.Refusal.TheVariants.{BadJson, TooLarge, NotBuilt}
 use Rattle.replay_top.specs.declared.status.Status.{Status}
@@ -32,7 +32,7 @@ refused refusal left = record { status = Refused; text = refusal_text refusal; l
 abbrev pub usage : List ℕ → Outcome
 usage bytes = record { status = Usage; text = codes "usage: kube_replay COMMAND\n"; left = bytes }
 
-abbrev pub replayed : Result Document Refusal → Outcome
+abbrev pub replayed : Result OneController Refusal → Outcome
 replayed (Ok document) = record { status = Done; text = trace document; left = [] }
 replayed (Err refusal) = refused refusal []
 

@@ -5,18 +5,18 @@ ghost use Rattle.byte_edge.specs.Bytes.{Rose};
 ghost use Rattle.replay_top.specs.Readings.{Reads, IsShort};
 ghost use Rattle.replay_top.specs.Form.{document_in, form, is_top as has_top, end_at, end_in, name_at, name_in, only_name, whole_at, size_of, json_of};
 
+use crate::document::OneController;
 use crate::name::is_subdomain;
 use crate::refusal::Refusal;
 use byte_edge::{Source, TakeFault, take_all};
 use kube_base::{Beat, Name, NoMemory};
 use serde_json::Value;
 use std::alloc::Global;
-use world_core::Document;
 
 /// What a source had.
 #[derive(Debug, Drop)]
 pub enum Reading {
-    Document(Document),
+    Document(OneController),
     Refused(Refusal),
     /// The source failed.
     Fault,
@@ -46,7 +46,7 @@ pub(crate) fn read<S: Source>(alloc: Global, source: &mut S) -> Reading
 }
 
 /// The document in these bytes, or why it is refused.
-fn read_document(alloc: Global, bytes: &[u8]) -> Result<Result<Document, Refusal>, NoMemory>
+fn read_document(alloc: Global, bytes: &[u8]) -> Result<Result<OneController, Refusal>, NoMemory>
     ensures exact { IfOk result (λ found. found ≡ document_in bytes.now) }
     ensures short { IfOk result (λ found. IfOk found (λ d. d.end.0 ≤ 6048000)) }
 {
@@ -75,7 +75,7 @@ fn parse(alloc: Global, bytes: &[u8]) -> Result<Option<Value>, NoMemory>
 }
 
 /// The document, where the value has the form.
-fn document_of(alloc: Global, value: &Value) -> Result<Option<Document>, NoMemory>
+fn document_of(alloc: Global, value: &Value) -> Result<Option<OneController>, NoMemory>
     ensures exact { IfOk result (λ found. found ≡ form (view value.now)) }
     ensures short { IfOk result (λ found. IfSome found (λ d. d.end.0 ≤ 6048000)) }
 {
@@ -88,7 +88,7 @@ fn document_of(alloc: Global, value: &Value) -> Result<Option<Document>, NoMemor
     let Some(name) = name_of(value) else {
         return Ok(None);
     };
-    Ok(Some(Document {
+    Ok(Some(OneController {
         end: Beat(end),
         name: Name::from_bytes(alloc, name.as_bytes())?,
     }))

@@ -1,6 +1,7 @@
 //! The commands: from bytes to the trace of a document, or to its one refusal.
 #![tactic(auto)]
 
+mod document;
 mod form;
 mod lines;
 mod name;
@@ -11,3 +12,6 @@ mod trace;
 
 pub use running::run;
 pub use status::Status;
+
+#[cfg(test)]
+mod tests;

@@ -2,19 +2,19 @@
 ghost use Rattle.std.specs.Prelude.{◌≡◌, ◌++◌, OnOk, decimal};
 ghost use Rattle.replay_top.specs.Lines.{line_of, lines_of, actor_text, act_text, answer_text, first_line};
 ghost use Rattle.replay_top.specs.Outcome.{refusal_text};
-ghost use Rattle.world_core.specs.Stand.{doc_of};
+ghost use Rattle.replay_top.specs.Defaults.{doc_of};
 
+use crate::document::OneController;
 use crate::refusal::{Refusal, code};
 use itoa::Buffer;
 use kube_base::NoMemory;
 use kube_objects::{Act, Actor, Answer, Deed};
-use world_core::Document;
 
 /// The length of a beat, in milliseconds.
 const BEAT_MILLIS: u64 = 100;
 
 /// Adds the first line of a document's trace. With the default settings the lease premise holds.
-pub(crate) fn add_first(text: &mut Vec<u8>, document: &Document) -> Result<(), NoMemory>
+pub(crate) fn add_first(text: &mut Vec<u8>, document: &OneController) -> Result<(), NoMemory>
     ensures { OnOk result (text.new.items ≡ text.old.items ++ first_line (doc_of document.now)) }
 {
     text.extend_from_slice(b"trace 1 beat=")?;

@@ -1,18 +1,20 @@
 // A document is run, and its trace is written as the beats are done.
-ghost use Rattle.std.specs.Prelude.{◌≡◌, ◌≤◌, ◌+◌, ◌++◌, ℕ, List, Option, OnOk, OnErr, IfOk, IfErr, IsErr};
+ghost use Rattle.std.specs.Prelude.{◌≡◌, ◌≤◌, ◌+◌, ◌++◌, ℕ, List, [], Option, OnOk, OnErr, IfOk, IfErr, IsErr};
 ghost use Rattle.byte_edge.specs.Bytes.{Rose, Gives, Gave};
 ghost use Rattle.kube_objects.specs.Document.{Doc, end_beat};
 ghost use Rattle.history.specs.History.{history};
-ghost use Rattle.world_core.specs.Stand.{doc_of, at_of, end_of, WorldStands};
+ghost use Rattle.world_core.specs.Worlds.{at_of, end_of, IsReady, WorldStands};
+ghost use Rattle.replay_top.specs.Defaults.{doc_of};
 ghost use Rattle.replay_top.specs.Lines.{trace, trace_of, trace_before, first_line};
 ghost use Rattle.replay_top.specs.Spoken.{Spoken, Written};
 
+use crate::document::{OneController, world_document};
 use crate::lines::{add_deeds, add_first};
 use byte_edge::{Failed, Sink, give_all};
 use kube_base::{Name, NoMemory};
 use std::alloc::Global;
 use thiserror::Error;
-use world_core::{Document, World};
+use world_core::World;
 
 /// Why a trace wasn't written whole.
 #[derive(Clone, Copy, Debug, PartialEq, Eq, Error)]
@@ -30,7 +32,7 @@ const PIECE: usize = 16_384;
 pub(crate) fn write_trace<K: Sink>(
     alloc: Global,
     sink: &mut K,
-    document: Document,
+    document: OneController,
 ) -> Result<(), WriteFault>
     requires { document.end.0 ≤ 6048000 }
     ensures all { OnOk result (Gives (K.taken sink.old) (K.taken sink.new) (trace document)) }
@@ -48,17 +50,17 @@ pub(crate) fn write_trace<K: Sink>(
 fn start(
     alloc: Global,
     text: &mut Vec<u8>,
-    document: Document,
+    document: OneController,
 ) -> Result<(World, Name), NoMemory>
     requires { document.end.0 ≤ 6048000 }
     ensures text { OnOk result (text.new.items ≡ text.old.items ++ first_line (doc_of document)) }
     ensures name { IfOk result (λ r. r.1 ≡ document.name) }
-    ensures numbers { IfOk result (λ r. (at_of r.0 ≡ 0) × (end_of r.0 ≡ document.end.0)) }
+    ensures kept { IfOk result (λ r. IsReady r.0 × (at_of r.0 ≡ 0) × (end_of r.0 ≡ document.end.0)) }
     ensures stands { IfOk result (λ r. WorldStands (doc_of document) 0 (history (doc_of document) 0) r.0) }
 {
     add_first(text, &document)?;
     let name = document.name.copy()?;
-    let world = World::new(alloc, document)?;
+    let world = World::new(alloc, world_document(alloc, &document)?)?;
     Ok((world, name))
 }
 
@@ -69,9 +71,9 @@ fn write_beats<K: Sink>(
     name: &Name,
     mut text: Vec<u8>,
 ) -> Result<(), WriteFault>
-    requires last { end_of world ≤ 6048000 }
+    requires ready { IsReady world }
     requires first { at_of world ≡ 0 }
-    ensures written { (doc : Doc) → (before : Option (List ℕ)) → WorldStands doc 0 (history doc 0) world → end_of world ≡ end_beat doc
+    ensures written { (doc : Doc) → (before : Option (List ℕ)) → doc.events ≡ [] → WorldStands doc 0 (history doc 0) world → end_of world ≡ end_beat doc
         → Spoken before (K.taken sink.old) text.items (trace_before doc name.now 0)
         → Written before (K.taken sink.new) (trace_of doc name.now) result }
     ensures failed { IfErr result (λ e. e ≡ WriteFault.Sink → Rose (K.faults sink.old) (K.faults sink.new)) }

@@ -1,5 +1,4 @@
-use Rattle.std.proofs.Common.{[], refl, sym, ap, ◌∙◌, length, ◌≤◌, subst}
-use Rattle.replay_top.specs.Form.{document_in}
+use Rattle.std.proofs.Common.{[], sym, ap, ◌∙◌, length, ◌≤◌, subst}
 use Rattle.replay_top.specs.Outcome.{replayed}
 use Rattle.replay_top.proofs.Replays.{replay-read, replay-large, took-told}
 use Rattle.replay_top.proofs.form.read.Goals as goal

@@ -1,4 +1,4 @@
-use Rattle.std.proofs.Common.{rules, ◌≡◌, false, [], drop, get_or, drop-cons, drop_of_length-le, add-one, sym, ap, ◌∙◌, arith, suc, ◌&&◌}
+use Rattle.std.proofs.Common.{◌≡◌, [], drop, get_or, drop-cons, sym, ap, ◌∙◌, arith, suc, ◌&&◌}
 use Rattle.std.proofs.lemmas.Grind.{common_steps}
 use Rattle.replay_top.proofs.Labels.{goes_on, labels_follow}
 use Rattle.replay_top.proofs.name.has_labels.Goals as goal

@@ -1,4 +1,4 @@
-use Rattle.std.proofs.Common.{List, ℕ, [], subst, sym}
+use Rattle.std.proofs.Common.{subst, sym}
 use Rattle.byte_edge.specs.Bytes.{Gives, Gave}
 use Rattle.replay_top.specs.Spoken.{Spoken}
 use Rattle.replay_top.proofs.Said.{spoken-front, spoken-emptied}
@@ -10,7 +10,7 @@ returns-in-Ok-clause-spoken g c before said s =
     let text = c.args.text.now.items in
     let given = subst (Gives (taken c.args.sink.now) (taken c.give_all.new.sink)) c.deref.ensures.value c.in-Ok.ensures.all in
     subst (λ l. Spoken before (taken c.give_all.new.sink) l said) (sym c.clear.ensures.items)
-      (spoken-emptied before (taken c.args.sink.now) (taken c.give_all.new.sink) text said s given)
+    (spoken-emptied before (taken c.args.sink.now) (taken c.give_all.new.sink) text said s given)
 
 pub returns-in-Err-clause-front : goal.returns-in-Err-clause-front
 returns-in-Err-clause-front g c before said s =

@@ -1,7 +1,7 @@
-use Rattle.std.proofs.Common.{◌≡◌, ℕ, ◌≤◌, ◌+◌, ◌-◌, List, Option}
+use Rattle.std.proofs.Common.{◌≡◌, ℕ, ◌≤◌, ◌+◌, ◌-◌, List, [], Option}
 use Rattle.kube_objects.specs.Document.{Doc, end_beat}
 use Rattle.history.specs.History.{history}
-use Rattle.world_core.specs.Stand.{at_of, end_of, WorldStands}
+use Rattle.world_core.specs.Worlds.{at_of, end_of, IsReady, WorldStands}
 use Rattle.replay_top.specs.Lines.{trace_before}
 use Rattle.replay_top.specs.Spoken.{Spoken}
 use Rattle.replay_top.proofs.trace.write_beats.Given as goal
@@ -11,9 +11,10 @@ invariant-beats g l =
     let sink = g.K.Sink in
     record {
       within : at_of l.world ≤ end_of l.world + 1;
+      ready : IsReady l.world;
       last : end_of l.world ≡ end_of l.fn.world;
       counted : sink.faults l.fn.sink ≤ sink.faults l.sink;
-      stands : (doc : Doc) (before : Option (List ℕ)) → WorldStands doc 0 (history doc 0) l.fn.world → end_of l.fn.world ≡ end_beat doc
+      stands : (doc : Doc) (before : Option (List ℕ)) → doc.events ≡ [] → WorldStands doc 0 (history doc 0) l.fn.world → end_of l.fn.world ≡ end_beat doc
           → Spoken before (sink.taken l.fn.sink) l.fn.text.items (trace_before doc l.name 0)
           → WorldStands doc (at_of l.world) (history doc (at_of l.world)) l.world
           × Spoken before (sink.taken l.sink) l.text.items (trace_before doc l.name (at_of l.world));
