@@ -1,5 +1,5 @@
 -- The document as the definitions read it, and the timings of each process.
-use Rattle.std.specs.Prelude.{ℕ, ℤ, zero, suc, pos, ◌*◌, nat_lt, Bool, false, List, [], ◌∷◌, ◌++◌, length, Option, Some, None}
+use Rattle.std.specs.Prelude.{ℕ, ℤ, zero, suc, pos, ◌*◌, nat_lt, Bool, false, List, [], ◌∷◌, ◌++◌, length, slice_get, Option, Some, None}
 use Rattle.kube_objects.specs.declared.key.Key.{Key}
 use Rattle.kube_objects.specs.declared.object.Object.{Object}
 use Rattle.kube_objects.specs.declared.script.Event.{Event}
@@ -15,13 +15,8 @@ pub record Doc : Type 0 where
 
 -- ---- processes: the controllers in order, then the kubelets
 
-abbrev pub at : {A : Type 0} → List A → ℕ → Option A
-at [] n = None
-at (x ∷ xs) zero = Some x
-at (x ∷ xs) (suc n) = at xs n
-
 abbrev pub process_at : Doc → ℕ → Option Proc
-process_at doc p = at (doc.controllers ++ doc.kubelets) p
+process_at doc p = slice_get (doc.controllers ++ doc.kubelets) p
 
 abbrev pub processes : Doc → ℕ
 processes doc = length (doc.controllers ++ doc.kubelets)

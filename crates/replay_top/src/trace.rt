@@ -1,0 +1,123 @@
+// A document is run, and its trace is written as the beats are done.
+ghost use Rattle.std.specs.Prelude.{◌≡◌, ◌≤◌, ◌+◌, ◌++◌, ℕ, List, [], Option, OnOk, OnErr, IfOk, IfErr, IsErr};
+ghost use Rattle.byte_edge.specs.Bytes.{Rose, Gives, Gave};
+ghost use Rattle.kube_objects.specs.Document.{Doc, end_beat};
+ghost use Rattle.history.specs.History.{history};
+ghost use Rattle.world_core.specs.Worlds.{at_of, end_of, IsReady, WorldStands};
+ghost use Rattle.replay_top.specs.Defaults.{doc_of};
+ghost use Rattle.replay_top.specs.Lines.{trace, trace_of, trace_before, first_line};
+ghost use Rattle.replay_top.specs.Spoken.{Spoken, Written};
+
+use crate::document::{OneController, world_document};
+use crate::lines::{add_deeds, add_first};
+use byte_edge::{Failed, Sink, give_all};
+use kube_base::{Name, NoMemory};
+use std::alloc::Global;
+use thiserror::Error;
+use world_core::World;
+
+/// Why a trace wasn't written whole.
+#[derive(Clone, Copy, Debug, PartialEq, Eq, Error)]
+pub enum WriteFault {
+    #[error("the sink failed")]
+    Sink,
+    #[error("out of memory")]
+    NoMemory,
+}
+
+/// The text that is held before it is given to the sink, in bytes.
+const PIECE: usize = 16_384;
+
+/// Runs the document and writes its trace. After a fault or want of memory a prefix of it was written.
+pub(crate) fn write_trace<K: Sink>(
+    alloc: Global,
+    sink: &mut K,
+    document: OneController,
+) -> Result<(), WriteFault>
+    requires { document.end.0 ≤ 6048000 }
+    ensures all { OnOk result (Gives (K.taken sink.old) (K.taken sink.new) (trace document)) }
+    ensures front { OnErr result (Gave (K.taken sink.old) (K.taken sink.new) (trace document)) }
+    ensures failed { IfErr result (λ e. e ≡ WriteFault.Sink → Rose (K.faults sink.old) (K.faults sink.new)) }
+{
+    let mut text = Vec::new(alloc);
+    match start(alloc, &mut text, document) {
+        Ok((world, name)) => write_beats(sink, world, &name, text),
+        Err(NoMemory) => Err(WriteFault::NoMemory),
+    }
+}
+
+/// The world before its first beat and the controller's name, with the first line at the end of the text.
+fn start(
+    alloc: Global,
+    text: &mut Vec<u8>,
+    document: OneController,
+) -> Result<(World, Name), NoMemory>
+    requires { document.end.0 ≤ 6048000 }
+    ensures text { OnOk result (text.new.items ≡ text.old.items ++ first_line (doc_of document)) }
+    ensures name { IfOk result (λ r. r.1 ≡ document.name) }
+    ensures kept { IfOk result (λ r. IsReady r.0 × (at_of r.0 ≡ 0) × (end_of r.0 ≡ document.end.0)) }
+    ensures stands { IfOk result (λ r. WorldStands (doc_of document) 0 (history (doc_of document) 0) r.0) }
+{
+    add_first(text, &document)?;
+    let name = document.name.copy()?;
+    let world = World::new(alloc, world_document(alloc, &document)?)?;
+    Ok((world, name))
+}
+
+/// Does all beats and writes their lines, after the text so far.
+fn write_beats<K: Sink>(
+    sink: &mut K,
+    mut world: World,
+    name: &Name,
+    mut text: Vec<u8>,
+) -> Result<(), WriteFault>
+    requires ready { IsReady world }
+    requires first { at_of world ≡ 0 }
+    ensures written { (doc : Doc) → (before : Option (List ℕ)) → doc.events ≡ [] → WorldStands doc 0 (history doc 0) world → end_of world ≡ end_beat doc
+        → Spoken before (K.taken sink.old) text.items (trace_before doc name.now 0)
+        → Written before (K.taken sink.new) (trace_of doc name.now) result }
+    ensures failed { IfErr result (λ e. e ≡ WriteFault.Sink → Rose (K.faults sink.old) (K.faults sink.new)) }
+{
+    'beats: while !world.finished() {
+        match give_long(sink, &mut text) {
+            Ok(()) => {}
+            Err(Failed) => return Err(WriteFault::Sink),
+        }
+        let deeds = match world.beat() {
+            Ok((next, deeds)) => {
+                world = next;
+                deeds
+            }
+            Err(NoMemory) => return Err(WriteFault::NoMemory),
+        };
+        match add_deeds(&mut text, name.bytes(), deeds.as_slice()) {
+            Ok(()) => {}
+            Err(NoMemory) => return Err(WriteFault::NoMemory),
+        }
+    }
+    match give_all(sink, &text) {
+        Ok(()) => Ok(()),
+        Err(Failed) => Err(WriteFault::Sink),
+    }
+}
+
+/// Gives the text so far, where it is long.
+fn give_long<K: Sink>(sink: &mut K, text: &mut Vec<u8>) -> Result<(), Failed>
+    ensures spoken { (before : Option (List ℕ)) (said : List ℕ) → Spoken before (K.taken sink.old) text.old.items said
+        → OnOk result (Spoken before (K.taken sink.new) text.new.items said) }
+    ensures front { (before : Option (List ℕ)) (said : List ℕ) → Spoken before (K.taken sink.old) text.old.items said
+        → OnErr result (Gave before (K.taken sink.new) said) }
+    ensures counted { K.faults sink.old ≤ K.faults sink.new }
+    ensures failed { IsErr result → Rose (K.faults sink.old) (K.faults sink.new) }
+{
+    if text.len() < PIECE {
+        return Ok(());
+    }
+    match give_all(sink, text) {
+        Ok(()) => {
+            text.clear();
+            Ok(())
+        }
+        Err(Failed) => Err(Failed),
+    }
+}

@@ -1,0 +1,207 @@
+-- All but one controller stand through the quiet entries of that one.
+use Rattle.std.proofs.Common.{◌≡◌, ℕ, ◌+◌, ◌<◌, ◌≤◌, ◌==◌, ◌&&◌, nat_lt, Bool, true, false, List, [], ◌∷◌, Option, Some, None, slice_get, refl, sym, ap, ◌∙◌, subst, arith}
+use Rattle.kube_objects.specs.declared.deed.Actor.{Actor}
+use Rattle.kube_objects.specs.declared.deed.Actor.TheVariants as actor
+use Rattle.kube_objects.specs.Clocks.{local}
+use Rattle.kube_objects.specs.Document.{Doc, processes}
+use Rattle.kube_objects.specs.Elector.{deadline}
+use Rattle.kube_objects.specs.Entry.{Entry, Identity, Call, Deed, First, Event, Starts, Crashes, Stops, Ends, Sends, Answers, Delivers, Expires, Leads, Ticks, entry}
+use Rattle.kube_objects.specs.Identities.{identity, is_same, is_by, of_process}
+use Rattle.kube_objects.specs.Newest.{when, join}
+use Rattle.kube_objects.specs.Process.{life_says, life, alive, born, gone, starts, call_in, is_late, ended, is_restart_due}
+use Rattle.kube_objects.specs.Stored.{write_of}
+use Rattle.kube_objects.specs.Turns.{expire_as, expire_call, end_as, end_term}
+use Rattle.kube_objects.specs.Wire.{Sent, Back}
+use Rattle.history.specs.Steps.{start, restart_as, restart_if, restart, if_up, expire, finish}
+use Rattle.object_store.proofs.Keeps.{store-beside}
+use Rattle.wire_calls.specs.WireStands.{is_of_wire}
+use Rattle.wire_calls.proofs.Frames.{wire-beside}
+use Rattle.world_core.specs.declared.controller.Controller.{Controller}
+use Rattle.world_core.specs.declared.world.World.{World}
+use Rattle.world_core.specs.Controllers.{ControllerStands, settled}
+use Rattle.world_core.specs.Plain.{IsUnheard, IsKnown, IsPlain, is_quiet, AreQuiet, with_deeds}
+use Rattle.world_core.specs.Worlds.{RestStands, EachStands, OthersStand, WorldWithin}
+use Rattle.world_core.proofs.Beside.{controller-others}
+use Rattle.world_core.proofs.Lives.{is_event}
+use Rattle.world_core.proofs.Names.{lt-from, le-from, eq-self}
+use Rattle.world_core.proofs.Plainly.{plain-entry, known-later, starts-start}
+
+quiet-write : (d : Deed) → is_quiet d ≡ true → write_of d ≡ None
+quiet-write (First key object) is = cc
+quiet-write (Event what version) is = cc
+quiet-write Starts is = refl
+quiet-write Crashes is = refl
+quiet-write Stops is = refl
+quiet-write Ends is = refl
+quiet-write (Sends call arrives) is = cc
+quiet-write (Answers call reply comes written) is = cc
+quiet-write (Delivers call reply counted) is = refl
+quiet-write (Expires call) is = refl
+quiet-write (Leads version) is = refl
+quiet-write (Ticks tick) is = cc
+
+quiet-wire : (d : Deed) → is_quiet d ≡ true → is_of_wire d ≡ false
+quiet-wire (First key object) is = cc
+quiet-wire (Event what version) is = cc
+quiet-wire Starts is = refl
+quiet-wire Crashes is = refl
+quiet-wire Stops is = refl
+quiet-wire Ends is = refl
+quiet-wire (Sends call arrives) is = cc
+quiet-wire (Answers call reply comes written) is = cc
+quiet-wire (Delivers call reply counted) is = refl
+quiet-wire (Expires call) is = refl
+quiet-wire (Leads version) is = refl
+quiet-wire (Ticks tick) is = cc
+
+quiet-event : (d : Deed) → is_quiet d ≡ true → is_event d ≡ false
+quiet-event (First key object) is = cc
+quiet-event (Event what version) is = cc
+quiet-event Starts is = refl
+quiet-event Crashes is = refl
+quiet-event Stops is = refl
+quiet-event Ends is = refl
+quiet-event (Sends call arrives) is = refl
+quiet-event (Answers call reply comes written) is = refl
+quiet-event (Delivers call reply counted) is = refl
+quiet-event (Expires call) is = refl
+quiet-event (Leads version) is = refl
+quiet-event (Ticks tick) is = refl
+
+-- all but controller i
+pub record Around (doc : Doc) (k i : ℕ) (arriving : List Sent) (coming : List Back) (h : List Entry) (w : World) : Type 0 where
+  pub rest : RestStands doc k arriving coming h w
+  pub others : OthersStand doc i h w.controllers.items
+
+pub around-world : (doc : Doc) (k i : ℕ) (arriving : List Sent) (coming : List Back) (h : List Entry) (w : World) → WorldWithin doc k arriving coming h w → Around doc k i arriving coming h w
+around-world doc k i arriving coming h w s = record { rest = s.rest; others = λ p c other is. s.controllers p c is }
+
+pub rest-own : (doc : Doc) (k j step : ℕ) (arriving : List Sent) (coming : List Back) (q : Identity) (d : Deed) (h : List Entry) (w : World) → is_quiet d ≡ true → IsKnown (processes doc) (entry j step q d ∷ h) q →
+    RestStands doc k arriving coming h w → RestStands doc k arriving coming (entry j step q d ∷ h) w
+rest-own doc k j step arriving coming q d h w quiet known s =
+    record {
+      document = s.document;
+      plain = plain-entry (processes doc) j step q d h known s.plain;
+      store = store-beside h (entry j step q d) w.store s.store (quiet-write d quiet);
+      wire = wire-beside (processes doc) k arriving coming h (entry j step q d) w.wire (quiet-wire d quiet) s.wire;
+    }
+
+pub around-own : (doc : Doc) (k i j step : ℕ) (arriving : List Sent) (coming : List Back) (q : Identity) (d : Deed) (h : List Entry) (w : World) → q.process ≡ i → is_quiet d ≡ true → IsKnown (processes doc) (entry j step q d ∷ h) q →
+    Around doc k i arriving coming h w → Around doc k i arriving coming (entry j step q d ∷ h) w
+around-own doc k i j step arriving coming q d h w process quiet known s =
+    record {
+      rest = rest-own doc k j step arriving coming q d h w quiet known s.rest;
+      others = λ p c other is. controller-others doc p j step q d h c (λ e. other (sym e ∙ process)) (quiet-event d quiet) (s.others p c other is);
+    }
+
+pub known-deeds : (n k step : ℕ) (q : Identity) (ds : List Deed) (h : List Entry) → IsKnown n h q → IsKnown n (with_deeds k step q ds h) q
+known-deeds n k step q [] h known = known
+known-deeds n k step q (d ∷ ds) h known = known-later n (entry k step q d) (with_deeds k step q ds h) q (known-deeds n k step q ds h known)
+
+pub around-deeds : (doc : Doc) (k i j step : ℕ) (arriving : List Sent) (coming : List Back) (q : Identity) (ds : List Deed) (h : List Entry) (w : World) → q.process ≡ i → AreQuiet ds → IsKnown (processes doc) h q →
+    Around doc k i arriving coming h w → Around doc k i arriving coming (with_deeds j step q ds h) w
+around-deeds doc k i j step arriving coming q [] h w process quiet known s = s
+around-deeds doc k i j step arriving coming q (d ∷ ds) h w process quiet known s =
+    around-own doc k i j step arriving coming q d (with_deeds j step q ds h) w process quiet.0 (known-deeds (processes doc) j step q (d ∷ ds) h known) (around-deeds doc k i j step arriving coming q ds h w process quiet.1 known s)
+
+-- ---- who is up was started
+
+born-is : (p i : ℕ) (who : Actor) → is_by (identity p i) who ≡ false → born (of_process p who) ≡ Some (Some i) → ⊥
+born-is p i actor.Script other is = cc
+born-is p i (actor.Proc id incarnation) other is = by_test (id.0 == p) other is
+  where
+    by_test : (b : Bool) → (b && (incarnation == i)) ≡ false → born (when b incarnation) ≡ Some (Some i) → ⊥
+    by_test false other is = cc
+    by_test true other is =
+        let same : incarnation ≡ i = cc in
+        let now : (incarnation == i) ≡ true = ap (λ n. incarnation == n) (sym same) ∙ eq-self incarnation in
+        cc
+
+gone-is : (p i : ℕ) (o : Option ℕ) → gone o ≡ Some (Some i) → ⊥
+gone-is p i None is = cc
+gone-is p i (Some j) is = cc
+
+says-not : (p i : ℕ) (who : Actor) (d : Deed) → is_by (identity p i) who ≡ false → life_says p who d ≡ Some (Some i) → ⊥
+says-not p i who (First key object) other is = cc
+says-not p i who (Event what version) other is = cc
+says-not p i who Starts other is = born-is p i who other is
+says-not p i who Crashes other is = gone-is p i (of_process p who) is
+says-not p i who Stops other is = gone-is p i (of_process p who) is
+says-not p i who Ends other is = gone-is p i (of_process p who) is
+says-not p i who (Sends call arrives) other is = cc
+says-not p i who (Answers call reply comes written) other is = cc
+says-not p i who (Delivers call reply counted) other is = cc
+says-not p i who (Expires call) other is = cc
+says-not p i who (Leads version) other is = cc
+says-not p i who (Ticks tick) other is = cc
+
+alive-heard : (p i : ℕ) (h : List Entry) → IsUnheard (identity p i) h → alive p h ≡ Some i → ⊥
+alive-heard p i [] u up = cc
+alive-heard p i (e ∷ h) u up = by_says (life_says p e.actor e.deed) (says-not p i e.actor e.deed u.0) (λ was. alive-heard p i h u.1 was) up
+  where
+    by_says : (x : Option (Option ℕ)) → (x ≡ Some (Some i) → ⊥) → (join (life p h) ≡ Some i → ⊥) → join (elim x as (λ o. Option (Option ℕ)) [ None ↦ life p h | Some y ↦ Some y ]) ≡ Some i → ⊥
+    by_says None never before up = before up
+    by_says (Some y) never before up = never (ap (λ (o : Option ℕ). Some o) up)
+
+pub alive-known : (n p i : ℕ) (h : List Entry) → IsPlain n h → p < n → alive p h ≡ Some i → IsKnown n h (identity p i)
+alive-known n p i h s within up = record { within = within; started = by_order (nat_lt (starts p h) i) refl }
+  where
+    by_order : (b : Bool) → nat_lt (starts p h) i ≡ b → i ≤ starts p h
+    by_order true is = absurd (alive-heard p i h (s.fresh p i (lt-from (starts p h) i is)) up)
+    by_order false is = le-from (starts p h) i is
+
+-- ---- through a turn up to its attempt
+
+around-start : (doc : Doc) (k i j step : ℕ) (arriving : List Sent) (coming : List Back) (h : List Entry) (w : World) → i < processes doc → Around doc k i arriving coming h w → Around doc k i arriving coming (start j step i h) w
+around-start doc k i j step arriving coming h w within s =
+    let q = identity i (starts i h + 1) in
+    around-own doc k i j step arriving coming q Starts h w refl refl (record { within = within; started = let e = starts-start j step q h in omega (arith, e) }) s
+
+pub around-started : (doc : Doc) (k i j step : ℕ) (arriving : List Sent) (coming : List Back) (h : List Entry) (w : World) → i < processes doc → Around doc k i arriving coming h w → Around doc k i arriving coming (start j step i h) w
+around-started = around-start
+
+around-restart : (doc : Doc) (k i : ℕ) (arriving : List Sent) (coming : List Back) (h : List Entry) (w : World) → i < processes doc → Around doc k i arriving coming h w → Around doc k i arriving coming (restart doc k i h) w
+around-restart doc k i arriving coming h w within s = by_life (alive i h)
+  where
+    by_due : (b : Bool) → Around doc k i arriving coming (restart_as k i b h) w
+    by_due true = around-start doc k i k 4 arriving coming h w within s
+    by_due false = s
+
+    by_life : (up : Option ℕ) → Around doc k i arriving coming (restart_if doc k i up h) w
+    by_life None = by_due (is_restart_due doc i k (ended i h))
+    by_life (Some j) = s
+
+around-expire : (doc : Doc) (k i : ℕ) (arriving : List Sent) (coming : List Back) (h : List Entry) (w : World) → i < processes doc → Around doc k i arriving coming h w → Around doc k i arriving coming (expire doc k i h) w
+around-expire doc k i arriving coming h w within s = by_life (alive i h) refl
+  where
+    by_late : (j : ℕ) → IsKnown (processes doc) h (identity i j) → (call : Call) (b : Bool) → Around doc k i arriving coming (expire_as k (identity i j) call b h) w
+    by_late j known call true = around-own doc k i k 4 arriving coming (identity i j) (Expires call) h w refl refl (known-later (processes doc) (entry k 4 (identity i j) (Expires call)) h (identity i j) known) s
+    by_late j known call false = s
+
+    by_call : (j : ℕ) → IsKnown (processes doc) h (identity i j) → (call : Option Call) → Around doc k i arriving coming (expire_call doc k (identity i j) call h) w
+    by_call j known None = s
+    by_call j known (Some call) = by_late j known call (is_late doc (identity i j) k call)
+
+    by_life : (up : Option ℕ) → alive i h ≡ up → Around doc k i arriving coming (if_up i (λ q T. expire_call doc k q (call_in q T) T) up h) w
+    by_life None is = s
+    by_life (Some j) is = by_call j (alive-known (processes doc) i j h s.rest.plain within is) (call_in (identity i j) h)
+
+around-finish : (doc : Doc) (k i : ℕ) (arriving : List Sent) (coming : List Back) (h : List Entry) (w : World) → i < processes doc → Around doc k i arriving coming h w → Around doc k i arriving coming (finish doc k i h) w
+around-finish doc k i arriving coming h w within s = by_life (alive i h) refl
+  where
+    by_time : (j : ℕ) → IsKnown (processes doc) h (identity i j) → (b : Bool) → Around doc k i arriving coming (end_as k (identity i j) b h) w
+    by_time j known true = s
+    by_time j known false = around-own doc k i k 4 arriving coming (identity i j) Ends h w refl refl (known-later (processes doc) (entry k 4 (identity i j) Ends) h (identity i j) known) s
+
+    by_deadline : (j : ℕ) → IsKnown (processes doc) h (identity i j) → (at : Option ℕ) → Around doc k i arriving coming (end_term doc k (identity i j) at h) w
+    by_deadline j known None = s
+    by_deadline j known (Some at) = by_time j known (nat_lt (local doc i k) at)
+
+    by_life : (up : Option ℕ) → alive i h ≡ up → Around doc k i arriving coming (if_up i (λ q T. end_term doc k q (deadline doc q T) T) up h) w
+    by_life None is = s
+    by_life (Some j) is = by_deadline j (alive-known (processes doc) i j h s.rest.plain within is) (deadline doc (identity i j) h)
+
+pub around-settled : (doc : Doc) (k i : ℕ) (arriving : List Sent) (coming : List Back) (h : List Entry) (w : World) → i < processes doc → Around doc k i arriving coming h w → Around doc k i arriving coming (settled doc k i (restart doc k i h)) w
+around-settled doc k i arriving coming h w within s =
+    let r = restart doc k i h in
+    around-finish doc k i arriving coming (expire doc k i r) w within (around-expire doc k i arriving coming r w within (around-restart doc k i arriving coming h w within s))

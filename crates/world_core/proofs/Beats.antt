@@ -1,0 +1,106 @@
+-- A whole beat.
+use Rattle.std.proofs.Common.{◌≡◌, ℕ, zero, suc, ◌+◌, ◌<◌, ◌≤◌, ◌==◌, ◌++◌, Bool, true, false, cond, List, [], ◌∷◌, Option, Some, None, refl, sym, ap, ◌∙◌, subst, arith}
+use Rattle.std.proofs.lemmas.Bool.Decides.{nat_tests}
+use Rattle.std.proofs.lemmas.List.{append-nil}
+use Rattle.kube_objects.specs.declared.deed.Deed as deed
+use Rattle.kube_objects.specs.Answers.{answer, written}
+use Rattle.kube_objects.specs.Document.{Doc, processes, is_up_first}
+use Rattle.kube_objects.specs.Entry.{Entry, Answers, entry}
+use Rattle.kube_objects.specs.InFlight.{requests_due, replies_due, and_reply, is_due}
+use Rattle.kube_objects.specs.Wire.{Sent, Back, reply_delay, loses_replies, arrival, reply_arrival, back_of}
+use Rattle.history.specs.Due.{answer_all, deliver_all}
+use Rattle.history.specs.History.{beat}
+use Rattle.history.specs.Printed.{printed}
+use Rattle.history.specs.Steps.{start_first, starts_below, first_starts, happen_all, answered, step_one, step_two, step_three, turns}
+use Rattle.history.proofs.Due.{step_two-due, step_three-due}
+use Rattle.wire_calls.proofs.Frames.{wire-next-beat}
+use Rattle.world_core.specs.declared.world.World.{World}
+use Rattle.world_core.specs.Plain.{IsFew, IsPlain, SentByKnown, BackToKnown}
+use Rattle.world_core.specs.Worlds.{WorldWithin, WorldStands, Running}
+use Rattle.world_core.proofs.Grows.{Grows, grows-on, grows-same, grows-entry, grows-turns, few-before}
+use Rattle.world_core.proofs.Known.{requests-known, replies-known}
+use Rattle.world_core.proofs.Loops.{grows-deliver_all}
+
+-- ---- starts send nothing
+
+requests-start : (k j p : ℕ) (b : Bool) (h : List Entry) → requests_due j (start_first p b h) ≡ requests_due j h
+requests-start k j p true h = refl
+requests-start k j p false h = refl
+
+replies-start : (k j p : ℕ) (b : Bool) (h : List Entry) → replies_due j (start_first p b h) ≡ replies_due j h
+replies-start k j p true h = refl
+replies-start k j p false h = refl
+
+requests-below : (doc : Doc) (j n : ℕ) (h : List Entry) → requests_due j (starts_below doc n h) ≡ requests_due j h
+requests-below doc j zero h = refl
+requests-below doc j (suc p) h = requests-start 0 j p (is_up_first doc p) (starts_below doc p h) ∙ requests-below doc j p h
+
+replies-below : (doc : Doc) (j n : ℕ) (h : List Entry) → replies_due j (starts_below doc n h) ≡ replies_due j h
+replies-below doc j zero h = refl
+replies-below doc j (suc p) h = replies-start 0 j p (is_up_first doc p) (starts_below doc p h) ∙ replies-below doc j p h
+
+pub requests-starts : (doc : Doc) (k j : ℕ) (h : List Entry) → requests_due j (first_starts doc k h) ≡ requests_due j h
+requests-starts doc zero j h = requests-below doc j (processes doc) h
+requests-starts doc (suc k) j h = refl
+
+pub replies-starts : (doc : Doc) (k j : ℕ) (h : List Entry) → replies_due j (first_starts doc k h) ≡ replies_due j h
+replies-starts doc zero j h = replies-below doc j (processes doc) h
+replies-starts doc (suc k) j h = refl
+
+-- ---- what is answered at a beat comes back later
+
+never-now : (k delay : ℕ) → 1 ≤ delay → ((k + delay) == k) ≡ false
+never-now k delay later = grind (arith, nat_tests)
+
+not_due : (lost : Bool) (k delay : ℕ) → 1 ≤ delay → is_due k (arrival lost k delay) ≡ false
+not_due true k delay later = refl
+not_due false k delay later = never-now k delay later
+
+replies-answered : (k : ℕ) (s : Sent) (h : List Entry) → 1 ≤ reply_delay s.who.process h → replies_due k (answered k s h) ≡ replies_due k h
+replies-answered k s h later = ap (λ b. cond b (replies_due k h ++ record { who = s.who; call = s.call; reply = answer s.call.request h; comes = reply_arrival s.who.process k h } ∷ []) (replies_due k h)) (not_due (loses_replies s.who.process h) k (reply_delay s.who.process h) later)
+
+pub replies-answers : (k : ℕ) (ss : List Sent) (h : List Entry) → ((p : ℕ) → 1 ≤ reply_delay p h) → replies_due k (answer_all k ss h) ≡ replies_due k h
+replies-answers k [] h later = refl
+replies-answers k (s ∷ ss) h later = replies-answers k ss (answered k s h) later ∙ replies-answered k s h (later s.who.process)
+
+grows-answer_all : (k : ℕ) (ss : List Sent) (h : List Entry) → Grows h (answer_all k ss h)
+grows-answer_all k [] h = grows-same h
+grows-answer_all k (s ∷ ss) h = grows-on h (answered k s h) (answer_all k ss (answered k s h)) (grows-entry _ h) (grows-answer_all k ss (answered k s h))
+
+-- ---- the beat, where no event happens
+
+abbrev pub one : Doc → ℕ → List Entry → List Entry
+one doc k h = first_starts doc k h
+
+abbrev pub two : Doc → ℕ → List Entry → List Entry
+two doc k h = answer_all k (requests_due k (one doc k h)) (one doc k h)
+
+abbrev pub three : Doc → ℕ → List Entry → List Entry
+three doc k h = deliver_all doc k (replies_due k (two doc k h)) (two doc k h)
+
+pub beat-is : (doc : Doc) (k : ℕ) (h : List Entry) → doc.events ≡ [] → beat doc h k ≡ turns doc k (processes doc) (three doc k h)
+beat-is doc k h eventless =
+    ap (λ es. turns doc k (processes doc) (step_three doc k (step_two k (happen_all doc k es (one doc k h))))) eventless
+    ∙ ap (λ g. turns doc k (processes doc) (step_three doc k g)) (step_two-due k (one doc k h))
+    ∙ ap (turns doc k (processes doc)) (step_three-due doc k (two doc k h))
+
+pub few-three : (doc : Doc) (k : ℕ) (h : List Entry) → IsFew (turns doc k (processes doc) (three doc k h)) → IsFew (three doc k h)
+few-three doc k h few = few-before (three doc k h) (turns doc k (processes doc) (three doc k h)) (grows-turns doc k (processes doc) (three doc k h)) few
+
+pub few-one : (doc : Doc) (k : ℕ) (h : List Entry) → IsFew (three doc k h) → IsFew (one doc k h)
+few-one doc k h few =
+    few-before (one doc k h) (three doc k h) (grows-on (one doc k h) (two doc k h) (three doc k h) (grows-answer_all k (requests_due k (one doc k h)) (one doc k h)) (grows-deliver_all doc k (replies_due k (two doc k h)) (two doc k h))) few
+
+-- the next beat begins
+pub world-next : (doc : Doc) (k : ℕ) (h : List Entry) (w : World) → WorldWithin doc k [] [] h w → WorldStands doc (k + 1) h (record w { beat = record { 0 = w.beat.0 + 1 } })
+world-next doc k h w s =
+    let d = s.rest.document in
+    record {
+      rest = record {
+        document = record { at = ap (λ n. n + 1) d.at; restart = d.restart; count = d.count; controllers = d.controllers; eventless = d.eventless; };
+        plain = s.rest.plain;
+        store = s.rest.store;
+        wire = wire-next-beat (processes doc) k h w.wire s.rest.wire;
+      };
+      controllers = s.controllers;
+    }

@@ -1,0 +1,162 @@
+-- The loops of a beat: what has been taken so far, and what is left.
+use Rattle.std.proofs.Common.{◌≡◌, ℕ, zero, suc, ◌+◌, ◌-◌, ◌<◌, ◌≤◌, ◌++◌, List, [], ◌∷◌, Option, Some, None, length, refl, sym, ap, ◌∙◌, subst, arith}
+use Rattle.kube_objects.specs.declared.call.Reply.{Reply}
+use Rattle.kube_objects.specs.declared.deed.Actor.TheVariants as actor
+use Rattle.kube_objects.specs.declared.deed.Deed as deed
+use Rattle.kube_objects.specs.declared.object.Object.{Object}
+use Rattle.kube_objects.specs.Answers.{answer, written}
+use Rattle.kube_objects.specs.Document.{Doc, processes, is_up_first}
+use Rattle.kube_objects.specs.Entry.{Entry, Identity, Call, Answers, entry, actor_of}
+use Rattle.kube_objects.specs.Identities.{identity}
+use Rattle.kube_objects.specs.Process.{starts}
+use Rattle.kube_objects.specs.Stored.{write_of, request_write}
+use Rattle.kube_objects.specs.Wire.{Sent, Back, reply_arrival}
+use Rattle.history.specs.Due.{answer_all, deliver_all}
+use Rattle.history.specs.Printed.{printed, deeds_of, answer_act}
+use Rattle.history.specs.Steps.{answered, delivered, first_starts, starts_below, turns}
+use Rattle.object_store.specs.Stands.{StoreStands}
+use Rattle.wire_calls.specs.declared.message.Arrived.{Arrived}
+use Rattle.wire_calls.specs.declared.message.Delivered.{Delivered}
+use Rattle.wire_calls.specs.InFlight.{first_of, rest_of}
+use Rattle.wire_calls.specs.WireStands.{WireStands, arrived_of, as_arrived, delivered_of, as_delivered}
+use Rattle.world_core.specs.declared.world.World.{World}
+use Rattle.world_core.specs.Plain.{IsKnown, IsFew, SentByKnown, BackToKnown}
+use Rattle.world_core.specs.Worlds.{IsReady, Keeps, EachStands, WorldWithin, Running}
+use Rattle.world_core.proofs.Grows.{Grows, grows-on, grows-same, grows-entry, grows-delivered, grows-more_starts, grows-more_turns, few-before}
+use Rattle.world_core.proofs.Known.{sent-later, back-later}
+use Rattle.world_core.proofs.Moving.{actor-is}
+use Rattle.world_core.proofs.Running.{answered-running}
+
+-- ---- requests
+
+pub record Answering (doc : Doc) (k : ℕ) (before : List deed.Deed) (arriving : List Sent) (coming : List Back) (h : List Entry) (w : World) (deeds : List deed.Deed) : Type 0 where
+  pub now : List Entry
+  pub left : List Sent
+  pub running : Running doc k before left coming now w deeds
+  pub known : SentByKnown (processes doc) now left
+  pub same : answer_all k left now ≡ answer_all k arriving h
+
+-- the store and the wire did what a request that arrived asks
+pub record Serves (doc : Doc) (k : ℕ) (rest : List Sent) (coming : List Back) (h : List Entry) (deeds new : List deed.Deed) (v : World) (r : Reply) (x : Arrived) : Type 0 where
+  pub answers : r ≡ answer x.request h
+  pub store : (e : Entry) → write_of e.deed ≡ request_write x.request (written x.request h) → StoreStands (e ∷ h) v.store
+  pub wire : (q : Identity) (call : Call) (wrote : Option Object) → q ≡ identity x.who.0 x.incarnation → call.number ≡ x.number → WireStands (processes doc) k rest coming (entry k 2 q (Answers call r (reply_arrival q.process k h) wrote) ∷ h) v.wire
+  pub told : new ≡ deeds ++ deeds_of k (actor.Proc x.who x.incarnation) (answer_act x.request r)
+
+serve-one : (doc : Doc) (k : ℕ) (before deeds new : List deed.Deed) (s : Sent) (left rest : List Sent) (coming : List Back) (h : List Entry) (w v : World) (r : Reply) → Running doc k before left coming h w deeds → IsKnown (processes doc) h s.who → v.beat ≡ w.beat → v.restart ≡ w.restart → v.controllers ≡ w.controllers →
+    Serves doc k rest coming h deeds new v r (as_arrived s) → Running doc k before rest coming (answered k s h) v new
+serve-one doc k before deeds new s left rest coming h w v r run known beat restart controllers serves =
+    answered-running doc k before deeds new rest coming s h w v run.world.rest.document run.world.rest.plain run.world.controllers run.told known beat restart controllers
+    (serves.store (entry k 2 s.who (Answers s.call (answer s.call.request h) (reply_arrival s.who.process k h) (written s.call.request h))) refl)
+    (subst (λ x. WireStands (processes doc) k rest coming (entry k 2 s.who (Answers s.call x (reply_arrival s.who.process k h) (written s.call.request h)) ∷ h) v.wire) serves.answers (serves.wire s.who s.call (written s.call.request h) refl refl))
+    (serves.told ∙ ap (λ x. deeds ++ deeds_of k (actor_of s.who) (answer_act s.call.request x)) serves.answers)
+
+pub answering-more : (doc : Doc) (k : ℕ) (before deeds new : List deed.Deed) (arriving : List Sent) (coming : List Back) (h : List Entry) (w v : World) (r : Reply) (x : Arrived) → (a : Answering doc k before arriving coming h w deeds) →
+    arrived_of (first_of a.left) ≡ Some x → v.beat ≡ w.beat → v.restart ≡ w.restart → v.controllers ≡ w.controllers → Serves doc k (rest_of a.left) coming a.now deeds new v r x → Answering doc k before arriving coming h v new
+answering-more doc k before deeds new arriving coming h w v r x a first beat restart controllers serves = by_left a.left a.running a.known a.same first serves
+  where
+    by_left : (left : List Sent) → Running doc k before left coming a.now w deeds → SentByKnown (processes doc) a.now left → answer_all k left a.now ≡ answer_all k arriving h → arrived_of (first_of left) ≡ Some x →
+        Serves doc k (rest_of left) coming a.now deeds new v r x → Answering doc k before arriving coming h v new
+    by_left [] run known same first serves = cc
+    by_left (s ∷ rest) run known same first serves =
+        let is : x ≡ as_arrived s = cc in
+        record {
+          now = answered k s a.now;
+          left = rest;
+          running = serve-one doc k before deeds new s (s ∷ rest) rest coming a.now w v r run known.0 beat restart controllers (subst (Serves doc k rest coming a.now deeds new v r) is serves);
+          known = sent-later (processes doc) a.now (answered k s a.now) ((grows-entry (entry k 2 s.who (Answers s.call (answer s.call.request a.now) (reply_arrival s.who.process k a.now) (written s.call.request a.now))) a.now).starts) rest known.1;
+          same = same;
+        }
+
+-- nothing is left
+pub answering-done : (doc : Doc) (k : ℕ) (before deeds : List deed.Deed) (arriving : List Sent) (coming : List Back) (h : List Entry) (w v : World) → (a : Answering doc k before arriving coming h w deeds) → arrived_of (first_of a.left) ≡ None →
+    (Running doc k before a.left coming a.now w deeds → Running doc k before (rest_of a.left) coming a.now v deeds) → Running doc k before [] coming (answer_all k arriving h) v deeds
+answering-done doc k before deeds arriving coming h w v a none taken = by_left a.left a.running a.same none taken
+  where
+    by_left : (left : List Sent) → Running doc k before left coming a.now w deeds → answer_all k left a.now ≡ answer_all k arriving h → arrived_of (first_of left) ≡ None →
+        (Running doc k before left coming a.now w deeds → Running doc k before (rest_of left) coming a.now v deeds) → Running doc k before [] coming (answer_all k arriving h) v deeds
+    by_left [] run same none taken = subst (λ g. Running doc k before [] coming g v deeds) same (taken run)
+    by_left (s ∷ rest) run same none taken = cc
+
+-- the wire gave something out
+pub rewired : (doc : Doc) (k : ℕ) (before deeds : List deed.Deed) (arriving left : List Sent) (coming rest : List Back) (h : List Entry) (w v : World) → v.beat ≡ w.beat → v.restart ≡ w.restart → v.controllers ≡ w.controllers → v.store ≡ w.store →
+    WireStands (processes doc) k left rest h v.wire → Running doc k before arriving coming h w deeds → Running doc k before left rest h v deeds
+rewired doc k before deeds arriving left coming rest h w v beat restart controllers store wire r =
+    let d = r.world.rest.document in
+    record {
+      world = record {
+        rest = record {
+          document = record { at = ap (λ b. b.0) beat ∙ d.at; restart = restart ∙ d.restart; count = ap (λ cs. length cs.items) controllers ∙ d.count; controllers = d.controllers; eventless = d.eventless; };
+          plain = r.world.rest.plain;
+          store = subst (StoreStands h) (sym store) r.world.rest.store;
+          wire = wire;
+        };
+        controllers = subst (λ cs. EachStands doc h cs.items) (sym controllers) r.world.controllers;
+      };
+      told = r.told;
+    }
+
+-- ---- replies
+
+pub record Delivering (doc : Doc) (k : ℕ) (before : List deed.Deed) (arriving : List Sent) (coming : List Back) (h : List Entry) (w : World) (deeds : List deed.Deed) : Type 0 where
+  pub now : List Entry
+  pub left : List Back
+  pub running : Running doc k before arriving left now w deeds
+  pub known : BackToKnown (processes doc) now left
+  pub same : deliver_all doc k left now ≡ deliver_all doc k coming h
+
+pub grows-deliver_all : (doc : Doc) (k : ℕ) (bs : List Back) (h : List Entry) → Grows h (deliver_all doc k bs h)
+grows-deliver_all doc k [] h = grows-same h
+grows-deliver_all doc k (b ∷ bs) h = grows-on h (delivered doc k b h) (deliver_all doc k bs (delivered doc k b h)) (grows-delivered doc k b h) (grows-deliver_all doc k bs (delivered doc k b h))
+
+pub delivering-more : (doc : Doc) (k : ℕ) (before deeds new : List deed.Deed) (arriving : List Sent) (coming : List Back) (h : List Entry) (w v : World) (x : Delivered) → (a : Delivering doc k before arriving coming h w deeds) → delivered_of (first_of a.left) ≡ Some x → IsFew (deliver_all doc k coming h) →
+    ((b : Back) → x ≡ as_delivered b → IsKnown (processes doc) a.now b.who → IsFew (delivered doc k b a.now) → Running doc k before arriving (rest_of a.left) (delivered doc k b a.now) v new) → Delivering doc k before arriving coming h v new
+delivering-more doc k before deeds new arriving coming h w v x a first few delivers = by_left a.left a.known a.same first delivers
+  where
+    by_left : (left : List Back) → BackToKnown (processes doc) a.now left → deliver_all doc k left a.now ≡ deliver_all doc k coming h → delivered_of (first_of left) ≡ Some x →
+        ((b : Back) → x ≡ as_delivered b → IsKnown (processes doc) a.now b.who → IsFew (delivered doc k b a.now) → Running doc k before arriving (rest_of left) (delivered doc k b a.now) v new) → Delivering doc k before arriving coming h v new
+    by_left [] known same first delivers = cc
+    by_left (b ∷ rest) known same first delivers =
+        let is : x ≡ as_delivered b = cc in
+        let next = delivered doc k b a.now in
+        let few_next = few-before next (deliver_all doc k rest next) (grows-deliver_all doc k rest next) (subst IsFew (sym same) few) in
+        record {
+          now = next;
+          left = rest;
+          running = delivers b is known.0 few_next;
+          known = back-later (processes doc) a.now next ((grows-delivered doc k b a.now).starts) rest known.1;
+          same = same;
+        }
+
+pub delivering-done : (doc : Doc) (k : ℕ) (before deeds : List deed.Deed) (arriving : List Sent) (coming : List Back) (h : List Entry) (w v : World) → (a : Delivering doc k before arriving coming h w deeds) → delivered_of (first_of a.left) ≡ None →
+    (Running doc k before arriving a.left a.now w deeds → Running doc k before arriving (rest_of a.left) a.now v deeds) → Running doc k before arriving [] (deliver_all doc k coming h) v deeds
+delivering-done doc k before deeds arriving coming h w v a none taken = by_left a.left a.running a.same none taken
+  where
+    by_left : (left : List Back) → Running doc k before arriving left a.now w deeds → deliver_all doc k left a.now ≡ deliver_all doc k coming h → delivered_of (first_of left) ≡ None →
+        (Running doc k before arriving left a.now w deeds → Running doc k before arriving (rest_of left) a.now v deeds) → Running doc k before arriving [] (deliver_all doc k coming h) v deeds
+    by_left [] run same none taken = subst (λ g. Running doc k before arriving [] g v deeds) same (taken run)
+    by_left (b ∷ rest) run same none taken = cc
+
+-- ---- first starts
+
+pub first-later : (doc : Doc) (k : ℕ) (h : List Entry) → ¬ (k ≡ 0) → first_starts doc k h ≡ h
+first-later doc zero h later = absurd (later refl)
+first-later doc (suc k) h later = refl
+
+-- ---- what each turn of a loop keeps
+
+pub keeps-on : (u w v : World) → Keeps u w → Keeps w v → Keeps u v
+keeps-on u w v a b = record { ready = b.ready; beat = b.beat ∙ a.beat; end = b.end ∙ a.end; count = b.count ∙ a.count }
+
+pub keeps-same : (w : World) → IsReady w → Keeps w w
+keeps-same w ready = record { ready = ready; beat = refl; end = refl; count = refl }
+
+pub few-starts : (doc : Doc) (i n : ℕ) (h : List Entry) → i < n → IsFew (starts_below doc n h) → IsFew (starts_below doc (suc i) h)
+few-starts doc i n h less few =
+    let all : suc i + (n - suc i) ≡ n = omega (arith, less) in
+    few-before (starts_below doc (suc i) h) (starts_below doc n h) (subst (λ m. Grows (starts_below doc (suc i) h) (starts_below doc m h)) all (grows-more_starts doc (suc i) (n - suc i) h)) few
+
+pub few-turns : (doc : Doc) (k i n : ℕ) (h : List Entry) → i < n → IsFew (turns doc k n h) → IsFew (turns doc k (suc i) h)
+few-turns doc k i n h less few =
+    let all : suc i + (n - suc i) ≡ n = omega (arith, less) in
+    few-before (turns doc k (suc i) h) (turns doc k n h) (subst (λ m. Grows (turns doc k (suc i) h) (turns doc k m h)) all (grows-more_turns doc k (suc i) (n - suc i) h)) few

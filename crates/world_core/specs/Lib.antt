@@ -1,0 +1,4 @@
+pub mod Controllers
+pub mod Documents
+pub mod Plain
+pub mod Worlds

@@ -1,0 +1,308 @@
+// A controller of the world: its clock and its part in the election.
+ghost use Rattle.std.specs.Prelude.{◌≡◌, ◌*◌, ◌*ℤ◌, ◌≤ℤ◌, pos, negsuc, ◌+◌, ◌<◌, ◌≤◌, ◌^◌, ℕ, true, false, List, [], Some, None, IfOk};
+ghost use Rattle.kube_base.specs.declared.numbers.Version.{Version};
+ghost use Rattle.kube_objects.specs.declared.call.Reply.TheVariants as Reply;
+ghost use Rattle.kube_objects.specs.Document.{Doc, is_controller, of_millis, process_at, restart_delay};
+ghost use Rattle.kube_objects.specs.Entry.{Entry};
+ghost use Rattle.kube_objects.specs.Identities.{identity};
+ghost use Rattle.kube_objects.specs.Process.{starts};
+ghost use Rattle.kube_objects.specs.Wire.{Back};
+ghost use Rattle.history.specs.Steps.{start, restart};
+ghost use Rattle.world_core.specs.Controllers.{ControllerStands, SameController, Restarted, Timed, Turned, Replied, waiting_of};
+ghost use Rattle.world_core.specs.Documents.{AreLawful, IsLawful};
+ghost use Rattle.world_core.specs.Plain.{IsPlain, IsFew};
+
+use kube_base::{Beat, Local, NoMemory, ProcId, Version};
+use kube_objects::{Ask, Proc, Reply, Settings};
+use leader_elector::{Candidate, CandidateNext, Leading, LeadingNext, Timing};
+use skew_clock::Clock;
+use std::alloc::Global;
+use std::mem;
+
+/// What a controller is. Where it is down it may have a reading at which it starts again.
+#[derive(Drop)]
+pub enum Role {
+    Down(Option<Local>),
+    Candidate(Candidate),
+    Leading(Leading),
+}
+
+/// A controller with its clock. The incarnation counts its starts.
+#[derive(Drop)]
+pub struct Controller {
+    pub me: ProcId,
+    pub incarnation: u32,
+    pub timing: Timing,
+    pub clock: Clock,
+    pub up_first: bool,
+    pub role: Role,
+}
+
+/// What a controller did in its turn.
+#[derive(Clone, Copy, Debug)]
+pub struct Turn {
+    pub started: bool,
+    pub ended: bool,
+    pub ask: Option<Ask>,
+}
+
+/// What a reply to a controller caused.
+#[derive(Clone, Copy, Debug)]
+pub struct Received {
+    pub lead: Option<Version>,
+    pub ask: Option<Ask>,
+}
+
+impl Controller {
+    /// A controller that has never been up.
+    pub fn new(
+        alloc: Global,
+        me: ProcId,
+        settings: &Settings,
+        process: &Proc,
+    ) -> Result<Controller, NoMemory>
+        requires settings { AreLawful settings.now }
+        requires process { IsLawful process.now }
+        ensures end { IfOk result (λ c. c.clock.end ≡ settings.now.end_beat.0) }
+        ensures stands { (doc : Doc) (p : ℕ) → me.0 ≡ p → doc.settings ≡ settings.now → process_at doc p ≡ Some process.now → doc.events ≡ [] → IfOk result (ControllerStands doc p []) }
+    {
+        let timing = Timing {
+            lease_seconds: process.lease_seconds,
+            renew: picoseconds(process.renew_millis),
+            retry: picoseconds(process.retry_millis),
+            timeout: picoseconds(process.timeout_millis),
+            fast: settings.fast_renew,
+        };
+        let clock = Clock::new(
+            alloc,
+            settings.epoch,
+            microseconds(process.offset_millis),
+            settings.beat_millis * 1000,
+            settings.end_beat,
+            process.rate_ppm,
+        )?;
+        Ok(Controller {
+            me,
+            incarnation: 0,
+            timing,
+            clock,
+            up_first: process.up,
+            role: Role::Down(None),
+        })
+    }
+
+    /// Starts in the next incarnation.
+    pub fn start(&mut self, beat: Beat)
+        requires { beat.0 ≤ self.old.clock.end }
+        ensures same { SameController self.old self.new }
+        ensures stands { (doc : Doc) (n k step p : ℕ) (h : List Entry) → ControllerStands doc p h self.old → beat.0 ≡ k → IsPlain n h → starts p h + 1 < 2 ^ 32
+            → ControllerStands doc p (start k step p h) self.new }
+    {
+        let incarnation = self.incarnation.saturating_add(1);
+        let now = self.clock.local(beat);
+        self.incarnation = incarnation;
+        self.role = Role::Candidate(Candidate::start(self.me, incarnation, self.timing, now));
+    }
+
+    /// Its turn: it may start again, end, or send a request. The delay of a restart is in units of 10^-12 s.
+    pub fn turn(&mut self, beat: Beat, delay: u64) -> Turn
+        requires within { beat.0 ≤ self.old.clock.end }
+        requires delay { delay ≤ 86400000000000000 }
+        ensures same { SameController self.old self.new }
+        ensures stands { (doc : Doc) (n k p : ℕ) (h : List Entry) → ControllerStands doc p h self.old → beat.0 ≡ k → delay ≡ restart_delay doc → IsPlain n h → IsFew (restart doc k p h)
+            → Turned doc k p h self.new result }
+    {
+        let started = self.restart(beat);
+        let turn = self.on_timer(beat, delay);
+        Turn {
+            started,
+            ended: turn.ended,
+            ask: turn.ask,
+        }
+    }
+
+    /// Starts again, where it is down and its clock has reached its restart.
+    fn restart(&mut self, beat: Beat) -> bool
+        requires { beat.0 ≤ self.old.clock.end }
+        ensures same { SameController self.old self.new }
+        ensures stands { (doc : Doc) (n k p : ℕ) (h : List Entry) → ControllerStands doc p h self.old → beat.0 ≡ k → IsPlain n h → IsFew (restart doc k p h)
+            → Restarted doc k p h self.new result }
+    {
+        let Some(at) = waiting(&self.role) else {
+            return false;
+        };
+        if self.clock.local(beat).0 < at.0 {
+            return false;
+        }
+        self.start(beat);
+        true
+    }
+
+    fn on_timer(&mut self, beat: Beat, delay: u64) -> Turn
+        requires within { beat.0 ≤ self.old.clock.end }
+        requires delay { delay ≤ 86400000000000000 }
+        ensures same { SameController self.old self.new }
+        ensures incarnation { self.new.incarnation ≡ self.old.incarnation }
+        ensures stands { (doc : Doc) (k p : ℕ) (h : List Entry) → ControllerStands doc p h self.old → beat.0 ≡ k → delay ≡ restart_delay doc → IsFew h
+            → Timed doc k p h self.new result.ended result.ask }
+    {
+        let now = self.clock.local(beat);
+        let wall = self.clock.wall(beat);
+        match mem::replace(&mut self.role, Role::Down(None)) {
+            Role::Down(at) => {
+                self.role = Role::Down(at);
+                quiet()
+            }
+            Role::Candidate(candidate) => match candidate.on_timer(now, wall) {
+                CandidateNext::Stay(candidate) => {
+                    self.role = Role::Candidate(candidate);
+                    quiet()
+                }
+                CandidateNext::Ask(candidate, ask) => {
+                    self.role = Role::Candidate(candidate);
+                    asking(ask)
+                }
+                CandidateNext::Lead(leading) => {
+                    self.role = Role::Leading(leading);
+                    quiet()
+                }
+            },
+            Role::Leading(leading) => match leading.on_timer(now, wall) {
+                LeadingNext::Stay(leading) => {
+                    self.role = Role::Leading(leading);
+                    quiet()
+                }
+                LeadingNext::Ask(leading, ask) => {
+                    self.role = Role::Leading(leading);
+                    asking(ask)
+                }
+                LeadingNext::End(_) => {
+                    self.role = Role::Down(Some(Local(now.0 + delay)));
+                    ending()
+                }
+            },
+        }
+    }
+
+    /// A reply that comes to an incarnation of the controller.
+    pub fn receive(&mut self, incarnation: u32, number: u64, reply: Reply, beat: Beat) -> Received
+        requires { beat.0 ≤ self.old.clock.end }
+        ensures same { SameController self.old self.new }
+        ensures incarnation { self.new.incarnation ≡ self.old.incarnation }
+        ensures stands { (doc : Doc) (k p : ℕ) (b : Back) (h : List Entry) → ControllerStands doc p h self.old → beat.0 ≡ k → b.who ≡ identity p incarnation → b.call.number ≡ number → b.reply ≡ reply
+            → is_controller doc p ≡ true → IsFew h → Replied doc k p b h self.new result }
+    {
+        if incarnation != self.incarnation {
+            return Received { lead: None, ask: None };
+        }
+        let now = self.clock.local(beat);
+        let wall = self.clock.wall(beat);
+        match mem::replace(&mut self.role, Role::Down(None)) {
+            Role::Down(at) => {
+                self.role = Role::Down(at);
+                Received { lead: None, ask: None }
+            }
+            Role::Candidate(candidate) => match candidate.on_reply(number, reply, now, wall) {
+                CandidateNext::Stay(candidate) => {
+                    self.role = Role::Candidate(candidate);
+                    Received { lead: None, ask: None }
+                }
+                CandidateNext::Ask(candidate, ask) => {
+                    self.role = Role::Candidate(candidate);
+                    Received {
+                        lead: None,
+                        ask: Some(ask),
+                    }
+                }
+                CandidateNext::Lead(leading) => {
+                    self.role = Role::Leading(leading);
+                    Received {
+                        lead: done(reply),
+                        ask: None,
+                    }
+                }
+            },
+            Role::Leading(leading) => match leading.on_reply(number, reply, now, wall) {
+                LeadingNext::Stay(leading) => {
+                    self.role = Role::Leading(leading);
+                    Received { lead: None, ask: None }
+                }
+                LeadingNext::Ask(leading, ask) => {
+                    self.role = Role::Leading(leading);
+                    Received {
+                        lead: None,
+                        ask: Some(ask),
+                    }
+                }
+                LeadingNext::End(_) => Received { lead: None, ask: None },
+            },
+        }
+    }
+}
+
+/// Milliseconds in units of 10^-12 s.
+#[tactic(auto, unfolding(kube_objects::specs::Document::of_millis))]
+pub fn picoseconds(millis: u32) -> u64
+    ensures value { result ≡ of_millis millis }
+    ensures plain { result ≡ millis * 1000000000 }
+{
+    u64::from(millis) * 1_000_000_000
+}
+
+// Milliseconds in microseconds.
+fn microseconds(millis: i64) -> i64
+    requires least { negsuc 31535999999 ≤ℤ millis }
+    requires most { millis ≤ℤ pos 31536000000 }
+    ensures { result ≡ millis *ℤ pos 1000 }
+{
+    millis * 1000
+}
+
+// The reading at which a process that is down starts again.
+fn waiting(role: &Role) -> Option<Local>
+    ensures { result ≡ waiting_of role.now }
+{
+    match role {
+        Role::Down(at) => *at,
+        _ => None,
+    }
+}
+
+fn quiet() -> Turn
+    ensures { result ≡ record { started = false; ended = false; ask = None } }
+{
+    Turn {
+        started: false,
+        ended: false,
+        ask: None,
+    }
+}
+
+fn asking(ask: Ask) -> Turn
+    ensures { result ≡ record { started = false; ended = false; ask = Some ask } }
+{
+    Turn {
+        started: false,
+        ended: false,
+        ask: Some(ask),
+    }
+}
+
+fn ending() -> Turn
+    ensures { result ≡ record { started = false; ended = true; ask = None } }
+{
+    Turn {
+        started: false,
+        ended: true,
+        ask: None,
+    }
+}
+
+fn done(reply: Reply) -> Option<Version>
+    ensures { (version : Version) → reply ≡ Reply.Done version → result ≡ Some version }
+{
+    match reply {
+        Reply::Done(version) => Some(version),
+        _ => None,
+    }
+}

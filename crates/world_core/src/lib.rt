@@ -1,0 +1,10 @@
+//! The world of a document, which does one beat at a time.
+#![tactic(auto)]
+
+mod controller;
+mod document;
+mod printing;
+mod world;
+
+pub use document::Document;
+pub use world::World;
