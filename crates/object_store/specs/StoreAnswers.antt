@@ -45,7 +45,7 @@ delete_at_node next node_given (Some node) = cond (node.version.0 == node_given.
 
 -- the pod's conflict comes before the node's, and what is absent before both
 abbrev pub delete_over : Version → Version → Version → Option Held → Option Held → Reply
-delete_over next given node_given None node = reply.Absent
+delete_over next given node_given None _ = reply.Absent
 delete_over next given node_given (Some pod) None = reply.Absent
 delete_over next given node_given (Some pod) (Some node) = cond (pod.version.0 == given.0) (delete_at_node next node_given (Some node)) (reply.Conflict pod.version)
 
