@@ -96,3 +96,13 @@ is_of_wire (Event (Loss id requests replies) version) = true
 is_of_wire (Sends call arrives) = true
 is_of_wire (Answers call reply comes written) = true
 is_of_wire _ = false
+
+-- ---- measures
+
+-- how many requests are in flight that arrive at a beat
+abbrev pub requests_at : Wire → ℕ → ℕ
+requests_at w j = length (pending w.requests j)
+
+-- how many replies
+abbrev pub replies_at : Wire → ℕ → ℕ
+replies_at w j = length (pending w.replies j)

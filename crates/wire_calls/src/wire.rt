@@ -1,5 +1,5 @@
 // The wire: delays and losses of each process, and what is in flight each way.
-ghost use Rattle.std.specs.Prelude.{◌≡◌, ◌+◌, ◌≤◌, ◌<◌, not, ℕ, List, [], ◌∷◌, Option, IfOk, OnOk, OnErr};
+ghost use Rattle.std.specs.Prelude.{◌≡◌, ◌+◌, ◌≤◌, ◌<◌, not, ℕ, List, [], ◌∷◌, Option, IfOk, OnOk, OnErr, IsSome};
 ghost use Rattle.kube_objects.specs.Entry as entries;
 ghost use Rattle.kube_objects.specs.Entry.{Entry, Identity, Call, entry, script_entry};
 ghost use Rattle.kube_objects.specs.Identities.{identity};
@@ -10,7 +10,7 @@ ghost use Rattle.kube_objects.specs.declared.script.What.TheVariants.{Delay, Los
 ghost use Rattle.kube_base.specs.declared.numbers.Version.{Version};
 ghost use Rattle.wire_calls.specs.InFlight.{first_of, rest_of};
 ghost use Rattle.wire_calls.specs.Messages.{sent_as_told};
-ghost use Rattle.wire_calls.specs.WireStands.{WireStands, arrived_of, delivered_of, NextIs, earlier_of, link_at};
+ghost use Rattle.wire_calls.specs.WireStands.{WireStands, requests_at, replies_at, arrived_of, delivered_of, NextIs, earlier_of, link_at};
 
 use crate::flight::Flight;
 use crate::link::{Link, travel};
@@ -82,6 +82,7 @@ impl Wire {
         now: Beat,
     ) -> Result<Sent, NoMemory>
         requires { now.0 ≤ 700000000 }
+        ensures same { replies_at self.new now.0 ≡ replies_at self.old now.0 }
         ensures answer { (processes : ℕ) (arriving : List flights.Sent) (coming : List flights.Back) (h : List Entry) → WireStands processes now.0 arriving coming h self.old
             → IfOk result (λ sent. sent ≡ sent_as_told (request_arrival who.0 now.0 h)) }
         ensures ok { (processes k step : ℕ) (arriving : List flights.Sent) (coming : List flights.Back) (h : List Entry) (q : Identity) (call : Call)
@@ -108,6 +109,7 @@ impl Wire {
 
     /// Takes out the first sent request that arrives now. None exactly where there is none.
     pub fn arrival(&mut self, now: Beat) -> Option<Arrived>
+        ensures fewer { IsSome result → requests_at self.new now.0 < requests_at self.old now.0 }
         ensures answer { (processes k : ℕ) (arriving : List flights.Sent) (coming : List flights.Back) (h : List Entry) → WireStands processes k arriving coming h self.old → now.0 ≡ k
             → result ≡ arrived_of (first_of arriving) }
         ensures stands { (processes k : ℕ) (arriving : List flights.Sent) (coming : List flights.Back) (h : List Entry) → WireStands processes k arriving coming h self.old → now.0 ≡ k
@@ -119,6 +121,7 @@ impl Wire {
     /// Sends the reply to a request that arrived. Lost exactly where replies to that process are being lost.
     pub fn reply(&mut self, to: &Arrived, reply: Reply, now: Beat) -> Result<Sent, NoMemory>
         requires { now.0 ≤ 700000000 }
+        ensures same { requests_at self.new now.0 ≡ requests_at self.old now.0 }
         ensures answer { (processes : ℕ) (arriving : List flights.Sent) (coming : List flights.Back) (h : List Entry) → WireStands processes now.0 arriving coming h self.old
             → IfOk result (λ sent. sent ≡ sent_as_told (reply_arrival to.now.who.0 now.0 h)) }
         ensures ok { (processes k step : ℕ) (arriving : List flights.Sent) (coming : List flights.Back) (h : List Entry) (q : Identity) (call : Call) (written : Option Object)
@@ -145,6 +148,7 @@ impl Wire {
 
     /// Takes out the first answered reply that comes now. None exactly where there is none.
     pub fn delivery(&mut self, now: Beat) -> Option<Delivered>
+        ensures fewer { IsSome result → replies_at self.new now.0 < replies_at self.old now.0 }
         ensures answer { (processes k : ℕ) (arriving : List flights.Sent) (coming : List flights.Back) (h : List Entry) → WireStands processes k arriving coming h self.old → now.0 ≡ k
             → result ≡ delivered_of (first_of coming) }
         ensures stands { (processes k : ℕ) (arriving : List flights.Sent) (coming : List flights.Back) (h : List Entry) → WireStands processes k arriving coming h self.old → now.0 ≡ k
