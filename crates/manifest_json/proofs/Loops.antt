@@ -1,5 +1,5 @@
 -- One step of the walks over arrays.
-use Rattle.std.proofs.Common.{◌≡◌, ℕ, zero, suc, ◌+◌, ◌<◌, ◌≤◌, List, [], ◌∷◌, ◌++◌, length, drop, map, get_or, Option, Some, None, Result, Ok, Err, codes, refl, sym, ap, ◌∙◌, arith, drop-cons, add-one, Bool, true, false, cond, nat_lt}
+use Rattle.std.proofs.Common.{◌≡◌, ℕ, ◌+◌, ◌<◌, ◌≤◌, List, [], ◌∷◌, ◌++◌, length, drop, get_or, Option, Result, Ok, codes, refl, sym, ap, ◌∙◌, arith, drop-cons, add-one, Bool, true, false, cond, nat_lt}
 use Rattle.std.proofs.lemmas.List.{drop_all}
 use Rattle.std.proofs.lemmas.Bool.{lt-ltb, ltb-true}
 use Rattle.serde_json.specs.Data.{Data, Items, no_items, item}

@@ -1,15 +1,14 @@
 -- Fields of a manifest's objects. A null counts as a missing key (profile: what the Kubernetes API server does with it).
-use Rattle.std.specs.Prelude.{ℕ, zero, suc, ◌+◌, ◌-◌, ◌*◌, ◌==◌, ◌&&◌, ◌||◌, not, nat_lt, nat_le, Bool, true, false, List, [], ◌∷◌, ◌++◌, length, slice_index, codes, Option, Some, None, option_and_then, is_some, Result, Ok, Err, ℤ, if◌then◌else◌}
+use Rattle.std.specs.Prelude.{ℕ, ◌-◌, ◌==◌, ◌&&◌, ◌||◌, not, nat_le, Bool, false, List, [], ◌∷◌, length, slice_index, Option, Some, None, option_and_then, is_some, Result, Ok, Err, ℤ, if◌then◌else◌}
 use Rattle.std.specs.Char.{is_ascii_digit, is_ascii_lowercase, is_ascii_uppercase}
 use Rattle.std.specs.List.{list_all}
-use Rattle.std.specs.Str.{bytes_eq}
-use Rattle.serde_json.specs.Data.{Data, null, Items, no_items, item, Members}
+use Rattle.serde_json.specs.Data.{Data, Items, no_items, Members}
 use Rattle.serde_json.specs.Find.{get, as_null, as_number, as_str, as_u64, as_i64, as_object, as_array}
 use Rattle.kube_base.specs.Times.{time_of}
 use Rattle.kube_base.specs.Names.{number_in, with_name}
 use Rattle.kube_base.specs.declared.numbers.Wall.{Wall}
 use Rattle.manifest_json.specs.declared.fault.Refusal.{Refusal}
-use Rattle.manifest_json.specs.Faults.{◌>>=◌, refuse}
+use Rattle.manifest_json.specs.Faults.{refuse}
 
 -- ---- grammars
 

@@ -1,5 +1,5 @@
 -- What stands beside the objects that a list has so far: their keys, and how many there are of each kind.
-use Rattle.std.specs.Prelude.{◌≡◌, ℕ, ◌+◌, nat_lt, List, Option, Some, None, if◌then◌else◌}
+use Rattle.std.specs.Prelude.{◌≡◌, ◌+◌, nat_lt, List, Option, Some, None, if◌then◌else◌}
 use Rattle.std.specs.BTreeSet.{contains}
 use Rattle.kube_objects.specs.Keys.{key_cmp}
 use Rattle.kube_objects.specs.declared.key.Key.{Key}

@@ -1,15 +1,14 @@
 -- The walk over a manifest: the typed object, with the names that are held then, or the first refusal.
-use Rattle.std.specs.Prelude.{ℕ, suc, ◌+◌, ◌-◌, ◌*◌, ◌/◌, ◌==◌, ◌&&◌, ◌||◌, not, nat_lt, nat_le, nat_eq, Bool, true, false, List, [], ◌∷◌, ◌++◌, length, take, drop, reverse, position, slice_index, count_by, codes, Option, Some, None, option_and_then, is_some, is_none, Result, Ok, Err, ℤ, if◌then◌else◌}
+use Rattle.std.specs.Prelude.{ℕ, ◌+◌, ◌-◌, ◌*◌, ◌/◌, ◌==◌, ◌&&◌, ◌||◌, not, nat_lt, nat_le, Bool, true, false, List, [], ◌∷◌, ◌++◌, length, take, drop, reverse, position, count_by, codes, Option, Some, None, option_and_then, is_none, Result, Ok, if◌then◌else◌}
 use Rattle.std.specs.Char.{is_ascii_digit}
 use Rattle.std.specs.Fmt.{decimal}
 use Rattle.std.specs.List.{list_any}
 use Rattle.std.specs.Option.{option_map}
 use Rattle.std.specs.Str.{bytes_eq}
 use Rattle.serde_json.specs.Data.{Data, Items, no_items, item}
-use Rattle.serde_json.specs.Find.{get, as_str, as_array}
+use Rattle.serde_json.specs.Find.{get, as_str}
 use Rattle.kube_base.specs.Names.{number_of}
 use Rattle.kube_base.specs.declared.numbers.Wall.{Wall}
-use Rattle.kube_base.specs.declared.numbers.ProcId.{ProcId}
 use Rattle.kube_objects.specs.Keys.{key_eq, kind_rank}
 use Rattle.kube_objects.specs.declared.key.Key.{Key}
 use Rattle.kube_objects.specs.declared.key.Kind.{Kind}
@@ -19,7 +18,6 @@ use Rattle.kube_objects.specs.declared.lease.Holder.TheVariants as holders
 use Rattle.kube_objects.specs.declared.lease.Lease.{Lease}
 use Rattle.kube_objects.specs.declared.node.Effect.{Effect}
 use Rattle.kube_objects.specs.declared.node.Effect.TheVariants as effects
-use Rattle.kube_objects.specs.declared.node.Node.{Node}
 use Rattle.kube_objects.specs.declared.node.Ready.{Ready}
 use Rattle.kube_objects.specs.declared.node.ReadyStatus.{ReadyStatus}
 use Rattle.kube_objects.specs.declared.node.ReadyStatus.TheVariants as statuses
@@ -28,11 +26,10 @@ use Rattle.kube_objects.specs.declared.object.Object.{Object}
 use Rattle.kube_objects.specs.declared.object.Object.TheVariants as objects
 use Rattle.kube_objects.specs.declared.pod.Operator.{Operator}
 use Rattle.kube_objects.specs.declared.pod.Operator.TheVariants as operators
-use Rattle.kube_objects.specs.declared.pod.Pod.{Pod}
 use Rattle.kube_objects.specs.declared.pod.Toleration.{Toleration}
 use Rattle.manifest_json.specs.declared.fault.Refusal.{Refusal}
 use Rattle.manifest_json.specs.Faults.{◌>>=◌, refuse}
-use Rattle.manifest_json.specs.Fields.{Texts, is_name, is_label, field, field_in, or_refuse, object_at, parent_at, text_at, items_at, time_at, count_at, signed_at, numbered, named}
+use Rattle.manifest_json.specs.Fields.{Texts, is_label, field, field_in, or_refuse, object_at, parent_at, text_at, items_at, time_at, count_at, signed_at, numbered, named}
 
 -- ---- metadata
 

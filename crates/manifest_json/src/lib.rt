@@ -11,6 +11,8 @@ mod metadata;
 mod node;
 mod object;
 mod pod;
+#[cfg(test)]
+mod tests;
 
 pub use fault::{Path, ReadFault, Refusal};
 pub use list::{Objects, read_list};

@@ -1,7 +1,6 @@
-use Rattle.std.proofs.Common.{◌≡◌, ◌∙◌, sym, ap, true, false, Some, None, Ok}
-use Rattle.kube_objects.specs.Keys.{key_cmp}
+use Rattle.std.proofs.Common.{◌≡◌, ◌∙◌, sym, ap, true, false, Ok}
 use Rattle.manifest_json.specs.Kept.{counts_of, with_one}
-use Rattle.manifest_json.specs.Walk.{has_key, with_found}
+use Rattle.manifest_json.specs.Walk.{has_key}
 use Rattle.manifest_json.proofs.KeptLemmas.{fails-by, with_found-there, with_found-full, with_found-new, counts_of-push, contains-is, contains-push}
 use Rattle.manifest_json.proofs.kept.Kept.keep.Goals as goal
 
