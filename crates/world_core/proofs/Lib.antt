@@ -13,6 +13,7 @@ pub mod Names
 pub mod Plainly
 pub mod Readings
 pub mod Restarts
+pub mod Resting
 pub mod Running
 pub mod Standing
 pub mod Terms

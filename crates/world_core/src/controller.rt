@@ -2,6 +2,7 @@
 ghost use Rattle.std.specs.Prelude.{◌≡◌, ◌*◌, ◌*ℤ◌, ◌≤ℤ◌, pos, negsuc, ◌+◌, ◌<◌, ◌≤◌, ◌^◌, ℕ, true, false, List, [], Some, None, IfOk};
 ghost use Rattle.kube_base.specs.declared.numbers.Version.{Version};
 ghost use Rattle.kube_objects.specs.declared.call.Reply.TheVariants as Reply;
+ghost use Rattle.kube_objects.specs.Clocks.{local};
 ghost use Rattle.kube_objects.specs.Document.{Doc, is_controller, of_millis, process_at, restart_delay};
 ghost use Rattle.kube_objects.specs.Entry.{Entry};
 ghost use Rattle.kube_objects.specs.Identities.{identity};
@@ -138,6 +139,17 @@ impl Controller {
         true
     }
 
+    // Whether the rest of its turn does nothing at this reading.
+    fn rests(&self, now: Local) -> bool
+        ensures { (doc : Doc) (k p : ℕ) (h : List Entry) → ControllerStands doc p h self.now → now.0 ≡ local doc p k → result ≡ true → Timed doc k p h self.now false None }
+    {
+        match &self.role {
+            Role::Down(_) => true,
+            Role::Candidate(candidate) => now.0 < candidate.wake().0,
+            Role::Leading(leading) => now.0 < leading.wake().0,
+        }
+    }
+
     fn on_timer(&mut self, beat: Beat, delay: u64) -> Turn
         requires within { beat.0 ≤ self.old.clock.end }
         requires delay { delay ≤ 86400000000000000 }
@@ -147,6 +159,9 @@ impl Controller {
             → Timed doc k p h self.new result.ended result.ask }
     {
         let now = self.clock.local(beat);
+        if self.rests(now) {
+            return quiet();
+        }
         let wall = self.clock.wall(beat);
         match mem::replace(&mut self.role, Role::Down(None)) {
             Role::Down(at) => {

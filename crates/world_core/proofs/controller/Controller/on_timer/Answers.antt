@@ -69,3 +69,9 @@ returns-in-End-clause-stands c doc k p h s at delay few =
     let t = c.in-End.ensures.turns doc q h k was.1 now wall_is (few.calls q) in
     let back : Local = record { 0 = c.local-now.result.0 + c.args.delay } in
     subst (λ r. Timed doc k p h (record self { role = role.Down (Some back) }) r.ended r.ask) (sym c.ending.ensures) (leading-ends doc k p h self back s was.0 t.0 (ap (λ n. n + c.args.delay) now ∙ ap (λ n. local doc p k + n) delay))
+
+pub returns-then-rests-clause-stands : goal.returns-then-rests-clause-stands
+returns-then-rests-clause-stands c doc k p h s at delay few =
+    let self = c.args.self.now in
+    let now : c.local-now.result.0 ≡ local doc p k = c.local-now.ensures.value ∙ reading-local doc p c.args.beat.0 self.clock s.clock ∙ ap (local doc p) at in
+    subst (λ r. Timed doc k p h self r.ended r.ask) (sym c.quiet.ensures) (c.rests.ensures doc k p h s now c.if-rests.true)
