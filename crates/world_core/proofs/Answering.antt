@@ -107,15 +107,19 @@ replied-asks doc k p b number reply waiting h c r ask Stands s controls is some 
     let same : with_reply k q waiting reply h ≡ with_reply k q waiting b.reply h = ap (λ x. with_reply k q waiting x h) (sym is.reply) in
     record {
       told = ap printed (next_is ∙ a.sent) ∙ append-nil (printed g);
-      asks = record { call = waiting; who = is.who; asked = subst (λ x. Asked k 3 q (with_reply k q waiting x h) (delivered doc k b h) (λ y. ControllerStands doc p y (record c { role = r })) ask) (sym is.reply)
-        (record {
-          kind = a.kind;
-          sent = next_is ∙ a.sent;
-          number = a.number;
-          stands = λ arrives.
-              let f = entry k 3 q (Sends (next_call q k a.kind ask.request g) arrives) ∷ g in
-              stands-role doc p h f c r s refl (stands f up (a.stands arrives));
-        }) };
+      asks = record {
+        call = waiting;
+        who = is.who;
+        asked = subst (λ x. Asked k 3 q (with_reply k q waiting x h) (delivered doc k b h) (λ y. ControllerStands doc p y (record c { role = r })) ask) (sym is.reply)
+            (record {
+              kind = a.kind;
+              sent = next_is ∙ a.sent;
+              number = a.number;
+              stands = λ arrives.
+                  let f = entry k 3 q (Sends (next_call q k a.kind ask.request g) arrives) ∷ g in
+                  stands-role doc p h f c r s refl (stands f up (a.stands arrives));
+            });
+      };
     }
 
 -- it counts, and the controller leads
@@ -209,7 +213,7 @@ pub answers-stays : (doc : Doc) (k p : ℕ) (b : Back) (n : ℕ) (reply : Reply)
     IsBack b (identity p c.incarnation) n reply → alive p h ≡ Some c.incarnation → Makes doc p c.incarnation Stands r →
     (counted doc (identity p c.incarnation) k n h ≡ None → (call : Call) → Stands (entry k 3 (identity p c.incarnation) (Delivers call reply false) ∷ h)) →
     ((call : Call) → counted doc (identity p c.incarnation) k n h ≡ Some call →
-        (reacted doc k (identity p c.incarnation) call reply h ≡ with_reply k (identity p c.incarnation) call reply h) × Stands (with_reply k (identity p c.incarnation) call reply h)) →
+    (reacted doc k (identity p c.incarnation) call reply h ≡ with_reply k (identity p c.incarnation) call reply h) × Stands (with_reply k (identity p c.incarnation) call reply h)) →
     Replied doc k p b h (record c { role = r }) (record { lead = None; ask = None })
 answers-stays doc k p b n reply h c r Stands s controls is up makes uncounted counts = by_counted (counted doc (identity p c.incarnation) k n h) refl
   where
@@ -223,7 +227,7 @@ pub answers-asks : (doc : Doc) (k p : ℕ) (b : Back) (n : ℕ) (reply : Reply) 
     IsBack b (identity p c.incarnation) n reply → alive p h ≡ Some c.incarnation → Makes doc p c.incarnation Stands r →
     (counted doc (identity p c.incarnation) k n h ≡ None → ⊥) →
     ((call : Call) → counted doc (identity p c.incarnation) k n h ≡ Some call →
-        Asked k 3 (identity p c.incarnation) (with_reply k (identity p c.incarnation) call reply h) (reacted doc k (identity p c.incarnation) call reply h) Stands ask) →
+    Asked k 3 (identity p c.incarnation) (with_reply k (identity p c.incarnation) call reply h) (reacted doc k (identity p c.incarnation) call reply h) Stands ask) →
     Replied doc k p b h (record c { role = r }) (record { lead = None; ask = Some ask })
 answers-asks doc k p b n reply h c r ask Stands s controls is up makes uncounted counts = by_counted (counted doc (identity p c.incarnation) k n h) refl
   where
@@ -236,8 +240,8 @@ pub answers-leads : (doc : Doc) (k p : ℕ) (b : Back) (n : ℕ) (reply : Reply)
     ((version : Version) → reply ≡ Done version → lead ≡ Some version) →
     (counted doc (identity p c.incarnation) k n h ≡ None → ⊥) →
     ((call : Call) → counted doc (identity p c.incarnation) k n h ≡ Some call →
-        (version : Version) × (reacted doc k (identity p c.incarnation) call reply h ≡ entry k 3 (identity p c.incarnation) (Leads version) ∷ with_reply k (identity p c.incarnation) call reply h)
-        × Stands (reacted doc k (identity p c.incarnation) call reply h)) →
+    (version : Version) × (reacted doc k (identity p c.incarnation) call reply h ≡ entry k 3 (identity p c.incarnation) (Leads version) ∷ with_reply k (identity p c.incarnation) call reply h)
+    × Stands (reacted doc k (identity p c.incarnation) call reply h)) →
     Replied doc k p b h (record c { role = r }) (record { lead = lead; ask = None })
 answers-leads doc k p b n reply h c r lead Stands s controls is up makes told uncounted counts = by_counted (counted doc (identity p c.incarnation) k n h) refl
   where

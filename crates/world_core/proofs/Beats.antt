@@ -97,7 +97,7 @@ world-next doc k h w s =
     let d = s.rest.document in
     record {
       rest = record {
-        document = record { at = ap (λ n. n + 1) d.at; restart = d.restart; count = d.count; controllers = d.controllers; eventless = d.eventless; };
+        document = record { at = ap (λ n. n + 1) d.at; restart = d.restart; count = d.count; controllers = d.controllers; eventless = d.eventless };
         plain = s.rest.plain;
         store = s.rest.store;
         wire = wire-next-beat (processes doc) k h w.wire s.rest.wire;

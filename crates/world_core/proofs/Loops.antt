@@ -86,7 +86,7 @@ rewired doc k before deeds arriving left coming rest h w v beat restart controll
     record {
       world = record {
         rest = record {
-          document = record { at = ap (λ b. b.0) beat ∙ d.at; restart = restart ∙ d.restart; count = ap (λ cs. length cs.items) controllers ∙ d.count; controllers = d.controllers; eventless = d.eventless; };
+          document = record { at = ap (λ b. b.0) beat ∙ d.at; restart = restart ∙ d.restart; count = ap (λ cs. length cs.items) controllers ∙ d.count; controllers = d.controllers; eventless = d.eventless };
           plain = r.world.rest.plain;
           store = subst (StoreStands h) (sym store) r.world.rest.store;
           wire = wire;

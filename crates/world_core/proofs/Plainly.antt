@@ -58,4 +58,3 @@ heard-known n q e h is s =
     by_order : (b : Bool) → nat_lt (starts q.process (e ∷ h)) q.incarnation ≡ b → q.incarnation ≤ starts q.process (e ∷ h)
     by_order true is = absurd (never (lt-from (starts q.process (e ∷ h)) q.incarnation is))
     by_order false is = le-from (starts q.process (e ∷ h)) q.incarnation is
-

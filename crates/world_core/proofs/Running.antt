@@ -95,7 +95,7 @@ within-sent doc k step i arriving coming h next c0 c1 w v ask m sends a known as
         wire = sends step h call a.rest.wire (sym asked.number) refl;
       };
       controllers = subst (EachStands doc (e ∷ h)) (sym m.now)
-        (each-set doc i (e ∷ h) w.controllers.items c0 c1 m.was (λ p c other is. controller-others doc p k step q (Sends call (request_arrival i k h)) h c (λ same. other (sym same)) refl (a.others p c other is)) (asked.stands (request_arrival i k h)));
+          (each-set doc i (e ∷ h) w.controllers.items c0 c1 m.was (λ p c other is. controller-others doc p k step q (Sends call (request_arrival i k h)) h c (λ same. other (sym same)) refl (a.others p c other is)) (asked.stands (request_arrival i k h)));
     })
 
 -- ---- a turn
@@ -138,9 +138,9 @@ turned-asks doc k i before deeds new arriving coming h c0 c1 w v t ask r within 
     let known : IsKnown (processes doc) base (identity i c1.incarnation) = record { within = within; started = omega (arith, last) } in
     record {
       world = subst (λ x. WorldWithin doc k arriving coming x v) (sym turn_is)
-        (within-sent doc k 4 i arriving coming base (controller_turn doc k i h) c0 c1 w v ask m sends (around-settled doc k i arriving coming h w within (around-world doc k i arriving coming h w r.world)) known asked);
+          (within-sent doc k 4 i arriving coming base (controller_turn doc k i h) c0 c1 w v ask m sends (around-settled doc k i arriving coming h w within (around-world doc k i arriving coming h w r.world)) known asked);
       told = ap (λ ds. before ++ ds) new_is ∙ told-turn doc k i before deeds h c1 t r.told turned
-        ∙ sym (printed-sent k 4 (identity i c1.incarnation) asked.kind ask base (controller_turn doc k i h) asked.sent) ∙ ap printed (sym turn_is);
+          ∙ sym (printed-sent k 4 (identity i c1.incarnation) asked.kind ask base (controller_turn doc k i h) asked.sent) ∙ ap printed (sym turn_is);
     }
 
 -- ---- a reply
@@ -160,7 +160,7 @@ replied-quiet doc k i before deeds new arriving coming b h c0 c1 w v x r process
     let next = with_deeds k 3 b.who on.deeds h in
     record {
       world = subst (λ g. WorldWithin doc k arriving coming g v) (sym on.adds)
-        (within-moved doc k i arriving coming next c0 c1 w v m wire (around-deeds doc k i k 3 arriving coming b.who on.deeds h w process on.quiet known (around-world doc k i arriving coming h w r.world)) (subst (λ g. ControllerStands doc i g c1) on.adds on.stands));
+          (within-moved doc k i arriving coming next c0 c1 w v m wire (around-deeds doc k i k 3 arriving coming b.who on.deeds h w process on.quiet known (around-world doc k i arriving coming h w r.world)) (subst (λ g. ControllerStands doc i g c1) on.adds on.stands));
       told = ap (λ ds. before ++ ds) new_is ∙ told-reply doc k i before deeds b h c1 x r.told replied;
     }
 
@@ -224,8 +224,8 @@ first-started doc i before deeds new arriving coming h c0 c1 w v r within m wire
     (record {
       world = within-moved doc 0 i arriving coming (start 0 1 i h) c0 c1 w v m wire (around-started doc 0 i 0 1 arriving coming h w within (around-world doc 0 i arriving coming h w r.world)) stands;
       told = ap (λ ds. before ++ ds) new_is ∙ sym (append_assoc before deeds (deeds_of 0 (actor_of (identity i c1.incarnation)) (Some act.Start)))
-        ∙ ap (λ ds. ds ++ deeds_of 0 (actor_of (identity i c1.incarnation)) (Some act.Start)) r.told
-        ∙ ap (λ n. printed h ++ deeds_of 0 (actor_of (identity i n)) (Some act.Start)) last;
+          ∙ ap (λ ds. ds ++ deeds_of 0 (actor_of (identity i c1.incarnation)) (Some act.Start)) r.told
+          ∙ ap (λ n. printed h ++ deeds_of 0 (actor_of (identity i n)) (Some act.Start)) last;
     })
 
 -- ---- an answer of the store

@@ -21,7 +21,7 @@ use Rattle.world_core.proofs.Unheard.{begun-unheard, call-unheard, shown-unheard
 
 pub stands-role : (doc : Doc) (p : ℕ) (h g : List Entry) (c : Controller) (r : Role) → ControllerStands doc p h c → starts p g ≡ starts p h → RoleStands doc p c.incarnation g r → ControllerStands doc p g (record c { role = r })
 stands-role doc p h g c r s same stands =
-    record { me = s.me; incarnation = s.incarnation ∙ sym same; timing = s.timing; clock = s.clock; up_first = s.up_first; role = stands; }
+    record { me = s.me; incarnation = s.incarnation ∙ sym same; timing = s.timing; clock = s.clock; up_first = s.up_first; role = stands }
 
 pub role-at : (doc : Doc) (p : ℕ) (h : List Entry) (c : Controller) (r : Role) → ControllerStands doc p h c → c.role ≡ r → RoleStands doc p c.incarnation h r
 role-at doc p h c r s is = subst (λ x. RoleStands doc p c.incarnation h x) is s.role

@@ -208,19 +208,28 @@ impl Controller {
             → is_controller doc p ≡ true → IsFew h → Replied doc k p b h self.new result }
     {
         if incarnation != self.incarnation {
-            return Received { lead: None, ask: None };
+            return Received {
+                lead: None,
+                ask: None,
+            };
         }
         let now = self.clock.local(beat);
         let wall = self.clock.wall(beat);
         match mem::replace(&mut self.role, Role::Down(None)) {
             Role::Down(at) => {
                 self.role = Role::Down(at);
-                Received { lead: None, ask: None }
+                Received {
+                    lead: None,
+                    ask: None,
+                }
             }
             Role::Candidate(candidate) => match candidate.on_reply(number, reply, now, wall) {
                 CandidateNext::Stay(candidate) => {
                     self.role = Role::Candidate(candidate);
-                    Received { lead: None, ask: None }
+                    Received {
+                        lead: None,
+                        ask: None,
+                    }
                 }
                 CandidateNext::Ask(candidate, ask) => {
                     self.role = Role::Candidate(candidate);
@@ -240,7 +249,10 @@ impl Controller {
             Role::Leading(leading) => match leading.on_reply(number, reply, now, wall) {
                 LeadingNext::Stay(leading) => {
                     self.role = Role::Leading(leading);
-                    Received { lead: None, ask: None }
+                    Received {
+                        lead: None,
+                        ask: None,
+                    }
                 }
                 LeadingNext::Ask(leading, ask) => {
                     self.role = Role::Leading(leading);
@@ -249,7 +261,10 @@ impl Controller {
                         ask: Some(ask),
                     }
                 }
-                LeadingNext::End(_) => Received { lead: None, ask: None },
+                LeadingNext::End(_) => Received {
+                    lead: None,
+                    ask: None,
+                },
             },
         }
     }

@@ -4,6 +4,8 @@
 mod controller;
 mod document;
 mod printing;
+#[cfg(test)]
+mod tests;
 mod world;
 
 pub use document::Document;

@@ -15,12 +15,7 @@ const ELECTION: Key = Key {
 };
 
 /// Adds the deed of an entry, where it has one.
-pub fn tell(
-    deeds: &mut Deeds,
-    beat: Beat,
-    actor: Actor,
-    act: Option<Act>,
-) -> Result<(), NoMemory>
+pub fn tell(deeds: &mut Deeds, beat: Beat, actor: Actor, act: Option<Act>) -> Result<(), NoMemory>
     ensures { OnOk result (deeds.new ≡ deeds.old ++ deeds_of beat.0 actor act) }
 {
     match act {

@@ -135,7 +135,12 @@ impl World {
             let reply = self.store.answer(arrived.request)?;
             self.wire.reply(&arrived, reply, self.beat)?;
             let actor = Actor::Proc(arrived.who, arrived.incarnation);
-            tell(deeds, self.beat, actor, answer_act(&arrived.request, &reply))?;
+            tell(
+                deeds,
+                self.beat,
+                actor,
+                answer_act(&arrived.request, &reply),
+            )?;
         }
         Ok(())
     }
@@ -170,7 +175,12 @@ impl World {
         let received = controller.receive(back.incarnation, back.number, back.reply, self.beat);
         let who = controller.me;
         let incarnation = controller.incarnation;
-        tell(deeds, self.beat, Actor::Proc(who, incarnation), leading(received.lead))?;
+        tell(
+            deeds,
+            self.beat,
+            Actor::Proc(who, incarnation),
+            leading(received.lead),
+        )?;
         match received.ask {
             None => Ok(()),
             Some(ask) => {
@@ -220,11 +230,7 @@ impl World {
 }
 
 // The controllers of a document, in order.
-fn made(
-    alloc: Global,
-    settings: &Settings,
-    processes: &Procs,
-) -> Result<Vec<Controller>, NoMemory>
+fn made(alloc: Global, settings: &Settings, processes: &Procs) -> Result<Vec<Controller>, NoMemory>
     requires settings { AreLawful settings.now }
     requires processes { All IsLawful processes.now }
     requires few { length processes.now ≤ 16 }

@@ -13,7 +13,7 @@ returns-clause-stands c doc n k p h s at delay plain few =
     let base = settled doc k p (restart doc k p h) in
     record {
       told = t.told
-        ∙ ap (λ ds. ds ++ ended_deeds k (identity p c.on_timer-turn.new.self.incarnation) c.on_timer-turn.result.ended) r.told
-        ∙ ap (λ n. printed h ++ started_deeds k (identity p n) c.restart-started.result ++ ended_deeds k (identity p c.on_timer-turn.new.self.incarnation) c.on_timer-turn.result.ended) (sym c.on_timer-turn.ensures.incarnation);
+          ∙ ap (λ ds. ds ++ ended_deeds k (identity p c.on_timer-turn.new.self.incarnation) c.on_timer-turn.result.ended) r.told
+          ∙ ap (λ n. printed h ++ started_deeds k (identity p n) c.restart-started.result ++ ended_deeds k (identity p c.on_timer-turn.new.self.incarnation) c.on_timer-turn.result.ended) (sym c.on_timer-turn.ensures.incarnation);
       asks = subst (λ x. AsksOn doc k 4 p base x c.on_timer-turn.new.self c.on_timer-turn.result.ask) (sym (ticks-same doc k p (attempts doc k p base))) t.asks;
     }

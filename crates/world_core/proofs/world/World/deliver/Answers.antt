@@ -26,9 +26,9 @@ returns-in-None-clause-stands c doc k before arriving coming h b r is known few 
     let replied = c.receive-received.ensures.stands doc k i b h s at who (ap (λ d. d.number) (sym is)) (ap (λ d. d.reply) (sym is)) (r.world.rest.document.controllers i within) (few-before h (delivered doc k b h) (grows-delivered doc k b h) few) in
     let me = ap (λ m. m.0) c.receive-received.ensures.same.me ∙ s.me in
     let told = c.in_ok-tell.ensures
-        ∙ ap (λ a. c.args.deeds.now ++ deeds_of w.beat.0 (actor.Proc c1.me c1.incarnation) a) c.leading.ensures
-        ∙ ap (λ n. c.args.deeds.now ++ deeds_of n (actor.Proc c1.me c1.incarnation) (option_map act.Lead c.receive-received.result.lead)) at
-        ∙ ap (λ x. c.args.deeds.now ++ deeds_of k x (option_map act.Lead c.receive-received.result.lead)) (actor-is i c1.incarnation c1.me me) in
+    ∙ ap (λ a. c.args.deeds.now ++ deeds_of w.beat.0 (actor.Proc c1.me c1.incarnation) a) c.leading.ensures
+    ∙ ap (λ n. c.args.deeds.now ++ deeds_of n (actor.Proc c1.me c1.incarnation) (option_map act.Lead c.receive-received.result.lead)) at
+    ∙ ap (λ x. c.args.deeds.now ++ deeds_of k x (option_map act.Lead c.receive-received.result.lead)) (actor-is i c1.incarnation c1.me me) in
     replied-quiet doc k i before c.args.deeds.now c.tell.new.deeds arriving coming b h c0 c1 w _ c.receive-received.result r process known (record { was = was; now = refl; beat = refl; restart = refl; store = refl }) refl replied c.in-None.is told
 
 pub returns-in_ok-send-in-Some-clause-kept : goal.returns-in_ok-send-in-Some-clause-kept
@@ -55,9 +55,9 @@ returns-in_ok-send-in-Some-clause-stands c doc k before arriving coming h b r is
     let replied = c.receive-received.ensures.stands doc k i b h s at who (ap (λ d. d.number) (sym is)) (ap (λ d. d.reply) (sym is)) (r.world.rest.document.controllers i within) (few-before h (delivered doc k b h) (grows-delivered doc k b h) few) in
     let me = ap (λ m. m.0) c.receive-received.ensures.same.me ∙ s.me in
     let told = c.in_ok-tell.ensures
-        ∙ ap (λ a. c.args.deeds.now ++ deeds_of w.beat.0 (actor.Proc c1.me c1.incarnation) a) c.leading.ensures
-        ∙ ap (λ n. c.args.deeds.now ++ deeds_of n (actor.Proc c1.me c1.incarnation) (option_map act.Lead c.receive-received.result.lead)) at
-        ∙ ap (λ x. c.args.deeds.now ++ deeds_of k x (option_map act.Lead c.receive-received.result.lead)) (actor-is i c1.incarnation c1.me me) in
+    ∙ ap (λ a. c.args.deeds.now ++ deeds_of w.beat.0 (actor.Proc c1.me c1.incarnation) a) c.leading.ensures
+    ∙ ap (λ n. c.args.deeds.now ++ deeds_of n (actor.Proc c1.me c1.incarnation) (option_map act.Lead c.receive-received.result.lead)) at
+    ∙ ap (λ x. c.args.deeds.now ++ deeds_of k x (option_map act.Lead c.receive-received.result.lead)) (actor-is i c1.incarnation c1.me me) in
     replied-sent doc k i before c.args.deeds.now c.tell.new.deeds arriving coming b h c0 c1 w _ c.receive-received.result c.in-Some.ask r process known (record { was = was; now = refl; beat = refl; restart = refl; store = refl })
     (λ step g call stands number request. c.in_ok-send-in-Some.ensures.ok (processes doc) k step arriving coming g (identity i c1.incarnation) call stands at (ap (λ n. identity n c1.incarnation) (sym me)) number request)
     replied c.in-Some.is told

@@ -38,5 +38,5 @@ returns-clause-stands c doc before arriving coming h r few =
     let count : starts i h + 1 < 2 ^ 32 = starts-few 0 1 i h (subst (λ b. IsFew (start_first i b h)) (sym s.up_first ∙ up) few) in
     let stands = c.start.ensures.stands doc (processes doc) 0 1 i h s at r.world.rest.plain count in
     on-ok c.tell.result _ _ (λ told.
-        first-started doc i before c.args.deeds.now c.tell.new.deeds arriving coming h c0 c1 w _ r (within-processes doc 0 w i r.world.rest.document c.requires.index) (record { was = was; now = refl; beat = refl; restart = refl; store = refl }) refl up stands
-        (told ∙ ap (λ n. c.args.deeds.now ++ deeds_of n (actor.Proc c1.me c1.incarnation) (Some act.Start)) at ∙ ap (λ who. c.args.deeds.now ++ deeds_of 0 who (Some act.Start)) (actor-is i c1.incarnation c1.me (stands.me)))) c.tell.ensures
+    first-started doc i before c.args.deeds.now c.tell.new.deeds arriving coming h c0 c1 w _ r (within-processes doc 0 w i r.world.rest.document c.requires.index) (record { was = was; now = refl; beat = refl; restart = refl; store = refl }) refl up stands
+    (told ∙ ap (λ n. c.args.deeds.now ++ deeds_of n (actor.Proc c1.me c1.incarnation) (Some act.Start)) at ∙ ap (λ who. c.args.deeds.now ++ deeds_of 0 who (Some act.Start)) (actor-is i c1.incarnation c1.me (stands.me)))) c.tell.ensures

@@ -30,11 +30,11 @@ returns-in-None-clause-stands c doc k before arriving coming h r few =
     let turned = c.turn-turn.ensures.stands doc (processes doc) k i h s at r.world.rest.document.restart r.world.rest.plain (few-before (restart doc k i h) (controller_turn doc k i h) (grows-after_restart doc k i h) turn_few) in
     let who = actor-is i c1.incarnation c1.me (ap (λ m. m.0) c.turn-turn.ensures.same.me ∙ s.me) in
     let told = c.in_ok-tell-2.ensures
-        ∙ ap (λ ds. ds ++ deeds_of w.beat.0 (actor.Proc c1.me c1.incarnation) c.ending.result) c.in_ok-tell.ensures
-        ∙ ap (λ a. c.args.deeds.now ++ deeds_of w.beat.0 (actor.Proc c1.me c1.incarnation) a ++ deeds_of w.beat.0 (actor.Proc c1.me c1.incarnation) c.ending.result) c.starting.ensures
-        ∙ ap (λ a. c.args.deeds.now ++ deeds_of w.beat.0 (actor.Proc c1.me c1.incarnation) (when c.turn-turn.result.started act.Start) ++ deeds_of w.beat.0 (actor.Proc c1.me c1.incarnation) a) c.ending.ensures
-        ∙ ap (λ n. c.args.deeds.now ++ deeds_of n (actor.Proc c1.me c1.incarnation) (when c.turn-turn.result.started act.Start) ++ deeds_of n (actor.Proc c1.me c1.incarnation) (when c.turn-turn.result.ended act.End)) at
-        ∙ ap (λ x. c.args.deeds.now ++ deeds_of k x (when c.turn-turn.result.started act.Start) ++ deeds_of k x (when c.turn-turn.result.ended act.End)) who in
+    ∙ ap (λ ds. ds ++ deeds_of w.beat.0 (actor.Proc c1.me c1.incarnation) c.ending.result) c.in_ok-tell.ensures
+    ∙ ap (λ a. c.args.deeds.now ++ deeds_of w.beat.0 (actor.Proc c1.me c1.incarnation) a ++ deeds_of w.beat.0 (actor.Proc c1.me c1.incarnation) c.ending.result) c.starting.ensures
+    ∙ ap (λ a. c.args.deeds.now ++ deeds_of w.beat.0 (actor.Proc c1.me c1.incarnation) (when c.turn-turn.result.started act.Start) ++ deeds_of w.beat.0 (actor.Proc c1.me c1.incarnation) a) c.ending.ensures
+    ∙ ap (λ n. c.args.deeds.now ++ deeds_of n (actor.Proc c1.me c1.incarnation) (when c.turn-turn.result.started act.Start) ++ deeds_of n (actor.Proc c1.me c1.incarnation) (when c.turn-turn.result.ended act.End)) at
+    ∙ ap (λ x. c.args.deeds.now ++ deeds_of k x (when c.turn-turn.result.started act.Start) ++ deeds_of k x (when c.turn-turn.result.ended act.End)) who in
     turned-quiet doc k i before c.args.deeds.now c.tell-2.new.deeds arriving coming h c0 c1 w _ c.turn-turn.result r within (record { was = was; now = refl; beat = refl; restart = refl; store = refl }) refl turned c.in-None.is told
 
 pub returns-in_ok-send-in-Some-clause-kept : goal.returns-in_ok-send-in-Some-clause-kept
@@ -58,11 +58,11 @@ returns-in_ok-send-in-Some-clause-stands c doc k before arriving coming h r few 
     let me = ap (λ m. m.0) c.turn-turn.ensures.same.me ∙ s.me in
     let who = actor-is i c1.incarnation c1.me me in
     let told = c.in_ok-tell-2.ensures
-        ∙ ap (λ ds. ds ++ deeds_of w.beat.0 (actor.Proc c1.me c1.incarnation) c.ending.result) c.in_ok-tell.ensures
-        ∙ ap (λ a. c.args.deeds.now ++ deeds_of w.beat.0 (actor.Proc c1.me c1.incarnation) a ++ deeds_of w.beat.0 (actor.Proc c1.me c1.incarnation) c.ending.result) c.starting.ensures
-        ∙ ap (λ a. c.args.deeds.now ++ deeds_of w.beat.0 (actor.Proc c1.me c1.incarnation) (when c.turn-turn.result.started act.Start) ++ deeds_of w.beat.0 (actor.Proc c1.me c1.incarnation) a) c.ending.ensures
-        ∙ ap (λ n. c.args.deeds.now ++ deeds_of n (actor.Proc c1.me c1.incarnation) (when c.turn-turn.result.started act.Start) ++ deeds_of n (actor.Proc c1.me c1.incarnation) (when c.turn-turn.result.ended act.End)) at
-        ∙ ap (λ x. c.args.deeds.now ++ deeds_of k x (when c.turn-turn.result.started act.Start) ++ deeds_of k x (when c.turn-turn.result.ended act.End)) who in
+    ∙ ap (λ ds. ds ++ deeds_of w.beat.0 (actor.Proc c1.me c1.incarnation) c.ending.result) c.in_ok-tell.ensures
+    ∙ ap (λ a. c.args.deeds.now ++ deeds_of w.beat.0 (actor.Proc c1.me c1.incarnation) a ++ deeds_of w.beat.0 (actor.Proc c1.me c1.incarnation) c.ending.result) c.starting.ensures
+    ∙ ap (λ a. c.args.deeds.now ++ deeds_of w.beat.0 (actor.Proc c1.me c1.incarnation) (when c.turn-turn.result.started act.Start) ++ deeds_of w.beat.0 (actor.Proc c1.me c1.incarnation) a) c.ending.ensures
+    ∙ ap (λ n. c.args.deeds.now ++ deeds_of n (actor.Proc c1.me c1.incarnation) (when c.turn-turn.result.started act.Start) ++ deeds_of n (actor.Proc c1.me c1.incarnation) (when c.turn-turn.result.ended act.End)) at
+    ∙ ap (λ x. c.args.deeds.now ++ deeds_of k x (when c.turn-turn.result.started act.Start) ++ deeds_of k x (when c.turn-turn.result.ended act.End)) who in
     turned-asks doc k i before c.args.deeds.now c.tell-2.new.deeds arriving coming h c0 c1 w _ c.turn-turn.result c.in-Some.ask r within (record { was = was; now = refl; beat = refl; restart = refl; store = refl })
     (λ step g call stands number request. c.in_ok-send-in-Some.ensures.ok (processes doc) k step arriving coming g (identity i c1.incarnation) call stands at (ap (λ n. identity n c1.incarnation) (sym me)) number request)
     turned c.in-Some.is told

@@ -1,0 +1,221 @@
+// Worlds of one or two controllers, by tables of what they print. A beat is 100 ms, and durations are the defaults.
+ghost use Rattle.std.specs.Prelude.{◌≤◌, ◌≡◌, IfOk};
+ghost use Rattle.world_core.specs.Documents.{AreLawful, IsLawful, IsLawfulDocument};
+ghost use Rattle.world_core.specs.Worlds.{IsReady};
+
+use super::*;
+use kube_base::{Beat, NoMemory, ProcId, Version, Wall};
+use kube_objects::{
+    Act, Actor, Answer, Deed, Deeds, Key, Kind, Proc, Procs, RatePolicy, ReadyStatus, Settings,
+};
+use std::alloc::Global;
+use std::process::Abort;
+use std::test::Fail;
+
+const ELECTION: Key = Key {
+    kind: Kind::Lease,
+    space: 7,
+    name: 8,
+};
+
+fn settings(end: u8, fast_renew: bool) -> Settings
+    ensures { AreLawful result }
+{
+    Settings {
+        beat_millis: 100,
+        end_beat: Beat(end as u32),
+        epoch: Wall(1_704_067_200_000_000),
+        lease_duration_seconds: 15,
+        renew_deadline_millis: 10_000,
+        retry_period_millis: 2_000,
+        call_timeout_millis: 2_000,
+        restart_millis: 1_000,
+        monitor_period_millis: 5_000,
+        grace_period_millis: 40_000,
+        startup_grace_millis: 60_000,
+        node_lease_duration_seconds: 40,
+        primary_rate: 100,
+        secondary_rate: 10,
+        large_zone: 50,
+        unhealthy_percent: 55,
+        fast_renew,
+        rate_policy: RatePolicy::Standard,
+    }
+}
+
+fn controller(name: u32, rate_ppm: u32, up: bool) -> Proc
+    requires least { 500000 ≤ rate_ppm }
+    requires most { rate_ppm ≤ 2000000 }
+    ensures { IsLawful result }
+{
+    Proc {
+        name,
+        rate_ppm,
+        offset_millis: 0,
+        up,
+        watch: true,
+        ready: ReadyStatus::True,
+        lease_seconds: 15,
+        renew_millis: 10_000,
+        retry_millis: 2_000,
+        timeout_millis: 2_000,
+    }
+}
+
+fn one(alloc: Global, settings: Settings, rate_ppm: u32) -> Result<Document, NoMemory>
+    requires lawful { AreLawful settings }
+    requires least { 500000 ≤ rate_ppm }
+    requires most { rate_ppm ≤ 2000000 }
+    ensures { IfOk result (λ d. IsLawfulDocument d) }
+{
+    let mut controllers = Procs::new(alloc);
+    controllers.push(controller(10, rate_ppm, true))?;
+    Ok(Document {
+        settings,
+        controllers,
+    })
+}
+
+/// The second is up at first or not.
+fn two(alloc: Global, settings: Settings, up: bool) -> Result<Document, NoMemory>
+    requires { AreLawful settings }
+    ensures { IfOk result (λ d. IsLawfulDocument d) }
+{
+    let mut controllers = Procs::new(alloc);
+    controllers.push(controller(10, 1_000_000, true))?;
+    controllers.push(controller(11, 1_000_000, up))?;
+    Ok(Document {
+        settings,
+        controllers,
+    })
+}
+
+fn deed(beat: u8, process: u32, act: Act) -> Deed {
+    Deed {
+        beat: Beat(beat as u32),
+        actor: Actor::Proc(ProcId(process), 1),
+        act,
+    }
+}
+
+fn lead(beat: u8, process: u32, version: u64) -> Deed {
+    deed(beat, process, Act::Lead(Version(version)))
+}
+
+fn create(beat: u8, process: u32, answer: Answer) -> Deed {
+    deed(beat, process, Act::Create(ELECTION, answer, 0))
+}
+
+fn update(beat: u8, process: u32, version: u64) -> Deed {
+    deed(
+        beat,
+        process,
+        Act::Update(ELECTION, Answer::Done(Version(version)), 0),
+    )
+}
+
+/// All beats that are left, with what they print.
+fn run(alloc: Global, mut world: World) -> Result<(World, Deeds), NoMemory>
+    requires { IsReady world }
+{
+    let mut deeds = Deeds::new(alloc);
+    'beats: while !world.finished() {
+        let (next, printed) = world.beat()?;
+        world = next;
+        deeds.append(&printed)?;
+    }
+    Ok((world, deeds))
+}
+
+/// Runs the document and compares what it prints.
+fn replay(
+    rt: &impl Abort,
+    alloc: Global,
+    document: Document,
+    next: u8,
+    want: &[Deed],
+) -> Result<(), Fail>
+    requires { IsLawfulDocument document }
+{
+    let world = World::new(alloc, document)?;
+    assert_eq!(rt; world.at(), Beat(0));
+    assert!(rt; !world.finished());
+    let (world, deeds) = run(alloc, world)?;
+    assert_eq!(rt; world.at(), Beat(next as u32));
+    assert_eq!(rt; deeds.as_slice(), want);
+    Ok(())
+}
+
+#[test]
+fn leads_and_renews(rt: HostRuntime) -> Result<(), Fail> {
+    let want = [
+        deed(0, 0, Act::Start),
+        create(3, 0, Answer::Done(Version(1))),
+        lead(4, 0, 1),
+        update(7, 0, 2),
+        update(31, 0, 3),
+        update(55, 0, 4),
+    ];
+    let document = one(rt.alloc(), settings(60, false), 1_000_000)?;
+    replay(&rt, rt.alloc(), document, 61, &want)
+}
+
+#[test]
+fn does_the_only_beat(rt: HostRuntime) -> Result<(), Fail> {
+    let want = [deed(0, 0, Act::Start)];
+    let document = one(rt.alloc(), settings(0, false), 1_000_000)?;
+    replay(&rt, rt.alloc(), document, 1, &want)
+}
+
+#[test]
+fn renews_by_a_fast_clock(rt: HostRuntime) -> Result<(), Fail> {
+    let want = [
+        deed(0, 0, Act::Start),
+        create(3, 0, Answer::Done(Version(1))),
+        lead(4, 0, 1),
+        update(7, 0, 2),
+        update(21, 0, 3),
+        update(35, 0, 4),
+    ];
+    let document = one(rt.alloc(), settings(35, false), 2_000_000)?;
+    replay(&rt, rt.alloc(), document, 36, &want)
+}
+
+#[test]
+fn renews_without_a_get(rt: HostRuntime) -> Result<(), Fail> {
+    let want = [
+        deed(0, 0, Act::Start),
+        create(3, 0, Answer::Done(Version(1))),
+        lead(4, 0, 1),
+        update(5, 0, 2),
+        update(27, 0, 3),
+        update(49, 0, 4),
+    ];
+    let document = one(rt.alloc(), settings(60, true), 1_000_000)?;
+    replay(&rt, rt.alloc(), document, 61, &want)
+}
+
+#[test]
+fn one_of_two_leads(rt: HostRuntime) -> Result<(), Fail> {
+    let want = [
+        deed(0, 0, Act::Start),
+        deed(0, 1, Act::Start),
+        create(3, 0, Answer::Done(Version(1))),
+        create(3, 1, Answer::Exists),
+        lead(4, 0, 1),
+        update(7, 0, 2),
+    ];
+    let document = two(rt.alloc(), settings(19, false), true)?;
+    replay(&rt, rt.alloc(), document, 20, &want)
+}
+
+#[test]
+fn waits_where_it_is_down(rt: HostRuntime) -> Result<(), Fail> {
+    let want = [
+        deed(0, 0, Act::Start),
+        create(3, 0, Answer::Done(Version(1))),
+        lead(4, 0, 1),
+    ];
+    let document = two(rt.alloc(), settings(6, false), false)?;
+    replay(&rt, rt.alloc(), document, 7, &want)
+}
