@@ -1,5 +1,5 @@
 -- A reply to a controller, by what it is and what its elector answers.
-use Rattle.std.proofs.Common.{◌≡◌, ℕ, ◌+◌, ◌==◌, ◌&&◌, ◌<◌, ◌++◌, Bool, true, false, List, [], ◌∷◌, Option, Some, None, refl, sym, ap, ◌∙◌, subst, cond, length, arith}
+use Rattle.std.proofs.Common.{◌≡◌, ℕ, ◌++◌, Bool, true, false, List, [], ◌∷◌, Option, Some, None, refl, sym, ap, ◌∙◌, subst, cond, length, arith}
 use Rattle.std.proofs.lemmas.List.{append-nil}
 use Rattle.kube_base.specs.declared.numbers.Version.{Version}
 use Rattle.kube_objects.specs.declared.call.Ask.{Ask}
@@ -16,15 +16,14 @@ use Rattle.kube_objects.specs.Turns.{react}
 use Rattle.kube_objects.specs.Entry.{Entry, Identity, Call, CallKind, Plain, Fast, Release, Deed, Delivers, Leads, Sends, entry, actor_of}
 use Rattle.kube_objects.specs.Identities.{identity}
 use Rattle.kube_objects.specs.Newest.{only_if}
-use Rattle.kube_objects.specs.Process.{alive, starts, counted, call_in, answered_call, is_present}
+use Rattle.kube_objects.specs.Process.{alive, counted, call_in, answered_call, is_present}
 use Rattle.kube_objects.specs.Wire.{Back, next_call}
 use Rattle.history.specs.Printed.{printed, deeds_of}
 use Rattle.history.specs.Steps.{deliver_as, react_as, delivered}
 use Rattle.leader_elector.specs.Moves.{Asked, delivered as with_reply, reacted}
 use Rattle.world_core.specs.declared.controller.Controller.{Controller}
-use Rattle.world_core.specs.declared.controller.Received.{Received}
 use Rattle.world_core.specs.declared.controller.Role.{Role}
-use Rattle.world_core.specs.Controllers.{RoleStands, ControllerStands, AsksOnReply, Replied, lead_deeds}
+use Rattle.world_core.specs.Controllers.{RoleStands, ControllerStands, Replied}
 use Rattle.world_core.specs.Plain.{AreQuiet, with_deeds}
 use Rattle.world_core.proofs.Names.{eq-isnt}
 use Rattle.kube_base.specs.declared.numbers.Local.{Local}

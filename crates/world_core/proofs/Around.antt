@@ -1,12 +1,12 @@
 -- All but one controller stand through the quiet entries of that one.
-use Rattle.std.proofs.Common.{◌≡◌, ℕ, ◌+◌, ◌<◌, ◌≤◌, ◌==◌, ◌&&◌, nat_lt, Bool, true, false, List, [], ◌∷◌, Option, Some, None, slice_get, refl, sym, ap, ◌∙◌, subst, arith}
+use Rattle.std.proofs.Common.{◌≡◌, ℕ, ◌+◌, ◌<◌, ◌≤◌, ◌==◌, ◌&&◌, nat_lt, Bool, true, false, List, [], ◌∷◌, Option, Some, None, refl, sym, ap, ◌∙◌, arith}
 use Rattle.kube_objects.specs.declared.deed.Actor.{Actor}
 use Rattle.kube_objects.specs.declared.deed.Actor.TheVariants as actor
 use Rattle.kube_objects.specs.Clocks.{local}
 use Rattle.kube_objects.specs.Document.{Doc, processes}
 use Rattle.kube_objects.specs.Elector.{deadline}
 use Rattle.kube_objects.specs.Entry.{Entry, Identity, Call, Deed, First, Event, Starts, Crashes, Stops, Ends, Sends, Answers, Delivers, Expires, Leads, Ticks, entry}
-use Rattle.kube_objects.specs.Identities.{identity, is_same, is_by, of_process}
+use Rattle.kube_objects.specs.Identities.{identity, is_by, of_process}
 use Rattle.kube_objects.specs.Newest.{when, join}
 use Rattle.kube_objects.specs.Process.{life_says, life, alive, born, gone, starts, call_in, is_late, ended, is_restart_due}
 use Rattle.kube_objects.specs.Stored.{write_of}
@@ -16,11 +16,10 @@ use Rattle.history.specs.Steps.{start, restart_as, restart_if, restart, if_up, e
 use Rattle.object_store.proofs.Keeps.{store-beside}
 use Rattle.wire_calls.specs.WireStands.{is_of_wire}
 use Rattle.wire_calls.proofs.Frames.{wire-beside}
-use Rattle.world_core.specs.declared.controller.Controller.{Controller}
 use Rattle.world_core.specs.declared.world.World.{World}
-use Rattle.world_core.specs.Controllers.{ControllerStands, settled}
+use Rattle.world_core.specs.Controllers.{settled}
 use Rattle.world_core.specs.Plain.{IsUnheard, IsKnown, IsPlain, is_quiet, AreQuiet, with_deeds}
-use Rattle.world_core.specs.Worlds.{RestStands, EachStands, OthersStand, WorldWithin}
+use Rattle.world_core.specs.Worlds.{RestStands, OthersStand, WorldWithin}
 use Rattle.world_core.proofs.Beside.{controller-others}
 use Rattle.world_core.proofs.Lives.{is_event}
 use Rattle.world_core.proofs.Names.{lt-from, le-from, eq-self}

@@ -1,24 +1,20 @@
 -- A whole beat.
-use Rattle.std.proofs.Common.{◌≡◌, ℕ, zero, suc, ◌+◌, ◌<◌, ◌≤◌, ◌==◌, ◌++◌, Bool, true, false, cond, List, [], ◌∷◌, Option, Some, None, refl, sym, ap, ◌∙◌, subst, arith}
+use Rattle.std.proofs.Common.{◌≡◌, ℕ, zero, suc, ◌+◌, ◌≤◌, ◌==◌, ◌++◌, Bool, true, false, cond, List, [], ◌∷◌, refl, ap, ◌∙◌, arith}
 use Rattle.std.proofs.lemmas.Bool.Decides.{nat_tests}
-use Rattle.std.proofs.lemmas.List.{append-nil}
-use Rattle.kube_objects.specs.declared.deed.Deed as deed
-use Rattle.kube_objects.specs.Answers.{answer, written}
+use Rattle.kube_objects.specs.Answers.{answer}
 use Rattle.kube_objects.specs.Document.{Doc, processes, is_up_first}
-use Rattle.kube_objects.specs.Entry.{Entry, Answers, entry}
-use Rattle.kube_objects.specs.InFlight.{requests_due, replies_due, and_reply, is_due}
-use Rattle.kube_objects.specs.Wire.{Sent, Back, reply_delay, loses_replies, arrival, reply_arrival, back_of}
+use Rattle.kube_objects.specs.Entry.{Entry}
+use Rattle.kube_objects.specs.InFlight.{requests_due, replies_due, is_due}
+use Rattle.kube_objects.specs.Wire.{Sent, reply_delay, loses_replies, arrival, reply_arrival}
 use Rattle.history.specs.Due.{answer_all, deliver_all}
 use Rattle.history.specs.History.{beat}
-use Rattle.history.specs.Printed.{printed}
-use Rattle.history.specs.Steps.{start_first, starts_below, first_starts, happen_all, answered, step_one, step_two, step_three, turns}
+use Rattle.history.specs.Steps.{start_first, starts_below, first_starts, happen_all, answered, step_two, step_three, turns}
 use Rattle.history.proofs.Due.{step_two-due, step_three-due}
 use Rattle.wire_calls.proofs.Frames.{wire-next-beat}
 use Rattle.world_core.specs.declared.world.World.{World}
-use Rattle.world_core.specs.Plain.{IsFew, IsPlain, SentByKnown, BackToKnown}
-use Rattle.world_core.specs.Worlds.{WorldWithin, WorldStands, Running}
+use Rattle.world_core.specs.Plain.{IsFew}
+use Rattle.world_core.specs.Worlds.{WorldWithin, WorldStands}
 use Rattle.world_core.proofs.Grows.{Grows, grows-on, grows-same, grows-entry, grows-turns, few-before}
-use Rattle.world_core.proofs.Known.{requests-known, replies-known}
 use Rattle.world_core.proofs.Loops.{grows-deliver_all}
 
 -- ---- starts send nothing

@@ -1,11 +1,11 @@
 -- A controller stands beside entries of others.
-use Rattle.std.proofs.Common.{◌≡◌, ℕ, ◌==◌, ◌&&◌, Bool, true, false, List, ◌∷◌, Option, Some, None, refl, sym, ap, ◌∙◌, subst}
+use Rattle.std.proofs.Common.{◌≡◌, ℕ, ◌==◌, ◌&&◌, false, List, ◌∷◌, Option, refl, sym, ap, ◌∙◌}
 use Rattle.kube_objects.specs.declared.call.Reply.{Reply}
 use Rattle.kube_objects.specs.declared.object.Object.{Object}
 use Rattle.kube_objects.specs.Document.{Doc}
-use Rattle.kube_objects.specs.Entry.{Entry, Identity, Call, Deed, Answers, entry, actor_of}
-use Rattle.kube_objects.specs.Identities.{identity, is_same, is_by, of_process}
-use Rattle.kube_objects.specs.Process.{alive, starts, ended}
+use Rattle.kube_objects.specs.Entry.{Entry, Identity, Call, Deed, Answers, entry}
+use Rattle.kube_objects.specs.Identities.{identity, is_same, is_by}
+use Rattle.kube_objects.specs.Process.{alive, ended}
 use Rattle.leader_elector.proofs.Frames.{candidate-foreign, leading-foreign, candidate-quiet, leading-quiet}
 use Rattle.world_core.specs.declared.controller.Controller.{Controller}
 use Rattle.world_core.specs.declared.controller.Role.{Role}

@@ -2,17 +2,14 @@
 use Rattle.std.proofs.lemmas.Bool.{leb-true}
 use Rattle.std.proofs.Math.Dec.{leb-zero}
 use Rattle.std.proofs.Math.IntN.{neg_ℤ, pos-*ℤ-pos, negsuc-*ℤ-pos}
-use Rattle.std.proofs.Common.{SFits, T, ◌≤◌, if◌then◌else◌, ◌≡◌, ℕ, ℤ, pos, negsuc, zero, suc, ◌+◌, ◌*◌, ◌-◌, ◌==◌, nat_le, ◌*ℤ◌, ◌≤ℤ◌, w64, Bool, true, false, List, [], ◌∷◌, ◌++◌, Option, Some, None, slice_get, length, refl, sym, ap, ◌∙◌, subst, arith}
+use Rattle.std.proofs.Common.{SFits, T, ◌≤◌, if◌then◌else◌, ◌≡◌, ℕ, ℤ, pos, negsuc, zero, suc, ◌*◌, ◌-◌, nat_le, ◌*ℤ◌, ◌≤ℤ◌, w64, Bool, true, false, [], ◌∷◌, Some, refl, sym, ap, ◌∙◌, subst, arith}
 use Rattle.kube_objects.specs.declared.script.Proc.{Proc}
 use Rattle.kube_objects.specs.declared.settings.Settings.{Settings}
-use Rattle.kube_objects.specs.Clocks.{moved, last_rate, rate}
-use Rattle.kube_objects.specs.Document.{Doc, field, process_at, beat_micros, first_rate}
+use Rattle.kube_objects.specs.Clocks.{moved, last_rate}
+use Rattle.kube_objects.specs.Document.{Doc, field, process_at, first_rate}
 use Rattle.kube_objects.specs.Newest.{or_else}
-use Rattle.skew_clock.specs.Clocking.{Clocking, rate_at, moved as moved_micros}
-use Rattle.kube_objects.specs.Entry.{Entry}
-use Rattle.world_core.specs.declared.controller.Controller.{Controller}
-use Rattle.world_core.specs.Controllers.{ClockStands, ControllerStands}
-use Rattle.world_core.specs.Worlds.{EachStands}
+use Rattle.skew_clock.specs.Clocking.{Clocking, moved as moved_micros}
+use Rattle.world_core.specs.Controllers.{ClockStands}
 
 moved-back : (n at : ℕ) → moved_micros (neg_ℤ (pos n)) at ≡ at - n
 moved-back zero at = omega arith

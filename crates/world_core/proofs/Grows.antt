@@ -1,16 +1,15 @@
 -- The steps of a beat only add entries.
-use Rattle.std.proofs.Common.{◌≡◌, ℕ, zero, suc, ◌+◌, ◌<◌, ◌≤◌, ◌^◌, ◌&&◌, Bool, true, false, List, [], ◌∷◌, Option, Some, None, refl, sym, ap, ◌∙◌, subst, arith}
+use Rattle.std.proofs.Common.{◌≡◌, ℕ, zero, suc, ◌+◌, ◌≤◌, ◌&&◌, Bool, true, false, List, [], ◌∷◌, Option, Some, None, sym, subst, arith}
 use Rattle.kube_base.specs.declared.numbers.Version.{Version}
 use Rattle.kube_objects.specs.declared.call.Reply.{Reply}
-use Rattle.kube_objects.specs.declared.call.Request.{Request}
 use Rattle.kube_objects.specs.Document.{Doc, is_controller, is_up_first, processes}
-use Rattle.kube_objects.specs.Elector.{Follow, Fails, Asks, Succeeds, deadline, attempt, acts, leads, follow_on}
-use Rattle.kube_objects.specs.Entry.{Entry, Identity, Call, CallKind, Delivers, entry}
+use Rattle.kube_objects.specs.Elector.{Follow, Fails, Asks, Succeeds, deadline, acts, leads, follow_on}
+use Rattle.kube_objects.specs.Entry.{Entry, Identity, Call, Delivers, entry}
 use Rattle.kube_objects.specs.Identities.{identity, is_by}
 use Rattle.kube_objects.specs.Process.{alive, begun, starts, is_send, call_in, counted, ended, is_late, is_restart_due}
 use Rattle.kube_objects.specs.Turns.{lead_if, react, expire_as, expire_call, end_as, end_term, attempt_if, try}
-use Rattle.kube_objects.specs.Wire.{send, Sent, Back, sent_of, back_of}
-use Rattle.history.specs.Steps.{start, start_first, starts_below, first_starts, each, answered, answer_if, answer_due, step_two, react_as, deliver_as, delivered, deliver_if, deliver_due, step_three, if_up, restart_as, restart_if, restart, expire, finish, attempts, tick_as, ticks, controller_turn, turn_as, turn, turns, comes_at}
+use Rattle.kube_objects.specs.Wire.{Sent, Back, sent_of, back_of}
+use Rattle.history.specs.Steps.{start_first, starts_below, first_starts, each, answer_if, answer_due, step_two, react_as, deliver_as, delivered, deliver_if, deliver_due, step_three, if_up, restart_as, restart_if, restart, expire, finish, attempts, tick_as, ticks, controller_turn, turn_as, turn, turns, comes_at}
 use Rattle.world_core.specs.Plain.{IsFew}
 use Rattle.world_core.proofs.Plainly.{added-more, starts-more}
 

@@ -1,17 +1,15 @@
 -- Whoever sent what is on its way is known.
-use Rattle.std.proofs.Common.{IfSome, ◌≡◌, ℕ, ◌+◌, ◌<◌, ◌≤◌, ◌==◌, nat_lt, Bool, true, false, cond, List, [], ◌∷◌, ◌++◌, Option, Some, None, refl, sym, ap, ◌∙◌, subst, arith}
+use Rattle.std.proofs.Common.{IfSome, ◌≡◌, ℕ, ◌<◌, ◌≤◌, nat_lt, Bool, true, false, cond, List, [], ◌∷◌, ◌++◌, Option, Some, None, refl, ap, subst, arith}
 use Rattle.kube_objects.specs.declared.call.Reply.{Reply}
 use Rattle.kube_objects.specs.declared.deed.Actor.{Actor}
 use Rattle.kube_objects.specs.declared.deed.Actor.TheVariants as actor
-use Rattle.kube_objects.specs.Document.{Doc}
-use Rattle.kube_objects.specs.Entry.{Entry, Identity, Call, Deed, First, Event, Starts, Crashes, Stops, Ends, Sends, Answers, Delivers, Expires, Leads, Ticks, entry, actor_of}
+use Rattle.kube_objects.specs.Entry.{Entry, Identity, Call, Deed, First, Event, Starts, Crashes, Stops, Ends, Sends, Answers, Delivers, Expires, Leads, Ticks}
 use Rattle.kube_objects.specs.Identities.{identity, identity_of, is_same, is_by}
 use Rattle.kube_objects.specs.InFlight.{is_due, and_request, requests_due, and_reply, replies_due}
 use Rattle.kube_objects.specs.Process.{starts}
 use Rattle.kube_objects.specs.Wire.{Sent, Back, sent_of, sent_as, back_of, back_as}
-use Rattle.world_core.specs.Plain.{IsUnheard, IsOf, IsKnown, IsPlain, SentByKnown, BackToKnown}
+use Rattle.world_core.specs.Plain.{IsUnheard, IsOf, IsPlain, SentByKnown, BackToKnown}
 use Rattle.world_core.proofs.Names.{lt-from, le-from, is_same-self}
-use Rattle.world_core.proofs.Plainly.{starts-more}
 
 -- ---- who sent it
 

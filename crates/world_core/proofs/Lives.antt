@@ -1,14 +1,14 @@
 -- Another process's entries leave a process's life as it is.
-use Rattle.std.proofs.Common.{◌≡◌, ℕ, ◌&&◌, Bool, true, false, List, [], ◌∷◌, Option, Some, None, refl, sym, ap, ◌∙◌, subst}
+use Rattle.std.proofs.Common.{◌≡◌, ℕ, ◌&&◌, Bool, true, false, List, ◌∷◌, Option, Some, None, refl, ap, ◌∙◌}
 use Rattle.kube_objects.specs.declared.deed.Actor.{Actor}
 use Rattle.kube_objects.specs.declared.script.What.{What}
-use Rattle.kube_objects.specs.Entry.{Entry, Identity, Deed, First, Event, Starts, Crashes, Stops, Ends, Sends, Answers, Delivers, Expires, Leads, Ticks, entry, actor_of}
-use Rattle.kube_objects.specs.Identities.{identity, is_by, of_process}
+use Rattle.kube_objects.specs.Entry.{Entry, Identity, Deed, First, Event, Starts, Crashes, Stops, Ends, Sends, Answers, Delivers, Expires, Leads, Ticks, entry}
+use Rattle.kube_objects.specs.Identities.{of_process}
 use Rattle.kube_objects.specs.Newest.{newest, added, when, join, has}
 use Rattle.kube_objects.specs.Process.{life_says, life, alive, born, gone, is_start, starts, restart_says, ended}
 use Rattle.kube_objects.specs.Wire.{of_event}
-use Rattle.world_core.proofs.Names.{of_process-own, of_process-other, is_same-apart}
-use Rattle.world_core.proofs.Unheard.{and-false, newest-none}
+use Rattle.world_core.proofs.Names.{of_process-own}
+use Rattle.world_core.proofs.Unheard.{and-false}
 
 abbrev pub is_event : Deed → Bool
 is_event (Event what version) = true

@@ -1,18 +1,17 @@
 -- The loops of a beat: what has been taken so far, and what is left.
-use Rattle.std.proofs.Common.{◌≡◌, ℕ, zero, suc, ◌+◌, ◌-◌, ◌<◌, ◌≤◌, ◌++◌, List, [], ◌∷◌, Option, Some, None, length, refl, sym, ap, ◌∙◌, subst, arith}
+use Rattle.std.proofs.Common.{◌≡◌, ℕ, zero, suc, ◌+◌, ◌-◌, ◌<◌, ◌++◌, List, [], ◌∷◌, Option, Some, None, length, refl, sym, ap, ◌∙◌, subst, arith}
 use Rattle.kube_objects.specs.declared.call.Reply.{Reply}
 use Rattle.kube_objects.specs.declared.deed.Actor.TheVariants as actor
 use Rattle.kube_objects.specs.declared.deed.Deed as deed
 use Rattle.kube_objects.specs.declared.object.Object.{Object}
 use Rattle.kube_objects.specs.Answers.{answer, written}
-use Rattle.kube_objects.specs.Document.{Doc, processes, is_up_first}
+use Rattle.kube_objects.specs.Document.{Doc, processes}
 use Rattle.kube_objects.specs.Entry.{Entry, Identity, Call, Answers, entry, actor_of}
 use Rattle.kube_objects.specs.Identities.{identity}
-use Rattle.kube_objects.specs.Process.{starts}
 use Rattle.kube_objects.specs.Stored.{write_of, request_write}
 use Rattle.kube_objects.specs.Wire.{Sent, Back, reply_arrival}
 use Rattle.history.specs.Due.{answer_all, deliver_all}
-use Rattle.history.specs.Printed.{printed, deeds_of, answer_act}
+use Rattle.history.specs.Printed.{deeds_of, answer_act}
 use Rattle.history.specs.Steps.{answered, delivered, first_starts, starts_below, turns}
 use Rattle.object_store.specs.Stands.{StoreStands}
 use Rattle.wire_calls.specs.declared.message.Arrived.{Arrived}
@@ -21,10 +20,9 @@ use Rattle.wire_calls.specs.InFlight.{first_of, rest_of}
 use Rattle.wire_calls.specs.WireStands.{WireStands, arrived_of, as_arrived, delivered_of, as_delivered}
 use Rattle.world_core.specs.declared.world.World.{World}
 use Rattle.world_core.specs.Plain.{IsKnown, IsFew, SentByKnown, BackToKnown}
-use Rattle.world_core.specs.Worlds.{IsReady, Keeps, EachStands, WorldWithin, Running}
+use Rattle.world_core.specs.Worlds.{IsReady, Keeps, EachStands, Running}
 use Rattle.world_core.proofs.Grows.{Grows, grows-on, grows-same, grows-entry, grows-delivered, grows-more_starts, grows-more_turns, few-before}
 use Rattle.world_core.proofs.Known.{sent-later, back-later}
-use Rattle.world_core.proofs.Moving.{actor-is}
 use Rattle.world_core.proofs.Running.{answered-running}
 
 -- ---- requests

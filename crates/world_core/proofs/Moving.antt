@@ -1,15 +1,13 @@
 -- The world with one controller written back.
-use Rattle.std.proofs.Common.{◌≡◌, ℕ, ◌<◌, ◌≤◌, Result, Ok, Err, OnOk, Option, Some, None, slice_get, slice_index_or, length, vec_len, refl, sym, ap, ◌∙◌, subst, arith}
-use Rattle.std.proofs.lemmas.Option.{slice_get_read, slice_get_within}
+use Rattle.std.proofs.Common.{◌≡◌, ℕ, ◌<◌, ◌≤◌, Result, Ok, Err, OnOk, Some, slice_get, slice_index_or, vec_len, ap, arith}
+use Rattle.std.proofs.lemmas.Option.{slice_get_read}
 use Rattle.kube_base.specs.declared.numbers.ProcId.{ProcId}
-use Rattle.kube_objects.specs.declared.deed.Actor.{Actor}
 use Rattle.kube_objects.specs.declared.deed.Actor.TheVariants as actor
 use Rattle.kube_objects.specs.Document.{Doc, processes}
-use Rattle.kube_objects.specs.Entry.{Entry, actor_of}
+use Rattle.kube_objects.specs.Entry.{actor_of}
 use Rattle.kube_objects.specs.Identities.{identity}
 use Rattle.world_core.specs.declared.controller.Controller.{Controller}
 use Rattle.world_core.specs.declared.world.World.{World}
-use Rattle.world_core.specs.Controllers.{ControllerStands}
 use Rattle.world_core.specs.Worlds.{IsReady, DocStands}
 
 -- the controller that a place reads

@@ -1,10 +1,9 @@
 -- Whose an entry is.
-use Rattle.std.proofs.Common.{◌≡◌, ◌<◌, ◌≤◌, ℕ, nat_lt, ◌==◌, ◌&&◌, Bool, true, false, cond, Option, Some, None, refl, sym, ap, ◌∙◌, subst, arith}
+use Rattle.std.proofs.Common.{◌≡◌, ◌<◌, ◌≤◌, ℕ, nat_lt, ◌==◌, ◌&&◌, Bool, true, false, Some, None, refl, ap, ◌∙◌, arith}
 use Rattle.std.proofs.lemmas.Bool.Decides.{nat_tests}
-use Rattle.kube_objects.specs.declared.deed.Actor.{Actor}
 use Rattle.kube_objects.specs.Entry.{Identity, actor_of}
-use Rattle.kube_objects.specs.Identities.{identity, is_same, is_by, of_process}
-use Rattle.kube_objects.specs.Newest.{when, has}
+use Rattle.kube_objects.specs.Identities.{is_same, of_process}
+use Rattle.kube_objects.specs.Newest.{when}
 
 pub eq-self : (n : ℕ) → (n == n) ≡ true
 eq-self n = grind (arith, nat_tests)

@@ -1,10 +1,10 @@
 -- An entry keeps what holds of every history.
-use Rattle.std.proofs.Common.{IfSome, nat_lt, ◌≡◌, ℕ, ◌+◌, ◌<◌, ◌≤◌, ◌&&◌, Bool, true, false, List, [], ◌∷◌, Option, Some, None, refl, sym, ap, ◌∙◌, subst, arith}
+use Rattle.std.proofs.Common.{IfSome, nat_lt, ◌≡◌, ℕ, ◌+◌, ◌<◌, ◌≤◌, ◌&&◌, Bool, true, false, List, ◌∷◌, refl, ap, ◌∙◌, subst, arith}
 use Rattle.kube_objects.specs.Entry.{Entry, Identity, Deed, Starts, entry, actor_of}
-use Rattle.kube_objects.specs.Identities.{identity, is_same, is_by, of_process, identity_of}
+use Rattle.kube_objects.specs.Identities.{identity, is_by, of_process, identity_of}
 use Rattle.kube_objects.specs.Newest.{added, has}
 use Rattle.kube_objects.specs.Process.{is_start, starts}
-use Rattle.world_core.specs.Plain.{IsUnheard, IsOf, IsKnown, IsPlain}
+use Rattle.world_core.specs.Plain.{IsKnown, IsPlain}
 use Rattle.world_core.proofs.Names.{lt-from, le-from, is_same-self, is_same-process, is_same-incarnation, of_process-own}
 
 pub added-more : (b : Bool) (n : ℕ) → n ≤ added b n

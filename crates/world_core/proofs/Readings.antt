@@ -1,8 +1,8 @@
 -- A controller's clock reads what the definitions say.
-use Rattle.std.proofs.Common.{◌≡◌, ℕ, zero, suc, ◌+◌, ◌*◌, ◌/◌, refl, sym, ap, ◌∙◌}
-use Rattle.kube_objects.specs.Clocks.{rate, local, wall, moved}
+use Rattle.std.proofs.Common.{◌≡◌, ℕ, zero, suc, ◌+◌, ◌*◌, ◌/◌, refl, ap, ◌∙◌}
+use Rattle.kube_objects.specs.Clocks.{local, wall, moved}
 use Rattle.kube_objects.specs.Document.{Doc, beat_micros, offset_millis}
-use Rattle.skew_clock.specs.Clocking.{Clocking, rate_at, reading, wall_of, moved as moved_micros}
+use Rattle.skew_clock.specs.Clocking.{Clocking, rate_at, reading, wall_of}
 use Rattle.world_core.specs.Controllers.{ClockStands}
 
 pub reading-local : (doc : Doc) (p k : ℕ) (c : Clocking) → ClockStands doc p c → reading c k ≡ local doc p k

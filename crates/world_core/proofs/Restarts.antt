@@ -1,5 +1,5 @@
 -- A restart, by what the controller is.
-use Rattle.std.proofs.Common.{◌≡◌, ℕ, ◌+◌, ◌<◌, ◌≤◌, ◌^◌, ◌++◌, not, nat_lt, Bool, true, false, List, [], ◌∷◌, Option, Some, None, refl, sym, ap, ◌∙◌, subst, arith}
+use Rattle.std.proofs.Common.{◌≡◌, ℕ, ◌+◌, ◌<◌, ◌≤◌, ◌^◌, ◌++◌, not, nat_lt, true, false, List, Option, Some, None, refl, sym, ap, ◌∙◌, subst, arith}
 use Rattle.std.proofs.lemmas.Bool.Decides.{nat_tests}
 use Rattle.std.proofs.lemmas.List.{append-nil}
 use Rattle.kube_base.specs.declared.numbers.Local.{Local}
@@ -17,7 +17,6 @@ use Rattle.world_core.specs.declared.controller.Role.{Role}
 use Rattle.world_core.specs.Controllers.{RoleStands, ControllerStands, Restarted, restart_reading, reading_of, waiting_of}
 use Rattle.world_core.specs.Plain.{IsFew}
 use Rattle.world_core.proofs.Plainly.{starts-start}
-use Rattle.world_core.proofs.Standing.{role-at}
 use Rattle.world_core.proofs.Turning.{restart-up, restart-down}
 
 lt-true : (a b : ℕ) → a < b → nat_lt a b ≡ true

@@ -1,5 +1,5 @@
 -- One controller has moved, and the world stands again.
-use Rattle.std.proofs.Common.{◌≡◌, ℕ, ◌+◌, ◌<◌, ◌≤◌, ◌==◌, ◌++◌, Bool, true, false, List, [], ◌∷◌, Option, Some, None, slice_get, slice_set, length, refl, sym, ap, ◌∙◌, subst, append_assoc, vec_len, arith}
+use Rattle.std.proofs.Common.{◌≡◌, ℕ, ◌+◌, ◌<◌, ◌≤◌, ◌==◌, ◌++◌, Bool, true, false, List, ◌∷◌, Some, None, slice_get, slice_set, length, refl, sym, ap, ◌∙◌, subst, append_assoc, vec_len, arith}
 use Rattle.std.proofs.lemmas.List.{append-nil}
 use Rattle.kube_objects.specs.declared.call.Ask.{Ask}
 use Rattle.kube_objects.specs.declared.deed.Deed as deed
@@ -21,7 +21,7 @@ use Rattle.world_core.specs.declared.controller.Turn.{Turn}
 use Rattle.world_core.specs.declared.world.World.{World}
 use Rattle.world_core.specs.Controllers.{ControllerStands, SameController, AsksOn, AsksOnReply, StaysOn, AsksAfter, Turned, Replied, settled, started_deeds, ended_deeds, lead_deeds}
 use Rattle.world_core.specs.Plain.{IsKnown, IsPlain, with_deeds}
-use Rattle.world_core.specs.Worlds.{IsReady, Keeps, DocStands, RestStands, EachStands, OthersStand, WorldWithin, Running}
+use Rattle.world_core.specs.Worlds.{IsReady, Keeps, DocStands, EachStands, OthersStand, WorldWithin, Running}
 use Rattle.world_core.proofs.Around.{Around, around-world, around-own, around-deeds, around-settled, around-started}
 use Rattle.world_core.proofs.Beside.{controller-others, controller-answered}
 use Rattle.world_core.proofs.Lists.{slice_get-set_same, slice_get-set_other, length-set}

@@ -1,12 +1,11 @@
 -- A controller that changed its role stands for a history that started nothing since.
-use Rattle.std.proofs.Common.{◌≡◌, ℕ, ◌+◌, ◌<◌, List, ◌∷◌, Option, Some, None, refl, sym, ap, ◌∙◌, subst, arith}
+use Rattle.std.proofs.Common.{◌≡◌, ℕ, ◌+◌, List, Some, sym, ap, ◌∙◌, subst}
 use Rattle.kube_objects.specs.Clocks.{local}
 use Rattle.kube_objects.specs.Document.{Doc}
-use Rattle.kube_objects.specs.Elector.{observed, observed_at}
 use Rattle.kube_objects.specs.Entry.{Entry, Identity}
 use Rattle.kube_objects.specs.Identities.{identity}
 use Rattle.kube_objects.specs.Newest.{or_zero}
-use Rattle.kube_objects.specs.Process.{alive, starts}
+use Rattle.kube_objects.specs.Process.{starts}
 use Rattle.history.specs.Steps.{start}
 use Rattle.leader_elector.specs.declared.candidate.Candidate.{Candidate}
 use Rattle.leader_elector.specs.Stands.{CandidateStands, IsNew}

@@ -1,19 +1,19 @@
 -- A controller's turn after its restart, by what it is and what its elector answers.
-use Rattle.std.proofs.Common.{◌≡◌, ℕ, ◌+◌, ◌<◌, ◌++◌, Bool, true, false, List, [], ◌∷◌, Option, Some, None, refl, sym, ap, ◌∙◌, subst}
+use Rattle.std.proofs.Common.{◌≡◌, ℕ, ◌+◌, ◌++◌, Bool, true, false, List, [], ◌∷◌, Option, Some, None, refl, sym, ap, ◌∙◌, subst}
 use Rattle.std.proofs.lemmas.List.{append-nil}
 use Rattle.kube_base.specs.declared.numbers.Local.{Local}
 use Rattle.kube_objects.specs.declared.call.Ask.{Ask}
 use Rattle.kube_objects.specs.declared.deed.Act.TheVariants as act
 use Rattle.kube_objects.specs.Clocks.{local}
 use Rattle.kube_objects.specs.Document.{Doc, restart_delay}
-use Rattle.kube_objects.specs.Elector.{deadline, leads}
+use Rattle.kube_objects.specs.Elector.{leads}
 use Rattle.kube_objects.specs.Entry.{Entry, Identity, Ends, Sends, entry, actor_of}
 use Rattle.kube_objects.specs.Identities.{identity}
-use Rattle.kube_objects.specs.Process.{alive, starts, ended}
+use Rattle.kube_objects.specs.Process.{alive, ended}
 use Rattle.kube_objects.specs.Turns.{end_term, try}
 use Rattle.kube_objects.specs.Wire.{next_call}
 use Rattle.history.specs.Printed.{printed, deeds_of}
-use Rattle.history.specs.Steps.{expire, finish, attempts}
+use Rattle.history.specs.Steps.{finish, attempts}
 use Rattle.leader_elector.specs.declared.candidate.Candidate.{Candidate}
 use Rattle.leader_elector.specs.declared.leading.Leading.{Leading}
 use Rattle.leader_elector.specs.Moves.{Asked, expired, tested}
@@ -21,7 +21,7 @@ use Rattle.leader_elector.specs.Stands.{CandidateStands, LeadingStands}
 use Rattle.world_core.specs.declared.controller.Controller.{Controller}
 use Rattle.world_core.specs.declared.controller.Role.{Role}
 use Rattle.world_core.specs.declared.controller.Role.TheVariants as role
-use Rattle.world_core.specs.Controllers.{RoleStands, ControllerStands, AsksOn, Timed, ended_deeds, settled, restart_reading, reading_of}
+use Rattle.world_core.specs.Controllers.{RoleStands, ControllerStands, AsksOn, Timed, ended_deeds, settled, restart_reading}
 use Rattle.world_core.proofs.Lives.{alive-end, ended-end}
 use Rattle.world_core.proofs.Standing.{stands-role, role-at}
 use Rattle.world_core.proofs.Terms.{no_deadline}

@@ -1,15 +1,14 @@
 -- A controller's turn by parts, where it is up or down.
-use Rattle.std.proofs.Common.{◌≡◌, ℕ, ◌+◌, ◌<◌, ◌≤◌, ◌++◌, nat_lt, Bool, true, false, List, [], ◌∷◌, Option, Some, None, refl, sym, ap, ◌∙◌, subst, arith}
+use Rattle.std.proofs.Common.{◌≡◌, ℕ, Bool, true, false, List, Option, Some, None, refl, ap, ◌∙◌}
 use Rattle.std.proofs.lemmas.List.{append-nil}
-use Rattle.kube_objects.specs.Clocks.{local}
 use Rattle.kube_objects.specs.Document.{Doc}
 use Rattle.kube_objects.specs.Elector.{deadline, acts}
-use Rattle.kube_objects.specs.Entry.{Entry, Identity, Call, Deed, First, Event, Starts, Crashes, Stops, Ends, Sends, Answers, Delivers, Expires, Leads, Ticks, entry}
+use Rattle.kube_objects.specs.Entry.{Entry, Identity, Call}
 use Rattle.kube_objects.specs.Identities.{identity}
 use Rattle.kube_objects.specs.Process.{alive, starts, call_in, is_late, ended, is_restart_due}
-use Rattle.kube_objects.specs.Turns.{expire_as, expire_call, end_as, end_term, try}
+use Rattle.kube_objects.specs.Turns.{expire_as, expire_call, end_term, try}
 use Rattle.history.specs.Printed.{printed}
-use Rattle.history.specs.Steps.{start, restart_as, restart_if, restart, if_up, expire, finish, attempts, tick_as, ticks, controller_turn}
+use Rattle.history.specs.Steps.{restart_as, restart_if, restart, if_up, expire, finish, attempts, tick_as, ticks}
 use Rattle.leader_elector.specs.Moves.{expired, tested}
 
 tick_as-same : (doc : Doc) (k : ℕ) (q : Identity) (b : Bool) (h : List Entry) → tick_as doc k q b h ≡ h

@@ -1,10 +1,10 @@
 -- Of an identity without entries a history tells nothing.
-use Rattle.std.proofs.Common.{◌≡◌, ℕ, ◌&&◌, Bool, true, false, List, [], ◌∷◌, Option, Some, None, refl, sym, ap, ◌∙◌, subst}
+use Rattle.std.proofs.Common.{◌≡◌, ◌&&◌, Bool, true, false, List, [], ◌∷◌, Option, Some, None, refl, ap, ◌∙◌}
 use Rattle.kube_objects.specs.declared.deed.Actor.{Actor}
 use Rattle.kube_objects.specs.Elector.{shows, shown, observed, newly, lead_says, leads, told}
-use Rattle.kube_objects.specs.Entry.{Entry, Identity, Call, Deed, First, Event, Starts, Crashes, Stops, Ends, Sends, Answers, Delivers, Expires, Leads, Ticks}
+use Rattle.kube_objects.specs.Entry.{Entry, Identity, Deed, First, Event, Starts, Crashes, Stops, Ends, Sends, Answers, Delivers, Expires, Leads, Ticks}
 use Rattle.kube_objects.specs.Identities.{is_by}
-use Rattle.kube_objects.specs.Newest.{newest, count, added, when, only_if, has, join}
+use Rattle.kube_objects.specs.Newest.{newest, added, when, only_if, has, join}
 use Rattle.kube_objects.specs.Process.{is_send, begun, call_says, last_call, call_in, open_as}
 use Rattle.world_core.specs.Plain.{IsUnheard}
 

@@ -1,17 +1,16 @@
 -- A controller of the world stands for a process in a history.
-use Rattle.std.specs.Prelude.{◌≡◌, ℕ, ℤ, ◌+◌, ◌<◌, ◌≤◌, ◌++◌, Bool, true, false, List, [], ◌∷◌, Option, Some, None, option_map}
+use Rattle.std.specs.Prelude.{◌≡◌, ℕ, ◌+◌, ◌++◌, Bool, true, List, ◌∷◌, Option, Some, None, option_map}
 use Rattle.kube_base.specs.declared.numbers.Local.{Local}
 use Rattle.kube_base.specs.declared.numbers.Version.{Version}
 use Rattle.kube_objects.specs.declared.call.Ask.{Ask}
 use Rattle.kube_objects.specs.declared.deed.Act.TheVariants as act
 use Rattle.kube_objects.specs.declared.deed.Deed as deed
-use Rattle.kube_objects.specs.declared.call.Reply.{Reply}
 use Rattle.kube_objects.specs.Clocks.{rate, local, moved}
-use Rattle.kube_objects.specs.Document.{Doc, beat_micros, end_beat, offset_millis, is_up_first, restart_delay}
+use Rattle.kube_objects.specs.Document.{Doc, beat_micros, offset_millis, is_up_first, restart_delay}
 use Rattle.kube_objects.specs.Entry.{Entry, Identity, Call, Deed, Delivers, entry, actor_of}
 use Rattle.kube_objects.specs.Identities.{identity}
 use Rattle.kube_objects.specs.Newest.{when}
-use Rattle.kube_objects.specs.Process.{alive, starts, begun, ended}
+use Rattle.kube_objects.specs.Process.{alive, starts, ended}
 use Rattle.kube_objects.specs.Wire.{Back}
 use Rattle.history.specs.Printed.{printed, deeds_of}
 use Rattle.history.specs.Steps.{restart, expire, finish, attempts, delivered, controller_turn}

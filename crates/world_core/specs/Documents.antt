@@ -1,5 +1,5 @@
 -- The document that the world runs, as the definitions read it, and its ranges.
-use Rattle.std.specs.Prelude.{ℕ, ℤ, pos, negsuc, ◌+◌, ◌*◌, ◌<◌, ◌≤◌, ◌≤ℤ◌, ◌≡◌, List, [], length, All}
+use Rattle.std.specs.Prelude.{pos, negsuc, ◌*◌, ◌<◌, ◌≤◌, ◌≤ℤ◌, [], length, All}
 use Rattle.kube_objects.specs.declared.script.Proc.{Proc}
 use Rattle.kube_objects.specs.declared.settings.Settings.{Settings}
 use Rattle.kube_objects.specs.Document.{Doc}

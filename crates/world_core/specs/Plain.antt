@@ -1,5 +1,5 @@
 -- What holds of every history, at any point of a beat, that the world keeps in mind.
-use Rattle.std.specs.Prelude.{◌≡◌, Bool, ℕ, ◌+◌, ◌<◌, ◌≤◌, ◌^◌, true, false, List, [], ◌∷◌, Option, Some, None, IfSome}
+use Rattle.std.specs.Prelude.{◌≡◌, Bool, ℕ, ◌+◌, ◌<◌, ◌≤◌, ◌^◌, true, false, List, [], ◌∷◌, IfSome}
 use Rattle.kube_objects.specs.Entry.{Entry, Identity, Deed, Starts, Crashes, Stops, Ends, Delivers, Expires, Leads, entry}
 use Rattle.kube_objects.specs.Identities.{identity, is_by, identity_of}
 use Rattle.kube_objects.specs.Process.{starts, begun}

@@ -1,7 +1,7 @@
 -- The world stands for a document before a beat, or within one.
-use Rattle.std.specs.Prelude.{◌≡◌, ℕ, ◌+◌, ◌<◌, ◌≤◌, ◌++◌, true, List, [], Option, Some, None, slice_get, length, vec_len}
+use Rattle.std.specs.Prelude.{◌≡◌, ℕ, ◌<◌, ◌≤◌, ◌++◌, true, List, [], Some, slice_get, length, vec_len}
 use Rattle.kube_objects.specs.declared.deed.Deed as deed
-use Rattle.kube_objects.specs.Document.{Doc, processes, is_controller, restart_delay, end_beat}
+use Rattle.kube_objects.specs.Document.{Doc, processes, is_controller, restart_delay}
 use Rattle.kube_objects.specs.Entry.{Entry}
 use Rattle.kube_objects.specs.InFlight.{requests_due, replies_due}
 use Rattle.kube_objects.specs.Wire.{Sent, Back}

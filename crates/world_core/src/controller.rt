@@ -208,63 +208,39 @@ impl Controller {
             → is_controller doc p ≡ true → IsFew h → Replied doc k p b h self.new result }
     {
         if incarnation != self.incarnation {
-            return Received {
-                lead: None,
-                ask: None,
-            };
+            return stays();
         }
         let now = self.clock.local(beat);
         let wall = self.clock.wall(beat);
         match mem::replace(&mut self.role, Role::Down(None)) {
             Role::Down(at) => {
                 self.role = Role::Down(at);
-                Received {
-                    lead: None,
-                    ask: None,
-                }
+                stays()
             }
             Role::Candidate(candidate) => match candidate.on_reply(number, reply, now, wall) {
                 CandidateNext::Stay(candidate) => {
                     self.role = Role::Candidate(candidate);
-                    Received {
-                        lead: None,
-                        ask: None,
-                    }
+                    stays()
                 }
                 CandidateNext::Ask(candidate, ask) => {
                     self.role = Role::Candidate(candidate);
-                    Received {
-                        lead: None,
-                        ask: Some(ask),
-                    }
+                    asks(ask)
                 }
                 CandidateNext::Lead(leading) => {
                     self.role = Role::Leading(leading);
-                    Received {
-                        lead: done(reply),
-                        ask: None,
-                    }
+                    leads(reply)
                 }
             },
             Role::Leading(leading) => match leading.on_reply(number, reply, now, wall) {
                 LeadingNext::Stay(leading) => {
                     self.role = Role::Leading(leading);
-                    Received {
-                        lead: None,
-                        ask: None,
-                    }
+                    stays()
                 }
                 LeadingNext::Ask(leading, ask) => {
                     self.role = Role::Leading(leading);
-                    Received {
-                        lead: None,
-                        ask: Some(ask),
-                    }
+                    asks(ask)
                 }
-                LeadingNext::End(_) => Received {
-                    lead: None,
-                    ask: None,
-                },
+                LeadingNext::End(_) => stays(),
             },
         }
     }
@@ -324,6 +300,35 @@ fn ending() -> Turn
     Turn {
         started: false,
         ended: true,
+        ask: None,
+    }
+}
+
+// What a reply causes.
+fn stays() -> Received
+    ensures { result ≡ record { lead = None; ask = None } }
+{
+    Received {
+        lead: None,
+        ask: None,
+    }
+}
+
+fn asks(ask: Ask) -> Received
+    ensures { result ≡ record { lead = None; ask = Some ask } }
+{
+    Received {
+        lead: None,
+        ask: Some(ask),
+    }
+}
+
+fn leads(reply: Reply) -> Received
+    ensures none { result.ask ≡ None }
+    ensures lead { (version : Version) → reply ≡ Reply.Done version → result.lead ≡ Some version }
+{
+    Received {
+        lead: done(reply),
         ask: None,
     }
 }

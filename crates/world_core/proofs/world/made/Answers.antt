@@ -1,6 +1,5 @@
-use Rattle.std.proofs.Common.{◌≡◌, ◌++◌, ◌+◌, ℕ, [], ◌∷◌, Some, length, slice_get, refl, sym, ap, ◌∙◌, subst, arith}
+use Rattle.std.proofs.Common.{◌≡◌, ◌+◌, ℕ, [], Some, length, slice_get, sym, ap, ◌∙◌, subst}
 use Rattle.std.proofs.lemmas.Option.{slice_get-get_or}
-use Rattle.kube_objects.specs.Document.{Doc}
 use Rattle.world_core.specs.declared.controller.Controller.{Controller}
 use Rattle.world_core.specs.Controllers.{ControllerStands}
 use Rattle.world_core.specs.Worlds.{EachStands}

@@ -1,4 +1,4 @@
-use Rattle.std.proofs.Common.{◌≡◌, ◌++◌, ℕ, [], Some, slice_get, length, vec_len}
+use Rattle.std.proofs.Common.{◌≡◌, ◌++◌, ℕ, [], Some, slice_get, length}
 use Rattle.kube_objects.specs.Document.{Doc}
 use Rattle.world_core.specs.declared.controller.Controller.{Controller}
 use Rattle.world_core.specs.Worlds.{EachStands}

@@ -1,4 +1,4 @@
-use Rattle.std.proofs.Common.{w64, ◌≡◌, ℕ, pos, ◌*ℤ◌, false, [], Some, refl, sym, ap, ◌∙◌}
+use Rattle.std.proofs.Common.{w64, pos, ◌*ℤ◌, false, refl, sym, ap, ◌∙◌}
 use Rattle.std.proofs.Math.Facts.{to_z-of_z}
 use Rattle.kube_objects.specs.Document.{field, of_millis}
 use Rattle.world_core.proofs.controller.Controller.new.Goals as goal

@@ -1,7 +1,6 @@
-use Rattle.std.proofs.Common.{◌≡◌, ◌+◌, ℕ, Some, refl, sym, ap, ◌∙◌, subst}
+use Rattle.std.proofs.Common.{◌≡◌, ◌+◌, Some, sym, ap, ◌∙◌, subst}
 use Rattle.kube_base.specs.declared.numbers.Local.{Local}
 use Rattle.kube_objects.specs.Clocks.{local, wall}
-use Rattle.kube_objects.specs.Document.{restart_delay}
 use Rattle.kube_objects.specs.Identities.{identity}
 use Rattle.world_core.specs.declared.controller.Role.TheVariants as role
 use Rattle.world_core.specs.Controllers.{Timed}

@@ -1,4 +1,4 @@
-use Rattle.std.proofs.Common.{◌≡◌, ◌+◌, ◌<◌, ◌≤◌, ℕ, refl, sym, ap, ◌∙◌, subst}
+use Rattle.std.proofs.Common.{◌≡◌, ◌<◌, ◌≤◌, sym, ap, ◌∙◌, subst}
 use Rattle.kube_objects.specs.Clocks.{local}
 use Rattle.world_core.specs.Plain.{IsFew}
 use Rattle.world_core.proofs.Readings.{reading-local}

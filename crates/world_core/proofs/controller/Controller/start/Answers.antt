@@ -1,4 +1,4 @@
-use Rattle.std.proofs.Common.{◌≡◌, ◌+◌, ℕ, refl, sym, ap, ◌∙◌, arith}
+use Rattle.std.proofs.Common.{◌≡◌, ◌+◌, ap, ◌∙◌, arith}
 use Rattle.kube_objects.specs.Clocks.{local}
 use Rattle.kube_objects.specs.Identities.{identity}
 use Rattle.kube_objects.specs.Process.{starts}

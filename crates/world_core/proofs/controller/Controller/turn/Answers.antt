@@ -1,4 +1,4 @@
-use Rattle.std.proofs.Common.{◌≡◌, ◌++◌, refl, sym, ap, ◌∙◌, subst, append_assoc}
+use Rattle.std.proofs.Common.{◌++◌, sym, ap, ◌∙◌, subst}
 use Rattle.kube_objects.specs.Identities.{identity}
 use Rattle.history.specs.Printed.{printed}
 use Rattle.history.specs.Steps.{restart, attempts}

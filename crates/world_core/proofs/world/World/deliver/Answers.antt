@@ -1,13 +1,13 @@
-use Rattle.std.proofs.Common.{◌≡◌, ◌<◌, ◌+◌, ◌++◌, ℕ, Ok, Err, Some, None, OnOk, option_map, vec_len, refl, sym, ap, ◌∙◌, subst, arith}
+use Rattle.std.proofs.Common.{◌≡◌, ◌<◌, ◌++◌, option_map, vec_len, refl, sym, ap, ◌∙◌, arith}
 use Rattle.kube_objects.specs.declared.deed.Actor.TheVariants as actor
 use Rattle.kube_objects.specs.declared.deed.Act.TheVariants as act
-use Rattle.kube_objects.specs.Document.{Doc, processes}
+use Rattle.kube_objects.specs.Document.{processes}
 use Rattle.kube_objects.specs.Identities.{identity}
 use Rattle.history.specs.Printed.{deeds_of}
 use Rattle.history.specs.Steps.{delivered}
 use Rattle.world_core.proofs.Grows.{few-before, grows-delivered}
-use Rattle.world_core.proofs.Moving.{read-at, within-end, within-processes, actor-is, on-ok}
-use Rattle.world_core.proofs.Running.{Moved, keeps-moved, replied-quiet, replied-sent}
+use Rattle.world_core.proofs.Moving.{read-at, within-processes, actor-is}
+use Rattle.world_core.proofs.Running.{keeps-moved, replied-quiet, replied-sent}
 use Rattle.world_core.proofs.world.World.deliver.Goals as goal
 
 pub returns-in-None-clause-stands : goal.returns-in-None-clause-stands

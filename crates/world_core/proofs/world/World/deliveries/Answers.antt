@@ -1,8 +1,7 @@
-use Rattle.std.proofs.Common.{◌≡◌, ◌<◌, ℕ, Some, None, IsSome, refl, sym, ap, ◌∙◌, subst, arith}
+use Rattle.std.proofs.Common.{refl, sym, ◌∙◌}
 use Rattle.kube_objects.specs.Document.{processes}
 use Rattle.wire_calls.specs.InFlight.{rest_of}
-use Rattle.wire_calls.specs.WireStands.{replies_at}
-use Rattle.world_core.proofs.Loops.{delivering-more, delivering-done, rewired, keeps-on}
+use Rattle.world_core.proofs.Loops.{delivering-more, delivering-done, rewired}
 use Rattle.world_core.proofs.world.World.deliveries.Goals as goal
 
 pub coming-preserved : goal.coming-preserved

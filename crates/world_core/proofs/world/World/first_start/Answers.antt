@@ -1,18 +1,14 @@
-use Rattle.std.proofs.Common.{◌≡◌, ◌<◌, ◌+◌, ◌^◌, ◌++◌, ℕ, Ok, Err, Some, OnOk, refl, sym, ap, ◌∙◌, subst}
-use Rattle.kube_base.specs.declared.numbers.Beat.{Beat}
+use Rattle.std.proofs.Common.{◌≡◌, ◌<◌, ◌+◌, ◌^◌, ◌++◌, Some, refl, sym, ap, ◌∙◌, subst}
 use Rattle.kube_objects.specs.declared.deed.Act.TheVariants as act
 use Rattle.kube_objects.specs.declared.deed.Actor.TheVariants as actor
-use Rattle.kube_objects.specs.Document.{is_up_first, processes}
-use Rattle.kube_objects.specs.Entry.{actor_of}
-use Rattle.kube_objects.specs.Identities.{identity}
+use Rattle.kube_objects.specs.Document.{processes}
 use Rattle.kube_objects.specs.Process.{starts}
 use Rattle.history.specs.Printed.{deeds_of}
-use Rattle.history.specs.Steps.{start, start_first}
+use Rattle.history.specs.Steps.{start_first}
 use Rattle.world_core.specs.Plain.{IsFew}
-use Rattle.world_core.specs.Worlds.{Keeps, Running}
 use Rattle.world_core.proofs.Moving.{read-at, within-end, within-processes, actor-is, on-ok}
 use Rattle.world_core.proofs.Restarts.{starts-few}
-use Rattle.world_core.proofs.Running.{Moved, keeps-moved, first-not, first-started}
+use Rattle.world_core.proofs.Running.{first-not, first-started}
 use Rattle.world_core.proofs.world.World.first_start.Goals as goal
 
 pub returns-then-not-controller-clause-stands : goal.returns-then-not-controller-clause-stands

@@ -1,4 +1,4 @@
-use Rattle.std.proofs.Common.{◌≡◌, ◌<◌, ◌≤◌, ◌+◌, ℕ, suc, List, vec_len, length, refl, sym, ap, ◌∙◌, subst, arith, add-one}
+use Rattle.std.proofs.Common.{◌≡◌, ◌<◌, sym, ◌∙◌, subst, arith, add-one}
 use Rattle.kube_objects.specs.Document.{processes}
 use Rattle.history.specs.Steps.{first_starts, starts_below}
 use Rattle.world_core.specs.Plain.{IsFew}

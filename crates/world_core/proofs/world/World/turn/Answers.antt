@@ -1,19 +1,15 @@
-use Rattle.std.proofs.Common.{◌≡◌, ◌<◌, ◌+◌, ◌++◌, ℕ, Ok, Err, Some, None, OnOk, refl, sym, ap, ◌∙◌, subst}
+use Rattle.std.proofs.Common.{◌≡◌, ◌++◌, refl, sym, ap, ◌∙◌, subst}
 use Rattle.kube_objects.specs.declared.deed.Actor.TheVariants as actor
 use Rattle.kube_objects.specs.declared.deed.Act.TheVariants as act
-use Rattle.kube_objects.specs.declared.deed.Deed.{Deed}
-use Rattle.kube_objects.specs.Document.{Doc, processes}
-use Rattle.kube_objects.specs.Entry.{Entry, actor_of}
+use Rattle.kube_objects.specs.Document.{processes}
 use Rattle.kube_objects.specs.Identities.{identity}
 use Rattle.kube_objects.specs.Newest.{when}
 use Rattle.history.specs.Printed.{deeds_of}
-use Rattle.history.specs.Steps.{restart, turn, controller_turn}
-use Rattle.world_core.specs.Controllers.{Turned}
+use Rattle.history.specs.Steps.{restart, controller_turn}
 use Rattle.world_core.specs.Plain.{IsFew}
-use Rattle.world_core.specs.Worlds.{Keeps, Running}
 use Rattle.world_core.proofs.Grows.{few-before, grows-after_restart}
-use Rattle.world_core.proofs.Moving.{read-at, within-end, within-processes, actor-is, on-ok}
-use Rattle.world_core.proofs.Running.{Moved, keeps-moved, turned-quiet, turned-asks, turn-is}
+use Rattle.world_core.proofs.Moving.{read-at, within-processes, actor-is}
+use Rattle.world_core.proofs.Running.{keeps-moved, turned-quiet, turned-asks, turn-is}
 use Rattle.world_core.proofs.world.World.turn.Goals as goal
 
 pub returns-in-None-clause-stands : goal.returns-in-None-clause-stands
