@@ -71,7 +71,8 @@ impl World {
         self.beat.0 > self.end.0
     }
 
-    /// Does one beat, and answers its printed entries.
+    /// Does one beat, and answers its printed entries. The steps stay out of line: so a beat is short enough to be inlined
+    /// where it is called, and the world isn't moved.
     pub fn beat(mut self) -> Result<(World, Deeds), NoMemory>
         requires ready { IsReady self }
         requires within { at_of self ≤ end_of self }
@@ -90,6 +91,7 @@ impl World {
     }
 
     // In beat 0 each controller starts that is up at first.
+    #[inline(never)]
     fn first_starts(&mut self, deeds: &mut Deeds) -> Result<(), NoMemory>
         requires ready { IsReady self.old }
         requires within { at_of self.old ≤ end_of self.old }
@@ -124,6 +126,7 @@ impl World {
     }
 
     // Requests that arrive are answered, and each reply is sent.
+    #[inline(never)]
     fn arrivals(&mut self, deeds: &mut Deeds) -> Result<(), NoMemory>
         requires ready { IsReady self.old }
         requires within { at_of self.old ≤ end_of self.old }
@@ -146,6 +149,7 @@ impl World {
     }
 
     // Replies that arrive are delivered.
+    #[inline(never)]
     fn deliveries(&mut self, deeds: &mut Deeds) -> Result<(), NoMemory>
         requires ready { IsReady self.old }
         requires within { at_of self.old ≤ end_of self.old }
@@ -191,6 +195,7 @@ impl World {
     }
 
     // Each controller has its turn, in order.
+    #[inline(never)]
     fn turns(&mut self, deeds: &mut Deeds) -> Result<(), NoMemory>
         requires ready { IsReady self.old }
         requires within { at_of self.old ≤ end_of self.old }
