@@ -163,6 +163,7 @@ impl World {
         Ok(())
     }
 
+    #[inline(never)]
     fn deliver(&mut self, back: &Delivered, deeds: &mut Deeds) -> Result<(), NoMemory>
         requires ready { IsReady self.old }
         requires within { at_of self.old ≤ end_of self.old }
