@@ -162,6 +162,20 @@ impl Controller {
         if self.rests(now) {
             return quiet();
         }
+        self.wakes(beat, now, delay)
+    }
+
+    // The rest of its turn, where it doesn't rest.
+    #[inline(never)]
+    fn wakes(&mut self, beat: Beat, now: Local, delay: u64) -> Turn
+        requires within { beat.0 ≤ self.old.clock.end }
+        requires now { now.0 ≤ 2 * 10 ^ 18 }
+        requires delay { delay ≤ 86400000000000000 }
+        ensures same { SameController self.old self.new }
+        ensures incarnation { self.new.incarnation ≡ self.old.incarnation }
+        ensures stands { (doc : Doc) (k p : ℕ) (h : List Entry) → ControllerStands doc p h self.old → beat.0 ≡ k → now.0 ≡ local doc p k → delay ≡ restart_delay doc → IsFew h
+            → Timed doc k p h self.new result.ended result.ask }
+    {
         let wall = self.clock.wall(beat);
         match mem::replace(&mut self.role, Role::Down(None)) {
             Role::Down(at) => {

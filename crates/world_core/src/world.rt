@@ -1,8 +1,11 @@
 // The world of a document, which does one beat at a time.
-ghost use Rattle.std.specs.Prelude.{◌≡◌, ◌+◌, ◌<◌, ◌≤◌, ◌++◌, ℕ, List, [], IfOk, OnOk, IsTrue, ◌↔◌, vec_len, length, slice_get, All, Some};
+ghost use Rattle.std.specs.Prelude.{◌≡◌, ◌∷◌, ◌+◌, ◌<◌, ◌≤◌, ◌++◌, ℕ, List, [], IfOk, OnOk, IsTrue, ◌↔◌, vec_len, length, slice_get, All, Some};
 ghost use Rattle.kube_objects.specs.declared.deed.Deed.{Deed};
 ghost use Rattle.kube_objects.specs.Document.{Doc};
+ghost use Rattle.kube_objects.specs.Answers.{answer as store_answer, written};
 ghost use Rattle.kube_objects.specs.Entry.{Entry};
+ghost use Rattle.kube_objects.specs.Stored.{request_write, write_of};
+ghost use Rattle.object_store.specs.Stands.{StoreStands};
 ghost use Rattle.kube_objects.specs.Wire.{Sent, Back};
 ghost use Rattle.history.specs.History.{history, beat};
 ghost use Rattle.history.specs.Printed.{printed};
@@ -19,7 +22,7 @@ use crate::controller::{Controller, picoseconds};
 use crate::document::Document;
 use crate::printing::{answer_act, ending, leading, starting, tell};
 use kube_base::{Beat, NoMemory, ProcId};
-use kube_objects::{Act, Actor, Deeds, Procs, Settings};
+use kube_objects::{Act, Actor, Deeds, Procs, Reply, Request, Settings};
 use object_store::Store;
 use std::alloc::Global;
 use wire_calls::{Delivered, Wire};
@@ -135,7 +138,7 @@ impl World {
             → OnOk result (Running doc k before [] coming (answer_all k arriving h) self.new deeds.new) }
     {
         'arriving: while let Some(arrived) = self.wire.arrival(self.beat) {
-            let reply = self.store.answer(arrived.request)?;
+            let reply = answer(&mut self.store, arrived.request)?;
             self.wire.reply(&arrived, reply, self.beat)?;
             let actor = Actor::Proc(arrived.who, arrived.incarnation);
             tell(
@@ -233,6 +236,15 @@ impl World {
             }
         }
     }
+}
+
+// The store's answer. It stays out of line, so that a beat at which nothing arrives costs no more than to see that.
+#[inline(never)]
+fn answer(store: &mut Store, request: Request) -> Result<Reply, NoMemory>
+    ensures answer { (h : List Entry) → StoreStands h store.old → IfOk result (λ reply. reply ≡ store_answer request h) }
+    ensures ok { (h : List Entry) (e : Entry) → StoreStands h store.old → write_of e.deed ≡ request_write request (written request h) → OnOk result (StoreStands (e ∷ h) store.new) }
+{
+    store.answer(request)
 }
 
 // The controllers of a document, in order.

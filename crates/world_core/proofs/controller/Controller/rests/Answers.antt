@@ -1,8 +1,7 @@
-use Rattle.std.proofs.Common.{◌≡◌, nat_lt, true, false, None, refl, sym, ap, ◌∙◌, subst}
-use Rattle.kube_objects.specs.Clocks.{local}
+use Rattle.std.proofs.Common.{◌≡◌, nat_lt, true, subst}
 use Rattle.kube_objects.specs.Identities.{identity}
 use Rattle.world_core.specs.declared.controller.Role.TheVariants as role
-use Rattle.world_core.proofs.Resting.{down-rests, candidate-rests, leading-rests}
+use Rattle.world_core.proofs.Resting.{candidate-rests, leading-rests}
 use Rattle.world_core.proofs.Standing.{role-at}
 use Rattle.world_core.proofs.controller.Controller.rests.Goals as goal
 
