@@ -1,0 +1,3 @@
+pub mod Documents
+pub mod Lawful
+pub mod Walk

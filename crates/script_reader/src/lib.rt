@@ -1,0 +1,8 @@
+//! The whole document: its settings, processes, objects and events, read from bytes.
+#![tactic(auto)]
+
+mod document;
+mod reading;
+
+pub use document::Document;
+pub use reading::read_document;
