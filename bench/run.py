@@ -1,0 +1,153 @@
+#!/usr/bin/env python3
+"""Measures the built program, and a reference beside it where one is given, on the same documents.
+
+    python3 bench/run.py [--program COMMAND] [--reference COMMAND] [--only NAME] [--runs N] [--divide N] [--keep FOLDER]
+
+COMMAND is a program that takes the words `replay` or `check` and the document on standard input; the first one is by
+default crates/kube_replay/out/kube_replay, which `cd crates/kube_replay && rt run` builds. Each is run N times (1), the least
+time counts. --divide makes the beats and the objects fewer by that factor, for a reference that is slow. --keep leaves the
+documents in a folder. The table has wall-clock seconds, the greatest resident memory, and how many times the
+reference's time is the program's. The exit status is 1 where the two write different bytes or end differently, or the program
+doesn't end with 0.
+"""
+import argparse
+import hashlib
+import json
+import os
+import shlex
+import sys
+import tempfile
+import time
+
+TOP = os.path.dirname(os.path.dirname(os.path.abspath(__file__)))
+PROGRAM = os.path.join(TOP, 'crates', 'kube_replay', 'out', 'kube_replay')
+MOST_BYTES = 16_777_216
+
+
+def one_controller(divide):
+    """A week of one controller, all settings by default."""
+    return {'version': 1, 'settings': {'endBeat': 6_048_000 // divide}, 'controllers': [{'name': 'cp-east-1'}]}
+
+
+def skewed_clocks(divide):
+    """Sixteen controllers, whose clocks go between 1.5 per cent slow and 1.5 per cent fast."""
+    controllers = [{'name': 'cp-%d' % i, 'ratePpm': 985_000 + 2_000 * i} for i in range(16)]
+    return {'version': 1, 'settings': {'endBeat': 600_000 // divide}, 'controllers': controllers}
+
+
+def large_document(divide):
+    """As many objects and events as fit: close to the limit of bytes where nothing is divided."""
+    items = []
+    for i in range(1_000 // divide):
+        labels = {'kubernetes.io/hostname': 'node-%d' % i, 'topology.kubernetes.io/region': 'eu',
+                  'topology.kubernetes.io/zone': 'eu-%d' % (i % 5)}
+        ready = {'type': 'Ready', 'status': 'True', 'reason': 'KubeletReady',
+                 'lastHeartbeatTime': '2023-12-31T23:58:00Z', 'lastTransitionTime': '2023-11-02T09:00:40Z'}
+        items.append({'apiVersion': 'v1', 'kind': 'Node', 'metadata': {'name': 'node-%d' % i, 'labels': labels},
+                      'status': {'conditions': [{'type': 'MemoryPressure', 'status': 'False'}, ready]}})
+    for i in range(2_000 // divide):
+        items.append({'apiVersion': 'coordination.k8s.io/v1', 'kind': 'Lease',
+                      'metadata': {'namespace': 'kube-node-lease', 'name': 'node-%d' % i},
+                      'spec': {'holderIdentity': 'node-%d' % i, 'leaseDurationSeconds': 40,
+                               'renewTime': '2023-12-31T23:59:55.000000Z'}})
+    tolerations = [{'effect': 'NoExecute', 'key': 'node.kubernetes.io/' + w, 'operator': 'Exists', 'tolerationSeconds': 300}
+                   for w in ('not-ready', 'unreachable')]
+    for i in range(30_000 // divide):
+        items.append({'apiVersion': 'v1', 'kind': 'Pod', 'metadata': {'namespace': 'shop', 'name': 'web-%d' % i},
+                      'spec': {'nodeName': 'node-%d' % (i % 1_000), 'tolerations': tolerations,
+                               'containers': [{'name': 'main', 'image': 'registry.example/web:1'}]}})
+    document = {'version': 1, 'settings': {'endBeat': 100_000},
+                'controllers': [{'name': 'cp-east-1'}, {'name': 'cp-east-2'}],
+                'objects': {'apiVersion': 'v1', 'kind': 'List', 'items': items}}
+    if divide == 1:
+        room = MOST_BYTES - len(text_of(document)) - 100
+    else:
+        room = 60_000 // divide * 60
+    events = []
+    while room > 0 and len(events) < 100_000:
+        event = {'beat': len(events), 'type': ('crash', 'start')[len(events) % 2], 'process': 'cp-east-2'}
+        room -= len(text_of(event)) + 1
+        events.append(event)
+    document['events'] = events
+    return document
+
+
+CASES = [('one-controller', 'replay', one_controller), ('skewed-clocks', 'replay', skewed_clocks),
+         ('large-document', 'check', large_document)]
+
+
+def text_of(value):
+    return json.dumps(value, separators=(',', ':')).encode()
+
+
+def measured(command, word, path):
+    """Runs once: seconds, peak memory in MiB, exit status, and a digest of what was written."""
+    with open(path, 'rb') as given, tempfile.TemporaryFile() as written:
+        start = time.monotonic()
+        child = os.posix_spawnp(command[0], [*command, word], os.environ, file_actions=[
+            (os.POSIX_SPAWN_DUP2, given.fileno(), 0), (os.POSIX_SPAWN_DUP2, written.fileno(), 1)])
+        _, status, usage = os.wait4(child, 0)
+        seconds = time.monotonic() - start
+        written.seek(0)
+        digest = hashlib.sha256()
+        size = 0
+        for piece in iter(lambda: written.read(1 << 20), b''):
+            digest.update(piece)
+            size += len(piece)
+    per_mebibyte = 1 << 20 if sys.platform == 'darwin' else 1 << 10
+    return seconds, usage.ru_maxrss / per_mebibyte, os.waitstatus_to_exitcode(status), (size, digest.hexdigest())
+
+
+def best(command, word, path, runs):
+    """Of several runs the one with the least time, and the greatest memory of all."""
+    every = [measured(command, word, path) for _ in range(runs)]
+    seconds, _, status, digest = min(every)
+    return seconds, max(memory for _, memory, _, _ in every), status, digest
+
+
+def main():
+    parser = argparse.ArgumentParser(description=__doc__, formatter_class=argparse.RawDescriptionHelpFormatter)
+    parser.add_argument('--program', default=shlex.quote(PROGRAM))
+    parser.add_argument('--reference')
+    parser.add_argument('--only', choices=[name for name, _, _ in CASES])
+    parser.add_argument('--runs', type=int, default=1)
+    parser.add_argument('--divide', type=int, default=1)
+    parser.add_argument('--keep')
+    given = parser.parse_args()
+    if given.runs < 1 or given.divide < 1:
+        parser.error('--runs and --divide are at least 1')
+    program = shlex.split(given.program)
+    reference = shlex.split(given.reference) if given.reference else None
+    if program == [PROGRAM] and not os.access(PROGRAM, os.X_OK):
+        parser.error("no built program: run 'cd crates/kube_replay && rt run -- replay' first, or give --program")
+    wrong = 0
+    row = '%-16s %-7s %10s %10s %9s %9s %11s %9s %7s  %s'
+    print(row % ('document', 'command', 'bytes in', 'bytes out', 'seconds', 'MiB', 'ref. sec.', 'ref. MiB', 'ratio', 'output'))
+    with tempfile.TemporaryDirectory() as room:
+        folder = given.keep or room
+        os.makedirs(folder, exist_ok=True)
+        for name, word, make in CASES:
+            if given.only not in (None, name):
+                continue
+            text = text_of(make(given.divide))
+            path = os.path.join(folder, name + '.json')
+            with open(path, 'wb') as file:
+                file.write(text)
+            seconds, memory, status, digest = best(program, word, path, given.runs)
+            cells = [name, word, len(text), digest[0], '%.3f' % seconds, '%.1f' % memory, '', '', '', '']
+            if status != 0:
+                cells[-1] = 'status %d' % status
+                wrong = 1
+            if reference:
+                theirs = best(reference, word, path, given.runs)
+                cells[6:9] = '%.3f' % theirs[0], '%.1f' % theirs[1], '%.1f' % (theirs[0] / max(seconds, 1e-6))
+                if status == 0:
+                    is_same = theirs[2:] == (status, digest)
+                    cells[-1] = 'same' if is_same else 'DIFFERS'
+                    wrong = wrong or not is_same
+            print(row % tuple(cells), flush=True)
+    return 1 if wrong else 0
+
+
+if __name__ == '__main__':
+    sys.exit(main())
