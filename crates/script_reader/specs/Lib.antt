@@ -1,3 +1,4 @@
 pub mod Documents
 pub mod Lawful
+pub mod Rates
 pub mod Walk

@@ -2,7 +2,9 @@
 #![tactic(auto)]
 
 mod document;
+mod premise;
 mod reading;
 
 pub use document::Document;
+pub use premise::lease_premise;
 pub use reading::read_document;
