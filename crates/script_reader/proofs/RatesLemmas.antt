@@ -1,11 +1,14 @@
 -- The rates of a clock, read from the last set to the first, and the least and the greatest of them over the beats.
-use Rattle.std.proofs.Common.{◌≡◌, ℕ, zero, suc, ◌+◌, ◌*◌, ◌<◌, ◌≤◌, min, max, nat_le, nat_lt, Bool, true, false, cond, List, [], ◌∷◌, ◌++◌, length, get_or, drop, slice_get, Option, Some, None, inl, inr, refl, sym, ap, ◌∙◌, arith, drop-cons, add-one}
-use Rattle.std.proofs.lemmas.Bool.{cases_lt, le-leb, lt-leb}
+use Rattle.std.proofs.Common.{◌≡◌, ℕ, zero, suc, ◌+◌, ◌-◌, ◌*◌, ◌==◌, ◌<◌, ◌≤◌, min, max, nat_le, nat_lt, Bool, true, false, cond, List, [], ◌∷◌, ◌++◌, length, get_or, drop, slice_get, Option, Some, None, inl, inr, refl, sym, ap, subst, ◌∙◌, arith, drop-cons, eq-eqb}
+use Rattle.std.proofs.lemmas.Bool.{cases_lt, le-leb, lt-leb, lt-ltb, le-ltb}
 use Rattle.std.proofs.lemmas.Bool.Decides.{nat_tests}
 use Rattle.kube_objects.specs.Clocks.{rate, rate_of, last_rate}
-use Rattle.kube_objects.specs.Document.{Doc, end_beat, first_rate}
-use Rattle.kube_objects.specs.Newest.{only_if, or_else}
+use Rattle.kube_base.specs.declared.numbers.ProcId.{ProcId}
+use Rattle.kube_objects.specs.Document.{Doc, end_beat, field, first_rate, process_at, of_seconds, of_millis}
+use Rattle.kube_objects.specs.Newest.{when, only_if, or_else}
 use Rattle.kube_objects.specs.declared.script.Event.{Event}
+use Rattle.kube_objects.specs.declared.script.Proc.{Proc}
+use Rattle.kube_objects.specs.declared.script.What.TheVariants.{Rate}
 use Rattle.history.specs.Premise.{less, more, least_rate, greatest_rate}
 use Rattle.script_reader.specs.Rates.{Spans, IsBetween, with_earlier}
 use Rattle.script_reader.specs.declared.premise.Rates.{Rates}
@@ -147,3 +150,60 @@ module _ (doc : Doc) (p : ℕ) (rates : Rates) (spans : Spans (end_beat doc) (wi
       let at = at-greatest doc p (end_beat doc) in
       let high = between at.0 at.1 in
       omega (arith, is, low, at.2, high.1)
+
+-- ---- the walk over the events
+
+rate_of-own : (p : ℕ) (e : Event) (id : ProcId) (ppm : ℕ) → e.what ≡ Rate id ppm → id.0 ≡ p → rate_of p e.what ≡ Some ppm
+rate_of-own p e id ppm is same = ap (rate_of p) is ∙ ap (λ b. when b ppm) (eq-eqb id.0 p same)
+
+last_rate-cons : (p : ℕ) (e : Event) (es : List Event) (ppm : ℕ) → rate_of p e.what ≡ Some ppm → with_earlier e.beat.0 ppm (λ k. last_rate p k es) ≡ (λ k. last_rate p k (e ∷ es))
+last_rate-cons p e es ppm sets = λ i k. elim (last_rate p k es) [ None ↦ only_if (nat_le e.beat.0 k) (sym sets i) | Some rate ↦ Some rate ]
+
+drop-before : (events : List Event) (place : ℕ) (e : Event) → 0 < place → place ≤ length events → e ≡ get_or events (place - 1) e → e ∷ drop place events ≡ drop (place - 1) events
+drop-before events place e some inside is =
+    let next : suc (place - 1) ≡ place = omega arith in
+    sym (drop-cons events (place - 1) e (omega arith) ∙ ap (λ x. x ∷ drop (suc (place - 1)) events) (sym is) ∙ ap (λ n. e ∷ drop n events) next)
+
+pub Spans-event : (end p place : ℕ) (events : List Event) (e : Event) (id : ProcId) (ppm : ℕ) (rates : Rates) → 0 < place → place ≤ length events → e ≡ get_or events (place - 1) e → e.what ≡ Rate id ppm → id.0 ≡ p → Spans end (with_earlier e.beat.0 ppm (λ k. last_rate p k (drop place events))) rates → Spans end (λ k. last_rate p k (drop (place - 1) events)) rates
+Spans-event end p place events e id ppm rates some inside is what own spans =
+    let known = last_rate-cons p e (drop place events) ppm (rate_of-own p e id ppm what own) in
+    let more = drop-before events place e some inside is in
+    subst (λ (f : ℕ → Option ℕ). Spans end f rates) (known ∙ ap (λ es k. last_rate p k es) more) spans
+
+-- ---- the controllers
+
+-- a field of a controller, which stands before the kubelets
+pub field-at : {A : Type 0} (f : Proc → A) (none : A) (controllers kubelets : List Proc) (p : ℕ) (d : Proc) → p < length controllers → field f none (slice_get (controllers ++ kubelets) p) ≡ f (get_or controllers p d)
+field-at f none [] kubelets p d inside = absurd (omega arith)
+field-at f none (c ∷ cs) kubelets zero d inside = refl
+field-at f none (c ∷ cs) kubelets (suc p) d inside = field-at f none cs kubelets p d (omega arith)
+
+pub first-is : (doc : Doc) (p : ℕ) (controllers : List Proc) (d : Proc) → controllers ≡ doc.controllers → p < length doc.controllers → (get_or controllers p d).rate_ppm ≡ first_rate doc p
+first-is doc p controllers d same inside = ap (λ cs. (get_or cs p d).rate_ppm) same ∙ sym (field-at (λ x. x.rate_ppm) 0 doc.controllers doc.kubelets p d inside)
+
+pub rates-end : (doc : Doc) (p place ppm : ℕ) (events : List Event) (old new : Rates) → ppm ≡ first_rate doc p → events ≡ doc.events → place ≤ 0 → Spans (end_beat doc) (λ k. last_rate p k (drop place events)) old → ((end : ℕ) (later : ℕ → Option ℕ) → Spans end later old → Spans end (with_earlier 0 ppm later) new) → (new.least ≡ least_rate doc p (end_beat doc)) × (new.greatest ≡ greatest_rate doc p (end_beat doc))
+rates-end doc p place ppm events old new first same none spans step =
+    let start : place ≡ 0 = omega arith in
+    let from_start : Spans (end_beat doc) (λ k. last_rate p k events) old = subst (λ n. Spans (end_beat doc) (λ k. last_rate p k (drop n events)) old) start spans in
+    let all : Spans (end_beat doc) (λ k. last_rate p k doc.events) old = subst (λ es. Spans (end_beat doc) (λ k. last_rate p k es) old) same from_start in
+    let more : Spans (end_beat doc) (with_earlier 0 (first_rate doc p) (λ k. last_rate p k doc.events)) new = subst (λ n. Spans (end_beat doc) (with_earlier 0 n (λ k. last_rate p k doc.events)) new) first (step (end_beat doc) (λ k. last_rate p k doc.events) all) in
+    (least-is doc p new more, greatest-is doc p new more)
+
+lt-scaled : (a b : ℕ) → nat_lt a b ≡ nat_lt (a * 1000000000) (b * 1000000000)
+lt-scaled a b =
+    elim (cases_lt a b) [
+      | inl less ↦ lt-ltb a b less ∙ sym (lt-ltb (a * 1000000000) (b * 1000000000) (omega arith))
+      | inr more ↦ le-ltb a b more ∙ sym (le-ltb (a * 1000000000) (b * 1000000000) (omega arith))
+    ]
+
+-- in units of 10^-12 s as in milliseconds
+in_units : (timeout retry renew lease high low : ℕ) → nat_lt ((timeout + retry + renew) * high) (lease * 1000 * low) ≡ nat_lt ((of_millis timeout + of_millis retry + of_millis renew) * high) (of_seconds lease * low)
+unfolding of_seconds of_millis
+in_units timeout retry renew lease high low =
+    let acting : (timeout + retry + renew) * high * 1000000000 ≡ (timeout * 1000000000 + retry * 1000000000 + renew * 1000000000) * high = omega arith in
+    let leased : lease * 1000 * low * 1000000000 ≡ lease * 1000000000000 * low = omega arith in
+    lt-scaled ((timeout + retry + renew) * high) (lease * 1000 * low) ∙ ap (λ x. nat_lt x (lease * 1000 * low * 1000000000)) acting ∙ ap (λ x. nat_lt ((timeout * 1000000000 + retry * 1000000000 + renew * 1000000000) * high) x) leased
+
+pub outlasts-is : (timeout retry renew lease high low timeout' retry' renew' lease' high' low' : ℕ) → timeout' ≡ timeout → retry' ≡ retry → renew' ≡ renew → lease' ≡ lease → high' ≡ high → low' ≡ low → nat_lt ((timeout' + retry' + renew') * high') (lease' * 1000 * low') ≡ nat_lt ((of_millis timeout + of_millis retry + of_millis renew) * high) (of_seconds lease * low)
+outlasts-is timeout retry renew lease high low timeout' retry' renew' lease' high' low' a b c d e f =
+    ap (λ x. nat_lt x (lease' * 1000 * low')) (λ i. (a i + b i + c i) * e i) ∙ ap (λ x. nat_lt ((timeout + retry + renew) * high) x) (λ i. d i * 1000 * f i) ∙ in_units timeout retry renew lease high low

@@ -1,6 +1,6 @@
 // The lease premise of a document.
-ghost use Rattle.std.specs.Prelude.{◌≡◌, ℕ, ◌<◌, length, Option, None};
-ghost use Rattle.kube_objects.specs.Document.{end_beat};
+ghost use Rattle.std.specs.Prelude.{◌≡◌, ℕ, ◌+◌, ◌*◌, ◌<◌, nat_lt, length, Option, None};
+ghost use Rattle.kube_objects.specs.Document.{end_beat, of_seconds, of_millis};
 ghost use Rattle.history.specs.Premise.{least_rate, greatest_rate, is_long, lease_premise};
 ghost use Rattle.script_reader.specs.Documents.{doc_of};
 ghost use Rattle.script_reader.specs.Rates.{Spans, with_earlier};
@@ -61,18 +61,36 @@ fn rates_of(document: &Document, controller: usize) -> Rates
     rates.with_earlier(Beat(0), document.controllers.as_slice()[controller].rate_ppm)
 }
 
+// Whether a lease in seconds at the least rate outlasts the times in milliseconds at the greatest rate.
+fn outlasts(
+    lease_seconds: u32,
+    timeout_millis: u32,
+    retry_millis: u32,
+    renew_millis: u32,
+    least: u32,
+    greatest: u32,
+) -> bool
+    ensures { result ≡ nat_lt ((of_millis timeout_millis + of_millis retry_millis + of_millis renew_millis) * greatest) (of_seconds lease_seconds * least) }
+{
+    let acting = u128::from(timeout_millis) + u128::from(retry_millis) + u128::from(renew_millis);
+    let lease = u128::from(lease_seconds) * 1000;
+    acting * u128::from(greatest) < lease * u128::from(least)
+}
+
 // Whether a controller's lease is long enough for a greatest rate of any controller.
 fn is_long(document: &Document, controller: usize, greatest: u32) -> bool
     requires { controller < length document.now.controllers }
     ensures { result ≡ is_long (doc_of document.now) greatest controller }
 {
     let process = document.controllers.as_slice()[controller];
-    let least = rates_of(document, controller).least;
-    let acting = u128::from(process.timeout_millis)
-        + u128::from(process.retry_millis)
-        + u128::from(process.renew_millis);
-    let lease = u128::from(process.lease_seconds) * 1000;
-    acting * u128::from(greatest) < lease * u128::from(least)
+    outlasts(
+        process.lease_seconds,
+        process.timeout_millis,
+        process.retry_millis,
+        process.renew_millis,
+        rates_of(document, controller).least,
+        greatest,
+    )
 }
 
 /// Whether every controller's lease outlasts what a leader may act on after its last sent success, at any clock rates of the document. Takes no memory.
