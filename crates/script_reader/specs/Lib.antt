@@ -1,3 +1,5 @@
 pub mod Documents
+pub mod Fields
 pub mod Lawful
+pub mod Tables
 pub mod Walk

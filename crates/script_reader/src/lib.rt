@@ -2,7 +2,9 @@
 #![tactic(auto)]
 
 mod document;
+mod parts;
 mod reading;
+mod table;
 
 pub use document::Document;
 pub use reading::read_document;
