@@ -1,1 +1,1 @@
-mod RatesLemmas
+mod ClockRatesLemmas

@@ -1,4 +1,6 @@
+pub mod ClockRates
 pub mod Documents
+pub mod Fields
 pub mod Lawful
-pub mod Rates
+pub mod Tables
 pub mod Walk

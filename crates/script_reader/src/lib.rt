@@ -2,8 +2,10 @@
 #![tactic(auto)]
 
 mod document;
+mod parts;
 mod premise;
 mod reading;
+mod table;
 
 pub use document::Document;
 pub use premise::lease_premise;

@@ -3,7 +3,7 @@ ghost use Rattle.std.specs.Prelude.{◌≡◌, ℕ, ◌+◌, ◌*◌, ◌<◌, n
 ghost use Rattle.kube_objects.specs.Document.{end_beat, of_seconds, of_millis};
 ghost use Rattle.history.specs.Premise.{least_rate, greatest_rate, is_long, lease_premise};
 ghost use Rattle.script_reader.specs.Documents.{doc_of};
-ghost use Rattle.script_reader.specs.Rates.{Spans, with_earlier};
+ghost use Rattle.script_reader.specs.ClockRates.{Spans, with_earlier};
 
 use crate::Document;
 use kube_base::Beat;
@@ -11,18 +11,18 @@ use kube_objects::What;
 
 // The least and greatest of a clock's rates from a beat on, in parts per million.
 #[derive(Clone, Copy, Debug)]
-struct Rates {
+struct ClockRates {
     from: u64,
     least: u32,
     greatest: u32,
 }
 
-impl Rates {
+impl ClockRates {
     // No rates: those from the beat behind the end on.
-    fn none(end: Beat) -> Rates
+    fn none(end: Beat) -> ClockRates
         ensures { Spans end.0 (λ k. None) result }
     {
-        Rates {
+        ClockRates {
             from: u64::from(end.0) + 1,
             least: u32::MAX,
             greatest: 0,
@@ -30,13 +30,13 @@ impl Rates {
     }
 
     // With a rate that is set at a beat, before all of these in the document's order.
-    fn with_earlier(self, beat: Beat, ppm: u32) -> Rates
+    fn with_earlier(self, beat: Beat, ppm: u32) -> ClockRates
         ensures { (end : ℕ) (later : ℕ → Option ℕ) → Spans end later self → Spans end (with_earlier beat.0 ppm later) result }
     {
         if self.from <= u64::from(beat.0) {
             return self;
         }
-        Rates {
+        ClockRates {
             from: u64::from(beat.0),
             least: self.least.min(ppm),
             greatest: self.greatest.max(ppm),
@@ -45,13 +45,13 @@ impl Rates {
 }
 
 // The rates of a controller's clock at the beats up to the end.
-fn rates_of(document: &Document, controller: usize) -> Rates
+fn rates_of(document: &Document, controller: usize) -> ClockRates
     requires { controller < length document.now.controllers }
     ensures least { result.least ≡ least_rate (doc_of document.now) controller (end_beat (doc_of document.now)) }
     ensures greatest { result.greatest ≡ greatest_rate (doc_of document.now) controller (end_beat (doc_of document.now)) }
 {
     let events = document.events.as_slice();
-    let mut rates = Rates::none(document.settings.end_beat);
+    let mut rates = ClockRates::none(document.settings.end_beat);
     for place in (0..events.len()).rev() {
         let event = &events[place];
         if let What::Rate(id, ppm) = event.what && id.0 as usize == controller {

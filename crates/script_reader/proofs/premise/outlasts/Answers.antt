@@ -1,6 +1,6 @@
 use Rattle.std.proofs.Common.{◌+◌, ◌*◌, ◌≤◌, arith}
 use Rattle.std.proofs.Math.Nat.{mul-le-mul_left}
-use Rattle.script_reader.proofs.RatesLemmas.{outlasts-is}
+use Rattle.script_reader.proofs.ClockRatesLemmas.{outlasts-is}
 use Rattle.script_reader.proofs.premise.outlasts.Goals as goal
 
 pub overflow_mul-result : goal.overflow_mul-result

@@ -1,5 +1,5 @@
 use Rattle.script_reader.specs.Documents.{doc_of}
-use Rattle.script_reader.proofs.RatesLemmas.{Spans-event, first-is, rates-end}
+use Rattle.script_reader.proofs.ClockRatesLemmas.{Spans-event, first-is, rates-end}
 use Rattle.script_reader.proofs.premise.rates_of.Goals as goal
 
 pub loop-place-preserved-in-loop-place : goal.loop-place-preserved-in-loop-place

@@ -1,6 +1,6 @@
 use Rattle.std.proofs.Common.{drop}
 use Rattle.kube_objects.specs.Clocks.{last_rate}
-use Rattle.script_reader.specs.Rates.{Spans}
+use Rattle.script_reader.specs.ClockRates.{Spans}
 use Rattle.script_reader.proofs.premise.rates_of.Given as goal
 
 -- the rates that the events from this place on set

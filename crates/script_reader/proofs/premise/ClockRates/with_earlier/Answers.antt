@@ -1,6 +1,6 @@
 use Rattle.std.proofs.Common.{arith}
-use Rattle.script_reader.proofs.RatesLemmas.{Spans-earlier, Spans-hidden}
-use Rattle.script_reader.proofs.premise.Rates.with_earlier.Goals as goal
+use Rattle.script_reader.proofs.ClockRatesLemmas.{Spans-earlier, Spans-hidden}
+use Rattle.script_reader.proofs.premise.ClockRates.with_earlier.Goals as goal
 
 pub returns-then-self-from : goal.returns-then-self-from
 returns-then-self-from c = λ end later spans. Spans-hidden end c.args.beat.0 c.args.ppm later c.args.self spans (omega arith)

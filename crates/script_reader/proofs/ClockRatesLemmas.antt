@@ -10,8 +10,8 @@ use Rattle.kube_objects.specs.declared.script.Event.{Event}
 use Rattle.kube_objects.specs.declared.script.Proc.{Proc}
 use Rattle.kube_objects.specs.declared.script.What.TheVariants.{Rate}
 use Rattle.history.specs.Premise.{less, more, least_rate, greatest_rate}
-use Rattle.script_reader.specs.Rates.{Spans, IsBetween, with_earlier}
-use Rattle.script_reader.specs.declared.premise.Rates.{Rates}
+use Rattle.script_reader.specs.ClockRates.{Spans, IsBetween, with_earlier}
+use Rattle.script_reader.specs.declared.premise.ClockRates.{ClockRates}
 
 or_earlier : ℕ → ℕ → ℕ → Option ℕ → Option ℕ
 or_earlier beat ppm k later = elim later [ None ↦ only_if (nat_le beat k) (Some ppm) | Some rate ↦ Some rate ]
@@ -37,7 +37,7 @@ between-set : (least greatest ppm : ℕ) (o : Option ℕ) → o ≡ Some ppm →
 between-set least greatest ppm o is low high = rw is (low, high)
 
 -- a rate that is set before the others
-pub Spans-earlier : (end beat ppm : ℕ) (later : ℕ → Option ℕ) (old new : Rates) → ppm ≤ 4294967295 → Spans end later old → beat < old.from → new.from ≡ beat → new.least ≡ min old.least ppm → new.greatest ≡ max old.greatest ppm → Spans end (with_earlier beat ppm later) new
+pub Spans-earlier : (end beat ppm : ℕ) (later : ℕ → Option ℕ) (old new : ClockRates) → ppm ≤ 4294967295 → Spans end later old → beat < old.from → new.from ≡ beat → new.least ≡ min old.least ppm → new.greatest ≡ max old.greatest ppm → Spans end (with_earlier beat ppm later) new
 Spans-earlier end beat ppm later old new small spans first from least greatest =
     let inside : beat ≤ end = omega (arith, spans.begins) in
     let at_beat : with_earlier beat ppm later beat ≡ Some ppm = earlier-set beat ppm later beat (spans.before beat first) (omega arith) in
@@ -66,7 +66,7 @@ Spans-earlier end beat ppm later old new small spans first from least greatest =
     }
 
 -- a rate that isn't in force at any beat
-pub Spans-hidden : (end beat ppm : ℕ) (later : ℕ → Option ℕ) (rates : Rates) → Spans end later rates → rates.from ≤ beat → Spans end (with_earlier beat ppm later) rates
+pub Spans-hidden : (end beat ppm : ℕ) (later : ℕ → Option ℕ) (rates : ClockRates) → Spans end later rates → rates.from ≤ beat → Spans end (with_earlier beat ppm later) rates
 Spans-hidden end beat ppm later rates spans hidden =
     record {
       begins = spans.begins;
@@ -117,7 +117,7 @@ bounds : (least greatest r : ℕ) (o : Option ℕ) → o ≡ Some r → IsBetwee
 bounds least greatest r None is between = absurd between
 bounds least greatest r (Some x) is between = let same : x ≡ r = cc in (omega (arith, between.0), omega (arith, between.1))
 
-module _ (doc : Doc) (p : ℕ) (rates : Rates) (spans : Spans (end_beat doc) (with_earlier 0 (first_rate doc p) (λ k. last_rate p k doc.events)) rates) where
+module _ (doc : Doc) (p : ℕ) (rates : ClockRates) (spans : Spans (end_beat doc) (with_earlier 0 (first_rate doc p) (λ k. last_rate p k doc.events)) rates) where
   first_or : (k : ℕ) (o : Option ℕ) → or_earlier 0 (first_rate doc p) k o ≡ Some (or_else (first_rate doc p) o)
   unfolding or_earlier
   first_or k None = ap (λ b. only_if b (Some (first_rate doc p))) (le-leb 0 k (omega arith))
@@ -164,7 +164,7 @@ drop-before events place e some inside is =
     let next : suc (place - 1) ≡ place = omega arith in
     sym (drop-cons events (place - 1) e (omega arith) ∙ ap (λ x. x ∷ drop (suc (place - 1)) events) (sym is) ∙ ap (λ n. e ∷ drop n events) next)
 
-pub Spans-event : (end p place : ℕ) (events : List Event) (e : Event) (id : ProcId) (ppm : ℕ) (rates : Rates) → 0 < place → place ≤ length events → e ≡ get_or events (place - 1) e → e.what ≡ Rate id ppm → id.0 ≡ p → Spans end (with_earlier e.beat.0 ppm (λ k. last_rate p k (drop place events))) rates → Spans end (λ k. last_rate p k (drop (place - 1) events)) rates
+pub Spans-event : (end p place : ℕ) (events : List Event) (e : Event) (id : ProcId) (ppm : ℕ) (rates : ClockRates) → 0 < place → place ≤ length events → e ≡ get_or events (place - 1) e → e.what ≡ Rate id ppm → id.0 ≡ p → Spans end (with_earlier e.beat.0 ppm (λ k. last_rate p k (drop place events))) rates → Spans end (λ k. last_rate p k (drop (place - 1) events)) rates
 Spans-event end p place events e id ppm rates some inside is what own spans =
     let known = last_rate-cons p e (drop place events) ppm (rate_of-own p e id ppm what own) in
     let more = drop-before events place e some inside is in
@@ -181,7 +181,7 @@ field-at f none (c ∷ cs) kubelets (suc p) d inside = field-at f none cs kubele
 pub first-is : (doc : Doc) (p : ℕ) (controllers : List Proc) (d : Proc) → controllers ≡ doc.controllers → p < length doc.controllers → (get_or controllers p d).rate_ppm ≡ first_rate doc p
 first-is doc p controllers d same inside = ap (λ cs. (get_or cs p d).rate_ppm) same ∙ sym (field-at (λ x. x.rate_ppm) 0 doc.controllers doc.kubelets p d inside)
 
-pub rates-end : (doc : Doc) (p place ppm : ℕ) (events : List Event) (old new : Rates) → ppm ≡ first_rate doc p → events ≡ doc.events → place ≤ 0 → Spans (end_beat doc) (λ k. last_rate p k (drop place events)) old → ((end : ℕ) (later : ℕ → Option ℕ) → Spans end later old → Spans end (with_earlier 0 ppm later) new) → (new.least ≡ least_rate doc p (end_beat doc)) × (new.greatest ≡ greatest_rate doc p (end_beat doc))
+pub rates-end : (doc : Doc) (p place ppm : ℕ) (events : List Event) (old new : ClockRates) → ppm ≡ first_rate doc p → events ≡ doc.events → place ≤ 0 → Spans (end_beat doc) (λ k. last_rate p k (drop place events)) old → ((end : ℕ) (later : ℕ → Option ℕ) → Spans end later old → Spans end (with_earlier 0 ppm later) new) → (new.least ≡ least_rate doc p (end_beat doc)) × (new.greatest ≡ greatest_rate doc p (end_beat doc))
 rates-end doc p place ppm events old new first same none spans step =
     let start : place ≡ 0 = omega arith in
     let from_start : Spans (end_beat doc) (λ k. last_rate p k events) old = subst (λ n. Spans (end_beat doc) (λ k. last_rate p k (drop n events)) old) start spans in
