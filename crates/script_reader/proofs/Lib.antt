@@ -1,1 +1,3 @@
 mod ClockRatesLemmas
+mod Getting
+mod ObjectKinds
