@@ -16,16 +16,12 @@ module _ {A : Type 0} {P : A → Type 0} where
   pub refused : (e : Refusal) → Gets P (Err e)
   refused e = record { at = λ y same. absurd (let none : ⊥ = cc in none) }
 
-  pub weaker : {Q : A → Type 0} {walk : Result A Refusal} → ((x : A) → P x → Q x) → Gets P walk → Gets Q walk
-  weaker f h = record { at = λ x e. f x (h.at x e) }
+  pub weaker : {Q : A → Type 0} {walk : Result A Refusal} → Gets P walk → ((x : A) → P x → Q x) → Gets Q walk
+  weaker h f = record { at = λ x e. f x (h.at x e) }
 
   pub by_test : (b : Bool) (x y : Result A Refusal) → (b ≡ true → Gets P x) → (b ≡ false → Gets P y) → Gets P (if b then x else y)
   by_test true x y h k = h refl
   by_test false x y h k = k refl
-
-  pub of_some : (o : Option A) (code : ℕ) (path : List ℕ) → ((x : A) → o ≡ Some x → P x) → Gets P (or_refuse o code path)
-  of_some None code path h = refused _
-  of_some (Some x) code path h = done x (h x refl)
 
 module _ {A B : Type 0} {Q : B → Type 0} {f : A → Result B Refusal} where
   pub and_then : {P : A → Type 0} {walk : Result A Refusal} → Gets P walk → ((x : A) → P x → Gets Q (f x)) → Gets Q (walk >>= f)
@@ -38,3 +34,12 @@ module _ {A B : Type 0} {Q : B → Type 0} {f : A → Result B Refusal} where
   pub skip : (walk : Result A Refusal) → ((x : A) → Gets Q (f x)) → Gets Q (walk >>= f)
   skip (Ok x) next = next x
   skip (Err e) next = refused e
+
+-- the value, if there is one, keeps P
+abbrev pub Has : {A : Type 0} → (A → Type 0) → Option A → Type 0
+Has P None = Unit {0}
+Has P (Some x) = P x
+
+pub of_option : {A : Type 0} {P : A → Type 0} (o : Option A) (code : ℕ) (path : List ℕ) → Has P o → Gets P (or_refuse o code path)
+of_option None code path h = refused _
+of_option (Some x) code path h = done x h
