@@ -108,3 +108,6 @@ pub fn lease_premise(document: &Document) -> bool
     }
     long
 }
+
+#[cfg(test)]
+mod tests;
