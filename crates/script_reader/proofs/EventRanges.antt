@@ -1,5 +1,5 @@
 -- The events of a document name its processes, lie in their ranges and stand in their order.
-use Rattle.std.proofs.Common.{◌≡◌, ℕ, ◌+◌, ◌<◌, ◌≤◌, nat_lt, ◌==◌, ◌||◌, cond, Bool, true, false, List, [], ◌∷◌, ◌++◌, length, take, drop, codes, Option, Some, None, refl, sym, ap, ◌∙◌, ltb-true, ltb-false, arith, length-append}
+use Rattle.std.proofs.Common.{◌≡◌, ℕ, ◌+◌, ◌<◌, ◌≤◌, nat_lt, ◌==◌, ◌||◌, cond, Bool, true, false, List, [], length, take, drop, codes, Option, Some, None, refl, ltb-true, ltb-false, arith, length-append}
 use Rattle.std.specs.List.{position, position_or_len}
 use Rattle.std.specs.Option.{option_and_then, option_map}
 use Rattle.std.specs.Str.{bytes_eq}
@@ -9,22 +9,18 @@ use Rattle.serde_json.specs.Find.{get}
 use Rattle.kube_base.specs.Names.{number_of}
 use Rattle.kube_base.specs.declared.numbers.ProcId.{ProcId}
 use Rattle.kube_objects.specs.Document.{Doc, is_controller, processes, end_beat}
-use Rattle.kube_objects.specs.Keys.{key_eq}
-use Rattle.kube_objects.specs.Stored.{election}
-use Rattle.kube_objects.specs.declared.key.Kind.{Kind}
-use Rattle.kube_objects.specs.declared.key.Kind.TheVariants as kinds
 use Rattle.kube_objects.specs.declared.script.Event.{Event}
 use Rattle.kube_objects.specs.declared.script.What.{What}
 use Rattle.kube_objects.specs.declared.script.What.TheVariants as deeds
-use Rattle.manifest_json.specs.Fields.{Texts, numbered}
+use Rattle.manifest_json.specs.Fields.{Texts}
 use Rattle.manifest_json.specs.Walk.{object_walk, items_len, member_path, process_of}
 use Rattle.script_reader.specs.declared.table.EventType.{EventType}
 use Rattle.script_reader.specs.declared.table.EventType.TheVariants as types
 use Rattle.script_reader.specs.declared.table.Table.TheVariants as tables
-use Rattle.script_reader.specs.Fields.{under, object_at, required, needed_whole, needed_flag, needed_text, needed_posted, name_at}
+use Rattle.script_reader.specs.Fields.{under, object_at, needed_whole, needed_text, needed_posted}
 use Rattle.script_reader.specs.Lawful.{IsOfKind, IsLawfulWhat, AreLawfulFrom}
 use Rattle.script_reader.specs.Tables.{known_in}
-use Rattle.script_reader.specs.Walk.{Cast, controller_named, kubelet_named, process_named, proc_id, behind, or_else, process_at, rate_at, delay_at, loss_at, crash_at, start_at, stop_at, watch_at, ready_at, put_at, kind_at, space_of, named_at, remove_at, beside, what_at, type_at, edits_election, if_event, event_at, events_from, events_in}
+use Rattle.script_reader.specs.Walk.{Cast, controller_named, kubelet_named, process_named, proc_id, behind, or_else, process_at, rate_at, delay_at, loss_at, crash_at, start_at, stop_at, watch_at, ready_at, put_at, remove_at, beside, what_at, type_at, edits_election, if_event, event_at, events_from, events_in}
 use Rattle.script_reader.proofs.FieldRanges.{IsIn, of_required, needed_whole-in, array-few}
 use Rattle.script_reader.proofs.Getting.{Gets, Has, done, refused, weaker, by_test, of_option, and_then, skip}
 use Rattle.script_reader.proofs.ObjectKinds.{object-kind}
@@ -36,6 +32,7 @@ has-place number known = by_test_of (nat_lt n (length known)) refl
   where
     n : ℕ
     n = position_or_len (λ other. number == other) known
+
     by_test_of : (b : Bool) → nat_lt n (length known) ≡ b → Has (λ i. i < length known) (cond b (Some n) None)
     by_test_of true e = ltb-true n (length known) e
     by_test_of false e = tt

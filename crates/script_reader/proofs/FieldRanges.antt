@@ -1,15 +1,15 @@
 -- Numbers of a document lie in their ranges.
-use Rattle.std.proofs.Common.{◌≡◌, ℕ, ◌+◌, ◌<◌, ◌≤◌, nat_le, nat_lt, ◌&&◌, Bool, true, false, List, Option, Some, None, Result, ℤ, ◌≤ℤ◌, refl, leb-true, ltb-false, arith}
+use Rattle.std.proofs.Common.{◌≡◌, ℕ, ◌≤◌, nat_le, nat_lt, ◌&&◌, true, List, Option, Some, None, Result, ℤ, ◌≤ℤ◌, leb-true, ltb-false}
 use Rattle.std.specs.Prelude.{int_le}
 use Rattle.std.proofs.lemmas.Bool.{and_parts}
 use Rattle.std.proofs.lemmas.Float.{T_from_true}
 use Rattle.std.specs.Int.Signed.{le_z_yes}
-use Rattle.serde_json.specs.Data.{Data, Items}
-use Rattle.serde_json.specs.Find.{get, as_number, as_u64, as_i64, as_array}
+use Rattle.serde_json.specs.Data.{Data}
+use Rattle.serde_json.specs.Find.{get, as_array}
 use Rattle.manifest_json.specs.declared.fault.Refusal.{Refusal}
 use Rattle.manifest_json.specs.Fields.{or_refuse}
 use Rattle.manifest_json.specs.Walk.{items_len}
-use Rattle.script_reader.specs.Fields.{under, default_of, required, whole_or, whole_in, whole_at, needed_whole, signed_or, signed_in, signed_at, array_in, at_most}
+use Rattle.script_reader.specs.Fields.{under, default_of, required, whole_or, whole_in, whole_at, needed_whole, signed_or, signed_in, signed_at, array_in}
 use Rattle.script_reader.proofs.Getting.{Gets, done, refused, by_test, skip}
 
 -- a key that may be missing

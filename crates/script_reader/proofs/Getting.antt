@@ -2,7 +2,7 @@
 use Rattle.std.proofs.Common.{◌≡◌, ℕ, List, Bool, true, false, Option, Some, None, Result, Ok, Err, refl, subst}
 use Rattle.std.specs.Prelude.{if◌then◌else◌}
 use Rattle.manifest_json.specs.declared.fault.Refusal.{Refusal}
-use Rattle.manifest_json.specs.Faults.{◌>>=◌, refuse}
+use Rattle.manifest_json.specs.Faults.{◌>>=◌}
 use Rattle.manifest_json.specs.Fields.{or_refuse}
 
 -- the walk's value, if there is one, keeps P

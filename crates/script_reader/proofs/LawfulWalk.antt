@@ -1,5 +1,5 @@
 -- Each document that the walk gives is lawful.
-use Rattle.std.proofs.Common.{◌≡◌, ℕ, ◌+◌, ◌<◌, ◌≤◌, List, [], length, map, codes, Result, Ok, refl, arith}
+use Rattle.std.proofs.Common.{ℕ, ◌≤◌, List, [], length, codes, refl, arith}
 use Rattle.std.specs.Prelude.{All}
 use Rattle.std.proofs.lemmas.List.{length-map}
 use Rattle.std.proofs.lemmas.List.Elements.{All-nil}
@@ -7,25 +7,19 @@ use Rattle.serde_json.specs.Data.{Data}
 use Rattle.serde_json.specs.Find.{get}
 use Rattle.kube_base.specs.Names.{fixed_names}
 use Rattle.kube_objects.specs.Document.{Doc}
-use Rattle.kube_objects.specs.declared.key.Key.{Key}
-use Rattle.kube_objects.specs.declared.object.Object.{Object}
-use Rattle.kube_objects.specs.declared.script.Event.{Event}
-use Rattle.kube_objects.specs.declared.script.Proc.{Proc}
 use Rattle.manifest_json.specs.Fields.{Texts}
-use Rattle.manifest_json.specs.Walk.{list_walk}
-use Rattle.script_reader.specs.declared.document.Document.{Document}
 use Rattle.script_reader.specs.declared.table.Table.TheVariants as tables
 use Rattle.script_reader.specs.Documents.{doc_of}
 use Rattle.script_reader.specs.Fields.{object_at, required}
 use Rattle.script_reader.specs.Lawful.{IsLawful, IsLawfulDoc, AreLawfulFrom}
 use Rattle.script_reader.specs.Laws.{DocumentsAreLawful}
 use Rattle.script_reader.specs.Tables.{known_in}
-use Rattle.script_reader.specs.Walk.{version_in, settings_at, controllers_in, kubelets_in, objects_of, objects_in, no_objects, numbers_of, cast_of, events_in, document_at, data_of, document_walk}
+use Rattle.script_reader.specs.Walk.{version_in, settings_at, controllers_in, kubelets_in, objects_in, no_objects, numbers_of, cast_of, events_in, document_at, data_of, document_walk}
 use Rattle.script_reader.proofs.EventRanges.{IsOf, events-in}
 use Rattle.script_reader.proofs.FieldRanges.{of_default, of_required}
 use Rattle.script_reader.proofs.Getting.{Gets, done, and_then, skip}
 use Rattle.script_reader.proofs.ObjectKinds.{IsItem, list-kinds}
-use Rattle.script_reader.proofs.ProcessRanges.{AreRead, settings-in, controllers-in, kubelets-in}
+use Rattle.script_reader.proofs.ProcessRanges.{settings-in, controllers-in, kubelets-in}
 
 objects-in : (names : Texts) (known : List ℕ) (d : Data) → Gets (λ r. All IsItem r.0.items) (objects_in names known d)
 unfolding objects_in

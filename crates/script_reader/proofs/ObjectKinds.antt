@@ -1,5 +1,5 @@
 -- Objects that are read stand under keys of their kind.
-use Rattle.std.proofs.Common.{◌≡◌, ℕ, ◌+◌, ◌++◌, List, [], ◌∷◌, codes, Option, Some, None, Result, Ok, refl}
+use Rattle.std.proofs.Common.{◌≡◌, ℕ, ◌+◌, ◌++◌, List, codes, Option, Some, None}
 use Rattle.std.specs.Prelude.{All}
 use Rattle.std.proofs.lemmas.List.Elements.{All-push, All-nil}
 use Rattle.serde_json.specs.Data.{Data, Items, no_items, item}

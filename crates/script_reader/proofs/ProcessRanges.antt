@@ -1,14 +1,11 @@
 -- The settings, the controllers and the kubelets of a document are lawful.
-use Rattle.std.proofs.Common.{◌≡◌, ℕ, ◌+◌, ◌*◌, ◌<◌, ◌≤◌, nat_le, nat_lt, ◌==◌, ◌&&◌, ◌++◌, Bool, true, false, List, [], ◌∷◌, length, codes, Option, Some, None, Result, ℤ, pos, negsuc, ◌≤ℤ◌, refl, leb-true, ltb-true, ltb-false, arith, length-append}
+use Rattle.std.proofs.Common.{◌≡◌, ℕ, ◌+◌, ◌*◌, ◌<◌, ◌≤◌, nat_le, nat_lt, ◌==◌, ◌&&◌, ◌++◌, true, false, List, [], ◌∷◌, length, codes, Option, Some, None, pos, negsuc, refl, leb-true, ltb-true, ltb-false, arith, length-append}
 use Rattle.std.specs.Prelude.{All}
 use Rattle.std.specs.Int.Signed.{le_z_yes}
 use Rattle.std.proofs.lemmas.Bool.{and_parts, eqb-false}
-use Rattle.std.proofs.lemmas.Bool.Decides.{nat_tests}
 use Rattle.std.proofs.lemmas.List.Elements.{All-push, All-nil}
 use Rattle.serde_json.specs.Data.{Data, Items, no_items, item}
-use Rattle.serde_json.specs.Find.{get}
 use Rattle.kube_base.specs.Times.{time_of}
-use Rattle.kube_base.specs.declared.numbers.Beat.{Beat}
 use Rattle.kube_base.specs.declared.numbers.Wall.{Wall}
 use Rattle.kube_objects.specs.declared.script.Proc.{Proc}
 use Rattle.kube_objects.specs.declared.settings.Settings.{Settings}
@@ -16,11 +13,10 @@ use Rattle.manifest_json.specs.Fields.{Texts}
 use Rattle.manifest_json.specs.Walk.{items_len, member_path}
 use Rattle.script_reader.specs.declared.parts.Beats.{Beats}
 use Rattle.script_reader.specs.declared.parts.Clock.{Clock}
-use Rattle.script_reader.specs.declared.parts.Periods.{Periods}
 use Rattle.script_reader.specs.declared.parts.Timings.{Timings}
 use Rattle.script_reader.specs.declared.table.Table.TheVariants as tables
 use Rattle.script_reader.specs.declared.table.Version.{Version}
-use Rattle.script_reader.specs.Fields.{under, text_at, needed_whole, flag_at, policy_at, posted_at, if_epoch, epoch_at, array_in}
+use Rattle.script_reader.specs.Fields.{under, text_at, needed_whole, flag_at, policy_at, posted_at, if_epoch, epoch_at}
 use Rattle.script_reader.specs.Lawful.{AreLawful, IsLawful}
 use Rattle.script_reader.specs.Walk.{object_in, if_end, beats_at, timings_at, standard, periods_at, rates_at, is_sound, settings_at, named_at, clock_at, timings_of, has_name, controller_at, controllers_from, not_empty, controllers_in, kubelet_at, kubelets_from, kubelets_in}
 use Rattle.script_reader.proofs.FieldRanges.{IsIn, whole_at-in, IsSignedIn, signed_at-in, array-few}

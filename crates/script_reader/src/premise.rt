@@ -54,11 +54,16 @@ fn rates_of(document: &Document, controller: usize) -> ClockRates
     let mut rates = ClockRates::none(document.settings.end_beat);
     for place in (0..events.len()).rev() {
         let event = &events[place];
-        if let What::Rate(id, ppm) = event.what && id.0 as usize == controller {
+        if let What::Rate(id, ppm) = event.what
+            && id.0 as usize == controller
+        {
             rates = rates.with_earlier(event.beat, ppm);
         }
     }
-    rates.with_earlier(Beat(0), document.controllers.as_slice()[controller].rate_ppm)
+    rates.with_earlier(
+        Beat(0),
+        document.controllers.as_slice()[controller].rate_ppm,
+    )
 }
 
 // Whether a lease in seconds at the least rate outlasts the times in milliseconds at the greatest rate.

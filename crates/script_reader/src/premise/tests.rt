@@ -123,7 +123,14 @@ fn counts_all_first_rates(rt: HostRuntime) -> Result<(), Fail> {
 fn counts_a_rate_at_the_last_beat(rt: HostRuntime) -> Result<(), Fail> {
     for (lease, want) in [(28, false), (29, true)] {
         let controllers = [Sample(lease, 10_000, 1_000_000)];
-        check(&rt, rt.alloc(), 10, &controllers, &[(10, 0, 2_000_000)], want)?;
+        check(
+            &rt,
+            rt.alloc(),
+            10,
+            &controllers,
+            &[(10, 0, 2_000_000)],
+            want,
+        )?;
     }
     Ok(())
 }
