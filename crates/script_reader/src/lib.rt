@@ -2,7 +2,13 @@
 #![tactic(auto)]
 
 mod document;
+mod laws;
+mod parts;
+mod premise;
 mod reading;
+mod table;
 
 pub use document::Document;
+pub use laws::{documents_are_lawful, lawful_documents_are_sound};
+pub use premise::lease_premise;
 pub use reading::read_document;

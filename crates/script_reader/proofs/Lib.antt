@@ -1,0 +1,8 @@
+mod ClockRatesLemmas
+mod Getting
+mod ObjectKinds
+mod FieldRanges
+mod ProcessRanges
+mod EventRanges
+mod LawfulWalk
+pub mod SoundDocuments
