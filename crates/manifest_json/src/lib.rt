@@ -11,6 +11,7 @@ mod metadata;
 mod node;
 mod object;
 mod pod;
+mod write;
 #[cfg(test)]
 mod tests;
 
