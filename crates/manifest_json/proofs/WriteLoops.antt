@@ -51,5 +51,5 @@ filled_array-some [] h = absurd (h refl)
 filled_array-some (v ∷ vs) h = refl
 
 -- one more field, whose value and whose members before it are known
-pub field-step : {key : List ℕ} {o p : Option Data} {ms before so : Members} → ms ≡ with_field key o before → o ≡ p → before ≡ so → ms ≡ with_field key p so
-field-step {key = key} {o = o} {p = p} {before = before} is value from = is ∙ ap (λ x. with_field key x before) value ∙ ap (λ x. with_field key p x) from
+pub field-step : (key : List ℕ) (o p : Option Data) (ms before so : Members) → ms ≡ with_field key o before → o ≡ p → before ≡ so → ms ≡ with_field key p so
+field-step key o p ms before so is value from = is ∙ ap (λ x. with_field key x before) value ∙ ap (λ x. with_field key p x) from

@@ -18,3 +18,4 @@ mod tests;
 pub use fault::{Path, ReadFault, Refusal};
 pub use list::{Objects, read_list};
 pub use object::read_object;
+pub use write::write_list;
