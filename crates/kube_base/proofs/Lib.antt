@@ -1,2 +1,4 @@
 pub mod DayLemmas
 pub mod NameLemmas
+pub mod TimeTexts
+pub mod WrittenDays

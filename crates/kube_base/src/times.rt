@@ -1,6 +1,7 @@
 // Times of day as texts of RFC 3339.
 ghost use Rattle.std.specs.Char.{is_ascii_digit};
 ghost use Rattle.std.specs.Prelude.{codes, position, not, ◌++◌, ◌≡◌, ◌+◌, ◌-◌, ◌*◌, ◌/◌, ◌%◌, ◌<◌, ◌≤◌, ◌==◌, ℕ, ℤ, pos, neg_ℤ, ◌+ℤ◌, ◌-ℤ◌, ◌*ℤ◌, ◌≤ℤ◌, take, length, Some, None, Option, IfOk, IfSome};
+ghost use Rattle.std.specs.Str.{IsUtf8};
 ghost use Rattle.jiff_core.specs.Calendar.{IsEpochDay, IsWithin};
 ghost use Rattle.kube_base.specs.Times as spec;
 ghost use Rattle.kube_base.specs.Times.{day_at, day_number, second_at, fraction_digits, instant, micros_of, offset_at, wall_of, time_of, year_of, month_of, day_of, date_time_text, six_digits, seconds_text, micros_text, last_wall};
@@ -25,22 +26,26 @@ pub fn read_time(text: &[u8]) -> Option<Wall>
     at_second(instant(day, second, offset), micros)
 }
 
-/// The form in seconds, as `2024-01-01T00:00:00Z`. What is below a second is dropped.
-#[tactic(auto, unfolding(crate::specs::Times::seconds_text))]
+/// The form in seconds, as `2024-01-01T00:00:00Z`. What is below a second is dropped. It is read back as the whole second.
+#[tactic(auto, using(crate::proofs::TimeTexts::written_texts), unfolding(crate::specs::Times::seconds_text))]
 pub fn write_seconds(alloc: Global, at: Wall) -> Result<Name, NoMemory>
     requires { at.0 ≤ last_wall }
-    ensures { IfOk result (λ name. name ≡ seconds_text at) }
+    ensures text { IfOk result (λ name. name ≡ seconds_text at) }
+    ensures utf8 { IsUtf8 (seconds_text at) }
+    ensures reads_back { time_of (seconds_text at) ≡ Some (record { 0 = at.0 / 1_000_000 * 1_000_000 }) }
 {
     let mut text = date_time(alloc, at.0 / 1_000_000)?;
     text.push(b'Z')?;
     Name::from_bytes(alloc, text.as_slice())
 }
 
-/// The form in microseconds, as `2024-01-01T00:00:00.000000Z`.
-#[tactic(auto, unfolding(crate::specs::Times::micros_text))]
+/// The form in microseconds, as `2024-01-01T00:00:00.000000Z`. It is read back as the time.
+#[tactic(auto, using(crate::proofs::TimeTexts::written_texts), unfolding(crate::specs::Times::micros_text))]
 pub fn write_micros(alloc: Global, at: Wall) -> Result<Name, NoMemory>
     requires { at.0 ≤ last_wall }
-    ensures { IfOk result (λ name. name ≡ micros_text at) }
+    ensures text { IfOk result (λ name. name ≡ micros_text at) }
+    ensures utf8 { IsUtf8 (micros_text at) }
+    ensures reads_back { time_of (micros_text at) ≡ Some at }
 {
     let mut text = date_time(alloc, at.0 / 1_000_000)?;
     text.extend_from_slice(&fraction((at.0 % 1_000_000) as u32))?;

@@ -1,4 +1,6 @@
 pub mod Faults
 pub mod Fields
 pub mod Kept
+pub mod Members
 pub mod Walk
+pub mod Written

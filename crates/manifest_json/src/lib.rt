@@ -11,9 +11,11 @@ mod metadata;
 mod node;
 mod object;
 mod pod;
+mod write;
 #[cfg(test)]
 mod tests;
 
 pub use fault::{Path, ReadFault, Refusal};
 pub use list::{Objects, read_list};
 pub use object::read_object;
+pub use write::write_list;
