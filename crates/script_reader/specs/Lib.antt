@@ -1,3 +1,4 @@
+pub mod Cast
 pub mod Documents
 pub mod Fields
 pub mod Lawful
