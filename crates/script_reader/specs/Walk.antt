@@ -202,7 +202,8 @@ controllers_from version settings names place earlier (item d rest) = do
   controllers_from version settings next.1 (place + 1) (earlier ++ next.0 ∷ []) rest
 
 abbrev pub not_empty : List ℕ → Items → Result Items Refusal
-not_empty path items = if items_len items == 0 then refuse 6 path else Ok items
+not_empty path no_items = refuse 6 path
+not_empty path (item d rest) = Ok (item d rest)
 
 unfoldable pub controllers_in : Version → Settings → Texts → Data → Result (List Proc × Texts) Refusal
 controllers_in version settings names d = do

@@ -2,6 +2,7 @@
 ghost use Rattle.std.specs.Prelude.{◌≡◌, ◌<◌, ◌≤◌, ◌+◌, ◌==◌, ◌++◌, ◌∷◌, [], false, length, position, IfSome, OnOk};
 ghost use Rattle.std.specs.Option.{option_map};
 ghost use Rattle.script_reader.specs.Cast.{Stands, AreNamed, seen};
+ghost use Rattle.manifest_json.specs.Walk as manifests;
 ghost use Rattle.script_reader.specs.Walk as walk;
 
 use kube_base::{Names, NoMemory, ProcId};
@@ -84,7 +85,7 @@ impl Named {
 /// A process by its name: its place among these.
 fn process_of(named: &Named, names: &Names, name: &[u8]) -> Option<u32>
     requires { Stands named.now }
-    ensures value { result ≡ walk.process_of names.now (walk.numbers_of named.now.procs) name.now }
+    ensures value { result ≡ manifests.process_of names.now (walk.numbers_of named.now.procs) name.now }
     ensures within { IfSome result (λ place. place < 1000) }
 {
     let number = names.find(name)?;

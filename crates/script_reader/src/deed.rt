@@ -5,6 +5,7 @@ ghost use Rattle.serde_json.specs.View.{view};
 ghost use Rattle.manifest_json.specs.Faults.{Gives};
 ghost use Rattle.script_reader.specs.Cast.{AreNamed, seen};
 ghost use Rattle.script_reader.specs.Fields as fields;
+ghost use Rattle.manifest_json.specs.Walk as manifests;
 ghost use Rattle.script_reader.specs.Walk as walk;
 
 use crate::cast::{Players, controller_named, kubelet_named, process_named};
@@ -273,7 +274,7 @@ fn object_in(
 ) -> Result<(Key, Object), ReadFault>
     requires { AreNamed players.now }
     ensures { Gives (λ found. (found, names.new)) result
-        (walk.object_walk names.old (seen players.now).controllers (fields.under path.now (codes "object")) (view found.now)) }
+        (manifests.object_walk names.old (seen players.now).controllers (fields.under path.now (codes "object")) (view found.now)) }
 {
     let slash = path.below("/")?;
     let here = slash.below("object")?;

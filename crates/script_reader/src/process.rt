@@ -80,10 +80,10 @@ fn not_empty<'v>(path: &Path, list: &'v [Value]) -> Result<&'v [Value], ReadFaul
         (walk.not_empty path.now (items_view list.now)) }
     ensures same { IfOk result (λ some. some.now ≡ list.now) }
 {
-    if list.len() == 0 {
-        return Err(fault(6, path));
+    match list.first() {
+        Some(_) => Ok(list),
+        None => Err(fault(6, path)),
     }
-    Ok(list)
 }
 
 fn controllers_of(

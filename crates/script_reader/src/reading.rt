@@ -62,10 +62,14 @@ fn document_at(alloc: Global, value: &Value) -> Result<Document, ReadFault>
         kubelets,
     };
     let events = events(alloc, &players, settings.end_beat, &mut names, value)?;
+    let Players {
+        controllers,
+        kubelets,
+    } = players;
     Ok(Document {
         settings,
-        controllers: players.controllers.procs,
-        kubelets: players.kubelets.procs,
+        controllers: controllers.procs,
+        kubelets: kubelets.procs,
         objects,
         events,
         names,
