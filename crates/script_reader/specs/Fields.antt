@@ -152,8 +152,11 @@ object_at code path d = object_or code path d (as_object d)
 abbrev pub at_most : ℕ → List ℕ → Items → Result Items Refusal
 at_most most path items = if nat_lt most (items_len items) then refuse 32 path else Ok items
 
+abbrev pub items_in : List ℕ → Data → Result Items Refusal
+items_in path d = or_refuse (as_array d) 5 path
+
 -- an array of at most so many members
 unfoldable pub array_in : ℕ → List ℕ → Data → Result Items Refusal
 array_in most path d = do
-  items ← or_refuse (as_array d) 5 path
+  items ← items_in path d
   at_most most path items

@@ -1,3 +1,4 @@
+pub mod Cast
 pub mod ClockRates
 pub mod Documents
 pub mod Fields

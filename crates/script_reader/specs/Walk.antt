@@ -202,7 +202,8 @@ controllers_from version settings names place earlier (item d rest) = do
   controllers_from version settings next.1 (place + 1) (earlier ++ next.0 ∷ []) rest
 
 abbrev pub not_empty : List ℕ → Items → Result Items Refusal
-not_empty path items = if items_len items == 0 then refuse 6 path else Ok items
+not_empty path no_items = refuse 6 path
+not_empty path (item d rest) = Ok (item d rest)
 
 unfoldable pub controllers_in : Version → Settings → Texts → Data → Result (List Proc × Texts) Refusal
 controllers_in version settings names d = do
@@ -341,9 +342,13 @@ ready_at cast names path d = do
   status ← needed_posted path (codes "status") d
   Ok (deeds.Ready who status)
 
+abbrev pub object_under : Cast → Texts → List ℕ → Data → Result ((Key × Object) × Texts) Refusal
+object_under cast names path d =
+    required (under path (codes "object")) (object_walk names cast.controllers (under path (codes "object"))) (get (codes "object") d)
+
 unfoldable pub put_at : Cast → Texts → List ℕ → Data → Result (What × Texts) Refusal
 put_at cast names path d = do
-  found ← required (under path (codes "object")) (object_walk names cast.controllers (under path (codes "object"))) (get (codes "object") d)
+  found ← object_under cast names path d
   Ok (deeds.Put found.0.0 found.0.1, found.1)
 
 abbrev pub kind_of : List ℕ → Option Kind
@@ -405,6 +410,9 @@ type_at path d = do
   text ← needed_text path (codes "type") d
   or_refuse (type_of text) 6 (under path (codes "type"))
 
+abbrev pub is_election : Key → Bool
+is_election key = key_eq key election
+
 -- an event puts or removes the election Lease
 abbrev pub edits_election : What → Bool
 edits_election (deeds.Rate who ppm) = false
@@ -415,8 +423,8 @@ edits_election (deeds.Start who) = false
 edits_election (deeds.Stop who) = false
 edits_election (deeds.Watch who on) = false
 edits_election (deeds.Ready who status) = false
-edits_election (deeds.Put key object) = key_eq key election
-edits_election (deeds.Remove key) = key_eq key election
+edits_election (deeds.Put key object) = is_election key
+edits_election (deeds.Remove key) = is_election key
 
 -- the own rules of an event: it isn't before an earlier event nor after the end, and it leaves the election Lease alone
 abbrev pub if_event : ℕ → ℕ → List ℕ → ℕ → What → Texts → Result (Event × Texts) Refusal
@@ -476,10 +484,15 @@ cast_of controllers kubelets = record { controllers = numbers_of controllers; ku
 abbrev pub no_objects : Objects
 no_objects = record { items = []; skipped = 0 }
 
+-- the value is an object with no unknown key
+unfoldable pub top_in : Data → Result Data Refusal
+top_in value = do
+  d ← object_at 2 (codes "/") value
+  known_in tables.Top (codes "/") d
+
 unfoldable pub document_at : Data → Result Document Refusal
 document_at value = do
-  top ← object_at 2 (codes "/") value
-  d ← known_in tables.Top (codes "/") top
+  d ← top_in value
   version ← required (codes "/version") version_in (get (codes "version") d)
   settings ← required (codes "/settings") (settings_at version (codes "/settings")) (get (codes "settings") d)
   controllers ← required (codes "/controllers") (controllers_in version settings fixed_names) (get (codes "controllers") d)

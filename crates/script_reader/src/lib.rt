@@ -1,11 +1,17 @@
 //! The whole document: its settings, processes, objects and events, read from bytes.
 #![tactic(auto)]
 
+mod cast;
+mod deed;
 mod document;
+mod event;
+mod field;
 mod laws;
 mod parts;
 mod premise;
+mod process;
 mod reading;
+mod settings;
 mod table;
 
 pub use document::Document;
