@@ -1,7 +1,7 @@
 -- One step of the walks over arrays.
-use Rattle.std.proofs.Common.{◌≡◌, ◌≢◌, ℕ, ◌+◌, ◌<◌, ◌≤◌, List, [], ◌∷◌, ◌++◌, length, drop, get_or, Result, Ok, Err, codes, refl, sym, ap, ◌∙◌, arith, append_assoc, Bool, true, false, cond, nat_lt}
+use Rattle.std.proofs.Common.{◌≡◌, ℕ, ◌+◌, ◌<◌, ◌≤◌, List, [], ◌∷◌, ◌++◌, length, drop, get_or, Result, Ok, Err, codes, refl, sym, ap, ◌∙◌, arith, append_assoc, Bool, true, false, cond, nat_lt}
 use Rattle.std.proofs.lemmas.Bool.{lt-ltb, ltb-true}
-use Rattle.serde_json.specs.Data.{Data, Items, no_items, item}
+use Rattle.serde_json.specs.Data.{Data, Items, item}
 use Rattle.serde_json.specs.View.{view, items_view}
 use Rattle.serde_json.specs.declared.value.Value.{Value}
 use Rattle.kube_objects.specs.declared.script.Event.{Event}
@@ -10,7 +10,6 @@ use Rattle.kube_objects.specs.declared.settings.Settings.{Settings}
 use Rattle.manifest_json.proofs.Loops.{items_view-drop, items_view-end, Fails-then}
 use Rattle.manifest_json.specs.declared.fault.Refusal.{Refusal}
 use Rattle.manifest_json.specs.declared.fault.ReadFault.{ReadFault}
-use Rattle.manifest_json.specs.declared.fault.ReadFault.TheVariants.{Refused, NoMemory}
 use Rattle.manifest_json.specs.Faults.{◌>>=◌, refuse, Fails}
 use Rattle.manifest_json.specs.Fields.{Texts}
 use Rattle.manifest_json.specs.Walk.{items_len, member_path}
@@ -155,5 +154,5 @@ module _ (names : Texts) (place : ℕ) (vs : List Value) where
         append_empty [] = refl
         append_empty (e ∷ es) = ap (λ xs. e ∷ xs) (append_empty es)
 
-pub events-start : (walk : Result (List Event × Texts) Refusal) → walk ≡ behind_these [] walk
-events-start walk = sym (behind_none walk)
+pub events-start : (done : List Event) (walk : Result (List Event × Texts) Refusal) → done ≡ [] → walk ≡ behind_these done walk
+events-start done walk is = sym (behind_none walk) ∙ ap (λ es. behind_these es walk) (sym is)

@@ -1,4 +1,4 @@
-use Rattle.std.proofs.Common.{◌≡◌, ◌∙◌, ap}
+use Rattle.std.proofs.Common.{◌∙◌, ap}
 use Rattle.std.specs.Prelude.{is_some}
 use Rattle.script_reader.proofs.Named.{has-is}
 use Rattle.script_reader.proofs.cast.Named.has.Goals as goal
