@@ -15,6 +15,7 @@ pub mod Readings
 pub mod Restarts
 pub mod Resting
 pub mod Running
+pub mod Scripted
 pub mod Standing
 pub mod Terms
 pub mod Timers
