@@ -11,6 +11,7 @@ pub mod Loops
 pub mod Moving
 pub mod Names
 pub mod Plainly
+pub mod Rates
 pub mod Readings
 pub mod Restarts
 pub mod Resting
