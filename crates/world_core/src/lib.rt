@@ -2,11 +2,13 @@
 #![tactic(auto)]
 
 mod controller;
-mod document;
+mod forms;
 mod printing;
+mod replay;
 #[cfg(test)]
 mod tests;
 mod world;
 
-pub use document::Document;
+pub use forms::runs;
+pub use replay::deeds_of;
 pub use world::World;
