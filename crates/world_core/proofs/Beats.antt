@@ -48,7 +48,7 @@ replies-starts doc (suc k) j h = refl
 never-now : (k delay : ℕ) → 1 ≤ delay → ((k + delay) == k) ≡ false
 never-now k delay later = grind (arith, nat_tests)
 
-not_due : (lost : Bool) (k delay : ℕ) → 1 ≤ delay → is_due k (arrival lost k delay) ≡ false
+pub not_due : (lost : Bool) (k delay : ℕ) → 1 ≤ delay → is_due k (arrival lost k delay) ≡ false
 not_due true k delay later = refl
 not_due false k delay later = never-now k delay later
 

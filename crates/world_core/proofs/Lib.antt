@@ -2,8 +2,10 @@ pub mod Answering
 pub mod Around
 pub mod Beats
 pub mod Beside
+pub mod Events
 pub mod Firsts
 pub mod Grows
+pub mod Happening
 pub mod Known
 pub mod Lists
 pub mod Lives
@@ -15,6 +17,7 @@ pub mod Readings
 pub mod Restarts
 pub mod Resting
 pub mod Running
+pub mod Scripts
 pub mod Standing
 pub mod Terms
 pub mod Timers

@@ -130,7 +130,7 @@ turned-quiet doc k i before deeds new arriving coming h c0 c1 w v t r within m w
       told = ap (λ ds. before ++ ds) new_is ∙ told-turn doc k i before deeds h c1 t r.told turned ∙ ap printed (sym next_is);
     }
 
-printed-sent : (k step : ℕ) (q : Identity) (kind : CallKind) (ask : Ask) (h next : List Entry) → next ≡ send k step q kind ask.request h → printed next ≡ printed h
+pub printed-sent : (k step : ℕ) (q : Identity) (kind : CallKind) (ask : Ask) (h next : List Entry) → next ≡ send k step q kind ask.request h → printed next ≡ printed h
 printed-sent k step q kind ask h next is = ap printed is ∙ append-nil (printed h)
 
 pub turned-asks : (doc : Doc) (k i : ℕ) (before deeds new : List deed.Deed) (arriving : List Sent) (coming : List Back) (h : List Entry) (c0 c1 : Controller) (w v : World) (t : Turn) (ask : Ask) → Running doc k before arriving coming h w deeds →

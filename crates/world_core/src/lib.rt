@@ -5,8 +5,6 @@ mod controller;
 mod forms;
 mod printing;
 mod replay;
-#[cfg(test)]
-mod tests;
 mod world;
 
 pub use forms::runs;

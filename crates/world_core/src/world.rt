@@ -16,6 +16,7 @@ ghost use Rattle.wire_calls.specs.WireStands.{as_delivered, replies_at};
 ghost use Rattle.script_reader.specs.Documents.{doc_of};
 ghost use Rattle.script_reader.specs.Lawful.{AreLawful, IsLawful, IsLawfulDoc};
 ghost use Rattle.world_core.specs.declared.controller.Controller.{Controller};
+ghost use Rattle.world_core.specs.Controllers.{AreEventsFrom};
 ghost use Rattle.world_core.specs.Forms.{is_run};
 ghost use Rattle.world_core.specs.Plain.{IsFew, IsKnown, SentByKnown, BackToKnown};
 ghost use Rattle.history.specs.Due.{answer_all, deliver_all};
@@ -24,7 +25,7 @@ ghost use Rattle.world_core.specs.Worlds.{EachStands, at_of, end_of, names_of, H
 use crate::controller::{Controller, picoseconds};
 use crate::printing::{answer_act, crashing, ending, leading, removing, starting, stopping, tell};
 use kube_base::{Beat, Names, NoMemory, ProcId, Wall};
-use kube_objects::{Act, Actor, Deeds, Events, Items, Key, Object, Procs, Reply, Request, Settings, What};
+use kube_objects::{Act, Actor, Deeds, Event, Events, Items, Key, Object, Procs, Reply, Request, Settings, What};
 use object_store::Store;
 use script_reader::Document;
 use std::alloc::Global;
@@ -61,7 +62,7 @@ impl World {
             alloc,
             &settings,
             &document.controllers,
-            &document.events,
+            document.events.as_slice(),
         )?;
         let wire = Wire::new(alloc, controllers.len() as u32)?;
         let store = filled(alloc, &document.objects.items, settings.epoch)?;
@@ -188,7 +189,7 @@ impl World {
         ensures stands { OnOk result (Happens self.old deeds.old self.new deeds.new what) }
     {
         match what {
-            What::Rate(_, _) | What::Watch(_, _) | What::Ready(_, _) => Ok(()),
+            What::Rate(_, _) => Ok(()),
             What::Delay(who, requests, replies) => {
                 self.wire.set_delay(who, requests, replies);
                 Ok(())
@@ -197,6 +198,8 @@ impl World {
                 self.wire.set_loss(who, requests, replies);
                 Ok(())
             }
+            What::Watch(_, _) => Ok(()),
+            What::Ready(_, _) => Ok(()),
             What::Crash(who) => self.crash(who, deeds),
             What::Start(who) => self.start(who, deeds),
             What::Stop(who) => self.stop(who, deeds),
@@ -452,10 +455,11 @@ fn made(
     alloc: Global,
     settings: &Settings,
     processes: &Procs,
-    events: &Events,
+    events: &[Event],
 ) -> Result<Vec<Controller>, NoMemory>
     requires settings { AreLawful settings.now }
     requires processes { All IsLawful processes.now }
+    requires events { AreEventsFrom settings.now.end_beat.0 0 events.now }
     requires few { length processes.now ≤ 16 }
     ensures count { IfOk result (λ cs. length cs.items ≡ length processes.now) }
     ensures clocks { IfOk result (λ cs. (i : ℕ) (c : Controller) → slice_get cs.items i ≡ Some c → c.clock.end ≡ settings.now.end_beat.0) }
