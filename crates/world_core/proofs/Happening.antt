@@ -1,5 +1,6 @@
 -- The events of a beat, one after the other.
-use Rattle.std.proofs.Common.{◌≡◌, ℕ, ◌+◌, ◌<◌, ◌≤◌, Bool, true, false, cond, List, [], ◌∷◌, ◌++◌, Option, Some, None, slice_get, length, drop, refl, sym, ap, ◌∙◌, subst, arith}
+use Rattle.std.proofs.Common.{◌≡◌, ℕ, ◌+◌, ◌<◌, ◌≤◌, Bool, true, false, cond, List, [], ◌∷◌, ◌++◌, Option, Some, None, slice_get, get_or, length, drop, refl, sym, ap, ◌∙◌, subst, arith}
+use Rattle.std.proofs.lemmas.Option.{slice_get_read}
 use Rattle.kube_objects.specs.declared.call.Request.{Request}
 use Rattle.kube_objects.specs.declared.deed.Deed as deed
 use Rattle.kube_objects.specs.declared.script.Event.{Event}
@@ -16,7 +17,7 @@ use Rattle.history.specs.Steps.{start_if_down, crash, released, stop, happens, h
 use Rattle.script_reader.specs.Lawful.{IsLawfulWhat, AreLawfulFrom}
 use Rattle.world_core.specs.declared.world.World.{World}
 use Rattle.world_core.specs.Plain.{IsFew}
-use Rattle.world_core.specs.Worlds.{IsPlaced, Running, Scripted}
+use Rattle.world_core.specs.Worlds.{DocStands, IsPlaced, Running, Scripted}
 use Rattle.world_core.proofs.Beats.{not_due}
 use Rattle.world_core.proofs.Events.{drop-at, drop-past, happens-now, happen-earlier, happen-later, lawful-later, lawful-rest, lawful-what, earlier-more}
 use Rattle.world_core.proofs.Grows.{grows-happen_all, few-before}
@@ -81,6 +82,11 @@ replies-happens doc k (what.Put key object) h = refl
 replies-happens doc k (what.Remove key) h = refl
 
 -- ---- the loop over the events
+
+-- the event at the place
+pub event-at : (doc : Doc) (k : ℕ) (w : World) (xs ys : List Event) (e : Event) → DocStands doc k w → xs ≡ w.events → ys ≡ w.events → w.place < length ys → e ≡ get_or xs w.place e → slice_get doc.events w.place ≡ Some e
+event-at doc k w xs ys e s xs_are ys_are less is =
+    ap (λ es. slice_get es w.place) (sym (xs_are ∙ s.events)) ∙ slice_get_read xs (length ys) w.place e (ap (λ es. length es) (ys_are ∙ sym xs_are)) less is
 
 -- some events of beat k have happened
 pub record Happening (doc : Doc) (k : ℕ) (before : List deed.Deed) (arriving : List Sent) (coming : List Back) (h : List Entry) (w : World) (deeds : List deed.Deed) : Type 0 where

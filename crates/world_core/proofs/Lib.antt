@@ -3,7 +3,9 @@ pub mod Around
 pub mod Beats
 pub mod Beside
 pub mod Events
+pub mod Fewness
 pub mod Firsts
+pub mod RunForms
 pub mod Grows
 pub mod Happening
 pub mod Known
@@ -13,6 +15,7 @@ pub mod Loops
 pub mod Moving
 pub mod Names
 pub mod Plainly
+pub mod Puts
 pub mod Readings
 pub mod Restarts
 pub mod Resting

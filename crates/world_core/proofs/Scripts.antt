@@ -1,5 +1,6 @@
 -- The world through an entry of the script.
-use Rattle.std.proofs.Common.{◌≡◌, ℕ, ◌+◌, ◌<◌, ◌++◌, Bool, false, List, [], ◌∷◌, Option, Some, None, slice_get, length, refl, sym, ap, ◌∙◌, subst, append_assoc, arith}
+use Rattle.std.proofs.Common.{◌≡◌, ℕ, ◌+◌, ◌<◌, ◌++◌, Bool, true, false, List, [], ◌∷◌, Option, Some, None, slice_get, length, length-append, refl, sym, ap, ◌∙◌, subst, append_assoc, arith}
+use Rattle.std.proofs.lemmas.List.{append-nil}
 use Rattle.kube_base.specs.declared.numbers.ProcId.{ProcId}
 use Rattle.kube_base.specs.declared.numbers.Version.{Version}
 use Rattle.kube_objects.specs.declared.call.Ask.{Ask}
@@ -9,7 +10,7 @@ use Rattle.kube_objects.specs.declared.key.Key.{Key}
 use Rattle.kube_objects.specs.declared.object.Object.{Object}
 use Rattle.kube_objects.specs.declared.script.What.{What}
 use Rattle.kube_objects.specs.declared.script.What.TheVariants as what
-use Rattle.kube_objects.specs.Document.{Doc, processes}
+use Rattle.kube_objects.specs.Document.{Doc, processes, is_controller}
 use Rattle.kube_objects.specs.Entry.{Entry, Deed, First, Event, Crashes, Stops, entry, script_entry}
 use Rattle.kube_objects.specs.Identities.{identity}
 use Rattle.kube_objects.specs.Newest.{newest, when, join}
@@ -31,9 +32,12 @@ use Rattle.world_core.specs.Worlds.{SameDocument, RestStands, EachStands, Runnin
 use Rattle.world_core.proofs.Around.{Around, around-world, around-own, around-started, alive-known}
 use Rattle.world_core.proofs.Beside.{role-beside}
 use Rattle.world_core.proofs.Lives.{newest-skips, starts-others}
-use Rattle.world_core.proofs.Names.{eq-isnt}
+use Rattle.world_core.proofs.Names.{lt-from, eq-isnt}
 use Rattle.world_core.proofs.Plainly.{known-later}
 use Rattle.world_core.proofs.Running.{Moved, SendsOn, doc-same, within-moved, within-sent, printed-sent}
+
+pub controller-within : (doc : Doc) (p : ℕ) → is_controller doc p ≡ true → p < processes doc
+controller-within doc p is = let less = lt-from p (length doc.controllers) is in omega (arith, less, length-append doc.controllers doc.kubelets)
 
 -- ---- what stands through any entry of the script
 
@@ -85,6 +89,14 @@ running-event doc k before deeds new arriving coming h w v event version r besid
       };
       told = ap (λ ds. before ++ ds) new_is ∙ sym (append_assoc before deeds (deeds_of k actor.Script (event_act event version))) ∙ ap (λ ds. ds ++ deeds_of k actor.Script (event_act event version)) r.told;
     }
+
+-- it changes nothing in the world and is not printed
+pub running-plain : (doc : Doc) (k : ℕ) (before deeds : List deed.Deed) (arriving : List Sent) (coming : List Back) (h : List Entry) (w : World) (event : What) → Running doc k before arriving coming h w deeds → is_of_wire (Event event None) ≡ false → write_of (Event event None) ≡ None →
+    ((p : ℕ) → cancels p event ≡ false) → Running doc k before arriving coming (scripted k event None h) w deeds
+running-plain doc k before deeds arriving coming h w event r wire write beside =
+    let e = script_entry k 1 (Event event None) in
+    running-event doc k before deeds deeds arriving coming h w w event None r beside (record { beat = refl; end = refl; restart = refl; epoch = refl; micros = refl; events = refl; names = refl }) refl
+    (store-beside h e w.store r.world.rest.store write) (wire-beside (processes doc) k arriving coming h e w.wire wire r.world.rest.wire) (sym (append-nil deeds))
 
 -- ---- an event on a controller
 

@@ -170,7 +170,7 @@ impl World {
         let all = self.events.as_slice().len();
         'script: while self.place < all {
             let event = &self.events.as_slice()[self.place];
-            if event.beat != self.beat {
+            if event.beat.0 != self.beat.0 {
                 return Ok(());
             }
             let what = copied(&event.what)?;

@@ -12,7 +12,7 @@ use Rattle.world_core.proofs.Around.{around-world}
 use Rattle.world_core.proofs.Grows.{few-before, grows-happens}
 use Rattle.world_core.proofs.Moving.{read-at, actor-is}
 use Rattle.world_core.proofs.Running.{keeps-moved}
-use Rattle.world_core.proofs.Scripts.{around-stop, running-quiet, running-asks}
+use Rattle.world_core.proofs.Scripts.{controller-within, around-stop, running-quiet, running-asks}
 use Rattle.world_core.proofs.world.World.stop.Goals as goal
 
 pub returns-in-None-clause-stands : goal.returns-in-None-clause-stands
@@ -30,7 +30,7 @@ returns-in-None-clause-stands c doc k before arriving coming h r lawful few =
     let new_is = c.in_ok-tell.ensures ∙ ap (λ a. c.args.deeds.now ++ deeds_of w.beat.0 (actor.Proc c1.me c1.incarnation) a) c.stopping.ensures
     ∙ ap (λ n. c.args.deeds.now ++ deeds_of n (actor.Proc c1.me c1.incarnation) (when c.stop-stopped.result.stopped act.Stop)) at
     ∙ ap (λ x. c.args.deeds.now ++ deeds_of k x (when c.stop-stopped.result.stopped act.Stop)) (actor-is i c1.incarnation c1.me me) in
-    let around = around-stop doc k c.args.who arriving coming h w lawful (around-world doc k i arriving coming h w r.world) in
+    let around = around-stop doc k c.args.who arriving coming h w (controller-within doc i lawful) (around-world doc k i arriving coming h w r.world) in
     let more = stopped_deeds k (identity i c1.incarnation) c.stop-stopped.result.stopped in
     running-quiet doc k i before c.args.deeds.now c.tell.new.deeds more arriving coming h (stopped k c.args.who h) (happens doc k (what.Stop c.args.who) h) c0 c1 w _ c.stop-stopped.result.ask r (record { was = was; now = refl; same = (record { beat = refl; end = refl; restart = refl; epoch = refl; micros = refl; events = refl; names = refl }); place = refl; store = refl }) refl around done.asks c.in-None.is done.told new_is
 
@@ -57,8 +57,8 @@ returns-in_ok-send-in-Some-clause-stands c doc k before arriving coming h r lawf
     let new_is = c.in_ok-tell.ensures ∙ ap (λ a. c.args.deeds.now ++ deeds_of w.beat.0 (actor.Proc c1.me c1.incarnation) a) c.stopping.ensures
     ∙ ap (λ n. c.args.deeds.now ++ deeds_of n (actor.Proc c1.me c1.incarnation) (when c.stop-stopped.result.stopped act.Stop)) at
     ∙ ap (λ x. c.args.deeds.now ++ deeds_of k x (when c.stop-stopped.result.stopped act.Stop)) (actor-is i c1.incarnation c1.me me) in
-    let around = around-stop doc k c.args.who arriving coming h w lawful (around-world doc k i arriving coming h w r.world) in
+    let around = around-stop doc k c.args.who arriving coming h w (controller-within doc i lawful) (around-world doc k i arriving coming h w r.world) in
     let more = stopped_deeds k (identity i c1.incarnation) c.stop-stopped.result.stopped in
-    running-asks doc k i before c.args.deeds.now c.tell.new.deeds more arriving coming h (stopped k c.args.who h) (happens doc k (what.Stop c.args.who) h) c0 c1 w _ c.stop-stopped.result.ask c.in-Some.ask r lawful (record { was = was; now = refl; same = (record { beat = refl; end = refl; restart = refl; epoch = refl; micros = refl; events = refl; names = refl }); place = refl; store = refl })
+    running-asks doc k i before c.args.deeds.now c.tell.new.deeds more arriving coming h (stopped k c.args.who h) (happens doc k (what.Stop c.args.who) h) c0 c1 w _ c.stop-stopped.result.ask c.in-Some.ask r (controller-within doc i lawful) (record { was = was; now = refl; same = (record { beat = refl; end = refl; restart = refl; epoch = refl; micros = refl; events = refl; names = refl }); place = refl; store = refl })
     (λ step g call stands number request. c.in_ok-send-in-Some.ensures.ok (processes doc) k step arriving coming g (identity i c1.incarnation) call stands at (ap (λ n. identity n c1.incarnation) (sym me)) number request)
     around done.asks c.in-Some.is done.told new_is
