@@ -5,7 +5,6 @@ pub mod Beside
 pub mod Events
 pub mod Fewness
 pub mod Firsts
-pub mod RunForms
 pub mod Grows
 pub mod Happening
 pub mod Known
@@ -16,10 +15,13 @@ pub mod Moving
 pub mod Names
 pub mod Plainly
 pub mod Puts
+pub mod Rates
 pub mod Readings
 pub mod Restarts
 pub mod Resting
+pub mod RunForms
 pub mod Running
+pub mod Scripted
 pub mod Scripts
 pub mod Standing
 pub mod Terms
