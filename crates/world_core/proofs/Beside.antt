@@ -16,7 +16,7 @@ use Rattle.world_core.proofs.Names.{of_process-other, is_same-apart, eq-isnt}
 use Rattle.world_core.proofs.Unheard.{and-false}
 
 -- an entry that leaves the life as it is, and is by another identity
-pub role-beside : (doc : Doc) (p i : ℕ) (e : Entry) (h : List Entry) (r : Role) → alive p (e ∷ h) ≡ alive p h → ended p (e ∷ h) ≡ ended p h → is_by (identity p i) e.actor ≡ false → RoleStands doc p i h r → RoleStands doc p i (e ∷ h) r
+role-beside : (doc : Doc) (p i : ℕ) (e : Entry) (h : List Entry) (r : Role) → alive p (e ∷ h) ≡ alive p h → ended p (e ∷ h) ≡ ended p h → is_by (identity p i) e.actor ≡ false → RoleStands doc p i h r → RoleStands doc p i (e ∷ h) r
 role-beside doc p i e h (role.Down at) lives ends other s = (lives ∙ s.0, s.1 ∙ ap (restart_reading doc p) (sym ends))
 role-beside doc p i e h (role.Candidate x) lives ends other s = (lives ∙ s.0, candidate-foreign doc (identity p i) e h x other s.1)
 role-beside doc p i e h (role.Leading x) lives ends other s = (lives ∙ s.0, leading-foreign doc (identity p i) e h x other s.1)

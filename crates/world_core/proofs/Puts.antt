@@ -16,7 +16,7 @@ use Rattle.wire_calls.proofs.Frames.{wire-beside}
 use Rattle.world_core.specs.declared.controller.Controller.{Controller}
 use Rattle.world_core.specs.Plain.{IsPlain}
 use Rattle.world_core.specs.Worlds.{EachStands}
-use Rattle.world_core.proofs.Scripts.{plain-script, controller-first}
+use Rattle.world_core.proofs.Scripted.{plain-script, controller-put_all}
 
 -- the entry of an object
 abbrev pub put_first : Doc → Key × Object → Entry
@@ -31,8 +31,7 @@ put-wire doc n [] h w s = s
 put-wire doc n (x ∷ xs) h w s = put-wire doc n xs (put_first doc x ∷ h) w (wire-beside n 0 [] [] h (put_first doc x) w refl s)
 
 pub put-each : (doc : Doc) (xs : List (Key × Object)) (h : List Entry) (cs : List Controller) → EachStands doc h cs → EachStands doc (put_all doc xs h) cs
-put-each doc [] h cs s = s
-put-each doc (x ∷ xs) h cs s = put-each doc xs (put_first doc x ∷ h) cs (λ p c is. controller-first doc p x.0 (stamped (whole_second (store_wall doc 0)) x.1) h c (s p c is))
+put-each doc xs h cs s p c is = controller-put_all doc p xs h c (s p c is)
 
 pub put-requests : (doc : Doc) (j : ℕ) (xs : List (Key × Object)) (h : List Entry) → requests_due j (put_all doc xs h) ≡ requests_due j h
 put-requests doc j [] h = refl

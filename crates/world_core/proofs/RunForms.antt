@@ -11,7 +11,7 @@ empty-is (x ∷ xs) is = cc
 
 pub no-kubelets : (doc : Doc) → is_run doc ≡ true → doc.kubelets ≡ []
 unfolding is_run
-no-kubelets doc form = empty-is doc.kubelets (and-left _ _ form)
+no-kubelets doc form = empty-is doc.kubelets (and-left _ _ (and-left _ _ (and-left _ _ form)))
 
 pub processes-are : (doc : Doc) → is_run doc ≡ true → doc.controllers ++ doc.kubelets ≡ doc.controllers
 processes-are doc form = ap (λ ks. doc.controllers ++ ks) (no-kubelets doc form) ∙ append-nil doc.controllers

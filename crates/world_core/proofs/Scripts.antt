@@ -6,15 +6,12 @@ use Rattle.kube_base.specs.declared.numbers.Version.{Version}
 use Rattle.kube_objects.specs.declared.call.Ask.{Ask}
 use Rattle.kube_objects.specs.declared.deed.Actor.TheVariants as actor
 use Rattle.kube_objects.specs.declared.deed.Deed as deed
-use Rattle.kube_objects.specs.declared.key.Key.{Key}
-use Rattle.kube_objects.specs.declared.object.Object.{Object}
 use Rattle.kube_objects.specs.declared.script.What.{What}
 use Rattle.kube_objects.specs.declared.script.What.TheVariants as what
 use Rattle.kube_objects.specs.Document.{Doc, processes, is_controller}
-use Rattle.kube_objects.specs.Entry.{Entry, Deed, First, Event, Crashes, Stops, entry, script_entry}
+use Rattle.kube_objects.specs.Entry.{Entry, Event, Crashes, Stops, entry, script_entry}
 use Rattle.kube_objects.specs.Identities.{identity}
-use Rattle.kube_objects.specs.Newest.{newest, when, join}
-use Rattle.kube_objects.specs.Process.{alive, starts, cancels, ended, restart_says}
+use Rattle.kube_objects.specs.Process.{alive, starts, cancels}
 use Rattle.kube_objects.specs.Stored.{write_of}
 use Rattle.kube_objects.specs.Wire.{Sent, Back}
 use Rattle.history.specs.Printed.{printed, deeds_of, event_act}
@@ -27,45 +24,16 @@ use Rattle.wire_calls.proofs.Frames.{wire-beside}
 use Rattle.world_core.specs.declared.controller.Controller.{Controller}
 use Rattle.world_core.specs.declared.world.World.{World}
 use Rattle.world_core.specs.Controllers.{ControllerStands, AsksOn, stop_in, stopped}
-use Rattle.world_core.specs.Plain.{IsPlain, IsKnown}
+use Rattle.world_core.specs.Plain.{IsKnown}
 use Rattle.world_core.specs.Worlds.{SameDocument, RestStands, EachStands, Running}
 use Rattle.world_core.proofs.Around.{Around, around-world, around-own, around-started, alive-known}
-use Rattle.world_core.proofs.Beside.{role-beside}
-use Rattle.world_core.proofs.Lives.{newest-skips, starts-others}
 use Rattle.world_core.proofs.Names.{lt-from, eq-isnt}
 use Rattle.world_core.proofs.Plainly.{known-later}
+use Rattle.world_core.proofs.Scripted.{plain-script, controller-event}
 use Rattle.world_core.proofs.Running.{Moved, SendsOn, doc-same, within-moved, within-sent, printed-sent}
 
 pub controller-within : (doc : Doc) (p : ℕ) → is_controller doc p ≡ true → p < processes doc
 controller-within doc p is = let less = lt-from p (length doc.controllers) is in omega (arith, less, length-append doc.controllers doc.kubelets)
-
--- ---- what stands through any entry of the script
-
-pub plain-script : (n k step : ℕ) (d : Deed) (h : List Entry) → IsPlain n h → IsPlain n (script_entry k step d ∷ h)
-plain-script n k step d h s =
-    record {
-      fresh = λ p i less. (refl, s.fresh p i (subst (λ m. m < i) (starts-others p (script_entry k step d) h refl) less));
-      all = (tt, s.all);
-    }
-
--- an event that leaves a process's restart as it is
-pub controller-event : (doc : Doc) (p k step : ℕ) (event : What) (version : Option Version) (h : List Entry) (c : Controller) → cancels p event ≡ false → ControllerStands doc p h c → ControllerStands doc p (script_entry k step (Event event version) ∷ h) c
-controller-event doc p k step event version h c beside s =
-    let e = script_entry k step (Event event version) in
-    let ends : ended p (e ∷ h) ≡ ended p h = ap join (newest-skips (λ e T. restart_says p e.beat e.actor e.deed) e h (ap (λ b. when b None) beside)) in
-    record { me = s.me; incarnation = s.incarnation; timing = s.timing; clock = s.clock; up_first = s.up_first; role = role-beside doc p c.incarnation e h c.role refl ends refl s.role }
-
--- an object of the document
-pub controller-first : (doc : Doc) (p : ℕ) (key : Key) (object : Object) (h : List Entry) (c : Controller) → ControllerStands doc p h c → ControllerStands doc p (script_entry 0 0 (First key object) ∷ h) c
-controller-first doc p key object h c s =
-    record {
-      me = s.me;
-      incarnation = s.incarnation;
-      timing = s.timing;
-      clock = s.clock;
-      up_first = s.up_first;
-      role = role-beside doc p c.incarnation (script_entry 0 0 (First key object)) h c.role refl refl refl s.role;
-    }
 
 -- ---- an event that leaves each controller as it is
 

@@ -4,13 +4,14 @@ use Rattle.kube_objects.specs.Document.{Doc, processes}
 use Rattle.kube_objects.specs.InFlight.{requests_due, replies_due}
 use Rattle.history.specs.History.{history}
 use Rattle.script_reader.specs.Documents.{doc_of}
+use Rattle.script_reader.specs.Lawful.{AreLawfulFrom}
 use Rattle.wire_calls.specs.WireStands.{WireStands}
 use Rattle.world_core.proofs.RunForms.{processes-are}
 use Rattle.world_core.proofs.Puts.{put-plain, put-wire, put-each, put-requests, put-replies}
 use Rattle.world_core.proofs.world.World.new.Goals as goal
 
 pub made-requires-clause-events : goal.made-requires-clause-events
-made-requires-clause-events c = ?
+made-requires-clause-events c = let doc = doc_of c.args.document in (doc, refl, subst (AreLawfulFrom doc 0) (sym c.as_slice.ensures) c.requires.lawful.events)
 
 pub returns-clause-stands : goal.returns-clause-stands
 returns-clause-stands c = record {
@@ -31,7 +32,7 @@ returns-clause-stands c = record {
           (subst (λ bs. WireStands (processes doc) 0 [] bs (history doc 0) c.in_ok-wire.wire) (sym (put-replies doc 0 doc.objects []))
           (put-wire doc (processes doc) doc.objects [] c.in_ok-wire.wire (subst (λ n. WireStands n 0 [] [] [] c.in_ok-wire.wire) (c.len.ensures ∙ c.in_ok-controllers.controllers.ok.0 ∙ count) (c.in_ok-wire.ensures 0))));
     };
-    controllers = put-each doc doc.objects [] c.in_ok-controllers.controllers.items (c.in_ok-controllers.ensures.stands doc refl all refl);
+    controllers = put-each doc doc.objects [] c.in_ok-controllers.controllers.items (c.in_ok-controllers.ensures.stands doc refl all (sym c.as_slice.ensures));
   };
   placed = record { earlier = λ i e less is. absurd (omega (arith, less)); later = c.requires.lawful.events };
 }
