@@ -1,1 +1,4 @@
 pub mod Said
+pub mod Grown
+pub mod Readings
+pub mod Endings

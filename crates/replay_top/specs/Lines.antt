@@ -128,8 +128,12 @@ abbrev pub yes_or_no : Bool → List ℕ
 yes_or_no true = codes "yes"
 yes_or_no false = codes "no"
 
+-- whether the lease premise holds, at the end of a line
+unfoldable pub premise_text : Doc → List ℕ
+premise_text doc = codes " premise=" ++ yes_or_no (lease_premise doc) ++ codes "\n"
+
 unfoldable pub first_line : Doc → List ℕ
-first_line doc = codes "trace 1 beat=" ++ decimal doc.settings.beat_millis ++ codes " end=" ++ decimal (end_beat doc) ++ codes " premise=" ++ yes_or_no (lease_premise doc) ++ codes "\n"
+first_line doc = codes "trace 1 beat=" ++ decimal doc.settings.beat_millis ++ codes " end=" ++ decimal (end_beat doc) ++ premise_text doc
 
 -- the first line, then the line of each printed entry before beat k
 unfoldable pub trace_before : Doc → List (List ℕ) → List (List ℕ) → ℕ → List ℕ

@@ -6,19 +6,23 @@ use Rattle.kube_objects.specs.declared.key.Kind.{Kind}
 use Rattle.kube_objects.specs.declared.key.Kind.TheVariants as kind
 use Rattle.kube_objects.specs.declared.object.Object.{Object}
 use Rattle.kube_objects.specs.Keys.{kind_rank}
-use Rattle.history.specs.Premise.{lease_premise}
+use Rattle.manifest_json.specs.declared.list.Objects.{Objects}
 use Rattle.script_reader.specs.declared.document.Document.{Document}
 use Rattle.script_reader.specs.Documents.{doc_of}
-use Rattle.replay_top.specs.Lines.{yes_or_no}
+use Rattle.replay_top.specs.Lines.{premise_text}
 
 -- how many objects are of a kind
 unfoldable pub count_of : Kind → List (Key × Object) → ℕ
 count_of k items = length (filter (λ item. kind_rank item.0.kind == kind_rank k) items)
 
--- the counts of processes, objects, skipped items and events, and whether the lease premise holds
+-- the objects by their kinds, and the items that were skipped
+unfoldable pub objects_text : Objects → List ℕ
+objects_text o =
+    codes " nodes=" ++ decimal (count_of kind.Node o.items) ++ codes " leases=" ++ decimal (count_of kind.Lease o.items)
+    ++ codes " pods=" ++ decimal (count_of kind.Pod o.items) ++ codes " skipped=" ++ decimal o.skipped
+
+-- the counts of processes, objects and events, and whether the lease premise holds
 unfoldable pub summary : Document → List ℕ
 summary d =
     codes "ok controllers=" ++ decimal (length d.controllers) ++ codes " kubelets=" ++ decimal (length d.kubelets)
-    ++ codes " nodes=" ++ decimal (count_of kind.Node d.objects.items) ++ codes " leases=" ++ decimal (count_of kind.Lease d.objects.items)
-    ++ codes " pods=" ++ decimal (count_of kind.Pod d.objects.items) ++ codes " skipped=" ++ decimal d.objects.skipped
-    ++ codes " events=" ++ decimal (length d.events) ++ codes " premise=" ++ yes_or_no (lease_premise (doc_of d)) ++ codes "\n"
+    ++ objects_text d.objects ++ codes " events=" ++ decimal (length d.events) ++ premise_text (doc_of d)

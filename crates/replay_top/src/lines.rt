@@ -33,12 +33,21 @@ pub(crate) fn add_first(text: &mut Vec<u8>, document: &Document) -> Result<(), N
     add_number(text, u64::from(document.settings.beat_millis))?;
     add(text, b" end=")?;
     add_number(text, u64::from(document.settings.end_beat.0))?;
+    add_premise(text, document)
+}
+
+/// Adds whether the lease premise holds, and ends the line.
+#[tactic(auto, unfolding(crate::specs::Lines::premise_text))]
+pub(crate) fn add_premise(text: &mut Vec<u8>, document: &Document) -> Result<(), NoMemory>
+    requires { IsLawfulDoc (doc_of document.now) }
+    ensures { OnOk result (text.new.items ≡ text.old.items ++ spec.premise_text (doc_of document.now)) }
+{
     add(text, b" premise=")?;
     add(text, yes_or_no(lease_premise(document)))?;
     add(text, b"\n")
 }
 
-pub(crate) fn yes_or_no(holds: bool) -> &'static [u8]
+fn yes_or_no(holds: bool) -> &'static [u8]
     ensures { result.now ≡ spec.yes_or_no holds }
 {
     if holds { b"yes" } else { b"no" }

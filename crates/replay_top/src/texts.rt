@@ -1,11 +1,12 @@
 // Texts at the end of a buffer, and the texts that numbers stand for.
-ghost use Rattle.std.specs.Prelude.{◌≡◌, ◌++◌, IfOk, OnOk, codes, decimal};
+ghost use Rattle.std.specs.Prelude.{◌≡◌, ◌++◌, IfOk, OnOk, codes, decimal, map};
 ghost use Rattle.script_reader.specs.Documents.{doc_of};
 ghost use Rattle.replay_top.specs.Names.{text_of, process_names as names_in_order};
 ghost use Rattle.replay_top.specs.Lines.{time_text};
 
 use itoa::Buffer;
 use kube_base::{ListOf, Name, Names, NoMemory, Wall, write_seconds};
+use kube_objects::Proc;
 use script_reader::Document;
 use std::alloc::Global;
 
@@ -66,14 +67,39 @@ pub(crate) fn process_names(alloc: Global, document: &Document) -> Result<ListOf
     ensures { IfOk result (λ processes. processes ≡ names_in_order document.now.names (doc_of document.now)) }
 {
     let mut processes = ListOf::new(alloc);
-    for controller in document.controllers.as_slice() {
-        let name = name_of(&document.names, controller.name);
+    add_controllers(alloc, &mut processes, &document.names, document.controllers.as_slice())?;
+    add_kubelets(alloc, &mut processes, &document.names, document.kubelets.as_slice())?;
+    Ok(processes)
+}
+
+fn add_controllers(
+    alloc: Global,
+    processes: &mut ListOf<Name>,
+    names: &Names,
+    controllers: &[Proc],
+) -> Result<(), NoMemory>
+    ensures { OnOk result (processes.new ≡ processes.old ++ map (λ p. text_of names.now p.name) controllers.now) }
+{
+    for controller in controllers {
+        let name = name_of(names, controller.name);
         processes.push(Name::from_bytes(alloc, name)?)?;
     }
-    for kubelet in document.kubelets.as_slice() {
-        processes.push(kubelet_name(alloc, name_of(&document.names, kubelet.name))?)?;
+    Ok(())
+}
+
+fn add_kubelets(
+    alloc: Global,
+    processes: &mut ListOf<Name>,
+    names: &Names,
+    kubelets: &[Proc],
+) -> Result<(), NoMemory>
+    ensures { OnOk result (processes.new ≡ processes.old ++ map (λ p. codes "kubelet/" ++ text_of names.now p.name) kubelets.now) }
+{
+    for kubelet in kubelets {
+        let node = name_of(names, kubelet.name);
+        processes.push(kubelet_name(alloc, node)?)?;
     }
-    Ok(processes)
+    Ok(())
 }
 
 /// A kubelet's name, by that of its node.
