@@ -6,6 +6,7 @@ use Rattle.kube_objects.specs.declared.key.Kind.{Kind}
 use Rattle.kube_objects.specs.declared.key.Kind.TheVariants as kind
 use Rattle.kube_objects.specs.declared.object.Object.{Object}
 use Rattle.kube_objects.specs.Keys.{kind_rank}
+use Rattle.kube_objects.specs.Document.{Doc}
 use Rattle.manifest_json.specs.declared.list.Objects.{Objects}
 use Rattle.script_reader.specs.declared.document.Document.{Document}
 use Rattle.script_reader.specs.Documents.{doc_of}
@@ -21,8 +22,13 @@ objects_text o =
     codes " nodes=" ++ decimal (count_of kind.Node o.items) ++ codes " leases=" ++ decimal (count_of kind.Lease o.items)
     ++ codes " pods=" ++ decimal (count_of kind.Pod o.items) ++ codes " skipped=" ++ decimal o.skipped
 
--- the counts of processes, objects and events, and whether the lease premise holds
+-- the processes
+unfoldable pub processes_text : Doc → List ℕ
+processes_text doc = codes "controllers=" ++ decimal (length doc.controllers) ++ codes " kubelets=" ++ decimal (length doc.kubelets)
+
+unfoldable pub events_text : Doc → List ℕ
+events_text doc = codes " events=" ++ decimal (length doc.events)
+
+-- what the document has, and whether the lease premise holds
 unfoldable pub summary : Document → List ℕ
-summary d =
-    codes "ok controllers=" ++ decimal (length d.controllers) ++ codes " kubelets=" ++ decimal (length d.kubelets)
-    ++ objects_text d.objects ++ codes " events=" ++ decimal (length d.events) ++ premise_text (doc_of d)
+summary d = codes "ok " ++ processes_text (doc_of d) ++ objects_text d.objects ++ events_text (doc_of d) ++ premise_text (doc_of d)
