@@ -94,12 +94,7 @@ fn tell_usage<K: Sink>(sink: &mut K) -> Status
 }
 
 /// Reads the document and does what the command says.
-fn obey<S: Source, K: Sink>(
-    alloc: Global,
-    command: Command,
-    source: &mut S,
-    sink: &mut K,
-) -> Status
+fn obey<S: Source, K: Sink>(alloc: Global, command: Command, source: &mut S, sink: &mut K) -> Status
     ensures text { (bytes : List ℕ) → S.left source.old ≡ Some bytes → Ends (obeyed command bytes) (S.left source.new) (K.taken sink.old) (K.taken sink.new) result }
     ensures source_fault { result ≡ Status.SourceFault → Rose (S.faults source.old) (S.faults source.new) }
     ensures source_silent { result ≡ Status.SourceFault → K.taken sink.new ≡ K.taken sink.old }

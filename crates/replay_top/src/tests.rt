@@ -140,7 +140,14 @@ fn checks_documents(rt: HostRuntime) -> Result<(), Fail> {
 fn runs_controllers_and_leases_alone(rt: HostRuntime) -> Result<(), Fail> {
     for row in &rows::NOT_RUN {
         let case = ample(row.document.as_bytes());
-        expect(&rt, rt.alloc(), &["replay"], &case, Status::Refused, "refused 99 /\n")?;
+        expect(
+            &rt,
+            rt.alloc(),
+            &["replay"],
+            &case,
+            Status::Refused,
+            "refused 99 /\n",
+        )?;
     }
     expect_summaries(&rt, rt.alloc(), &rows::NOT_RUN)
 }
@@ -165,7 +172,9 @@ fn tells_the_usage(rt: HostRuntime) -> Result<(), Fail> {
     for words in [["replay", "x"], ["check", "x"]] {
         expect(&rt, rt.alloc(), &words, &case, Status::Usage, USAGE)?;
     }
-    for word in ["", "Replay", "replay ", "audit", "collect", "place", "--help"] {
+    for word in [
+        "", "Replay", "replay ", "audit", "collect", "place", "--help",
+    ] {
         expect(&rt, rt.alloc(), &[word], &case, Status::Usage, USAGE)?;
     }
     let words = ["generate", "01", "1", "0", "0"];
@@ -210,7 +219,14 @@ fn counts_faults_of_the_sink(rt: HostRuntime) -> Result<(), Fail> {
             ..ample(row.document.as_bytes())
         };
         let front = row.text.get(..room).ok_or("no text")?;
-        expect(&rt, rt.alloc(), &["replay"], &case, Status::SinkFault, front)?;
+        expect(
+            &rt,
+            rt.alloc(),
+            &["replay"],
+            &case,
+            Status::SinkFault,
+            front,
+        )?;
     }
     let exact = Case {
         room: whole.len(),

@@ -67,8 +67,18 @@ pub(crate) fn process_names(alloc: Global, document: &Document) -> Result<ListOf
     ensures { IfOk result (λ processes. processes ≡ names_in_order document.now.names (doc_of document.now)) }
 {
     let mut processes = ListOf::new(alloc);
-    add_controllers(alloc, &mut processes, &document.names, document.controllers.as_slice())?;
-    add_kubelets(alloc, &mut processes, &document.names, document.kubelets.as_slice())?;
+    add_controllers(
+        alloc,
+        &mut processes,
+        &document.names,
+        document.controllers.as_slice(),
+    )?;
+    add_kubelets(
+        alloc,
+        &mut processes,
+        &document.names,
+        document.kubelets.as_slice(),
+    )?;
     Ok(processes)
 }
 

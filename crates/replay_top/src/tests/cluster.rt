@@ -5,7 +5,8 @@ use std::test::Fail;
 
 /// A Node.
 fn node(alloc: Global, name: &str) -> Result<String, AllocError> {
-    format!(in alloc; r#"{{"apiVersion":"v1","kind":"Node","metadata":{{"creationTimestamp":"2023-11-02T09:00:00Z",
+    format!(in alloc;
+        r#"{{"apiVersion":"v1","kind":"Node","metadata":{{"creationTimestamp":"2023-11-02T09:00:00Z",
 "labels":{{"kubernetes.io/hostname":"{name}","topology.kubernetes.io/region":"us-east-1",
 "topology.kubernetes.io/zone":"us-east-1a"}},
 "managedFields":[{{"manager":"kubelet","operation":"Update"}}],"name":"{name}",
@@ -13,14 +14,17 @@ fn node(alloc: Global, name: &str) -> Result<String, AllocError> {
 "status":{{"conditions":[{{"type":"MemoryPressure","status":"False"}},
 {{"type":"Ready","status":"True","reason":"KubeletReady",
 "lastHeartbeatTime":"2023-12-31T23:58:00Z","lastTransitionTime":"2023-11-02T09:00:40Z"}}],
-"images":[{{"names":["registry.k8s.io/pause:3.9"],"sizeBytes":321520}}]}}}},"#)
+"images":[{{"names":["registry.k8s.io/pause:3.9"],"sizeBytes":321520}}]}}}},"#
+    )
 }
 
 /// A node's Lease.
 fn lease(alloc: Global, name: &str) -> Result<String, AllocError> {
-    format!(in alloc; r#"{{"apiVersion":"coordination.k8s.io/v1","kind":"Lease","metadata":{{"name":"{name}",
+    format!(in alloc;
+        r#"{{"apiVersion":"coordination.k8s.io/v1","kind":"Lease","metadata":{{"name":"{name}",
 "namespace":"kube-node-lease","ownerReferences":[{{"apiVersion":"v1","kind":"Node","name":"{name}"}}]}},
-"spec":{{"holderIdentity":"{name}","leaseDurationSeconds":40,"renewTime":"2023-12-31T23:59:55.000000Z"}}}},"#)
+"spec":{{"holderIdentity":"{name}","leaseDurationSeconds":40,"renewTime":"2023-12-31T23:59:55.000000Z"}}}},"#
+    )
 }
 
 /// A Pod on a node.
@@ -31,9 +35,11 @@ fn pod(
     node: &str,
     tolerations: &str,
 ) -> Result<String, AllocError> {
-    format!(in alloc; r#",{{"apiVersion":"v1","kind":"Pod","metadata":{{"name":"{name}","namespace":"{space}","uid":"91aa"}},
+    format!(in alloc;
+        r#",{{"apiVersion":"v1","kind":"Pod","metadata":{{"name":"{name}","namespace":"{space}","uid":"91aa"}},
 "spec":{{"containers":[{{"name":"main","image":"example/main:1"}}],"nodeName":"{node}",
-"tolerations":{tolerations}}},"status":{{"phase":"Running"}}}}"#)
+"tolerations":{tolerations}}},"status":{{"phase":"Running"}}}}"#
+    )
 }
 
 const FRONT: &str = r#"{"version":1,
@@ -46,7 +52,8 @@ const FRONT: &str = r#"{"version":1,
 const CONFIG: &str =
     r#"{"apiVersion":"v1","kind":"ConfigMap","metadata":{"name":"cfg","namespace":"default"}}"#;
 
-const FOR_A_WHILE: &str = r#"[{"effect":"NoExecute","key":"node.kubernetes.io/not-ready","operator":"Exists","tolerationSeconds":300},
+const FOR_A_WHILE: &str =
+    r#"[{"effect":"NoExecute","key":"node.kubernetes.io/not-ready","operator":"Exists","tolerationSeconds":300},
 {"effect":"NoExecute","key":"node.kubernetes.io/unreachable","operator":"Exists","tolerationSeconds":300}]"#;
 
 const ALWAYS: &str = r#"[{"operator":"Exists"}]"#;
@@ -78,7 +85,15 @@ fn cluster(alloc: Global) -> Result<String, AllocError> {
 fn checks_a_cluster(rt: HostRuntime) -> Result<(), Fail> {
     let text = cluster(rt.alloc())?;
     let case = ample(text.as_bytes());
-    let line = "ok controllers=2 kubelets=3 nodes=3 leases=3 pods=6 skipped=1 events=2 premise=yes\n";
+    let line =
+        "ok controllers=2 kubelets=3 nodes=3 leases=3 pods=6 skipped=1 events=2 premise=yes\n";
     expect(&rt, rt.alloc(), &["check"], &case, Status::Done, line)?;
-    expect(&rt, rt.alloc(), &["replay"], &case, Status::Refused, "refused 99 /\n")
+    expect(
+        &rt,
+        rt.alloc(),
+        &["replay"],
+        &case,
+        Status::Refused,
+        "refused 99 /\n",
+    )
 }

@@ -84,8 +84,22 @@ const EVENTS: (&str, &str) = (
 
 #[test]
 fn refuses_too_many_members(rt: HostRuntime) -> Result<(), Fail> {
-    expect_too_many(&rt, rt.alloc(), KUBELETS, KUBELET, 1_001, "refused 32 /kubelets\n")?;
-    expect_too_many(&rt, rt.alloc(), EVENTS, ("", ""), 100_001, "refused 32 /events\n")
+    expect_too_many(
+        &rt,
+        rt.alloc(),
+        KUBELETS,
+        KUBELET,
+        1_001,
+        "refused 32 /kubelets\n",
+    )?;
+    expect_too_many(
+        &rt,
+        rt.alloc(),
+        EVENTS,
+        ("", ""),
+        100_001,
+        "refused 32 /events\n",
+    )
 }
 
 /// So many brackets that open, and as many that close.
@@ -119,6 +133,20 @@ fn refuses_what_is_too_large(rt: HostRuntime) -> Result<(), Fail> {
     let most = large(&bytes[..16_777_216]);
     expect(&rt, rt.alloc(), &["replay"], &most, Status::Done, row.text)?;
     let more = large(&bytes);
-    expect(&rt, rt.alloc(), &["replay"], &more, Status::Refused, "refused 33 /\n")?;
-    expect(&rt, rt.alloc(), &["check"], &more, Status::Refused, "refused 33 /\n")
+    expect(
+        &rt,
+        rt.alloc(),
+        &["replay"],
+        &more,
+        Status::Refused,
+        "refused 33 /\n",
+    )?;
+    expect(
+        &rt,
+        rt.alloc(),
+        &["check"],
+        &more,
+        Status::Refused,
+        "refused 33 /\n",
+    )
 }

@@ -20,7 +20,7 @@ returns-in-Refused-clause-text g c bytes told =
     let before = g.K.Sink.taken c.args.sink.now in
     let after = g.K.Sink.taken c.refuse.new.sink in
     let ends : Ends (refused refusal []) (Some []) before after c.refuse.result
-      = subst (λ path. Ends (refused (record { code = refusal.code; path = path }) []) (Some []) before after c.refuse.result) c.as_slice.ensures (c.refuse.ensures.text []) in
+    = subst (λ path. Ends (refused (record { code = refusal.code; path = path }) []) (Some []) before after c.refuse.result) c.as_slice.ensures (c.refuse.ensures.text []) in
     ends-moved (refused refusal []) (obeyed command bytes) (Some []) (g.S.Source.left c.read.new.source) before after c.refuse.result (reads.1 command) reads.0 ends
 
 pub returns-in-TooLarge-clause-text : goal.returns-in-TooLarge-clause-text

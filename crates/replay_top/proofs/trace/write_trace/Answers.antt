@@ -18,7 +18,7 @@ returns-in-Ok-clause-all g c =
     let first = trace-first (doc_of d) names processes c.new-text.result.items c.start.new.text.items c.new-text.ensures.items c.in-Ok.ensures.text in
     let s = spoken-first before c.start.new.text.items (trace_before (doc_of d) names processes 0) first in
     let w : Written before after (trace_of (doc_of d) names processes) c.write_beats.result
-      = c.write_beats.ensures.written (doc_of d) before c.requires.lawful.few_events c.in-Ok.ensures.stands c.in-Ok.ensures.kept.2 s in
+    = c.write_beats.ensures.written (doc_of d) before c.requires.lawful.few_events c.in-Ok.ensures.stands c.in-Ok.ensures.kept.2 s in
     let named = trace-named d names processes c.in-Ok.ensures.names (c.as_slice.ensures ∙ c.in-Ok.ensures.processes) in
     written-all before after (trace d) c.write_beats.result (subst (λ l. Written before after l c.write_beats.result) named w)
 
@@ -32,7 +32,7 @@ returns-in-Ok-clause-front g c =
     let first = trace-first (doc_of d) names processes c.new-text.result.items c.start.new.text.items c.new-text.ensures.items c.in-Ok.ensures.text in
     let s = spoken-first before c.start.new.text.items (trace_before (doc_of d) names processes 0) first in
     let w : Written before after (trace_of (doc_of d) names processes) c.write_beats.result
-      = c.write_beats.ensures.written (doc_of d) before c.requires.lawful.few_events c.in-Ok.ensures.stands c.in-Ok.ensures.kept.2 s in
+    = c.write_beats.ensures.written (doc_of d) before c.requires.lawful.few_events c.in-Ok.ensures.stands c.in-Ok.ensures.kept.2 s in
     let named = trace-named d names processes c.in-Ok.ensures.names (c.as_slice.ensures ∙ c.in-Ok.ensures.processes) in
     written-front before after (trace d) c.write_beats.result (subst (λ l. Written before after l c.write_beats.result) named w)
 
