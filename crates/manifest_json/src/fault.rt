@@ -118,7 +118,7 @@ pub(crate) fn fault(code: u32, path: &Path) -> ReadFault
 }
 
 /// The fault with this code at a key below the path, unless memory runs out.
-pub(crate) fn fault_below(code: u32, path: &Path, key: &str) -> ReadFault
+pub fn fault_below(code: u32, path: &Path, key: &str) -> ReadFault
     ensures { IsFault code (path.now ++ key.now) result }
 {
     match path.below(key) {

@@ -175,7 +175,7 @@ pub(crate) fn signed(
 
 /// A text's number. A full table of names counts as want of memory.
 #[tactic(auto, unfolding(crate::specs::Fields::numbered))]
-pub(crate) fn number(names: &mut Names, text: &str) -> Result<u32, ReadFault>
+pub fn number(names: &mut Names, text: &str) -> Result<u32, ReadFault>
     ensures { Gives (λ n. (n, names.new)) result (spec.numbered names.old text.now) }
 {
     if names.len() >= u32::MAX as usize {

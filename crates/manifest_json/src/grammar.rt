@@ -4,7 +4,7 @@ ghost use Rattle.std.specs.List.{list_all};
 ghost use Rattle.manifest_json.specs.Fields as spec;
 
 /// Whether a text is an RFC 1123 subdomain of 1 to 253 bytes.
-pub(crate) fn is_name(text: &str) -> bool
+pub fn is_name(text: &str) -> bool
     ensures { result ≡ spec.is_name text.now }
 {
     match text.as_bytes().split_first() {

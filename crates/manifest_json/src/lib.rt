@@ -14,6 +14,8 @@ mod pod;
 #[cfg(test)]
 mod tests;
 
-pub use fault::{Path, ReadFault, Refusal};
+pub use fault::{Path, ReadFault, Refusal, fault_below};
+pub use field::number;
+pub use grammar::is_name;
 pub use list::{Objects, read_list};
 pub use object::read_object;

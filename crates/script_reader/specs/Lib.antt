@@ -1,3 +1,6 @@
+pub mod Cast
 pub mod Documents
+pub mod Fields
 pub mod Lawful
+pub mod Tables
 pub mod Walk

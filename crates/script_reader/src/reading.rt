@@ -1,14 +1,225 @@
 // The document in bytes.
+ghost use Rattle.std.specs.Prelude.{◌≡◌, ◌≤◌, ◌<◌, ◌^◌, [], codes, length, IfOk};
+ghost use Rattle.serde_json.specs.Find.{get};
+ghost use Rattle.serde_json.specs.View.{view};
 ghost use Rattle.manifest_json.specs.Faults.{Gives};
+ghost use Rattle.script_reader.specs.Cast.{Stands, AreNamed, seen};
+ghost use Rattle.script_reader.specs.Fields as fields;
+ghost use Rattle.script_reader.specs.Walk as walk;
 ghost use Rattle.script_reader.specs.Walk.{document_walk};
 
 use crate::Document;
-use manifest_json::ReadFault;
+use crate::cast::{Named, Players};
+use crate::event::events_in;
+use crate::field::{fault_at, object_at, path_of};
+use crate::process::{controllers_in, kubelets_in};
+use crate::settings::settings_at;
+use crate::table::{Table, Version, known_in};
+use kube_base::{Beat, Names};
+use kube_objects::{Events, Items, Settings};
+use manifest_json::{Objects, ReadFault, read_list};
+use serde_json::Value;
 use std::alloc::Global;
 
 /// The document in these bytes with its defaults, or the first refusal of the walk.
+#[tactic(auto, unfolding(crate::specs::Walk::document_walk))]
 pub fn read_document(alloc: Global, bytes: &[u8]) -> Result<Document, ReadFault>
     ensures { Gives (λ document. document) result (document_walk bytes.now) }
 {
-    Err(ReadFault::NoMemory)
+    let value = parse(alloc, bytes)?;
+    document_at(alloc, &value)
+}
+
+/// The JSON value of the bytes.
+fn parse(alloc: Global, bytes: &[u8]) -> Result<Value, ReadFault>
+    ensures { Gives view result (walk.data_of bytes.now) }
+{
+    match Value::from_slice(alloc, bytes) {
+        Ok(value) => Ok(value),
+        Err(error) => {
+            if error.is_memory() {
+                return Err(ReadFault::NoMemory);
+            }
+            Err(fault_at(alloc, 1, "/"))
+        }
+    }
+}
+
+/// The document of a JSON value.
+#[tactic(auto, unfolding(crate::specs::Walk::document_at))]
+fn document_at(alloc: Global, value: &Value) -> Result<Document, ReadFault>
+    ensures { Gives (λ document. document) result (walk.document_at (view value.now)) }
+{
+    top_in(alloc, value)?;
+    let version = version(alloc, value)?;
+    let settings = settings(alloc, version, value)?;
+    let mut names = Names::new(alloc)?;
+    let controllers = controllers(alloc, version, &settings, &mut names, value)?;
+    let kubelets = kubelets(alloc, &settings, &mut names, value)?;
+    let objects = objects(alloc, &mut names, controllers.known(), value)?;
+    let players = Players {
+        controllers,
+        kubelets,
+    };
+    let events = events(alloc, &players, settings.end_beat, &mut names, value)?;
+    let Players {
+        controllers,
+        kubelets,
+    } = players;
+    Ok(Document {
+        settings,
+        controllers: controllers.procs,
+        kubelets: kubelets.procs,
+        objects,
+        events,
+        names,
+    })
+}
+
+/// The value is an object with no unknown key.
+#[tactic(auto, unfolding(crate::specs::Walk::top_in))]
+fn top_in(alloc: Global, value: &Value) -> Result<(), ReadFault>
+    ensures { Gives (λ _. view value.now) result (walk.top_in (view value.now)) }
+{
+    let path = path_of(alloc, "/")?;
+    object_at(2, &path, value)?;
+    known_in(Table::Top, &path, value)
+}
+
+fn version(alloc: Global, value: &Value) -> Result<Version, ReadFault>
+    ensures { Gives (λ version. version) result
+        (fields.required (codes "/version") walk.version_in (get (codes "version") (view value.now))) }
+{
+    match value.get("version") {
+        Some(found) => version_in(alloc, found),
+        None => Err(fault_at(alloc, 4, "/version")),
+    }
+}
+
+/// The whole number 1 or 2.
+fn version_in(alloc: Global, found: &Value) -> Result<Version, ReadFault>
+    ensures { Gives (λ version. version) result (walk.version_in (view found.now)) }
+{
+    match found.as_u64() {
+        Some(n) => version_of(alloc, n),
+        None => match found.as_i64() {
+            Some(_) => Err(fault_at(alloc, 2, "/version")),
+            None => Err(fault_at(alloc, 5, "/version")),
+        },
+    }
+}
+
+fn version_of(alloc: Global, n: u64) -> Result<Version, ReadFault>
+    ensures { Gives (λ version. version) result (walk.version_of n) }
+{
+    if n == 1 {
+        Ok(Version::One)
+    } else if n == 2 {
+        Ok(Version::Two)
+    } else {
+        Err(fault_at(alloc, 2, "/version"))
+    }
+}
+
+fn settings(alloc: Global, version: Version, value: &Value) -> Result<Settings, ReadFault>
+    ensures { Gives (λ settings. settings) result
+        (fields.required (codes "/settings") (walk.settings_at version (codes "/settings")) (get (codes "settings") (view value.now))) }
+{
+    match value.get("settings") {
+        Some(found) => settings_in(alloc, version, found),
+        None => Err(fault_at(alloc, 4, "/settings")),
+    }
+}
+
+fn settings_in(alloc: Global, version: Version, found: &Value) -> Result<Settings, ReadFault>
+    ensures { Gives (λ settings. settings) result
+        (walk.settings_at version (codes "/settings") (view found.now)) }
+{
+    let path = path_of(alloc, "/settings")?;
+    settings_at(version, &path, found)
+}
+
+fn controllers(
+    alloc: Global,
+    version: Version,
+    settings: &Settings,
+    names: &mut Names,
+    value: &Value,
+) -> Result<Named, ReadFault>
+    ensures gives { Gives (λ named. (named.procs, names.new)) result
+        (fields.required (codes "/controllers") (walk.controllers_in version settings.now names.old) (get (codes "controllers") (view value.now))) }
+    ensures stands { IfOk result Stands }
+{
+    match value.get("controllers") {
+        Some(found) => controllers_in(alloc, version, settings, names, found),
+        None => Err(fault_at(alloc, 4, "/controllers")),
+    }
+}
+
+fn kubelets(
+    alloc: Global,
+    settings: &Settings,
+    names: &mut Names,
+    value: &Value,
+) -> Result<Named, ReadFault>
+    ensures gives { Gives (λ named. (named.procs, names.new)) result
+        (fields.default_of ([], names.old) (walk.kubelets_in settings.now names.old) (get (codes "kubelets") (view value.now))) }
+    ensures stands { IfOk result Stands }
+{
+    match value.get("kubelets") {
+        Some(found) => kubelets_in(alloc, settings, names, found),
+        None => Ok(Named::new(alloc)),
+    }
+}
+
+fn objects(
+    alloc: Global,
+    names: &mut Names,
+    known: &[u32],
+    value: &Value,
+) -> Result<Objects, ReadFault>
+    requires { length known.now ≤ 1000 }
+    ensures { Gives (λ objects. (objects, names.new)) result
+        (fields.default_of (walk.no_objects, names.old) (walk.objects_in names.old known.now) (get (codes "objects") (view value.now))) }
+{
+    match value.get("objects") {
+        Some(found) => objects_in(alloc, names, known, found),
+        None => Ok(Objects {
+            items: Items::new(alloc),
+            skipped: 0,
+        }),
+    }
+}
+
+#[tactic(auto, unfolding(crate::specs::Walk::objects_in))]
+fn objects_in(
+    alloc: Global,
+    names: &mut Names,
+    known: &[u32],
+    found: &Value,
+) -> Result<Objects, ReadFault>
+    requires { length known.now ≤ 1000 }
+    ensures { Gives (λ objects. (objects, names.new)) result
+        (walk.objects_in names.old known.now (view found.now)) }
+{
+    let path = path_of(alloc, "/objects")?;
+    let objects = read_list(alloc, names, known, found, &path)?;
+    Ok(objects)
+}
+
+fn events(
+    alloc: Global,
+    players: &Players,
+    end: Beat,
+    names: &mut Names,
+    value: &Value,
+) -> Result<Events, ReadFault>
+    requires { AreNamed players.now }
+    ensures { Gives (λ events. (events, names.new)) result
+        (fields.default_of ([], names.old) (walk.events_in (seen players.now) end.0 names.old) (get (codes "events") (view value.now))) }
+{
+    match value.get("events") {
+        Some(found) => events_in(alloc, players, end, names, found),
+        None => Ok(Events::new(alloc)),
+    }
 }

@@ -1,0 +1,158 @@
+-- One step of the walks over arrays.
+use Rattle.std.proofs.Common.{◌≡◌, ℕ, ◌+◌, ◌<◌, ◌≤◌, List, [], ◌∷◌, ◌++◌, length, drop, get_or, Result, Ok, Err, codes, refl, sym, ap, ◌∙◌, arith, append_assoc, Bool, true, false, cond, nat_lt}
+use Rattle.std.proofs.lemmas.Bool.{lt-ltb, ltb-true}
+use Rattle.serde_json.specs.Data.{Data, Items, item}
+use Rattle.serde_json.specs.View.{view, items_view}
+use Rattle.serde_json.specs.declared.value.Value.{Value}
+use Rattle.kube_objects.specs.declared.script.Event.{Event}
+use Rattle.kube_objects.specs.declared.script.Proc.{Proc}
+use Rattle.kube_objects.specs.declared.settings.Settings.{Settings}
+use Rattle.manifest_json.proofs.Loops.{items_view-drop, items_view-end, Fails-then}
+use Rattle.manifest_json.specs.declared.fault.Refusal.{Refusal}
+use Rattle.manifest_json.specs.declared.fault.ReadFault.{ReadFault}
+use Rattle.manifest_json.specs.Faults.{◌>>=◌, refuse, Fails}
+use Rattle.manifest_json.specs.Fields.{Texts}
+use Rattle.manifest_json.specs.Walk.{items_len, member_path}
+use Rattle.script_reader.specs.Fields.{at_most}
+use Rattle.script_reader.specs.Walk.{Cast, controller_at, controllers_from, kubelet_at, kubelets_from, event_at, events_from}
+use Rattle.script_reader.specs.declared.table.Version.{Version}
+
+items_len-view : (vs : List Value) → items_len (items_view vs) ≡ length vs
+items_len-view [] = refl
+items_len-view (v ∷ vs) = ap (λ n. 1 + n) (items_len-view vs) ∙ omega arith
+
+pub at_most-over : (most : ℕ) (path : List ℕ) (vs : List Value) → most < length vs → at_most most path (items_view vs) ≡ refuse 32 path
+at_most-over most path vs lt = ap (λ b. cond b (refuse 32 path) (Ok (items_view vs))) (ap (λ n. nat_lt most n) (items_len-view vs) ∙ lt-ltb most (length vs) lt)
+
+pub at_most-few : (most : ℕ) (path : List ℕ) (vs : List Value) → length vs ≤ most → at_most most path (items_view vs) ≡ Ok (items_view vs)
+at_most-few most path vs le = ap (λ b. cond b (refuse 32 path) (Ok (items_view vs))) (ap (λ n. nat_lt most n) (items_len-view vs) ∙ by (nat_lt most (length vs)) refl)
+  where
+    by : (b : Bool) → nat_lt most (length vs) ≡ b → nat_lt most (length vs) ≡ false
+    by false e = e
+    by true e = absurd (omega (arith, ltb-true most (length vs) e))
+
+-- ---- controllers and kubelets
+
+pub controllers_from-step : (version : Version) (settings : Settings) (names new : Texts) (place : ℕ) (earlier : List Proc) (d : Data) (rest : Items) (proc : Proc)
+    → controller_at version settings names (member_path [] (codes "/controllers/") place) earlier d ≡ Ok (proc, new)
+    → controllers_from version settings names place earlier (item d rest) ≡ controllers_from version settings new (place + 1) (earlier ++ proc ∷ []) rest
+unfolding controllers_from
+controllers_from-step version settings names new place earlier d rest proc h =
+    ap (λ r. r >>= λ next. controllers_from version settings next.1 (place + 1) (earlier ++ next.0 ∷ []) rest) h
+
+pub controllers_from-fails : (e : ReadFault) (version : Version) (settings : Settings) (names : Texts) (place : ℕ) (earlier : List Proc) (d : Data) (rest : Items)
+    → Fails e (controller_at version settings names (member_path [] (codes "/controllers/") place) earlier d)
+    → Fails e (controllers_from version settings names place earlier (item d rest))
+unfolding controllers_from
+controllers_from-fails e version settings names place earlier d rest h =
+    Fails-then e _ (λ next. controllers_from version settings next.1 (place + 1) (earlier ++ next.0 ∷ []) rest) h
+
+pub kubelets_from-step : (settings : Settings) (names new : Texts) (place : ℕ) (earlier : List Proc) (d : Data) (rest : Items) (proc : Proc)
+    → kubelet_at settings names (member_path [] (codes "/kubelets/") place) earlier d ≡ Ok (proc, new)
+    → kubelets_from settings names place earlier (item d rest) ≡ kubelets_from settings new (place + 1) (earlier ++ proc ∷ []) rest
+unfolding kubelets_from
+kubelets_from-step settings names new place earlier d rest proc h =
+    ap (λ r. r >>= λ next. kubelets_from settings next.1 (place + 1) (earlier ++ next.0 ∷ []) rest) h
+
+pub kubelets_from-fails : (e : ReadFault) (settings : Settings) (names : Texts) (place : ℕ) (earlier : List Proc) (d : Data) (rest : Items)
+    → Fails e (kubelet_at settings names (member_path [] (codes "/kubelets/") place) earlier d)
+    → Fails e (kubelets_from settings names place earlier (item d rest))
+unfolding kubelets_from
+kubelets_from-fails e settings names place earlier d rest h =
+    Fails-then e _ (λ next. kubelets_from settings next.1 (place + 1) (earlier ++ next.0 ∷ []) rest) h
+
+-- ---- events
+
+-- the events of a walk behind these
+abbrev pub behind_these : List Event → Result (List Event × Texts) Refusal → Result (List Event × Texts) Refusal
+behind_these done walk = walk >>= λ more. Ok (done ++ more.0, more.1)
+
+behind_none : (walk : Result (List Event × Texts) Refusal) → behind_these [] walk ≡ walk
+behind_none (Ok x) = refl
+behind_none (Err e) = refl
+
+behind_one : (done : List Event) (e : Event) (walk : Result (List Event × Texts) Refusal)
+    → behind_these done (walk >>= λ more. Ok (e ∷ more.0, more.1)) ≡ behind_these (done ++ e ∷ []) walk
+behind_one done e (Ok x) = ap (λ es. Ok (es, x.1)) (sym (append_assoc done (e ∷ []) x.0))
+behind_one done e (Err r) = refl
+
+events_from-step : (cast : Cast) (end : ℕ) (names new : Texts) (place last : ℕ) (done : List Event) (d : Data) (rest : Items) (event : Event)
+    → event_at cast end names last (member_path [] (codes "/events/") place) d ≡ Ok (event, new)
+    → behind_these done (events_from cast end names place last (item d rest)) ≡ behind_these (done ++ event ∷ []) (events_from cast end new (place + 1) event.beat.0 rest)
+unfolding events_from
+events_from-step cast end names new place last done d rest event h =
+    ap (λ r. behind_these done (r >>= λ next. events_from cast end next.1 (place + 1) next.0.beat.0 rest >>= λ more. Ok (next.0 ∷ more.0, more.1))) h
+    ∙ behind_one done event (events_from cast end new (place + 1) event.beat.0 rest)
+
+events_from-fails : (e : ReadFault) (cast : Cast) (end : ℕ) (names : Texts) (place last : ℕ) (done : List Event) (d : Data) (rest : Items)
+    → Fails e (event_at cast end names last (member_path [] (codes "/events/") place) d)
+    → Fails e (behind_these done (events_from cast end names place last (item d rest)))
+unfolding events_from
+events_from-fails e cast end names place last done d rest h =
+    Fails-then e _ (λ more. Ok (done ++ more.0, more.1))
+    (Fails-then e _ (λ next. events_from cast end next.1 (place + 1) next.0.beat.0 rest >>= λ more. Ok (next.0 ∷ more.0, more.1)) h)
+
+-- what a loop over an array knows of its next member
+module _ (names : Texts) (place : ℕ) (vs : List Value) where
+  module _ (version : Version) (settings : Settings) (earlier : List Proc) (start : Result (List Proc × Texts) Refusal)
+      (so_far : start ≡ controllers_from version settings names place earlier (items_view (drop place vs))) where
+    pub controllers-fail : (v : Value) (e : ReadFault) → place < length vs → v ≡ get_or vs place v
+        → Fails e (controller_at version settings names (member_path [] (codes "/controllers/") place) earlier (view v)) → Fails e start
+    controllers-fail v e lt is h = rw (so_far, items_view-drop vs place v lt (sym is)) (controllers_from-fails e version settings names place earlier (view v) _ h)
+
+    pub controllers-step : (v : Value) (new : Texts) (proc : Proc) (more : List Proc) → place < length vs → v ≡ get_or vs place v → more ≡ earlier ++ proc ∷ []
+        → controller_at version settings names (member_path [] (codes "/controllers/") place) earlier (view v) ≡ Ok (proc, new)
+        → start ≡ controllers_from version settings new (place + 1) more (items_view (drop (place + 1) vs))
+    controllers-step v new proc more lt is push h =
+        so_far ∙ ap (controllers_from version settings names place earlier) (items_view-drop vs place v lt (sym is))
+        ∙ controllers_from-step version settings names new place earlier (view v) _ proc h
+        ∙ ap (λ ps. controllers_from version settings new (place + 1) ps (items_view (drop (place + 1) vs))) (sym push)
+
+    pub controllers-end : length vs ≤ place → start ≡ Ok (earlier, names)
+    unfolding controllers_from
+    controllers-end le = so_far ∙ ap (controllers_from version settings names place earlier) (items_view-end vs place le)
+
+  module _ (settings : Settings) (earlier : List Proc) (start : Result (List Proc × Texts) Refusal)
+      (so_far : start ≡ kubelets_from settings names place earlier (items_view (drop place vs))) where
+    pub kubelets-fail : (v : Value) (e : ReadFault) → place < length vs → v ≡ get_or vs place v
+        → Fails e (kubelet_at settings names (member_path [] (codes "/kubelets/") place) earlier (view v)) → Fails e start
+    kubelets-fail v e lt is h = rw (so_far, items_view-drop vs place v lt (sym is)) (kubelets_from-fails e settings names place earlier (view v) _ h)
+
+    pub kubelets-step : (v : Value) (new : Texts) (proc : Proc) (more : List Proc) → place < length vs → v ≡ get_or vs place v → more ≡ earlier ++ proc ∷ []
+        → kubelet_at settings names (member_path [] (codes "/kubelets/") place) earlier (view v) ≡ Ok (proc, new)
+        → start ≡ kubelets_from settings new (place + 1) more (items_view (drop (place + 1) vs))
+    kubelets-step v new proc more lt is push h =
+        so_far ∙ ap (kubelets_from settings names place earlier) (items_view-drop vs place v lt (sym is))
+        ∙ kubelets_from-step settings names new place earlier (view v) _ proc h
+        ∙ ap (λ ps. kubelets_from settings new (place + 1) ps (items_view (drop (place + 1) vs))) (sym push)
+
+    pub kubelets-end : length vs ≤ place → start ≡ Ok (earlier, names)
+    unfolding kubelets_from
+    kubelets-end le = so_far ∙ ap (kubelets_from settings names place earlier) (items_view-end vs place le)
+
+  module _ (cast : Cast) (end last : ℕ) (done : List Event) (start : Result (List Event × Texts) Refusal)
+      (so_far : start ≡ behind_these done (events_from cast end names place last (items_view (drop place vs)))) where
+    pub events-fail : (v : Value) (e : ReadFault) → place < length vs → v ≡ get_or vs place v
+        → Fails e (event_at cast end names last (member_path [] (codes "/events/") place) (view v)) → Fails e start
+    events-fail v e lt is h = rw (so_far, items_view-drop vs place v lt (sym is)) (events_from-fails e cast end names place last done (view v) _ h)
+
+    pub events-step : (v : Value) (new : Texts) (event : Event) (more : List Event) → place < length vs → v ≡ get_or vs place v → more ≡ done ++ event ∷ []
+        → event_at cast end names last (member_path [] (codes "/events/") place) (view v) ≡ Ok (event, new)
+        → start ≡ behind_these more (events_from cast end new (place + 1) event.beat.0 (items_view (drop (place + 1) vs)))
+    events-step v new event more lt is push h =
+        so_far ∙ ap (λ ds. behind_these done (events_from cast end names place last ds)) (items_view-drop vs place v lt (sym is))
+        ∙ events_from-step cast end names new place last done (view v) _ event h
+        ∙ ap (λ es. behind_these es (events_from cast end new (place + 1) event.beat.0 (items_view (drop (place + 1) vs)))) (sym push)
+
+    pub events-end : length vs ≤ place → start ≡ Ok (done, names)
+    unfolding events_from
+    events-end le =
+        so_far ∙ ap (λ ds. behind_these done (events_from cast end names place last ds)) (items_view-end vs place le)
+        ∙ ap (λ es. Ok (es, names)) (append_empty done)
+      where
+        append_empty : (es : List Event) → es ++ [] ≡ es
+        append_empty [] = refl
+        append_empty (e ∷ es) = ap (λ xs. e ∷ xs) (append_empty es)
+
+pub events-start : (done : List Event) (walk : Result (List Event × Texts) Refusal) → done ≡ [] → walk ≡ behind_these done walk
+events-start done walk is = sym (behind_none walk) ∙ ap (λ es. behind_these es walk) (sym is)

@@ -1,0 +1,11 @@
+use Rattle.std.proofs.Common.{◌≡◌, drop}
+use Rattle.serde_json.specs.View.{items_view}
+use Rattle.script_reader.specs.Cast.{seen}
+use Rattle.script_reader.specs.Walk.{events_from}
+use Rattle.script_reader.proofs.Loops.{behind_these}
+use Rattle.script_reader.proofs.event.events_of.Given as goal
+
+-- what is left decides
+abbrev pub invariant-loop-place : goal.invariant-loop-place
+invariant-loop-place l =
+    events_from (seen l.players) l.end.0 l.initial.names 0 0 (items_view l.list) ≡ behind_these l.events (events_from (seen l.players) l.end.0 l.names l.place l.last (items_view (drop l.place l.list)))

@@ -1,0 +1,88 @@
+-- The keys of each object of a document. Source: profile.
+use Rattle.std.specs.Prelude.{ℕ, ◌&&◌, ◌||◌, Bool, true, false, List, codes, Option, Some, None, Result, Ok, if◌then◌else◌}
+use Rattle.std.specs.Str.{bytes_eq}
+use Rattle.serde_json.specs.Data.{Data, Members, no_members, member}
+use Rattle.serde_json.specs.Find.{as_object}
+use Rattle.manifest_json.specs.declared.fault.Refusal.{Refusal}
+use Rattle.manifest_json.specs.Faults.{refuse}
+use Rattle.script_reader.specs.declared.table.EventType.{EventType}
+use Rattle.script_reader.specs.declared.table.EventType.TheVariants as types
+use Rattle.script_reader.specs.declared.table.Table.{Table}
+use Rattle.script_reader.specs.declared.table.Table.TheVariants as tables
+use Rattle.script_reader.specs.declared.table.Version.{Version}
+use Rattle.script_reader.specs.declared.table.Version.TheVariants as versions
+
+-- keys of version 2 alone
+abbrev pub is_two : Version → Bool
+is_two versions.One = false
+is_two versions.Two = true
+
+abbrev pub is_top_key : List ℕ → Bool
+is_top_key key =
+    bytes_eq key (codes "version") || bytes_eq key (codes "settings") || bytes_eq key (codes "controllers")
+    || bytes_eq key (codes "kubelets") || bytes_eq key (codes "objects") || bytes_eq key (codes "events")
+
+abbrev pub is_beats_key : List ℕ → Bool
+is_beats_key key = bytes_eq key (codes "beatMillis") || bytes_eq key (codes "endBeat") || bytes_eq key (codes "epoch")
+
+abbrev pub is_timings_key : List ℕ → Bool
+is_timings_key key =
+    bytes_eq key (codes "leaseDurationSeconds") || bytes_eq key (codes "renewDeadlineMillis")
+    || bytes_eq key (codes "retryPeriodMillis") || bytes_eq key (codes "callTimeoutMillis")
+
+abbrev pub is_periods_key : List ℕ → Bool
+is_periods_key key =
+    bytes_eq key (codes "restartMillis") || bytes_eq key (codes "monitorPeriodMillis") || bytes_eq key (codes "gracePeriodMillis")
+    || bytes_eq key (codes "startupGraceMillis") || bytes_eq key (codes "nodeLeaseDurationSeconds")
+
+abbrev pub is_rates_key : List ℕ → Bool
+is_rates_key key =
+    bytes_eq key (codes "primaryRate") || bytes_eq key (codes "secondaryRate") || bytes_eq key (codes "largeZone")
+    || bytes_eq key (codes "unhealthyPercent")
+
+abbrev pub is_settings_key : Version → List ℕ → Bool
+is_settings_key version key =
+    is_beats_key key || is_timings_key key || is_periods_key key || is_rates_key key || bytes_eq key (codes "fastRenew")
+    || (is_two version && bytes_eq key (codes "ratePolicy"))
+
+abbrev pub is_clock_key : List ℕ → Bool
+is_clock_key key = bytes_eq key (codes "ratePpm") || bytes_eq key (codes "offsetMillis") || bytes_eq key (codes "up")
+
+abbrev pub is_controller_key : Version → List ℕ → Bool
+is_controller_key version key =
+    bytes_eq key (codes "name") || is_clock_key key || bytes_eq key (codes "watch") || (is_two version && is_timings_key key)
+
+abbrev pub is_kubelet_key : List ℕ → Bool
+is_kubelet_key key = bytes_eq key (codes "node") || is_clock_key key || bytes_eq key (codes "ready")
+
+-- a key of an event of this type, beside its beat and type
+abbrev pub is_type_key : EventType → List ℕ → Bool
+is_type_key types.Rate key = bytes_eq key (codes "process") || bytes_eq key (codes "ratePpm")
+is_type_key types.Delay key = bytes_eq key (codes "process") || bytes_eq key (codes "requestBeats") || bytes_eq key (codes "replyBeats")
+is_type_key types.Loss key = bytes_eq key (codes "process") || bytes_eq key (codes "requests") || bytes_eq key (codes "replies")
+is_type_key types.Crash key = bytes_eq key (codes "process")
+is_type_key types.Start key = bytes_eq key (codes "process")
+is_type_key types.Stop key = bytes_eq key (codes "process")
+is_type_key types.Watch key = bytes_eq key (codes "process") || bytes_eq key (codes "on")
+is_type_key types.Ready key = bytes_eq key (codes "process") || bytes_eq key (codes "status")
+is_type_key types.Put key = bytes_eq key (codes "object")
+is_type_key types.Remove key = bytes_eq key (codes "kind") || bytes_eq key (codes "namespace") || bytes_eq key (codes "name")
+
+abbrev pub is_key_of : Table → List ℕ → Bool
+is_key_of tables.Top key = is_top_key key
+is_key_of (tables.Settings version) key = is_settings_key version key
+is_key_of (tables.Controller version) key = is_controller_key version key
+is_key_of tables.Kubelet key = is_kubelet_key key
+is_key_of (tables.Event kind) key = bytes_eq key (codes "beat") || bytes_eq key (codes "type") || is_type_key kind key
+
+abbrev pub all_known : Table → Members → Bool
+all_known table no_members = true
+all_known table (member key d ms) = is_key_of table key && all_known table ms
+
+abbrev pub knows_members : Table → Option Members → Bool
+knows_members table None = true
+knows_members table (Some ms) = all_known table ms
+
+-- the value has no key that its table doesn't have
+abbrev pub known_in : Table → List ℕ → Data → Result Data Refusal
+known_in table path d = if knows_members table (as_object d) then Ok d else refuse 3 path

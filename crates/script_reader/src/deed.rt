@@ -1,0 +1,331 @@
+// What an event does, by its type.
+ghost use Rattle.std.specs.Prelude.{◌≡◌, codes};
+ghost use Rattle.serde_json.specs.Find.{get};
+ghost use Rattle.serde_json.specs.View.{view};
+ghost use Rattle.manifest_json.specs.Faults.{Gives};
+ghost use Rattle.script_reader.specs.Cast.{AreNamed, seen};
+ghost use Rattle.script_reader.specs.Fields as fields;
+ghost use Rattle.manifest_json.specs.Walk as manifests;
+ghost use Rattle.script_reader.specs.Walk as walk;
+
+use crate::cast::{Players, controller_named, kubelet_named, process_named};
+use crate::field::{fault_under, name_at, needed_flag, needed_posted, needed_text, needed_whole};
+use crate::process::named_at;
+use crate::table::EventType;
+use kube_base::{Names, ProcId};
+use kube_objects::{Key, Kind, Object, What};
+use manifest_json::{Path, ReadFault, number, read_object};
+use serde_json::Value;
+use std::alloc::Global;
+
+/// What an event of this type does.
+#[tactic(auto, unfolding(crate::specs::Walk::what_at))]
+pub(crate) fn what_at(
+    alloc: Global,
+    players: &Players,
+    names: &mut Names,
+    path: &Path,
+    kind: EventType,
+    value: &Value,
+) -> Result<What, ReadFault>
+    requires { AreNamed players.now }
+    ensures { Gives (λ what. (what, names.new)) result
+        (walk.what_at (seen players.now) names.old path.now kind (view value.now)) }
+{
+    match kind {
+        EventType::Rate => Ok(rate_at(players, names, path, value)?),
+        EventType::Delay => Ok(delay_at(players, names, path, value)?),
+        EventType::Loss => Ok(loss_at(players, names, path, value)?),
+        EventType::Crash => Ok(crash_at(players, names, path, value)?),
+        EventType::Start => Ok(start_at(players, names, path, value)?),
+        EventType::Stop => Ok(stop_at(players, names, path, value)?),
+        EventType::Watch => Ok(watch_at(players, names, path, value)?),
+        EventType::Ready => Ok(ready_at(players, names, path, value)?),
+        EventType::Put => put_at(alloc, players, names, path, value),
+        EventType::Remove => remove_at(names, path, value),
+    }
+}
+
+#[tactic(auto, unfolding(crate::specs::Walk::rate_at))]
+fn rate_at(
+    players: &Players,
+    names: &Names,
+    path: &Path,
+    value: &Value,
+) -> Result<What, ReadFault>
+    requires { AreNamed players.now }
+    ensures { Gives (λ what. what) result
+        (walk.rate_at (seen players.now) names.now path.now (view value.now)) }
+{
+    let id = process_at(players, names, path, value)?;
+    let ppm = needed_whole(500_000, 2_000_000, path, "ratePpm", value)?;
+    Ok(What::Rate(id, ppm))
+}
+
+#[tactic(auto, unfolding(crate::specs::Walk::delay_at))]
+fn delay_at(
+    players: &Players,
+    names: &Names,
+    path: &Path,
+    value: &Value,
+) -> Result<What, ReadFault>
+    requires { AreNamed players.now }
+    ensures { Gives (λ what. what) result
+        (walk.delay_at (seen players.now) names.now path.now (view value.now)) }
+{
+    let id = process_at(players, names, path, value)?;
+    let requests = needed_whole(1, 6_000, path, "requestBeats", value)?;
+    let replies = needed_whole(1, 6_000, path, "replyBeats", value)?;
+    Ok(What::Delay(id, requests, replies))
+}
+
+#[tactic(auto, unfolding(crate::specs::Walk::loss_at))]
+fn loss_at(
+    players: &Players,
+    names: &Names,
+    path: &Path,
+    value: &Value,
+) -> Result<What, ReadFault>
+    requires { AreNamed players.now }
+    ensures { Gives (λ what. what) result
+        (walk.loss_at (seen players.now) names.now path.now (view value.now)) }
+{
+    let id = process_at(players, names, path, value)?;
+    let requests = needed_flag(path, "requests", value)?;
+    let replies = needed_flag(path, "replies", value)?;
+    Ok(What::Loss(id, requests, replies))
+}
+
+#[tactic(auto, unfolding(crate::specs::Walk::crash_at))]
+fn crash_at(
+    players: &Players,
+    names: &Names,
+    path: &Path,
+    value: &Value,
+) -> Result<What, ReadFault>
+    requires { AreNamed players.now }
+    ensures { Gives (λ what. what) result
+        (walk.crash_at (seen players.now) names.now path.now (view value.now)) }
+{
+    let id = process_at(players, names, path, value)?;
+    Ok(What::Crash(id))
+}
+
+#[tactic(auto, unfolding(crate::specs::Walk::start_at))]
+fn start_at(
+    players: &Players,
+    names: &Names,
+    path: &Path,
+    value: &Value,
+) -> Result<What, ReadFault>
+    requires { AreNamed players.now }
+    ensures { Gives (λ what. what) result
+        (walk.start_at (seen players.now) names.now path.now (view value.now)) }
+{
+    let id = process_at(players, names, path, value)?;
+    Ok(What::Start(id))
+}
+
+#[tactic(auto, unfolding(crate::specs::Walk::stop_at))]
+fn stop_at(
+    players: &Players,
+    names: &Names,
+    path: &Path,
+    value: &Value,
+) -> Result<What, ReadFault>
+    requires { AreNamed players.now }
+    ensures { Gives (λ what. what) result
+        (walk.stop_at (seen players.now) names.now path.now (view value.now)) }
+{
+    let id = controller_at(players, names, path, value)?;
+    Ok(What::Stop(id))
+}
+
+#[tactic(auto, unfolding(crate::specs::Walk::watch_at))]
+fn watch_at(
+    players: &Players,
+    names: &Names,
+    path: &Path,
+    value: &Value,
+) -> Result<What, ReadFault>
+    requires { AreNamed players.now }
+    ensures { Gives (λ what. what) result
+        (walk.watch_at (seen players.now) names.now path.now (view value.now)) }
+{
+    let id = controller_at(players, names, path, value)?;
+    let on = needed_flag(path, "on", value)?;
+    Ok(What::Watch(id, on))
+}
+
+#[tactic(auto, unfolding(crate::specs::Walk::ready_at))]
+fn ready_at(
+    players: &Players,
+    names: &Names,
+    path: &Path,
+    value: &Value,
+) -> Result<What, ReadFault>
+    requires { AreNamed players.now }
+    ensures { Gives (λ what. what) result
+        (walk.ready_at (seen players.now) names.now path.now (view value.now)) }
+{
+    let id = kubelet_at(players, names, path, value)?;
+    let status = needed_posted(path, "status", value)?;
+    Ok(What::Ready(id, status))
+}
+
+/// Any process.
+#[tactic(auto, unfolding(crate::specs::Walk::process_at))]
+fn process_at(
+    players: &Players,
+    names: &Names,
+    path: &Path,
+    value: &Value,
+) -> Result<ProcId, ReadFault>
+    requires { AreNamed players.now }
+    ensures { Gives (λ id. id) result
+        (walk.process_at (walk.process_named (seen players.now) names.now) path.now (view value.now)) }
+{
+    let text = needed_text(path, "process", value)?;
+    match process_named(players, names, text) {
+        Some(id) => Ok(id),
+        None => Err(fault_under(8, path, "process")),
+    }
+}
+
+/// A controller.
+#[tactic(auto, unfolding(crate::specs::Walk::process_at))]
+fn controller_at(
+    players: &Players,
+    names: &Names,
+    path: &Path,
+    value: &Value,
+) -> Result<ProcId, ReadFault>
+    requires { AreNamed players.now }
+    ensures { Gives (λ id. id) result
+        (walk.process_at (walk.controller_named (seen players.now) names.now) path.now (view value.now)) }
+{
+    let text = needed_text(path, "process", value)?;
+    match controller_named(players, names, text) {
+        Some(id) => Ok(id),
+        None => Err(fault_under(8, path, "process")),
+    }
+}
+
+/// A kubelet.
+#[tactic(auto, unfolding(crate::specs::Walk::process_at))]
+fn kubelet_at(
+    players: &Players,
+    names: &Names,
+    path: &Path,
+    value: &Value,
+) -> Result<ProcId, ReadFault>
+    requires { AreNamed players.now }
+    ensures { Gives (λ id. id) result
+        (walk.process_at (walk.kubelet_named (seen players.now) names.now) path.now (view value.now)) }
+{
+    let text = needed_text(path, "process", value)?;
+    match kubelet_named(players, names, text) {
+        Some(id) => Ok(id),
+        None => Err(fault_under(8, path, "process")),
+    }
+}
+
+/// Puts an object.
+#[tactic(auto, unfolding(crate::specs::Walk::put_at))]
+fn put_at(
+    alloc: Global,
+    players: &Players,
+    names: &mut Names,
+    path: &Path,
+    value: &Value,
+) -> Result<What, ReadFault>
+    requires { AreNamed players.now }
+    ensures { Gives (λ what. (what, names.new)) result
+        (walk.put_at (seen players.now) names.old path.now (view value.now)) }
+{
+    let found = object_under(alloc, players, names, path, value)?;
+    Ok(What::Put(found.0, found.1))
+}
+
+/// The object that is put.
+fn object_under(
+    alloc: Global,
+    players: &Players,
+    names: &mut Names,
+    path: &Path,
+    value: &Value,
+) -> Result<(Key, Object), ReadFault>
+    requires { AreNamed players.now }
+    ensures { Gives (λ found. (found, names.new)) result
+        (walk.object_under (seen players.now) names.old path.now (view value.now)) }
+{
+    match value.get("object") {
+        Some(found) => object_in(alloc, players, names, path, found),
+        None => Err(fault_under(4, path, "object")),
+    }
+}
+
+fn object_in(
+    alloc: Global,
+    players: &Players,
+    names: &mut Names,
+    path: &Path,
+    found: &Value,
+) -> Result<(Key, Object), ReadFault>
+    requires { AreNamed players.now }
+    ensures { Gives (λ found. (found, names.new)) result
+        (manifests.object_walk names.old (seen players.now).controllers (fields.under path.now (codes "object")) (view found.now)) }
+{
+    let slash = path.below("/")?;
+    let here = slash.below("object")?;
+    read_object(alloc, names, players.controllers.known(), found, &here)
+}
+
+/// Removes what stands under a key.
+#[tactic(auto, unfolding(crate::specs::Walk::remove_at))]
+fn remove_at(names: &mut Names, path: &Path, value: &Value) -> Result<What, ReadFault>
+    ensures { Gives (λ what. (what, names.new)) result
+        (walk.remove_at names.old path.now (view value.now)) }
+{
+    let kind = kind_at(path, value)?;
+    let text = name_at("default", path, "namespace", value)?;
+    let space = space_of(names, kind, text)?;
+    let name = named_at(names, path, "name", value)?;
+    Ok(What::Remove(Key { kind, space, name }))
+}
+
+#[tactic(auto, unfolding(crate::specs::Walk::kind_at))]
+fn kind_at(path: &Path, value: &Value) -> Result<Kind, ReadFault>
+    ensures { Gives (λ kind. kind) result (walk.kind_at path.now (view value.now)) }
+{
+    let text = needed_text(path, "kind", value)?;
+    match kind_of(text) {
+        Some(kind) => Ok(kind),
+        None => Err(fault_under(6, path, "kind")),
+    }
+}
+
+fn kind_of(text: &str) -> Option<Kind>
+    ensures { result ≡ walk.kind_of text.now }
+{
+    if text == "Node" {
+        Some(Kind::Node)
+    } else if text == "Lease" {
+        Some(Kind::Lease)
+    } else if text == "Pod" {
+        Some(Kind::Pod)
+    } else {
+        None
+    }
+}
+
+/// The number of a namespace. A Node has none.
+fn space_of(names: &mut Names, kind: Kind, text: &str) -> Result<u32, ReadFault>
+    ensures { Gives (λ n. (n, names.new)) result (walk.space_of names.old kind text.now) }
+{
+    match kind {
+        Kind::Node => Ok(0),
+        Kind::Lease => number(names, text),
+        Kind::Pod => number(names, text),
+    }
+}

@@ -1,0 +1,269 @@
+// Controllers and kubelets.
+ghost use Rattle.std.specs.Prelude.{◌≡◌, ◌≤◌, [], codes, false, length, IfOk};
+ghost use Rattle.serde_json.specs.View.{view, items_view};
+ghost use Rattle.manifest_json.specs.Faults.{Gives};
+ghost use Rattle.manifest_json.specs.Walk.{member_path};
+ghost use Rattle.script_reader.specs.Cast.{Stands};
+ghost use Rattle.script_reader.specs.Walk as walk;
+
+use crate::cast::Named;
+use crate::field::{
+    array_in, fault, fault_under, flag_at, member_of, needed_name, path_of, posted_at, signed_at,
+    whole_at,
+};
+use crate::parts::{Clock, Timings};
+use crate::settings::{is_sound, timings_at, timings_of};
+use crate::table::{Table, Version, object_in};
+use kube_base::Names;
+use kube_objects::{Proc, ReadyStatus, Settings};
+use manifest_json::{Path, ReadFault, number};
+use serde_json::Value;
+use std::alloc::Global;
+
+/// The number of a name under a key that is required.
+#[tactic(auto, unfolding(crate::specs::Walk::named_at))]
+pub(crate) fn named_at(
+    names: &mut Names,
+    path: &Path,
+    key: &str,
+    value: &Value,
+) -> Result<u32, ReadFault>
+    ensures { Gives (λ n. (n, names.new)) result
+        (walk.named_at names.old path.now key.now (view value.now)) }
+{
+    let text = needed_name(path, key, value)?;
+    number(names, text)
+}
+
+#[tactic(auto, unfolding(crate::specs::Walk::clock_at))]
+fn clock_at(path: &Path, value: &Value) -> Result<Clock, ReadFault>
+    ensures { Gives (λ clock. clock) result (walk.clock_at path.now (view value.now)) }
+{
+    let rate_ppm = whole_at(1_000_000, 500_000, 2_000_000, path, "ratePpm", value)?;
+    let offset_millis = signed_at(
+        0,
+        -31_536_000_000,
+        31_536_000_000,
+        path,
+        "offsetMillis",
+        value,
+    )?;
+    let up = flag_at(true, path, "up", value)?;
+    Ok(Clock {
+        rate_ppm,
+        offset_millis,
+        up,
+    })
+}
+
+/// One to 16 controllers.
+#[tactic(auto, unfolding(crate::specs::Walk::controllers_in))]
+pub(crate) fn controllers_in(
+    alloc: Global,
+    version: Version,
+    settings: &Settings,
+    names: &mut Names,
+    value: &Value,
+) -> Result<Named, ReadFault>
+    ensures gives { Gives (λ named. (named.procs, names.new)) result
+        (walk.controllers_in version settings.now names.old (view value.now)) }
+    ensures stands { IfOk result Stands }
+{
+    let path = path_of(alloc, "/controllers")?;
+    let all = array_in(16, &path, value)?;
+    let some = not_empty(&path, all)?;
+    controllers_of(alloc, version, settings, names, some)
+}
+
+fn not_empty<'v>(path: &Path, list: &'v [Value]) -> Result<&'v [Value], ReadFault>
+    ensures gives { Gives (λ some. items_view some.now) result
+        (walk.not_empty path.now (items_view list.now)) }
+    ensures same { IfOk result (λ some. some.now ≡ list.now) }
+{
+    match list.first() {
+        Some(_) => Ok(list),
+        None => Err(fault(6, path)),
+    }
+}
+
+fn controllers_of(
+    alloc: Global,
+    version: Version,
+    settings: &Settings,
+    names: &mut Names,
+    list: &[Value],
+) -> Result<Named, ReadFault>
+    requires { length list.now ≤ 1000 }
+    ensures gives { Gives (λ named. (named.procs, names.new)) result
+        (walk.controllers_from version settings.now names.old 0 [] (items_view list.now)) }
+    ensures stands { IfOk result Stands }
+{
+    let mut named = Named::new(alloc);
+    for (place, value) in list.iter().enumerate() {
+        match controller_in(alloc, version, settings, names, place, &named, value) {
+            Ok(controller) => named.push(controller)?,
+            Err(fault) => return Err(fault),
+        }
+    }
+    Ok(named)
+}
+
+fn controller_in(
+    alloc: Global,
+    version: Version,
+    settings: &Settings,
+    names: &mut Names,
+    place: usize,
+    earlier: &Named,
+    value: &Value,
+) -> Result<Proc, ReadFault>
+    requires { Stands earlier.now }
+    ensures gives { Gives (λ proc. (proc, names.new)) result
+        (walk.controller_at version settings.now names.old (member_path [] (codes "/controllers/") place) earlier.now.procs (view value.now)) }
+    ensures fresh { IfOk result (λ proc. walk.has_name proc.name earlier.now.procs ≡ false) }
+{
+    let path = member_of(alloc, "/controllers/", place)?;
+    controller_at(version, settings, names, &path, earlier, value)
+}
+
+/// A controller behind earlier ones.
+#[tactic(auto, unfolding(crate::specs::Walk::controller_at))]
+fn controller_at(
+    version: Version,
+    settings: &Settings,
+    names: &mut Names,
+    path: &Path,
+    earlier: &Named,
+    value: &Value,
+) -> Result<Proc, ReadFault>
+    requires { Stands earlier.now }
+    ensures gives { Gives (λ proc. (proc, names.new)) result
+        (walk.controller_at version settings.now names.old path.now earlier.now.procs (view value.now)) }
+    ensures fresh { IfOk result (λ proc. walk.has_name proc.name earlier.now.procs ≡ false) }
+{
+    object_in(Table::Controller(version), path, value)?;
+    let name = named_at(names, path, "name", value)?;
+    let clock = clock_at(path, value)?;
+    let watch = flag_at(true, path, "watch", value)?;
+    let timings = timings_at(timings_of(settings), path, value)?;
+    if earlier.has(name) {
+        return Err(fault_under(31, path, "name"));
+    }
+    if !is_sound(timings) {
+        return Err(fault(7, path));
+    }
+    Ok(controller_of(name, clock, watch, timings))
+}
+
+fn controller_of(name: u32, clock: Clock, watch: bool, timings: Timings) -> Proc
+    ensures { result ≡ walk.controller_of name clock watch timings }
+{
+    Proc {
+        name,
+        rate_ppm: clock.rate_ppm,
+        offset_millis: clock.offset_millis,
+        up: clock.up,
+        watch,
+        ready: ReadyStatus::True,
+        lease_seconds: timings.lease_seconds,
+        renew_millis: timings.renew_millis,
+        retry_millis: timings.retry_millis,
+        timeout_millis: timings.timeout_millis,
+    }
+}
+
+/// At most 1,000 kubelets.
+#[tactic(auto, unfolding(crate::specs::Walk::kubelets_in))]
+pub(crate) fn kubelets_in(
+    alloc: Global,
+    settings: &Settings,
+    names: &mut Names,
+    value: &Value,
+) -> Result<Named, ReadFault>
+    ensures gives { Gives (λ named. (named.procs, names.new)) result
+        (walk.kubelets_in settings.now names.old (view value.now)) }
+    ensures stands { IfOk result Stands }
+{
+    let path = path_of(alloc, "/kubelets")?;
+    let all = array_in(1_000, &path, value)?;
+    kubelets_of(alloc, settings, names, all)
+}
+
+fn kubelets_of(
+    alloc: Global,
+    settings: &Settings,
+    names: &mut Names,
+    list: &[Value],
+) -> Result<Named, ReadFault>
+    requires { length list.now ≤ 1000 }
+    ensures gives { Gives (λ named. (named.procs, names.new)) result
+        (walk.kubelets_from settings.now names.old 0 [] (items_view list.now)) }
+    ensures stands { IfOk result Stands }
+{
+    let mut named = Named::new(alloc);
+    for (place, value) in list.iter().enumerate() {
+        match kubelet_in(alloc, settings, names, place, &named, value) {
+            Ok(kubelet) => named.push(kubelet)?,
+            Err(fault) => return Err(fault),
+        }
+    }
+    Ok(named)
+}
+
+fn kubelet_in(
+    alloc: Global,
+    settings: &Settings,
+    names: &mut Names,
+    place: usize,
+    earlier: &Named,
+    value: &Value,
+) -> Result<Proc, ReadFault>
+    requires { Stands earlier.now }
+    ensures gives { Gives (λ proc. (proc, names.new)) result
+        (walk.kubelet_at settings.now names.old (member_path [] (codes "/kubelets/") place) earlier.now.procs (view value.now)) }
+    ensures fresh { IfOk result (λ proc. walk.has_name proc.name earlier.now.procs ≡ false) }
+{
+    let path = member_of(alloc, "/kubelets/", place)?;
+    kubelet_at(settings, names, &path, earlier, value)
+}
+
+/// A kubelet behind earlier ones.
+#[tactic(auto, unfolding(crate::specs::Walk::kubelet_at))]
+fn kubelet_at(
+    settings: &Settings,
+    names: &mut Names,
+    path: &Path,
+    earlier: &Named,
+    value: &Value,
+) -> Result<Proc, ReadFault>
+    requires { Stands earlier.now }
+    ensures gives { Gives (λ proc. (proc, names.new)) result
+        (walk.kubelet_at settings.now names.old path.now earlier.now.procs (view value.now)) }
+    ensures fresh { IfOk result (λ proc. walk.has_name proc.name earlier.now.procs ≡ false) }
+{
+    object_in(Table::Kubelet, path, value)?;
+    let name = named_at(names, path, "node", value)?;
+    let clock = clock_at(path, value)?;
+    let ready = posted_at(path, "ready", value)?;
+    if earlier.has(name) {
+        return Err(fault_under(31, path, "node"));
+    }
+    Ok(kubelet_of(name, clock, ready, timings_of(settings)))
+}
+
+fn kubelet_of(name: u32, clock: Clock, ready: ReadyStatus, timings: Timings) -> Proc
+    ensures { result ≡ walk.kubelet_of name clock ready timings }
+{
+    Proc {
+        name,
+        rate_ppm: clock.rate_ppm,
+        offset_millis: clock.offset_millis,
+        up: clock.up,
+        watch: true,
+        ready,
+        lease_seconds: timings.lease_seconds,
+        renew_millis: timings.renew_millis,
+        retry_millis: timings.retry_millis,
+        timeout_millis: timings.timeout_millis,
+    }
+}

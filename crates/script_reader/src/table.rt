@@ -1,0 +1,199 @@
+// The tables of a document: its versions, the types of its events, and the keys of its objects.
+ghost use Rattle.std.specs.Prelude.{◌≡◌};
+ghost use Rattle.serde_json.specs.Find.{as_object};
+ghost use Rattle.serde_json.specs.View.{view, members_view};
+ghost use Rattle.manifest_json.specs.Faults.{Gives};
+ghost use Rattle.script_reader.specs.Tables as spec;
+ghost use Rattle.script_reader.specs.Walk as walk;
+
+use crate::field::{fault, object_at};
+use manifest_json::{Path, ReadFault};
+use serde_json::{Map, Value};
+
+/// The versions of a document.
+#[derive(Clone, Copy, Debug, PartialEq, Eq)]
+pub(crate) enum Version {
+    One,
+    Two,
+}
+
+/// The types of events.
+#[derive(Clone, Copy, Debug, PartialEq, Eq)]
+pub(crate) enum EventType {
+    Rate,
+    Delay,
+    Loss,
+    Crash,
+    Start,
+    Stop,
+    Watch,
+    Ready,
+    Put,
+    Remove,
+}
+
+/// The objects of a document.
+#[derive(Clone, Copy, Debug)]
+pub(crate) enum Table {
+    Top,
+    Settings(Version),
+    Controller(Version),
+    Kubelet,
+    Event(EventType),
+}
+
+/// The value is an object with no key that its table doesn't have.
+#[tactic(auto, unfolding(crate::specs::Walk::object_in))]
+pub(crate) fn object_in(table: Table, path: &Path, value: &Value) -> Result<(), ReadFault>
+    ensures { Gives (λ _. view value.now) result (walk.object_in table path.now (view value.now)) }
+{
+    object_at(5, path, value)?;
+    known_in(table, path, value)
+}
+
+/// The value has no key that its table doesn't have.
+pub(crate) fn known_in(table: Table, path: &Path, value: &Value) -> Result<(), ReadFault>
+    ensures { Gives (λ _. view value.now) result (spec.known_in table path.now (view value.now)) }
+{
+    if knows_members(table, value) {
+        Ok(())
+    } else {
+        Err(fault(3, path))
+    }
+}
+
+fn knows_members(table: Table, value: &Value) -> bool
+    ensures { result ≡ spec.knows_members table (as_object (view value.now)) }
+{
+    match value.as_object() {
+        Some(members) => all_known(table, members),
+        None => true,
+    }
+}
+
+fn all_known(table: Table, members: &Map<String, Value>) -> bool
+    ensures { result ≡ spec.all_known table (members_view members.now.entries) }
+{
+    for (key, _) in members {
+        if !is_key_of(table, key.as_str()) {
+            return false;
+        }
+    }
+    true
+}
+
+fn is_key_of(table: Table, key: &str) -> bool
+    ensures { result ≡ spec.is_key_of table key.now }
+{
+    match table {
+        Table::Top => is_top_key(key),
+        Table::Settings(version) => is_settings_key(version, key),
+        Table::Controller(version) => is_controller_key(version, key),
+        Table::Kubelet => is_kubelet_key(key),
+        Table::Event(kind) => key == "beat" || key == "type" || is_type_key(kind, key),
+    }
+}
+
+fn is_two(version: Version) -> bool
+    ensures { result ≡ spec.is_two version }
+{
+    match version {
+        Version::One => false,
+        Version::Two => true,
+    }
+}
+
+fn is_top_key(key: &str) -> bool
+    ensures { result ≡ spec.is_top_key key.now }
+{
+    key == "version"
+        || key == "settings"
+        || key == "controllers"
+        || key == "kubelets"
+        || key == "objects"
+        || key == "events"
+}
+
+fn is_beats_key(key: &str) -> bool
+    ensures { result ≡ spec.is_beats_key key.now }
+{
+    key == "beatMillis" || key == "endBeat" || key == "epoch"
+}
+
+fn is_timings_key(key: &str) -> bool
+    ensures { result ≡ spec.is_timings_key key.now }
+{
+    key == "leaseDurationSeconds"
+        || key == "renewDeadlineMillis"
+        || key == "retryPeriodMillis"
+        || key == "callTimeoutMillis"
+}
+
+fn is_periods_key(key: &str) -> bool
+    ensures { result ≡ spec.is_periods_key key.now }
+{
+    key == "restartMillis"
+        || key == "monitorPeriodMillis"
+        || key == "gracePeriodMillis"
+        || key == "startupGraceMillis"
+        || key == "nodeLeaseDurationSeconds"
+}
+
+fn is_rates_key(key: &str) -> bool
+    ensures { result ≡ spec.is_rates_key key.now }
+{
+    key == "primaryRate"
+        || key == "secondaryRate"
+        || key == "largeZone"
+        || key == "unhealthyPercent"
+}
+
+fn is_settings_key(version: Version, key: &str) -> bool
+    ensures { result ≡ spec.is_settings_key version key.now }
+{
+    is_beats_key(key)
+        || is_timings_key(key)
+        || is_periods_key(key)
+        || is_rates_key(key)
+        || key == "fastRenew"
+        || (is_two(version) && key == "ratePolicy")
+}
+
+fn is_clock_key(key: &str) -> bool
+    ensures { result ≡ spec.is_clock_key key.now }
+{
+    key == "ratePpm" || key == "offsetMillis" || key == "up"
+}
+
+fn is_controller_key(version: Version, key: &str) -> bool
+    ensures { result ≡ spec.is_controller_key version key.now }
+{
+    key == "name"
+        || is_clock_key(key)
+        || key == "watch"
+        || (is_two(version) && is_timings_key(key))
+}
+
+fn is_kubelet_key(key: &str) -> bool
+    ensures { result ≡ spec.is_kubelet_key key.now }
+{
+    key == "node" || is_clock_key(key) || key == "ready"
+}
+
+/// Whether an event of this type has this key, beside its beat and type.
+fn is_type_key(kind: EventType, key: &str) -> bool
+    ensures { result ≡ spec.is_type_key kind key.now }
+{
+    match kind {
+        EventType::Rate => key == "process" || key == "ratePpm",
+        EventType::Delay => key == "process" || key == "requestBeats" || key == "replyBeats",
+        EventType::Loss => key == "process" || key == "requests" || key == "replies",
+        EventType::Crash => key == "process",
+        EventType::Start => key == "process",
+        EventType::Stop => key == "process",
+        EventType::Watch => key == "process" || key == "on",
+        EventType::Ready => key == "process" || key == "status",
+        EventType::Put => key == "object",
+        EventType::Remove => key == "kind" || key == "namespace" || key == "name",
+    }
+}
