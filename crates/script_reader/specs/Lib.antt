@@ -1,6 +1,8 @@
 pub mod Cast
+pub mod ClockRates
 pub mod Documents
 pub mod Fields
 pub mod Lawful
+pub mod Laws
 pub mod Tables
 pub mod Walk

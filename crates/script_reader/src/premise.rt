@@ -1,0 +1,118 @@
+// The lease premise of a document.
+ghost use Rattle.std.specs.Prelude.{◌≡◌, ℕ, ◌+◌, ◌*◌, ◌<◌, nat_lt, length, Option, None};
+ghost use Rattle.kube_objects.specs.Document.{end_beat, of_seconds, of_millis};
+ghost use Rattle.history.specs.Premise.{least_rate, greatest_rate, is_long, lease_premise};
+ghost use Rattle.script_reader.specs.Documents.{doc_of};
+ghost use Rattle.script_reader.specs.ClockRates.{Spans, with_earlier};
+
+use crate::Document;
+use kube_base::Beat;
+use kube_objects::What;
+
+// The least and greatest of a clock's rates from a beat on, in parts per million.
+#[derive(Clone, Copy, Debug)]
+struct ClockRates {
+    from: u64,
+    least: u32,
+    greatest: u32,
+}
+
+impl ClockRates {
+    // No rates: those from the beat behind the end on.
+    fn none(end: Beat) -> ClockRates
+        ensures { Spans end.0 (λ k. None) result }
+    {
+        ClockRates {
+            from: u64::from(end.0) + 1,
+            least: u32::MAX,
+            greatest: 0,
+        }
+    }
+
+    // With a rate that is set at a beat, before all of these in the document's order.
+    fn with_earlier(self, beat: Beat, ppm: u32) -> ClockRates
+        ensures { (end : ℕ) (later : ℕ → Option ℕ) → Spans end later self → Spans end (with_earlier beat.0 ppm later) result }
+    {
+        if self.from <= u64::from(beat.0) {
+            return self;
+        }
+        ClockRates {
+            from: u64::from(beat.0),
+            least: self.least.min(ppm),
+            greatest: self.greatest.max(ppm),
+        }
+    }
+}
+
+// The rates of a controller's clock at the beats up to the end.
+fn rates_of(document: &Document, controller: usize) -> ClockRates
+    requires { controller < length document.now.controllers }
+    ensures least { result.least ≡ least_rate (doc_of document.now) controller (end_beat (doc_of document.now)) }
+    ensures greatest { result.greatest ≡ greatest_rate (doc_of document.now) controller (end_beat (doc_of document.now)) }
+{
+    let events = document.events.as_slice();
+    let mut rates = ClockRates::none(document.settings.end_beat);
+    for place in (0..events.len()).rev() {
+        let event = &events[place];
+        if let What::Rate(id, ppm) = event.what
+            && id.0 as usize == controller
+        {
+            rates = rates.with_earlier(event.beat, ppm);
+        }
+    }
+    rates.with_earlier(
+        Beat(0),
+        document.controllers.as_slice()[controller].rate_ppm,
+    )
+}
+
+// Whether a lease in seconds at the least rate outlasts the times in milliseconds at the greatest rate.
+fn outlasts(
+    lease_seconds: u32,
+    timeout_millis: u32,
+    retry_millis: u32,
+    renew_millis: u32,
+    least: u32,
+    greatest: u32,
+) -> bool
+    ensures { result ≡ nat_lt ((of_millis timeout_millis + of_millis retry_millis + of_millis renew_millis) * greatest) (of_seconds lease_seconds * least) }
+{
+    let acting = u128::from(timeout_millis) + u128::from(retry_millis) + u128::from(renew_millis);
+    let lease = u128::from(lease_seconds) * 1000;
+    acting * u128::from(greatest) < lease * u128::from(least)
+}
+
+// Whether a controller's lease is long enough for a greatest rate of any controller.
+fn is_long(document: &Document, controller: usize, greatest: u32) -> bool
+    requires { controller < length document.now.controllers }
+    ensures { result ≡ is_long (doc_of document.now) greatest controller }
+{
+    let process = document.controllers.as_slice()[controller];
+    outlasts(
+        process.lease_seconds,
+        process.timeout_millis,
+        process.retry_millis,
+        process.renew_millis,
+        rates_of(document, controller).least,
+        greatest,
+    )
+}
+
+/// Whether every controller's lease outlasts what a leader may act on after its last sent success, at any clock rates of the document. Takes no memory.
+pub fn lease_premise(document: &Document) -> bool
+    ensures { result ≡ lease_premise (doc_of document.now) }
+{
+    let controllers = document.controllers.as_slice().len();
+    let mut greatest = 0;
+    for controller in 0..controllers {
+        greatest = rates_of(document, controller).greatest.max(greatest);
+    }
+    let mut long = true;
+    for controller in 0..controllers {
+        long = long && is_long(document, controller, greatest);
+    }
+    long
+}
+
+#[cfg(test)]
+mod tests;
