@@ -8,13 +8,13 @@ use Rattle.kube_objects.specs.InFlight.{requests_due, replies_due, is_due}
 use Rattle.kube_objects.specs.Wire.{Sent, reply_delay, loses_replies, arrival, reply_arrival}
 use Rattle.history.specs.Due.{answer_all, deliver_all}
 use Rattle.history.specs.History.{beat}
-use Rattle.history.specs.Steps.{start_first, starts_below, first_starts, happen_all, answered, step_two, step_three, turns}
+use Rattle.history.specs.Steps.{start_first, starts_below, first_starts, step_one, answered, step_two, step_three, turns}
 use Rattle.history.proofs.Due.{step_two-due, step_three-due}
 use Rattle.wire_calls.proofs.Frames.{wire-next-beat}
 use Rattle.world_core.specs.declared.world.World.{World}
 use Rattle.world_core.specs.Plain.{IsFew}
-use Rattle.world_core.specs.Worlds.{WorldWithin, WorldStands}
-use Rattle.world_core.proofs.Grows.{Grows, grows-on, grows-same, grows-entry, grows-turns, few-before}
+use Rattle.world_core.specs.Worlds.{WorldWithin, IsPlaced, WorldStands}
+use Rattle.world_core.proofs.Grows.{Grows, grows-on, grows-same, grows-entry, grows-happen_all, grows-turns, few-before}
 use Rattle.world_core.proofs.Loops.{grows-deliver_all}
 
 -- ---- starts send nothing
@@ -48,7 +48,7 @@ replies-starts doc (suc k) j h = refl
 never-now : (k delay : ℕ) → 1 ≤ delay → ((k + delay) == k) ≡ false
 never-now k delay later = grind (arith, nat_tests)
 
-not_due : (lost : Bool) (k delay : ℕ) → 1 ≤ delay → is_due k (arrival lost k delay) ≡ false
+pub not_due : (lost : Bool) (k delay : ℕ) → 1 ≤ delay → is_due k (arrival lost k delay) ≡ false
 not_due true k delay later = refl
 not_due false k delay later = never-now k delay later
 
@@ -63,10 +63,10 @@ grows-answer_all : (k : ℕ) (ss : List Sent) (h : List Entry) → Grows h (answ
 grows-answer_all k [] h = grows-same h
 grows-answer_all k (s ∷ ss) h = grows-on h (answered k s h) (answer_all k ss (answered k s h)) (grows-entry _ h) (grows-answer_all k ss (answered k s h))
 
--- ---- the beat, where no event happens
+-- ---- the beat
 
 abbrev pub one : Doc → ℕ → List Entry → List Entry
-one doc k h = first_starts doc k h
+one doc k h = step_one doc k h
 
 abbrev pub two : Doc → ℕ → List Entry → List Entry
 two doc k h = answer_all k (requests_due k (one doc k h)) (one doc k h)
@@ -74,10 +74,9 @@ two doc k h = answer_all k (requests_due k (one doc k h)) (one doc k h)
 abbrev pub three : Doc → ℕ → List Entry → List Entry
 three doc k h = deliver_all doc k (replies_due k (two doc k h)) (two doc k h)
 
-pub beat-is : (doc : Doc) (k : ℕ) (h : List Entry) → doc.events ≡ [] → beat doc h k ≡ turns doc k (processes doc) (three doc k h)
-beat-is doc k h eventless =
-    ap (λ es. turns doc k (processes doc) (step_three doc k (step_two k (happen_all doc k es (one doc k h))))) eventless
-    ∙ ap (λ g. turns doc k (processes doc) (step_three doc k g)) (step_two-due k (one doc k h))
+pub beat-is : (doc : Doc) (k : ℕ) (h : List Entry) → beat doc h k ≡ turns doc k (processes doc) (three doc k h)
+beat-is doc k h =
+    ap (λ g. turns doc k (processes doc) (step_three doc k g)) (step_two-due k (one doc k h))
     ∙ ap (turns doc k (processes doc)) (step_three-due doc k (two doc k h))
 
 pub few-three : (doc : Doc) (k : ℕ) (h : List Entry) → IsFew (turns doc k (processes doc) (three doc k h)) → IsFew (three doc k h)
@@ -87,16 +86,22 @@ pub few-one : (doc : Doc) (k : ℕ) (h : List Entry) → IsFew (three doc k h) �
 few-one doc k h few =
     few-before (one doc k h) (three doc k h) (grows-on (one doc k h) (two doc k h) (three doc k h) (grows-answer_all k (requests_due k (one doc k h)) (one doc k h)) (grows-deliver_all doc k (replies_due k (two doc k h)) (two doc k h))) few
 
+pub few-starts : (doc : Doc) (k : ℕ) (h : List Entry) → IsFew (one doc k h) → IsFew (first_starts doc k h)
+few-starts doc k h few = few-before (first_starts doc k h) (one doc k h) (grows-happen_all doc k doc.events (first_starts doc k h)) few
+
 -- the next beat begins
-pub world-next : (doc : Doc) (k : ℕ) (h : List Entry) (w : World) → WorldWithin doc k [] [] h w → WorldStands doc (k + 1) h (record w { beat = record { 0 = w.beat.0 + 1 } })
-world-next doc k h w s =
+pub world-next : (doc : Doc) (k : ℕ) (h : List Entry) (w : World) → WorldWithin doc k [] [] h w → IsPlaced doc (k + 1) w.place → WorldStands doc (k + 1) h (record w { beat = record { 0 = w.beat.0 + 1 } })
+world-next doc k h w s placed =
     let d = s.rest.document in
     record {
-      rest = record {
-        document = record { at = ap (λ n. n + 1) d.at; restart = d.restart; count = d.count; controllers = d.controllers; eventless = d.eventless };
-        plain = s.rest.plain;
-        store = s.rest.store;
-        wire = wire-next-beat (processes doc) k h w.wire s.rest.wire;
+      within = record {
+        rest = record {
+          document = record { at = ap (λ n. n + 1) d.at; restart = d.restart; count = d.count; controllers = d.controllers; epoch = d.epoch; micros = d.micros; events = d.events };
+          plain = s.rest.plain;
+          store = s.rest.store;
+          wire = wire-next-beat (processes doc) k h w.wire s.rest.wire;
+        };
+        controllers = s.controllers;
       };
-      controllers = s.controllers;
+      placed = placed;
     }

@@ -1,15 +1,19 @@
 -- The steps of a beat only add entries.
-use Rattle.std.proofs.Common.{◌≡◌, ℕ, zero, suc, ◌+◌, ◌≤◌, ◌&&◌, Bool, true, false, List, [], ◌∷◌, Option, Some, None, sym, subst, arith}
+use Rattle.std.proofs.Common.{◌≡◌, ℕ, zero, suc, ◌+◌, ◌≤◌, ◌==◌, ◌&&◌, Bool, true, false, List, [], ◌∷◌, Option, Some, None, sym, subst, arith}
 use Rattle.kube_base.specs.declared.numbers.Version.{Version}
 use Rattle.kube_objects.specs.declared.call.Reply.{Reply}
+use Rattle.kube_objects.specs.declared.call.Request.{Request}
+use Rattle.kube_objects.specs.declared.script.Event as script
+use Rattle.kube_objects.specs.declared.script.What.{What}
+use Rattle.kube_objects.specs.declared.script.What.TheVariants as what
 use Rattle.kube_objects.specs.Document.{Doc, is_controller, is_up_first, processes}
-use Rattle.kube_objects.specs.Elector.{Follow, Fails, Asks, Succeeds, deadline, acts, leads, follow_on}
-use Rattle.kube_objects.specs.Entry.{Entry, Identity, Call, Delivers, entry}
+use Rattle.kube_objects.specs.Elector.{Follow, Fails, Asks, Succeeds, deadline, release, acts, leads, follow_on}
+use Rattle.kube_objects.specs.Entry.{Entry, Identity, Call, Stops, Event, Delivers, entry, script_entry}
 use Rattle.kube_objects.specs.Identities.{identity, is_by}
 use Rattle.kube_objects.specs.Process.{alive, begun, starts, is_send, call_in, counted, ended, is_late, is_restart_due}
 use Rattle.kube_objects.specs.Turns.{lead_if, react, expire_as, expire_call, end_as, end_term, attempt_if, try}
 use Rattle.kube_objects.specs.Wire.{Sent, Back, sent_of, back_of}
-use Rattle.history.specs.Steps.{start_first, starts_below, first_starts, each, answer_if, answer_due, step_two, react_as, deliver_as, delivered, deliver_if, deliver_due, step_three, if_up, restart_as, restart_if, restart, expire, finish, attempts, tick_as, ticks, controller_turn, turn_as, turn, turns, comes_at}
+use Rattle.history.specs.Steps.{start_if_down, crash, released, stop, effect, stamp, event_version, happens, happens_if, happen_all, start_first, starts_below, first_starts, each, answer_if, answer_due, step_two, react_as, deliver_as, delivered, deliver_if, deliver_due, step_three, if_up, restart_as, restart_if, restart, expire, finish, attempts, tick_as, ticks, controller_turn, turn_as, turn, turns, comes_at}
 use Rattle.world_core.specs.Plain.{IsFew}
 use Rattle.world_core.proofs.Plainly.{added-more, starts-more}
 
@@ -49,6 +53,51 @@ grows-more_starts doc m (suc n) h =
 pub grows-first_starts : (doc : Doc) (k : ℕ) (h : List Entry) → Grows h (first_starts doc k h)
 grows-first_starts doc zero h = grows-starts_below doc (processes doc) h
 grows-first_starts doc (suc k) h = grows-same h
+
+grows-start_if_down : (k step p : ℕ) (up : Option ℕ) (h : List Entry) → Grows h (start_if_down k step p up h)
+grows-start_if_down k step p None h = grows-entry _ h
+grows-start_if_down k step p (Some i) h = grows-same h
+
+grows-crash : (k p : ℕ) (up : Option ℕ) (h : List Entry) → Grows h (crash k p up h)
+grows-crash k p None h = grows-same h
+grows-crash k p (Some i) h = grows-entry _ h
+
+grows-released : (k : ℕ) (q : Identity) (request : Option Request) (h : List Entry) → Grows h (released k q request h)
+grows-released k q None h = grows-same h
+grows-released k q (Some request) h = grows-entry _ h
+
+grows-stop : (doc : Doc) (k p : ℕ) (up : Option ℕ) (before h : List Entry) → Grows h (stop doc k p up before h)
+grows-stop doc k p None before h = grows-same h
+grows-stop doc k p (Some i) before h =
+    let g = entry k 1 (identity p i) Stops ∷ h in
+    grows-on h g (released k (identity p i) (release doc (identity p i) k before) g) (grows-entry _ h) (grows-released k (identity p i) (release doc (identity p i) k before) g)
+
+grows-effect : (doc : Doc) (k : ℕ) (event : What) (before h : List Entry) → Grows h (effect doc k event before h)
+grows-effect doc k (what.Rate id ppm) before h = grows-same h
+grows-effect doc k (what.Delay id requests replies) before h = grows-same h
+grows-effect doc k (what.Loss id requests replies) before h = grows-same h
+grows-effect doc k (what.Crash id) before h = grows-crash k id.0 (alive id.0 before) h
+grows-effect doc k (what.Start id) before h = grows-start_if_down k 1 id.0 (alive id.0 before) h
+grows-effect doc k (what.Stop id) before h = grows-stop doc k id.0 (alive id.0 before) before h
+grows-effect doc k (what.Watch id on) before h = grows-same h
+grows-effect doc k (what.Ready id status) before h = grows-same h
+grows-effect doc k (what.Put key object) before h = grows-same h
+grows-effect doc k (what.Remove key) before h = grows-same h
+
+pub grows-happens : (doc : Doc) (k : ℕ) (event : What) (h : List Entry) → Grows h (happens doc k event h)
+grows-happens doc k event h =
+    let g = script_entry k 1 (Event (stamp doc k event) (event_version event h)) ∷ h in
+    grows-on h g (happens doc k event h) (grows-entry _ h) (grows-effect doc k event h g)
+
+grows-happens_if : (doc : Doc) (k : ℕ) (event : What) (b : Bool) (h : List Entry) → Grows h (happens_if doc k event b h)
+grows-happens_if doc k event false h = grows-same h
+grows-happens_if doc k event true h = grows-happens doc k event h
+
+pub grows-happen_all : (doc : Doc) (k : ℕ) (events : List script.Event) (h : List Entry) → Grows h (happen_all doc k events h)
+grows-happen_all doc k [] h = grows-same h
+grows-happen_all doc k (e ∷ es) h =
+    let g = happens_if doc k e.what (e.beat.0 == k) h in
+    grows-on h g (happen_all doc k es g) (grows-happens_if doc k e.what (e.beat.0 == k) h) (grows-happen_all doc k es g)
 
 -- ---- steps 2 and 3
 

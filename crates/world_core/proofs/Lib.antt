@@ -2,8 +2,11 @@ pub mod Answering
 pub mod Around
 pub mod Beats
 pub mod Beside
+pub mod Events
+pub mod Fewness
 pub mod Firsts
 pub mod Grows
+pub mod Happening
 pub mod Known
 pub mod Lists
 pub mod Lives
@@ -11,10 +14,15 @@ pub mod Loops
 pub mod Moving
 pub mod Names
 pub mod Plainly
+pub mod Puts
+pub mod Rates
 pub mod Readings
 pub mod Restarts
 pub mod Resting
+pub mod RunForms
 pub mod Running
+pub mod Scripted
+pub mod Scripts
 pub mod Standing
 pub mod Terms
 pub mod Timers

@@ -20,10 +20,10 @@ use Rattle.wire_calls.specs.InFlight.{first_of, rest_of}
 use Rattle.wire_calls.specs.WireStands.{WireStands, arrived_of, as_arrived, delivered_of, as_delivered}
 use Rattle.world_core.specs.declared.world.World.{World}
 use Rattle.world_core.specs.Plain.{IsKnown, IsFew, SentByKnown, BackToKnown}
-use Rattle.world_core.specs.Worlds.{IsReady, Keeps, EachStands, Running}
+use Rattle.world_core.specs.Worlds.{IsReady, SameDocument, Keeps, EachStands, Running}
 use Rattle.world_core.proofs.Grows.{Grows, grows-on, grows-same, grows-entry, grows-delivered, grows-more_starts, grows-more_turns, few-before}
 use Rattle.world_core.proofs.Known.{sent-later, back-later}
-use Rattle.world_core.proofs.Running.{answered-running}
+use Rattle.world_core.proofs.Running.{doc-same, answered-running}
 
 -- ---- requests
 
@@ -41,17 +41,17 @@ pub record Serves (doc : Doc) (k : ℕ) (rest : List Sent) (coming : List Back) 
   pub wire : (q : Identity) (call : Call) (wrote : Option Object) → q ≡ identity x.who.0 x.incarnation → call.number ≡ x.number → WireStands (processes doc) k rest coming (entry k 2 q (Answers call r (reply_arrival q.process k h) wrote) ∷ h) v.wire
   pub told : new ≡ deeds ++ deeds_of k (actor.Proc x.who x.incarnation) (answer_act x.request r)
 
-serve-one : (doc : Doc) (k : ℕ) (before deeds new : List deed.Deed) (s : Sent) (left rest : List Sent) (coming : List Back) (h : List Entry) (w v : World) (r : Reply) → Running doc k before left coming h w deeds → IsKnown (processes doc) h s.who → v.beat ≡ w.beat → v.restart ≡ w.restart → v.controllers ≡ w.controllers →
+serve-one : (doc : Doc) (k : ℕ) (before deeds new : List deed.Deed) (s : Sent) (left rest : List Sent) (coming : List Back) (h : List Entry) (w v : World) (r : Reply) → Running doc k before left coming h w deeds → IsKnown (processes doc) h s.who → SameDocument w v → v.controllers ≡ w.controllers →
     Serves doc k rest coming h deeds new v r (as_arrived s) → Running doc k before rest coming (answered k s h) v new
-serve-one doc k before deeds new s left rest coming h w v r run known beat restart controllers serves =
-    answered-running doc k before deeds new rest coming s h w v run.world.rest.document run.world.rest.plain run.world.controllers run.told known beat restart controllers
+serve-one doc k before deeds new s left rest coming h w v r run known alike controllers serves =
+    answered-running doc k before deeds new rest coming s h w v run.world.rest.document run.world.rest.plain run.world.controllers run.told known alike controllers
     (serves.store (entry k 2 s.who (Answers s.call (answer s.call.request h) (reply_arrival s.who.process k h) (written s.call.request h))) refl)
     (subst (λ x. WireStands (processes doc) k rest coming (entry k 2 s.who (Answers s.call x (reply_arrival s.who.process k h) (written s.call.request h)) ∷ h) v.wire) serves.answers (serves.wire s.who s.call (written s.call.request h) refl refl))
     (serves.told ∙ ap (λ x. deeds ++ deeds_of k (actor_of s.who) (answer_act s.call.request x)) serves.answers)
 
 pub answering-more : (doc : Doc) (k : ℕ) (before deeds new : List deed.Deed) (arriving : List Sent) (coming : List Back) (h : List Entry) (w v : World) (r : Reply) (x : Arrived) → (a : Answering doc k before arriving coming h w deeds) →
-    arrived_of (first_of a.left) ≡ Some x → v.beat ≡ w.beat → v.restart ≡ w.restart → v.controllers ≡ w.controllers → Serves doc k (rest_of a.left) coming a.now deeds new v r x → Answering doc k before arriving coming h v new
-answering-more doc k before deeds new arriving coming h w v r x a first beat restart controllers serves = by_left a.left a.running a.known a.same first serves
+    arrived_of (first_of a.left) ≡ Some x → SameDocument w v → v.controllers ≡ w.controllers → Serves doc k (rest_of a.left) coming a.now deeds new v r x → Answering doc k before arriving coming h v new
+answering-more doc k before deeds new arriving coming h w v r x a first alike controllers serves = by_left a.left a.running a.known a.same first serves
   where
     by_left : (left : List Sent) → Running doc k before left coming a.now w deeds → SentByKnown (processes doc) a.now left → answer_all k left a.now ≡ answer_all k arriving h → arrived_of (first_of left) ≡ Some x →
         Serves doc k (rest_of left) coming a.now deeds new v r x → Answering doc k before arriving coming h v new
@@ -61,7 +61,7 @@ answering-more doc k before deeds new arriving coming h w v r x a first beat res
         record {
           now = answered k s a.now;
           left = rest;
-          running = serve-one doc k before deeds new s (s ∷ rest) rest coming a.now w v r run known.0 beat restart controllers (subst (Serves doc k rest coming a.now deeds new v r) is serves);
+          running = serve-one doc k before deeds new s (s ∷ rest) rest coming a.now w v r run known.0 alike controllers (subst (Serves doc k rest coming a.now deeds new v r) is serves);
           known = sent-later (processes doc) a.now (answered k s a.now) ((grows-entry (entry k 2 s.who (Answers s.call (answer s.call.request a.now) (reply_arrival s.who.process k a.now) (written s.call.request a.now))) a.now).starts) rest known.1;
           same = same;
         }
@@ -77,14 +77,13 @@ answering-done doc k before deeds arriving coming h w v a none taken = by_left a
     by_left (s ∷ rest) run same none taken = cc
 
 -- the wire gave something out
-pub rewired : (doc : Doc) (k : ℕ) (before deeds : List deed.Deed) (arriving left : List Sent) (coming rest : List Back) (h : List Entry) (w v : World) → v.beat ≡ w.beat → v.restart ≡ w.restart → v.controllers ≡ w.controllers → v.store ≡ w.store →
+pub rewired : (doc : Doc) (k : ℕ) (before deeds : List deed.Deed) (arriving left : List Sent) (coming rest : List Back) (h : List Entry) (w v : World) → SameDocument w v → v.controllers ≡ w.controllers → v.store ≡ w.store →
     WireStands (processes doc) k left rest h v.wire → Running doc k before arriving coming h w deeds → Running doc k before left rest h v deeds
-rewired doc k before deeds arriving left coming rest h w v beat restart controllers store wire r =
-    let d = r.world.rest.document in
+rewired doc k before deeds arriving left coming rest h w v alike controllers store wire r =
     record {
       world = record {
         rest = record {
-          document = record { at = ap (λ b. b.0) beat ∙ d.at; restart = restart ∙ d.restart; count = ap (λ cs. length cs.items) controllers ∙ d.count; controllers = d.controllers; eventless = d.eventless };
+          document = doc-same doc k w v alike (ap (λ cs. length cs.items) controllers) r.world.rest.document;
           plain = r.world.rest.plain;
           store = subst (StoreStands h) (sym store) r.world.rest.store;
           wire = wire;
@@ -143,11 +142,23 @@ first-later doc (suc k) h later = refl
 
 -- ---- what each turn of a loop keeps
 
+pub same-on : (u w v : World) → SameDocument u w → SameDocument w v → SameDocument u v
+same-on u w v a b =
+    record {
+      beat = b.beat ∙ a.beat;
+      end = b.end ∙ a.end;
+      restart = b.restart ∙ a.restart;
+      epoch = b.epoch ∙ a.epoch;
+      micros = b.micros ∙ a.micros;
+      events = b.events ∙ a.events;
+      names = b.names ∙ a.names;
+    }
+
 pub keeps-on : (u w v : World) → Keeps u w → Keeps w v → Keeps u v
-keeps-on u w v a b = record { ready = b.ready; beat = b.beat ∙ a.beat; end = b.end ∙ a.end; count = b.count ∙ a.count }
+keeps-on u w v a b = record { ready = b.ready; same = same-on u w v a.same b.same; place = b.place ∙ a.place; count = b.count ∙ a.count }
 
 pub keeps-same : (w : World) → IsReady w → Keeps w w
-keeps-same w ready = record { ready = ready; beat = refl; end = refl; count = refl }
+keeps-same w ready = record { ready = ready; same = (record { beat = refl; end = refl; restart = refl; epoch = refl; micros = refl; events = refl; names = refl }); place = refl; count = refl }
 
 pub few-starts : (doc : Doc) (i n : ℕ) (h : List Entry) → i < n → IsFew (starts_below doc n h) → IsFew (starts_below doc (suc i) h)
 few-starts doc i n h less few =

@@ -1,5 +1,5 @@
 -- One controller has moved, and the world stands again.
-use Rattle.std.proofs.Common.{◌≡◌, ℕ, ◌+◌, ◌<◌, ◌≤◌, ◌==◌, ◌++◌, Bool, true, false, List, ◌∷◌, Some, None, slice_get, slice_set, length, refl, sym, ap, ◌∙◌, subst, append_assoc, vec_len, arith}
+use Rattle.std.proofs.Common.{All, ◌≡◌, ℕ, ◌+◌, ◌<◌, ◌≤◌, ◌==◌, ◌++◌, Bool, true, false, List, ◌∷◌, Some, None, slice_get, slice_set, length, refl, sym, ap, ◌∙◌, subst, append_assoc, vec_len, arith}
 use Rattle.std.proofs.lemmas.List.{append-nil}
 use Rattle.kube_objects.specs.declared.call.Ask.{Ask}
 use Rattle.kube_objects.specs.declared.deed.Deed as deed
@@ -21,7 +21,7 @@ use Rattle.world_core.specs.declared.controller.Turn.{Turn}
 use Rattle.world_core.specs.declared.world.World.{World}
 use Rattle.world_core.specs.Controllers.{ControllerStands, SameController, AsksOn, AsksOnReply, StaysOn, AsksAfter, Turned, Replied, settled, started_deeds, ended_deeds, lead_deeds}
 use Rattle.world_core.specs.Plain.{IsKnown, IsPlain, with_deeds}
-use Rattle.world_core.specs.Worlds.{IsReady, Keeps, DocStands, EachStands, OthersStand, WorldWithin, Running}
+use Rattle.world_core.specs.Worlds.{HasDelays, IsReady, SameDocument, Keeps, DocStands, EachStands, OthersStand, WorldWithin, Running}
 use Rattle.world_core.proofs.Around.{Around, around-world, around-own, around-deeds, around-settled, around-started}
 use Rattle.world_core.proofs.Beside.{controller-others, controller-answered}
 use Rattle.world_core.proofs.Lists.{slice_get-set_same, slice_get-set_other, length-set}
@@ -33,8 +33,8 @@ use Rattle.world_core.proofs.Plainly.{plain-entry, known-later, starts-start}
 pub record Moved (i : ℕ) (c0 c1 : Controller) (w v : World) : Type 0 where
   pub was : slice_get w.controllers.items i ≡ Some c0
   pub now : v.controllers.items ≡ slice_set w.controllers.items i c1
-  pub beat : v.beat ≡ w.beat
-  pub restart : v.restart ≡ w.restart
+  pub same : SameDocument w v
+  pub place : v.place ≡ w.place
   pub store : v.store ≡ w.store
 
 each-set : (doc : Doc) (i : ℕ) (h : List Entry) (cs : List Controller) (c0 c1 : Controller) → slice_get cs i ≡ Some c0 → OthersStand doc i h cs → ControllerStands doc i h c1 → EachStands doc h (slice_set cs i c1)
@@ -50,15 +50,21 @@ each-set doc i h cs c0 c1 was others own p c is = by_place (p == i) refl
         let apart : ¬ (p ≡ i) = λ e. (let now : (p == i) ≡ true = ap (λ x. p == x) (sym e) ∙ eq-self p in cc) in
         others p c apart (sym (slice_get-set_other cs i p c1 apart) ∙ is)
 
-doc-moved : (doc : Doc) (k i : ℕ) (c0 c1 : Controller) (w v : World) → Moved i c0 c1 w v → DocStands doc k w → DocStands doc k v
-doc-moved doc k i c0 c1 w v m s =
+-- what was read of the document stands as before
+pub doc-same : (doc : Doc) (k : ℕ) (w v : World) → SameDocument w v → length v.controllers.items ≡ length w.controllers.items → DocStands doc k w → DocStands doc k v
+doc-same doc k w v same count s =
     record {
-      at = ap (λ b. b.0) m.beat ∙ s.at;
-      restart = m.restart ∙ s.restart;
-      count = ap length m.now ∙ length-set w.controllers.items i c1 ∙ s.count;
+      at = ap (λ b. b.0) same.beat ∙ s.at;
+      restart = same.restart ∙ s.restart;
+      count = count ∙ s.count;
       controllers = s.controllers;
-      eventless = s.eventless;
+      epoch = same.epoch ∙ s.epoch;
+      micros = same.micros ∙ s.micros;
+      events = same.events ∙ s.events;
     }
+
+doc-moved : (doc : Doc) (k i : ℕ) (c0 c1 : Controller) (w v : World) → Moved i c0 c1 w v → DocStands doc k w → DocStands doc k v
+doc-moved doc k i c0 c1 w v m s = doc-same doc k w v m.same (ap length m.now ∙ length-set w.controllers.items i c1) s
 
 -- nothing was sent
 pub within-moved : (doc : Doc) (k i : ℕ) (arriving : List Sent) (coming : List Back) (h : List Entry) (c0 c1 : Controller) (w v : World) → Moved i c0 c1 w v → v.wire ≡ w.wire → Around doc k i arriving coming h w → ControllerStands doc i h c1 →
@@ -124,7 +130,7 @@ turned-quiet doc k i before deeds new arriving coming h c0 c1 w v t r within m w
       told = ap (λ ds. before ++ ds) new_is ∙ told-turn doc k i before deeds h c1 t r.told turned ∙ ap printed (sym next_is);
     }
 
-printed-sent : (k step : ℕ) (q : Identity) (kind : CallKind) (ask : Ask) (h next : List Entry) → next ≡ send k step q kind ask.request h → printed next ≡ printed h
+pub printed-sent : (k step : ℕ) (q : Identity) (kind : CallKind) (ask : Ask) (h next : List Entry) → next ≡ send k step q kind ask.request h → printed next ≡ printed h
 printed-sent k step q kind ask h next is = ap printed is ∙ append-nil (printed h)
 
 pub turned-asks : (doc : Doc) (k i : ℕ) (before deeds new : List deed.Deed) (arriving : List Sent) (coming : List Back) (h : List Entry) (c0 c1 : Controller) (w v : World) (t : Turn) (ask : Ask) → Running doc k before arriving coming h w deeds →
@@ -181,28 +187,36 @@ replied-sent doc k i before deeds new arriving coming b h c0 c1 w v x ask r proc
 
 -- ---- what stays plain
 
-pub keeps-moved : (i : ℕ) (c0 c1 : Controller) (w v : World) → IsReady w → Moved i c0 c1 w v → v.end ≡ w.end → vec_len v.controllers ≡ vec_len w.controllers → SameController c0 c1 → Keeps w v
-keeps-moved i c0 c1 w v ready m end count same =
+-- the ranges stand as before
+pub ready-same : (w v : World) → SameDocument w v → ((i : ℕ) (c : Controller) → slice_get v.controllers.items i ≡ Some c → c.clock.end ≡ w.end.0) → IsReady w → IsReady v
+ready-same w v same clocks ready =
     record {
-      ready = record {
-        end = subst (λ e. e.0 ≤ 604800000) (sym end) ready.end;
-        restart = subst (λ n. n ≤ 86400000000000000) (sym m.restart) ready.restart;
-        clocks = λ j c is. by_place j c is (j == i) refl;
-      };
-      beat = m.beat;
-      end = end;
+      end = subst (λ e. e.0 ≤ 604800000) (sym same.end) ready.end;
+      restart = subst (λ n. n ≤ 86400000000000000) (sym same.restart) ready.restart;
+      epoch = subst (λ e. e.0 < 7258118400000000) (sym same.epoch) ready.epoch;
+      micros = subst (λ n. n ≤ 1000000) (sym same.micros) ready.micros;
+      events = subst (All (λ e. HasDelays e.what)) (sym same.events) ready.events;
+      clocks = λ i c is. clocks i c is ∙ ap (λ e. e.0) (sym same.end);
+    }
+
+pub keeps-moved : (i : ℕ) (c0 c1 : Controller) (w v : World) → IsReady w → Moved i c0 c1 w v → vec_len v.controllers ≡ vec_len w.controllers → SameController c0 c1 → Keeps w v
+keeps-moved i c0 c1 w v ready m count same =
+    record {
+      ready = ready-same w v m.same (λ j c is. by_place j c is (j == i) refl) ready;
+      same = m.same;
+      place = m.place;
       count = count;
     }
   where
-    by_place : (j : ℕ) (c : Controller) → slice_get v.controllers.items j ≡ Some c → (b : Bool) → (j == i) ≡ b → c.clock.end ≡ v.end.0
+    by_place : (j : ℕ) (c : Controller) → slice_get v.controllers.items j ≡ Some c → (b : Bool) → (j == i) ≡ b → c.clock.end ≡ w.end.0
     by_place j c is true here =
         let place : j ≡ i = eq-is j i here in
         let there : Some c ≡ Some c1 = sym is ∙ ap (λ cs. slice_get cs j) m.now ∙ ap (slice_get (slice_set w.controllers.items i c1)) place ∙ slice_get-set_same w.controllers.items i c1 c0 m.was in
         let own : c1 ≡ c = cc in
-        ap (λ x. x.clock.end) (sym own) ∙ ap (λ x. x.end) same.clock ∙ ready.clocks i c0 m.was ∙ ap (λ e. e.0) (sym end)
+        ap (λ x. x.clock.end) (sym own) ∙ ap (λ x. x.end) same.clock ∙ ready.clocks i c0 m.was
     by_place j c is false other =
         let apart : ¬ (j ≡ i) = λ e. (let now : (j == i) ≡ true = ap (λ x. j == x) (sym e) ∙ eq-self j in cc) in
-        ready.clocks j c (sym (slice_get-set_other w.controllers.items i j c1 apart) ∙ ap (λ cs. slice_get cs j) (sym m.now) ∙ is) ∙ ap (λ e. e.0) (sym end)
+        ready.clocks j c (sym (slice_get-set_other w.controllers.items i j c1 apart) ∙ ap (λ cs. slice_get cs j) (sym m.now) ∙ is)
 
 -- ---- a first start
 
@@ -231,21 +245,15 @@ first-started doc i before deeds new arriving coming h c0 c1 w v r within m wire
 -- ---- an answer of the store
 
 pub answered-running : (doc : Doc) (k : ℕ) (before deeds new : List deed.Deed) (rest : List Sent) (coming : List Back) (s : Sent) (h : List Entry) (w v : World) → DocStands doc k w → IsPlain (processes doc) h → EachStands doc h w.controllers.items → before ++ deeds ≡ printed h →
-    IsKnown (processes doc) h s.who → v.beat ≡ w.beat → v.restart ≡ w.restart → v.controllers ≡ w.controllers → StoreStands (answered k s h) v.store → WireStands (processes doc) k rest coming (answered k s h) v.wire →
+    IsKnown (processes doc) h s.who → SameDocument w v → v.controllers ≡ w.controllers → StoreStands (answered k s h) v.store → WireStands (processes doc) k rest coming (answered k s h) v.wire →
     new ≡ deeds ++ deeds_of k (actor_of s.who) (answer_act s.call.request (answer s.call.request h)) → Running doc k before rest coming (answered k s h) v new
-answered-running doc k before deeds new rest coming s h w v ds plain each told known beat restart controllers store wire new_is =
+answered-running doc k before deeds new rest coming s h w v ds plain each told known same controllers store wire new_is =
     let d = Answers s.call (answer s.call.request h) (reply_arrival s.who.process k h) (written s.call.request h) in
     let e = entry k 2 s.who d in
     record {
       world = record {
         rest = record {
-          document = record {
-            at = ap (λ b. b.0) beat ∙ ds.at;
-            restart = restart ∙ ds.restart;
-            count = ap (λ cs. length cs.items) controllers ∙ ds.count;
-            controllers = ds.controllers;
-            eventless = ds.eventless;
-          };
+          document = doc-same doc k w v same (ap (λ cs. length cs.items) controllers) ds;
           plain = plain-entry (processes doc) k 2 s.who d h (known-later (processes doc) e h s.who known) plain;
           store = store;
           wire = wire;

@@ -1,27 +1,32 @@
 -- A controller of the world stands for a process in a history.
-use Rattle.std.specs.Prelude.{◌≡◌, ℕ, ◌+◌, ◌++◌, Bool, true, List, ◌∷◌, Option, Some, None, option_map}
+use Rattle.std.specs.Prelude.{◌≡◌, ℕ, ◌+◌, ◌++◌, Bool, true, false, List, ◌∷◌, Option, Some, None, option_map}
 use Rattle.kube_base.specs.declared.numbers.Local.{Local}
+use Rattle.kube_base.specs.declared.numbers.ProcId.{ProcId}
 use Rattle.kube_base.specs.declared.numbers.Version.{Version}
 use Rattle.kube_objects.specs.declared.call.Ask.{Ask}
 use Rattle.kube_objects.specs.declared.deed.Act.TheVariants as act
 use Rattle.kube_objects.specs.declared.deed.Deed as deed
+use Rattle.kube_objects.specs.declared.script.Event.{Event}
+use Rattle.kube_objects.specs.declared.script.What.TheVariants as what
 use Rattle.kube_objects.specs.Clocks.{rate, local, moved}
-use Rattle.kube_objects.specs.Document.{Doc, beat_micros, offset_millis, is_up_first, restart_delay}
-use Rattle.kube_objects.specs.Entry.{Entry, Identity, Call, Deed, Delivers, entry, actor_of}
+use Rattle.kube_objects.specs.Document.{Doc, beat_micros, end_beat, offset_millis, is_up_first, restart_delay}
+use Rattle.kube_objects.specs.Entry.{Entry, Identity, Call, Deed, Event as Happens, Stops, Delivers, entry, script_entry, actor_of}
 use Rattle.kube_objects.specs.Identities.{identity}
 use Rattle.kube_objects.specs.Newest.{when}
 use Rattle.kube_objects.specs.Process.{alive, starts, ended}
 use Rattle.kube_objects.specs.Wire.{Back}
 use Rattle.history.specs.Printed.{printed, deeds_of}
-use Rattle.history.specs.Steps.{restart, expire, finish, attempts, delivered, controller_turn}
+use Rattle.history.specs.Steps.{happens, restart, expire, finish, attempts, delivered, controller_turn}
 use Rattle.leader_elector.specs.Moves.{Asked}
 use Rattle.leader_elector.specs.Stands.{IsTimingOf, CandidateStands, LeadingStands}
+use Rattle.script_reader.specs.Lawful.{AreLawfulFrom}
 use Rattle.skew_clock.specs.Clocking.{Clocking, rate_at, moved as moved_micros}
 use Rattle.world_core.specs.declared.controller.Controller.{Controller}
 use Rattle.world_core.specs.Plain.{AreQuiet, with_deeds}
 use Rattle.world_core.specs.declared.controller.Received.{Received}
 use Rattle.world_core.specs.declared.controller.Role.{Role}
 use Rattle.world_core.specs.declared.controller.Role.TheVariants.{Down, Candidate, Leading}
+use Rattle.world_core.specs.declared.controller.Stopped.{Stopped}
 use Rattle.world_core.specs.declared.controller.Turn.{Turn}
 
 -- a clock is that of a process of the document
@@ -30,6 +35,17 @@ pub record ClockStands (doc : Doc) (p : ℕ) (c : Clocking) : Type 0 where
   pub offset : (at : ℕ) → moved_micros c.offset at ≡ moved (offset_millis doc p) at
   pub micros : c.beat_micros ≡ beat_micros doc
   pub rates : (j : ℕ) → rate_at c.sets j ≡ rate doc p j
+
+-- the events are lawful in a document with this end, none before this beat
+abbrev pub AreEventsFrom : ℕ → ℕ → List Event → Type 0
+AreEventsFrom end from events = (doc : Doc) × (end_beat doc ≡ end) × AreLawfulFrom doc from events
+
+-- clocks that differ in their rates alone
+pub record SameSpan (old new : Clocking) : Type 0 where
+  pub epoch : new.epoch ≡ old.epoch
+  pub offset : new.offset ≡ old.offset
+  pub beat_micros : new.beat_micros ≡ old.beat_micros
+  pub end : new.end ≡ old.end
 
 -- the reading at which a process that ended at a beat starts again
 abbrev pub restart_reading : Doc → ℕ → Option ℕ → Option ℕ
@@ -45,6 +61,11 @@ abbrev pub waiting_of : Role → Option Local
 waiting_of (Down at) = at
 waiting_of (Candidate c) = None
 waiting_of (Leading l) = None
+
+abbrev pub is_up_as : Role → Bool
+is_up_as (Down at) = false
+is_up_as (Candidate c) = true
+is_up_as (Leading l) = true
 
 -- the role is that of a process in an incarnation
 abbrev pub RoleStands : Doc → ℕ → ℕ → List Entry → Role → Type 0
@@ -67,22 +88,54 @@ pub record SameController (old new : Controller) : Type 0 where
   pub clock : new.clock ≡ old.clock
   pub up_first : new.up_first ≡ old.up_first
 
+-- next is the history with what is asked; h is that before
+abbrev pub AsksOn : Doc → ℕ → ℕ → ℕ → List Entry → List Entry → Controller → Option Ask → Type 0
+AsksOn doc k step p h next c None = (next ≡ h) × ControllerStands doc p h c
+AsksOn doc k step p h next c (Some ask) = Asked k step (identity p c.incarnation) h next (λ x. ControllerStands doc p x c) ask
+
+-- ---- the script's events on a controller
+
+abbrev pub started_deeds : ℕ → Identity → Bool → List deed.Deed
+started_deeds k q b = deeds_of k (actor_of q) (when b act.Start)
+
+abbrev pub crashed_deeds : ℕ → Identity → Bool → List deed.Deed
+crashed_deeds k q b = deeds_of k (actor_of q) (when b act.Crash)
+
+abbrev pub stopped_deeds : ℕ → Identity → Bool → List deed.Deed
+stopped_deeds k q b = deeds_of k (actor_of q) (when b act.Stop)
+
+-- a controller was crashed, where it was up
+pub record Crashed (doc : Doc) (k : ℕ) (id : ProcId) (h : List Entry) (c : Controller) (crashed : Bool) : Type 0 where
+  pub stands : ControllerStands doc id.0 (happens doc k (what.Crash id) h) c
+  pub told : printed (happens doc k (what.Crash id) h) ≡ printed h ++ crashed_deeds k (identity id.0 c.incarnation) crashed
+
+-- a controller was started, where it was down
+pub record Begun (doc : Doc) (k : ℕ) (id : ProcId) (h : List Entry) (c : Controller) (started : Bool) : Type 0 where
+  pub stands : ControllerStands doc id.0 (happens doc k (what.Start id) h) c
+  pub told : printed (happens doc k (what.Start id) h) ≡ printed h ++ started_deeds k (identity id.0 c.incarnation) started
+
+-- up says in which incarnation the process is up before
+abbrev pub stop_in : ℕ → ℕ → Option ℕ → List Entry → List Entry
+stop_in k p None h = h
+stop_in k p (Some i) h = entry k 1 (identity p i) Stops ∷ h
+
+-- the history with a stop's event and the stop, before the release
+abbrev pub stopped : ℕ → ProcId → List Entry → List Entry
+stopped k id h = stop_in k id.0 (alive id.0 h) (script_entry k 1 (Happens (what.Stop id) None) ∷ h)
+
+-- a controller was stopped, where it was up, and asks its release
+pub record StoppedAs (doc : Doc) (k : ℕ) (id : ProcId) (h : List Entry) (c : Controller) (s : Stopped) : Type 0 where
+  pub told : printed (stopped k id h) ≡ printed h ++ stopped_deeds k (identity id.0 c.incarnation) s.stopped
+  pub asks : AsksOn doc k 1 id.0 (stopped k id h) (happens doc k (what.Stop id) h) c s.ask
+
 -- ---- a turn
 
 -- the history after the restart, the expiry and the end of a turn
 abbrev pub settled : Doc → ℕ → ℕ → List Entry → List Entry
 settled doc k p h = finish doc k p (expire doc k p h)
 
-abbrev pub started_deeds : ℕ → Identity → Bool → List deed.Deed
-started_deeds k q b = deeds_of k (actor_of q) (when b act.Start)
-
 abbrev pub ended_deeds : ℕ → Identity → Bool → List deed.Deed
 ended_deeds k q b = deeds_of k (actor_of q) (when b act.End)
-
--- next is the history with what is asked; h is that before
-abbrev pub AsksOn : Doc → ℕ → ℕ → ℕ → List Entry → List Entry → Controller → Option Ask → Type 0
-AsksOn doc k step p h next c None = (next ≡ h) × ControllerStands doc p h c
-AsksOn doc k step p h next c (Some ask) = Asked k step (identity p c.incarnation) h next (λ x. ControllerStands doc p x c) ask
 
 -- a controller has started again where it was time
 pub record Restarted (doc : Doc) (k p : ℕ) (h : List Entry) (c : Controller) (started : Bool) : Type 0 where

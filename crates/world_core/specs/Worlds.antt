@@ -1,17 +1,22 @@
 -- The world stands for a document before a beat, or within one.
-use Rattle.std.specs.Prelude.{◌≡◌, ℕ, ◌<◌, ◌≤◌, ◌++◌, true, List, [], Some, slice_get, length, vec_len}
+use Rattle.std.specs.Prelude.{◌≡◌, ℕ, ◌+◌, ◌<◌, ◌≤◌, ◌++◌, true, List, Some, slice_get, length, vec_len, drop, All}
 use Rattle.kube_objects.specs.declared.deed.Deed as deed
-use Rattle.kube_objects.specs.Document.{Doc, processes, is_controller, restart_delay}
+use Rattle.kube_objects.specs.declared.script.Event.{Event}
+use Rattle.kube_objects.specs.declared.script.What.{What}
+use Rattle.kube_objects.specs.declared.script.What.TheVariants.{Delay}
+use Rattle.kube_objects.specs.Document.{Doc, processes, is_controller, restart_delay, beat_micros}
 use Rattle.kube_objects.specs.Entry.{Entry}
 use Rattle.kube_objects.specs.InFlight.{requests_due, replies_due}
 use Rattle.kube_objects.specs.Wire.{Sent, Back}
 use Rattle.history.specs.Printed.{printed}
+use Rattle.history.specs.Steps.{happens, happen_all}
 use Rattle.object_store.specs.Stands.{StoreStands}
+use Rattle.script_reader.specs.Lawful.{IsLawfulWhat, AreLawfulFrom}
 use Rattle.wire_calls.specs.WireStands.{WireStands}
 use Rattle.world_core.specs.declared.controller.Controller.{Controller}
 use Rattle.world_core.specs.declared.world.World.{World}
 use Rattle.world_core.specs.Controllers.{ControllerStands}
-use Rattle.world_core.specs.Plain.{IsPlain}
+use Rattle.world_core.specs.Plain.{IsFew, IsPlain}
 
 -- ---- plain facts, that callers see
 
@@ -21,17 +26,38 @@ at_of w = w.beat.0
 abbrev pub end_of : World → ℕ
 end_of w = w.end.0
 
+abbrev pub names_of : World → List (List ℕ)
+names_of w = w.names
+
+-- the ranges of an event's delays, in beats
+abbrev pub HasDelays : What → Type 0
+HasDelays (Delay id requests replies) = ((1 ≤ requests) × (requests ≤ 6000)) × ((1 ≤ replies) × (replies ≤ 6000))
+HasDelays _ = Unit {0}
+
 -- the ranges of a world that was made of a document
 pub record IsReady (w : World) : Type 0 where
   pub end : w.end.0 ≤ 604800000
   pub restart : w.restart ≤ 86400000000000000
+  pub epoch : w.epoch.0 < 7258118400000000
+  pub micros : w.micros ≤ 1000000
+  pub events : All (λ e. HasDelays e.what) w.events
   pub clocks : (i : ℕ) (c : Controller) → slice_get w.controllers.items i ≡ Some c → c.clock.end ≡ w.end.0
+
+-- the beat and what was read of the document, but for the place among the events
+pub record SameDocument (old new : World) : Type 0 where
+  pub beat : new.beat ≡ old.beat
+  pub end : new.end ≡ old.end
+  pub restart : new.restart ≡ old.restart
+  pub epoch : new.epoch ≡ old.epoch
+  pub micros : new.micros ≡ old.micros
+  pub events : new.events ≡ old.events
+  pub names : new.names ≡ old.names
 
 -- what a step of a beat keeps
 pub record Keeps (old new : World) : Type 0 where
   pub ready : IsReady new
-  pub beat : new.beat ≡ old.beat
-  pub end : new.end ≡ old.end
+  pub same : SameDocument old new
+  pub place : new.place ≡ old.place
   pub count : vec_len new.controllers ≡ vec_len old.controllers
 
 -- ---- the relation
@@ -42,7 +68,14 @@ pub record DocStands (doc : Doc) (k : ℕ) (w : World) : Type 0 where
   pub restart : w.restart ≡ restart_delay doc
   pub count : length w.controllers.items ≡ processes doc
   pub controllers : (p : ℕ) → p < processes doc → is_controller doc p ≡ true
-  pub eventless : doc.events ≡ []
+  pub epoch : w.epoch ≡ doc.settings.epoch
+  pub micros : w.micros ≡ beat_micros doc
+  pub events : w.events ≡ doc.events
+
+-- the events before a place were of earlier beats, and those from it on are of this beat or later
+pub record IsPlaced (doc : Doc) (k place : ℕ) : Type 0 where
+  pub earlier : (i : ℕ) (e : Event) → i < place → slice_get doc.events i ≡ Some e → e.beat.0 < k
+  pub later : AreLawfulFrom doc k (drop place doc.events)
 
 -- all but the controllers; these requests and replies have still to be taken at the beat
 pub record RestStands (doc : Doc) (k : ℕ) (arriving : List Sent) (coming : List Back) (h : List Entry) (w : World) : Type 0 where
@@ -63,10 +96,24 @@ pub record WorldWithin (doc : Doc) (k : ℕ) (arriving : List Sent) (coming : Li
   pub controllers : EachStands doc h w.controllers.items
 
 -- the world before beat k, whose history is h
-abbrev pub WorldStands : Doc → ℕ → List Entry → World → Type 0
-WorldStands doc k h w = WorldWithin doc k (requests_due k h) (replies_due k h) h w
+pub record WorldStands (doc : Doc) (k : ℕ) (h : List Entry) (w : World) : Type 0 where
+  pub within : WorldWithin doc k (requests_due k h) (replies_due k h) h w
+  pub placed : IsPlaced doc k w.place
 
 -- within a beat, with what was printed before the beat and in it
 pub record Running (doc : Doc) (k : ℕ) (before : List deed.Deed) (arriving : List Sent) (coming : List Back) (h : List Entry) (w : World) (deeds : List deed.Deed) : Type 0 where
   pub world : WorldWithin doc k arriving coming h w
   pub told : before ++ deeds ≡ printed h
+
+-- ---- events
+
+-- an event has happened in a world within a beat, and what is printed of it was added
+abbrev pub Happens : World → List deed.Deed → World → List deed.Deed → What → Type 0
+Happens w deeds v new what = (doc : Doc) (k : ℕ) (before : List deed.Deed) (arriving : List Sent) (coming : List Back) (h : List Entry) → Running doc k before arriving coming h w deeds → IsLawfulWhat doc what → IsFew (happens doc k what h) → Running doc k before arriving coming (happens doc k what h) v new
+
+-- all events of the beat have happened; what they sent arrives later
+pub record Scripted (doc : Doc) (k : ℕ) (before : List deed.Deed) (arriving : List Sent) (coming : List Back) (h : List Entry) (w : World) (deeds : List deed.Deed) : Type 0 where
+  pub running : Running doc k before arriving coming (happen_all doc k doc.events h) w deeds
+  pub placed : IsPlaced doc (k + 1) w.place
+  pub requests : requests_due k (happen_all doc k doc.events h) ≡ requests_due k h
+  pub replies : replies_due k (happen_all doc k doc.events h) ≡ replies_due k h

@@ -1,20 +1,24 @@
 // A controller of the world: its clock and its part in the election.
-ghost use Rattle.std.specs.Prelude.{◌≡◌, ◌*◌, ◌*ℤ◌, ◌≤ℤ◌, pos, negsuc, ◌+◌, ◌<◌, ◌≤◌, ◌^◌, ℕ, true, false, List, [], Some, None, IfOk};
+ghost use Rattle.std.specs.Prelude.{◌≡◌, ◌*◌, ◌*ℤ◌, ◌≤ℤ◌, pos, negsuc, ◌+◌, ◌<◌, ◌≤◌, ◌^◌, ℕ, true, false, List, [], Some, None, IfOk, OnOk};
+ghost use Rattle.kube_base.specs.declared.numbers.ProcId.{ProcId};
 ghost use Rattle.kube_base.specs.declared.numbers.Version.{Version};
 ghost use Rattle.kube_objects.specs.declared.call.Reply.TheVariants as Reply;
-ghost use Rattle.kube_objects.specs.Clocks.{local};
+ghost use Rattle.kube_objects.specs.declared.script.What.TheVariants as what;
+ghost use Rattle.kube_objects.specs.Clocks.{local, rate_of as ppm_of, last_rate};
 ghost use Rattle.kube_objects.specs.Document.{Doc, is_controller, of_millis, process_at, restart_delay};
 ghost use Rattle.kube_objects.specs.Entry.{Entry};
 ghost use Rattle.kube_objects.specs.Identities.{identity};
+ghost use Rattle.kube_objects.specs.Newest.{or_else};
 ghost use Rattle.kube_objects.specs.Process.{starts};
 ghost use Rattle.kube_objects.specs.Wire.{Back};
-ghost use Rattle.history.specs.Steps.{start, restart};
-ghost use Rattle.world_core.specs.Controllers.{ControllerStands, SameController, Restarted, Timed, Turned, Replied, waiting_of};
-ghost use Rattle.world_core.specs.Documents.{AreLawful, IsLawful};
+ghost use Rattle.history.specs.Steps.{happens, start, restart};
+ghost use Rattle.script_reader.specs.Lawful.{AreLawful, IsLawful};
+ghost use Rattle.skew_clock.specs.Clocking.{rate_at, last_set};
+ghost use Rattle.world_core.specs.Controllers.{AreEventsFrom, ControllerStands, SameController, Crashed, Begun, StoppedAs, Restarted, Timed, Turned, Replied, SameSpan, is_up_as, waiting_of};
 ghost use Rattle.world_core.specs.Plain.{IsPlain, IsFew};
 
 use kube_base::{Beat, Local, NoMemory, ProcId, Version};
-use kube_objects::{Ask, Proc, Reply, Settings};
+use kube_objects::{Ask, Event, Proc, Reply, Settings, What};
 use leader_elector::{Candidate, CandidateNext, Leading, LeadingNext, Timing};
 use skew_clock::Clock;
 use std::alloc::Global;
@@ -47,6 +51,13 @@ pub struct Turn {
     pub ask: Option<Ask>,
 }
 
+/// What a stop did: whether the controller was up, and the release that it asks.
+#[derive(Clone, Copy, Debug)]
+pub struct Stopped {
+    pub stopped: bool,
+    pub ask: Option<Ask>,
+}
+
 /// What a reply to a controller caused.
 #[derive(Clone, Copy, Debug)]
 pub struct Received {
@@ -55,17 +66,19 @@ pub struct Received {
 }
 
 impl Controller {
-    /// A controller that has never been up.
+    /// A controller that has never been up. Its clock has the rates of all its events.
     pub fn new(
         alloc: Global,
         me: ProcId,
         settings: &Settings,
         process: &Proc,
+        events: &[Event],
     ) -> Result<Controller, NoMemory>
         requires settings { AreLawful settings.now }
         requires process { IsLawful process.now }
+        requires events { AreEventsFrom settings.now.end_beat.0 0 events.now }
         ensures end { IfOk result (λ c. c.clock.end ≡ settings.now.end_beat.0) }
-        ensures stands { (doc : Doc) (p : ℕ) → me.0 ≡ p → doc.settings ≡ settings.now → process_at doc p ≡ Some process.now → doc.events ≡ [] → IfOk result (ControllerStands doc p []) }
+        ensures stands { (doc : Doc) (p : ℕ) → me.0 ≡ p → doc.settings ≡ settings.now → process_at doc p ≡ Some process.now → doc.events ≡ events.now → IfOk result (ControllerStands doc p []) }
     {
         let timing = Timing {
             lease_seconds: process.lease_seconds,
@@ -74,7 +87,7 @@ impl Controller {
             timeout: picoseconds(process.timeout_millis),
             fast: settings.fast_renew,
         };
-        let clock = Clock::new(
+        let mut clock = Clock::new(
             alloc,
             settings.epoch,
             microseconds(process.offset_millis),
@@ -82,6 +95,7 @@ impl Controller {
             settings.end_beat,
             process.rate_ppm,
         )?;
+        set_rates(&mut clock, me, events)?;
         Ok(Controller {
             me,
             incarnation: 0,
@@ -103,6 +117,59 @@ impl Controller {
         let now = self.clock.local(beat);
         self.incarnation = incarnation;
         self.role = Role::Candidate(Candidate::start(self.me, incarnation, self.timing, now));
+    }
+
+    /// Goes down where it is up, and its call is forgotten; a restart that waits is cancelled. Tells whether it was up.
+    pub fn crash(&mut self) -> bool
+        ensures same { SameController self.old self.new }
+        ensures incarnation { self.new.incarnation ≡ self.old.incarnation }
+        ensures stands { (doc : Doc) (k : ℕ) (id : ProcId) (h : List Entry) → ControllerStands doc id.0 h self.old → Crashed doc k id h self.new result }
+    {
+        let up = self.is_up();
+        self.role = Role::Down(None);
+        up
+    }
+
+    /// Starts where it is down; a restart that waits is cancelled. Tells whether it was down.
+    pub fn begin(&mut self, beat: Beat) -> bool
+        requires { beat.0 ≤ self.old.clock.end }
+        ensures same { SameController self.old self.new }
+        ensures stands { (doc : Doc) (n k : ℕ) (id : ProcId) (h : List Entry) → ControllerStands doc id.0 h self.old → beat.0 ≡ k → IsPlain n h → IsFew (happens doc k (what.Start id) h)
+            → Begun doc k id h self.new result }
+    {
+        if self.is_up() {
+            return false;
+        }
+        self.role = Role::Down(None);
+        self.start(beat);
+        true
+    }
+
+    /// Goes down in order where it is up, without a restart: a leader whose last shown holder is itself asks its release. A restart that waits is cancelled.
+    pub fn stop(&mut self, beat: Beat) -> Stopped
+        requires { beat.0 ≤ self.old.clock.end }
+        ensures same { SameController self.old self.new }
+        ensures incarnation { self.new.incarnation ≡ self.old.incarnation }
+        ensures stands { (doc : Doc) (k : ℕ) (id : ProcId) (h : List Entry) → ControllerStands doc id.0 h self.old → beat.0 ≡ k → IsFew h → StoppedAs doc k id h self.new result }
+    {
+        match mem::replace(&mut self.role, Role::Down(None)) {
+            Role::Down(_) => stopping(false, None),
+            Role::Candidate(_) => stopping(true, None),
+            Role::Leading(leading) => {
+                let now = self.clock.local(beat);
+                let wall = self.clock.wall(beat);
+                stopping(true, leading.release(now, wall).ask)
+            }
+        }
+    }
+
+    fn is_up(&self) -> bool
+        ensures { result ≡ is_up_as self.now.role }
+    {
+        match &self.role {
+            Role::Down(_) => false,
+            Role::Candidate(_) | Role::Leading(_) => true,
+        }
     }
 
     /// Its turn: it may start again, end, or send a request. The delay of a restart is in units of 10^-12 s.
@@ -278,6 +345,30 @@ fn microseconds(millis: i64) -> i64
     millis * 1000
 }
 
+// Sets the rates of a process's events on its clock.
+fn set_rates(clock: &mut Clock, me: ProcId, events: &[Event]) -> Result<(), NoMemory>
+    requires { AreEventsFrom clock.old.end (last_set clock.old.sets) events.now }
+    ensures same { OnOk result (SameSpan clock.old clock.new) }
+    ensures rates { OnOk result ((j : ℕ) → rate_at clock.new.sets j ≡ or_else (rate_at clock.old.sets j) (last_rate me.0 j events.now)) }
+{
+    for event in events {
+        if let Some(ppm) = rate_of(&event.what, me) {
+            clock.set_rate(event.beat, ppm)?;
+        }
+    }
+    Ok(())
+}
+
+// The rate that an event sets for a process.
+fn rate_of(what: &What, me: ProcId) -> Option<u32>
+    ensures { result ≡ ppm_of me.0 what.now }
+{
+    match what {
+        What::Rate(id, ppm) if id.0 == me.0 => Some(*ppm),
+        _ => None,
+    }
+}
+
 // The reading at which a process that is down starts again.
 fn waiting(role: &Role) -> Option<Local>
     ensures { result ≡ waiting_of role.now }
@@ -286,6 +377,12 @@ fn waiting(role: &Role) -> Option<Local>
         Role::Down(at) => *at,
         _ => None,
     }
+}
+
+fn stopping(stopped: bool, ask: Option<Ask>) -> Stopped
+    ensures { result ≡ record { stopped = stopped; ask = ask } }
+{
+    Stopped { stopped, ask }
 }
 
 fn quiet() -> Turn

@@ -2,11 +2,11 @@
 #![tactic(auto)]
 
 mod controller;
-mod document;
+mod forms;
 mod printing;
-#[cfg(test)]
-mod tests;
+mod replay;
 mod world;
 
-pub use document::Document;
+pub use forms::runs;
+pub use replay::deeds_of;
 pub use world::World;

@@ -2,7 +2,8 @@
 ghost use Rattle.std.specs.Prelude.{◌≡◌, ◌++◌, OnOk, option_map};
 ghost use Rattle.kube_objects.specs.declared.deed.Act.TheVariants as Act;
 ghost use Rattle.kube_objects.specs.Newest.{when};
-ghost use Rattle.history.specs.Printed.{answer_act as act_of_answer, as_answer as answer_of, if_told as told_of, deeds_of};
+ghost use Rattle.kube_objects.specs.declared.script.What.TheVariants as What;
+ghost use Rattle.history.specs.Printed.{answer_act as act_of_answer, as_answer as answer_of, if_told as told_of, deeds_of, event_act};
 
 use kube_base::{Beat, NoMemory, Version};
 use kube_objects::{Act, Actor, Answer, Deed, Deeds, Key, Kind, Reply, Request};
@@ -79,6 +80,20 @@ pub fn starting(started: bool) -> Option<Act>
     if started { Some(Act::Start) } else { None }
 }
 
+/// What is printed of a crash.
+pub fn crashing(crashed: bool) -> Option<Act>
+    ensures { result ≡ when crashed Act.Crash }
+{
+    if crashed { Some(Act::Crash) } else { None }
+}
+
+/// What is printed of a stop.
+pub fn stopping(stopped: bool) -> Option<Act>
+    ensures { result ≡ when stopped Act.Stop }
+{
+    if stopped { Some(Act::Stop) } else { None }
+}
+
 /// What is printed of an end.
 pub fn ending(ended: bool) -> Option<Act>
     ensures { result ≡ when ended Act.End }
@@ -92,6 +107,16 @@ pub fn leading(lead: Option<Version>) -> Option<Act>
 {
     match lead {
         Some(version) => Some(Act::Lead(version)),
+        None => None,
+    }
+}
+
+/// What is printed of a removal, where something was removed.
+pub fn removing(key: Key, version: Option<Version>) -> Option<Act>
+    ensures { result ≡ event_act (What.Remove key) version }
+{
+    match version {
+        Some(version) => Some(Act::Removed(key, version)),
         None => None,
     }
 }

@@ -1,63 +1,92 @@
 // The world of a document, which does one beat at a time.
-ghost use Rattle.std.specs.Prelude.{◌≡◌, ◌∷◌, ◌+◌, ◌<◌, ◌≤◌, ◌++◌, ℕ, List, [], IfOk, OnOk, IsTrue, ◌↔◌, vec_len, length, slice_get, All, Some};
+ghost use Rattle.std.specs.Prelude.{◌≡◌, ◌∷◌, ◌+◌, ◌*◌, ◌<◌, ◌≤◌, ◌++◌, ℕ, List, [], true, IfOk, OnOk, IsTrue, ◌↔◌, vec_len, length, slice_get, All, Some};
 ghost use Rattle.kube_objects.specs.declared.deed.Deed.{Deed};
+ghost use Rattle.kube_objects.specs.declared.script.What.TheVariants as What;
 ghost use Rattle.kube_objects.specs.Document.{Doc};
 ghost use Rattle.kube_objects.specs.Answers.{answer as store_answer, written};
 ghost use Rattle.kube_objects.specs.Entry.{Entry};
 ghost use Rattle.kube_objects.specs.Stored.{request_write, write_of};
 ghost use Rattle.object_store.specs.Stands.{StoreStands};
 ghost use Rattle.kube_objects.specs.Wire.{Sent, Back};
-ghost use Rattle.history.specs.History.{history, beat};
+ghost use Rattle.history.specs.History.{history, beat, put_all};
 ghost use Rattle.history.specs.Printed.{printed};
-ghost use Rattle.history.specs.Steps.{first_starts, start_first, delivered, turn, turns};
+ghost use Rattle.history.specs.Steps.{first_starts, start_first, happen_all, delivered, turn, turns};
 ghost use Rattle.kube_objects.specs.Document.{is_up_first, processes};
 ghost use Rattle.wire_calls.specs.WireStands.{as_delivered, replies_at};
+ghost use Rattle.script_reader.specs.Documents.{doc_of};
+ghost use Rattle.script_reader.specs.Lawful.{AreLawful, IsLawful, IsLawfulDoc};
 ghost use Rattle.world_core.specs.declared.controller.Controller.{Controller};
-ghost use Rattle.world_core.specs.Documents.{doc_of, AreLawful, IsLawful, IsLawfulDocument};
+ghost use Rattle.world_core.specs.Controllers.{AreEventsFrom};
+ghost use Rattle.world_core.specs.Forms.{is_run};
 ghost use Rattle.world_core.specs.Plain.{IsFew, IsKnown, SentByKnown, BackToKnown};
 ghost use Rattle.history.specs.Due.{answer_all, deliver_all};
-ghost use Rattle.world_core.specs.Worlds.{EachStands, at_of, end_of, IsReady, Keeps, WorldStands, Running};
+ghost use Rattle.world_core.specs.Worlds.{EachStands, at_of, end_of, names_of, HasDelays, IsReady, IsPlaced, SameDocument, Keeps, WorldStands, Running, Happens, Scripted};
 
 use crate::controller::{Controller, picoseconds};
-use crate::document::Document;
-use crate::printing::{answer_act, ending, leading, starting, tell};
-use kube_base::{Beat, NoMemory, ProcId};
-use kube_objects::{Act, Actor, Deeds, Procs, Reply, Request, Settings};
+use crate::printing::{answer_act, crashing, ending, leading, removing, starting, stopping, tell};
+use kube_base::{Beat, Names, NoMemory, ProcId, Wall};
+use kube_objects::{Act, Actor, Deeds, Event, Events, Items, Key, Object, Procs, Reply, Request, Settings, What};
 use object_store::Store;
+use script_reader::Document;
 use std::alloc::Global;
 use wire_calls::{Delivered, Wire};
 
-/// Controllers, the store and the wire between them, before a beat.
+/// Controllers, the store and the wire between them, before a beat. The events before the place have happened.
 #[derive(Drop)]
 pub struct World {
     alloc: Global,
     beat: Beat,
     end: Beat,
     restart: u64,
+    epoch: Wall,
+    micros: u32,
     store: Store,
     wire: Wire,
     controllers: Vec<Controller>,
+    place: usize,
+    events: Events,
+    names: Names,
 }
 
 impl World {
-    /// The world of a document before beat 0.
+    /// The world of a document before beat 0, with the document's objects in its store.
     pub fn new(alloc: Global, document: Document) -> Result<World, NoMemory>
-        requires { IsLawfulDocument document }
+        requires lawful { IsLawfulDoc (doc_of document) }
+        requires form { is_run (doc_of document) ≡ true }
         ensures ready { IfOk result (λ w. IsReady w × (at_of w ≡ 0) × (end_of w ≡ document.settings.end_beat.0)) }
+        ensures names { IfOk result (λ w. names_of w ≡ document.names) }
         ensures stands { IfOk result (WorldStands (doc_of document) 0 (history (doc_of document) 0)) }
     {
         let settings = document.settings;
-        let controllers = made(alloc, &settings, &document.controllers)?;
+        let controllers = made(
+            alloc,
+            &settings,
+            &document.controllers,
+            document.events.as_slice(),
+        )?;
         let wire = Wire::new(alloc, controllers.len() as u32)?;
+        let store = filled(alloc, &document.objects.items, settings.epoch)?;
         Ok(World {
             alloc,
             beat: Beat(0),
             end: settings.end_beat,
             restart: picoseconds(settings.restart_millis),
-            store: Store::new(alloc),
+            epoch: settings.epoch,
+            micros: settings.beat_millis * 1000,
+            store,
             wire,
             controllers,
+            place: 0,
+            events: document.events,
+            names: document.names,
         })
+    }
+
+    /// The document's names.
+    pub fn names(&self) -> &Names
+        ensures { result.now ≡ names_of self.now }
+    {
+        &self.names
     }
 
     /// The next beat to be done.
@@ -79,12 +108,13 @@ impl World {
     pub fn beat(mut self) -> Result<(World, Deeds), NoMemory>
         requires ready { IsReady self }
         requires within { at_of self ≤ end_of self }
-        ensures kept { IfOk result (λ r. IsReady r.0 × (at_of r.0 ≡ at_of self + 1) × (end_of r.0 ≡ end_of self)) }
+        ensures kept { IfOk result (λ r. IsReady r.0 × (at_of r.0 ≡ at_of self + 1) × (end_of r.0 ≡ end_of self) × (names_of r.0 ≡ names_of self)) }
         ensures stands { (doc : Doc) (k : ℕ) (h : List Entry) → IsFew (beat doc h k) → WorldStands doc k h self
             → IfOk result (λ r. WorldStands doc (k + 1) (beat doc h k) r.0 × (printed h ++ r.1 ≡ printed (beat doc h k))) }
     {
         let mut deeds = Deeds::new(self.alloc);
         self.first_starts(&mut deeds)?;
+        self.script(&mut deeds)?;
         self.arrivals(&mut deeds)?;
         self.deliveries(&mut deeds)?;
         self.turns(&mut deeds)?;
@@ -126,6 +156,150 @@ impl World {
         controller.start(self.beat);
         let actor = Actor::Proc(controller.me, controller.incarnation);
         tell(deeds, self.beat, actor, Some(Act::Start))
+    }
+
+    // The events of this beat happen, in order.
+    #[inline(never)]
+    fn script(&mut self, deeds: &mut Deeds) -> Result<(), NoMemory>
+        requires ready { IsReady self.old }
+        requires within { at_of self.old ≤ end_of self.old }
+        ensures kept { OnOk result (IsReady self.new × SameDocument self.old self.new) }
+        ensures stands { (doc : Doc) (k : ℕ) (before : List Deed) (arriving : List Sent) (coming : List Back) (h : List Entry) → Running doc k before arriving coming h self.old deeds.old → IsPlaced doc k self.old.place → IsFew (happen_all doc k doc.events h)
+            → OnOk result (Scripted doc k before arriving coming h self.new deeds.new) }
+    {
+        let all = self.events.as_slice().len();
+        'script: while self.place < all {
+            let event = &self.events.as_slice()[self.place];
+            if event.beat.0 != self.beat.0 {
+                return Ok(());
+            }
+            let what = copied(&event.what)?;
+            self.place += 1;
+            self.happen(what, deeds)?;
+        }
+        Ok(())
+    }
+
+    #[inline(never)]
+    fn happen(&mut self, what: What, deeds: &mut Deeds) -> Result<(), NoMemory>
+        requires ready { IsReady self.old }
+        requires within { at_of self.old ≤ end_of self.old }
+        requires delays { HasDelays what }
+        ensures kept { OnOk result (Keeps self.old self.new) }
+        ensures stands { OnOk result (Happens self.old deeds.old self.new deeds.new what) }
+    {
+        match what {
+            What::Rate(_, _) => Ok(()),
+            What::Delay(who, requests, replies) => {
+                self.wire.set_delay(who, requests, replies);
+                Ok(())
+            }
+            What::Loss(who, requests, replies) => {
+                self.wire.set_loss(who, requests, replies);
+                Ok(())
+            }
+            What::Watch(_, _) => Ok(()),
+            What::Ready(_, _) => Ok(()),
+            What::Crash(who) => self.crash(who, deeds),
+            What::Start(who) => self.start(who, deeds),
+            What::Stop(who) => self.stop(who, deeds),
+            What::Put(key, object) => self.put(key, object, deeds),
+            What::Remove(key) => self.remove(key, deeds),
+        }
+    }
+
+    fn crash(&mut self, who: ProcId, deeds: &mut Deeds) -> Result<(), NoMemory>
+        requires ready { IsReady self.old }
+        requires within { at_of self.old ≤ end_of self.old }
+        ensures kept { OnOk result (Keeps self.old self.new) }
+        ensures stands { OnOk result (Happens self.old deeds.old self.new deeds.new (What.Crash who)) }
+    {
+        let i = who.0 as usize;
+        if i >= self.controllers.len() {
+            return Ok(());
+        }
+        let controller = &mut self.controllers[i];
+        let crashed = controller.crash();
+        let actor = Actor::Proc(controller.me, controller.incarnation);
+        tell(deeds, self.beat, actor, crashing(crashed))
+    }
+
+    fn start(&mut self, who: ProcId, deeds: &mut Deeds) -> Result<(), NoMemory>
+        requires ready { IsReady self.old }
+        requires within { at_of self.old ≤ end_of self.old }
+        ensures kept { OnOk result (Keeps self.old self.new) }
+        ensures stands { OnOk result (Happens self.old deeds.old self.new deeds.new (What.Start who)) }
+    {
+        let i = who.0 as usize;
+        if i >= self.controllers.len() {
+            return Ok(());
+        }
+        let controller = &mut self.controllers[i];
+        let started = controller.begin(self.beat);
+        let actor = Actor::Proc(controller.me, controller.incarnation);
+        tell(deeds, self.beat, actor, starting(started))
+    }
+
+    // A stopped leader's release is sent at once.
+    fn stop(&mut self, who: ProcId, deeds: &mut Deeds) -> Result<(), NoMemory>
+        requires ready { IsReady self.old }
+        requires within { at_of self.old ≤ end_of self.old }
+        ensures kept { OnOk result (Keeps self.old self.new) }
+        ensures stands { OnOk result (Happens self.old deeds.old self.new deeds.new (What.Stop who)) }
+    {
+        let i = who.0 as usize;
+        if i >= self.controllers.len() {
+            return Ok(());
+        }
+        let controller = &mut self.controllers[i];
+        let stopped = controller.stop(self.beat);
+        let who = controller.me;
+        let incarnation = controller.incarnation;
+        let actor = Actor::Proc(who, incarnation);
+        tell(deeds, self.beat, actor, stopping(stopped.stopped))?;
+        match stopped.ask {
+            None => Ok(()),
+            Some(ask) => {
+                self.wire.send(who, incarnation, ask, self.beat)?;
+                Ok(())
+            }
+        }
+    }
+
+    fn put(&mut self, key: Key, object: Object, deeds: &mut Deeds) -> Result<(), NoMemory>
+        requires ready { IsReady self.old }
+        requires within { at_of self.old ≤ end_of self.old }
+        ensures kept { OnOk result (Keeps self.old self.new) }
+        ensures stands { OnOk result (Happens self.old deeds.old self.new deeds.new (What.Put key object)) }
+    {
+        let now = self.wall();
+        let version = self.store.put(key, object, now)?;
+        let act = Some(Act::Put(key, version));
+        tell(deeds, self.beat, Actor::Script, act)
+    }
+
+    fn remove(&mut self, key: Key, deeds: &mut Deeds) -> Result<(), NoMemory>
+        requires ready { IsReady self.old }
+        requires within { at_of self.old ≤ end_of self.old }
+        ensures kept { OnOk result (Keeps self.old self.new) }
+        ensures stands { OnOk result (Happens self.old deeds.old self.new deeds.new (What.Remove key)) }
+    {
+        let version = self.store.remove(key)?;
+        tell(
+            deeds,
+            self.beat,
+            Actor::Script,
+            removing(key, version),
+        )
+    }
+
+    // The store's time of day.
+    fn wall(&self) -> Wall
+        requires ready { IsReady self.now }
+        requires within { at_of self.now ≤ end_of self.now }
+        ensures { result.0 ≡ self.now.epoch.0 + self.now.beat.0 * self.now.micros }
+    {
+        Wall(self.epoch.0 + u64::from(self.beat.0) * u64::from(self.micros))
     }
 
     // Requests that arrive are answered, and each reply is sent.
@@ -247,19 +421,60 @@ fn answer(store: &mut Store, request: Request) -> Result<Reply, NoMemory>
     store.answer(request)
 }
 
+// An event's copy equals it.
+fn copied(what: &What) -> Result<What, NoMemory>
+    ensures { IfOk result (λ copy. copy ≡ what.now) }
+{
+    match what {
+        What::Rate(who, ppm) => Ok(What::Rate(*who, *ppm)),
+        What::Delay(who, requests, replies) => Ok(What::Delay(*who, *requests, *replies)),
+        What::Loss(who, requests, replies) => Ok(What::Loss(*who, *requests, *replies)),
+        What::Crash(who) => Ok(What::Crash(*who)),
+        What::Start(who) => Ok(What::Start(*who)),
+        What::Stop(who) => Ok(What::Stop(*who)),
+        What::Watch(who, on) => Ok(What::Watch(*who, *on)),
+        What::Ready(who, status) => Ok(What::Ready(*who, *status)),
+        What::Put(key, object) => Ok(What::Put(*key, object.copy()?)),
+        What::Remove(key) => Ok(What::Remove(*key)),
+    }
+}
+
+// The store with a document's objects, put in order.
+fn filled(alloc: Global, items: &Items, epoch: Wall) -> Result<Store, NoMemory>
+    ensures { (doc : Doc) → doc.settings.epoch ≡ epoch → IfOk result (StoreStands (put_all doc items.now [])) }
+{
+    let mut store = Store::new(alloc);
+    for item in items.as_slice() {
+        store.put(item.0, item.1.copy()?, epoch)?;
+    }
+    Ok(store)
+}
+
 // The controllers of a document, in order.
-fn made(alloc: Global, settings: &Settings, processes: &Procs) -> Result<Vec<Controller>, NoMemory>
+fn made(
+    alloc: Global,
+    settings: &Settings,
+    processes: &Procs,
+    events: &[Event],
+) -> Result<Vec<Controller>, NoMemory>
     requires settings { AreLawful settings.now }
     requires processes { All IsLawful processes.now }
+    requires events { AreEventsFrom settings.now.end_beat.0 0 events.now }
     requires few { length processes.now ≤ 16 }
     ensures count { IfOk result (λ cs. length cs.items ≡ length processes.now) }
     ensures clocks { IfOk result (λ cs. (i : ℕ) (c : Controller) → slice_get cs.items i ≡ Some c → c.clock.end ≡ settings.now.end_beat.0) }
-    ensures stands { (doc : Doc) → doc.settings ≡ settings.now → (doc.controllers ++ doc.kubelets) ≡ processes.now → doc.events ≡ [] → IfOk result (λ cs. EachStands doc [] cs.items) }
+    ensures stands { (doc : Doc) → doc.settings ≡ settings.now → (doc.controllers ++ doc.kubelets) ≡ processes.now → doc.events ≡ events.now → IfOk result (λ cs. EachStands doc [] cs.items) }
 {
     let mut controllers = Vec::new(alloc);
     for process in processes.as_slice() {
         let me = ProcId(controllers.len() as u32);
-        controllers.push(Controller::new(alloc, me, settings, process)?)?;
+        controllers.push(Controller::new(
+            alloc,
+            me,
+            settings,
+            process,
+            events,
+        )?)?;
     }
     Ok(controllers)
 }

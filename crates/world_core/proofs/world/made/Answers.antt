@@ -12,13 +12,13 @@ loop-process-preserved c = record {
   count = ap (λ xs. length xs) c.in_ok-push.ensures.items ∙ length-end c.loop-process.controllers.items c.in_ok-new.field-0 ∙ ap (λ n. n + 1) c.loop-process.invariant.count;
   clocks = subst (λ xs. (i : ℕ) (x : Controller) → slice_get xs i ≡ Some x → x.clock.end ≡ c.args.settings.now.end_beat.0) (sym c.in_ok-push.ensures.items)
       (every-end (λ i x. x.clock.end ≡ c.args.settings.now.end_beat.0) c.loop-process.controllers.items c.in_ok-new.field-0 c.loop-process.invariant.clocks c.in_ok-new.ensures.end);
-  stands = λ doc settings processes eventless. subst (λ xs. EachStands doc [] xs) (sym c.in_ok-push.ensures.items)
-      (every-end (λ i x. ControllerStands doc i [] x) c.loop-process.controllers.items c.in_ok-new.field-0 (c.loop-process.invariant.stands doc settings processes eventless)
+  stands = λ doc settings processes events. subst (λ xs. EachStands doc [] xs) (sym c.in_ok-push.ensures.items)
+      (every-end (λ i x. ControllerStands doc i [] x) c.loop-process.controllers.items c.in_ok-new.field-0 (c.loop-process.invariant.stands doc settings processes events)
       (c.in_ok-new.ensures.stands doc (length c.loop-process.controllers.items) (c.len.ensures ∙ c.loop-process.controllers.ok.0) settings
       (ap (λ ps. slice_get ps (length c.loop-process.controllers.items)) processes ∙ ap (λ i. slice_get c.as_slice-process-items.result.now i) c.loop-process.invariant.count
-      ∙ slice_get-get_or c.as_slice-process-items.result.now c.loop-process.process-index _ c.loop-process-test.true) eventless));
+      ∙ slice_get-get_or c.as_slice-process-items.result.now c.loop-process.process-index _ c.loop-process-test.true) events));
 }
 
 -- src/world.rt:223:1
 pub returns-clause-stands : goal.returns-clause-stands
-returns-clause-stands c = λ doc settings processes eventless. c.loop-process.invariant.stands doc settings (processes ∙ sym c.as_slice-process-items.ensures) eventless
+returns-clause-stands c = λ doc settings processes events. c.loop-process.invariant.stands doc settings (processes ∙ sym c.as_slice-process-items.ensures) events

@@ -9,5 +9,5 @@ invariant-loop-process l =
     record {
       count : length l.controllers.items ≡ l.process-index;
       clocks : (i : ℕ) (c : Controller) → slice_get l.controllers.items i ≡ Some c → c.clock.end ≡ l.settings.end_beat.0;
-      stands : (doc : Doc) → doc.settings ≡ l.settings → (doc.controllers ++ doc.kubelets) ≡ l.process-items → doc.events ≡ [] → EachStands doc [] l.controllers.items;
+      stands : (doc : Doc) → doc.settings ≡ l.settings → (doc.controllers ++ doc.kubelets) ≡ l.process-items → doc.events ≡ l.events → EachStands doc [] l.controllers.items;
     }

@@ -29,7 +29,7 @@ returns-in-None-clause-stands c doc k before arriving coming h b r is known few 
     ∙ ap (λ a. c.args.deeds.now ++ deeds_of w.beat.0 (actor.Proc c1.me c1.incarnation) a) c.leading.ensures
     ∙ ap (λ n. c.args.deeds.now ++ deeds_of n (actor.Proc c1.me c1.incarnation) (option_map act.Lead c.receive-received.result.lead)) at
     ∙ ap (λ x. c.args.deeds.now ++ deeds_of k x (option_map act.Lead c.receive-received.result.lead)) (actor-is i c1.incarnation c1.me me) in
-    replied-quiet doc k i before c.args.deeds.now c.tell.new.deeds arriving coming b h c0 c1 w _ c.receive-received.result r process known (record { was = was; now = refl; beat = refl; restart = refl; store = refl }) refl replied c.in-None.is told
+    replied-quiet doc k i before c.args.deeds.now c.tell.new.deeds arriving coming b h c0 c1 w _ c.receive-received.result r process known (record { was = was; now = refl; same = (record { beat = refl; end = refl; restart = refl; epoch = refl; micros = refl; events = refl; names = refl }); place = refl; store = refl }) refl replied c.in-None.is told
 
 pub returns-in_ok-send-in-Some-clause-kept : goal.returns-in_ok-send-in-Some-clause-kept
 returns-in_ok-send-in-Some-clause-kept c =
@@ -37,7 +37,7 @@ returns-in_ok-send-in-Some-clause-kept c =
     let i = c.args.back.now.who.0 in
     let index : i < vec_len w.controllers = omega (arith, c.if-i-len.false, c.len.ensures) in
     let was = read-at w i c.index_mut-controller.result.now index c.index_mut-controller.ensures.value in
-    keeps-moved i c.index_mut-controller.result.now c.receive-received.new.self w _ c.requires.ready (record { was = was; now = refl; beat = refl; restart = refl; store = refl }) refl refl c.receive-received.ensures.same
+    keeps-moved i c.index_mut-controller.result.now c.receive-received.new.self w _ c.requires.ready (record { was = was; now = refl; same = (record { beat = refl; end = refl; restart = refl; epoch = refl; micros = refl; events = refl; names = refl }); place = refl; store = refl }) refl c.receive-received.ensures.same
 
 pub returns-in_ok-send-in-Some-clause-stands : goal.returns-in_ok-send-in-Some-clause-stands
 returns-in_ok-send-in-Some-clause-stands c doc k before arriving coming h b r is known few =
@@ -58,6 +58,6 @@ returns-in_ok-send-in-Some-clause-stands c doc k before arriving coming h b r is
     ∙ ap (λ a. c.args.deeds.now ++ deeds_of w.beat.0 (actor.Proc c1.me c1.incarnation) a) c.leading.ensures
     ∙ ap (λ n. c.args.deeds.now ++ deeds_of n (actor.Proc c1.me c1.incarnation) (option_map act.Lead c.receive-received.result.lead)) at
     ∙ ap (λ x. c.args.deeds.now ++ deeds_of k x (option_map act.Lead c.receive-received.result.lead)) (actor-is i c1.incarnation c1.me me) in
-    replied-sent doc k i before c.args.deeds.now c.tell.new.deeds arriving coming b h c0 c1 w _ c.receive-received.result c.in-Some.ask r process known (record { was = was; now = refl; beat = refl; restart = refl; store = refl })
+    replied-sent doc k i before c.args.deeds.now c.tell.new.deeds arriving coming b h c0 c1 w _ c.receive-received.result c.in-Some.ask r process known (record { was = was; now = refl; same = (record { beat = refl; end = refl; restart = refl; epoch = refl; micros = refl; events = refl; names = refl }); place = refl; store = refl })
     (λ step g call stands number request. c.in_ok-send-in-Some.ensures.ok (processes doc) k step arriving coming g (identity i c1.incarnation) call stands at (ap (λ n. identity n c1.incarnation) (sym me)) number request)
     replied c.in-Some.is told

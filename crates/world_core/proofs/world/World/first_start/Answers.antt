@@ -14,7 +14,7 @@ use Rattle.world_core.proofs.world.World.first_start.Goals as goal
 pub returns-then-not-controller-clause-stands : goal.returns-then-not-controller-clause-stands
 returns-then-not-controller-clause-stands c doc before arriving coming h r few =
     let was = read-at c.args.self.now c.args.i c.index_mut-controller.result.now c.requires.index c.index_mut-controller.ensures.value in
-    first-not doc c.args.i before c.args.deeds.now arriving coming h c.index_mut-controller.result.now c.args.self.now _ r (record { was = was; now = refl; beat = refl; restart = refl; store = refl }) refl c.if-not-controller.true
+    first-not doc c.args.i before c.args.deeds.now arriving coming h c.index_mut-controller.result.now c.args.self.now _ r (record { was = was; now = refl; same = (record { beat = refl; end = refl; restart = refl; epoch = refl; micros = refl; events = refl; names = refl }); place = refl; store = refl }) refl c.if-not-controller.true
 
 pub start-requires : goal.start-requires
 start-requires c =
@@ -34,5 +34,5 @@ returns-clause-stands c doc before arriving coming h r few =
     let count : starts i h + 1 < 2 ^ 32 = starts-few 0 1 i h (subst (λ b. IsFew (start_first i b h)) (sym s.up_first ∙ up) few) in
     let stands = c.start.ensures.stands doc (processes doc) 0 1 i h s at r.world.rest.plain count in
     on-ok c.tell.result _ _ (λ told.
-    first-started doc i before c.args.deeds.now c.tell.new.deeds arriving coming h c0 c1 w _ r (within-processes doc 0 w i r.world.rest.document c.requires.index) (record { was = was; now = refl; beat = refl; restart = refl; store = refl }) refl up stands
+    first-started doc i before c.args.deeds.now c.tell.new.deeds arriving coming h c0 c1 w _ r (within-processes doc 0 w i r.world.rest.document c.requires.index) (record { was = was; now = refl; same = (record { beat = refl; end = refl; restart = refl; epoch = refl; micros = refl; events = refl; names = refl }); place = refl; store = refl }) refl up stands
     (told ∙ ap (λ n. c.args.deeds.now ++ deeds_of n (actor.Proc c1.me c1.incarnation) (Some act.Start)) at ∙ ap (λ who. c.args.deeds.now ++ deeds_of 0 who (Some act.Start)) (actor-is i c1.incarnation c1.me (stands.me)))) c.tell.ensures

@@ -1,28 +1,47 @@
-use Rattle.std.proofs.Common.{◌≡◌, ◌<◌, [], length, refl, sym, ap, ◌∙◌, subst}
+use Rattle.std.proofs.Common.{◌≡◌, ◌<◌, ◌++◌, [], length, refl, sym, ap, ◌∙◌, subst, arith}
 use Rattle.std.proofs.lemmas.Bool.{le-leb}
-use Rattle.std.proofs.lemmas.List.{append-nil}
-use Rattle.kube_objects.specs.Document.{processes}
+use Rattle.kube_objects.specs.Document.{Doc, processes}
+use Rattle.kube_objects.specs.InFlight.{requests_due, replies_due}
+use Rattle.history.specs.History.{history}
+use Rattle.script_reader.specs.Documents.{doc_of}
+use Rattle.script_reader.specs.Lawful.{AreLawfulFrom}
 use Rattle.wire_calls.specs.WireStands.{WireStands}
-use Rattle.world_core.specs.Documents.{doc_of}
+use Rattle.world_core.proofs.RunForms.{processes-are}
+use Rattle.world_core.proofs.Puts.{put-plain, put-wire, put-each, put-requests, put-replies}
 use Rattle.world_core.proofs.world.World.new.Goals as goal
 
--- src/world.rt:50:5
+pub made-requires-clause-events : goal.made-requires-clause-events
+made-requires-clause-events c = let doc = doc_of c.args.document in (doc, refl, subst (AreLawfulFrom doc 0) (sym c.as_slice.ensures) c.requires.lawful.events)
+
 pub returns-clause-stands : goal.returns-clause-stands
 returns-clause-stands c = record {
-  rest = record {
-    document = record {
-      at = refl;
-      restart = c.picoseconds.ensures.value;
-      count = count;
-      controllers = λ p less. le-leb _ _ (subst (λ n. p < n) (ap (λ xs. length xs) (append-nil c.args.document.controllers)) less);
-      eventless = refl;
+  within = record {
+    rest = record {
+      document = record {
+        at = refl;
+        restart = c.picoseconds.ensures.value;
+        count = count;
+        controllers = λ p less. le-leb _ _ (subst (λ n. p < n) (ap (λ xs. length xs) all) less);
+        epoch = refl;
+        micros = refl;
+        events = refl;
+      };
+      plain = put-plain doc (processes doc) doc.objects [] (record { fresh = λ p i less. tt; all = tt });
+      store = c.in_ok-store.ensures doc refl;
+      wire = subst (λ ss. WireStands (processes doc) 0 ss (replies_due 0 (history doc 0)) (history doc 0) c.in_ok-wire.wire) (sym (put-requests doc 0 doc.objects []))
+          (subst (λ bs. WireStands (processes doc) 0 [] bs (history doc 0) c.in_ok-wire.wire) (sym (put-replies doc 0 doc.objects []))
+          (put-wire doc (processes doc) doc.objects [] c.in_ok-wire.wire (subst (λ n. WireStands n 0 [] [] [] c.in_ok-wire.wire) (c.len.ensures ∙ c.in_ok-controllers.controllers.ok.0 ∙ count) (c.in_ok-wire.ensures 0))));
     };
-    plain = record { fresh = λ p i less. tt; all = tt };
-    store = c.new-2.ensures;
-    wire = subst (λ n. WireStands n 0 [] [] [] c.in_ok-wire.wire) (c.len.ensures ∙ c.in_ok-controllers.controllers.ok.0 ∙ count) (c.in_ok-wire.ensures 0);
+    controllers = put-each doc doc.objects [] c.in_ok-controllers.controllers.items (c.in_ok-controllers.ensures.stands doc refl all (sym c.as_slice.ensures));
   };
-  controllers = c.in_ok-controllers.ensures.stands (doc_of c.args.document) refl (append-nil c.args.document.controllers) refl;
+  placed = record { earlier = λ i e less is. absurd (omega (arith, less)); later = c.requires.lawful.events };
 }
   where
-    count : length c.in_ok-controllers.controllers.items ≡ processes (doc_of c.args.document)
-    count = c.in_ok-controllers.ensures.count ∙ sym (ap (λ xs. length xs) (append-nil c.args.document.controllers))
+    doc : Doc
+    doc = doc_of c.args.document
+
+    all : doc.controllers ++ doc.kubelets ≡ doc.controllers
+    all = processes-are doc c.requires.form
+
+    count : length c.in_ok-controllers.controllers.items ≡ processes doc
+    count = c.in_ok-controllers.ensures.count ∙ ap (λ xs. length xs) (sym all)

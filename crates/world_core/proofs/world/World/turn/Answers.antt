@@ -31,13 +31,13 @@ returns-in-None-clause-stands c doc k before arriving coming h r few =
     ∙ ap (λ a. c.args.deeds.now ++ deeds_of w.beat.0 (actor.Proc c1.me c1.incarnation) (when c.turn-turn.result.started act.Start) ++ deeds_of w.beat.0 (actor.Proc c1.me c1.incarnation) a) c.ending.ensures
     ∙ ap (λ n. c.args.deeds.now ++ deeds_of n (actor.Proc c1.me c1.incarnation) (when c.turn-turn.result.started act.Start) ++ deeds_of n (actor.Proc c1.me c1.incarnation) (when c.turn-turn.result.ended act.End)) at
     ∙ ap (λ x. c.args.deeds.now ++ deeds_of k x (when c.turn-turn.result.started act.Start) ++ deeds_of k x (when c.turn-turn.result.ended act.End)) who in
-    turned-quiet doc k i before c.args.deeds.now c.tell-2.new.deeds arriving coming h c0 c1 w _ c.turn-turn.result r within (record { was = was; now = refl; beat = refl; restart = refl; store = refl }) refl turned c.in-None.is told
+    turned-quiet doc k i before c.args.deeds.now c.tell-2.new.deeds arriving coming h c0 c1 w _ c.turn-turn.result r within (record { was = was; now = refl; same = (record { beat = refl; end = refl; restart = refl; epoch = refl; micros = refl; events = refl; names = refl }); place = refl; store = refl }) refl turned c.in-None.is told
 
 pub returns-in_ok-send-in-Some-clause-kept : goal.returns-in_ok-send-in-Some-clause-kept
 returns-in_ok-send-in-Some-clause-kept c =
     let w = c.args.self.now in
     let was = read-at w c.args.i c.index_mut-controller.result.now c.requires.index c.index_mut-controller.ensures.value in
-    keeps-moved c.args.i c.index_mut-controller.result.now c.turn-turn.new.self w _ c.requires.ready (record { was = was; now = refl; beat = refl; restart = refl; store = refl }) refl refl c.turn-turn.ensures.same
+    keeps-moved c.args.i c.index_mut-controller.result.now c.turn-turn.new.self w _ c.requires.ready (record { was = was; now = refl; same = (record { beat = refl; end = refl; restart = refl; epoch = refl; micros = refl; events = refl; names = refl }); place = refl; store = refl }) refl c.turn-turn.ensures.same
 
 pub returns-in_ok-send-in-Some-clause-stands : goal.returns-in_ok-send-in-Some-clause-stands
 returns-in_ok-send-in-Some-clause-stands c doc k before arriving coming h r few =
@@ -59,6 +59,6 @@ returns-in_ok-send-in-Some-clause-stands c doc k before arriving coming h r few 
     ∙ ap (λ a. c.args.deeds.now ++ deeds_of w.beat.0 (actor.Proc c1.me c1.incarnation) (when c.turn-turn.result.started act.Start) ++ deeds_of w.beat.0 (actor.Proc c1.me c1.incarnation) a) c.ending.ensures
     ∙ ap (λ n. c.args.deeds.now ++ deeds_of n (actor.Proc c1.me c1.incarnation) (when c.turn-turn.result.started act.Start) ++ deeds_of n (actor.Proc c1.me c1.incarnation) (when c.turn-turn.result.ended act.End)) at
     ∙ ap (λ x. c.args.deeds.now ++ deeds_of k x (when c.turn-turn.result.started act.Start) ++ deeds_of k x (when c.turn-turn.result.ended act.End)) who in
-    turned-asks doc k i before c.args.deeds.now c.tell-2.new.deeds arriving coming h c0 c1 w _ c.turn-turn.result c.in-Some.ask r within (record { was = was; now = refl; beat = refl; restart = refl; store = refl })
+    turned-asks doc k i before c.args.deeds.now c.tell-2.new.deeds arriving coming h c0 c1 w _ c.turn-turn.result c.in-Some.ask r within (record { was = was; now = refl; same = (record { beat = refl; end = refl; restart = refl; epoch = refl; micros = refl; events = refl; names = refl }); place = refl; store = refl })
     (λ step g call stands number request. c.in_ok-send-in-Some.ensures.ok (processes doc) k step arriving coming g (identity i c1.incarnation) call stands at (ap (λ n. identity n c1.incarnation) (sym me)) number request)
     turned c.in-Some.is told

@@ -1,0 +1,156 @@
+-- The world through an entry of the script.
+use Rattle.std.proofs.Common.{◌≡◌, ℕ, ◌+◌, ◌<◌, ◌++◌, Bool, true, false, List, [], ◌∷◌, Option, Some, None, slice_get, length, length-append, refl, sym, ap, ◌∙◌, subst, append_assoc, arith}
+use Rattle.std.proofs.lemmas.List.{append-nil}
+use Rattle.kube_base.specs.declared.numbers.ProcId.{ProcId}
+use Rattle.kube_base.specs.declared.numbers.Version.{Version}
+use Rattle.kube_objects.specs.declared.call.Ask.{Ask}
+use Rattle.kube_objects.specs.declared.deed.Actor.TheVariants as actor
+use Rattle.kube_objects.specs.declared.deed.Deed as deed
+use Rattle.kube_objects.specs.declared.script.What.{What}
+use Rattle.kube_objects.specs.declared.script.What.TheVariants as what
+use Rattle.kube_objects.specs.Document.{Doc, processes, is_controller}
+use Rattle.kube_objects.specs.Entry.{Entry, Event, Crashes, Stops, entry, script_entry}
+use Rattle.kube_objects.specs.Identities.{identity}
+use Rattle.kube_objects.specs.Process.{alive, starts, cancels}
+use Rattle.kube_objects.specs.Stored.{write_of}
+use Rattle.kube_objects.specs.Wire.{Sent, Back}
+use Rattle.history.specs.Printed.{printed, deeds_of, event_act}
+use Rattle.history.specs.Steps.{start_if_down, crash, happens}
+use Rattle.leader_elector.specs.Moves.{Asked}
+use Rattle.object_store.proofs.Keeps.{store-beside}
+use Rattle.object_store.specs.Stands.{StoreStands}
+use Rattle.wire_calls.specs.WireStands.{WireStands, is_of_wire}
+use Rattle.wire_calls.proofs.Frames.{wire-beside}
+use Rattle.world_core.specs.declared.controller.Controller.{Controller}
+use Rattle.world_core.specs.declared.world.World.{World}
+use Rattle.world_core.specs.Controllers.{ControllerStands, AsksOn, stop_in, stopped}
+use Rattle.world_core.specs.Plain.{IsKnown}
+use Rattle.world_core.specs.Worlds.{SameDocument, RestStands, EachStands, Running}
+use Rattle.world_core.proofs.Around.{Around, around-world, around-own, around-started, alive-known}
+use Rattle.world_core.proofs.Names.{lt-from, eq-isnt}
+use Rattle.world_core.proofs.Plainly.{known-later}
+use Rattle.world_core.proofs.Scripted.{plain-script, controller-event}
+use Rattle.world_core.proofs.Running.{Moved, SendsOn, doc-same, within-moved, within-sent, printed-sent}
+
+pub controller-within : (doc : Doc) (p : ℕ) → is_controller doc p ≡ true → p < processes doc
+controller-within doc p is = let less = lt-from p (length doc.controllers) is in omega (arith, less, length-append doc.controllers doc.kubelets)
+
+-- ---- an event that leaves each controller as it is
+
+-- its entry with its version
+abbrev pub scripted : ℕ → What → Option Version → List Entry → List Entry
+scripted k event version h = script_entry k 1 (Event event version) ∷ h
+
+pub running-event : (doc : Doc) (k : ℕ) (before deeds new : List deed.Deed) (arriving : List Sent) (coming : List Back) (h : List Entry) (w v : World) (event : What) (version : Option Version) → Running doc k before arriving coming h w deeds →
+    ((p : ℕ) → cancels p event ≡ false) → SameDocument w v → v.controllers ≡ w.controllers → StoreStands (scripted k event version h) v.store → WireStands (processes doc) k arriving coming (scripted k event version h) v.wire →
+    new ≡ deeds ++ deeds_of k actor.Script (event_act event version) → Running doc k before arriving coming (scripted k event version h) v new
+running-event doc k before deeds new arriving coming h w v event version r beside same controllers store wire new_is =
+    record {
+      world = record {
+        rest = record {
+          document = doc-same doc k w v same (ap (λ cs. length cs.items) controllers) r.world.rest.document;
+          plain = plain-script (processes doc) k 1 (Event event version) h r.world.rest.plain;
+          store = store;
+          wire = wire;
+        };
+        controllers = subst (λ cs. EachStands doc (scripted k event version h) cs.items) (sym controllers) (λ p c is. controller-event doc p k 1 event version h c (beside p) (r.world.controllers p c is));
+      };
+      told = ap (λ ds. before ++ ds) new_is ∙ sym (append_assoc before deeds (deeds_of k actor.Script (event_act event version))) ∙ ap (λ ds. ds ++ deeds_of k actor.Script (event_act event version)) r.told;
+    }
+
+-- it changes nothing in the world and is not printed
+pub running-plain : (doc : Doc) (k : ℕ) (before deeds : List deed.Deed) (arriving : List Sent) (coming : List Back) (h : List Entry) (w : World) (event : What) → Running doc k before arriving coming h w deeds → is_of_wire (Event event None) ≡ false → write_of (Event event None) ≡ None →
+    ((p : ℕ) → cancels p event ≡ false) → Running doc k before arriving coming (scripted k event None h) w deeds
+running-plain doc k before deeds arriving coming h w event r wire write beside =
+    let e = script_entry k 1 (Event event None) in
+    running-event doc k before deeds deeds arriving coming h w w event None r beside (record { beat = refl; end = refl; restart = refl; epoch = refl; micros = refl; events = refl; names = refl }) refl
+    (store-beside h e w.store r.world.rest.store write) (wire-beside (processes doc) k arriving coming h e w.wire wire r.world.rest.wire) (sym (append-nil deeds))
+
+-- ---- an event on a controller
+
+around-event : (doc : Doc) (k i : ℕ) (arriving : List Sent) (coming : List Back) (event : What) (h : List Entry) (w : World) → is_of_wire (Event event None) ≡ false → write_of (Event event None) ≡ None → ((p : ℕ) → ¬ (p ≡ i) → cancels p event ≡ false) →
+    Around doc k i arriving coming h w → Around doc k i arriving coming (scripted k event None h) w
+around-event doc k i arriving coming event h w wire write beside a =
+    record {
+      rest = record {
+        document = a.rest.document;
+        plain = plain-script (processes doc) k 1 (Event event None) h a.rest.plain;
+        store = store-beside h (script_entry k 1 (Event event None)) w.store a.rest.store write;
+        wire = wire-beside (processes doc) k arriving coming h (script_entry k 1 (Event event None)) w.wire wire a.rest.wire;
+      };
+      others = λ p c other is. controller-event doc p k 1 event None h c (beside p other) (a.others p c other is);
+    }
+
+apart : (i p : ℕ) → ¬ (p ≡ i) → ¬ (i ≡ p)
+apart i p other = λ same. other (sym same)
+
+pub around-crash : (doc : Doc) (k : ℕ) (id : ProcId) (arriving : List Sent) (coming : List Back) (h : List Entry) (w : World) → id.0 < processes doc → Around doc k id.0 arriving coming h w → Around doc k id.0 arriving coming (happens doc k (what.Crash id) h) w
+around-crash doc k id arriving coming h w within a = by_life (alive id.0 h) refl
+  where
+    g : List Entry
+    g = scripted k (what.Crash id) None h
+
+    base : Around doc k id.0 arriving coming g w
+    base = around-event doc k id.0 arriving coming (what.Crash id) h w refl refl (λ p other. eq-isnt id.0 p (apart id.0 p other)) a
+
+    by_life : (up : Option ℕ) → alive id.0 h ≡ up → Around doc k id.0 arriving coming (crash k id.0 up g) w
+    by_life None is = base
+    by_life (Some i) is =
+        let known = known-later (processes doc) (script_entry k 1 (Event (what.Crash id) None)) h (identity id.0 i) (alive-known (processes doc) id.0 i h a.rest.plain within is) in
+        around-own doc k id.0 k 1 arriving coming (identity id.0 i) Crashes g w refl refl (known-later (processes doc) (entry k 1 (identity id.0 i) Crashes) g (identity id.0 i) known) base
+
+pub around-begin : (doc : Doc) (k : ℕ) (id : ProcId) (arriving : List Sent) (coming : List Back) (h : List Entry) (w : World) → id.0 < processes doc → Around doc k id.0 arriving coming h w → Around doc k id.0 arriving coming (happens doc k (what.Start id) h) w
+around-begin doc k id arriving coming h w within a = by_life (alive id.0 h)
+  where
+    g : List Entry
+    g = scripted k (what.Start id) None h
+
+    base : Around doc k id.0 arriving coming g w
+    base = around-event doc k id.0 arriving coming (what.Start id) h w refl refl (λ p other. eq-isnt id.0 p (apart id.0 p other)) a
+
+    by_life : (up : Option ℕ) → Around doc k id.0 arriving coming (start_if_down k 1 id.0 up g) w
+    by_life None = around-started doc k id.0 k 1 arriving coming g w within base
+    by_life (Some i) = base
+
+pub around-stop : (doc : Doc) (k : ℕ) (id : ProcId) (arriving : List Sent) (coming : List Back) (h : List Entry) (w : World) → id.0 < processes doc → Around doc k id.0 arriving coming h w → Around doc k id.0 arriving coming (stopped k id h) w
+around-stop doc k id arriving coming h w within a = by_life (alive id.0 h) refl
+  where
+    g : List Entry
+    g = scripted k (what.Stop id) None h
+
+    base : Around doc k id.0 arriving coming g w
+    base = around-event doc k id.0 arriving coming (what.Stop id) h w refl refl (λ p other. eq-isnt id.0 p (apart id.0 p other)) a
+
+    by_life : (up : Option ℕ) → alive id.0 h ≡ up → Around doc k id.0 arriving coming (stop_in k id.0 up g) w
+    by_life None is = base
+    by_life (Some i) is =
+        let known = known-later (processes doc) (script_entry k 1 (Event (what.Stop id) None)) h (identity id.0 i) (alive-known (processes doc) id.0 i h a.rest.plain within is) in
+        around-own doc k id.0 k 1 arriving coming (identity id.0 i) Stops g w refl refl (known-later (processes doc) (entry k 1 (identity id.0 i) Stops) g (identity id.0 i) known) base
+
+told-more : (before deeds new more : List deed.Deed) (h next : List Entry) → before ++ deeds ≡ printed h → new ≡ deeds ++ more → printed next ≡ printed h ++ more → before ++ new ≡ printed next
+told-more before deeds new more h next told new_is is = ap (λ ds. before ++ ds) new_is ∙ sym (append_assoc before deeds more) ∙ ap (λ ds. ds ++ more) told ∙ sym is
+
+-- the controller stands for the history with the event, and sends nothing
+pub running-moved : (doc : Doc) (k i : ℕ) (before deeds new more : List deed.Deed) (arriving : List Sent) (coming : List Back) (h next : List Entry) (c0 c1 : Controller) (w v : World) → Running doc k before arriving coming h w deeds → Moved i c0 c1 w v → v.wire ≡ w.wire →
+    Around doc k i arriving coming next w → ControllerStands doc i next c1 → printed next ≡ printed h ++ more → new ≡ deeds ++ more → Running doc k before arriving coming next v new
+running-moved doc k i before deeds new more arriving coming h next c0 c1 w v r m wire around stands printed_is new_is =
+    record { world = within-moved doc k i arriving coming next c0 c1 w v m wire around stands; told = told-more before deeds new more h next r.told new_is printed_is }
+
+-- it stands for it where it asks nothing
+pub running-quiet : (doc : Doc) (k i : ℕ) (before deeds new more : List deed.Deed) (arriving : List Sent) (coming : List Back) (h base next : List Entry) (c0 c1 : Controller) (w v : World) (ask : Option Ask) → Running doc k before arriving coming h w deeds → Moved i c0 c1 w v → v.wire ≡ w.wire →
+    Around doc k i arriving coming base w → AsksOn doc k 1 i base next c1 ask → ask ≡ None → printed base ≡ printed h ++ more → new ≡ deeds ++ more → Running doc k before arriving coming next v new
+running-quiet doc k i before deeds new more arriving coming h base next c0 c1 w v ask r m wire around asks quiet printed_is new_is =
+    let on = subst (AsksOn doc k 1 i base next c1) quiet asks in
+    subst (λ g. Running doc k before arriving coming g v new) (sym on.0) (running-moved doc k i before deeds new more arriving coming h base c0 c1 w v r m wire around on.1 printed_is new_is)
+
+-- what it asks is sent
+pub running-asks : (doc : Doc) (k i : ℕ) (before deeds new more : List deed.Deed) (arriving : List Sent) (coming : List Back) (h base next : List Entry) (c0 c1 : Controller) (w v : World) (given : Option Ask) (ask : Ask) → Running doc k before arriving coming h w deeds → i < processes doc → Moved i c0 c1 w v →
+    SendsOn doc k arriving coming (identity i c1.incarnation) ask w v → Around doc k i arriving coming base w → AsksOn doc k 1 i base next c1 given → given ≡ Some ask → printed base ≡ printed h ++ more → new ≡ deeds ++ more → Running doc k before arriving coming next v new
+running-asks doc k i before deeds new more arriving coming h base next c0 c1 w v given ask r within m sends around asks some printed_is new_is =
+    let asked : Asked k 1 (identity i c1.incarnation) base next (λ x. ControllerStands doc i x c1) ask = subst (AsksOn doc k 1 i base next c1) some asks in
+    let last : c1.incarnation ≡ starts i base = (asked.stands None).incarnation in
+    let known : IsKnown (processes doc) base (identity i c1.incarnation) = record { within = within; started = omega (arith, last) } in
+    record {
+      world = within-sent doc k 1 i arriving coming base next c0 c1 w v ask m sends around known asked;
+      told = told-more before deeds new more h base r.told new_is printed_is ∙ sym (printed-sent k 1 (identity i c1.incarnation) asked.kind ask base next asked.sent);
+    }
