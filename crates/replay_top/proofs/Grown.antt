@@ -6,20 +6,24 @@ use Rattle.std.proofs.lemmas.Grind.{flat_map-append}
 use Rattle.kube_objects.specs.declared.deed.Deed.{Deed}
 use Rattle.kube_objects.specs.Document.{Doc, end_beat}
 use Rattle.byte_edge.specs.Bytes.{Gave}
-use Rattle.history.specs.History.{beat, history}
+use Rattle.kube_objects.specs.Clocks.{store_wall, whole_second}
+use Rattle.kube_objects.specs.declared.key.Key.{Key}
+use Rattle.kube_objects.specs.declared.object.Object.{Object}
+use Rattle.kube_objects.specs.Stamps.{stamped}
+use Rattle.history.specs.History.{beat, history, put_all}
 use Rattle.history.specs.Printed.{printed, deeds_of, act_of}
 use Rattle.history_laws.specs.Tails.{IsTail}
 use Rattle.history_laws.proofs.Once.{calls_are_few}
 use Rattle.history_laws.proofs.Starts.{starts_are_few}
 use Rattle.world_core.specs.Plain.{IsFew}
 use Rattle.history_laws.proofs.Order.{histories_are_positions}
-use Rattle.kube_objects.specs.Entry.{Entry}
+use Rattle.kube_objects.specs.Entry.{Entry, First, script_entry}
 use Rattle.world_core.specs.declared.world.World.{World}
-use Rattle.replay_top.specs.Defaults.{doc_of}
+use Rattle.script_reader.specs.Documents.{doc_of}
+use Rattle.script_reader.specs.declared.document.Document.{Document}
 use Rattle.world_core.specs.Worlds.{WorldStands}
-use Rattle.replay_top.specs.declared.document.OneController.{OneController}
 use Rattle.replay_top.specs.Lines.{first_line, line_of, lines_of, trace_before, trace_of, trace}
-use Rattle.replay_top.proofs.Parsed.{never}
+use Rattle.replay_top.specs.Names.{process_names}
 use Rattle.replay_top.proofs.Said.{gave-longer}
 
 -- the printed entries of a position of a history are a front of the history's
@@ -37,19 +41,22 @@ printed-tail g (e ∷ h) (inr tail) = longer (printed-tail g h tail)
 pub printed-later : (doc : Doc) (k m : ℕ) → k ≤ m → (more : List Deed) × (printed (history doc k) ++ more ≡ printed (history doc m))
 printed-later doc k m earlier = printed-tail (history doc k) (history doc m) (histories_are_positions doc k m earlier)
 
-lines-more : (doc : Doc) (name : List ℕ) (front more : List Deed) → (first_line doc ++ lines_of name front) ++ lines_of name more ≡ first_line doc ++ lines_of name (front ++ more)
-lines-more doc name front more =
-    append_assoc (first_line doc) (lines_of name front) (lines_of name more) ∙ ap (λ x. first_line doc ++ x) (sym (flat_map-append (line_of name) front more))
+lines-more : (doc : Doc) (names processes : List (List ℕ)) (front more : List Deed)
+    → (first_line doc ++ lines_of names processes front) ++ lines_of names processes more ≡ first_line doc ++ lines_of names processes (front ++ more)
+lines-more doc names processes front more =
+    append_assoc (first_line doc) (lines_of names processes front) (lines_of names processes more)
+    ∙ ap (λ x. first_line doc ++ x) (sym (flat_map-append (line_of names processes) front more))
 
 -- a prefix of the trace before a beat is one of the whole trace
-pub gave-whole : (doc : Doc) (name : List ℕ) (k : ℕ) (before after : Option (List ℕ)) → k ≤ end_beat doc + 1 → Gave before after (trace_before doc name k) → Gave before after (trace_of doc name)
+pub gave-whole : (doc : Doc) (names processes : List (List ℕ)) (k : ℕ) (before after : Option (List ℕ)) → k ≤ end_beat doc + 1
+    → Gave before after (trace_before doc names processes k) → Gave before after (trace_of doc names processes)
 unfolding trace_before trace_of
-gave-whole doc name k before after within g = from (printed-later doc k (suc (end_beat doc)) (subst (λ n. k ≤ n) (add-one (end_beat doc)) within))
+gave-whole doc names processes k before after within g = from (printed-later doc k (suc (end_beat doc)) (subst (λ n. k ≤ n) (add-one (end_beat doc)) within))
   where
-    from : (more : List Deed) × (printed (history doc k) ++ more ≡ printed (history doc (suc (end_beat doc)))) → Gave before after (trace_of doc name)
+    from : (more : List Deed) × (printed (history doc k) ++ more ≡ printed (history doc (suc (end_beat doc)))) → Gave before after (trace_of doc names processes)
     from later =
-        gave-longer before after (trace_before doc name k) (lines_of name later.0) (trace_of doc name)
-        (lines-more doc name (printed (history doc k)) later.0 ∙ ap (λ x. first_line doc ++ lines_of name x) later.1) g
+        gave-longer before after (trace_before doc names processes k) (lines_of names processes later.0) (trace_of doc names processes)
+        (lines-more doc names processes (printed (history doc k)) later.0 ∙ ap (λ x. first_line doc ++ lines_of names processes x) later.1) g
 
 pub next-stands : (doc : Doc) (k n : ℕ) (w : World) → n ≡ k + 1 → WorldStands doc (k + 1) (beat doc (history doc k) k) w → WorldStands doc n (history doc n) w
 next-stands doc k n w is s =
@@ -57,13 +64,16 @@ next-stands doc k n w is s =
     subst (λ m. WorldStands doc m (history doc m) w) (sym (is ∙ add-one k)) next
 
 -- the lines of one beat more
-pub trace-next : (doc : Doc) (name : List ℕ) (k n : ℕ) (deeds : List Deed) → n ≡ k + 1 → printed (history doc k) ++ deeds ≡ printed (beat doc (history doc k) k)
-    → trace_before doc name k ++ lines_of name deeds ≡ trace_before doc name n
+pub trace-next : (doc : Doc) (names processes : List (List ℕ)) (k n : ℕ) (deeds : List Deed) → n ≡ k + 1 → printed (history doc k) ++ deeds ≡ printed (beat doc (history doc k) k)
+    → trace_before doc names processes k ++ lines_of names processes deeds ≡ trace_before doc names processes n
 unfolding trace_before
-trace-next doc name k n deeds is told =
-    lines-more doc name (printed (history doc k)) deeds
-    ∙ ap (λ x. first_line doc ++ lines_of name x) told
-    ∙ ap (trace_before doc name) (sym (is ∙ add-one k))
+trace-next doc names processes k n deeds is told =
+    lines-more doc names processes (printed (history doc k)) deeds
+    ∙ ap (λ x. first_line doc ++ lines_of names processes x) told
+    ∙ ap (trace_before doc names processes) (sym (is ∙ add-one k))
+
+never : false ≡ true → ⊥
+never h = cc
 
 pub not-over : (end at : ℕ) (b : Bool) → (IsTrue b ↔ (end < at)) → b ≡ false → at ≤ end
 not-over end at b tells answer = by_test (nat_lt end at) refl
@@ -76,22 +86,31 @@ pub over : (end at : ℕ) (b : Bool) → (IsTrue b ↔ (end < at)) → b ≡ tru
 over end at b tells answer within = omega (arith, tells.0 answer, within)
 
 -- what the world counts stays within its types
-pub few : (doc : Doc) (k : ℕ) → doc.events ≡ [] → k ≤ 604800000 → IsFew (history doc (suc k))
-few doc k eventless within =
+pub few : (doc : Doc) (k : ℕ) → length doc.events ≤ 100000 → k ≤ 604800000 → IsFew (history doc (suc k))
+few doc k events within =
     record {
       calls = λ q. omega (arith, calls_are_few doc q (suc k), within);
-      starts = λ p. omega (arith, starts_are_few doc p (suc k), ap length eventless, within);
+      starts = λ p. omega (arith, starts_are_few doc p (suc k), events, within);
     }
 
+-- the putting of the objects isn't printed
+put-silent : (doc : Doc) (items : List (Key × Object)) (h : List Entry) → printed (put_all doc items h) ≡ printed h
+put-silent doc [] h = refl
+put-silent doc (x ∷ xs) h =
+    put-silent doc xs (script_entry 0 0 (First x.0 (stamped (whole_second (store_wall doc 0)) x.1)) ∷ h) ∙ append-nil (printed h)
+
 -- the text begins with the first line
-pub trace-first : (d : OneController) (empty text name : List ℕ) → empty ≡ [] → text ≡ empty ++ first_line (doc_of d) → name ≡ d.name → text ≡ trace_before (doc_of d) name 0
+pub trace-first : (doc : Doc) (names processes : List (List ℕ)) (empty text : List ℕ) → empty ≡ [] → text ≡ empty ++ first_line doc → text ≡ trace_before doc names processes 0
 unfolding trace_before
-trace-first d empty text name none is named = is ∙ ap (λ l. l ++ first_line (doc_of d)) none ∙ sym (append-nil (first_line (doc_of d)))
+trace-first doc names processes empty text none is =
+    is ∙ ap (λ l. l ++ first_line doc) none
+    ∙ sym (append-nil (first_line doc))
+    ∙ ap (λ ds. first_line doc ++ lines_of names processes ds) (sym (put-silent doc doc.objects []))
 
-pub trace-end : (doc : Doc) (name : List ℕ) → trace_before doc name (suc (end_beat doc)) ≡ trace_of doc name
+pub trace-end : (doc : Doc) (names processes : List (List ℕ)) → trace_before doc names processes (suc (end_beat doc)) ≡ trace_of doc names processes
 unfolding trace_before trace_of
-trace-end doc name = refl
+trace-end doc names processes = refl
 
-pub trace-named : (d : OneController) (name : List ℕ) → name ≡ d.name → trace_of (doc_of d) name ≡ trace d
+pub trace-named : (d : Document) (names processes : List (List ℕ)) → names ≡ d.names → processes ≡ process_names d.names (doc_of d) → trace_of (doc_of d) names processes ≡ trace d
 unfolding trace
-trace-named d name named = ap (trace_of (doc_of d)) named
+trace-named d names processes named ordered = ap (λ n. trace_of (doc_of d) n processes) named ∙ ap (trace_of (doc_of d) d.names) ordered

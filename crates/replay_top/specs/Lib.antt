@@ -1,7 +1,7 @@
-pub mod Defaults
-pub mod Form
+pub mod Commands
 pub mod Lines
 pub mod Names
 pub mod Outcome
 pub mod Readings
 pub mod Spoken
+pub mod Summary

@@ -1,14 +1,18 @@
 -- What a run writes and how it ends.
-use Rattle.std.specs.Prelude.{◌≡◌, ℕ, ◌++◌, nat_le, Bool, false, List, [], ◌∷◌, length, drop, codes, decimal, Option, Some, Result, Ok, Err, if◌then◌else◌}
-use Rattle.std.specs.Str.{bytes_eq}
+use Rattle.std.specs.Prelude.{◌≡◌, ℕ, ◌++◌, nat_le, List, [], length, drop, codes, decimal, Option, Some, None, Result, Ok, Err, if◌then◌else◌}
 use Rattle.byte_edge.specs.Bytes.{Gives, Gave}
-use Rattle.replay_top.specs.declared.document.OneController.{OneController}
-use Rattle.replay_top.specs.declared.refusal.Refusal.{Refusal}
-use Rattle.replay_top.specs.declared.refusal.Refusal.TheVariants.{BadJson, TooLarge, NotBuilt}
+use Rattle.manifest_json.specs.declared.fault.Refusal.{Refusal}
+use Rattle.script_reader.specs.declared.document.Document.{Document}
+use Rattle.script_reader.specs.Documents.{doc_of}
+use Rattle.script_reader.specs.Walk.{document_walk}
+use Rattle.world_core.specs.Forms.{is_run}
+use Rattle.replay_top.specs.declared.command.Command.{Command}
+use Rattle.replay_top.specs.declared.command.Command.TheVariants.{Replay, Check}
 use Rattle.replay_top.specs.declared.status.Status.{Status}
 use Rattle.replay_top.specs.declared.status.Status.TheVariants.{Done, Refused, Usage, SourceFault, SinkFault, OutOfMemory}
-use Rattle.replay_top.specs.Form.{document_in}
+use Rattle.replay_top.specs.Commands.{command_of}
 use Rattle.replay_top.specs.Lines.{trace}
+use Rattle.replay_top.specs.Summary.{summary}
 
 -- how the run ends, all that it writes, and what it leaves of the source's bytes
 pub record Outcome : Type 0 where
@@ -16,37 +20,42 @@ pub record Outcome : Type 0 where
   pub text : List ℕ
   pub left : List ℕ
 
--- the number of a refusal
-abbrev pub code_of : Refusal → ℕ
-code_of BadJson = 1
-code_of TooLarge = 33
-code_of NotBuilt = 99
-
--- all refusals of this stage are of the whole input
 abbrev pub refusal_text : Refusal → List ℕ
-refusal_text refusal = codes "refused " ++ decimal (code_of refusal) ++ codes " /\n"
+refusal_text r = codes "refused " ++ decimal r.code ++ codes " " ++ r.path ++ codes "\n"
 
 abbrev pub refused : Refusal → List ℕ → Outcome
-refused refusal left = record { status = Refused; text = refusal_text refusal; left = left }
+refused r left = record { status = Refused; text = refusal_text r; left = left }
+
+-- a refusal of the whole input
+abbrev pub of_whole : ℕ → Refusal
+of_whole code = record { code = code; path = codes "/" }
+
+abbrev pub done : List ℕ → Outcome
+done text = record { status = Done; text = text; left = [] }
+
+-- `replay` writes the trace of the documents that are run, and `check` the line on any document
+abbrev pub answer_to : Command → Document → Outcome
+answer_to Replay d = if is_run (doc_of d) then done (trace d) else refused (of_whole 99) []
+answer_to Check d = done (summary d)
+
+abbrev pub answered : Command → Result Document Refusal → Outcome
+answered command (Ok d) = answer_to command d
+answered command (Err r) = refused r []
+
+-- at most 16,777,216 bytes are read, and one more to see that there are more
+unfoldable pub obeyed : Command → List ℕ → Outcome
+obeyed command bytes = if nat_le (length bytes) 16777216 then answered command (document_walk bytes) else refused (of_whole 33) (drop 16777217 bytes)
 
 abbrev pub usage : List ℕ → Outcome
 usage bytes = record { status = Usage; text = codes "usage: kube_replay COMMAND\n"; left = bytes }
 
-abbrev pub replayed : Result OneController Refusal → Outcome
-replayed (Ok document) = record { status = Done; text = trace document; left = [] }
-replayed (Err refusal) = refused refusal []
-
--- at most 16,777,216 bytes are read, and one more to see that there are more
-unfoldable pub replay : List ℕ → Outcome
-replay bytes = if nat_le (length bytes) 16777216 then replayed (document_in bytes) else refused TooLarge (drop 16777217 bytes)
-
-abbrev pub is_replay : List (List ℕ) → Bool
-is_replay (word ∷ []) = bytes_eq word (codes "replay")
-is_replay _ = false
+abbrev pub outcome_of : Option Command → List ℕ → Outcome
+outcome_of None bytes = usage bytes
+outcome_of (Some command) bytes = obeyed command bytes
 
 -- by the words after the program's name and all bytes of the source
 abbrev pub outcome : List (List ℕ) → List ℕ → Outcome
-outcome words bytes = if is_replay words then replay bytes else usage bytes
+outcome words bytes = outcome_of (command_of words) bytes
 
 -- the run ends so, all its text was taken, and this is left of the source
 pub record IsWhole (o : Outcome) (rest before after : Option (List ℕ)) (ended : Status) : Type 0 where

@@ -1,13 +1,13 @@
-//! The commands: from bytes to the trace of a document, or to its one refusal.
+//! The commands: from bytes to the trace of a document, the line on it, or its one refusal.
 #![tactic(auto)]
 
-mod document;
-mod form;
+mod command;
 mod lines;
-mod name;
-mod refusal;
+mod reading;
 mod running;
 mod status;
+mod summary;
+mod texts;
 mod trace;
 
 pub use running::run;

@@ -1,17 +1,21 @@
 // A document is run, and its trace is written as the beats are done.
-ghost use Rattle.std.specs.Prelude.{◌≡◌, ◌≤◌, ◌+◌, ◌++◌, ℕ, List, [], Option, OnOk, OnErr, IfOk, IfErr, IsErr};
+ghost use Rattle.std.specs.Prelude.{◌≡◌, ◌≤◌, ◌++◌, ℕ, List, Option, true, length, OnOk, OnErr, IfOk, IfErr, IsErr};
 ghost use Rattle.byte_edge.specs.Bytes.{Rose, Gives, Gave};
 ghost use Rattle.kube_objects.specs.Document.{Doc, end_beat};
 ghost use Rattle.history.specs.History.{history};
-ghost use Rattle.world_core.specs.Worlds.{at_of, end_of, IsReady, WorldStands};
-ghost use Rattle.replay_top.specs.Defaults.{doc_of};
+ghost use Rattle.script_reader.specs.Documents.{doc_of};
+ghost use Rattle.script_reader.specs.Lawful.{IsLawfulDoc};
+ghost use Rattle.world_core.specs.Forms.{is_run};
+ghost use Rattle.world_core.specs.Worlds.{at_of, end_of, names_of, IsReady, WorldStands};
 ghost use Rattle.replay_top.specs.Lines.{trace, trace_of, trace_before, first_line};
+ghost use Rattle.replay_top.specs.Names.{process_names as names_in_order};
 ghost use Rattle.replay_top.specs.Spoken.{Spoken, Written};
 
-use crate::document::{OneController, world_document};
 use crate::lines::{add_deeds, add_first};
+use crate::texts::process_names;
 use byte_edge::{Failed, Sink, give_all};
-use kube_base::{Name, NoMemory};
+use kube_base::{ListOf, Name, NoMemory};
+use script_reader::Document;
 use std::alloc::Global;
 use thiserror::Error;
 use world_core::World;
@@ -32,50 +36,54 @@ const PIECE: usize = 16_384;
 pub(crate) fn write_trace<K: Sink>(
     alloc: Global,
     sink: &mut K,
-    document: OneController,
+    document: Document,
 ) -> Result<(), WriteFault>
-    requires { document.end.0 ≤ 6048000 }
+    requires lawful { IsLawfulDoc (doc_of document) }
+    requires form { is_run (doc_of document) ≡ true }
     ensures all { OnOk result (Gives (K.taken sink.old) (K.taken sink.new) (trace document)) }
     ensures front { OnErr result (Gave (K.taken sink.old) (K.taken sink.new) (trace document)) }
     ensures failed { IfErr result (λ e. e ≡ WriteFault.Sink → Rose (K.faults sink.old) (K.faults sink.new)) }
 {
     let mut text = Vec::new(alloc);
     match start(alloc, &mut text, document) {
-        Ok((world, name)) => write_beats(sink, world, &name, text),
+        Ok((world, processes)) => write_beats(alloc, sink, world, processes.as_slice(), text),
         Err(NoMemory) => Err(WriteFault::NoMemory),
     }
 }
 
-/// The world before its first beat and the controller's name, with the first line at the end of the text.
+/// The world before its first beat and the processes' names, with the first line at the end of the text.
 fn start(
     alloc: Global,
     text: &mut Vec<u8>,
-    document: OneController,
-) -> Result<(World, Name), NoMemory>
-    requires { document.end.0 ≤ 6048000 }
+    document: Document,
+) -> Result<(World, ListOf<Name>), NoMemory>
+    requires lawful { IsLawfulDoc (doc_of document) }
+    requires form { is_run (doc_of document) ≡ true }
     ensures text { OnOk result (text.new.items ≡ text.old.items ++ first_line (doc_of document)) }
-    ensures name { IfOk result (λ r. r.1 ≡ document.name) }
-    ensures kept { IfOk result (λ r. IsReady r.0 × (at_of r.0 ≡ 0) × (end_of r.0 ≡ document.end.0)) }
+    ensures processes { IfOk result (λ r. r.1 ≡ names_in_order document.names (doc_of document)) }
+    ensures names { IfOk result (λ r. names_of r.0 ≡ document.names) }
+    ensures kept { IfOk result (λ r. IsReady r.0 × (at_of r.0 ≡ 0) × (end_of r.0 ≡ document.settings.end_beat.0)) }
     ensures stands { IfOk result (λ r. WorldStands (doc_of document) 0 (history (doc_of document) 0) r.0) }
 {
     add_first(text, &document)?;
-    let name = document.name.copy()?;
-    let world = World::new(alloc, world_document(alloc, &document)?)?;
-    Ok((world, name))
+    let processes = process_names(alloc, &document)?;
+    let world = World::new(alloc, document)?;
+    Ok((world, processes))
 }
 
 /// Does all beats and writes their lines, after the text so far.
 fn write_beats<K: Sink>(
+    alloc: Global,
     sink: &mut K,
     mut world: World,
-    name: &Name,
+    processes: &[Name],
     mut text: Vec<u8>,
 ) -> Result<(), WriteFault>
     requires ready { IsReady world }
     requires first { at_of world ≡ 0 }
-    ensures written { (doc : Doc) → (before : Option (List ℕ)) → doc.events ≡ [] → WorldStands doc 0 (history doc 0) world → end_of world ≡ end_beat doc
-        → Spoken before (K.taken sink.old) text.items (trace_before doc name.now 0)
-        → Written before (K.taken sink.new) (trace_of doc name.now) result }
+    ensures written { (doc : Doc) → (before : Option (List ℕ)) → length doc.events ≤ 100000 → WorldStands doc 0 (history doc 0) world → end_of world ≡ end_beat doc
+        → Spoken before (K.taken sink.old) text.items (trace_before doc (names_of world) processes.now 0)
+        → Written before (K.taken sink.new) (trace_of doc (names_of world) processes.now) result }
     ensures failed { IfErr result (λ e. e ≡ WriteFault.Sink → Rose (K.faults sink.old) (K.faults sink.new)) }
 {
     'beats: while !world.finished() {
@@ -90,7 +98,7 @@ fn write_beats<K: Sink>(
             }
             Err(NoMemory) => return Err(WriteFault::NoMemory),
         };
-        match add_deeds(&mut text, name.bytes(), deeds.as_slice()) {
+        match add_deeds(alloc, &mut text, world.names(), processes, deeds.as_slice()) {
             Ok(()) => {}
             Err(NoMemory) => return Err(WriteFault::NoMemory),
         }

@@ -2,68 +2,75 @@ use Rattle.std.proofs.Common.{◌≡◌, suc, ◌+◌, ◌≤◌, ◌++◌, subs
 use Rattle.kube_objects.specs.Document.{end_beat}
 use Rattle.byte_edge.specs.Bytes.{Gives, Gave}
 use Rattle.history.specs.History.{history}
-use Rattle.world_core.specs.Worlds.{at_of, end_of}
+use Rattle.world_core.specs.Worlds.{at_of, end_of, names_of}
 use Rattle.replay_top.specs.Lines.{trace_before, lines_of}
 use Rattle.replay_top.proofs.Said.{spoken-given, spoken-front, spoken-so_far, spoken-more}
 use Rattle.replay_top.proofs.Grown.{gave-whole, next-stands, trace-next, not-over, over, few, trace-end}
 use Rattle.replay_top.proofs.trace.write_beats.Goals as goal
 
 pub returns-in-Err-clause-written : goal.returns-in-Err-clause-written
-returns-in-Err-clause-written g c doc before eventless first is s =
-    let now = c.beats.invariant.stands doc before eventless first is s in
-    let name = c.args.name.now in
+returns-in-Err-clause-written g c doc before events first is s =
+    let now = c.beats.invariant.stands doc before events first is s in
+    let names = names_of c.args.world in
+    let processes = c.args.processes.now in
     let k = at_of c.beats.world in
     let within : k ≤ end_beat doc + 1 = omega (arith, c.beats.invariant.within, c.beats.invariant.last, is) in
-    gave-whole doc name k before (g.K.Sink.taken c.give_long.new.sink) within (c.in-Err.ensures.front before (trace_before doc name k) now.1)
+    gave-whole doc names processes k before (g.K.Sink.taken c.give_long.new.sink) within (c.in-Err.ensures.front before (trace_before doc names processes k) now.1)
 
 pub returns-in-Err-beat-clause-written : goal.returns-in-Err-beat-clause-written
-returns-in-Err-beat-clause-written g c doc before eventless first is s =
-    let now = c.beats.invariant.stands doc before eventless first is s in
-    let name = c.args.name.now in
+returns-in-Err-beat-clause-written g c doc before events first is s =
+    let now = c.beats.invariant.stands doc before events first is s in
+    let names = names_of c.args.world in
+    let processes = c.args.processes.now in
     let k = at_of c.beats.world in
     let within : k ≤ end_beat doc + 1 = omega (arith, c.beats.invariant.within, c.beats.invariant.last, is) in
     let after = g.K.Sink.taken c.give_long.new.sink in
-    gave-whole doc name k before after within
-    (spoken-so_far before after c.give_long.new.text.items (trace_before doc name k) (c.in-Ok.ensures.spoken before (trace_before doc name k) now.1))
+    gave-whole doc names processes k before after within
+    (spoken-so_far before after c.give_long.new.text.items (trace_before doc names processes k) (c.in-Ok.ensures.spoken before (trace_before doc names processes k) now.1))
 
 pub returns-in-Err-add_deeds-clause-written : goal.returns-in-Err-add_deeds-clause-written
-returns-in-Err-add_deeds-clause-written g c doc before eventless first is s =
-    let now = c.beats.invariant.stands doc before eventless first is s in
-    let name = c.args.name.now in
+returns-in-Err-add_deeds-clause-written g c doc before events first is s =
+    let now = c.beats.invariant.stands doc before events first is s in
+    let names = names_of c.args.world in
+    let processes = c.args.processes.now in
     let k = at_of c.beats.world in
     let within : k ≤ end_beat doc + 1 = omega (arith, c.beats.invariant.within, c.beats.invariant.last, is) in
     let after = g.K.Sink.taken c.give_long.new.sink in
-    gave-whole doc name k before after within
-    (spoken-so_far before after c.give_long.new.text.items (trace_before doc name k) (c.in-Ok.ensures.spoken before (trace_before doc name k) now.1))
+    gave-whole doc names processes k before after within
+    (spoken-so_far before after c.give_long.new.text.items (trace_before doc names processes k) (c.in-Ok.ensures.spoken before (trace_before doc names processes k) now.1))
 
 pub beats-preserved : goal.beats-preserved
 beats-preserved g c =
-    let name = c.args.name.now in
+    let names = names_of c.args.world in
+    let processes = c.args.processes.now in
     let k = at_of c.beats.world in
     let next = c.in-Ok-beat.next in
     let after = g.K.Sink.taken c.give_long.new.sink in
     let buffer = c.give_long.new.text.items in
-    let lines : c.add_deeds.new.text.items ≡ buffer ++ lines_of name c.in-Ok-beat.deeds = c.in-Ok-add_deeds.ensures ∙ ap (λ n. buffer ++ lines_of n c.as_slice.result.now) c.bytes.ensures ∙ ap (λ l. buffer ++ lines_of name l) c.as_slice.ensures in
     let kept = c.in-Ok-beat.ensures.kept in
+    let same : c.names.result.now ≡ names = c.names.ensures ∙ kept.3 ∙ c.beats.invariant.names in
+    let lines : c.add_deeds.new.text.items ≡ buffer ++ lines_of names processes c.in-Ok-beat.deeds = c.in-Ok-add_deeds.ensures ∙ ap (λ n. buffer ++ lines_of n processes c.as_slice.result.now) same ∙ ap (λ l. buffer ++ lines_of names processes l) c.as_slice.ensures in
     let inside = not-over (end_of c.beats.world) k c.finished.result c.finished.ensures c.beats-test.true in
     record {
       within = omega (arith, inside, kept.1, kept.2);
       ready = kept.0;
       last = kept.2 ∙ c.beats.invariant.last;
+      names = kept.3 ∙ c.beats.invariant.names;
       counted = omega (arith, c.beats.invariant.counted, c.give_long.ensures.counted);
-      stands = λ doc before eventless first is s.
-          let now = c.beats.invariant.stands doc before eventless first is s in
-          let beat = c.in-Ok-beat.ensures.stands doc k (history doc k) (few doc k eventless (omega (arith, inside, c.beats.invariant.ready.end))) now.0 in (
+      stands = λ doc before events first is s.
+          let now = c.beats.invariant.stands doc before events first is s in
+          let beat = c.in-Ok-beat.ensures.stands doc k (history doc k) (few doc k events (omega (arith, inside, c.beats.invariant.ready.end))) now.0 in (
             next-stands doc k (at_of next) next kept.1 beat.0,
-            spoken-more before after buffer (lines_of name c.in-Ok-beat.deeds) c.add_deeds.new.text.items (trace_before doc name k) (trace_before doc name (at_of next))
-                (c.in-Ok.ensures.spoken before (trace_before doc name k) now.1) lines (trace-next doc name k (at_of next) c.in-Ok-beat.deeds kept.1 beat.1),
+            spoken-more before after buffer (lines_of names processes c.in-Ok-beat.deeds) c.add_deeds.new.text.items (trace_before doc names processes k) (trace_before doc names processes (at_of next))
+                (c.in-Ok.ensures.spoken before (trace_before doc names processes k) now.1) lines (trace-next doc names processes k (at_of next) c.in-Ok-beat.deeds kept.1 beat.1),
           );
     }
 
 pub returns-in-Ok-give_all-clause-written : goal.returns-in-Ok-give_all-clause-written
-returns-in-Ok-give_all-clause-written g c doc before eventless first is s =
-    let now = c.beats.invariant.stands doc before eventless first is s in
-    let name = c.args.name.now in
+returns-in-Ok-give_all-clause-written g c doc before events first is s =
+    let now = c.beats.invariant.stands doc before events first is s in
+    let names = names_of c.args.world in
+    let processes = c.args.processes.now in
     let k = at_of c.beats.world in
     let taken = g.K.Sink.taken in
     let text = c.beats.text.items in
@@ -71,17 +78,18 @@ returns-in-Ok-give_all-clause-written g c doc before eventless first is s =
     let done = over (end_of c.beats.world) k c.finished.result c.finished.ensures c.beats-test.false c.beats.invariant.within in
     let end : k ≡ suc (end_beat doc) = done ∙ ap (λ n. n + 1) last ∙ add-one (end_beat doc) in
     let given = subst (Gives (taken c.beats.sink) (taken c.give_all.new.sink)) c.deref.ensures.value c.in-Ok-give_all.ensures.all in
-    subst (Gives before (taken c.give_all.new.sink)) (ap (trace_before doc name) end ∙ trace-end doc name)
-    (spoken-given before (taken c.beats.sink) (taken c.give_all.new.sink) text (trace_before doc name k) now.1 given)
+    subst (Gives before (taken c.give_all.new.sink)) (ap (trace_before doc names processes) end ∙ trace-end doc names processes)
+    (spoken-given before (taken c.beats.sink) (taken c.give_all.new.sink) text (trace_before doc names processes k) now.1 given)
 
 pub returns-clause-written : goal.returns-clause-written
-returns-clause-written g c doc before eventless first is s =
-    let now = c.beats.invariant.stands doc before eventless first is s in
-    let name = c.args.name.now in
+returns-clause-written g c doc before events first is s =
+    let now = c.beats.invariant.stands doc before events first is s in
+    let names = names_of c.args.world in
+    let processes = c.args.processes.now in
     let k = at_of c.beats.world in
     let within : k ≤ end_beat doc + 1 = omega (arith, c.beats.invariant.within, c.beats.invariant.last, is) in
     let taken = g.K.Sink.taken in
     let text = c.beats.text.items in
     let gave = subst (Gave (taken c.beats.sink) (taken c.give_all.new.sink)) c.deref.ensures.value c.in-Err-give_all.ensures.front in
-    gave-whole doc name k before (taken c.give_all.new.sink) within
-    (spoken-front before (taken c.beats.sink) (taken c.give_all.new.sink) text (trace_before doc name k) now.1 gave)
+    gave-whole doc names processes k before (taken c.give_all.new.sink) within
+    (spoken-front before (taken c.beats.sink) (taken c.give_all.new.sink) text (trace_before doc names processes k) now.1 gave)

@@ -1,0 +1,35 @@
+use Rattle.std.proofs.Common.{[], Some, subst}
+use Rattle.byte_edge.proofs.Fronts.{gave-nothing}
+use Rattle.replay_top.specs.Outcome.{obeyed, answer_to, refused, of_whole, Ends}
+use Rattle.replay_top.proofs.Endings.{ends-moved}
+use Rattle.replay_top.proofs.running.obey.Goals as goal
+
+pub returns-in-Document-clause-text : goal.returns-in-Document-clause-text
+returns-in-Document-clause-text g c bytes told =
+    let reads = c.in-Document.ensures.told bytes told in
+    let command = c.args.command in
+    let taken = g.K.Sink.taken in
+    ends-moved (answer_to command c.in-Document.document) (obeyed command bytes) (Some []) (g.S.Source.left c.read.new.source) (taken c.args.sink.now) (taken c.answer.new.sink) c.answer.result
+    (reads.1 command) reads.0 c.answer.ensures.text
+
+pub returns-in-Refused-clause-text : goal.returns-in-Refused-clause-text
+returns-in-Refused-clause-text g c bytes told =
+    let reads = c.in-Refused.ensures.told bytes told in
+    let refusal = c.in-Refused.refusal in
+    let command = c.args.command in
+    let before = g.K.Sink.taken c.args.sink.now in
+    let after = g.K.Sink.taken c.refuse.new.sink in
+    let ends : Ends (refused refusal []) (Some []) before after c.refuse.result
+    = subst (λ path. Ends (refused (record { code = refusal.code; path = path }) []) (Some []) before after c.refuse.result) c.as_slice.ensures (c.refuse.ensures.text []) in
+    ends-moved (refused refusal []) (obeyed command bytes) (Some []) (g.S.Source.left c.read.new.source) before after c.refuse.result (reads.1 command) reads.0 ends
+
+pub returns-in-TooLarge-clause-text : goal.returns-in-TooLarge-clause-text
+returns-in-TooLarge-clause-text g c bytes told =
+    let reads = c.in-TooLarge.ensures.told bytes told in
+    let command = c.args.command in
+    let taken = g.K.Sink.taken in
+    ends-moved (refused (of_whole 33) reads.0) (obeyed command bytes) (Some reads.0) (g.S.Source.left c.read.new.source) (taken c.args.sink.now) (taken c.refuse-in-TooLarge.new.sink) c.refuse-in-TooLarge.result
+    (reads.2 command) reads.1 (c.refuse-in-TooLarge.ensures.text reads.0)
+
+pub returns-in-NoMemory-clause-text : goal.returns-in-NoMemory-clause-text
+returns-in-NoMemory-clause-text g c bytes told = gave-nothing (g.K.Sink.taken c.args.sink.now) (obeyed c.args.command bytes).text
