@@ -42,12 +42,7 @@ pub fn write_list(
 }
 
 #[tactic(auto, unfolding(crate::specs::Written::list_of, crate::specs::Written::members_of))]
-fn list_value(
-    alloc: Global,
-    names: &Names,
-    known: &[u32],
-    items: &Items,
-) -> Result<Value, NoMemory>
+fn list_value(alloc: Global, names: &Names, known: &[u32], items: &Items) -> Result<Value, NoMemory>
     requires { list_all written.is_writable_item items.now ≡ true }
     ensures { IfOk result (λ value. view value ≡ written.list_of names.now known.now items.now) }
 {
