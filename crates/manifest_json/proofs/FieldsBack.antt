@@ -109,7 +109,7 @@ text-back code path (b ∷ bytes) = ap (λ e. text_at code path (unless_null (co
     by : (n : ℕ) → (suc n == 0) ≡ false
     by n = grind (arith, nat_tests)
 
-there : (xs : Texts) (n : ℕ) → n < length xs → slice_get xs n ≡ Some (unwrap_or (slice_get xs n) [])
+pub there : (xs : Texts) (n : ℕ) → n < length xs → slice_get xs n ≡ Some (unwrap_or (slice_get xs n) [])
 there [] n h = absurd (omega arith)
 there (x ∷ xs) zero h = refl
 there (x ∷ xs) (suc n) h = there xs n (omega arith)

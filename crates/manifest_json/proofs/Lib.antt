@@ -1,5 +1,7 @@
 pub mod FieldsBack
+pub mod HoldersBack
 pub mod KeptLemmas
+pub mod ListsBack
 pub mod Loops
 pub mod PartsBack
 pub mod WriteLoops

@@ -11,9 +11,9 @@ mod metadata;
 mod node;
 mod object;
 mod pod;
-mod write;
 #[cfg(test)]
 mod tests;
+mod write;
 
 pub use fault::{Path, ReadFault, Refusal, fault_below};
 pub use field::number;

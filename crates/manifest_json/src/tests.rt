@@ -1,8 +1,9 @@
 // Manifests with the objects and the refusals that they give.
-use crate::{Path, ReadFault, Refusal, read_list, read_object};
+use crate::{Path, ReadFault, Refusal, read_list, read_object, write_list};
 use kube_base::{Names, ProcId, Wall};
 use kube_objects::{
-    Effect, Holder, Key, Kind, Lease, Object, Operator, Ready, ReadyStatus, Taint, Toleration,
+    Effect, Holder, Items, Key, Kind, Lease, Object, Operator, Ready, ReadyStatus, Taint,
+    Toleration,
 };
 use serde_json::Value;
 use std::alloc::Global;
@@ -263,4 +264,172 @@ fn refuses_lists(rt: HostRuntime) -> Result<(), Fail> {
     let twice =
         r#"{"apiVersion":"v1","kind":"List","items":[{"apiVersion":"v1","kind":"Pod","metadata":{"name":"p1"}},{"apiVersion":"v1","kind":"Pod","metadata":{"name":"p1"}}]}"#;
     check_list(&rt, rt.alloc(), twice, 31, "/objects/items/1")
+}
+
+/// No objects are written as an empty List.
+#[test]
+fn writes_no_objects(rt: HostRuntime) -> Result<(), Fail> {
+    let alloc = rt.alloc();
+    let names = Names::new(alloc)?;
+    let value = write_list(alloc, &names, &[], &Items::new(alloc))?;
+    let text = value.to_string(alloc)?;
+    assert_eq!(rt;
+        text.as_str(),
+        r#"{"apiVersion":"v1","items":[],"kind":"List"}"#
+    );
+    Ok(())
+}
+
+const ELECTION: &str =
+    r#"{"apiVersion":"v1","items":[{"apiVersion":"coordination.k8s.io/v1","kind":"Lease","metadata":{"name":"kube-controller-manager","namespace":"kube-system"},"spec":{"acquireTime":"2024-01-01T00:00:00.200000Z","holderIdentity":"c1_1","leaseDurationSeconds":15,"leaseTransitions":0,"renewTime":"2024-01-01T00:00:00.600000Z"}}],"kind":"List"}"#;
+
+/// The Lease of an election, whose holder is the controller `c1`.
+#[test]
+fn writes_a_lease(rt: HostRuntime) -> Result<(), Fail> {
+    let alloc = rt.alloc();
+    let mut names = Names::new(alloc)?;
+    let known = names.number(b"c1")?;
+    let key = Key {
+        kind: Kind::Lease,
+        space: 7,
+        name: 8,
+    };
+    let lease = Lease {
+        holder: Holder::Proc(ProcId(0), 1),
+        duration: Some(15),
+        acquired: Some(Wall(NEW_YEAR + 200_000)),
+        renewed: Some(Wall(NEW_YEAR + 600_000)),
+        transitions: Some(0),
+    };
+    let mut items = Items::new(alloc);
+    items.push((key, Object::Lease(lease)))?;
+    let value = write_list(alloc, &names, &[known], &items)?;
+    assert_eq!(rt; value.to_string(alloc)?.as_str(), ELECTION);
+    Ok(())
+}
+
+const WRITTEN: &str =
+    r#"{"apiVersion":"v1","items":[{"apiVersion":"v1","kind":"Node","metadata":{"labels":{"topology.kubernetes.io/zone":"z1"},"name":"n1"},"spec":{"taints":[{"effect":"NoExecute","key":"gpu","timeAdded":"2024-01-01T00:00:00Z","value":"yes"}]},"status":{"conditions":[{"reason":"NodeStatusUnknown","status":"Unknown","type":"Ready"}]}},{"apiVersion":"coordination.k8s.io/v1","kind":"Lease","metadata":{"name":"n1","namespace":"kube-node-lease"},"spec":{"holderIdentity":"n1","leaseDurationSeconds":40,"renewTime":"2024-01-01T00:00:00.000001Z"}},{"apiVersion":"v1","kind":"Pod","metadata":{"name":"p1","namespace":"default"},"spec":{"nodeName":"n1","tolerations":[{"effect":"NoExecute","key":"gpu","operator":"Exists","tolerationSeconds":300}]}}],"kind":"List"}"#;
+
+/// What is read is written without the fields that aren't read, nor those that are missing or empty.
+#[test]
+fn writes_what_it_read(rt: HostRuntime) -> Result<(), Fail> {
+    let alloc = rt.alloc();
+    let value = Value::from_str(alloc, LIST)?;
+    let mut names = Names::new(alloc)?;
+    let objects = read_list(alloc, &mut names, &[], &value, &Path::new(alloc))?;
+    let written = write_list(alloc, &names, &[], &objects.items)?;
+    assert_eq!(rt; written.to_string(alloc)?.as_str(), WRITTEN);
+    Ok(())
+}
+
+/// Values of a wrong JSON type, and a taint without a key, each at its own path.
+#[test]
+fn refuses_wrong_types(rt: HostRuntime) -> Result<(), Fail> {
+    for (text, code, path) in [
+        ("5", 10, "/events/3/object"),
+        (r#"{"kind":"Node"}"#, 11, "/events/3/object"),
+        (
+            r#"{"apiVersion":"v1","kind":"Pod","metadata":{"name":"p1","namespace":""}}"#,
+            12,
+            "/events/3/object/metadata/namespace",
+        ),
+        (
+            r#"{"apiVersion":"v1","kind":"Node","metadata":{"name":5}}"#,
+            10,
+            "/events/3/object/metadata/name",
+        ),
+        (
+            r#"{"apiVersion":"v1","kind":"Node","metadata":{"name":"n1","labels":{"topology.kubernetes.io/region":5}}}"#,
+            10,
+            "/events/3/object/metadata/labels/topology.kubernetes.io/region",
+        ),
+        (
+            r#"{"apiVersion":"v1","kind":"Node","metadata":{"name":"n1"},"spec":{"taints":[null]}}"#,
+            10,
+            "/events/3/object/spec/taints/0",
+        ),
+        (
+            r#"{"apiVersion":"v1","kind":"Node","metadata":{"name":"n1"},"spec":{"taints":[{"effect":"NoExecute"}]}}"#,
+            21,
+            "/events/3/object/spec/taints/0/key",
+        ),
+        (
+            r#"{"apiVersion":"v1","kind":"Pod","metadata":{"name":"p1"},"spec":{"tolerations":[{"key":"a","effect":"NoExecute","tolerationSeconds":9223372036854775808}]}}"#,
+            14,
+            "/events/3/object/spec/tolerations/0/tolerationSeconds",
+        ),
+        (
+            r#"{"apiVersion":"v1","kind":"Pod","metadata":{"name":"p1"},"spec":{"tolerations":[{"key":"a","effect":"NoExecute","tolerationSeconds":1.0}]}}"#,
+            14,
+            "/events/3/object/spec/tolerations/0/tolerationSeconds",
+        ),
+    ] {
+        check_object(&rt, rt.alloc(), text, code, path)?;
+    }
+    Ok(())
+}
+
+/// Each condition is walked whole before the next, also behind the first of type Ready.
+#[test]
+fn refuses_conditions_in_order(rt: HostRuntime) -> Result<(), Fail> {
+    for (text, code, path) in [
+        (
+            r#"{"apiVersion":"v1","kind":"Node","metadata":{"name":"n1"},"status":{"conditions":[{"type":"Ready","status":"Yes"},5]}}"#,
+            18,
+            "/events/3/object/status/conditions/0/status",
+        ),
+        (
+            r#"{"apiVersion":"v1","kind":"Node","metadata":{"name":"n1"},"status":{"conditions":[5,{"type":"Ready","status":"True"}]}}"#,
+            10,
+            "/events/3/object/status/conditions/0",
+        ),
+        (
+            r#"{"apiVersion":"v1","kind":"Node","metadata":{"name":"n1"},"status":{"conditions":[{"type":"Ready","status":"True"},5]}}"#,
+            10,
+            "/events/3/object/status/conditions/1",
+        ),
+    ] {
+        check_object(&rt, rt.alloc(), text, code, path)?;
+    }
+    Ok(())
+}
+
+/// A Node with so many taints, whose keys differ.
+fn many_taints(alloc: Global, count: u32) -> Result<String, Fail> {
+    let mut text = String::from_str(
+        alloc,
+        r#"{"apiVersion":"v1","kind":"Node","metadata":{"name":"n1"},"spec":{"taints":["#,
+    )?;
+    for i in 0..count {
+        if i > 0 {
+            text.push_str(",")?;
+        }
+        text.push_str(r#"{"effect":"NoExecute","key":"k"#)?;
+        text.push_str(i.to_string(alloc)?.as_str())?;
+        text.push_str(r#""}"#)?;
+    }
+    text.push_str("]}}")?;
+    Ok(text)
+}
+
+/// A Node has at most a hundred taints, and a list beyond that is refused before its members are walked.
+#[test]
+fn refuses_too_many_taints(rt: HostRuntime) -> Result<(), Fail> {
+    let alloc = rt.alloc();
+    let few = many_taints(alloc, 100)?;
+    let value = Value::from_str(alloc, few.as_str())?;
+    let mut names = Names::new(alloc)?;
+    match read_object(alloc, &mut names, &[], &value, &Path::new(alloc))? {
+        (_, Object::Node(node)) => assert_eq!(rt; node.taints.as_slice().len(), 100),
+        _ => assert!(rt; false, "a Node was given"),
+    }
+    let many = many_taints(alloc, 101)?;
+    check_object(
+        &rt,
+        alloc,
+        many.as_str(),
+        32,
+        "/events/3/object/spec/taints",
+    )
 }

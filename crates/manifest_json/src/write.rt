@@ -1,7 +1,9 @@
 // A List of objects as it is written.
-ghost use Rattle.std.specs.Prelude.{◌≡◌, true, map, IfOk};
+ghost use Rattle.std.specs.Prelude.{◌≡◌, ℕ, true, List, map, Ok, IfOk};
 ghost use Rattle.std.specs.List.{list_all};
 ghost use Rattle.serde_json.specs.View.{view};
+ghost use Rattle.manifest_json.specs.Readable.{IsReadable};
+ghost use Rattle.manifest_json.specs.Walk.{list_walk};
 ghost use Rattle.manifest_json.specs.Written as written;
 
 pub(crate) mod field;
@@ -19,16 +21,28 @@ use kube_objects::{Items, Key, Object};
 use serde_json::Value;
 use std::alloc::Global;
 
-/// The `v1` List of the objects in order.
+/// The `v1` List of the objects in order, with just the fields that are read and aren't missing or empty.
 ///
-/// `known` are the numbers of the controllers' names. No time may lie after 2261.
-#[tactic(auto, unfolding(crate::specs::Written::list_of, crate::specs::Written::members_of))]
+/// `known` are the numbers of the controllers' names. No time may lie after 2261. Items that a manifest can give are read back from the List as
+/// they are, with the same names, wherever it stands in a document.
 pub fn write_list(
     alloc: Global,
     names: &Names,
     known: &[u32],
     items: &Items,
 ) -> Result<Value, NoMemory>
+    requires { list_all written.is_writable_item items.now ≡ true }
+    ensures value { IfOk result (λ value. view value ≡ written.list_of names.now known.now items.now) }
+    ensures reads_back { IfOk result (λ value. IsReadable names.now known.now items.now → (path : List ℕ)
+        → list_walk names.now known.now path (view value) ≡ Ok ((items.now, 0), names.now)) }
+{
+    // Each number that is held has a text of its own.
+    let _held = names.len();
+    list_value(alloc, names, known, items)
+}
+
+#[tactic(auto, unfolding(crate::specs::Written::list_of, crate::specs::Written::members_of))]
+fn list_value(alloc: Global, names: &Names, known: &[u32], items: &Items) -> Result<Value, NoMemory>
     requires { list_all written.is_writable_item items.now ≡ true }
     ensures { IfOk result (λ value. view value ≡ written.list_of names.now known.now items.now) }
 {

@@ -56,18 +56,17 @@ fn spec(
 }
 
 /// The text of a holder, empty where there is none.
-fn holder(
-    alloc: Global,
-    names: &Names,
-    known: &[u32],
-    holder: Holder,
-) -> Result<String, NoMemory>
+fn holder(alloc: Global, names: &Names, known: &[u32], holder: Holder) -> Result<String, NoMemory>
     ensures { IfOk result (λ text. string_bytes text ≡ written.holder_text names.now known.now holder) }
 {
     match holder {
         Holder::Nobody => Ok(String::new(alloc)),
         Holder::Proc(process, incarnation) => {
-            identity(alloc, text_of(names, number_at(known, process.0)), incarnation)
+            identity(
+                alloc,
+                text_of(names, number_at(known, process.0)),
+                incarnation,
+            )
         }
         Holder::Foreign(number) => Ok(String::from_str(alloc, text_of(names, number))?),
     }

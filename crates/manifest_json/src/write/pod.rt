@@ -61,11 +61,7 @@ fn write_tolerations(
 }
 
 #[tactic(auto, unfolding(crate::specs::Written::toleration_of, crate::specs::Written::members_of))]
-fn write_toleration(
-    alloc: Global,
-    names: &Names,
-    toleration: Toleration,
-) -> Result<Value, NoMemory>
+fn write_toleration(alloc: Global, names: &Names, toleration: Toleration) -> Result<Value, NoMemory>
     ensures { IfOk result (λ value. view value ≡ written.toleration_of names.now toleration) }
 {
     let effect = effect_value(alloc, toleration.effect)?;
