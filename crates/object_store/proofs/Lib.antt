@@ -1,3 +1,4 @@
+pub mod Items
 pub mod Keeps
 pub mod Stamped
 pub mod Told

@@ -32,6 +32,11 @@ abbrev pub kept_of : Option Held → Option (Version × Object)
 kept_of None = None
 kept_of (Some x) = Some (x.version, x.object)
 
+-- the stored object, without its version
+abbrev pub object_of : Option Held → Option Object
+object_of None = None
+object_of (Some x) = Some x.object
+
 -- a Lease that a look-up shows, with its version
 abbrev pub lease_pair : Option (Version × Object) → Option (Version × Lease)
 lease_pair None = None

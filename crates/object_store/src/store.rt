@@ -1,17 +1,19 @@
 // The store: a map from keys to objects with their versions, and the key of each accepted write.
 ghost use Rattle.std.specs.Prelude.{◌≡◌, ◌+◌, ◌∷◌, [], List, Option, Some, None, IfOk, OnOk, IfErr, OnErr, option_copied, vec_len, drop};
 ghost use Rattle.std.specs.BTreeMap.{get};
+ghost use Rattle.std.specs.List.Sorted.{IsStrictlySortedBy};
+ghost use Rattle.std.specs.Map.{keys_of, lookup};
 ghost use Rattle.kube_objects.specs.Answers.{answer, written};
 ghost use Rattle.kube_objects.specs.Answers as answers;
 ghost use Rattle.kube_objects.specs.Clocks.{whole_second};
 ghost use Rattle.kube_objects.specs.Entry.{Entry};
 ghost use Rattle.kube_objects.specs.Feeds.{shown_pair};
-ghost use Rattle.kube_objects.specs.Keys.{key_cmp};
+ghost use Rattle.kube_objects.specs.Keys.{key_cmp, key_eq};
 ghost use Rattle.kube_objects.specs.Newest.{has, when};
 ghost use Rattle.kube_objects.specs.Stamps.{stamped};
 ghost use Rattle.kube_objects.specs.Stored.{stored, write_of, next_version, request_write};
 ghost use Rattle.kube_objects.specs.declared.call.Request.TheVariants.{PostStatus};
-ghost use Rattle.object_store.specs.StoreAnswers.{Told, ToldPost, UnlessPosted, answer_delete, answer_remove, kept_of, changed_keys};
+ghost use Rattle.object_store.specs.StoreAnswers.{Told, ToldPost, UnlessPosted, answer_delete, answer_remove, kept_of, object_of, changed_keys};
 ghost use Rattle.kube_objects.specs.Stored as stored_words;
 ghost use Rattle.object_store.specs.Stands.{StoreStands, Writes, SameStore, shown_in, version_in, node_in_pair, start_since, keys_since, shown_since};
 ghost use Rattle.kube_objects.specs.declared.key.Key.{Key};
@@ -19,7 +21,7 @@ ghost use Rattle.kube_objects.specs.declared.key.Key.{Key};
 use crate::replies::{found, told, told_post};
 use crate::{Posted, Since, StoreFault, stamp, status};
 use kube_base::{NoMemory, Version, Wall};
-use kube_objects::{Feed, Key, Kind, Node, Object, ReadyStatus, Reply, Request};
+use kube_objects::{Feed, Items, Key, Kind, Node, Object, ReadyStatus, Reply, Request};
 use std::alloc::Global;
 use std::collections::BTreeMap;
 
@@ -183,6 +185,18 @@ impl Store {
             }
             Request::PostStatus(node, status, at) => told_post(self.post_status(node, status, at)),
         }
+    }
+
+    /// All objects with their keys, in the order of keys. Each is a copy.
+    pub fn objects(&self) -> Result<Items, NoMemory>
+        ensures ascend { IfOk result (λ items. IsStrictlySortedBy key_cmp (keys_of items)) }
+        ensures stored { (h : List Entry) (key : Key) → StoreStands h self.now → IfOk result (λ items. lookup (key_eq key) items ≡ object_of (stored key h)) }
+    {
+        let mut items = Items::new(*self.changes.allocator());
+        for (key, kept) in self.objects.iter() {
+            items.push((*key, kept.1.copy()?))?;
+        }
+        Ok(items)
     }
 
     /// The changes from a position on. Costs nothing.

@@ -219,3 +219,29 @@ fn shows_changes(rt: HostRuntime) {
     assert!(rt; since.object(2).is_none());
     assert_eq!(rt; store.since(3).count(), 0);
 }
+
+#[test]
+fn lists_objects_by_key(rt: HostRuntime) -> Result<(), Fail> {
+    let alloc = rt.alloc();
+    let mut store = Store::new(alloc);
+    let p = key(Kind::Pod, 10);
+    let n = key(Kind::Node, 12);
+    let a = key(Kind::Lease, 11);
+    let b = key(Kind::Lease, 10);
+    store.put(p, pod(alloc), Wall(NEW_YEAR))?;
+    store.put(a, Object::Lease(lease(1)), Wall(NEW_YEAR))?;
+    store.put(n, node(alloc), Wall(NEW_YEAR))?;
+    store.put(b, Object::Lease(lease(2)), Wall(NEW_YEAR))?;
+    store.put(a, Object::Lease(lease(3)), Wall(NEW_YEAR))?;
+    let items = store.objects()?;
+    let mut keys = ListOf::new(alloc);
+    for item in items.as_slice() {
+        keys.push(item.0)?;
+    }
+    let want = [n, b, a, p];
+    assert_eq!(rt; keys.as_slice(), want.as_slice());
+    assert!(rt;
+        matches!(&items.as_slice()[2].1, Object::Lease(l) if l.holder == Holder::Foreign(3))
+    );
+    Ok(())
+}

@@ -31,7 +31,7 @@ controller-others doc p k step q d h c other own s =
       incarnation = s.incarnation ∙ sym (starts-others p e h apart);
       timing = s.timing;
       clock = s.clock;
-      up_first = s.up_first;
+      up_first = s.up_first; asleep = s.asleep;
       role = role-beside doc p c.incarnation e h c.role (alive-others p e h apart) (ended-others p e h own apart) (is_same-apart q (identity p c.incarnation) other) s.role;
     }
 
@@ -46,7 +46,7 @@ role-stranger doc p i j k step d h r other own lives ends s =
 pub controller-answered : (doc : Doc) (p k step : ℕ) (q : Identity) (call : Call) (reply : Reply) (comes : Option ℕ) (written : Option Object) (h : List Entry) (c : Controller) → ControllerStands doc p h c →
     ControllerStands doc p (entry k step q (Answers call reply comes written) ∷ h) c
 controller-answered doc p k step q call reply comes written h c s =
-    record { me = s.me; incarnation = s.incarnation; timing = s.timing; clock = s.clock; up_first = s.up_first; role = by_role c.role s.role }
+    record { me = s.me; incarnation = s.incarnation; timing = s.timing; clock = s.clock; up_first = s.up_first; asleep = s.asleep; role = by_role c.role s.role }
   where
     by_role : (r : Role) → RoleStands doc p c.incarnation h r → RoleStands doc p c.incarnation (entry k step q (Answers call reply comes written) ∷ h) r
     by_role (role.Down at) r = r

@@ -1,5 +1,6 @@
 -- A turn before the reading at which its controller wakes does nothing.
-use Rattle.std.proofs.Common.{◌≡◌, ℕ, Bool, true, false, nat_lt, List, ◌∷◌, length, Option, Some, None, refl, sym, ap, ◌∙◌, subst, arith}
+use Rattle.std.proofs.Common.{nat_le, ◌<◌, ◌≡◌, ℕ, Bool, true, false, nat_lt, List, ◌∷◌, length, Option, Some, None, refl, sym, ap, ◌∙◌, subst, arith}
+use Rattle.std.proofs.lemmas.Bool.Decides.{nat_tests}
 use Rattle.kube_base.specs.declared.numbers.Local.{Local}
 use Rattle.kube_objects.specs.Clocks.{local}
 use Rattle.kube_objects.specs.Document.{Doc}
@@ -15,9 +16,13 @@ use Rattle.leader_elector.specs.Stands.{CandidateStands, LeadingStands}
 use Rattle.leader_elector.proofs.Expiry.{deadline-expiry}
 use Rattle.world_core.specs.declared.controller.Controller.{Controller}
 use Rattle.world_core.specs.declared.controller.Role.TheVariants as role
-use Rattle.world_core.specs.Controllers.{ControllerStands, Timed}
+use Rattle.world_core.specs.Controllers.{ControllerStands, Timed, settled}
 use Rattle.world_core.proofs.Standing.{role-at}
 use Rattle.world_core.proofs.Timers.{candidate-stays, leading-stays, timed-down}
+
+-- a reading below one that isn't above the wake
+pub below-wake : (now below wake : ℕ) → now < below → nat_le below wake ≡ true → nat_lt now wake ≡ true
+below-wake now below wake less most = grind (arith, nat_tests)
 
 longer : (x : Entry) (h : List Entry) → (x ∷ h) ≡ h → ⊥
 longer x h is = let n : length (x ∷ h) ≡ length h = ap length is in omega arith
@@ -96,3 +101,7 @@ leading-rests doc k p h c x s is turn = by_test (nat_lt now at) refl
         let over : tested doc k q e ≡ h = subst (λ b. try_before doc k q b e ≡ h) le step in
         let gone : end_as k q (nat_lt now at) e ≡ h = subst (λ o. end_term doc k q o e ≡ h) (sym ends) over in
         absurd (ended-longer doc k q h (call_in q h) (subst (λ b. end_as k q b e ≡ h) le gone))
+
+-- a controller that changed nothing but what it knows of its clock
+pub rests-as : (doc : Doc) (k p : ℕ) (h : List Entry) (c d : Controller) → ((g : List Entry) → ControllerStands doc p g c → ControllerStands doc p g d) → Timed doc k p h c false None → Timed doc k p h d false None
+rests-as doc k p h c d same t = record { told = t.told; asks = (t.asks.0, same (settled doc k p h) t.asks.1) }

@@ -1,5 +1,5 @@
 -- A controller of the world stands for a process in a history.
-use Rattle.std.specs.Prelude.{◌≡◌, ℕ, ◌+◌, ◌++◌, Bool, true, false, List, ◌∷◌, Option, Some, None, option_map}
+use Rattle.std.specs.Prelude.{◌≡◌, ℕ, ◌<◌, ◌≤◌, ◌+◌, ◌++◌, Bool, true, false, List, ◌∷◌, Option, Some, None, option_map}
 use Rattle.kube_base.specs.declared.numbers.Local.{Local}
 use Rattle.kube_base.specs.declared.numbers.ProcId.{ProcId}
 use Rattle.kube_base.specs.declared.numbers.Version.{Version}
@@ -20,7 +20,7 @@ use Rattle.history.specs.Steps.{happens, restart, expire, finish, attempts, deli
 use Rattle.leader_elector.specs.Moves.{Asked}
 use Rattle.leader_elector.specs.Stands.{IsTimingOf, CandidateStands, LeadingStands}
 use Rattle.script_reader.specs.Lawful.{AreLawfulFrom}
-use Rattle.skew_clock.specs.Clocking.{Clocking, rate_at, moved as moved_micros}
+use Rattle.skew_clock.specs.Clocking.{Clocking, rate_at, reading, moved as moved_micros}
 use Rattle.world_core.specs.declared.controller.Controller.{Controller}
 use Rattle.world_core.specs.Plain.{AreQuiet, with_deeds}
 use Rattle.world_core.specs.declared.controller.Received.{Received}
@@ -80,6 +80,7 @@ pub record ControllerStands (doc : Doc) (p : ℕ) (h : List Entry) (c : Controll
   pub clock : ClockStands doc p c.clock
   pub up_first : c.up_first ≡ is_up_first doc p
   pub role : RoleStands doc p c.incarnation h c.role
+  pub asleep : (j : ℕ) → j ≤ c.clock.end → j < c.until.0 → reading c.clock j < c.below.0
 
 -- the plain facts that a controller keeps
 pub record SameController (old new : Controller) : Type 0 where

@@ -13,7 +13,7 @@ ghost use Rattle.kube_objects.specs.Process.{starts};
 ghost use Rattle.kube_objects.specs.Wire.{Back};
 ghost use Rattle.history.specs.Steps.{happens, start, restart};
 ghost use Rattle.script_reader.specs.Lawful.{AreLawful, IsLawful};
-ghost use Rattle.skew_clock.specs.Clocking.{rate_at, last_set};
+ghost use Rattle.skew_clock.specs.Clocking.{rate_at, last_set, reading};
 ghost use Rattle.world_core.specs.Controllers.{AreEventsFrom, ControllerStands, SameController, Crashed, Begun, StoppedAs, Restarted, Timed, Turned, Replied, SameSpan, is_up_as, waiting_of};
 ghost use Rattle.world_core.specs.Plain.{IsPlain, IsFew};
 
@@ -41,6 +41,9 @@ pub struct Controller {
     pub clock: Clock,
     pub up_first: bool,
     pub role: Role,
+    /// At each beat before `until` its clock reads less than `below`.
+    pub until: Beat,
+    pub below: Local,
 }
 
 /// What a controller did in its turn.
@@ -103,6 +106,8 @@ impl Controller {
             clock,
             up_first: process.up,
             role: Role::Down(None),
+            until: Beat(0),
+            below: Local(0),
         })
     }
 
@@ -206,15 +211,30 @@ impl Controller {
         true
     }
 
-    // Whether the rest of its turn does nothing at this reading.
-    fn rests(&self, now: Local) -> bool
-        ensures { (doc : Doc) (k p : ℕ) (h : List Entry) → ControllerStands doc p h self.now → now.0 ≡ local doc p k → result ≡ true → Timed doc k p h self.now false None }
+    // Whether the rest of its turn does nothing at each reading below this one.
+    fn rests(&self, below: Local) -> bool
+        ensures { (doc : Doc) (k p : ℕ) (h : List Entry) → ControllerStands doc p h self.now → local doc p k < below.0 → result ≡ true → Timed doc k p h self.now false None }
     {
         match &self.role {
             Role::Down(_) => true,
-            Role::Candidate(candidate) => now.0 < candidate.wake().0,
-            Role::Leading(leading) => now.0 < leading.wake().0,
+            Role::Candidate(candidate) => below.0 <= candidate.wake().0,
+            Role::Leading(leading) => below.0 <= leading.wake().0,
         }
+    }
+
+    // Looks for the beat up to which it rests, so that its next turns needn't read the clock.
+    fn doze(&mut self)
+        ensures same { SameController self.old self.new }
+        ensures incarnation { self.new.incarnation ≡ self.old.incarnation }
+        ensures stands { (doc : Doc) (p : ℕ) (h : List Entry) → ControllerStands doc p h self.old → ControllerStands doc p h self.new }
+    {
+        let wake = match &self.role {
+            Role::Down(_) => Local(0),
+            Role::Candidate(candidate) => candidate.wake(),
+            Role::Leading(leading) => leading.wake(),
+        };
+        self.until = first_beat(&self.clock, wake);
+        self.below = wake;
     }
 
     fn on_timer(&mut self, beat: Beat, delay: u64) -> Turn
@@ -225,8 +245,12 @@ impl Controller {
         ensures stands { (doc : Doc) (k p : ℕ) (h : List Entry) → ControllerStands doc p h self.old → beat.0 ≡ k → delay ≡ restart_delay doc → IsFew h
             → Timed doc k p h self.new result.ended result.ask }
     {
+        if beat.0 < self.until.0 && self.rests(self.below) {
+            return quiet();
+        }
         let now = self.clock.local(beat);
-        if self.rests(now) {
+        if self.rests(Local(now.0 + 1)) {
+            self.doze();
             return quiet();
         }
         self.wakes(beat, now, delay)
@@ -366,6 +390,16 @@ fn rate_of(what: &What, me: ProcId) -> Option<u32>
     match what {
         What::Rate(id, ppm) if id.0 == me.0 => Some(*ppm),
         _ => None,
+    }
+}
+
+// The first beat at which a clock reads this, or one after all beats.
+fn first_beat(clock: &Clock, at: Local) -> Beat
+    ensures { (j : ℕ) → j ≤ clock.now.end → j < result.0 → reading clock.now j < at.0 }
+{
+    match clock.first_beat(at) {
+        Some(beat) => beat,
+        None => Beat(u32::MAX),
     }
 }
 

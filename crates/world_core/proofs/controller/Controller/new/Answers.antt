@@ -1,4 +1,4 @@
-use Rattle.std.proofs.Common.{w64, pos, ◌*ℤ◌, false, refl, sym, ap, ◌∙◌}
+use Rattle.std.proofs.Common.{w64, pos, ◌*ℤ◌, false, refl, sym, ap, ◌∙◌, arith}
 use Rattle.std.proofs.Math.Facts.{to_z-of_z}
 use Rattle.kube_objects.specs.Document.{field, of_millis}
 use Rattle.world_core.proofs.controller.Controller.new.Goals as goal
@@ -19,4 +19,5 @@ returns-clause-stands c = λ doc p me settings process events. record {
   clock = clock-first doc p c.args.me.0 c.args.settings.now c.args.process.now c.args.events.now c.in_ok-clock.clock c.set_rates.new.clock _ (to_z-of_z {w = w64} (record { sfits = c.microseconds.type_inv }) ∙ c.microseconds.ensures ∙ ap (λ z. z *ℤ pos 1000) (to_z-of_z (offset-fits c.args.process.now.offset_millis c.requires.process.offset_least c.requires.process.offset_most))) me settings process events c.in_ok-clock.ensures c.in_ok-set_rates.ensures.same c.in_ok-set_rates.ensures.rates;
   up_first = ap (λ y. field (λ x. x.up) false y) (sym process);
   role = (refl, refl);
+  asleep = λ j within before. absurd (omega (arith, before));
 }
