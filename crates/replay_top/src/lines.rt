@@ -1,7 +1,6 @@
 // The lines of a trace.
 ghost use Rattle.std.specs.Prelude.{◌≡◌, ◌++◌, OnOk, codes, decimal};
 ghost use Rattle.script_reader.specs.Documents.{doc_of};
-ghost use Rattle.script_reader.specs.Lawful.{IsLawfulDoc};
 ghost use Rattle.replay_top.specs.Lines as spec;
 
 use crate::texts::{add, add_number, add_time, name_of, process_of};
@@ -26,7 +25,6 @@ const UNREACHABLE: u32 = 6;
 /// Adds the first line of a document's trace.
 #[tactic(auto, unfolding(crate::specs::Lines::first_line))]
 pub(crate) fn add_first(text: &mut Vec<u8>, document: &Document) -> Result<(), NoMemory>
-    requires { IsLawfulDoc (doc_of document.now) }
     ensures { OnOk result (text.new.items ≡ text.old.items ++ spec.first_line (doc_of document.now)) }
 {
     add(text, b"trace 1 beat=")?;
@@ -39,7 +37,6 @@ pub(crate) fn add_first(text: &mut Vec<u8>, document: &Document) -> Result<(), N
 /// Adds whether the lease premise holds, and ends the line.
 #[tactic(auto, unfolding(crate::specs::Lines::premise_text))]
 pub(crate) fn add_premise(text: &mut Vec<u8>, document: &Document) -> Result<(), NoMemory>
-    requires { IsLawfulDoc (doc_of document.now) }
     ensures { OnOk result (text.new.items ≡ text.old.items ++ spec.premise_text (doc_of document.now)) }
 {
     add(text, b" premise=")?;

@@ -145,7 +145,6 @@ fn replay<K: Sink>(alloc: Global, sink: &mut K, document: Document) -> Status
 
 /// Writes the line on a document.
 fn check<K: Sink>(alloc: Global, sink: &mut K, document: &Document) -> Status
-    requires { IsLawfulDoc (doc_of document.now) }
     ensures text { Ends (done (summary document.now)) (Some []) (K.taken sink.old) (K.taken sink.new) result }
     ensures silent { result ≢ Status.SourceFault }
     ensures sink_fault { result ≡ Status.SinkFault → Rose (K.faults sink.old) (K.faults sink.new) }
