@@ -433,3 +433,20 @@ fn refuses_too_many_taints(rt: HostRuntime) -> Result<(), Fail> {
         "/events/3/object/spec/taints",
     )
 }
+
+/// Texts that look like an identity and aren't one: they are numbered as they are.
+#[test]
+fn reads_foreign_holders(rt: HostRuntime) -> Result<(), Fail> {
+    for text in [
+        r#"{"apiVersion":"coordination.k8s.io/v1","kind":"Lease","metadata":{"name":"l1"},"spec":{"holderIdentity":"c1_0"}}"#,
+        r#"{"apiVersion":"coordination.k8s.io/v1","kind":"Lease","metadata":{"name":"l1"},"spec":{"holderIdentity":"c1_4294967296"}}"#,
+        r#"{"apiVersion":"coordination.k8s.io/v1","kind":"Lease","metadata":{"name":"l1"},"spec":{"holderIdentity":"c1_"}}"#,
+        r#"{"apiVersion":"coordination.k8s.io/v1","kind":"Lease","metadata":{"name":"l1"},"spec":{"holderIdentity":"c9_1"}}"#,
+    ] {
+        assert_eq!(rt; holder_of(rt.alloc(), text)?, Holder::Foreign(13));
+    }
+    let nobody =
+        r#"{"apiVersion":"coordination.k8s.io/v1","kind":"Lease","metadata":{"name":"l1"},"spec":{"holderIdentity":""}}"#;
+    assert_eq!(rt; holder_of(rt.alloc(), nobody)?, Holder::Nobody);
+    Ok(())
+}
