@@ -11,6 +11,8 @@ mod process;
 mod reading;
 mod settings;
 mod table;
+#[cfg(test)]
+mod tests;
 
 pub use document::Document;
 pub use reading::read_document;
