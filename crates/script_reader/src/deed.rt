@@ -47,12 +47,7 @@ pub(crate) fn what_at(
 }
 
 #[tactic(auto, unfolding(crate::specs::Walk::rate_at))]
-fn rate_at(
-    players: &Players,
-    names: &Names,
-    path: &Path,
-    value: &Value,
-) -> Result<What, ReadFault>
+fn rate_at(players: &Players, names: &Names, path: &Path, value: &Value) -> Result<What, ReadFault>
     requires { AreNamed players.now }
     ensures { Gives (λ what. what) result
         (walk.rate_at (seen players.now) names.now path.now (view value.now)) }
@@ -63,12 +58,7 @@ fn rate_at(
 }
 
 #[tactic(auto, unfolding(crate::specs::Walk::delay_at))]
-fn delay_at(
-    players: &Players,
-    names: &Names,
-    path: &Path,
-    value: &Value,
-) -> Result<What, ReadFault>
+fn delay_at(players: &Players, names: &Names, path: &Path, value: &Value) -> Result<What, ReadFault>
     requires { AreNamed players.now }
     ensures { Gives (λ what. what) result
         (walk.delay_at (seen players.now) names.now path.now (view value.now)) }
@@ -80,12 +70,7 @@ fn delay_at(
 }
 
 #[tactic(auto, unfolding(crate::specs::Walk::loss_at))]
-fn loss_at(
-    players: &Players,
-    names: &Names,
-    path: &Path,
-    value: &Value,
-) -> Result<What, ReadFault>
+fn loss_at(players: &Players, names: &Names, path: &Path, value: &Value) -> Result<What, ReadFault>
     requires { AreNamed players.now }
     ensures { Gives (λ what. what) result
         (walk.loss_at (seen players.now) names.now path.now (view value.now)) }
@@ -97,12 +82,7 @@ fn loss_at(
 }
 
 #[tactic(auto, unfolding(crate::specs::Walk::crash_at))]
-fn crash_at(
-    players: &Players,
-    names: &Names,
-    path: &Path,
-    value: &Value,
-) -> Result<What, ReadFault>
+fn crash_at(players: &Players, names: &Names, path: &Path, value: &Value) -> Result<What, ReadFault>
     requires { AreNamed players.now }
     ensures { Gives (λ what. what) result
         (walk.crash_at (seen players.now) names.now path.now (view value.now)) }
@@ -112,12 +92,7 @@ fn crash_at(
 }
 
 #[tactic(auto, unfolding(crate::specs::Walk::start_at))]
-fn start_at(
-    players: &Players,
-    names: &Names,
-    path: &Path,
-    value: &Value,
-) -> Result<What, ReadFault>
+fn start_at(players: &Players, names: &Names, path: &Path, value: &Value) -> Result<What, ReadFault>
     requires { AreNamed players.now }
     ensures { Gives (λ what. what) result
         (walk.start_at (seen players.now) names.now path.now (view value.now)) }
@@ -127,12 +102,7 @@ fn start_at(
 }
 
 #[tactic(auto, unfolding(crate::specs::Walk::stop_at))]
-fn stop_at(
-    players: &Players,
-    names: &Names,
-    path: &Path,
-    value: &Value,
-) -> Result<What, ReadFault>
+fn stop_at(players: &Players, names: &Names, path: &Path, value: &Value) -> Result<What, ReadFault>
     requires { AreNamed players.now }
     ensures { Gives (λ what. what) result
         (walk.stop_at (seen players.now) names.now path.now (view value.now)) }
@@ -142,12 +112,7 @@ fn stop_at(
 }
 
 #[tactic(auto, unfolding(crate::specs::Walk::watch_at))]
-fn watch_at(
-    players: &Players,
-    names: &Names,
-    path: &Path,
-    value: &Value,
-) -> Result<What, ReadFault>
+fn watch_at(players: &Players, names: &Names, path: &Path, value: &Value) -> Result<What, ReadFault>
     requires { AreNamed players.now }
     ensures { Gives (λ what. what) result
         (walk.watch_at (seen players.now) names.now path.now (view value.now)) }
@@ -158,12 +123,7 @@ fn watch_at(
 }
 
 #[tactic(auto, unfolding(crate::specs::Walk::ready_at))]
-fn ready_at(
-    players: &Players,
-    names: &Names,
-    path: &Path,
-    value: &Value,
-) -> Result<What, ReadFault>
+fn ready_at(players: &Players, names: &Names, path: &Path, value: &Value) -> Result<What, ReadFault>
     requires { AreNamed players.now }
     ensures { Gives (λ what. what) result
         (walk.ready_at (seen players.now) names.now path.now (view value.now)) }

@@ -89,13 +89,7 @@ pub(crate) fn needed_whole(
 }
 
 /// A whole number from the least to the most.
-fn whole_in(
-    least: u32,
-    most: u32,
-    path: &Path,
-    key: &str,
-    found: &Value,
-) -> Result<u32, ReadFault>
+fn whole_in(least: u32, most: u32, path: &Path, key: &str, found: &Value) -> Result<u32, ReadFault>
     ensures { Gives (λ n. n) result
         (spec.whole_in least most (spec.under path.now key.now) (view found.now)) }
 {
@@ -130,13 +124,7 @@ pub(crate) fn signed_at(
     }
 }
 
-fn signed_in(
-    least: i64,
-    most: i64,
-    path: &Path,
-    key: &str,
-    found: &Value,
-) -> Result<i64, ReadFault>
+fn signed_in(least: i64, most: i64, path: &Path, key: &str, found: &Value) -> Result<i64, ReadFault>
     ensures { Gives (λ n. n) result
         (spec.signed_in least most (spec.under path.now key.now) (view found.now)) }
 {

@@ -13,6 +13,8 @@ mod process;
 mod reading;
 mod settings;
 mod table;
+#[cfg(test)]
+mod tests;
 
 pub use document::Document;
 pub use laws::{documents_are_lawful, lawful_documents_are_sound};

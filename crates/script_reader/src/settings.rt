@@ -58,11 +58,7 @@ fn if_end(path: &Path, millis: u32, end: u32) -> Result<Beat, ReadFault>
 
 /// The timings of leader election, each with its default.
 #[tactic(auto, unfolding(crate::specs::Walk::timings_at))]
-pub(crate) fn timings_at(
-    default: Timings,
-    path: &Path,
-    value: &Value,
-) -> Result<Timings, ReadFault>
+pub(crate) fn timings_at(default: Timings, path: &Path, value: &Value) -> Result<Timings, ReadFault>
     ensures { Gives (λ timings. timings) result
         (walk.timings_at default path.now (view value.now)) }
 {

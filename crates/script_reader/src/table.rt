@@ -168,10 +168,7 @@ fn is_clock_key(key: &str) -> bool
 fn is_controller_key(version: Version, key: &str) -> bool
     ensures { result ≡ spec.is_controller_key version key.now }
 {
-    key == "name"
-        || is_clock_key(key)
-        || key == "watch"
-        || (is_two(version) && is_timings_key(key))
+    key == "name" || is_clock_key(key) || key == "watch" || (is_two(version) && is_timings_key(key))
 }
 
 fn is_kubelet_key(key: &str) -> bool
