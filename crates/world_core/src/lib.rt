@@ -5,6 +5,8 @@ mod controller;
 mod forms;
 mod printing;
 mod replay;
+#[cfg(test)]
+mod tests;
 mod world;
 
 pub use forms::runs;

@@ -1,18 +1,20 @@
 // The world of a document, which does one beat at a time.
-ghost use Rattle.std.specs.Prelude.{◌≡◌, ◌∷◌, ◌+◌, ◌*◌, ◌<◌, ◌≤◌, ◌++◌, ℕ, List, [], true, IfOk, OnOk, IsTrue, ◌↔◌, vec_len, length, slice_get, All, Some};
+ghost use Rattle.std.specs.Prelude.{◌≡◌, ◌∷◌, ◌+◌, ◌*◌, ◌<◌, ◌≤◌, ◌++◌, ℕ, List, [], true, IfOk, OnOk, IsTrue, ◌↔◌, vec_len, length, slice_get, All, Option, Some};
 ghost use Rattle.kube_objects.specs.declared.deed.Deed.{Deed};
 ghost use Rattle.kube_objects.specs.declared.script.What.TheVariants as What;
 ghost use Rattle.kube_objects.specs.Document.{Doc};
 ghost use Rattle.kube_objects.specs.Answers.{answer as store_answer, written};
-ghost use Rattle.kube_objects.specs.Entry.{Entry};
+ghost use Rattle.kube_objects.specs.declared.object.Object as Objects;
+ghost use Rattle.kube_objects.specs.Entry.{Entry, Identity, Call, Answers, entry};
+ghost use Rattle.kube_objects.specs.Identities.{identity};
 ghost use Rattle.kube_objects.specs.Stored.{request_write, write_of};
 ghost use Rattle.object_store.specs.Stands.{StoreStands};
-ghost use Rattle.kube_objects.specs.Wire.{Sent, Back};
+ghost use Rattle.kube_objects.specs.Wire.{Sent, Back, reply_arrival};
 ghost use Rattle.history.specs.History.{history, beat, put_all};
 ghost use Rattle.history.specs.Printed.{printed};
 ghost use Rattle.history.specs.Steps.{first_starts, start_first, happen_all, delivered, turn, turns};
 ghost use Rattle.kube_objects.specs.Document.{is_up_first, processes};
-ghost use Rattle.wire_calls.specs.WireStands.{as_delivered, replies_at};
+ghost use Rattle.wire_calls.specs.WireStands.{WireStands, as_delivered, replies_at, requests_at};
 ghost use Rattle.script_reader.specs.Documents.{doc_of};
 ghost use Rattle.script_reader.specs.Lawful.{AreLawful, IsLawful, IsLawfulDoc};
 ghost use Rattle.world_core.specs.declared.controller.Controller.{Controller};
@@ -29,7 +31,7 @@ use kube_objects::{Act, Actor, Deeds, Event, Events, Items, Key, Object, Procs, 
 use object_store::Store;
 use script_reader::Document;
 use std::alloc::Global;
-use wire_calls::{Delivered, Wire};
+use wire_calls::{Arrived, Delivered, Wire};
 
 /// Controllers, the store and the wire between them, before a beat. The events before the place have happened.
 #[derive(Drop)]
@@ -313,7 +315,7 @@ impl World {
     {
         'arriving: while let Some(arrived) = self.wire.arrival(self.beat) {
             let reply = answer(&mut self.store, arrived.request)?;
-            self.wire.reply(&arrived, reply, self.beat)?;
+            send_back(&mut self.wire, &arrived, reply, self.beat)?;
             let actor = Actor::Proc(arrived.who, arrived.incarnation);
             tell(
                 deeds,
@@ -419,6 +421,18 @@ fn answer(store: &mut Store, request: Request) -> Result<Reply, NoMemory>
     ensures ok { (h : List Entry) (e : Entry) → StoreStands h store.old → write_of e.deed ≡ request_write request (written request h) → OnOk result (StoreStands (e ∷ h) store.new) }
 {
     store.answer(request)
+}
+
+// The reply to a request that arrived is sent. It stays out of line, as the answer does.
+#[inline(never)]
+fn send_back(wire: &mut Wire, to: &Arrived, reply: Reply, now: Beat) -> Result<(), NoMemory>
+    requires { now.0 ≤ 700000000 }
+    ensures same { requests_at wire.new now.0 ≡ requests_at wire.old now.0 }
+    ensures ok { (processes k step : ℕ) (arriving : List Sent) (coming : List Back) (h : List Entry) (q : Identity) (call : Call) (wrote : Option Objects.Object) → WireStands processes k arriving coming h wire.old → now.0 ≡ k → q ≡ identity to.now.who.0 to.now.incarnation → call.number ≡ to.now.number
+        → OnOk result (WireStands processes k arriving coming (entry k step q (Answers call reply (reply_arrival q.process k h) wrote) ∷ h) wire.new) }
+{
+    wire.reply(to, reply, now)?;
+    Ok(())
 }
 
 // An event's copy equals it.
