@@ -8,13 +8,11 @@ use Rattle.serde_json.specs.Find.{get}
 use Rattle.kube_base.specs.Names.{fixed_names}
 use Rattle.kube_objects.specs.Document.{Doc}
 use Rattle.manifest_json.specs.Fields.{Texts}
-use Rattle.script_reader.specs.declared.table.Table.TheVariants as tables
 use Rattle.script_reader.specs.Documents.{doc_of}
-use Rattle.script_reader.specs.Fields.{object_at, required}
+use Rattle.script_reader.specs.Fields.{required}
 use Rattle.script_reader.specs.Lawful.{IsLawful, IsLawfulDoc, AreLawfulFrom}
 use Rattle.script_reader.specs.Laws.{DocumentsAreLawful}
-use Rattle.script_reader.specs.Tables.{known_in}
-use Rattle.script_reader.specs.Walk.{version_in, settings_at, controllers_in, kubelets_in, objects_in, no_objects, numbers_of, cast_of, events_in, document_at, data_of, document_walk}
+use Rattle.script_reader.specs.Walk.{version_in, settings_at, controllers_in, kubelets_in, objects_in, no_objects, numbers_of, cast_of, events_in, top_in, document_at, data_of, document_walk}
 use Rattle.script_reader.proofs.EventRanges.{IsOf, events-in}
 use Rattle.script_reader.proofs.FieldRanges.{of_default, of_required}
 use Rattle.script_reader.proofs.Getting.{Gets, done, and_then, skip}
@@ -28,8 +26,7 @@ objects-in names known d = and_then (list-kinds names known (codes "/objects") d
 pub document-lawful : (value : Data) → Gets (λ d. IsLawfulDoc (doc_of d)) (document_at value)
 unfolding document_at
 document-lawful value =
-    skip (object_at 2 (codes "/") value) (λ top.
-    skip (known_in tables.Top (codes "/") top) (λ d.
+    skip (top_in value) (λ d.
     skip (required (codes "/version") version_in (get (codes "version") d)) (λ version.
     and_then (of_required (settings_at version (codes "/settings")) (codes "/settings") (get (codes "settings") d) (settings-in version (codes "/settings"))) (λ settings s.
     and_then (of_required (controllers_in version settings fixed_names) (codes "/controllers") (get (codes "controllers") d) (controllers-in settings s.timings version fixed_names)) (λ controllers c.
@@ -50,7 +47,7 @@ document-lawful value =
       objects = o;
       events = e.0 doc of;
       few_events = e.1;
-    })))))))))
+    }))))))))
 
 bytes-lawful : (bytes : List ℕ) → Gets (λ d. IsLawfulDoc (doc_of d)) (document_walk bytes)
 unfolding document_walk

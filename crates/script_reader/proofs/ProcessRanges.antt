@@ -1,8 +1,8 @@
 -- The settings, the controllers and the kubelets of a document are lawful.
-use Rattle.std.proofs.Common.{◌≡◌, ℕ, ◌+◌, ◌*◌, ◌<◌, ◌≤◌, nat_le, nat_lt, ◌==◌, ◌&&◌, ◌++◌, true, false, List, [], ◌∷◌, length, codes, Option, Some, None, pos, negsuc, refl, leb-true, ltb-true, ltb-false, arith, length-append}
+use Rattle.std.proofs.Common.{◌≡◌, ℕ, ◌+◌, ◌*◌, ◌<◌, ◌≤◌, nat_le, nat_lt, ◌&&◌, ◌++◌, true, false, List, [], ◌∷◌, length, codes, Option, Some, None, pos, negsuc, refl, leb-true, ltb-true, ltb-false, arith, length-append}
 use Rattle.std.specs.Prelude.{All}
 use Rattle.std.specs.Int.Signed.{le_z_yes}
-use Rattle.std.proofs.lemmas.Bool.{and_parts, eqb-false}
+use Rattle.std.proofs.lemmas.Bool.{and_parts}
 use Rattle.std.proofs.lemmas.List.Elements.{All-push, All-nil}
 use Rattle.serde_json.specs.Data.{Data, Items, no_items, item}
 use Rattle.kube_base.specs.Times.{time_of}
@@ -125,7 +125,8 @@ lawful-from c t p clock timings rate offset lease renew retry timeout =
     }
 
 not_empty-some : (path : List ℕ) (items : Items) → items_len items ≤ 16 → Gets (λ some. IsIn 1 16 (items_len some)) (not_empty path items)
-not_empty-some path items few = by_test (items_len items == 0) _ _ (λ e. refused _) (λ e. done items (omega (arith, eqb-false (items_len items) 0 e), few))
+not_empty-some path no_items few = refused _
+not_empty-some path (item d rest) few = done (item d rest) (omega arith, few)
 
 -- the timings of settings that were read are those of a process without its own
 module _ (settings : Settings) (timings : AreTimings (timings_of settings)) where
