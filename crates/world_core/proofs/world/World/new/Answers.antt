@@ -6,12 +6,29 @@ use Rattle.history.specs.History.{history}
 use Rattle.script_reader.specs.Documents.{doc_of}
 use Rattle.script_reader.specs.Lawful.{AreLawfulFrom}
 use Rattle.wire_calls.specs.WireStands.{WireStands}
+use Rattle.world_core.proofs.Ranges.{end-most, all-delays}
 use Rattle.world_core.proofs.RunForms.{processes-are}
 use Rattle.world_core.proofs.Puts.{put-plain, put-wire, put-each, put-requests, put-replies}
 use Rattle.world_core.proofs.world.World.new.Goals as goal
 
 pub made-requires-clause-events : goal.made-requires-clause-events
 made-requires-clause-events c = let doc = doc_of c.args.document in (doc, refl, subst (AreLawfulFrom doc 0) (sym c.as_slice.ensures) c.requires.lawful.events)
+
+pub returns-clause-ready : goal.returns-clause-ready
+returns-clause-ready c =
+    let lawful = c.requires.lawful in
+    let s = lawful.settings in (
+      record {
+        end = end-most c.args.document.settings.end_beat.0 c.args.document.settings.beat_millis s.beat_least s.end;
+        restart = (let most = s.restart in omega (arith, c.picoseconds.ensures.plain, most));
+        epoch = s.epoch_most;
+        micros = (let most = s.beat_most in omega (arith, most));
+        events = all-delays (doc_of c.args.document) 0 c.args.document.events lawful.events;
+        clocks = c.in_ok-controllers.ensures.clocks;
+      },
+      refl,
+      refl,
+    )
 
 pub returns-clause-stands : goal.returns-clause-stands
 returns-clause-stands c = record {

@@ -1,0 +1,45 @@
+-- The ranges of a document that the world keeps.
+use Rattle.std.proofs.Common.{◌≡◌, ℕ, ◌+◌, ◌*◌, ◌<◌, ◌≤◌, Bool, true, false, nat_lt, IsTrue, ◌↔◌, List, [], ◌∷◌, All, refl, sym, ◌∙◌, arith}
+use Rattle.std.proofs.Math.Nat.{le-mul_of_pos_right}
+use Rattle.std.proofs.lemmas.List.Elements.{All-cons}
+use Rattle.kube_objects.specs.declared.script.Event.{Event}
+use Rattle.kube_objects.specs.declared.script.What.{What}
+use Rattle.kube_objects.specs.declared.script.What.TheVariants as what
+use Rattle.kube_objects.specs.Document.{Doc}
+use Rattle.script_reader.specs.Lawful.{IsLawfulWhat, AreLawfulFrom}
+use Rattle.world_core.specs.Worlds.{HasDelays}
+use Rattle.world_core.proofs.Names.{le-from, lt-from}
+
+pub end-most : (e b : ℕ) → 1 ≤ b → e * b ≤ 604800000 → e ≤ 604800000
+end-most e b least most = let more : e ≤ e * b = le-mul_of_pos_right e (omega (arith, least)) in omega (arith, more, most)
+
+has-delays : (doc : Doc) (event : What) → IsLawfulWhat doc event → HasDelays event
+has-delays doc (what.Rate id ppm) lawful = tt
+has-delays doc (what.Delay id requests replies) lawful = (lawful.1, lawful.2)
+has-delays doc (what.Loss id requests replies) lawful = tt
+has-delays doc (what.Crash id) lawful = tt
+has-delays doc (what.Start id) lawful = tt
+has-delays doc (what.Stop id) lawful = tt
+has-delays doc (what.Watch id on) lawful = tt
+has-delays doc (what.Ready id status) lawful = tt
+has-delays doc (what.Put key object) lawful = tt
+has-delays doc (what.Remove key) lawful = tt
+
+pub all-delays : (doc : Doc) (from : ℕ) (es : List Event) → AreLawfulFrom doc from es → All (λ e. HasDelays e.what) es
+all-delays doc from [] lawful = λ k d less. absurd (omega (arith, less))
+all-delays doc from (e ∷ es) lawful = All-cons (λ x. HasDelays x.what) e es (has-delays doc e.what lawful.2) (all-delays doc e.beat.0 es lawful.3)
+
+-- ---- whether the end is passed
+
+never : false ≡ true → ⊥
+never is = cc
+
+pub not-over : (end at : ℕ) (b : Bool) → (IsTrue b ↔ (end < at)) → b ≡ false → at ≤ end
+not-over end at b tells answer = by_test (nat_lt end at) refl
+  where
+    by_test : (t : Bool) → nat_lt end at ≡ t → at ≤ end
+    by_test false is = le-from end at is
+    by_test true is = absurd (never (sym answer ∙ tells.1 (lt-from end at is)))
+
+pub over : (end at : ℕ) (b : Bool) → (IsTrue b ↔ (end < at)) → b ≡ true → at ≤ end + 1 → at ≡ end + 1
+over end at b tells answer within = omega (arith, tells.0 answer, within)
