@@ -1,6 +1,7 @@
 // The lines of a trace.
 ghost use Rattle.std.specs.Prelude.{◌≡◌, ◌++◌, OnOk, codes, decimal};
 ghost use Rattle.script_reader.specs.Documents.{doc_of};
+ghost use Rattle.replay_top.specs.Names.{text_of};
 ghost use Rattle.replay_top.specs.Lines as spec;
 
 use crate::texts::{add, add_number, add_time, name_of, process_of};
@@ -106,60 +107,20 @@ fn add_act(alloc: Global, text: &mut Vec<u8>, names: &Names, act: Act) -> Result
         Act::Stop => add(text, b"stop"),
         Act::End => add(text, b"end"),
         Act::Lead(version) => add_version(text, b"lead v=", version),
-        Act::Create(key, answer, transitions) => add_lease(
-            text,
-            b"create ",
-            names,
-            &key,
-            answer,
-            transitions,
+        Act::Create(key, answer, changes) => add_lease(
+            text, b"create ", names, &key, answer, changes,
         ),
-        Act::Update(key, answer, transitions) => add_lease(
-            text,
-            b"update ",
-            names,
-            &key,
-            answer,
-            transitions,
+        Act::Update(key, answer, changes) => add_lease(
+            text, b"update ", names, &key, answer, changes,
         ),
-        Act::Posted(node, status, answer) => add_node(
-            text,
-            b"status ",
-            name_of(names, node),
-            status_text(status),
-            answer,
-        ),
+        Act::Posted(node, status, answer) => add_status(text, names, node, status, answer),
         Act::Put(key, version) => add_key(text, b"put ", names, &key, version),
         Act::Removed(key, version) => add_key(text, b"remove ", names, &key, version),
-        Act::Marked(node, reason, answer) => add_node(
-            text,
-            b"unknown ",
-            name_of(names, node),
-            name_of(names, reason),
-            answer,
-        ),
+        Act::Marked(node, reason, answer) => add_mark(text, names, node, reason, answer),
         Act::Mode(on) => add(text, mode_text(on)),
-        Act::Zone(region, zone, state, rate) => add_zone(
-            text,
-            name_of(names, region),
-            name_of(names, zone),
-            state,
-            rate,
-        ),
-        Act::Tainted(node, key, answer) => add_node(
-            text,
-            b"taint ",
-            name_of(names, node),
-            taint_text(key),
-            answer,
-        ),
-        Act::Swapped(node, key, answer) => add_node(
-            text,
-            b"swap ",
-            name_of(names, node),
-            taint_text(key),
-            answer,
-        ),
+        Act::Zone(region, zone, state, rate) => add_zone(text, names, region, zone, state, rate),
+        Act::Tainted(node, key, answer) => add_taint(text, b"taint ", names, node, key, answer),
+        Act::Swapped(node, key, answer) => add_taint(text, b"swap ", names, node, key, answer),
         Act::Untainted(node, answer) => add_untaint(text, name_of(names, node), answer),
         Act::Evicted(key, due, answer) => add_eviction(alloc, text, names, &key, due, answer),
     }
@@ -281,19 +242,70 @@ fn add_spaced(text: &mut Vec<u8>, names: &Names, key: &Key) -> Result<(), NoMemo
     add(text, name_of(names, key.name))
 }
 
+fn add_status(
+    text: &mut Vec<u8>,
+    names: &Names,
+    node: u32,
+    status: ReadyStatus,
+    answer: Answer,
+) -> Result<(), NoMemory>
+    ensures { OnOk result (text.new.items ≡ text.old.items ++ (codes "status " ++ spec.node_text names.now node (spec.status_text status) answer)) }
+{
+    add_node(
+        text,
+        b"status ",
+        name_of(names, node),
+        status_text(status),
+        answer,
+    )
+}
+
+fn add_mark(
+    text: &mut Vec<u8>,
+    names: &Names,
+    node: u32,
+    reason: u32,
+    answer: Answer,
+) -> Result<(), NoMemory>
+    ensures { OnOk result (text.new.items ≡ text.old.items ++ (codes "unknown " ++ spec.node_text names.now node (text_of names.now reason) answer)) }
+{
+    add_node(
+        text,
+        b"unknown ",
+        name_of(names, node),
+        name_of(names, reason),
+        answer,
+    )
+}
+
+/// Adds that a condition taint was put on a node, or put in the place of the other one.
+fn add_taint(
+    text: &mut Vec<u8>,
+    act: &[u8],
+    names: &Names,
+    node: u32,
+    key: u32,
+    answer: Answer,
+) -> Result<(), NoMemory>
+    ensures { OnOk result (text.new.items ≡ text.old.items ++ (act.now ++ spec.node_text names.now node (spec.taint_text key) answer)) }
+{
+    add_node(text, act, name_of(names, node), taint_text(key), answer)
+}
+
 fn add_zone(
     text: &mut Vec<u8>,
-    region: &[u8],
-    zone: &[u8],
+    names: &Names,
+    region: u32,
+    zone: u32,
     state: ZoneState,
     rate: u32,
 ) -> Result<(), NoMemory>
-    ensures { OnOk result (text.new.items ≡ text.old.items ++ (codes "zone " ++ (region.now ++ codes "/" ++ zone.now ++ codes " " ++ spec.state_text state ++ codes " rate=" ++ decimal rate))) }
+    ensures { OnOk result (text.new.items ≡ text.old.items ++ (codes "zone " ++ spec.zone_text names.now region zone state rate)) }
 {
     add(text, b"zone ")?;
-    add(text, region)?;
+    add(text, name_of(names, region))?;
     add(text, b"/")?;
-    add(text, zone)?;
+    add(text, name_of(names, zone))?;
     add(text, b" ")?;
     add(text, state_text(state))?;
     add(text, b" rate=")?;
