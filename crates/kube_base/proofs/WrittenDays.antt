@@ -63,9 +63,12 @@ unfolding year_of
 year_fact day high =
     let passes = λ (years : ℕ). has_begun (1970 + years) 1 day in
     let first : has_begun 1970 1 day ≡ true = le-leb epoch (epoch + day) (omega arith) in
-    let begun = last_passing-passes 291 passes first in
-    (last_passing 291 passes, refl, last_passing-le 291 passes,
-    (leb-true _ _ begun, ends (last_passing 291 passes) (last_passing-le 291 passes) (last_passing-next 291 passes)))
+    let begun = last_passing-passes 291 passes first in (
+      last_passing 291 passes,
+      refl,
+      last_passing-le 291 passes,
+      (leb-true _ _ begun, ends (last_passing 291 passes) (last_passing-le 291 passes) (last_passing-next 291 passes)),
+    )
   where
     last : day_count (pos 2261) 1 1 ≡ 4_478_239
     last = day_count-early (pos 2261) 12260 1 1 refl (omega arith) (omega arith) (omega arith)
@@ -90,9 +93,12 @@ unfolding month_of
 month_fact day y year within =
     let passes = λ (months : ℕ). has_begun y (1 + months) day in
     let first : has_begun y 1 day ≡ true = le-leb _ _ within.0 in
-    let begun = last_passing-passes 11 passes first in
-    (last_passing 11 passes, ap (λ n. 1 + last_passing 11 (λ months. has_begun n (1 + months) day)) year, last_passing-le 11 passes,
-    (leb-true _ _ begun, ends (last_passing 11 passes) (last_passing-le 11 passes) (last_passing-next 11 passes)))
+    let begun = last_passing-passes 11 passes first in (
+      last_passing 11 passes,
+      ap (λ n. 1 + last_passing 11 (λ months. has_begun n (1 + months) day)) year,
+      last_passing-le 11 passes,
+      (leb-true _ _ begun, ends (last_passing 11 passes) (last_passing-le 11 passes) (last_passing-next 11 passes)),
+    )
   where
     ends : (k : ℕ) → k ≤ 11 → (k < 11 → has_begun y (1 + suc k) day ≡ false) → epoch + day < day_count (pos y) (1 + k) 1 + days_in_month (pos y) (1 + k)
     ends k le next = by (cases_lt k 11)
@@ -136,9 +142,12 @@ written_date day high =
     let y = year_fact day high in
     let m = month_fact day (1970 + y.0) y.1 y.3 in
     let d = date_fact day (1970 + y.0) (1 + m.0) (omega arith) (omega (arith, m.2)) y.1 m.1 m.3 in
-    let few : d.0 ≤ 31 = month_end (1970 + y.0) (1 + m.0) d.0 d.2 in
-    (omega (arith, y.1, y.2), omega (arith, m.1, m.2), omega (arith, d.1, few),
-    ap (λ n. day_number n (month_of day) (day_of day)) y.1 ∙ ap (λ n. day_number (1970 + y.0) n (day_of day)) m.1 ∙ ap (λ n. day_number (1970 + y.0) (1 + m.0) n) d.1 ∙ d.3)
+    let few : d.0 ≤ 31 = month_end (1970 + y.0) (1 + m.0) d.0 d.2 in (
+      omega (arith, y.1, y.2),
+      omega (arith, m.1, m.2),
+      omega (arith, d.1, few),
+      ap (λ n. day_number n (month_of day) (day_of day)) y.1 ∙ ap (λ n. day_number (1970 + y.0) n (day_of day)) m.1 ∙ ap (λ n. day_number (1970 + y.0) (1 + m.0) n) d.1 ∙ d.3,
+    )
   where
     month_end : (y m d : ℕ) → d ≤ days_in_month (pos y) m → d ≤ 31
     month_end y m d le = omega (arith, (days_in_month_bounds (pos y) m).0)

@@ -31,7 +31,8 @@ controller-others doc p k step q d h c other own s =
       incarnation = s.incarnation ∙ sym (starts-others p e h apart);
       timing = s.timing;
       clock = s.clock;
-      up_first = s.up_first; asleep = s.asleep;
+      up_first = s.up_first;
+      asleep = s.asleep;
       role = role-beside doc p c.incarnation e h c.role (alive-others p e h apart) (ended-others p e h own apart) (is_same-apart q (identity p c.incarnation) other) s.role;
     }
 

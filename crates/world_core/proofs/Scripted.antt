@@ -148,7 +148,8 @@ down-event doc p k step event version h c own down s =
       incarnation = s.incarnation;
       timing = s.timing;
       clock = s.clock;
-      up_first = s.up_first; asleep = s.asleep;
+      up_first = s.up_first;
+      asleep = s.asleep;
       role = (down-is doc p c.incarnation h c.role down s.role, ap (restart_reading doc p) (sym (cancelled doc p k step event version h own)));
     }
 

@@ -44,6 +44,7 @@ stands-started doc k step p i h c x s is stands =
       incarnation = is ∙ sym (starts-start k step (identity p (starts p h + 1)) h);
       timing = s.timing;
       clock = s.clock;
-      up_first = s.up_first; asleep = s.asleep;
+      up_first = s.up_first;
+      asleep = s.asleep;
       role = (alive-start k step (identity p (starts p h + 1)) h ∙ ap (λ (n : ℕ). Some n) (sym is), subst (λ n. CandidateStands doc (identity p n) (start k step p h) x) (sym is) stands);
     }

@@ -22,7 +22,11 @@ pub fn runs(document: &Document) -> bool
 fn watches_all(document: &Document) -> bool
     ensures { result ≡ list_all (λ p. p.watch) document.now.controllers }
 {
-    document.controllers.as_slice().iter().all(|process| process.watch)
+    document
+        .controllers
+        .as_slice()
+        .iter()
+        .all(|process| process.watch)
 }
 
 fn has_leases_alone(document: &Document) -> bool

@@ -66,11 +66,7 @@ fn controller(name: u32, rate_ppm: u32, up: bool) -> Proc
 }
 
 /// A document of controllers alone.
-fn document(
-    alloc: Global,
-    settings: Settings,
-    controllers: Procs,
-) -> Result<Document, NoMemory>
+fn document(alloc: Global, settings: Settings, controllers: Procs) -> Result<Document, NoMemory>
     requires settings { AreLawful settings }
     requires controllers { All IsLawful controllers }
     requires some { 1 ≤ length controllers }
@@ -137,12 +133,7 @@ fn update(beat: u8, process: u32, version: u64) -> Deed {
 }
 
 /// Runs the document and compares what it prints.
-fn replay(
-    rt: &impl Abort,
-    alloc: Global,
-    document: Document,
-    want: &[Deed],
-) -> Result<(), Fail>
+fn replay(rt: &impl Abort, alloc: Global, document: Document, want: &[Deed]) -> Result<(), Fail>
     requires { IsLawfulDoc (doc_of document) }
 {
     let is_run = runs(&document);

@@ -27,7 +27,9 @@ ghost use Rattle.world_core.specs.Worlds.{EachStands, at_of, end_of, names_of, H
 use crate::controller::{Controller, picoseconds};
 use crate::printing::{answer_act, crashing, ending, leading, removing, starting, stopping, tell};
 use kube_base::{Beat, Names, NoMemory, ProcId, Wall};
-use kube_objects::{Act, Actor, Deeds, Event, Events, Items, Key, Object, Procs, Reply, Request, Settings, What};
+use kube_objects::{
+    Act, Actor, Deeds, Event, Events, Items, Key, Object, Procs, Reply, Request, Settings, What,
+};
 use object_store::Store;
 use script_reader::Document;
 use std::alloc::Global;
@@ -287,12 +289,7 @@ impl World {
         ensures stands { OnOk result (Happens self.old deeds.old self.new deeds.new (What.Remove key)) }
     {
         let version = self.store.remove(key)?;
-        tell(
-            deeds,
-            self.beat,
-            Actor::Script,
-            removing(key, version),
-        )
+        tell(deeds, self.beat, Actor::Script, removing(key, version))
     }
 
     // The store's time of day.
@@ -482,13 +479,7 @@ fn made(
     let mut controllers = Vec::new(alloc);
     for process in processes.as_slice() {
         let me = ProcId(controllers.len() as u32);
-        controllers.push(Controller::new(
-            alloc,
-            me,
-            settings,
-            process,
-            events,
-        )?)?;
+        controllers.push(Controller::new(alloc, me, settings, process, events)?)?;
     }
     Ok(controllers)
 }

@@ -9,7 +9,7 @@ use Rattle.world_core.proofs.controller.set_rates.Goals.{in-Some+in_ok-set_rate,
 
 pub loop-event-preserved : goal.loop-event-preserved
 loop-event-preserved c = elim c.match-rate_of.branch [
-    in-Some+in_ok-set_rate w ↦
+  | in-Some+in_ok-set_rate w ↦
       let old = c.loop-event.clock in
       let new = c.match-rate_of.clock in
       let es = c.args.events.now in
@@ -31,4 +31,4 @@ loop-event-preserved c = elim c.match-rate_of.branch [
         rates = λ j. subst (λ x. rate_at x.sets j ≡ or_else (rate_at c.args.clock.now.sets j) (last_rate c.args.me.0 j (take (n + 1) es))) (sym is)
             (rates-unset c.args.me.0 j (rate_at c.args.clock.now.sets j) (rate_at old.sets j) es n c.event-item.result c.loop-event-test.true c.event-item.is (sym w.in_default.is ∙ c.rate_of.ensures) (c.loop-event.invariant.rates j));
       }
-  ]
+]
