@@ -47,7 +47,7 @@ pub(crate) fn read<S: Source>(alloc: Global, source: &mut S) -> Reading
 }
 
 /// The document in these bytes, which is lawful.
-fn document_of(alloc: Global, bytes: &[u8]) -> Result<Document, ReadFault>
+pub(crate) fn document_of(alloc: Global, bytes: &[u8]) -> Result<Document, ReadFault>
     ensures exact { Gives (λ document. document) result (document_walk bytes.now) }
     ensures lawful { IfOk result (λ document. IsLawfulDoc (doc_of document)) }
 {

@@ -1,10 +1,12 @@
 // Whole runs over memory.
 mod cluster;
+mod deeds;
 mod limits;
 mod rows;
 
 use crate::{Status, run};
 use byte_edge::{MemSink, MemSource};
+use deeds::expect_deeds;
 use rows::Row;
 use std::alloc::Global;
 use std::process::Abort;
@@ -59,11 +61,12 @@ fn expect(
     Ok(())
 }
 
-/// Each document's trace.
+/// Each document's trace, written by a run and told by its deeds.
 fn expect_traces(rt: &impl Abort, alloc: Global, rows: &[Row]) -> Result<(), Fail> {
     for row in rows {
         let case = ample(row.document.as_bytes());
         expect(rt, alloc, &["replay"], &case, Status::Done, row.text)?;
+        expect_deeds(rt, alloc, row)?;
     }
     Ok(())
 }
@@ -125,6 +128,8 @@ fn replays_timings_and_releases(rt: HostRuntime) -> Result<(), Fail> {
         rows::OWN_DURATION,
         rows::RELEASE,
         rows::CONFLICTING_RELEASE,
+        rows::RELEASE_BEFORE_LOSS,
+        rows::RELEASE_AFTER_LOSS,
         rows::FAST_RENEWAL,
         rows::LOST_FAST_RENEWAL,
     ];

@@ -229,6 +229,33 @@ pub(crate) const CONFLICTING_RELEASE: Row = Row {
 ",
 };
 
+/// A loss later in the beat of the stop doesn't lose the release.
+pub(crate) const RELEASE_BEFORE_LOSS: Row = Row {
+    document: r#"{"version":1,"settings":{"endBeat":24},"controllers":[{"name":"c1"}],
+"events":[{"beat":20,"type":"stop","process":"c1"},{"beat":20,"type":"loss","process":"c1","requests":true,"replies":false}]}"#,
+    text: "trace 1 beat=100 end=24 premise=yes
+0 c1_1 start
+3 c1_1 create election v=1 t=0
+4 c1_1 lead v=1
+7 c1_1 update election v=2 t=0
+20 c1_1 stop
+21 c1_1 update election v=3 t=0
+",
+};
+
+/// A loss earlier in the beat of the stop loses the release.
+pub(crate) const RELEASE_AFTER_LOSS: Row = Row {
+    document: r#"{"version":1,"settings":{"endBeat":24},"controllers":[{"name":"c1"}],
+"events":[{"beat":20,"type":"loss","process":"c1","requests":true,"replies":false},{"beat":20,"type":"stop","process":"c1"}]}"#,
+    text: "trace 1 beat=100 end=24 premise=yes
+0 c1_1 start
+3 c1_1 create election v=1 t=0
+4 c1_1 lead v=1
+7 c1_1 update election v=2 t=0
+20 c1_1 stop
+",
+};
+
 /// A leader updates without a Get.
 pub(crate) const FAST_RENEWAL: Row = Row {
     document: r#"{"version":1,"settings":{"endBeat":60,"fastRenew":true},"controllers":[{"name":"c1"}]}"#,
