@@ -1,11 +1,10 @@
 -- What a command does with the bytes that were taken.
-use Rattle.std.proofs.Common.{◌≡◌, ◌≤◌, ◌<◌, ℕ, cond, List, [], ◌∷◌, ◌++◌, length, drop, Option, Some, Result, refl, sym, ap, ◌∙◌, subst, arith, length-append}
+use Rattle.std.proofs.Common.{◌≡◌, ◌≤◌, ◌<◌, ℕ, cond, List, [], ◌∷◌, ◌++◌, length, drop, Option, Some, Result, refl, ap, ◌∙◌, subst, arith, length-append}
 use Rattle.std.proofs.lemmas.Bool.{le-leb, lt-leb}
 use Rattle.byte_edge.specs.Bytes.{Took, TookAll, IsTooLarge}
 use Rattle.manifest_json.specs.declared.fault.Refusal.{Refusal}
 use Rattle.script_reader.specs.declared.document.Document.{Document}
 use Rattle.script_reader.specs.Walk.{document_walk}
-use Rattle.replay_top.specs.declared.command.Command.{Command}
 use Rattle.replay_top.specs.Outcome.{obeyed, answered, refused, of_whole}
 use Rattle.replay_top.specs.Readings.{Means}
 

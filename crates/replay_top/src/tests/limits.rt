@@ -124,29 +124,32 @@ fn refuses_what_nests_too_deep(rt: HostRuntime) -> Result<(), Fail> {
     Ok(())
 }
 
+/// A document with spaces behind it, up to a length.
+fn padded(alloc: Global, document: &str, length: usize) -> Result<Vec<u8>, AllocError> {
+    let mut bytes = document.as_bytes().to_vec(alloc)?;
+    for _ in bytes.len()..length {
+        bytes.push(b' ')?;
+    }
+    Ok(bytes)
+}
+
 #[test]
 fn refuses_what_is_too_large(rt: HostRuntime) -> Result<(), Fail> {
     let row = rows::FIRST_ELECTION;
-    let mut bytes = vec![in rt.alloc(); b' '; 16_777_217]?;
-    let document = row.document.as_bytes();
-    bytes[..document.len()].copy_from_slice(document);
-    let most = large(&bytes[..16_777_216]);
+    let bytes = padded(rt.alloc(), row.document, 16_777_216)?;
+    let most = large(&bytes);
     expect(&rt, rt.alloc(), &["replay"], &most, Status::Done, row.text)?;
+    let bytes = padded(rt.alloc(), row.document, 16_777_217)?;
     let more = large(&bytes);
-    expect(
-        &rt,
-        rt.alloc(),
-        &["replay"],
-        &more,
-        Status::Refused,
-        "refused 33 /\n",
-    )?;
-    expect(
-        &rt,
-        rt.alloc(),
-        &["check"],
-        &more,
-        Status::Refused,
-        "refused 33 /\n",
-    )
+    for word in ["replay", "check"] {
+        expect(
+            &rt,
+            rt.alloc(),
+            &[word],
+            &more,
+            Status::Refused,
+            "refused 33 /\n",
+        )?;
+    }
+    Ok(())
 }

@@ -1,4 +1,4 @@
-use Rattle.std.proofs.Common.{sym, ap, ◌∙◌, length, ◌≤◌, subst, Ok, Err}
+use Rattle.std.proofs.Common.{sym, ◌∙◌, length, ◌≤◌, subst, Ok, Err}
 use Rattle.replay_top.proofs.Readings.{means-read, means-large, took-told}
 use Rattle.replay_top.proofs.reading.read.Goals as goal
 

@@ -1,5 +1,4 @@
 use Rattle.std.proofs.Common.{[], Some, refl}
-use Rattle.script_reader.specs.Documents.{doc_of}
 use Rattle.replay_top.specs.Lines.{trace}
 use Rattle.replay_top.specs.Summary.{summary}
 use Rattle.replay_top.specs.Outcome.{answer_to, done, refused, of_whole}

@@ -1,4 +1,4 @@
-use Rattle.std.proofs.Common.{subst, ◌∙◌, sym}
+use Rattle.std.proofs.Common.{subst, ◌∙◌}
 use Rattle.byte_edge.proofs.Fronts.{gave-nothing}
 use Rattle.script_reader.specs.Documents.{doc_of}
 use Rattle.world_core.specs.Worlds.{names_of}
