@@ -240,8 +240,7 @@ fn lists_objects_by_key(rt: HostRuntime) -> Result<(), Fail> {
     }
     let want = [n, b, a, p];
     assert_eq!(rt; keys.as_slice(), want.as_slice());
-    assert!(rt;
-        matches!(&items.as_slice()[2].1, Object::Lease(l) if l.holder == Holder::Foreign(3))
-    );
+    let third = items.as_slice().get(2).ok_or("no third item")?;
+    assert!(rt; matches!(&third.1, Object::Lease(l) if l.holder == Holder::Foreign(3)));
     Ok(())
 }
