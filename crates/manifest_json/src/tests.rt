@@ -2,8 +2,8 @@
 use crate::{Path, ReadFault, Refusal, read_list, read_object, write_list};
 use kube_base::{Names, ProcId, Wall};
 use kube_objects::{
-    Effect, Holder, Items, Key, Kind, Lease, Object, Operator, Ready, ReadyStatus, Taint,
-    Toleration,
+    Effect, Holder, Items, Key, Kind, Lease, Node, Object, Operator, Pod, Ready, ReadyStatus,
+    Taint, Taints, Toleration, Tolerations,
 };
 use serde_json::Value;
 use std::alloc::Global;
@@ -308,18 +308,69 @@ fn writes_a_lease(rt: HostRuntime) -> Result<(), Fail> {
     Ok(())
 }
 
-const WRITTEN: &str =
-    r#"{"apiVersion":"v1","items":[{"apiVersion":"v1","kind":"Node","metadata":{"labels":{"topology.kubernetes.io/zone":"z1"},"name":"n1"},"spec":{"taints":[{"effect":"NoExecute","key":"gpu","timeAdded":"2024-01-01T00:00:00Z","value":"yes"}]},"status":{"conditions":[{"reason":"NodeStatusUnknown","status":"Unknown","type":"Ready"}]}},{"apiVersion":"coordination.k8s.io/v1","kind":"Lease","metadata":{"name":"n1","namespace":"kube-node-lease"},"spec":{"holderIdentity":"n1","leaseDurationSeconds":40,"renewTime":"2024-01-01T00:00:00.000001Z"}},{"apiVersion":"v1","kind":"Pod","metadata":{"name":"p1","namespace":"default"},"spec":{"nodeName":"n1","tolerations":[{"effect":"NoExecute","key":"gpu","operator":"Exists","tolerationSeconds":300}]}}],"kind":"List"}"#;
+const WRITTEN_NODE: &str =
+    r#"{"apiVersion":"v1","items":[{"apiVersion":"v1","kind":"Node","metadata":{"labels":{"topology.kubernetes.io/zone":"kube-system"},"name":"n1"},"status":{"conditions":[{"lastHeartbeatTime":"2024-01-01T00:00:00Z","reason":"NodeStatusUnknown","status":"Unknown","type":"Ready"}]}}],"kind":"List"}"#;
 
-/// What is read is written without the fields that aren't read, nor those that are missing or empty.
+/// A Node without taints, without a region and without the time of its last transition.
 #[test]
-fn writes_what_it_read(rt: HostRuntime) -> Result<(), Fail> {
+fn writes_a_node(rt: HostRuntime) -> Result<(), Fail> {
     let alloc = rt.alloc();
-    let value = Value::from_str(alloc, LIST)?;
     let mut names = Names::new(alloc)?;
-    let objects = read_list(alloc, &mut names, &[], &value, &Path::new(alloc))?;
-    let written = write_list(alloc, &names, &[], &objects.items)?;
-    assert_eq!(rt; written.to_string(alloc)?.as_str(), WRITTEN);
+    let key = Key {
+        kind: Kind::Node,
+        space: 0,
+        name: names.number(b"n1")?,
+    };
+    let ready = Ready {
+        status: ReadyStatus::Unknown,
+        reason: 3,
+        heartbeat: Some(Wall(NEW_YEAR)),
+        transition: None,
+    };
+    let node = Node {
+        region: 0,
+        zone: 7,
+        taints: Taints::new(alloc),
+        ready: Some(ready),
+    };
+    let mut items = Items::new(alloc);
+    items.push((key, Object::Node(node)))?;
+    let value = write_list(alloc, &names, &[], &items)?;
+    assert_eq!(rt; value.to_string(alloc)?.as_str(), WRITTEN_NODE);
+    Ok(())
+}
+
+const WRITTEN_POD: &str =
+    r#"{"apiVersion":"v1","items":[{"apiVersion":"v1","kind":"Pod","metadata":{"name":"p1","namespace":"kube-system"},"spec":{"tolerations":[{"effect":"NoExecute","key":"node.kubernetes.io/not-ready","operator":"Exists","tolerationSeconds":300}]}}],"kind":"List"}"#;
+
+/// A Pod that isn't scheduled, with a toleration whose value is empty.
+#[test]
+fn writes_a_pod(rt: HostRuntime) -> Result<(), Fail> {
+    let alloc = rt.alloc();
+    let mut names = Names::new(alloc)?;
+    let key = Key {
+        kind: Kind::Pod,
+        space: 7,
+        name: names.number(b"p1")?,
+    };
+    let mut tolerations = Tolerations::new(alloc);
+    tolerations.push(Toleration {
+        key: 5,
+        operator: Operator::Exists,
+        value: 0,
+        effect: Some(Effect::NoExecute),
+        seconds: Some(300),
+    })?;
+    let mut items = Items::new(alloc);
+    items.push((
+        key,
+        Object::Pod(Pod {
+            node: 0,
+            tolerations,
+        }),
+    ))?;
+    let value = write_list(alloc, &names, &[], &items)?;
+    assert_eq!(rt; value.to_string(alloc)?.as_str(), WRITTEN_POD);
     Ok(())
 }
 
@@ -420,10 +471,11 @@ fn refuses_too_many_taints(rt: HostRuntime) -> Result<(), Fail> {
     let few = many_taints(alloc, 100)?;
     let value = Value::from_str(alloc, few.as_str())?;
     let mut names = Names::new(alloc)?;
-    match read_object(alloc, &mut names, &[], &value, &Path::new(alloc))? {
-        (_, Object::Node(node)) => assert_eq!(rt; node.taints.as_slice().len(), 100),
-        _ => assert!(rt; false, "a Node was given"),
-    }
+    let (_, object) = read_object(alloc, &mut names, &[], &value, &Path::new(alloc))?;
+    let Object::Node(node) = &object else {
+        return Err(Fail::from("no Node"));
+    };
+    assert_eq!(rt; node.taints.as_slice().len(), 100);
     let many = many_taints(alloc, 101)?;
     check_object(
         &rt,
