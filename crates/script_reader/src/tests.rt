@@ -196,6 +196,16 @@ fn refuses_settings(rt: HostRuntime) -> Result<(), Fail> {
             6,
             "/settings/epoch",
         ),
+    ] {
+        check_refusal(&rt, rt.alloc(), text, code, path);
+    }
+    Ok(())
+}
+
+/// Unknown keys, and the rules on all settings together.
+#[test]
+fn refuses_settings_as_a_whole(rt: HostRuntime) -> Result<(), Fail> {
+    for (text, code, path) in [
         (
             r#"{"version":1,"settings":{"endBeat":1,"renewDeadlineMillis":15000}}"#,
             7,
