@@ -114,3 +114,8 @@ trace-end doc names processes = refl
 pub trace-named : (d : Document) (names processes : List (List ℕ)) → names ≡ d.names → processes ≡ process_names d.names (doc_of d) → trace_of (doc_of d) names processes ≡ trace d
 unfolding trace
 trace-named d names processes named ordered = ap (λ n. trace_of (doc_of d) n processes) named ∙ ap (trace_of (doc_of d) d.names) ordered
+
+-- the same history has the same trace
+pub trace-same : (doc : Doc) (names processes : List (List ℕ)) (j k : ℕ) → history doc j ≡ history doc k → trace_before doc names processes j ≡ trace_before doc names processes k
+unfolding trace_before
+trace-same doc names processes j k same = ap (λ h. first_line doc ++ lines_of names processes (printed h)) same

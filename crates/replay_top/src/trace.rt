@@ -94,6 +94,7 @@ fn write_beats<K: Sink>(
         let deeds = match world.beat() {
             Ok((next, deeds)) => {
                 world = next;
+                world.skip_quiet();
                 deeds
             }
             Err(NoMemory) => return Err(WriteFault::NoMemory),

@@ -15,6 +15,7 @@ pub mod Moving
 pub mod Names
 pub mod Plainly
 pub mod Puts
+pub mod Quiet
 pub mod Ranges
 pub mod Rates
 pub mod Readings

@@ -19,7 +19,7 @@ use Rattle.world_core.specs.Plain.{IsFew}
 use Rattle.world_core.proofs.Plainly.{starts-start}
 use Rattle.world_core.proofs.Turning.{restart-up, restart-down}
 
-lt-true : (a b : ℕ) → a < b → nat_lt a b ≡ true
+pub lt-true : (a b : ℕ) → a < b → nat_lt a b ≡ true
 lt-true a b less = grind (arith, nat_tests)
 
 lt-false : (a b : ℕ) → b ≤ a → nat_lt a b ≡ false
@@ -46,19 +46,26 @@ down-at doc p i h (role.Down o) at s is = (s.0, ap reading_of (sym is) ∙ s.1)
 down-at doc p i h (role.Candidate x) at s is = cc
 down-at doc p i h (role.Leading x) at s is = cc
 
-pub restarted-waits : (doc : Doc) (k p : ℕ) (h : List Entry) (c : Controller) (at : Local) → ControllerStands doc p h c → waiting_of c.role ≡ Some at → local doc p k < at.0 → Restarted doc k p h c false
-restarted-waits doc k p h c at s is less =
+-- where it isn't due yet
+pub restart-waits : (doc : Doc) (k p : ℕ) (h : List Entry) (c : Controller) (at : Local) → ControllerStands doc p h c → waiting_of c.role ≡ Some at → local doc p k < at.0 → restart doc k p h ≡ h
+restart-waits doc k p h c at s is less =
     let down = down-at doc p c.incarnation h c.role at s.role is in
-    restarted-not doc k p h c s (restart-down doc k p h false down.0 (due-is doc p k at.0 (ended p h) down.1 ∙ ap not (lt-true (local doc p k) at.0 less)))
+    restart-down doc k p h false down.0 (due-is doc p k at.0 (ended p h) down.1 ∙ ap not (lt-true (local doc p k) at.0 less))
+
+pub restarted-waits : (doc : Doc) (k p : ℕ) (h : List Entry) (c : Controller) (at : Local) → ControllerStands doc p h c → waiting_of c.role ≡ Some at → local doc p k < at.0 → Restarted doc k p h c false
+restarted-waits doc k p h c at s is less = restarted-not doc k p h c s (restart-waits doc k p h c at s is less)
 
 -- where nothing waits
-pub restarted-never : (doc : Doc) (k p : ℕ) (h : List Entry) (c : Controller) → ControllerStands doc p h c → waiting_of c.role ≡ None → Restarted doc k p h c false
-restarted-never doc k p h c s is = restarted-not doc k p h c s (by_role c.role s.role is)
+pub restart-never : (doc : Doc) (k p : ℕ) (h : List Entry) (c : Controller) → ControllerStands doc p h c → waiting_of c.role ≡ None → restart doc k p h ≡ h
+restart-never doc k p h c s is = by_role c.role s.role is
   where
     by_role : (r : Role) → RoleStands doc p c.incarnation h r → waiting_of r ≡ None → restart doc k p h ≡ h
     by_role (role.Down o) down none = restart-down doc k p h false down.0 (due-never doc p k (ended p h) (ap reading_of (sym none) ∙ down.1))
     by_role (role.Candidate x) up none = restart-up doc k p c.incarnation h up.0
     by_role (role.Leading x) up none = restart-up doc k p c.incarnation h up.0
+
+pub restarted-never : (doc : Doc) (k p : ℕ) (h : List Entry) (c : Controller) → ControllerStands doc p h c → waiting_of c.role ≡ None → Restarted doc k p h c false
+restarted-never doc k p h c s is = restarted-not doc k p h c s (restart-never doc k p h c s is)
 
 -- where it is due
 pub restart-is : (doc : Doc) (k p : ℕ) (h : List Entry) (c : Controller) (at : Local) → ControllerStands doc p h c → waiting_of c.role ≡ Some at → at.0 ≤ local doc p k → restart doc k p h ≡ start k 4 p h

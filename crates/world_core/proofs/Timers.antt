@@ -43,12 +43,12 @@ timed-down doc k p h c at s is =
     (attempts-down doc k p h down.0, stands-role doc p h h c (role.Down at) s refl down)
 
 -- where a controller is up: the history after the expiry and the test of the deadline
-up-settled : (doc : Doc) (k p i : ℕ) (h : List Entry) → alive p h ≡ Some i → settled doc k p h ≡ tested doc k (identity p i) (expired doc k (identity p i) h)
+pub up-settled : (doc : Doc) (k p i : ℕ) (h : List Entry) → alive p h ≡ Some i → settled doc k p h ≡ tested doc k (identity p i) (expired doc k (identity p i) h)
 up-settled doc k p i h up =
     let q = identity p i in
     ap (finish doc k p) (expire-up doc k p i h up) ∙ finish-up doc k p i (expired doc k q h) (alive-expired doc k p q h ∙ up)
 
-candidate-settled : (doc : Doc) (k p i : ℕ) (h : List Entry) → alive p h ≡ Some i → leads (identity p i) (expired doc k (identity p i) h) ≡ false → settled doc k p h ≡ expired doc k (identity p i) h
+pub candidate-settled : (doc : Doc) (k p i : ℕ) (h : List Entry) → alive p h ≡ Some i → leads (identity p i) (expired doc k (identity p i) h) ≡ false → settled doc k p h ≡ expired doc k (identity p i) h
 candidate-settled doc k p i h up unled =
     let q = identity p i in
     let e = expired doc k q h in

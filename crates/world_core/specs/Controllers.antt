@@ -138,6 +138,12 @@ settled doc k p h = finish doc k p (expire doc k p h)
 abbrev pub ended_deeds : ℕ → Identity → Bool → List deed.Deed
 ended_deeds k q b = deeds_of k (actor_of q) (when b act.End)
 
+-- a turn of the controller does nothing
+pub record IsStill (doc : Doc) (k p : ℕ) (h : List Entry) : Type 0 where
+  pub restarts : restart doc k p h ≡ h
+  pub settles : settled doc k p h ≡ h
+  pub tries : attempts doc k p h ≡ h
+
 -- a controller has started again where it was time
 pub record Restarted (doc : Doc) (k p : ℕ) (h : List Entry) (c : Controller) (started : Bool) : Type 0 where
   pub stands : ControllerStands doc p (restart doc k p h) c

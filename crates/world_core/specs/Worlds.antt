@@ -1,5 +1,5 @@
 -- The world stands for a document before a beat, or within one.
-use Rattle.std.specs.Prelude.{◌≡◌, ℕ, ◌+◌, ◌<◌, ◌≤◌, ◌++◌, true, List, Some, slice_get, length, vec_len, drop, All}
+use Rattle.std.specs.Prelude.{◌≡◌, ℕ, ◌+◌, ◌<◌, ◌≤◌, ◌++◌, true, List, [], Some, slice_get, length, vec_len, drop, All}
 use Rattle.kube_objects.specs.declared.deed.Deed as deed
 use Rattle.kube_objects.specs.declared.script.Event.{Event}
 use Rattle.kube_objects.specs.declared.script.What.{What}
@@ -8,6 +8,7 @@ use Rattle.kube_objects.specs.Document.{Doc, processes, is_controller, restart_d
 use Rattle.kube_objects.specs.Entry.{Entry}
 use Rattle.kube_objects.specs.InFlight.{requests_due, replies_due}
 use Rattle.kube_objects.specs.Wire.{Sent, Back}
+use Rattle.history.specs.History.{beat}
 use Rattle.history.specs.Printed.{printed}
 use Rattle.history.specs.Steps.{happens, happen_all}
 use Rattle.object_store.specs.Stands.{StoreStands}
@@ -104,6 +105,17 @@ pub record WorldStands (doc : Doc) (k : ℕ) (h : List Entry) (w : World) : Type
 pub record Running (doc : Doc) (k : ℕ) (before : List deed.Deed) (arriving : List Sent) (coming : List Back) (h : List Entry) (w : World) (deeds : List deed.Deed) : Type 0 where
   pub world : WorldWithin doc k arriving coming h w
   pub told : before ++ deeds ≡ printed h
+
+-- ---- quiet beats
+
+-- nothing in flight arrives at the beats from k to before n
+pub record AreSilent (k n : ℕ) (h : List Entry) : Type 0 where
+  pub requests : (j : ℕ) → k ≤ j → j < n → requests_due j h ≡ []
+  pub replies : (j : ℕ) → k ≤ j → j < n → replies_due j h ≡ []
+
+-- the beats from k to before n add nothing to a history
+abbrev pub AddNothing : Doc → ℕ → ℕ → List Entry → Type 0
+AddNothing doc k n h = (j : ℕ) → k ≤ j → j < n → beat doc h j ≡ h
 
 -- ---- events
 

@@ -14,7 +14,7 @@ ghost use Rattle.kube_objects.specs.Wire.{Back};
 ghost use Rattle.history.specs.Steps.{happens, start, restart};
 ghost use Rattle.script_reader.specs.Lawful.{AreLawful, IsLawful};
 ghost use Rattle.skew_clock.specs.Clocking.{rate_at, last_set, reading};
-ghost use Rattle.world_core.specs.Controllers.{AreEventsFrom, ControllerStands, SameController, Crashed, Begun, StoppedAs, Restarted, Timed, Turned, Replied, SameSpan, is_up_as, waiting_of};
+ghost use Rattle.world_core.specs.Controllers.{AreEventsFrom, ControllerStands, SameController, Crashed, Begun, StoppedAs, Restarted, Timed, Turned, Replied, SameSpan, IsStill, is_up_as, waiting_of};
 ghost use Rattle.world_core.specs.Plain.{IsPlain, IsFew};
 
 use kube_base::{Beat, Local, NoMemory, ProcId, Version};
@@ -185,6 +185,21 @@ impl Controller {
         ensures stands { (doc : Doc) (n k p : ℕ) (h : List Entry) → ControllerStands doc p h self.old → beat.0 ≡ k → delay ≡ restart_delay doc → IsPlain n h → IsFew (restart doc k p h)
             → Turned doc k p h self.new result }
     {
+        if beat.0 < self.until.0 && self.sleeps(self.below) {
+            return quiet();
+        }
+        self.take_turn(beat, delay)
+    }
+
+    // Its turn, where the clock has to be read.
+    #[inline(never)]
+    fn take_turn(&mut self, beat: Beat, delay: u64) -> Turn
+        requires within { beat.0 ≤ self.old.clock.end }
+        requires delay { delay ≤ 86400000000000000 }
+        ensures same { SameController self.old self.new }
+        ensures stands { (doc : Doc) (n k p : ℕ) (h : List Entry) → ControllerStands doc p h self.old → beat.0 ≡ k → delay ≡ restart_delay doc → IsPlain n h → IsFew (restart doc k p h)
+            → Turned doc k p h self.new result }
+    {
         let started = self.restart(beat);
         let turn = self.on_timer(beat, delay);
         Turn {
@@ -192,6 +207,19 @@ impl Controller {
             ended: turn.ended,
             ask: turn.ask,
         }
+    }
+
+    /// The first beat at which its turn may do something: in each beat before, up to the end, it does nothing.
+    pub fn wakes_from(&mut self, beat: Beat) -> Beat
+        ensures same { SameController self.old self.new }
+        ensures stands { (doc : Doc) (p : ℕ) (h : List Entry) → ControllerStands doc p h self.old → ControllerStands doc p h self.new }
+        ensures still { (doc : Doc) (k p : ℕ) (h : List Entry) → ControllerStands doc p h self.old → k ≤ self.old.clock.end → k < result.0 → IsStill doc k p h }
+    {
+        if beat.0 < self.until.0 && self.sleeps(self.below) {
+            return self.until;
+        }
+        self.doze();
+        self.until
     }
 
     /// Starts again, where it is down and its clock has reached its restart.
@@ -211,32 +239,43 @@ impl Controller {
         true
     }
 
-    // Whether the rest of its turn does nothing at each reading below this one.
-    fn rests(&self, below: Local) -> bool
-        ensures { (doc : Doc) (k p : ℕ) (h : List Entry) → ControllerStands doc p h self.now → local doc p k < below.0 → result ≡ true → Timed doc k p h self.now false None }
+    // Whether its turn does nothing at each reading below this one.
+    fn sleeps(&self, below: Local) -> bool
+        ensures { (doc : Doc) (k p : ℕ) (h : List Entry) → ControllerStands doc p h self.now → local doc p k < below.0 → result ≡ true → IsStill doc k p h }
     {
         match &self.role {
-            Role::Down(_) => true,
+            Role::Down(None) => true,
+            Role::Down(Some(at)) => below.0 <= at.0,
             Role::Candidate(candidate) => below.0 <= candidate.wake().0,
             Role::Leading(leading) => below.0 <= leading.wake().0,
         }
     }
 
-    // Looks for the beat up to which it rests, so that its next turns needn't read the clock.
+    // Looks for the beat up to which it sleeps, so that its next turns needn't read the clock.
     fn doze(&mut self)
         ensures same { SameController self.old self.new }
         ensures incarnation { self.new.incarnation ≡ self.old.incarnation }
         ensures stands { (doc : Doc) (p : ℕ) (h : List Entry) → ControllerStands doc p h self.old → ControllerStands doc p h self.new }
+        ensures still { (doc : Doc) (k p : ℕ) (h : List Entry) → ControllerStands doc p h self.old → k ≤ self.old.clock.end → k < self.new.until.0 → IsStill doc k p h }
     {
-        let wake = match &self.role {
-            Role::Down(_) => Local(0),
-            Role::Candidate(candidate) => candidate.wake(),
-            Role::Leading(leading) => leading.wake(),
-        };
+        let wake = self.wake();
         self.until = first_beat(&self.clock, wake);
         self.below = wake;
     }
 
+    // The least reading at which its turn may do something.
+    fn wake(&self) -> Local
+        ensures { (doc : Doc) (k p : ℕ) (h : List Entry) → ControllerStands doc p h self.now → local doc p k < result.0 → IsStill doc k p h }
+    {
+        match &self.role {
+            Role::Down(None) => Local(u64::MAX),
+            Role::Down(Some(at)) => *at,
+            Role::Candidate(candidate) => candidate.wake(),
+            Role::Leading(leading) => leading.wake(),
+        }
+    }
+
+    // The rest of its turn, after the restart.
     fn on_timer(&mut self, beat: Beat, delay: u64) -> Turn
         requires within { beat.0 ≤ self.old.clock.end }
         requires delay { delay ≤ 86400000000000000 }
@@ -245,19 +284,15 @@ impl Controller {
         ensures stands { (doc : Doc) (k p : ℕ) (h : List Entry) → ControllerStands doc p h self.old → beat.0 ≡ k → delay ≡ restart_delay doc → IsFew h
             → Timed doc k p h self.new result.ended result.ask }
     {
-        if beat.0 < self.until.0 && self.rests(self.below) {
-            return quiet();
-        }
         let now = self.clock.local(beat);
-        if self.rests(Local(now.0 + 1)) {
+        if self.sleeps(Local(now.0 + 1)) {
             self.doze();
             return quiet();
         }
         self.wakes(beat, now, delay)
     }
 
-    // The rest of its turn, where it doesn't rest.
-    #[inline(never)]
+    // The rest of its turn, where it doesn't sleep.
     fn wakes(&mut self, beat: Beat, now: Local, delay: u64) -> Turn
         requires within { beat.0 ≤ self.old.clock.end }
         requires now { now.0 ≤ 2 * 10 ^ 18 }

@@ -1,5 +1,7 @@
 // The world of a document, which does one beat at a time.
-ghost use Rattle.std.specs.Prelude.{◌≡◌, ◌∷◌, ◌+◌, ◌*◌, ◌<◌, ◌≤◌, ◌++◌, ℕ, List, [], true, IfOk, OnOk, IsTrue, ◌↔◌, vec_len, length, slice_get, All, Option, Some};
+ghost use Rattle.std.specs.Prelude.{◌≡◌, ◌∷◌, ◌+◌, ◌*◌, ◌<◌, ◌≤◌, ◌++◌, ℕ, List, [], true, IfOk, OnOk, IsTrue, ◌↔◌, vec_len, length, slice_get, drop, All, Option, Some};
+ghost use Rattle.std.specs.List.Sorted.{IsStrictlySortedBy};
+ghost use Rattle.std.specs.Map.{keys_of, lookup};
 ghost use Rattle.kube_objects.specs.declared.deed.Deed.{Deed};
 ghost use Rattle.kube_objects.specs.declared.script.What.TheVariants as What;
 ghost use Rattle.kube_objects.specs.Document.{Doc};
@@ -7,8 +9,11 @@ ghost use Rattle.kube_objects.specs.Answers.{answer as store_answer, written};
 ghost use Rattle.kube_objects.specs.declared.object.Object as Objects;
 ghost use Rattle.kube_objects.specs.Entry.{Entry, Identity, Call, Answers, entry};
 ghost use Rattle.kube_objects.specs.Identities.{identity};
-ghost use Rattle.kube_objects.specs.Stored.{request_write, write_of};
+ghost use Rattle.kube_objects.specs.Keys.{key_cmp, key_eq};
+ghost use Rattle.kube_objects.specs.Stored.{request_write, stored, write_of};
+ghost use Rattle.object_store.specs.StoreAnswers.{object_of};
 ghost use Rattle.object_store.specs.Stands.{StoreStands};
+ghost use Rattle.kube_objects.specs.InFlight.{requests_due, replies_due};
 ghost use Rattle.kube_objects.specs.Wire.{Sent, Back, reply_arrival};
 ghost use Rattle.history.specs.History.{history, beat, put_all};
 ghost use Rattle.history.specs.Printed.{printed};
@@ -16,13 +21,13 @@ ghost use Rattle.history.specs.Steps.{first_starts, start_first, happen_all, del
 ghost use Rattle.kube_objects.specs.Document.{is_up_first, processes};
 ghost use Rattle.wire_calls.specs.WireStands.{WireStands, as_delivered, replies_at, requests_at};
 ghost use Rattle.script_reader.specs.Documents.{doc_of};
-ghost use Rattle.script_reader.specs.Lawful.{AreLawful, IsLawful, IsLawfulDoc};
+ghost use Rattle.script_reader.specs.Lawful.{AreLawful, AreLawfulFrom, IsLawful, IsLawfulDoc};
 ghost use Rattle.world_core.specs.declared.controller.Controller.{Controller};
 ghost use Rattle.world_core.specs.Controllers.{AreEventsFrom};
 ghost use Rattle.world_core.specs.Forms.{is_run};
 ghost use Rattle.world_core.specs.Plain.{IsFew, IsKnown, SentByKnown, BackToKnown};
 ghost use Rattle.history.specs.Due.{answer_all, deliver_all};
-ghost use Rattle.world_core.specs.Worlds.{EachStands, at_of, end_of, names_of, HasDelays, IsReady, IsPlaced, SameDocument, Keeps, WorldStands, Running, Happens, Scripted};
+ghost use Rattle.world_core.specs.Worlds.{AddNothing, AreSilent, EachStands, at_of, end_of, names_of, HasDelays, IsReady, IsPlaced, SameDocument, Keeps, WorldStands, WorldWithin, Running, Happens, Scripted};
 
 use crate::controller::{Controller, picoseconds};
 use crate::printing::{answer_act, crashing, ending, leading, removing, starting, stopping, tell};
@@ -93,6 +98,14 @@ impl World {
         &self.names
     }
 
+    /// The objects that are stored, each with its key, in the order of keys. Each is a copy.
+    pub fn objects(&self) -> Result<Items, NoMemory>
+        ensures ascend { IfOk result (λ items. IsStrictlySortedBy key_cmp (keys_of items)) }
+        ensures stored { (doc : Doc) (k : ℕ) (h : List Entry) (key : Key) → WorldStands doc k h self.now → IfOk result (λ items. lookup (key_eq key) items ≡ object_of (stored key h)) }
+    {
+        self.store.objects()
+    }
+
     /// The next beat to be done.
     pub fn at(&self) -> Beat
         ensures { result.0 ≡ at_of self.now }
@@ -125,6 +138,76 @@ impl World {
         let next = Beat(self.beat.0 + 1);
         self.beat = next;
         Ok((self, deeds))
+    }
+
+    /// Goes on to the next beat at which something may happen, at most to the one after the end. Nothing happens in the
+    /// beats between.
+    pub fn skip_quiet(&mut self)
+        requires ready { IsReady self.old }
+        requires begun { 0 < at_of self.old }
+        requires within { at_of self.old ≤ end_of self.old + 1 }
+        ensures kept { IsReady self.new × (at_of self.old ≤ at_of self.new) × (at_of self.new ≤ end_of self.new + 1) × (end_of self.new ≡ end_of self.old) × (names_of self.new ≡ names_of self.old) }
+        ensures stands { (doc : Doc) (k : ℕ) (h : List Entry) → WorldStands doc k h self.old
+            → WorldStands doc (at_of self.new) h self.new × AddNothing doc k (at_of self.new) h }
+    {
+        let last = Beat(self.end.0 + 1);
+        let outside = self.next_message(self.next_event(last));
+        if outside.0 <= self.beat.0 {
+            return;
+        }
+        let busy = self.next_turns(outside);
+        self.beat = later(self.beat, busy);
+    }
+
+    // The beat of the next event, or the bound where that is earlier.
+    fn next_event(&self, bound: Beat) -> Beat
+        ensures bound { result.0 ≤ bound.0 }
+        ensures events { (doc : Doc) (k : ℕ) → self.now.events ≡ doc.events → IsPlaced doc k self.now.place → AreLawfulFrom doc result.0 (drop self.now.place doc.events) }
+    {
+        match self.events.as_slice().get(self.place) {
+            Some(event) => earlier(event.beat, bound),
+            None => bound,
+        }
+    }
+
+    // The next beat at which something in flight arrives, or the bound where that is earlier.
+    fn next_message(&self, bound: Beat) -> Beat
+        ensures bound { result.0 ≤ bound.0 }
+        ensures silent { (processes k : ℕ) (h : List Entry) → WireStands processes k (requests_due k h) (replies_due k h) h self.now.wire → AreSilent k result.0 h }
+    {
+        match self.wire.next() {
+            Some(arrives) => earlier(arrives, bound),
+            None => bound,
+        }
+    }
+
+    // The next beat at which a turn may do something, or the bound where that is earlier.
+    fn next_turns(&mut self, bound: Beat) -> Beat
+        requires ready { IsReady self.old }
+        ensures kept { Keeps self.old self.new }
+        ensures bound { result.0 ≤ bound.0 }
+        ensures stands { (doc : Doc) (k : ℕ) (arriving : List Sent) (coming : List Back) (h : List Entry) → WorldWithin doc k arriving coming h self.old → WorldWithin doc k arriving coming h self.new }
+        ensures still { (doc : Doc) (k j : ℕ) (arriving : List Sent) (coming : List Back) (h : List Entry) → WorldWithin doc k arriving coming h self.old → j ≤ end_of self.old → j < result.0 → turns doc j (processes doc) h ≡ h }
+    {
+        let mut next = bound;
+        for i in 0..self.controllers.len() {
+            next = self.next_turn(i, next);
+        }
+        next
+    }
+
+    // The next beat at which a controller's turn may do something, or the bound where that is earlier.
+    fn next_turn(&mut self, i: usize, bound: Beat) -> Beat
+        requires index { i < vec_len self.old.controllers }
+        requires ready { IsReady self.old }
+        ensures kept { Keeps self.old self.new }
+        ensures bound { result.0 ≤ bound.0 }
+        ensures stands { (doc : Doc) (k : ℕ) (arriving : List Sent) (coming : List Back) (h : List Entry) → WorldWithin doc k arriving coming h self.old → WorldWithin doc k arriving coming h self.new }
+        ensures still { (doc : Doc) (k j : ℕ) (arriving : List Sent) (coming : List Back) (h : List Entry) → WorldWithin doc k arriving coming h self.old → j ≤ end_of self.old → j < result.0 → turn doc j i h ≡ h }
+    {
+        let controller = &mut self.controllers[i];
+        let wakes = controller.wakes_from(self.beat);
+        earlier(wakes, bound)
     }
 
     // In beat 0 each controller starts that is up at first.
@@ -430,6 +513,20 @@ fn send_back(wire: &mut Wire, to: &Arrived, reply: Reply, now: Beat) -> Result<(
 {
     wire.reply(to, reply, now)?;
     Ok(())
+}
+
+fn earlier(a: Beat, b: Beat) -> Beat
+    ensures { (result.0 ≤ a.0) × (result.0 ≤ b.0) }
+{
+    if b.0 < a.0 { b } else { a }
+}
+
+fn later(a: Beat, b: Beat) -> Beat
+    ensures least { a.0 ≤ result.0 }
+    ensures most { (n : ℕ) → a.0 ≤ n → b.0 ≤ n → result.0 ≤ n }
+    ensures between { (j : ℕ) → a.0 ≤ j → j < result.0 → j < b.0 }
+{
+    if a.0 < b.0 { b } else { a }
 }
 
 // An event's copy equals it.

@@ -1,11 +1,13 @@
-use Rattle.std.proofs.Common.{◌≡◌, suc, ◌+◌, ◌≤◌, ◌++◌, subst, ap, ◌∙◌, arith, add-one}
+use Rattle.std.proofs.Common.{◌≡◌, suc, ◌+◌, ◌≤◌, ◌++◌, sym, subst, ap, ◌∙◌, arith, add-one}
 use Rattle.kube_objects.specs.Document.{end_beat}
 use Rattle.byte_edge.specs.Bytes.{Gives, Gave}
 use Rattle.history.specs.History.{history}
-use Rattle.world_core.specs.Worlds.{at_of, end_of, names_of}
+use Rattle.world_core.specs.Worlds.{WorldStands, at_of, end_of, names_of}
+use Rattle.world_core.proofs.Quiet.{history-skips}
 use Rattle.replay_top.specs.Lines.{trace_before, lines_of}
+use Rattle.replay_top.specs.Spoken.{Spoken}
 use Rattle.replay_top.proofs.Said.{spoken-given, spoken-front, spoken-so_far, spoken-more}
-use Rattle.replay_top.proofs.Grown.{gave-whole, next-stands, trace-next, not-over, over, few, trace-end}
+use Rattle.replay_top.proofs.Grown.{gave-whole, next-stands, trace-next, trace-same, not-over, over, few, trace-end}
 use Rattle.replay_top.proofs.trace.write_beats.Goals as goal
 
 pub returns-in-Err-clause-written : goal.returns-in-Err-clause-written
@@ -44,25 +46,30 @@ beats-preserved g c =
     let names = names_of c.args.world in
     let processes = c.args.processes.now in
     let k = at_of c.beats.world in
-    let next = c.in-Ok-beat.next in
+    let done = c.in-Ok-beat.next in
+    let next = c.skip_quiet.new.self in
     let after = g.K.Sink.taken c.give_long.new.sink in
     let buffer = c.give_long.new.text.items in
     let kept = c.in-Ok-beat.ensures.kept in
-    let same : c.names.result.now ≡ names = c.names.ensures ∙ kept.3 ∙ c.beats.invariant.names in
+    let skips = c.skip_quiet.ensures in
+    let same : c.names.result.now ≡ names = c.names.ensures ∙ skips.kept.4 ∙ kept.3 ∙ c.beats.invariant.names in
     let lines : c.add_deeds.new.text.items ≡ buffer ++ lines_of names processes c.in-Ok-beat.deeds = c.in-Ok-add_deeds.ensures ∙ ap (λ n. buffer ++ lines_of n processes c.as_slice.result.now) same ∙ ap (λ l. buffer ++ lines_of names processes l) c.as_slice.ensures in
     let inside = not-over (end_of c.beats.world) k c.finished.result c.finished.ensures c.beats-test.true in
     record {
-      within = omega (arith, inside, kept.1, kept.2);
-      ready = kept.0;
-      last = kept.2 ∙ c.beats.invariant.last;
-      names = kept.3 ∙ c.beats.invariant.names;
+      within = skips.kept.2;
+      ready = skips.kept.0;
+      last = skips.kept.3 ∙ kept.2 ∙ c.beats.invariant.last;
+      names = skips.kept.4 ∙ kept.3 ∙ c.beats.invariant.names;
       counted = omega (arith, c.beats.invariant.counted, c.give_long.ensures.counted);
       stands = λ doc before events first is s.
           let now = c.beats.invariant.stands doc before events first is s in
-          let beat = c.in-Ok-beat.ensures.stands doc k (history doc k) (few doc k events (omega (arith, inside, c.beats.invariant.ready.end))) now.0 in (
-            next-stands doc k (at_of next) next kept.1 beat.0,
-            spoken-more before after buffer (lines_of names processes c.in-Ok-beat.deeds) c.add_deeds.new.text.items (trace_before doc names processes k) (trace_before doc names processes (at_of next))
-                (c.in-Ok.ensures.spoken before (trace_before doc names processes k) now.1) lines (trace-next doc names processes k (at_of next) c.in-Ok-beat.deeds kept.1 beat.1),
+          let beat = c.in-Ok-beat.ensures.stands doc k (history doc k) (few doc k events (omega (arith, inside, c.beats.invariant.ready.end))) now.0 in
+          let skipped = skips.stands doc (at_of done) (history doc (at_of done)) (next-stands doc k (at_of done) done kept.1 beat.0) in
+          let quiet : history doc (at_of next) ≡ history doc (at_of done) = history-skips doc (at_of done) (at_of next) skips.kept.1 skipped.1 in (
+            subst (λ h. WorldStands doc (at_of next) h next) (sym quiet) skipped.0,
+            subst (Spoken before after c.add_deeds.new.text.items) (trace-same doc names processes (at_of done) (at_of next) (sym quiet))
+            (spoken-more before after buffer (lines_of names processes c.in-Ok-beat.deeds) c.add_deeds.new.text.items (trace_before doc names processes k) (trace_before doc names processes (at_of done))
+                (c.in-Ok.ensures.spoken before (trace_before doc names processes k) now.1) lines (trace-next doc names processes k (at_of done) c.in-Ok-beat.deeds kept.1 beat.1)),
           );
     }
 
