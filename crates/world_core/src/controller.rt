@@ -185,21 +185,6 @@ impl Controller {
         ensures stands { (doc : Doc) (n k p : ℕ) (h : List Entry) → ControllerStands doc p h self.old → beat.0 ≡ k → delay ≡ restart_delay doc → IsPlain n h → IsFew (restart doc k p h)
             → Turned doc k p h self.new result }
     {
-        if beat.0 < self.until.0 && self.sleeps(self.below) {
-            return quiet();
-        }
-        self.take_turn(beat, delay)
-    }
-
-    // Its turn, where the clock has to be read.
-    #[inline(never)]
-    fn take_turn(&mut self, beat: Beat, delay: u64) -> Turn
-        requires within { beat.0 ≤ self.old.clock.end }
-        requires delay { delay ≤ 86400000000000000 }
-        ensures same { SameController self.old self.new }
-        ensures stands { (doc : Doc) (n k p : ℕ) (h : List Entry) → ControllerStands doc p h self.old → beat.0 ≡ k → delay ≡ restart_delay doc → IsPlain n h → IsFew (restart doc k p h)
-            → Turned doc k p h self.new result }
-    {
         let started = self.restart(beat);
         let turn = self.on_timer(beat, delay);
         Turn {
@@ -209,16 +194,23 @@ impl Controller {
         }
     }
 
+    /// Whether it is known that its turn does nothing from this beat to before `until`.
+    pub fn is_asleep(&self, beat: Beat) -> bool
+        ensures before { result ≡ true → beat.0 < self.now.until.0 }
+        ensures still { (doc : Doc) (k p : ℕ) (h : List Entry) → ControllerStands doc p h self.now → result ≡ true → k ≤ self.now.clock.end → k < self.now.until.0 → IsStill doc k p h }
+    {
+        beat.0 < self.until.0 && self.sleeps(self.below)
+    }
+
     /// The first beat at which its turn may do something: in each beat before, up to the end, it does nothing.
     pub fn wakes_from(&mut self, beat: Beat) -> Beat
         ensures same { SameController self.old self.new }
         ensures stands { (doc : Doc) (p : ℕ) (h : List Entry) → ControllerStands doc p h self.old → ControllerStands doc p h self.new }
         ensures still { (doc : Doc) (k p : ℕ) (h : List Entry) → ControllerStands doc p h self.old → k ≤ self.old.clock.end → k < result.0 → IsStill doc k p h }
     {
-        if beat.0 < self.until.0 && self.sleeps(self.below) {
-            return self.until;
+        if !self.is_asleep(beat) {
+            self.doze();
         }
-        self.doze();
         self.until
     }
 

@@ -477,6 +477,22 @@ impl World {
         ensures stands { (doc : Doc) (k : ℕ) (before : List Deed) (arriving : List Sent) (coming : List Back) (h : List Entry) → Running doc k before arriving coming h self.old deeds.old → IsFew (turn doc k i h)
             → OnOk result (Running doc k before arriving coming (turn doc k i h) self.new deeds.new) }
     {
+        if self.controllers[i].is_asleep(self.beat) {
+            return Ok(());
+        }
+        self.take_turn(i, deeds)
+    }
+
+    // A turn of a controller that may do something.
+    #[inline(never)]
+    fn take_turn(&mut self, i: usize, deeds: &mut Deeds) -> Result<(), NoMemory>
+        requires index { i < vec_len self.old.controllers }
+        requires ready { IsReady self.old }
+        requires within { at_of self.old ≤ end_of self.old }
+        ensures kept { OnOk result (Keeps self.old self.new) }
+        ensures stands { (doc : Doc) (k : ℕ) (before : List Deed) (arriving : List Sent) (coming : List Back) (h : List Entry) → Running doc k before arriving coming h self.old deeds.old → IsFew (turn doc k i h)
+            → OnOk result (Running doc k before arriving coming (turn doc k i h) self.new deeds.new) }
+    {
         let controller = &mut self.controllers[i];
         let turn = controller.turn(self.beat, self.restart);
         let who = controller.me;

@@ -1,12 +1,19 @@
-use Rattle.std.proofs.Common.{◌<◌, sym, ap, ◌∙◌, subst}
-use Rattle.kube_objects.specs.Clocks.{local}
-use Rattle.world_core.specs.Controllers.{Turned}
-use Rattle.world_core.proofs.Readings.{reading-local}
-use Rattle.world_core.proofs.Resting.{turned-still}
+use Rattle.std.proofs.Common.{◌++◌, sym, ap, ◌∙◌, subst}
+use Rattle.kube_objects.specs.Identities.{identity}
+use Rattle.history.specs.Printed.{printed}
+use Rattle.history.specs.Steps.{restart, attempts}
+use Rattle.world_core.specs.Controllers.{AsksOn, settled, started_deeds, ended_deeds}
+use Rattle.world_core.proofs.Turning.{ticks-same}
 use Rattle.world_core.proofs.controller.Controller.turn.Goals as goal
 
-pub returns-then-sleeps-clause-stands : goal.returns-then-sleeps-clause-stands
-returns-then-sleeps-clause-stands c doc n k p h s at delay plain few =
-    let self = c.args.self.now in
-    let less : local doc p k < self.below.0 = subst (λ n. n < self.below.0) (reading-local doc p c.args.beat.0 self.clock s.clock ∙ ap (local doc p) at) (s.asleep c.args.beat.0 c.requires.within c.if-beat-self.true) in
-    subst (Turned doc k p h self) (sym c.quiet.ensures) (turned-still doc k p h self s (c.sleeps.ensures doc k p h s less c.if-sleeps.true))
+pub returns-clause-stands : goal.returns-clause-stands
+returns-clause-stands c doc n k p h s at delay plain few =
+    let r = c.restart-started.ensures.stands doc n k p h s at plain few in
+    let t = c.on_timer-turn.ensures.stands doc k p (restart doc k p h) r.stands at delay few in
+    let base = settled doc k p (restart doc k p h) in
+    record {
+      told = t.told
+          ∙ ap (λ ds. ds ++ ended_deeds k (identity p c.on_timer-turn.new.self.incarnation) c.on_timer-turn.result.ended) r.told
+          ∙ ap (λ n. printed h ++ started_deeds k (identity p n) c.restart-started.result ++ ended_deeds k (identity p c.on_timer-turn.new.self.incarnation) c.on_timer-turn.result.ended) (sym c.on_timer-turn.ensures.incarnation);
+      asks = subst (λ x. AsksOn doc k 4 p base x c.on_timer-turn.new.self c.on_timer-turn.result.ask) (sym (ticks-same doc k p (attempts doc k p base))) t.asks;
+    }

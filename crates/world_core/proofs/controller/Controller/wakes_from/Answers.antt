@@ -1,8 +1,0 @@
-use Rattle.std.proofs.Common.{◌<◌, subst}
-use Rattle.world_core.proofs.Readings.{reading-local}
-use Rattle.world_core.proofs.controller.Controller.wakes_from.Goals as goal
-
-pub returns-then-sleeps-clause-still : goal.returns-then-sleeps-clause-still
-returns-then-sleeps-clause-still c doc k p h s within less =
-    let self = c.args.self.now in
-    c.sleeps.ensures doc k p h s (subst (λ n. n < self.below.0) (reading-local doc p k self.clock s.clock) (s.asleep k within less)) c.if-sleeps.true
