@@ -1,14 +1,14 @@
 -- What is written of a time is UTF-8, and is read as that time.
-use Rattle.std.proofs.Common.{◌≡◌, ℕ, ◌+◌, ◌-◌, ◌*◌, ◌/◌, ◌%◌, ◌<◌, ◌≤◌, Bool, true, false, not, cond, ◌&&◌, ◌==◌, nat_le, nat_lt, List, [], ◌∷◌, ◌++◌, length, drop, slice_index, position, unwrap_or, codes, Some, None, refl, sym, ap, subst, ◌∙◌, arith, ℤ, pos, ◌+ℤ◌, ◌-ℤ◌, ◌*ℤ◌}
+use Rattle.std.proofs.Common.{◌≡◌, ℕ, ◌+◌, ◌-◌, ◌*◌, ◌/◌, ◌%◌, ◌<◌, ◌≤◌, Bool, true, not, cond, ◌&&◌, ◌==◌, nat_le, nat_lt, List, [], ◌∷◌, ◌++◌, length, slice_index, unwrap_or, codes, Some, None, refl, ap, ◌∙◌, arith, pos}
 use Rattle.std.specs.Char.{is_ascii_digit}
-use Rattle.std.specs.List.{All, AllByRecursion, position_or_len}
+use Rattle.std.specs.List.{position_or_len}
 use Rattle.std.specs.Str.{IsUtf8, IsAscii}
 use Rattle.std.proofs.lemmas.Bool.{le-leb, lt-ltb}
 use Rattle.std.proofs.lemmas.Str.{IsUtf8-from_ascii}
 use Rattle.std.proofs.lemmas.Str.Ascii.{IsAscii-nil, IsAscii-cons}
 use Rattle.jiff_core.proofs.SignedLemmas.{signed_arith}
 use Rattle.kube_base.specs.declared.numbers.Wall.{Wall}
-use Rattle.kube_base.specs.Times.{◌>>=◌, digit, digit_at, two_at, two_digits, date_text, clock_text, date_time_text, six_digits, seconds_text, micros_text, day_at, day_number, second_at, first_other, few_digits, fraction_digits, fraction_digit, micros_of, offset_at, wall_of, instant, time_of, year_of, month_of, day_of, last_wall}
+use Rattle.kube_base.specs.Times.{◌>>=◌, digit, digit_at, two_at, two_digits, date_text, date_time_text, six_digits, seconds_text, micros_text, day_at, day_number, second_at, first_other, few_digits, fraction_digits, fraction_digit, micros_of, offset_at, wall_of, instant, time_of, year_of, month_of, day_of, last_wall}
 use Rattle.kube_base.proofs.WrittenDays.{written_date}
 
 -- ---- digits

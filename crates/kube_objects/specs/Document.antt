@@ -1,5 +1,5 @@
 -- The document as the definitions read it, and the timings of each process.
-use Rattle.std.specs.Prelude.{ℕ, ℤ, zero, suc, pos, ◌*◌, nat_lt, Bool, false, List, [], ◌∷◌, ◌++◌, length, slice_get, Option, Some, None}
+use Rattle.std.specs.Prelude.{ℕ, ℤ, pos, ◌*◌, nat_lt, Bool, false, List, ◌++◌, length, slice_get, Option, Some, None}
 use Rattle.kube_objects.specs.declared.key.Key.{Key}
 use Rattle.kube_objects.specs.declared.object.Object.{Object}
 use Rattle.kube_objects.specs.declared.script.Event.{Event}

@@ -1,5 +1,5 @@
 -- What a feed shows.
-use Rattle.std.specs.Prelude.{ℕ, List, Option, Some, None, slice_get}
+use Rattle.std.specs.Prelude.{Option, Some, None}
 use Rattle.std.specs.Borrow.{Bor}
 use Rattle.kube_base.specs.declared.numbers.Version.{Version}
 use Rattle.kube_objects.specs.declared.key.Key.{Key}

@@ -1,6 +1,6 @@
 -- The disruption state of a zone, and the rate at which its nodes are tainted.
 -- Source: the node lifecycle controller of Kubernetes; the rate policies gentle and halt are the profile's.
-use Rattle.std.specs.Prelude.{ℕ, Bool, true, false, nat_lt, nat_le, ◌==◌, ◌&&◌, ◌+◌, ◌*◌, if◌then◌else◌}
+use Rattle.std.specs.Prelude.{ℕ, Bool, nat_lt, nat_le, ◌==◌, ◌&&◌, ◌+◌, ◌*◌, if◌then◌else◌}
 use Rattle.kube_objects.specs.declared.node.ZoneState.{ZoneState}
 use Rattle.kube_objects.specs.declared.node.ZoneState.TheVariants.{Normal, Partial, Full}
 use Rattle.kube_objects.specs.declared.settings.RatePolicy.{RatePolicy}
