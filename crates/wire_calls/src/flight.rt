@@ -7,11 +7,13 @@ use kube_base::{Beat, NoMemory};
 use std::alloc::Global;
 use std::collections::{BTreeMap, VecDeque};
 
-/// For each beat at which something arrives, what arrives, the oldest first.
+/// For each beat at which something arrives, what arrives, the oldest first. The queue that was emptied last is kept, with
+/// its memory, for the next beat.
 #[derive(Drop)]
 pub(crate) struct Flight<T> {
     alloc: Global,
     beats: BTreeMap<Beat, VecDeque<T>>,
+    spare: Option<VecDeque<T>>,
 }
 
 impl<T: Copy + Drop> Flight<T> {
@@ -22,6 +24,7 @@ impl<T: Copy + Drop> Flight<T> {
         Flight {
             alloc,
             beats: BTreeMap::new(alloc),
+            spare: None,
         }
     }
 
@@ -35,10 +38,23 @@ impl<T: Copy + Drop> Flight<T> {
             queue.push_back(message)?;
             return Ok(());
         }
-        let mut queue = VecDeque::new(self.alloc);
+        let mut queue = self.empty_queue();
         queue.push_back(message)?;
         self.beats.insert(beat, queue)?;
         Ok(())
+    }
+
+    fn empty_queue(&mut self) -> VecDeque<T>
+        ensures empty { deque_items result ≡ [] }
+        ensures same { self.new.beats ≡ self.old.beats }
+    {
+        match self.spare.take() {
+            Some(mut queue) => {
+                queue.clear();
+                queue
+            }
+            None => VecDeque::new(self.alloc),
+        }
     }
 
     /// Takes out the first message of a beat.
@@ -50,7 +66,7 @@ impl<T: Copy + Drop> Flight<T> {
         let queue = self.beats.get_mut(&beat)?;
         let first = take_first(queue);
         if queue.is_empty() {
-            self.beats.remove(&beat);
+            self.spare = self.beats.remove(&beat);
         }
         first
     }

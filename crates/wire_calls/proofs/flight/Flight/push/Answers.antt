@@ -45,13 +45,13 @@ returns-clause-ok g c =
     let m = c.args.self.now.beats in
     let n = c.insert.new.self in
     let w = c.push_back-2.new.self in
-    let u = updates-get m n c.args.beat (Some w) (subst (λ m. Updates (beat_ord.cmp-value).it m n c.args.beat (Some w)) c.get_mut.follows.holds-at-none c.in_ok-insert.ensures.updates) in
-    change-pending deque_items m n c.args.beat (Some w) (λ xs. xs ++ c.args.message ∷ []) u (c.in_ok-push_back-2.ensures.items ∙ ap (λ xs. xs ++ c.args.message ∷ []) (c.new-queue.ensures.items ∙ ap (items_by deque_items) c.in_default.ensures.value))
+    let u = updates-get m n c.args.beat (Some w) (subst (λ m. Updates (beat_ord.cmp-value).it m n c.args.beat (Some w)) (c.empty_queue-queue.ensures.same ∙ c.get_mut.follows.holds-at-none) c.in_ok-insert.ensures.updates) in
+    change-pending deque_items m n c.args.beat (Some w) (λ xs. xs ++ c.args.message ∷ []) u (c.in_ok-push_back-2.ensures.items ∙ ap (λ xs. xs ++ c.args.message ∷ []) (c.empty_queue-queue.ensures.empty ∙ ap (items_by deque_items) c.in_default.ensures.value))
 
 pub returns-clause-live : goal.returns-clause-live
 returns-clause-live g c live =
     let m = c.args.self.now.beats in
     let n = c.insert.new.self in
     let w = c.push_back-2.new.self in
-    let u = updates-get m n c.args.beat (Some w) (subst (λ m. Updates (beat_ord.cmp-value).it m n c.args.beat (Some w)) c.get_mut.follows.holds-at-none c.in_ok-insert.ensures.updates) in
-    change-live deque_items m n c.args.beat (Some w) u (λ e. never-empty (deque_items c.new-queue.result) c.args.message (sym c.in_ok-push_back-2.ensures.items ∙ e)) live
+    let u = updates-get m n c.args.beat (Some w) (subst (λ m. Updates (beat_ord.cmp-value).it m n c.args.beat (Some w)) (c.empty_queue-queue.ensures.same ∙ c.get_mut.follows.holds-at-none) c.in_ok-insert.ensures.updates) in
+    change-live deque_items m n c.args.beat (Some w) u (λ e. never-empty (deque_items c.empty_queue-queue.result) c.args.message (sym c.in_ok-push_back-2.ensures.items ∙ e)) live
