@@ -16,10 +16,10 @@ use Rattle.history.specs.Steps.{start, restart_as, restart_if, restart, if_up, e
 use Rattle.object_store.proofs.Keeps.{store-beside}
 use Rattle.wire_calls.specs.WireStands.{is_of_wire}
 use Rattle.wire_calls.proofs.Frames.{wire-beside}
-use Rattle.world_core.specs.declared.world.World.{World}
+use Rattle.world_core.specs.declared.state.State.{State}
 use Rattle.world_core.specs.Controllers.{settled}
 use Rattle.world_core.specs.Plain.{IsUnheard, IsKnown, IsPlain, is_quiet, AreQuiet, with_deeds}
-use Rattle.world_core.specs.Worlds.{RestStands, OthersStand, WorldWithin}
+use Rattle.world_core.specs.States.{RestStands, OthersStand, StateWithin}
 use Rattle.world_core.proofs.Beside.{controller-others}
 use Rattle.world_core.proofs.Lives.{is_event}
 use Rattle.world_core.proofs.Names.{lt-from, le-from, eq-self}
@@ -68,14 +68,14 @@ quiet-event (Leads version) is = refl
 quiet-event (Ticks tick) is = refl
 
 -- all but controller i
-pub record Around (doc : Doc) (k i : ℕ) (arriving : List Sent) (coming : List Back) (h : List Entry) (w : World) : Type 0 where
+pub record Around (doc : Doc) (k i : ℕ) (arriving : List Sent) (coming : List Back) (h : List Entry) (w : State) : Type 0 where
   pub rest : RestStands doc k arriving coming h w
   pub others : OthersStand doc i h w.controllers.items
 
-pub around-world : (doc : Doc) (k i : ℕ) (arriving : List Sent) (coming : List Back) (h : List Entry) (w : World) → WorldWithin doc k arriving coming h w → Around doc k i arriving coming h w
+pub around-world : (doc : Doc) (k i : ℕ) (arriving : List Sent) (coming : List Back) (h : List Entry) (w : State) → StateWithin doc k arriving coming h w → Around doc k i arriving coming h w
 around-world doc k i arriving coming h w s = record { rest = s.rest; others = λ p c other is. s.controllers p c is }
 
-pub rest-own : (doc : Doc) (k j step : ℕ) (arriving : List Sent) (coming : List Back) (q : Identity) (d : Deed) (h : List Entry) (w : World) → is_quiet d ≡ true → IsKnown (processes doc) (entry j step q d ∷ h) q →
+pub rest-own : (doc : Doc) (k j step : ℕ) (arriving : List Sent) (coming : List Back) (q : Identity) (d : Deed) (h : List Entry) (w : State) → is_quiet d ≡ true → IsKnown (processes doc) (entry j step q d ∷ h) q →
     RestStands doc k arriving coming h w → RestStands doc k arriving coming (entry j step q d ∷ h) w
 rest-own doc k j step arriving coming q d h w quiet known s =
     record {
@@ -85,7 +85,7 @@ rest-own doc k j step arriving coming q d h w quiet known s =
       wire = wire-beside (processes doc) k arriving coming h (entry j step q d) w.wire (quiet-wire d quiet) s.wire;
     }
 
-pub around-own : (doc : Doc) (k i j step : ℕ) (arriving : List Sent) (coming : List Back) (q : Identity) (d : Deed) (h : List Entry) (w : World) → q.process ≡ i → is_quiet d ≡ true → IsKnown (processes doc) (entry j step q d ∷ h) q →
+pub around-own : (doc : Doc) (k i j step : ℕ) (arriving : List Sent) (coming : List Back) (q : Identity) (d : Deed) (h : List Entry) (w : State) → q.process ≡ i → is_quiet d ≡ true → IsKnown (processes doc) (entry j step q d ∷ h) q →
     Around doc k i arriving coming h w → Around doc k i arriving coming (entry j step q d ∷ h) w
 around-own doc k i j step arriving coming q d h w process quiet known s =
     record {
@@ -97,7 +97,7 @@ pub known-deeds : (n k step : ℕ) (q : Identity) (ds : List Deed) (h : List Ent
 known-deeds n k step q [] h known = known
 known-deeds n k step q (d ∷ ds) h known = known-later n (entry k step q d) (with_deeds k step q ds h) q (known-deeds n k step q ds h known)
 
-pub around-deeds : (doc : Doc) (k i j step : ℕ) (arriving : List Sent) (coming : List Back) (q : Identity) (ds : List Deed) (h : List Entry) (w : World) → q.process ≡ i → AreQuiet ds → IsKnown (processes doc) h q →
+pub around-deeds : (doc : Doc) (k i j step : ℕ) (arriving : List Sent) (coming : List Back) (q : Identity) (ds : List Deed) (h : List Entry) (w : State) → q.process ≡ i → AreQuiet ds → IsKnown (processes doc) h q →
     Around doc k i arriving coming h w → Around doc k i arriving coming (with_deeds j step q ds h) w
 around-deeds doc k i j step arriving coming q [] h w process quiet known s = s
 around-deeds doc k i j step arriving coming q (d ∷ ds) h w process quiet known s =
@@ -151,15 +151,15 @@ alive-known n p i h s within up = record { within = within; started = by_order (
 
 -- ---- through a turn up to its attempt
 
-around-start : (doc : Doc) (k i j step : ℕ) (arriving : List Sent) (coming : List Back) (h : List Entry) (w : World) → i < processes doc → Around doc k i arriving coming h w → Around doc k i arriving coming (start j step i h) w
+around-start : (doc : Doc) (k i j step : ℕ) (arriving : List Sent) (coming : List Back) (h : List Entry) (w : State) → i < processes doc → Around doc k i arriving coming h w → Around doc k i arriving coming (start j step i h) w
 around-start doc k i j step arriving coming h w within s =
     let q = identity i (starts i h + 1) in
     around-own doc k i j step arriving coming q Starts h w refl refl (record { within = within; started = let e = starts-start j step q h in omega (arith, e) }) s
 
-pub around-started : (doc : Doc) (k i j step : ℕ) (arriving : List Sent) (coming : List Back) (h : List Entry) (w : World) → i < processes doc → Around doc k i arriving coming h w → Around doc k i arriving coming (start j step i h) w
+pub around-started : (doc : Doc) (k i j step : ℕ) (arriving : List Sent) (coming : List Back) (h : List Entry) (w : State) → i < processes doc → Around doc k i arriving coming h w → Around doc k i arriving coming (start j step i h) w
 around-started = around-start
 
-around-restart : (doc : Doc) (k i : ℕ) (arriving : List Sent) (coming : List Back) (h : List Entry) (w : World) → i < processes doc → Around doc k i arriving coming h w → Around doc k i arriving coming (restart doc k i h) w
+around-restart : (doc : Doc) (k i : ℕ) (arriving : List Sent) (coming : List Back) (h : List Entry) (w : State) → i < processes doc → Around doc k i arriving coming h w → Around doc k i arriving coming (restart doc k i h) w
 around-restart doc k i arriving coming h w within s = by_life (alive i h)
   where
     by_due : (b : Bool) → Around doc k i arriving coming (restart_as k i b h) w
@@ -170,7 +170,7 @@ around-restart doc k i arriving coming h w within s = by_life (alive i h)
     by_life None = by_due (is_restart_due doc i k (ended i h))
     by_life (Some j) = s
 
-around-expire : (doc : Doc) (k i : ℕ) (arriving : List Sent) (coming : List Back) (h : List Entry) (w : World) → i < processes doc → Around doc k i arriving coming h w → Around doc k i arriving coming (expire doc k i h) w
+around-expire : (doc : Doc) (k i : ℕ) (arriving : List Sent) (coming : List Back) (h : List Entry) (w : State) → i < processes doc → Around doc k i arriving coming h w → Around doc k i arriving coming (expire doc k i h) w
 around-expire doc k i arriving coming h w within s = by_life (alive i h) refl
   where
     by_late : (j : ℕ) → IsKnown (processes doc) h (identity i j) → (call : Call) (b : Bool) → Around doc k i arriving coming (expire_as k (identity i j) call b h) w
@@ -185,7 +185,7 @@ around-expire doc k i arriving coming h w within s = by_life (alive i h) refl
     by_life None is = s
     by_life (Some j) is = by_call j (alive-known (processes doc) i j h s.rest.plain within is) (call_in (identity i j) h)
 
-around-finish : (doc : Doc) (k i : ℕ) (arriving : List Sent) (coming : List Back) (h : List Entry) (w : World) → i < processes doc → Around doc k i arriving coming h w → Around doc k i arriving coming (finish doc k i h) w
+around-finish : (doc : Doc) (k i : ℕ) (arriving : List Sent) (coming : List Back) (h : List Entry) (w : State) → i < processes doc → Around doc k i arriving coming h w → Around doc k i arriving coming (finish doc k i h) w
 around-finish doc k i arriving coming h w within s = by_life (alive i h) refl
   where
     by_time : (j : ℕ) → IsKnown (processes doc) h (identity i j) → (b : Bool) → Around doc k i arriving coming (end_as k (identity i j) b h) w
@@ -200,7 +200,7 @@ around-finish doc k i arriving coming h w within s = by_life (alive i h) refl
     by_life None is = s
     by_life (Some j) is = by_deadline j (alive-known (processes doc) i j h s.rest.plain within is) (deadline doc (identity i j) h)
 
-pub around-settled : (doc : Doc) (k i : ℕ) (arriving : List Sent) (coming : List Back) (h : List Entry) (w : World) → i < processes doc → Around doc k i arriving coming h w → Around doc k i arriving coming (settled doc k i (restart doc k i h)) w
+pub around-settled : (doc : Doc) (k i : ℕ) (arriving : List Sent) (coming : List Back) (h : List Entry) (w : State) → i < processes doc → Around doc k i arriving coming h w → Around doc k i arriving coming (settled doc k i (restart doc k i h)) w
 around-settled doc k i arriving coming h w within s =
     let r = restart doc k i h in
     around-finish doc k i arriving coming (expire doc k i r) w within (around-expire doc k i arriving coming r w within (around-restart doc k i arriving coming h w within s))

@@ -11,9 +11,9 @@ use Rattle.history.specs.History.{beat}
 use Rattle.history.specs.Steps.{start_first, starts_below, first_starts, step_one, answered, step_two, step_three, turns}
 use Rattle.history.proofs.Due.{step_two-due, step_three-due}
 use Rattle.wire_calls.proofs.Frames.{wire-next-beat}
-use Rattle.world_core.specs.declared.world.World.{World}
+use Rattle.world_core.specs.declared.state.State.{State}
 use Rattle.world_core.specs.Plain.{IsFew}
-use Rattle.world_core.specs.Worlds.{WorldWithin, IsPlaced, WorldStands}
+use Rattle.world_core.specs.States.{StateWithin, IsPlaced, StateStands}
 use Rattle.world_core.proofs.Grows.{Grows, grows-on, grows-same, grows-entry, grows-happen_all, grows-turns, few-before}
 use Rattle.world_core.proofs.Loops.{grows-deliver_all}
 
@@ -90,7 +90,7 @@ pub few-starts : (doc : Doc) (k : ℕ) (h : List Entry) → IsFew (one doc k h) 
 few-starts doc k h few = few-before (first_starts doc k h) (one doc k h) (grows-happen_all doc k doc.events (first_starts doc k h)) few
 
 -- the next beat begins
-pub world-next : (doc : Doc) (k : ℕ) (h : List Entry) (w : World) → WorldWithin doc k [] [] h w → IsPlaced doc (k + 1) w.place → WorldStands doc (k + 1) h (record w { beat = record { 0 = w.beat.0 + 1 } })
+pub world-next : (doc : Doc) (k : ℕ) (h : List Entry) (w : State) → StateWithin doc k [] [] h w → IsPlaced doc (k + 1) w.place → StateStands doc (k + 1) h (record w { beat = record { 0 = w.beat.0 + 1 } })
 world-next doc k h w s placed =
     let d = s.rest.document in
     record {

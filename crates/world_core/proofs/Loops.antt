@@ -18,16 +18,16 @@ use Rattle.wire_calls.specs.declared.message.Arrived.{Arrived}
 use Rattle.wire_calls.specs.declared.message.Delivered.{Delivered}
 use Rattle.wire_calls.specs.InFlight.{first_of, rest_of}
 use Rattle.wire_calls.specs.WireStands.{WireStands, arrived_of, as_arrived, delivered_of, as_delivered}
-use Rattle.world_core.specs.declared.world.World.{World}
+use Rattle.world_core.specs.declared.state.State.{State}
 use Rattle.world_core.specs.Plain.{IsKnown, IsFew, SentByKnown, BackToKnown}
-use Rattle.world_core.specs.Worlds.{IsReady, SameDocument, Keeps, EachStands, Running}
+use Rattle.world_core.specs.States.{IsReady, SameDocument, Keeps, EachStands, Running}
 use Rattle.world_core.proofs.Grows.{Grows, grows-on, grows-same, grows-entry, grows-delivered, grows-more_starts, grows-more_turns, few-before}
 use Rattle.world_core.proofs.Known.{sent-later, back-later}
 use Rattle.world_core.proofs.Running.{doc-same, answered-running}
 
 -- ---- requests
 
-pub record Answering (doc : Doc) (k : ℕ) (before : List deed.Deed) (arriving : List Sent) (coming : List Back) (h : List Entry) (w : World) (deeds : List deed.Deed) : Type 0 where
+pub record Answering (doc : Doc) (k : ℕ) (before : List deed.Deed) (arriving : List Sent) (coming : List Back) (h : List Entry) (w : State) (deeds : List deed.Deed) : Type 0 where
   pub now : List Entry
   pub left : List Sent
   pub running : Running doc k before left coming now w deeds
@@ -35,13 +35,13 @@ pub record Answering (doc : Doc) (k : ℕ) (before : List deed.Deed) (arriving :
   pub same : answer_all k left now ≡ answer_all k arriving h
 
 -- the store and the wire did what a request that arrived asks
-pub record Serves (doc : Doc) (k : ℕ) (rest : List Sent) (coming : List Back) (h : List Entry) (deeds new : List deed.Deed) (v : World) (r : Reply) (x : Arrived) : Type 0 where
+pub record Serves (doc : Doc) (k : ℕ) (rest : List Sent) (coming : List Back) (h : List Entry) (deeds new : List deed.Deed) (v : State) (r : Reply) (x : Arrived) : Type 0 where
   pub answers : r ≡ answer x.request h
   pub store : (e : Entry) → write_of e.deed ≡ request_write x.request (written x.request h) → StoreStands (e ∷ h) v.store
   pub wire : (q : Identity) (call : Call) (wrote : Option Object) → q ≡ identity x.who.0 x.incarnation → call.number ≡ x.number → WireStands (processes doc) k rest coming (entry k 2 q (Answers call r (reply_arrival q.process k h) wrote) ∷ h) v.wire
   pub told : new ≡ deeds ++ deeds_of k (actor.Proc x.who x.incarnation) (answer_act x.request r)
 
-serve-one : (doc : Doc) (k : ℕ) (before deeds new : List deed.Deed) (s : Sent) (left rest : List Sent) (coming : List Back) (h : List Entry) (w v : World) (r : Reply) → Running doc k before left coming h w deeds → IsKnown (processes doc) h s.who → SameDocument w v → v.controllers ≡ w.controllers →
+serve-one : (doc : Doc) (k : ℕ) (before deeds new : List deed.Deed) (s : Sent) (left rest : List Sent) (coming : List Back) (h : List Entry) (w v : State) (r : Reply) → Running doc k before left coming h w deeds → IsKnown (processes doc) h s.who → SameDocument w v → v.controllers ≡ w.controllers →
     Serves doc k rest coming h deeds new v r (as_arrived s) → Running doc k before rest coming (answered k s h) v new
 serve-one doc k before deeds new s left rest coming h w v r run known alike controllers serves =
     answered-running doc k before deeds new rest coming s h w v run.world.rest.document run.world.rest.plain run.world.controllers run.told known alike controllers
@@ -49,7 +49,7 @@ serve-one doc k before deeds new s left rest coming h w v r run known alike cont
     (subst (λ x. WireStands (processes doc) k rest coming (entry k 2 s.who (Answers s.call x (reply_arrival s.who.process k h) (written s.call.request h)) ∷ h) v.wire) serves.answers (serves.wire s.who s.call (written s.call.request h) refl refl))
     (serves.told ∙ ap (λ x. deeds ++ deeds_of k (actor_of s.who) (answer_act s.call.request x)) serves.answers)
 
-pub answering-more : (doc : Doc) (k : ℕ) (before deeds new : List deed.Deed) (arriving : List Sent) (coming : List Back) (h : List Entry) (w v : World) (r : Reply) (x : Arrived) → (a : Answering doc k before arriving coming h w deeds) →
+pub answering-more : (doc : Doc) (k : ℕ) (before deeds new : List deed.Deed) (arriving : List Sent) (coming : List Back) (h : List Entry) (w v : State) (r : Reply) (x : Arrived) → (a : Answering doc k before arriving coming h w deeds) →
     arrived_of (first_of a.left) ≡ Some x → SameDocument w v → v.controllers ≡ w.controllers → Serves doc k (rest_of a.left) coming a.now deeds new v r x → Answering doc k before arriving coming h v new
 answering-more doc k before deeds new arriving coming h w v r x a first alike controllers serves = by_left a.left a.running a.known a.same first serves
   where
@@ -67,7 +67,7 @@ answering-more doc k before deeds new arriving coming h w v r x a first alike co
         }
 
 -- nothing is left
-pub answering-done : (doc : Doc) (k : ℕ) (before deeds : List deed.Deed) (arriving : List Sent) (coming : List Back) (h : List Entry) (w v : World) → (a : Answering doc k before arriving coming h w deeds) → arrived_of (first_of a.left) ≡ None →
+pub answering-done : (doc : Doc) (k : ℕ) (before deeds : List deed.Deed) (arriving : List Sent) (coming : List Back) (h : List Entry) (w v : State) → (a : Answering doc k before arriving coming h w deeds) → arrived_of (first_of a.left) ≡ None →
     (Running doc k before a.left coming a.now w deeds → Running doc k before (rest_of a.left) coming a.now v deeds) → Running doc k before [] coming (answer_all k arriving h) v deeds
 answering-done doc k before deeds arriving coming h w v a none taken = by_left a.left a.running a.same none taken
   where
@@ -77,7 +77,7 @@ answering-done doc k before deeds arriving coming h w v a none taken = by_left a
     by_left (s ∷ rest) run same none taken = cc
 
 -- the wire gave something out
-pub rewired : (doc : Doc) (k : ℕ) (before deeds : List deed.Deed) (arriving left : List Sent) (coming rest : List Back) (h : List Entry) (w v : World) → SameDocument w v → v.controllers ≡ w.controllers → v.store ≡ w.store →
+pub rewired : (doc : Doc) (k : ℕ) (before deeds : List deed.Deed) (arriving left : List Sent) (coming rest : List Back) (h : List Entry) (w v : State) → SameDocument w v → v.controllers ≡ w.controllers → v.store ≡ w.store →
     WireStands (processes doc) k left rest h v.wire → Running doc k before arriving coming h w deeds → Running doc k before left rest h v deeds
 rewired doc k before deeds arriving left coming rest h w v alike controllers store wire r =
     record {
@@ -95,7 +95,7 @@ rewired doc k before deeds arriving left coming rest h w v alike controllers sto
 
 -- ---- replies
 
-pub record Delivering (doc : Doc) (k : ℕ) (before : List deed.Deed) (arriving : List Sent) (coming : List Back) (h : List Entry) (w : World) (deeds : List deed.Deed) : Type 0 where
+pub record Delivering (doc : Doc) (k : ℕ) (before : List deed.Deed) (arriving : List Sent) (coming : List Back) (h : List Entry) (w : State) (deeds : List deed.Deed) : Type 0 where
   pub now : List Entry
   pub left : List Back
   pub running : Running doc k before arriving left now w deeds
@@ -106,7 +106,7 @@ pub grows-deliver_all : (doc : Doc) (k : ℕ) (bs : List Back) (h : List Entry) 
 grows-deliver_all doc k [] h = grows-same h
 grows-deliver_all doc k (b ∷ bs) h = grows-on h (delivered doc k b h) (deliver_all doc k bs (delivered doc k b h)) (grows-delivered doc k b h) (grows-deliver_all doc k bs (delivered doc k b h))
 
-pub delivering-more : (doc : Doc) (k : ℕ) (before deeds new : List deed.Deed) (arriving : List Sent) (coming : List Back) (h : List Entry) (w v : World) (x : Delivered) → (a : Delivering doc k before arriving coming h w deeds) → delivered_of (first_of a.left) ≡ Some x → IsFew (deliver_all doc k coming h) →
+pub delivering-more : (doc : Doc) (k : ℕ) (before deeds new : List deed.Deed) (arriving : List Sent) (coming : List Back) (h : List Entry) (w v : State) (x : Delivered) → (a : Delivering doc k before arriving coming h w deeds) → delivered_of (first_of a.left) ≡ Some x → IsFew (deliver_all doc k coming h) →
     ((b : Back) → x ≡ as_delivered b → IsKnown (processes doc) a.now b.who → IsFew (delivered doc k b a.now) → Running doc k before arriving (rest_of a.left) (delivered doc k b a.now) v new) → Delivering doc k before arriving coming h v new
 delivering-more doc k before deeds new arriving coming h w v x a first few delivers = by_left a.left a.known a.same first delivers
   where
@@ -125,7 +125,7 @@ delivering-more doc k before deeds new arriving coming h w v x a first few deliv
           same = same;
         }
 
-pub delivering-done : (doc : Doc) (k : ℕ) (before deeds : List deed.Deed) (arriving : List Sent) (coming : List Back) (h : List Entry) (w v : World) → (a : Delivering doc k before arriving coming h w deeds) → delivered_of (first_of a.left) ≡ None →
+pub delivering-done : (doc : Doc) (k : ℕ) (before deeds : List deed.Deed) (arriving : List Sent) (coming : List Back) (h : List Entry) (w v : State) → (a : Delivering doc k before arriving coming h w deeds) → delivered_of (first_of a.left) ≡ None →
     (Running doc k before arriving a.left a.now w deeds → Running doc k before arriving (rest_of a.left) a.now v deeds) → Running doc k before arriving [] (deliver_all doc k coming h) v deeds
 delivering-done doc k before deeds arriving coming h w v a none taken = by_left a.left a.running a.same none taken
   where
@@ -142,7 +142,7 @@ first-later doc (suc k) h later = refl
 
 -- ---- what each turn of a loop keeps
 
-pub same-on : (u w v : World) → SameDocument u w → SameDocument w v → SameDocument u v
+pub same-on : (u w v : State) → SameDocument u w → SameDocument w v → SameDocument u v
 same-on u w v a b =
     record {
       beat = b.beat ∙ a.beat;
@@ -154,10 +154,10 @@ same-on u w v a b =
       names = b.names ∙ a.names;
     }
 
-pub keeps-on : (u w v : World) → Keeps u w → Keeps w v → Keeps u v
+pub keeps-on : (u w v : State) → Keeps u w → Keeps w v → Keeps u v
 keeps-on u w v a b = record { ready = b.ready; same = same-on u w v a.same b.same; place = b.place ∙ a.place; count = b.count ∙ a.count }
 
-pub keeps-same : (w : World) → IsReady w → Keeps w w
+pub keeps-same : (w : State) → IsReady w → Keeps w w
 keeps-same w ready = record { ready = ready; same = (record { beat = refl; end = refl; restart = refl; epoch = refl; micros = refl; events = refl; names = refl }); place = refl; count = refl }
 
 pub few-starts : (doc : Doc) (i n : ℕ) (h : List Entry) → i < n → IsFew (starts_below doc n h) → IsFew (starts_below doc (suc i) h)

@@ -7,17 +7,17 @@ use Rattle.kube_objects.specs.Document.{Doc, processes}
 use Rattle.kube_objects.specs.Entry.{actor_of}
 use Rattle.kube_objects.specs.Identities.{identity}
 use Rattle.world_core.specs.declared.controller.Controller.{Controller}
-use Rattle.world_core.specs.declared.world.World.{World}
-use Rattle.world_core.specs.Worlds.{IsReady, DocStands}
+use Rattle.world_core.specs.declared.state.State.{State}
+use Rattle.world_core.specs.States.{IsReady, DocStands}
 
 -- the controller that a place reads
-pub read-at : (w : World) (i : ℕ) (c : Controller) → i < vec_len w.controllers → c ≡ slice_index_or w.controllers.items i c → slice_get w.controllers.items i ≡ Some c
+pub read-at : (w : State) (i : ℕ) (c : Controller) → i < vec_len w.controllers → c ≡ slice_index_or w.controllers.items i c → slice_get w.controllers.items i ≡ Some c
 read-at w i c within is = slice_get_read w.controllers.items (vec_len w.controllers) i c w.controllers.ok.0 within is
 
-pub within-end : (w : World) (i : ℕ) (c : Controller) → IsReady w → w.beat.0 ≤ w.end.0 → slice_get w.controllers.items i ≡ Some c → w.beat.0 ≤ c.clock.end
+pub within-end : (w : State) (i : ℕ) (c : Controller) → IsReady w → w.beat.0 ≤ w.end.0 → slice_get w.controllers.items i ≡ Some c → w.beat.0 ≤ c.clock.end
 within-end w i c ready within was = let e = ready.clocks i c was in omega (arith, e, within)
 
-pub within-processes : (doc : Doc) (k : ℕ) (w : World) (i : ℕ) → DocStands doc k w → i < vec_len w.controllers → i < processes doc
+pub within-processes : (doc : Doc) (k : ℕ) (w : State) (i : ℕ) → DocStands doc k w → i < vec_len w.controllers → i < processes doc
 within-processes doc k w i s within = let count = s.count in let len = w.controllers.ok.0 in omega (arith, count, len, within)
 
 -- the actor that the code names

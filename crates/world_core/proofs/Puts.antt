@@ -15,7 +15,7 @@ use Rattle.wire_calls.specs.WireStands.{WireStands}
 use Rattle.wire_calls.proofs.Frames.{wire-beside}
 use Rattle.world_core.specs.declared.controller.Controller.{Controller}
 use Rattle.world_core.specs.Plain.{IsPlain}
-use Rattle.world_core.specs.Worlds.{EachStands}
+use Rattle.world_core.specs.States.{EachStands}
 use Rattle.world_core.proofs.Scripted.{plain-script, controller-put_all}
 
 -- the entry of an object

@@ -13,8 +13,8 @@ use Rattle.script_reader.specs.Lawful.{AreLawfulFrom}
 use Rattle.wire_calls.specs.declared.wire.Wire.{Wire}
 use Rattle.wire_calls.specs.InFlight.{pending}
 use Rattle.wire_calls.specs.WireStands.{InOrder, NextIs, WireStands, as_arrived, as_delivered, at_beat}
-use Rattle.world_core.specs.declared.world.World.{World}
-use Rattle.world_core.specs.Worlds.{AddNothing, AreSilent, IsPlaced, WorldStands, WorldWithin}
+use Rattle.world_core.specs.declared.state.State.{State}
+use Rattle.world_core.specs.States.{AddNothing, AreSilent, IsPlaced, StateStands, StateWithin}
 use Rattle.world_core.proofs.Beats.{beat-is, one, two, three}
 use Rattle.world_core.proofs.Events.{drop-at, happen-earlier, happen-later}
 use Rattle.world_core.proofs.Loops.{first-later}
@@ -136,7 +136,7 @@ pub silent-below : (k m n : ℕ) (h : List Entry) → ((j : ℕ) → k ≤ j →
 silent-below k m n h within s = record { requests = λ j from less. s.requests j from (within j from less); replies = λ j from less. s.replies j from (within j from less) }
 
 -- the world before a later beat
-pub world-skips : (doc : Doc) (k : ℕ) (at : Beat) (h : List Entry) (w : World) → k ≤ at.0 → AreSilent k at.0 h → WorldWithin doc k (requests_due k h) (replies_due k h) h w → IsPlaced doc at.0 w.place → WorldStands doc at.0 h (record w { beat = at })
+pub world-skips : (doc : Doc) (k : ℕ) (at : Beat) (h : List Entry) (w : State) → k ≤ at.0 → AreSilent k at.0 h → StateWithin doc k (requests_due k h) (replies_due k h) h w → IsPlaced doc at.0 w.place → StateStands doc at.0 h (record w { beat = at })
 world-skips doc k at h w most silent s placed =
     let d = s.rest.document in
     record {

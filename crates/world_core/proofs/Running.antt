@@ -18,10 +18,10 @@ use Rattle.wire_calls.specs.WireStands.{WireStands}
 use Rattle.world_core.specs.declared.controller.Controller.{Controller}
 use Rattle.world_core.specs.declared.controller.Received.{Received}
 use Rattle.world_core.specs.declared.controller.Turn.{Turn}
-use Rattle.world_core.specs.declared.world.World.{World}
+use Rattle.world_core.specs.declared.state.State.{State}
 use Rattle.world_core.specs.Controllers.{ControllerStands, SameController, AsksOn, AsksOnReply, StaysOn, AsksAfter, Turned, Replied, settled, started_deeds, ended_deeds, lead_deeds}
 use Rattle.world_core.specs.Plain.{IsKnown, IsPlain, with_deeds}
-use Rattle.world_core.specs.Worlds.{HasDelays, IsReady, SameDocument, Keeps, DocStands, EachStands, OthersStand, WorldWithin, Running}
+use Rattle.world_core.specs.States.{HasDelays, IsReady, SameDocument, Keeps, DocStands, EachStands, OthersStand, StateWithin, Running}
 use Rattle.world_core.proofs.Around.{Around, around-world, around-own, around-deeds, around-settled, around-started}
 use Rattle.world_core.proofs.Beside.{controller-others, controller-answered}
 use Rattle.world_core.proofs.Lists.{slice_get-set_same, slice_get-set_other, length-set}
@@ -30,7 +30,7 @@ use Rattle.world_core.proofs.Names.{eq-is, eq-self}
 use Rattle.world_core.proofs.Plainly.{plain-entry, known-later, starts-start}
 
 -- the world with controller i moved; its wire may have changed too
-pub record Moved (i : ℕ) (c0 c1 : Controller) (w v : World) : Type 0 where
+pub record Moved (i : ℕ) (c0 c1 : Controller) (w v : State) : Type 0 where
   pub was : slice_get w.controllers.items i ≡ Some c0
   pub now : v.controllers.items ≡ slice_set w.controllers.items i c1
   pub same : SameDocument w v
@@ -51,7 +51,7 @@ each-set doc i h cs c0 c1 was others own p c is = by_place (p == i) refl
         others p c apart (sym (slice_get-set_other cs i p c1 apart) ∙ is)
 
 -- what was read of the document stands as before
-pub doc-same : (doc : Doc) (k : ℕ) (w v : World) → SameDocument w v → length v.controllers.items ≡ length w.controllers.items → DocStands doc k w → DocStands doc k v
+pub doc-same : (doc : Doc) (k : ℕ) (w v : State) → SameDocument w v → length v.controllers.items ≡ length w.controllers.items → DocStands doc k w → DocStands doc k v
 doc-same doc k w v same count s =
     record {
       at = ap (λ b. b.0) same.beat ∙ s.at;
@@ -63,12 +63,12 @@ doc-same doc k w v same count s =
       events = same.events ∙ s.events;
     }
 
-doc-moved : (doc : Doc) (k i : ℕ) (c0 c1 : Controller) (w v : World) → Moved i c0 c1 w v → DocStands doc k w → DocStands doc k v
+doc-moved : (doc : Doc) (k i : ℕ) (c0 c1 : Controller) (w v : State) → Moved i c0 c1 w v → DocStands doc k w → DocStands doc k v
 doc-moved doc k i c0 c1 w v m s = doc-same doc k w v m.same (ap length m.now ∙ length-set w.controllers.items i c1) s
 
 -- nothing was sent
-pub within-moved : (doc : Doc) (k i : ℕ) (arriving : List Sent) (coming : List Back) (h : List Entry) (c0 c1 : Controller) (w v : World) → Moved i c0 c1 w v → v.wire ≡ w.wire → Around doc k i arriving coming h w → ControllerStands doc i h c1 →
-    WorldWithin doc k arriving coming h v
+pub within-moved : (doc : Doc) (k i : ℕ) (arriving : List Sent) (coming : List Back) (h : List Entry) (c0 c1 : Controller) (w v : State) → Moved i c0 c1 w v → v.wire ≡ w.wire → Around doc k i arriving coming h w → ControllerStands doc i h c1 →
+    StateWithin doc k arriving coming h v
 within-moved doc k i arriving coming h c0 c1 w v m wire a own =
     record {
       rest = record {
@@ -81,18 +81,18 @@ within-moved doc k i arriving coming h c0 c1 w v m wire a own =
     }
 
 -- what the wire does with a request of an identity that is sent at beat k
-abbrev pub SendsOn : Doc → ℕ → List Sent → List Back → Identity → Ask → World → World → Type 0
+abbrev pub SendsOn : Doc → ℕ → List Sent → List Back → Identity → Ask → State → State → Type 0
 SendsOn doc k arriving coming q ask w v = (step : ℕ) (h : List Entry) (call : Call) → WireStands (processes doc) k arriving coming h w.wire → call.number ≡ ask.number → call.request ≡ ask.request →
     WireStands (processes doc) k arriving coming (entry k step q (Sends call (request_arrival q.process k h)) ∷ h) v.wire
 
 -- a request was sent
-pub within-sent : (doc : Doc) (k step i : ℕ) (arriving : List Sent) (coming : List Back) (h next : List Entry) (c0 c1 : Controller) (w v : World) (ask : Ask) → Moved i c0 c1 w v → SendsOn doc k arriving coming (identity i c1.incarnation) ask w v →
-    Around doc k i arriving coming h w → IsKnown (processes doc) h (identity i c1.incarnation) → Asked k step (identity i c1.incarnation) h next (λ x. ControllerStands doc i x c1) ask → WorldWithin doc k arriving coming next v
+pub within-sent : (doc : Doc) (k step i : ℕ) (arriving : List Sent) (coming : List Back) (h next : List Entry) (c0 c1 : Controller) (w v : State) (ask : Ask) → Moved i c0 c1 w v → SendsOn doc k arriving coming (identity i c1.incarnation) ask w v →
+    Around doc k i arriving coming h w → IsKnown (processes doc) h (identity i c1.incarnation) → Asked k step (identity i c1.incarnation) h next (λ x. ControllerStands doc i x c1) ask → StateWithin doc k arriving coming next v
 within-sent doc k step i arriving coming h next c0 c1 w v ask m sends a known asked =
     let q = identity i c1.incarnation in
     let call = next_call q k asked.kind ask.request h in
     let e = entry k step q (Sends call (request_arrival i k h)) in
-    subst (λ x. WorldWithin doc k arriving coming x v) (sym asked.sent)
+    subst (λ x. StateWithin doc k arriving coming x v) (sym asked.sent)
     (record {
       rest = record {
         document = doc-moved doc k i c0 c1 w v m a.rest.document;
@@ -119,21 +119,21 @@ told-turn doc k i before deeds h c t told turned =
     let e = ended_deeds k (identity i c.incarnation) t.ended in
     sym (append_assoc before (deeds ++ s) e) ∙ ap (λ x. x ++ e) (sym (append_assoc before deeds s)) ∙ ap (λ x. x ++ s ++ e) told ∙ sym turned.told
 
-pub turned-quiet : (doc : Doc) (k i : ℕ) (before deeds new : List deed.Deed) (arriving : List Sent) (coming : List Back) (h : List Entry) (c0 c1 : Controller) (w v : World) (t : Turn) → Running doc k before arriving coming h w deeds →
+pub turned-quiet : (doc : Doc) (k i : ℕ) (before deeds new : List deed.Deed) (arriving : List Sent) (coming : List Back) (h : List Entry) (c0 c1 : Controller) (w v : State) (t : Turn) → Running doc k before arriving coming h w deeds →
     i < processes doc → Moved i c0 c1 w v → v.wire ≡ w.wire → Turned doc k i h c1 t → t.ask ≡ None → new ≡ turn_told k (identity i c1.incarnation) t deeds → Running doc k before arriving coming (turn doc k i h) v new
 turned-quiet doc k i before deeds new arriving coming h c0 c1 w v t r within m wire turned quiet new_is =
     let base = settled doc k i (restart doc k i h) in
     let asks = subst (AsksOn doc k 4 i base (controller_turn doc k i h) c1) quiet turned.asks in
     let next_is : turn doc k i h ≡ base = turn-is doc k i h (r.world.rest.document.controllers i within) ∙ asks.0 in
     record {
-      world = subst (λ x. WorldWithin doc k arriving coming x v) (sym next_is) (within-moved doc k i arriving coming base c0 c1 w v m wire (around-settled doc k i arriving coming h w within (around-world doc k i arriving coming h w r.world)) asks.1);
+      world = subst (λ x. StateWithin doc k arriving coming x v) (sym next_is) (within-moved doc k i arriving coming base c0 c1 w v m wire (around-settled doc k i arriving coming h w within (around-world doc k i arriving coming h w r.world)) asks.1);
       told = ap (λ ds. before ++ ds) new_is ∙ told-turn doc k i before deeds h c1 t r.told turned ∙ ap printed (sym next_is);
     }
 
 pub printed-sent : (k step : ℕ) (q : Identity) (kind : CallKind) (ask : Ask) (h next : List Entry) → next ≡ send k step q kind ask.request h → printed next ≡ printed h
 printed-sent k step q kind ask h next is = ap printed is ∙ append-nil (printed h)
 
-pub turned-asks : (doc : Doc) (k i : ℕ) (before deeds new : List deed.Deed) (arriving : List Sent) (coming : List Back) (h : List Entry) (c0 c1 : Controller) (w v : World) (t : Turn) (ask : Ask) → Running doc k before arriving coming h w deeds →
+pub turned-asks : (doc : Doc) (k i : ℕ) (before deeds new : List deed.Deed) (arriving : List Sent) (coming : List Back) (h : List Entry) (c0 c1 : Controller) (w v : State) (t : Turn) (ask : Ask) → Running doc k before arriving coming h w deeds →
     i < processes doc → Moved i c0 c1 w v → SendsOn doc k arriving coming (identity i c1.incarnation) ask w v → Turned doc k i h c1 t → t.ask ≡ Some ask →
     new ≡ turn_told k (identity i c1.incarnation) t deeds → Running doc k before arriving coming (turn doc k i h) v new
 turned-asks doc k i before deeds new arriving coming h c0 c1 w v t ask r within m sends turned some new_is =
@@ -143,7 +143,7 @@ turned-asks doc k i before deeds new arriving coming h c0 c1 w v t ask r within 
     let last : c1.incarnation ≡ starts i base = (asked.stands None).incarnation in
     let known : IsKnown (processes doc) base (identity i c1.incarnation) = record { within = within; started = omega (arith, last) } in
     record {
-      world = subst (λ x. WorldWithin doc k arriving coming x v) (sym turn_is)
+      world = subst (λ x. StateWithin doc k arriving coming x v) (sym turn_is)
           (within-sent doc k 4 i arriving coming base (controller_turn doc k i h) c0 c1 w v ask m sends (around-settled doc k i arriving coming h w within (around-world doc k i arriving coming h w r.world)) known asked);
       told = ap (λ ds. before ++ ds) new_is ∙ told-turn doc k i before deeds h c1 t r.told turned
           ∙ sym (printed-sent k 4 (identity i c1.incarnation) asked.kind ask base (controller_turn doc k i h) asked.sent) ∙ ap printed (sym turn_is);
@@ -159,18 +159,18 @@ told-reply doc k i before deeds b h c x told replied =
     let l = lead_deeds k (identity i c.incarnation) x.lead in
     sym (append_assoc before deeds l) ∙ ap (λ y. y ++ l) told ∙ sym replied.told
 
-pub replied-quiet : (doc : Doc) (k i : ℕ) (before deeds new : List deed.Deed) (arriving : List Sent) (coming : List Back) (b : Back) (h : List Entry) (c0 c1 : Controller) (w v : World) (x : Received) → Running doc k before arriving coming h w deeds →
+pub replied-quiet : (doc : Doc) (k i : ℕ) (before deeds new : List deed.Deed) (arriving : List Sent) (coming : List Back) (b : Back) (h : List Entry) (c0 c1 : Controller) (w v : State) (x : Received) → Running doc k before arriving coming h w deeds →
     b.who.process ≡ i → IsKnown (processes doc) h b.who → Moved i c0 c1 w v → v.wire ≡ w.wire → Replied doc k i b h c1 x → x.ask ≡ None → new ≡ reply_told k (identity i c1.incarnation) x deeds → Running doc k before arriving coming (delivered doc k b h) v new
 replied-quiet doc k i before deeds new arriving coming b h c0 c1 w v x r process known m wire replied quiet new_is =
     let on : StaysOn doc k i b h c1 = subst (AsksOnReply doc k i b h c1) quiet replied.asks in
     let next = with_deeds k 3 b.who on.deeds h in
     record {
-      world = subst (λ g. WorldWithin doc k arriving coming g v) (sym on.adds)
+      world = subst (λ g. StateWithin doc k arriving coming g v) (sym on.adds)
           (within-moved doc k i arriving coming next c0 c1 w v m wire (around-deeds doc k i k 3 arriving coming b.who on.deeds h w process on.quiet known (around-world doc k i arriving coming h w r.world)) (subst (λ g. ControllerStands doc i g c1) on.adds on.stands));
       told = ap (λ ds. before ++ ds) new_is ∙ told-reply doc k i before deeds b h c1 x r.told replied;
     }
 
-pub replied-sent : (doc : Doc) (k i : ℕ) (before deeds new : List deed.Deed) (arriving : List Sent) (coming : List Back) (b : Back) (h : List Entry) (c0 c1 : Controller) (w v : World) (x : Received) (ask : Ask) → Running doc k before arriving coming h w deeds →
+pub replied-sent : (doc : Doc) (k i : ℕ) (before deeds new : List deed.Deed) (arriving : List Sent) (coming : List Back) (b : Back) (h : List Entry) (c0 c1 : Controller) (w v : State) (x : Received) (ask : Ask) → Running doc k before arriving coming h w deeds →
     b.who.process ≡ i → IsKnown (processes doc) h b.who → Moved i c0 c1 w v → SendsOn doc k arriving coming (identity i c1.incarnation) ask w v → Replied doc k i b h c1 x → x.ask ≡ Some ask → new ≡ reply_told k (identity i c1.incarnation) x deeds →
     Running doc k before arriving coming (delivered doc k b h) v new
 replied-sent doc k i before deeds new arriving coming b h c0 c1 w v x ask r process known m sends replied some new_is =
@@ -188,7 +188,7 @@ replied-sent doc k i before deeds new arriving coming b h c0 c1 w v x ask r proc
 -- ---- what stays plain
 
 -- the ranges stand as before
-pub ready-same : (w v : World) → SameDocument w v → ((i : ℕ) (c : Controller) → slice_get v.controllers.items i ≡ Some c → c.clock.end ≡ w.end.0) → IsReady w → IsReady v
+pub ready-same : (w v : State) → SameDocument w v → ((i : ℕ) (c : Controller) → slice_get v.controllers.items i ≡ Some c → c.clock.end ≡ w.end.0) → IsReady w → IsReady v
 ready-same w v same clocks ready =
     record {
       end = subst (λ e. e.0 ≤ 604800000) (sym same.end) ready.end;
@@ -199,7 +199,7 @@ ready-same w v same clocks ready =
       clocks = λ i c is. clocks i c is ∙ ap (λ e. e.0) (sym same.end);
     }
 
-pub keeps-moved : (i : ℕ) (c0 c1 : Controller) (w v : World) → IsReady w → Moved i c0 c1 w v → vec_len v.controllers ≡ vec_len w.controllers → SameController c0 c1 → Keeps w v
+pub keeps-moved : (i : ℕ) (c0 c1 : Controller) (w v : State) → IsReady w → Moved i c0 c1 w v → vec_len v.controllers ≡ vec_len w.controllers → SameController c0 c1 → Keeps w v
 keeps-moved i c0 c1 w v ready m count same =
     record {
       ready = ready-same w v m.same (λ j c is. by_place j c is (j == i) refl) ready;
@@ -220,7 +220,7 @@ keeps-moved i c0 c1 w v ready m count same =
 
 -- ---- a first start
 
-pub first-not : (doc : Doc) (i : ℕ) (before deeds : List deed.Deed) (arriving : List Sent) (coming : List Back) (h : List Entry) (c0 : Controller) (w v : World) → Running doc 0 before arriving coming h w deeds → Moved i c0 c0 w v → v.wire ≡ w.wire → c0.up_first ≡ false →
+pub first-not : (doc : Doc) (i : ℕ) (before deeds : List deed.Deed) (arriving : List Sent) (coming : List Back) (h : List Entry) (c0 : Controller) (w v : State) → Running doc 0 before arriving coming h w deeds → Moved i c0 c0 w v → v.wire ≡ w.wire → c0.up_first ≡ false →
     Running doc 0 before arriving coming (start_first i (is_up_first doc i) h) v deeds
 first-not doc i before deeds arriving coming h c0 w v r m wire down =
     let s = r.world.controllers i c0 m.was in
@@ -228,7 +228,7 @@ first-not doc i before deeds arriving coming h c0 w v r m wire down =
     subst (λ g. Running doc 0 before arriving coming g v deeds) same
     (record { world = within-moved doc 0 i arriving coming h c0 c0 w v m wire (around-world doc 0 i arriving coming h w r.world) s; told = r.told })
 
-pub first-started : (doc : Doc) (i : ℕ) (before deeds new : List deed.Deed) (arriving : List Sent) (coming : List Back) (h : List Entry) (c0 c1 : Controller) (w v : World) → Running doc 0 before arriving coming h w deeds → i < processes doc → Moved i c0 c1 w v → v.wire ≡ w.wire → c0.up_first ≡ true →
+pub first-started : (doc : Doc) (i : ℕ) (before deeds new : List deed.Deed) (arriving : List Sent) (coming : List Back) (h : List Entry) (c0 c1 : Controller) (w v : State) → Running doc 0 before arriving coming h w deeds → i < processes doc → Moved i c0 c1 w v → v.wire ≡ w.wire → c0.up_first ≡ true →
     ControllerStands doc i (start 0 1 i h) c1 → new ≡ deeds ++ deeds_of 0 (actor_of (identity i c1.incarnation)) (Some act.Start) → Running doc 0 before arriving coming (start_first i (is_up_first doc i) h) v new
 first-started doc i before deeds new arriving coming h c0 c1 w v r within m wire up stands new_is =
     let s = r.world.controllers i c0 m.was in
@@ -244,7 +244,7 @@ first-started doc i before deeds new arriving coming h c0 c1 w v r within m wire
 
 -- ---- an answer of the store
 
-pub answered-running : (doc : Doc) (k : ℕ) (before deeds new : List deed.Deed) (rest : List Sent) (coming : List Back) (s : Sent) (h : List Entry) (w v : World) → DocStands doc k w → IsPlain (processes doc) h → EachStands doc h w.controllers.items → before ++ deeds ≡ printed h →
+pub answered-running : (doc : Doc) (k : ℕ) (before deeds new : List deed.Deed) (rest : List Sent) (coming : List Back) (s : Sent) (h : List Entry) (w v : State) → DocStands doc k w → IsPlain (processes doc) h → EachStands doc h w.controllers.items → before ++ deeds ≡ printed h →
     IsKnown (processes doc) h s.who → SameDocument w v → v.controllers ≡ w.controllers → StoreStands (answered k s h) v.store → WireStands (processes doc) k rest coming (answered k s h) v.wire →
     new ≡ deeds ++ deeds_of k (actor_of s.who) (answer_act s.call.request (answer s.call.request h)) → Running doc k before rest coming (answered k s h) v new
 answered-running doc k before deeds new rest coming s h w v ds plain each told known same controllers store wire new_is =

@@ -22,10 +22,10 @@ use Rattle.object_store.specs.Stands.{StoreStands}
 use Rattle.wire_calls.specs.WireStands.{WireStands, is_of_wire}
 use Rattle.wire_calls.proofs.Frames.{wire-beside}
 use Rattle.world_core.specs.declared.controller.Controller.{Controller}
-use Rattle.world_core.specs.declared.world.World.{World}
+use Rattle.world_core.specs.declared.state.State.{State}
 use Rattle.world_core.specs.Controllers.{ControllerStands, AsksOn, stop_in, stopped}
 use Rattle.world_core.specs.Plain.{IsKnown}
-use Rattle.world_core.specs.Worlds.{SameDocument, RestStands, EachStands, Running}
+use Rattle.world_core.specs.States.{SameDocument, RestStands, EachStands, Running}
 use Rattle.world_core.proofs.Around.{Around, around-world, around-own, around-started, alive-known}
 use Rattle.world_core.proofs.Names.{lt-from, eq-isnt}
 use Rattle.world_core.proofs.Plainly.{known-later}
@@ -41,7 +41,7 @@ controller-within doc p is = let less = lt-from p (length doc.controllers) is in
 abbrev pub scripted : ℕ → What → Option Version → List Entry → List Entry
 scripted k event version h = script_entry k 1 (Event event version) ∷ h
 
-pub running-event : (doc : Doc) (k : ℕ) (before deeds new : List deed.Deed) (arriving : List Sent) (coming : List Back) (h : List Entry) (w v : World) (event : What) (version : Option Version) → Running doc k before arriving coming h w deeds →
+pub running-event : (doc : Doc) (k : ℕ) (before deeds new : List deed.Deed) (arriving : List Sent) (coming : List Back) (h : List Entry) (w v : State) (event : What) (version : Option Version) → Running doc k before arriving coming h w deeds →
     ((p : ℕ) → cancels p event ≡ false) → SameDocument w v → v.controllers ≡ w.controllers → StoreStands (scripted k event version h) v.store → WireStands (processes doc) k arriving coming (scripted k event version h) v.wire →
     new ≡ deeds ++ deeds_of k actor.Script (event_act event version) → Running doc k before arriving coming (scripted k event version h) v new
 running-event doc k before deeds new arriving coming h w v event version r beside same controllers store wire new_is =
@@ -59,7 +59,7 @@ running-event doc k before deeds new arriving coming h w v event version r besid
     }
 
 -- it changes nothing in the world and is not printed
-pub running-plain : (doc : Doc) (k : ℕ) (before deeds : List deed.Deed) (arriving : List Sent) (coming : List Back) (h : List Entry) (w : World) (event : What) → Running doc k before arriving coming h w deeds → is_of_wire (Event event None) ≡ false → write_of (Event event None) ≡ None →
+pub running-plain : (doc : Doc) (k : ℕ) (before deeds : List deed.Deed) (arriving : List Sent) (coming : List Back) (h : List Entry) (w : State) (event : What) → Running doc k before arriving coming h w deeds → is_of_wire (Event event None) ≡ false → write_of (Event event None) ≡ None →
     ((p : ℕ) → cancels p event ≡ false) → Running doc k before arriving coming (scripted k event None h) w deeds
 running-plain doc k before deeds arriving coming h w event r wire write beside =
     let e = script_entry k 1 (Event event None) in
@@ -68,7 +68,7 @@ running-plain doc k before deeds arriving coming h w event r wire write beside =
 
 -- ---- an event on a controller
 
-around-event : (doc : Doc) (k i : ℕ) (arriving : List Sent) (coming : List Back) (event : What) (h : List Entry) (w : World) → is_of_wire (Event event None) ≡ false → write_of (Event event None) ≡ None → ((p : ℕ) → ¬ (p ≡ i) → cancels p event ≡ false) →
+around-event : (doc : Doc) (k i : ℕ) (arriving : List Sent) (coming : List Back) (event : What) (h : List Entry) (w : State) → is_of_wire (Event event None) ≡ false → write_of (Event event None) ≡ None → ((p : ℕ) → ¬ (p ≡ i) → cancels p event ≡ false) →
     Around doc k i arriving coming h w → Around doc k i arriving coming (scripted k event None h) w
 around-event doc k i arriving coming event h w wire write beside a =
     record {
@@ -84,7 +84,7 @@ around-event doc k i arriving coming event h w wire write beside a =
 apart : (i p : ℕ) → ¬ (p ≡ i) → ¬ (i ≡ p)
 apart i p other = λ same. other (sym same)
 
-pub around-crash : (doc : Doc) (k : ℕ) (id : ProcId) (arriving : List Sent) (coming : List Back) (h : List Entry) (w : World) → id.0 < processes doc → Around doc k id.0 arriving coming h w → Around doc k id.0 arriving coming (happens doc k (what.Crash id) h) w
+pub around-crash : (doc : Doc) (k : ℕ) (id : ProcId) (arriving : List Sent) (coming : List Back) (h : List Entry) (w : State) → id.0 < processes doc → Around doc k id.0 arriving coming h w → Around doc k id.0 arriving coming (happens doc k (what.Crash id) h) w
 around-crash doc k id arriving coming h w within a = by_life (alive id.0 h) refl
   where
     g : List Entry
@@ -99,7 +99,7 @@ around-crash doc k id arriving coming h w within a = by_life (alive id.0 h) refl
         let known = known-later (processes doc) (script_entry k 1 (Event (what.Crash id) None)) h (identity id.0 i) (alive-known (processes doc) id.0 i h a.rest.plain within is) in
         around-own doc k id.0 k 1 arriving coming (identity id.0 i) Crashes g w refl refl (known-later (processes doc) (entry k 1 (identity id.0 i) Crashes) g (identity id.0 i) known) base
 
-pub around-begin : (doc : Doc) (k : ℕ) (id : ProcId) (arriving : List Sent) (coming : List Back) (h : List Entry) (w : World) → id.0 < processes doc → Around doc k id.0 arriving coming h w → Around doc k id.0 arriving coming (happens doc k (what.Start id) h) w
+pub around-begin : (doc : Doc) (k : ℕ) (id : ProcId) (arriving : List Sent) (coming : List Back) (h : List Entry) (w : State) → id.0 < processes doc → Around doc k id.0 arriving coming h w → Around doc k id.0 arriving coming (happens doc k (what.Start id) h) w
 around-begin doc k id arriving coming h w within a = by_life (alive id.0 h)
   where
     g : List Entry
@@ -112,7 +112,7 @@ around-begin doc k id arriving coming h w within a = by_life (alive id.0 h)
     by_life None = around-started doc k id.0 k 1 arriving coming g w within base
     by_life (Some i) = base
 
-pub around-stop : (doc : Doc) (k : ℕ) (id : ProcId) (arriving : List Sent) (coming : List Back) (h : List Entry) (w : World) → id.0 < processes doc → Around doc k id.0 arriving coming h w → Around doc k id.0 arriving coming (stopped k id h) w
+pub around-stop : (doc : Doc) (k : ℕ) (id : ProcId) (arriving : List Sent) (coming : List Back) (h : List Entry) (w : State) → id.0 < processes doc → Around doc k id.0 arriving coming h w → Around doc k id.0 arriving coming (stopped k id h) w
 around-stop doc k id arriving coming h w within a = by_life (alive id.0 h) refl
   where
     g : List Entry
@@ -131,20 +131,20 @@ told-more : (before deeds new more : List deed.Deed) (h next : List Entry) → b
 told-more before deeds new more h next told new_is is = ap (λ ds. before ++ ds) new_is ∙ sym (append_assoc before deeds more) ∙ ap (λ ds. ds ++ more) told ∙ sym is
 
 -- the controller stands for the history with the event, and sends nothing
-pub running-moved : (doc : Doc) (k i : ℕ) (before deeds new more : List deed.Deed) (arriving : List Sent) (coming : List Back) (h next : List Entry) (c0 c1 : Controller) (w v : World) → Running doc k before arriving coming h w deeds → Moved i c0 c1 w v → v.wire ≡ w.wire →
+pub running-moved : (doc : Doc) (k i : ℕ) (before deeds new more : List deed.Deed) (arriving : List Sent) (coming : List Back) (h next : List Entry) (c0 c1 : Controller) (w v : State) → Running doc k before arriving coming h w deeds → Moved i c0 c1 w v → v.wire ≡ w.wire →
     Around doc k i arriving coming next w → ControllerStands doc i next c1 → printed next ≡ printed h ++ more → new ≡ deeds ++ more → Running doc k before arriving coming next v new
 running-moved doc k i before deeds new more arriving coming h next c0 c1 w v r m wire around stands printed_is new_is =
     record { world = within-moved doc k i arriving coming next c0 c1 w v m wire around stands; told = told-more before deeds new more h next r.told new_is printed_is }
 
 -- it stands for it where it asks nothing
-pub running-quiet : (doc : Doc) (k i : ℕ) (before deeds new more : List deed.Deed) (arriving : List Sent) (coming : List Back) (h base next : List Entry) (c0 c1 : Controller) (w v : World) (ask : Option Ask) → Running doc k before arriving coming h w deeds → Moved i c0 c1 w v → v.wire ≡ w.wire →
+pub running-quiet : (doc : Doc) (k i : ℕ) (before deeds new more : List deed.Deed) (arriving : List Sent) (coming : List Back) (h base next : List Entry) (c0 c1 : Controller) (w v : State) (ask : Option Ask) → Running doc k before arriving coming h w deeds → Moved i c0 c1 w v → v.wire ≡ w.wire →
     Around doc k i arriving coming base w → AsksOn doc k 1 i base next c1 ask → ask ≡ None → printed base ≡ printed h ++ more → new ≡ deeds ++ more → Running doc k before arriving coming next v new
 running-quiet doc k i before deeds new more arriving coming h base next c0 c1 w v ask r m wire around asks quiet printed_is new_is =
     let on = subst (AsksOn doc k 1 i base next c1) quiet asks in
     subst (λ g. Running doc k before arriving coming g v new) (sym on.0) (running-moved doc k i before deeds new more arriving coming h base c0 c1 w v r m wire around on.1 printed_is new_is)
 
 -- what it asks is sent
-pub running-asks : (doc : Doc) (k i : ℕ) (before deeds new more : List deed.Deed) (arriving : List Sent) (coming : List Back) (h base next : List Entry) (c0 c1 : Controller) (w v : World) (given : Option Ask) (ask : Ask) → Running doc k before arriving coming h w deeds → i < processes doc → Moved i c0 c1 w v →
+pub running-asks : (doc : Doc) (k i : ℕ) (before deeds new more : List deed.Deed) (arriving : List Sent) (coming : List Back) (h base next : List Entry) (c0 c1 : Controller) (w v : State) (given : Option Ask) (ask : Ask) → Running doc k before arriving coming h w deeds → i < processes doc → Moved i c0 c1 w v →
     SendsOn doc k arriving coming (identity i c1.incarnation) ask w v → Around doc k i arriving coming base w → AsksOn doc k 1 i base next c1 given → given ≡ Some ask → printed base ≡ printed h ++ more → new ≡ deeds ++ more → Running doc k before arriving coming next v new
 running-asks doc k i before deeds new more arriving coming h base next c0 c1 w v given ask r within m sends around asks some printed_is new_is =
     let asked : Asked k 1 (identity i c1.incarnation) base next (λ x. ControllerStands doc i x c1) ask = subst (AsksOn doc k 1 i base next c1) some asks in

@@ -1,4 +1,5 @@
 pub mod Controllers
 pub mod Forms
 pub mod Plain
+pub mod States
 pub mod Worlds

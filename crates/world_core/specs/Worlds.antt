@@ -1,131 +1,23 @@
--- The world stands for a document before a beat, or within one.
-use Rattle.std.specs.Prelude.{◌≡◌, ℕ, ◌+◌, ◌<◌, ◌≤◌, ◌++◌, true, List, [], Some, slice_get, length, vec_len, drop, All}
-use Rattle.kube_objects.specs.declared.deed.Deed as deed
-use Rattle.kube_objects.specs.declared.script.Event.{Event}
-use Rattle.kube_objects.specs.declared.script.What.{What}
-use Rattle.kube_objects.specs.declared.script.What.TheVariants.{Delay}
-use Rattle.kube_objects.specs.Document.{Doc, processes, is_controller, restart_delay, beat_micros}
+-- The world stands for a document before a beat.
+use Rattle.std.specs.Prelude.{ℕ, List}
+use Rattle.kube_objects.specs.Document.{Doc}
 use Rattle.kube_objects.specs.Entry.{Entry}
-use Rattle.kube_objects.specs.InFlight.{requests_due, replies_due}
-use Rattle.kube_objects.specs.Wire.{Sent, Back}
-use Rattle.history.specs.History.{beat}
-use Rattle.history.specs.Printed.{printed}
-use Rattle.history.specs.Steps.{happens, happen_all}
-use Rattle.object_store.specs.Stands.{StoreStands}
-use Rattle.script_reader.specs.Lawful.{IsLawfulWhat, AreLawfulFrom}
-use Rattle.wire_calls.specs.WireStands.{WireStands}
-use Rattle.world_core.specs.declared.controller.Controller.{Controller}
 use Rattle.world_core.specs.declared.world.World.{World}
-use Rattle.world_core.specs.Controllers.{ControllerStands}
-use Rattle.world_core.specs.Plain.{IsFew, IsPlain}
-
--- ---- plain facts, that callers see
+use Rattle.world_core.specs.States as state
 
 abbrev pub at_of : World → ℕ
-at_of w = w.beat.0
+at_of w = state.at_of w.state.value
 
 abbrev pub end_of : World → ℕ
-end_of w = w.end.0
+end_of w = state.end_of w.state.value
 
 abbrev pub names_of : World → List (List ℕ)
-names_of w = w.names
-
--- the ranges of an event's delays, in beats
-abbrev pub HasDelays : What → Type 0
-HasDelays (Delay id requests replies) = ((1 ≤ requests) × (requests ≤ 6000)) × ((1 ≤ replies) × (replies ≤ 6000))
-HasDelays _ = Unit {0}
+names_of w = state.names_of w.state.value
 
 -- the ranges of a world that was made of a document
-pub record IsReady (w : World) : Type 0 where
-  pub end : w.end.0 ≤ 604800000
-  pub restart : w.restart ≤ 86400000000000000
-  pub epoch : w.epoch.0 < 7258118400000000
-  pub micros : w.micros ≤ 1000000
-  pub events : All (λ e. HasDelays e.what) w.events
-  pub clocks : (i : ℕ) (c : Controller) → slice_get w.controllers.items i ≡ Some c → c.clock.end ≡ w.end.0
-
--- the beat and what was read of the document, but for the place among the events
-pub record SameDocument (old new : World) : Type 0 where
-  pub beat : new.beat ≡ old.beat
-  pub end : new.end ≡ old.end
-  pub restart : new.restart ≡ old.restart
-  pub epoch : new.epoch ≡ old.epoch
-  pub micros : new.micros ≡ old.micros
-  pub events : new.events ≡ old.events
-  pub names : new.names ≡ old.names
-
--- what a step of a beat keeps
-pub record Keeps (old new : World) : Type 0 where
-  pub ready : IsReady new
-  pub same : SameDocument old new
-  pub place : new.place ≡ old.place
-  pub count : vec_len new.controllers ≡ vec_len old.controllers
-
--- ---- the relation
-
--- what the world keeps of a document
-pub record DocStands (doc : Doc) (k : ℕ) (w : World) : Type 0 where
-  pub at : w.beat.0 ≡ k
-  pub restart : w.restart ≡ restart_delay doc
-  pub count : length w.controllers.items ≡ processes doc
-  pub controllers : (p : ℕ) → p < processes doc → is_controller doc p ≡ true
-  pub epoch : w.epoch ≡ doc.settings.epoch
-  pub micros : w.micros ≡ beat_micros doc
-  pub events : w.events ≡ doc.events
-
--- the events before a place were of earlier beats, and those from it on are of this beat or later
-pub record IsPlaced (doc : Doc) (k place : ℕ) : Type 0 where
-  pub earlier : (i : ℕ) (e : Event) → i < place → slice_get doc.events i ≡ Some e → e.beat.0 < k
-  pub later : AreLawfulFrom doc k (drop place doc.events)
-
--- all but the controllers; these requests and replies have still to be taken at the beat
-pub record RestStands (doc : Doc) (k : ℕ) (arriving : List Sent) (coming : List Back) (h : List Entry) (w : World) : Type 0 where
-  pub document : DocStands doc k w
-  pub plain : IsPlain (processes doc) h
-  pub store : StoreStands h w.store
-  pub wire : WireStands (processes doc) k arriving coming h w.wire
-
-abbrev pub EachStands : Doc → List Entry → List Controller → Type 0
-EachStands doc h cs = (p : ℕ) (c : Controller) → slice_get cs p ≡ Some c → ControllerStands doc p h c
-
--- all controllers but one
-abbrev pub OthersStand : Doc → ℕ → List Entry → List Controller → Type 0
-OthersStand doc q h cs = (p : ℕ) (c : Controller) → ¬ (p ≡ q) → slice_get cs p ≡ Some c → ControllerStands doc p h c
-
-pub record WorldWithin (doc : Doc) (k : ℕ) (arriving : List Sent) (coming : List Back) (h : List Entry) (w : World) : Type 0 where
-  pub rest : RestStands doc k arriving coming h w
-  pub controllers : EachStands doc h w.controllers.items
+abbrev pub IsReady : World → Type 0
+IsReady w = state.IsReady w.state.value
 
 -- the world before beat k, whose history is h
-pub record WorldStands (doc : Doc) (k : ℕ) (h : List Entry) (w : World) : Type 0 where
-  pub within : WorldWithin doc k (requests_due k h) (replies_due k h) h w
-  pub placed : IsPlaced doc k w.place
-
--- within a beat, with what was printed before the beat and in it
-pub record Running (doc : Doc) (k : ℕ) (before : List deed.Deed) (arriving : List Sent) (coming : List Back) (h : List Entry) (w : World) (deeds : List deed.Deed) : Type 0 where
-  pub world : WorldWithin doc k arriving coming h w
-  pub told : before ++ deeds ≡ printed h
-
--- ---- quiet beats
-
--- nothing in flight arrives at the beats from k to before n
-pub record AreSilent (k n : ℕ) (h : List Entry) : Type 0 where
-  pub requests : (j : ℕ) → k ≤ j → j < n → requests_due j h ≡ []
-  pub replies : (j : ℕ) → k ≤ j → j < n → replies_due j h ≡ []
-
--- the beats from k to before n add nothing to a history
-abbrev pub AddNothing : Doc → ℕ → ℕ → List Entry → Type 0
-AddNothing doc k n h = (j : ℕ) → k ≤ j → j < n → beat doc h j ≡ h
-
--- ---- events
-
--- an event has happened in a world within a beat, and what is printed of it was added
-abbrev pub Happens : World → List deed.Deed → World → List deed.Deed → What → Type 0
-Happens w deeds v new what = (doc : Doc) (k : ℕ) (before : List deed.Deed) (arriving : List Sent) (coming : List Back) (h : List Entry) → Running doc k before arriving coming h w deeds → IsLawfulWhat doc what → IsFew (happens doc k what h) → Running doc k before arriving coming (happens doc k what h) v new
-
--- all events of the beat have happened; what they sent arrives later
-pub record Scripted (doc : Doc) (k : ℕ) (before : List deed.Deed) (arriving : List Sent) (coming : List Back) (h : List Entry) (w : World) (deeds : List deed.Deed) : Type 0 where
-  pub running : Running doc k before arriving coming (happen_all doc k doc.events h) w deeds
-  pub placed : IsPlaced doc (k + 1) w.place
-  pub requests : requests_due k (happen_all doc k doc.events h) ≡ requests_due k h
-  pub replies : replies_due k (happen_all doc k doc.events h) ≡ replies_due k h
+abbrev pub WorldStands : Doc → ℕ → List Entry → World → Type 0
+WorldStands doc k h w = state.StateStands doc k h w.state.value

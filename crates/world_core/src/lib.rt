@@ -5,6 +5,7 @@ mod controller;
 mod forms;
 mod printing;
 mod replay;
+mod state;
 #[cfg(test)]
 mod tests;
 mod world;

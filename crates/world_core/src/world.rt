@@ -1,60 +1,32 @@
 // The world of a document, which does one beat at a time.
-ghost use Rattle.std.specs.Prelude.{◌≡◌, ◌∷◌, ◌+◌, ◌*◌, ◌<◌, ◌≤◌, ◌++◌, ℕ, List, [], true, IfOk, OnOk, IsTrue, ◌↔◌, vec_len, length, slice_get, drop, All, Option, Some};
+ghost use Rattle.std.specs.Prelude.{◌≡◌, ◌+◌, ◌<◌, ◌≤◌, ◌++◌, ℕ, List, true, IfOk, IsTrue, ◌↔◌};
 ghost use Rattle.std.specs.List.Sorted.{IsStrictlySortedBy};
 ghost use Rattle.std.specs.Map.{keys_of, lookup};
-ghost use Rattle.kube_objects.specs.declared.deed.Deed.{Deed};
-ghost use Rattle.kube_objects.specs.declared.script.What.TheVariants as What;
+ghost use Rattle.kube_objects.specs.declared.key.Key.{Key};
 ghost use Rattle.kube_objects.specs.Document.{Doc};
-ghost use Rattle.kube_objects.specs.Answers.{answer as store_answer, written};
-ghost use Rattle.kube_objects.specs.declared.object.Object as Objects;
-ghost use Rattle.kube_objects.specs.Entry.{Entry, Identity, Call, Answers, entry};
-ghost use Rattle.kube_objects.specs.Identities.{identity};
+ghost use Rattle.kube_objects.specs.Entry.{Entry};
 ghost use Rattle.kube_objects.specs.Keys.{key_cmp, key_eq};
-ghost use Rattle.kube_objects.specs.Stored.{request_write, stored, write_of};
-ghost use Rattle.object_store.specs.StoreAnswers.{object_of};
-ghost use Rattle.object_store.specs.Stands.{StoreStands};
-ghost use Rattle.kube_objects.specs.InFlight.{requests_due, replies_due};
-ghost use Rattle.kube_objects.specs.Wire.{Sent, Back, reply_arrival};
-ghost use Rattle.history.specs.History.{history, beat, put_all};
+ghost use Rattle.kube_objects.specs.Stored.{stored};
+ghost use Rattle.history.specs.History.{history, beat};
 ghost use Rattle.history.specs.Printed.{printed};
-ghost use Rattle.history.specs.Steps.{first_starts, start_first, happen_all, delivered, turn, turns};
-ghost use Rattle.kube_objects.specs.Document.{is_up_first, processes};
-ghost use Rattle.wire_calls.specs.WireStands.{WireStands, as_delivered, replies_at, requests_at};
+ghost use Rattle.object_store.specs.StoreAnswers.{object_of};
 ghost use Rattle.script_reader.specs.Documents.{doc_of};
-ghost use Rattle.script_reader.specs.Lawful.{AreLawful, AreLawfulFrom, IsLawful, IsLawfulDoc};
-ghost use Rattle.world_core.specs.declared.controller.Controller.{Controller};
-ghost use Rattle.world_core.specs.Controllers.{AreEventsFrom};
+ghost use Rattle.script_reader.specs.Lawful.{IsLawfulDoc};
 ghost use Rattle.world_core.specs.Forms.{is_run};
-ghost use Rattle.world_core.specs.Plain.{IsFew, IsKnown, SentByKnown, BackToKnown};
-ghost use Rattle.history.specs.Due.{answer_all, deliver_all};
-ghost use Rattle.world_core.specs.Worlds.{AddNothing, AreSilent, EachStands, at_of, end_of, names_of, HasDelays, IsReady, IsPlaced, SameDocument, Keeps, WorldStands, WorldWithin, Running, Happens, Scripted};
+ghost use Rattle.world_core.specs.Plain.{IsFew};
+ghost use Rattle.world_core.specs.States.{AddNothing};
+ghost use Rattle.world_core.specs.Worlds.{IsReady, WorldStands, at_of, end_of, names_of};
 
-use crate::controller::{Controller, picoseconds};
-use crate::printing::{answer_act, crashing, ending, leading, removing, starting, stopping, tell};
-use kube_base::{Beat, Names, NoMemory, ProcId, Wall};
-use kube_objects::{
-    Act, Actor, Deeds, Event, Events, Items, Key, Object, Procs, Reply, Request, Settings, What,
-};
-use object_store::Store;
+use crate::state::State;
+use kube_base::{Beat, Names, NoMemory};
+use kube_objects::{Deeds, Items};
 use script_reader::Document;
 use std::alloc::Global;
-use wire_calls::{Arrived, Delivered, Wire};
 
-/// Controllers, the store and the wire between them, before a beat. The events before the place have happened.
+/// Controllers, the store and the wire between them, before a beat. It is boxed, so that a beat doesn't move it.
 #[derive(Drop)]
 pub struct World {
-    alloc: Global,
-    beat: Beat,
-    end: Beat,
-    restart: u64,
-    epoch: Wall,
-    micros: u32,
-    store: Store,
-    wire: Wire,
-    controllers: Vec<Controller>,
-    place: usize,
-    events: Events,
-    names: Names,
+    state: Box<State>,
 }
 
 impl World {
@@ -66,28 +38,9 @@ impl World {
         ensures names { IfOk result (λ w. names_of w ≡ document.names) }
         ensures stands { IfOk result (WorldStands (doc_of document) 0 (history (doc_of document) 0)) }
     {
-        let settings = document.settings;
-        let controllers = made(
-            alloc,
-            &settings,
-            &document.controllers,
-            document.events.as_slice(),
-        )?;
-        let wire = Wire::new(alloc, controllers.len() as u32)?;
-        let store = filled(alloc, &document.objects.items, settings.epoch)?;
+        let state = State::new(alloc, document)?;
         Ok(World {
-            alloc,
-            beat: Beat(0),
-            end: settings.end_beat,
-            restart: picoseconds(settings.restart_millis),
-            epoch: settings.epoch,
-            micros: settings.beat_millis * 1000,
-            store,
-            wire,
-            controllers,
-            place: 0,
-            events: document.events,
-            names: document.names,
+            state: Box::new(alloc, state)?,
         })
     }
 
@@ -95,7 +48,7 @@ impl World {
     pub fn names(&self) -> &Names
         ensures { result.now ≡ names_of self.now }
     {
-        &self.names
+        self.state.names()
     }
 
     /// The objects that are stored, each with its key, in the order of keys. Each is a copy.
@@ -103,25 +56,24 @@ impl World {
         ensures ascend { IfOk result (λ items. IsStrictlySortedBy key_cmp (keys_of items)) }
         ensures stored { (doc : Doc) (k : ℕ) (h : List Entry) (key : Key) → WorldStands doc k h self.now → IfOk result (λ items. lookup (key_eq key) items ≡ object_of (stored key h)) }
     {
-        self.store.objects()
+        self.state.objects()
     }
 
     /// The next beat to be done.
     pub fn at(&self) -> Beat
         ensures { result.0 ≡ at_of self.now }
     {
-        self.beat
+        self.state.at()
     }
 
     /// Whether the end is passed.
     pub fn finished(&self) -> bool
         ensures { IsTrue result ↔ (end_of self.now < at_of self.now) }
     {
-        self.beat.0 > self.end.0
+        self.state.finished()
     }
 
-    /// Does one beat, and answers its printed entries. The steps stay out of line: so a beat is short enough to be inlined
-    /// where it is called, and the world isn't moved.
+    /// Does one beat, and answers its printed entries.
     pub fn beat(mut self) -> Result<(World, Deeds), NoMemory>
         requires ready { IsReady self }
         requires within { at_of self ≤ end_of self }
@@ -129,14 +81,7 @@ impl World {
         ensures stands { (doc : Doc) (k : ℕ) (h : List Entry) → IsFew (beat doc h k) → WorldStands doc k h self
             → IfOk result (λ r. WorldStands doc (k + 1) (beat doc h k) r.0 × (printed h ++ r.1 ≡ printed (beat doc h k))) }
     {
-        let mut deeds = Deeds::new(self.alloc);
-        self.first_starts(&mut deeds)?;
-        self.script(&mut deeds)?;
-        self.arrivals(&mut deeds)?;
-        self.deliveries(&mut deeds)?;
-        self.turns(&mut deeds)?;
-        let next = Beat(self.beat.0 + 1);
-        self.beat = next;
+        let deeds = self.state.beat()?;
         Ok((self, deeds))
     }
 
@@ -150,449 +95,6 @@ impl World {
         ensures stands { (doc : Doc) (k : ℕ) (h : List Entry) → WorldStands doc k h self.old
             → WorldStands doc (at_of self.new) h self.new × AddNothing doc k (at_of self.new) h }
     {
-        let last = Beat(self.end.0 + 1);
-        let outside = self.next_message(self.next_event(last));
-        if outside.0 <= self.beat.0 {
-            return;
-        }
-        let busy = self.next_turns(outside);
-        self.beat = later(self.beat, busy);
+        self.state.skip_quiet();
     }
-
-    // The beat of the next event, or the bound where that is earlier.
-    fn next_event(&self, bound: Beat) -> Beat
-        ensures bound { result.0 ≤ bound.0 }
-        ensures events { (doc : Doc) (k : ℕ) → self.now.events ≡ doc.events → IsPlaced doc k self.now.place → AreLawfulFrom doc result.0 (drop self.now.place doc.events) }
-    {
-        match self.events.as_slice().get(self.place) {
-            Some(event) => earlier(event.beat, bound),
-            None => bound,
-        }
-    }
-
-    // The next beat at which something in flight arrives, or the bound where that is earlier.
-    fn next_message(&self, bound: Beat) -> Beat
-        ensures bound { result.0 ≤ bound.0 }
-        ensures silent { (processes k : ℕ) (h : List Entry) → WireStands processes k (requests_due k h) (replies_due k h) h self.now.wire → AreSilent k result.0 h }
-    {
-        match self.wire.next() {
-            Some(arrives) => earlier(arrives, bound),
-            None => bound,
-        }
-    }
-
-    // The next beat at which a turn may do something, or the bound where that is earlier.
-    fn next_turns(&mut self, bound: Beat) -> Beat
-        requires ready { IsReady self.old }
-        ensures kept { Keeps self.old self.new }
-        ensures bound { result.0 ≤ bound.0 }
-        ensures stands { (doc : Doc) (k : ℕ) (arriving : List Sent) (coming : List Back) (h : List Entry) → WorldWithin doc k arriving coming h self.old → WorldWithin doc k arriving coming h self.new }
-        ensures still { (doc : Doc) (k j : ℕ) (arriving : List Sent) (coming : List Back) (h : List Entry) → WorldWithin doc k arriving coming h self.old → j ≤ end_of self.old → j < result.0 → turns doc j (processes doc) h ≡ h }
-    {
-        let mut next = bound;
-        for i in 0..self.controllers.len() {
-            next = self.next_turn(i, next);
-        }
-        next
-    }
-
-    // The next beat at which a controller's turn may do something, or the bound where that is earlier.
-    fn next_turn(&mut self, i: usize, bound: Beat) -> Beat
-        requires index { i < vec_len self.old.controllers }
-        requires ready { IsReady self.old }
-        ensures kept { Keeps self.old self.new }
-        ensures bound { result.0 ≤ bound.0 }
-        ensures stands { (doc : Doc) (k : ℕ) (arriving : List Sent) (coming : List Back) (h : List Entry) → WorldWithin doc k arriving coming h self.old → WorldWithin doc k arriving coming h self.new }
-        ensures still { (doc : Doc) (k j : ℕ) (arriving : List Sent) (coming : List Back) (h : List Entry) → WorldWithin doc k arriving coming h self.old → j ≤ end_of self.old → j < result.0 → turn doc j i h ≡ h }
-    {
-        let controller = &mut self.controllers[i];
-        let wakes = controller.wakes_from(self.beat);
-        earlier(wakes, bound)
-    }
-
-    // In beat 0 each controller starts that is up at first.
-    #[inline(never)]
-    fn first_starts(&mut self, deeds: &mut Deeds) -> Result<(), NoMemory>
-        requires ready { IsReady self.old }
-        requires within { at_of self.old ≤ end_of self.old }
-        ensures kept { OnOk result (Keeps self.old self.new) }
-        ensures stands { (doc : Doc) (k : ℕ) (before : List Deed) (arriving : List Sent) (coming : List Back) (h : List Entry) → Running doc k before arriving coming h self.old deeds.old → IsFew (first_starts doc k h)
-            → OnOk result (Running doc k before arriving coming (first_starts doc k h) self.new deeds.new) }
-    {
-        if self.beat.0 != 0 {
-            return Ok(());
-        }
-        for i in 0..self.controllers.len() {
-            self.first_start(i, deeds)?;
-        }
-        Ok(())
-    }
-
-    fn first_start(&mut self, i: usize, deeds: &mut Deeds) -> Result<(), NoMemory>
-        requires index { i < vec_len self.old.controllers }
-        requires ready { IsReady self.old }
-        requires within { at_of self.old ≤ end_of self.old }
-        ensures kept { OnOk result (Keeps self.old self.new) }
-        ensures stands { (doc : Doc) (before : List Deed) (arriving : List Sent) (coming : List Back) (h : List Entry) → Running doc 0 before arriving coming h self.old deeds.old → IsFew (start_first i (is_up_first doc i) h)
-            → OnOk result (Running doc 0 before arriving coming (start_first i (is_up_first doc i) h) self.new deeds.new) }
-    {
-        let controller = &mut self.controllers[i];
-        if !controller.up_first {
-            return Ok(());
-        }
-        controller.start(self.beat);
-        let actor = Actor::Proc(controller.me, controller.incarnation);
-        tell(deeds, self.beat, actor, Some(Act::Start))
-    }
-
-    // The events of this beat happen, in order.
-    #[inline(never)]
-    fn script(&mut self, deeds: &mut Deeds) -> Result<(), NoMemory>
-        requires ready { IsReady self.old }
-        requires within { at_of self.old ≤ end_of self.old }
-        ensures kept { OnOk result (IsReady self.new × SameDocument self.old self.new) }
-        ensures stands { (doc : Doc) (k : ℕ) (before : List Deed) (arriving : List Sent) (coming : List Back) (h : List Entry) → Running doc k before arriving coming h self.old deeds.old → IsPlaced doc k self.old.place → IsFew (happen_all doc k doc.events h)
-            → OnOk result (Scripted doc k before arriving coming h self.new deeds.new) }
-    {
-        let all = self.events.as_slice().len();
-        'script: while self.place < all {
-            let event = &self.events.as_slice()[self.place];
-            if event.beat.0 != self.beat.0 {
-                return Ok(());
-            }
-            let what = copied(&event.what)?;
-            self.place += 1;
-            self.happen(what, deeds)?;
-        }
-        Ok(())
-    }
-
-    #[inline(never)]
-    fn happen(&mut self, what: What, deeds: &mut Deeds) -> Result<(), NoMemory>
-        requires ready { IsReady self.old }
-        requires within { at_of self.old ≤ end_of self.old }
-        requires delays { HasDelays what }
-        ensures kept { OnOk result (Keeps self.old self.new) }
-        ensures stands { OnOk result (Happens self.old deeds.old self.new deeds.new what) }
-    {
-        match what {
-            What::Rate(_, _) => Ok(()),
-            What::Delay(who, requests, replies) => {
-                self.wire.set_delay(who, requests, replies);
-                Ok(())
-            }
-            What::Loss(who, requests, replies) => {
-                self.wire.set_loss(who, requests, replies);
-                Ok(())
-            }
-            What::Watch(_, _) => Ok(()),
-            What::Ready(_, _) => Ok(()),
-            What::Crash(who) => self.crash(who, deeds),
-            What::Start(who) => self.start(who, deeds),
-            What::Stop(who) => self.stop(who, deeds),
-            What::Put(key, object) => self.put(key, object, deeds),
-            What::Remove(key) => self.remove(key, deeds),
-        }
-    }
-
-    fn crash(&mut self, who: ProcId, deeds: &mut Deeds) -> Result<(), NoMemory>
-        requires ready { IsReady self.old }
-        requires within { at_of self.old ≤ end_of self.old }
-        ensures kept { OnOk result (Keeps self.old self.new) }
-        ensures stands { OnOk result (Happens self.old deeds.old self.new deeds.new (What.Crash who)) }
-    {
-        let i = who.0 as usize;
-        if i >= self.controllers.len() {
-            return Ok(());
-        }
-        let controller = &mut self.controllers[i];
-        let crashed = controller.crash();
-        let actor = Actor::Proc(controller.me, controller.incarnation);
-        tell(deeds, self.beat, actor, crashing(crashed))
-    }
-
-    fn start(&mut self, who: ProcId, deeds: &mut Deeds) -> Result<(), NoMemory>
-        requires ready { IsReady self.old }
-        requires within { at_of self.old ≤ end_of self.old }
-        ensures kept { OnOk result (Keeps self.old self.new) }
-        ensures stands { OnOk result (Happens self.old deeds.old self.new deeds.new (What.Start who)) }
-    {
-        let i = who.0 as usize;
-        if i >= self.controllers.len() {
-            return Ok(());
-        }
-        let controller = &mut self.controllers[i];
-        let started = controller.begin(self.beat);
-        let actor = Actor::Proc(controller.me, controller.incarnation);
-        tell(deeds, self.beat, actor, starting(started))
-    }
-
-    // A stopped leader's release is sent at once.
-    fn stop(&mut self, who: ProcId, deeds: &mut Deeds) -> Result<(), NoMemory>
-        requires ready { IsReady self.old }
-        requires within { at_of self.old ≤ end_of self.old }
-        ensures kept { OnOk result (Keeps self.old self.new) }
-        ensures stands { OnOk result (Happens self.old deeds.old self.new deeds.new (What.Stop who)) }
-    {
-        let i = who.0 as usize;
-        if i >= self.controllers.len() {
-            return Ok(());
-        }
-        let controller = &mut self.controllers[i];
-        let stopped = controller.stop(self.beat);
-        let who = controller.me;
-        let incarnation = controller.incarnation;
-        let actor = Actor::Proc(who, incarnation);
-        tell(deeds, self.beat, actor, stopping(stopped.stopped))?;
-        match stopped.ask {
-            None => Ok(()),
-            Some(ask) => {
-                self.wire.send(who, incarnation, ask, self.beat)?;
-                Ok(())
-            }
-        }
-    }
-
-    fn put(&mut self, key: Key, object: Object, deeds: &mut Deeds) -> Result<(), NoMemory>
-        requires ready { IsReady self.old }
-        requires within { at_of self.old ≤ end_of self.old }
-        ensures kept { OnOk result (Keeps self.old self.new) }
-        ensures stands { OnOk result (Happens self.old deeds.old self.new deeds.new (What.Put key object)) }
-    {
-        let now = self.wall();
-        let version = self.store.put(key, object, now)?;
-        let act = Some(Act::Put(key, version));
-        tell(deeds, self.beat, Actor::Script, act)
-    }
-
-    fn remove(&mut self, key: Key, deeds: &mut Deeds) -> Result<(), NoMemory>
-        requires ready { IsReady self.old }
-        requires within { at_of self.old ≤ end_of self.old }
-        ensures kept { OnOk result (Keeps self.old self.new) }
-        ensures stands { OnOk result (Happens self.old deeds.old self.new deeds.new (What.Remove key)) }
-    {
-        let version = self.store.remove(key)?;
-        tell(deeds, self.beat, Actor::Script, removing(key, version))
-    }
-
-    // The store's time of day.
-    fn wall(&self) -> Wall
-        requires ready { IsReady self.now }
-        requires within { at_of self.now ≤ end_of self.now }
-        ensures { result.0 ≡ self.now.epoch.0 + self.now.beat.0 * self.now.micros }
-    {
-        Wall(self.epoch.0 + u64::from(self.beat.0) * u64::from(self.micros))
-    }
-
-    // Requests that arrive are answered, and each reply is sent.
-    #[inline(never)]
-    fn arrivals(&mut self, deeds: &mut Deeds) -> Result<(), NoMemory>
-        requires ready { IsReady self.old }
-        requires within { at_of self.old ≤ end_of self.old }
-        ensures kept { OnOk result (Keeps self.old self.new) }
-        ensures stands { (doc : Doc) (k : ℕ) (before : List Deed) (arriving : List Sent) (coming : List Back) (h : List Entry) → Running doc k before arriving coming h self.old deeds.old → SentByKnown (processes doc) h arriving
-            → OnOk result (Running doc k before [] coming (answer_all k arriving h) self.new deeds.new) }
-    {
-        'arriving: while let Some(arrived) = self.wire.arrival(self.beat) {
-            let reply = answer(&mut self.store, arrived.request)?;
-            send_back(&mut self.wire, &arrived, reply, self.beat)?;
-            let actor = Actor::Proc(arrived.who, arrived.incarnation);
-            tell(
-                deeds,
-                self.beat,
-                actor,
-                answer_act(&arrived.request, &reply),
-            )?;
-        }
-        Ok(())
-    }
-
-    // Replies that arrive are delivered.
-    #[inline(never)]
-    fn deliveries(&mut self, deeds: &mut Deeds) -> Result<(), NoMemory>
-        requires ready { IsReady self.old }
-        requires within { at_of self.old ≤ end_of self.old }
-        ensures kept { OnOk result (Keeps self.old self.new) }
-        ensures stands { (doc : Doc) (k : ℕ) (before : List Deed) (arriving : List Sent) (coming : List Back) (h : List Entry) → Running doc k before arriving coming h self.old deeds.old → BackToKnown (processes doc) h coming → IsFew (deliver_all doc k coming h)
-            → OnOk result (Running doc k before arriving [] (deliver_all doc k coming h) self.new deeds.new) }
-    {
-        'coming: while let Some(back) = self.wire.delivery(self.beat) {
-            self.deliver(&back, deeds)?;
-        }
-        Ok(())
-    }
-
-    #[inline(never)]
-    fn deliver(&mut self, back: &Delivered, deeds: &mut Deeds) -> Result<(), NoMemory>
-        requires ready { IsReady self.old }
-        requires within { at_of self.old ≤ end_of self.old }
-        ensures kept { OnOk result (Keeps self.old self.new) }
-        ensures left { OnOk result (replies_at self.new.wire (at_of self.old) ≡ replies_at self.old.wire (at_of self.old)) }
-        ensures stands { (doc : Doc) (k : ℕ) (before : List Deed) (arriving : List Sent) (coming : List Back) (h : List Entry) (b : Back) → Running doc k before arriving coming h self.old deeds.old → back.now ≡ as_delivered b → IsKnown (processes doc) h b.who → IsFew (delivered doc k b h)
-            → OnOk result (Running doc k before arriving coming (delivered doc k b h) self.new deeds.new) }
-    {
-        let i = back.who.0 as usize;
-        if i >= self.controllers.len() {
-            return Ok(());
-        }
-        let controller = &mut self.controllers[i];
-        let received = controller.receive(back.incarnation, back.number, back.reply, self.beat);
-        let who = controller.me;
-        let incarnation = controller.incarnation;
-        tell(
-            deeds,
-            self.beat,
-            Actor::Proc(who, incarnation),
-            leading(received.lead),
-        )?;
-        match received.ask {
-            None => Ok(()),
-            Some(ask) => {
-                self.wire.send(who, incarnation, ask, self.beat)?;
-                Ok(())
-            }
-        }
-    }
-
-    // Each controller has its turn, in order.
-    #[inline(never)]
-    fn turns(&mut self, deeds: &mut Deeds) -> Result<(), NoMemory>
-        requires ready { IsReady self.old }
-        requires within { at_of self.old ≤ end_of self.old }
-        ensures kept { OnOk result (Keeps self.old self.new) }
-        ensures stands { (doc : Doc) (k : ℕ) (before : List Deed) (arriving : List Sent) (coming : List Back) (h : List Entry) → Running doc k before arriving coming h self.old deeds.old → IsFew (turns doc k (processes doc) h)
-            → OnOk result (Running doc k before arriving coming (turns doc k (processes doc) h) self.new deeds.new) }
-    {
-        for i in 0..self.controllers.len() {
-            self.turn(i, deeds)?;
-        }
-        Ok(())
-    }
-
-    fn turn(&mut self, i: usize, deeds: &mut Deeds) -> Result<(), NoMemory>
-        requires index { i < vec_len self.old.controllers }
-        requires ready { IsReady self.old }
-        requires within { at_of self.old ≤ end_of self.old }
-        ensures kept { OnOk result (Keeps self.old self.new) }
-        ensures stands { (doc : Doc) (k : ℕ) (before : List Deed) (arriving : List Sent) (coming : List Back) (h : List Entry) → Running doc k before arriving coming h self.old deeds.old → IsFew (turn doc k i h)
-            → OnOk result (Running doc k before arriving coming (turn doc k i h) self.new deeds.new) }
-    {
-        if self.controllers[i].is_asleep(self.beat) {
-            return Ok(());
-        }
-        self.take_turn(i, deeds)
-    }
-
-    // A turn of a controller that may do something.
-    #[inline(never)]
-    fn take_turn(&mut self, i: usize, deeds: &mut Deeds) -> Result<(), NoMemory>
-        requires index { i < vec_len self.old.controllers }
-        requires ready { IsReady self.old }
-        requires within { at_of self.old ≤ end_of self.old }
-        ensures kept { OnOk result (Keeps self.old self.new) }
-        ensures stands { (doc : Doc) (k : ℕ) (before : List Deed) (arriving : List Sent) (coming : List Back) (h : List Entry) → Running doc k before arriving coming h self.old deeds.old → IsFew (turn doc k i h)
-            → OnOk result (Running doc k before arriving coming (turn doc k i h) self.new deeds.new) }
-    {
-        let controller = &mut self.controllers[i];
-        let turn = controller.turn(self.beat, self.restart);
-        let who = controller.me;
-        let incarnation = controller.incarnation;
-        let actor = Actor::Proc(who, incarnation);
-        tell(deeds, self.beat, actor, starting(turn.started))?;
-        tell(deeds, self.beat, actor, ending(turn.ended))?;
-        match turn.ask {
-            None => Ok(()),
-            Some(ask) => {
-                self.wire.send(who, incarnation, ask, self.beat)?;
-                Ok(())
-            }
-        }
-    }
-}
-
-// The store's answer. It stays out of line, so that a beat at which nothing arrives costs no more than to see that.
-#[inline(never)]
-fn answer(store: &mut Store, request: Request) -> Result<Reply, NoMemory>
-    ensures answer { (h : List Entry) → StoreStands h store.old → IfOk result (λ reply. reply ≡ store_answer request h) }
-    ensures ok { (h : List Entry) (e : Entry) → StoreStands h store.old → write_of e.deed ≡ request_write request (written request h) → OnOk result (StoreStands (e ∷ h) store.new) }
-{
-    store.answer(request)
-}
-
-// The reply to a request that arrived is sent. It stays out of line, as the answer does.
-#[inline(never)]
-fn send_back(wire: &mut Wire, to: &Arrived, reply: Reply, now: Beat) -> Result<(), NoMemory>
-    requires { now.0 ≤ 700000000 }
-    ensures same { requests_at wire.new now.0 ≡ requests_at wire.old now.0 }
-    ensures ok { (processes k step : ℕ) (arriving : List Sent) (coming : List Back) (h : List Entry) (q : Identity) (call : Call) (wrote : Option Objects.Object) → WireStands processes k arriving coming h wire.old → now.0 ≡ k → q ≡ identity to.now.who.0 to.now.incarnation → call.number ≡ to.now.number
-        → OnOk result (WireStands processes k arriving coming (entry k step q (Answers call reply (reply_arrival q.process k h) wrote) ∷ h) wire.new) }
-{
-    wire.reply(to, reply, now)?;
-    Ok(())
-}
-
-fn earlier(a: Beat, b: Beat) -> Beat
-    ensures { (result.0 ≤ a.0) × (result.0 ≤ b.0) }
-{
-    if b.0 < a.0 { b } else { a }
-}
-
-fn later(a: Beat, b: Beat) -> Beat
-    ensures least { a.0 ≤ result.0 }
-    ensures most { (n : ℕ) → a.0 ≤ n → b.0 ≤ n → result.0 ≤ n }
-    ensures between { (j : ℕ) → a.0 ≤ j → j < result.0 → j < b.0 }
-{
-    if a.0 < b.0 { b } else { a }
-}
-
-// An event's copy equals it.
-fn copied(what: &What) -> Result<What, NoMemory>
-    ensures { IfOk result (λ copy. copy ≡ what.now) }
-{
-    match what {
-        What::Rate(who, ppm) => Ok(What::Rate(*who, *ppm)),
-        What::Delay(who, requests, replies) => Ok(What::Delay(*who, *requests, *replies)),
-        What::Loss(who, requests, replies) => Ok(What::Loss(*who, *requests, *replies)),
-        What::Crash(who) => Ok(What::Crash(*who)),
-        What::Start(who) => Ok(What::Start(*who)),
-        What::Stop(who) => Ok(What::Stop(*who)),
-        What::Watch(who, on) => Ok(What::Watch(*who, *on)),
-        What::Ready(who, status) => Ok(What::Ready(*who, *status)),
-        What::Put(key, object) => Ok(What::Put(*key, object.copy()?)),
-        What::Remove(key) => Ok(What::Remove(*key)),
-    }
-}
-
-// The store with a document's objects, put in order.
-fn filled(alloc: Global, items: &Items, epoch: Wall) -> Result<Store, NoMemory>
-    ensures { (doc : Doc) → doc.settings.epoch ≡ epoch → IfOk result (StoreStands (put_all doc items.now [])) }
-{
-    let mut store = Store::new(alloc);
-    for item in items.as_slice() {
-        store.put(item.0, item.1.copy()?, epoch)?;
-    }
-    Ok(store)
-}
-
-// The controllers of a document, in order.
-fn made(
-    alloc: Global,
-    settings: &Settings,
-    processes: &Procs,
-    events: &[Event],
-) -> Result<Vec<Controller>, NoMemory>
-    requires settings { AreLawful settings.now }
-    requires processes { All IsLawful processes.now }
-    requires events { AreEventsFrom settings.now.end_beat.0 0 events.now }
-    requires few { length processes.now ≤ 16 }
-    ensures count { IfOk result (λ cs. length cs.items ≡ length processes.now) }
-    ensures clocks { IfOk result (λ cs. (i : ℕ) (c : Controller) → slice_get cs.items i ≡ Some c → c.clock.end ≡ settings.now.end_beat.0) }
-    ensures stands { (doc : Doc) → doc.settings ≡ settings.now → (doc.controllers ++ doc.kubelets) ≡ processes.now → doc.events ≡ events.now → IfOk result (λ cs. EachStands doc [] cs.items) }
-{
-    let mut controllers = Vec::new(alloc);
-    for process in processes.as_slice() {
-        let me = ProcId(controllers.len() as u32);
-        controllers.push(Controller::new(alloc, me, settings, process, events)?)?;
-    }
-    Ok(controllers)
 }

@@ -68,7 +68,7 @@ beats-preserved g c =
           let quiet : history doc (at_of next) ≡ history doc (at_of done) = history-skips doc (at_of done) (at_of next) skips.kept.1 skipped.1 in (
             subst (λ h. WorldStands doc (at_of next) h next) (sym quiet) skipped.0,
             subst (Spoken before after c.add_deeds.new.text.items) (trace-same doc names processes (at_of done) (at_of next) (sym quiet))
-            (spoken-more before after buffer (lines_of names processes c.in-Ok-beat.deeds) c.add_deeds.new.text.items (trace_before doc names processes k) (trace_before doc names processes (at_of done))
+                (spoken-more before after buffer (lines_of names processes c.in-Ok-beat.deeds) c.add_deeds.new.text.items (trace_before doc names processes k) (trace_before doc names processes (at_of done))
                 (c.in-Ok.ensures.spoken before (trace_before doc names processes k) now.1) lines (trace-next doc names processes k (at_of done) c.in-Ok-beat.deeds kept.1 beat.1)),
           );
     }

@@ -1,0 +1,31 @@
+use Rattle.std.proofs.Common.{◌≡◌, ◌<◌, ◌++◌, vec_len, refl, sym, ap, ◌∙◌, arith}
+use Rattle.kube_objects.specs.declared.deed.Act.TheVariants as act
+use Rattle.kube_objects.specs.declared.deed.Actor.TheVariants as actor
+use Rattle.kube_objects.specs.declared.script.What.TheVariants as what
+use Rattle.kube_objects.specs.Document.{processes}
+use Rattle.kube_objects.specs.Identities.{identity}
+use Rattle.kube_objects.specs.Newest.{when}
+use Rattle.history.specs.Printed.{deeds_of}
+use Rattle.history.specs.Steps.{happens}
+use Rattle.world_core.specs.Controllers.{crashed_deeds}
+use Rattle.world_core.proofs.Around.{around-world}
+use Rattle.world_core.proofs.Moving.{read-at, actor-is, on-ok}
+use Rattle.world_core.proofs.Scripts.{around-crash, running-moved}
+use Rattle.world_core.proofs.state.State.crash.Goals as goal
+
+pub returns-clause-stands : goal.returns-clause-stands
+returns-clause-stands c =
+    let w = c.args.self.now in
+    let i = c.args.who.0 in
+    let c0 = c.index_mut-controller.result.now in
+    let c1 = c.crash-crashed.new.self in
+    let index : i < vec_len w.controllers = omega (arith, c.if-i-len.false, c.len.ensures) in
+    let was = read-at w i c0 index c.index_mut-controller.ensures.value in
+    on-ok c.tell.result _ _ (λ told doc k before arriving coming h r lawful few.
+    let s = r.world.controllers i c0 was in
+    let crashed = c.crash-crashed.ensures.stands doc k c.args.who h s in
+    let new_is = told ∙ ap (λ a. c.args.deeds.now ++ deeds_of w.beat.0 (actor.Proc c1.me c1.incarnation) a) c.crashing.ensures
+    ∙ ap (λ n. c.args.deeds.now ++ deeds_of n (actor.Proc c1.me c1.incarnation) (when c.crash-crashed.result act.Crash)) r.world.rest.document.at
+    ∙ ap (λ x. c.args.deeds.now ++ deeds_of k x (when c.crash-crashed.result act.Crash)) (actor-is i c1.incarnation c1.me (ap (λ m. m.0) c.crash-crashed.ensures.same.me ∙ s.me)) in
+    running-moved doc k i before c.args.deeds.now c.tell.new.deeds (crashed_deeds k (identity i c1.incarnation) c.crash-crashed.result) arriving coming h (happens doc k (what.Crash c.args.who) h) c0 c1 w _ r (record { was = was; now = refl; same = (record { beat = refl; end = refl; restart = refl; epoch = refl; micros = refl; events = refl; names = refl }); place = refl; store = refl }) refl
+    (around-crash doc k c.args.who arriving coming h w lawful (around-world doc k i arriving coming h w r.world)) crashed.stands crashed.told new_is) c.tell.ensures

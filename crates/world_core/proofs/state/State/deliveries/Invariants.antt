@@ -1,0 +1,21 @@
+use Rattle.std.proofs.Common.{ℕ, List}
+use Rattle.kube_objects.specs.declared.deed.Deed.{Deed}
+use Rattle.kube_objects.specs.Document.{Doc, processes}
+use Rattle.kube_objects.specs.Entry.{Entry}
+use Rattle.kube_objects.specs.Wire.{Sent, Back}
+use Rattle.history.specs.Due.{deliver_all}
+use Rattle.wire_calls.specs.WireStands.{replies_at}
+use Rattle.world_core.specs.Plain.{BackToKnown, IsFew}
+use Rattle.world_core.specs.States.{Keeps, Running}
+use Rattle.world_core.proofs.Loops.{Delivering}
+use Rattle.world_core.proofs.state.State.deliveries.Given as goal
+
+abbrev pub invariant-coming : goal.invariant-coming
+invariant-coming l =
+    record {
+      kept : Keeps l.fn.self l.self;
+      stands : (doc : Doc) (k : ℕ) (before : List Deed) (arriving : List Sent) (coming : List Back) (h : List Entry) → Running doc k before arriving coming h l.fn.self l.fn.deeds → BackToKnown (processes doc) h coming → IsFew (deliver_all doc k coming h) → Delivering doc k before arriving coming h l.self l.deeds;
+    }
+
+abbrev pub decreases-coming : goal.decreases-coming
+decreases-coming l = replies_at l.self.wire l.self.beat.0
