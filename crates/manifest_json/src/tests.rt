@@ -160,7 +160,7 @@ fn reads_holders(rt: HostRuntime) -> Result<(), Fail> {
     Ok(())
 }
 
-/// The refusal of this text is the row's, at its path below this place.
+/// The text is refused with the row's code, at the row's path below this place.
 fn check_refusal(
     rt: &impl Abort,
     alloc: Global,
@@ -407,9 +407,9 @@ fn writes_a_lease(rt: HostRuntime) -> Result<(), Fail> {
 }
 
 const WRITTEN_NODE: &str =
-    r#"{"apiVersion":"v1","items":[{"apiVersion":"v1","kind":"Node","metadata":{"labels":{"topology.kubernetes.io/zone":"kube-system"},"name":"n1"},"status":{"conditions":[{"lastHeartbeatTime":"2024-01-01T00:00:00Z","reason":"NodeStatusUnknown","status":"Unknown","type":"Ready"}]}}],"kind":"List"}"#;
+    r#"{"apiVersion":"v1","items":[{"apiVersion":"v1","kind":"Node","metadata":{"labels":{"topology.kubernetes.io/zone":"kube-system"},"name":"n1"},"spec":{"taints":[{"effect":"NoExecute","key":"node.kubernetes.io/not-ready","timeAdded":"2024-01-01T00:00:00Z"}]},"status":{"conditions":[{"lastHeartbeatTime":"2024-01-01T00:00:00Z","reason":"NodeStatusUnknown","status":"Unknown","type":"Ready"}]}}],"kind":"List"}"#;
 
-/// A Node without taints, without a region and without the time of its last transition.
+/// A Node without a region and without the time of its last transition, with a taint whose value is empty.
 #[test]
 fn writes_a_node(rt: HostRuntime) -> Result<(), Fail> {
     let alloc = rt.alloc();
@@ -425,16 +425,62 @@ fn writes_a_node(rt: HostRuntime) -> Result<(), Fail> {
         heartbeat: Some(Wall(NEW_YEAR)),
         transition: None,
     };
+    let mut taints = Taints::new(alloc);
+    taints.push(Taint {
+        key: 5,
+        value: 0,
+        effect: Effect::NoExecute,
+        added: Some(Wall(NEW_YEAR)),
+    })?;
     let node = Node {
         region: 0,
         zone: 7,
-        taints: Taints::new(alloc),
+        taints,
         ready: Some(ready),
     };
     let mut items = Items::new(alloc);
     items.push((key, Object::Node(node)))?;
     let value = write_list(alloc, &names, &[], &items)?;
     assert_eq!(rt; value.to_string(alloc)?.as_str(), WRITTEN_NODE);
+    Ok(())
+}
+
+const BARE: &str =
+    r#"{"apiVersion":"v1","items":[{"apiVersion":"v1","kind":"Node","metadata":{"name":"kube-system"}},{"apiVersion":"coordination.k8s.io/v1","kind":"Lease","metadata":{"name":"kube-system","namespace":"kube-node-lease"}}],"kind":"List"}"#;
+
+/// A Node and a Lease with nothing but their names.
+#[test]
+fn writes_bare_objects(rt: HostRuntime) -> Result<(), Fail> {
+    let alloc = rt.alloc();
+    let names = Names::new(alloc)?;
+    let node = Node {
+        region: 0,
+        zone: 0,
+        taints: Taints::new(alloc),
+        ready: None,
+    };
+    let lease = Lease {
+        holder: Holder::Nobody,
+        duration: None,
+        acquired: None,
+        renewed: None,
+        transitions: None,
+    };
+    let bare = Key {
+        kind: Kind::Node,
+        space: 0,
+        name: 7,
+    };
+    let leased = Key {
+        kind: Kind::Lease,
+        space: 9,
+        ..bare
+    };
+    let mut items = Items::new(alloc);
+    items.push((bare, Object::Node(node)))?;
+    items.push((leased, Object::Lease(lease)))?;
+    let value = write_list(alloc, &names, &[], &items)?;
+    assert_eq!(rt; value.to_string(alloc)?.as_str(), BARE);
     Ok(())
 }
 
