@@ -16,9 +16,6 @@ use std::test::Fail;
 // 2024-01-01T00:00:00Z
 const NEW_YEAR: u64 = 1_704_067_200_000_000;
 
-const NODE: &str =
-    r#"{"apiVersion":"v1","kind":"Node","metadata":{"name":"n1","labels":{"topology.kubernetes.io/zone":"z1"}},"spec":{"taints":[{"key":"gpu","value":"yes","effect":"NoExecute","timeAdded":"2024-01-01T00:00:00.9Z"}]},"status":{"conditions":[{"type":"Ready","status":"Unknown","reason":"NodeStatusUnknown"}]}}"#;
-
 const LIST: &str =
     r#"{"apiVersion":"v1","kind":"List","items":[{"apiVersion":"v1","kind":"ConfigMap","metadata":5},{"apiVersion":"v1","kind":"Node","metadata":{"name":"n1","labels":{"topology.kubernetes.io/zone":"z1"}},"spec":{"taints":[{"key":"gpu","value":"yes","effect":"NoExecute","timeAdded":"2024-01-01T00:00:00.9Z"}]},"status":{"conditions":[{"type":"Ready","status":"Unknown","reason":"NodeStatusUnknown"}]}},{"apiVersion":"coordination.k8s.io/v1","kind":"Lease","metadata":{"name":"n1","namespace":"kube-node-lease"},"spec":{"holderIdentity":"n1","leaseDurationSeconds":40,"renewTime":"2024-01-01T00:00:00.000001Z"}},{"apiVersion":"v1","kind":"Pod","metadata":{"name":"p1"},"spec":{"nodeName":"n1","tolerations":[{"key":"gpu","operator":"Exists","effect":"NoExecute","tolerationSeconds":300}]}}]}"#;
 
@@ -93,17 +90,6 @@ fn check_pod(rt: &impl Abort, object: &Object) {
         }
         _ => assert!(rt; false, "a Pod was given"),
     }
-}
-
-#[test]
-fn reads_an_object(rt: HostRuntime) -> Result<(), Fail> {
-    let alloc = rt.alloc();
-    let value = Value::from_str(alloc, NODE)?;
-    let mut names = Names::new(alloc)?;
-    let (key, object) = read_object(alloc, &mut names, &[], &value, &Path::new(alloc))?;
-    assert_eq!(rt; key, NODE_KEY);
-    check_node(&rt, &object);
-    Ok(())
 }
 
 /// The objects of a List are read in order, and an item of another kind is skipped.
