@@ -114,6 +114,7 @@ mod tests {
         let mut names = Names::new(rt.alloc()).ok().ok_or("memory")?;
         assert_eq!(rt; names.len(), 10);
         for (text, wanted) in [("n1", 10), ("n1", 10), ("", 0), ("kube-system", 7)] {
+            assert!(rt; names.len() < 12);
             let number = names.number(text.as_bytes()).ok().ok_or("memory")?;
             assert_eq!(rt; number, wanted, "{text}");
         }
