@@ -113,8 +113,11 @@ mod tests {
     fn numbers_names(rt: HostRuntime) -> Result<(), Fail> {
         let mut names = Names::new(rt.alloc()).ok().ok_or("memory")?;
         assert_eq!(rt; names.len(), 10);
-        let first = names.number(b"n1").ok().ok_or("memory")?;
-        assert_eq!(rt; first, 10);
+        for (text, wanted) in [("n1", 10), ("n1", 10), ("", 0), ("kube-system", 7)] {
+            assert!(rt; names.len() < 12);
+            let number = names.number(text.as_bytes()).ok().ok_or("memory")?;
+            assert_eq!(rt; number, wanted, "{text}");
+        }
         assert_eq!(rt; names.find(b"n1"), Some(10));
         assert_eq!(rt; names.find(b""), Some(0));
         assert_eq!(rt; names.find(b"n2"), None);

@@ -1,24 +1,21 @@
 -- Fields that are written are read back.
-use Rattle.std.proofs.Common.{◌≡◌, ℕ, zero, suc, ℤ, pos, negsuc, ◌+◌, ◌-◌, ◌*◌, ◌/◌, ◌%◌, ◌^◌, ◌<◌, ◌≤◌, ◌==◌, ◌&&◌, not, nat_le, nat_lt, Bool, true, false, cond, List, [], ◌∷◌, ◌++◌, length, map, codes, slice_get, Option, Some, None, unwrap_or, option_and_then, Result, Ok, Err, refl, sym, ap, subst, ◌∙◌, arith, bytes_eq}
-use Rattle.std.specs.List.{list_any}
+use Rattle.std.proofs.Common.{◌≡◌, ℕ, zero, suc, ℤ, pos, negsuc, ◌*◌, ◌/◌, ◌^◌, ◌<◌, ◌==◌, ◌&&◌, not, Bool, true, false, cond, List, [], ◌∷◌, length, slice_get, Option, Some, None, unwrap_or, Ok, refl, sym, ap, subst, ◌∙◌, arith, bytes_eq}
 use Rattle.std.specs.Option.{option_map}
 use Rattle.std.proofs.lemmas.Bool.{le-leb, lt-ltb}
 use Rattle.std.proofs.lemmas.Bool.Decides.{nat_tests}
 use Rattle.std.proofs.lemmas.Slice.Eq.{bytes_eq-Decides}
-use Rattle.serde_json.specs.Data.{Data, object, array, string, number, unsigned, Items, no_items, item, Members, no_members, member, put}
-use Rattle.serde_json.specs.Find.{get_member, get, as_str, as_number, as_u64, as_i64, as_null, of_integer}
+use Rattle.serde_json.specs.Data.{Data, object, string, number, Items, no_items, item, Members, no_members, member, put}
+use Rattle.serde_json.specs.Find.{get_member, of_integer}
 use Rattle.serde_json.proofs.Views.{get_member-put, get_member-put_other}
-use Rattle.kube_base.specs.Names.{number_of, number_in, with_name, EachOnce}
-use Rattle.kube_base.specs.Times.{time_of, seconds_text, micros_text, last_wall}
+use Rattle.kube_base.specs.Names.{with_name, EachOnce}
 use Rattle.kube_base.specs.declared.numbers.Wall.{Wall}
 use Rattle.kube_base.proofs.NameLemmas.{number_in-found, with_name-found}
 use Rattle.kube_base.proofs.TimeTexts.{time_of-seconds_text, time_of-micros_text}
-use Rattle.manifest_json.specs.declared.fault.Refusal.{Refusal}
-use Rattle.manifest_json.specs.Faults.{◌>>=◌, refuse}
-use Rattle.manifest_json.specs.Fields.{Texts, is_name, is_label, unless_null, field, field_in, or_refuse, parent_at, text_at, items_at, time_at, count_at, signed_at, some_or_refuse, small, numbered, named}
+use Rattle.manifest_json.specs.Faults.{refuse}
+use Rattle.manifest_json.specs.Fields.{Texts, unless_null, field, field_in, parent_at, text_at, items_at, time_at, count_at, signed_at, some_or_refuse, numbered, named}
 use Rattle.manifest_json.specs.Walk.{whole_second}
 use Rattle.manifest_json.specs.Written.{Field, with_field, members_of, filled_text, filled_object, filled_array, text_of, in_seconds, in_micros, count}
-use Rattle.manifest_json.specs.Readable.{IsHeld, IsFilled, IsNameNumber, IsLabelNumber, IsTime, IsWholeSecond, IsCount, IsSigned}
+use Rattle.manifest_json.specs.Readable.{IsHeld, IsNameNumber, IsTime, IsWholeSecond, IsCount, IsSigned}
 
 -- ---- fields by their keys
 

@@ -1,21 +1,20 @@
 -- An identity that is written is read back.
-use Rattle.std.proofs.Common.{◌≡◌, ℕ, zero, suc, ◌+◌, ◌-◌, ◌*◌, ◌/◌, ◌%◌, ◌^◌, ◌<◌, ◌≤◌, ◌==◌, ◌&&◌, not, nat_le, nat_lt, Bool, true, false, cond, List, [], ◌∷◌, ◌++◌, length, reverse, take, drop, get_or, position, slice_get, unwrap_or, codes, Option, Some, None, option_and_then, Result, Ok, refl, sym, ap, subst, ◌∙◌, arith, append_assoc, length-append}
+use Rattle.std.proofs.Common.{◌≡◌, ℕ, ◌+◌, ◌-◌, ◌*◌, ◌/◌, ◌%◌, ◌<◌, ◌≤◌, ◌==◌, ◌&&◌, not, nat_le, Bool, true, false, cond, List, [], ◌∷◌, ◌++◌, length, reverse, take, drop, get_or, position, slice_get, unwrap_or, codes, Some, None, option_and_then, Ok, refl, sym, ap, ◌∙◌, arith, append_assoc, length-append}
 use Rattle.std.specs.Char.{is_ascii_digit}
 use Rattle.std.specs.Fmt.{decimal}
 use Rattle.std.specs.List.{position_or_len}
 use Rattle.std.proofs.lemmas.Bool.{le-leb, lt-ltb}
 use Rattle.std.proofs.lemmas.Bool.Decides.{nat_tests}
-use Rattle.std.proofs.lemmas.Fmt.{decimal_by_steps, first_decimal, decimal_nonempty}
+use Rattle.std.proofs.lemmas.Fmt.{decimal_by_steps, first_decimal}
 use Rattle.std.proofs.lemmas.List.{reverse-append, length-reverse}
 use Rattle.kube_base.specs.Names.{number_of, EachOnce}
 use Rattle.kube_objects.specs.declared.lease.Holder.{Holder}
 use Rattle.kube_objects.specs.declared.lease.Holder.TheVariants as holders
-use Rattle.manifest_json.specs.declared.fault.Refusal.{Refusal}
 use Rattle.manifest_json.specs.Faults.{◌>>=◌}
-use Rattle.manifest_json.specs.Fields.{Texts, numbered}
+use Rattle.manifest_json.specs.Fields.{Texts}
 use Rattle.manifest_json.specs.Walk.{number_onto, incarnation_of, process_of, identity_from, identity_behind, identity_of, holder_or, holder_of}
 use Rattle.manifest_json.specs.Written.{text_of, holder_text}
-use Rattle.manifest_json.specs.Readable.{IsHeld, IsFilled, IsReadableHolder}
+use Rattle.manifest_json.specs.Readable.{IsReadableHolder}
 use Rattle.manifest_json.proofs.FieldsBack.{there, numbered-back}
 
 digit_in : (c : ℕ) → 48 ≤ c → c ≤ 57 → is_ascii_digit c ≡ true

@@ -1,5 +1,5 @@
 -- Taints, tolerations and conditions that are written are read back.
-use Rattle.std.proofs.Common.{◌≡◌, ℕ, ◌+◌, ◌==◌, Bool, true, false, cond, List, [], ◌∷◌, ◌++◌, length, codes, Option, Some, None, option_and_then, Result, Ok, Err, refl, sym, ap, ◌∙◌}
+use Rattle.std.proofs.Common.{◌≡◌, ℕ, ◌==◌, true, false, cond, List, [], ◌∷◌, ◌++◌, length, codes, Option, Some, None, option_and_then, Ok, refl, ap, ◌∙◌}
 use Rattle.std.specs.List.{list_any}
 use Rattle.std.specs.Option.{option_map}
 use Rattle.serde_json.specs.Data.{Data, object, string, number}
@@ -14,9 +14,8 @@ use Rattle.kube_objects.specs.declared.node.Taint.{Taint}
 use Rattle.kube_objects.specs.declared.pod.Operator.{Operator}
 use Rattle.kube_objects.specs.declared.pod.Operator.TheVariants as operators
 use Rattle.kube_objects.specs.declared.pod.Toleration.{Toleration}
-use Rattle.manifest_json.specs.declared.fault.Refusal.{Refusal}
 use Rattle.manifest_json.specs.Faults.{◌>>=◌, refuse}
-use Rattle.manifest_json.specs.Fields.{Texts, unless_null, field, object_at, text_at, time_at, signed_at, numbered}
+use Rattle.manifest_json.specs.Fields.{Texts, unless_null, field, object_at, time_at, signed_at, numbered}
 use Rattle.manifest_json.specs.Walk.{effect_at, whole_second, same_taint, taint_text_at, taint_key_at, text_number_at, unless_earlier, taint_at, status_at, ready_at, is_text, condition_at, operator_at, any_effect_at, is_lawful, if_lawful, toleration_at}
 use Rattle.manifest_json.specs.Written.{Field, members_of, text, filled_text, text_of, in_seconds, effect_text, taint_of, status_text, condition_of, operator_text, toleration_of}
 use Rattle.manifest_json.specs.Readable.{IsHeld, IsFilled, IsReadableTaint, IsReadableCondition, IsReadableToleration}

@@ -1,5 +1,5 @@
 -- The loops that write arrays: what is written, then what is left.
-use Rattle.std.proofs.Common.{◌≡◌, ℕ, ◌+◌, ◌<◌, ◌≤◌, Bool, true, false, ◌&&◌, List, [], ◌∷◌, ◌++◌, length, drop, map, get_or, Option, Some, String, Global, refl, sym, ap, ◌∙◌, arith, drop-cons, add-one, append_assoc}
+use Rattle.std.proofs.Common.{◌≡◌, ℕ, ◌+◌, ◌<◌, ◌≤◌, Bool, true, false, ◌&&◌, List, [], ◌∷◌, ◌++◌, length, drop, map, get_or, Option, Some, String, Global, refl, sym, ap, ◌∙◌, drop-cons, add-one, append_assoc}
 use Rattle.std.specs.List.{list_all}
 use Rattle.std.proofs.lemmas.List.{drop_all, map-append}
 use Rattle.serde_json.specs.Data.{Data, Members, object, array}

@@ -3,6 +3,7 @@ ghost use Rattle.std.specs.Prelude.{◌≡◌, [], ◌∷◌, ◌++◌, IfOk, On
 ghost use Rattle.manifest_json.specs.Faults.{IsFault};
 ghost use Rattle.manifest_json.specs.Walk.{member_path};
 
+use itoa::Buffer;
 use kube_base::NoMemory;
 use std::alloc::Global;
 use std::marker::Model;
@@ -75,10 +76,15 @@ impl Path {
     pub fn member(&self, key: &str, place: usize) -> Result<Path, NoMemory>
         ensures { IfOk result (λ path. path ≡ member_path self.now key.now place) }
     {
-        let mut path = self.below(key)?;
-        let number = place.to_string(self.alloc)?;
-        path.bytes.extend_from_slice(number.as_bytes())?;
-        Ok(path)
+        let mut digits = Buffer::new();
+        let mut bytes = Vec::with_capacity(self.alloc, 64)?;
+        bytes.extend_from_slice(self.bytes.as_slice())?;
+        bytes.extend_from_slice(key.as_bytes())?;
+        bytes.extend_from_slice(digits.format(place).as_bytes())?;
+        Ok(Path {
+            alloc: self.alloc,
+            bytes,
+        })
     }
 }
 

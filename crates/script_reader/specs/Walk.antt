@@ -28,7 +28,7 @@ use Rattle.manifest_json.specs.declared.fault.Refusal.{Refusal}
 use Rattle.manifest_json.specs.declared.list.Objects.{Objects}
 use Rattle.manifest_json.specs.Faults.{◌>>=◌, refuse}
 use Rattle.manifest_json.specs.Fields.{Texts, or_refuse, numbered}
-use Rattle.manifest_json.specs.Walk.{list_walk, object_walk, member_path, items_len, process_of}
+use Rattle.manifest_json.specs.Walk.{list_walk, object_walk, member_path, process_of}
 use Rattle.script_reader.specs.declared.document.Document.{Document}
 use Rattle.script_reader.specs.declared.parts.Beats.{Beats}
 use Rattle.script_reader.specs.declared.parts.Clock.{Clock}

@@ -196,6 +196,11 @@ fn refuses_settings(rt: HostRuntime) -> Result<(), Fail> {
             6,
             "/settings/epoch",
         ),
+        (
+            r#"{"version":1,"settings":{"endBeat":1,"fastRenew":1}}"#,
+            5,
+            "/settings/fastRenew",
+        ),
     ] {
         check_refusal(&rt, rt.alloc(), text, code, path);
     }
@@ -338,6 +343,41 @@ fn refuses_events(rt: HostRuntime) -> Result<(), Fail> {
             r#"{"version":1,"settings":{"endBeat":9},"controllers":[{"name":"c1"}],"events":[{"beat":1,"type":"remove","kind":"Node","namespace":"A","name":"n"}]}"#,
             6,
             "/events/0/namespace",
+        ),
+    ] {
+        check_refusal(&rt, rt.alloc(), text, code, path);
+    }
+    Ok(())
+}
+
+/// Events with the keys of their type, one of which has a value that it may not have.
+#[test]
+fn refuses_values_of_events(rt: HostRuntime) -> Result<(), Fail> {
+    for (text, code, path) in [
+        (
+            r#"{"version":1,"settings":{"endBeat":9},"controllers":[{"name":"c1"}],"kubelets":[{"node":"n"}],"events":[{"beat":1,"type":"watch","process":"kubelet/n","on":true}]}"#,
+            8,
+            "/events/0/process",
+        ),
+        (
+            r#"{"version":1,"settings":{"endBeat":9},"controllers":[{"name":"c1"}],"kubelets":[{"node":"n"}],"events":[{"beat":1,"type":"ready","process":"c1","status":"True"}]}"#,
+            8,
+            "/events/0/process",
+        ),
+        (
+            r#"{"version":1,"settings":{"endBeat":9},"controllers":[{"name":"c1"}],"kubelets":[{"node":"n"}],"events":[{"beat":1,"type":"delay","process":"c1","requestBeats":6001,"replyBeats":1}]}"#,
+            6,
+            "/events/0/requestBeats",
+        ),
+        (
+            r#"{"version":1,"settings":{"endBeat":9},"controllers":[{"name":"c1"}],"kubelets":[{"node":"n"}],"events":[{"beat":1,"type":"rate","process":"c1"}]}"#,
+            4,
+            "/events/0/ratePpm",
+        ),
+        (
+            r#"{"version":1,"settings":{"endBeat":9},"controllers":[{"name":"c1"}],"kubelets":[{"node":"n"}],"events":[{"beat":1,"type":"put","object":{"apiVersion":"v1","kind":"ConfigMap"}}]}"#,
+            11,
+            "/events/0/object",
         ),
     ] {
         check_refusal(&rt, rt.alloc(), text, code, path);

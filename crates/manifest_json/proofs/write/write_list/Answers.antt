@@ -1,8 +1,3 @@
-use Rattle.std.proofs.Common.{◌≡◌, ◌∙◌, ap, Result, Ok, IfOk, ℕ, List}
-use Rattle.serde_json.specs.View.{view}
-use Rattle.serde_json.specs.declared.value.Value.{Value}
-use Rattle.manifest_json.specs.Readable.{IsReadable}
-use Rattle.manifest_json.specs.Walk.{list_walk}
 use Rattle.manifest_json.proofs.ListsBack.{reads-back}
 use Rattle.manifest_json.proofs.write.write_list.Goals as goal
 

@@ -1,4 +1,4 @@
-use Rattle.std.proofs.Common.{◌≡◌, ◌∙◌, sym, ap, Some, arith}
+use Rattle.std.proofs.Common.{◌∙◌, sym, ap, Some, arith}
 use Rattle.serde_json.proofs.Views.{view-Array}
 use Rattle.manifest_json.proofs.WriteLoops.{filled_array-some}
 use Rattle.manifest_json.proofs.write.field.filled.Goals as goal

@@ -1,4 +1,4 @@
-use Rattle.std.proofs.Common.{◌≡◌, ◌∙◌, sym, ap, Some, arith, rules}
+use Rattle.std.proofs.Common.{◌∙◌, sym, ap, Some, arith}
 use Rattle.manifest_json.proofs.WriteLoops.{filled_object-some}
 use Rattle.manifest_json.proofs.write.members.Members.into_filled.Goals as goal
 
