@@ -54,6 +54,7 @@ impl Store {
     }
 
     /// Writes an object under a key that isn't stored. Exists exactly where it is stored.
+    #[inline(never)]
     pub fn create(&mut self, key: Key, object: Object) -> Result<Version, StoreFault>
         ensures answer { (h : List Entry) → StoreStands h self.old → Told result (answers.answer_create (next_version h) (stored key h)) }
         ensures ok { (h : List Entry) (e : Entry) → StoreStands h self.old → write_of e.deed ≡ Some (key, Some object) → OnOk result (StoreStands (e ∷ h) self.new) }
@@ -67,6 +68,7 @@ impl Store {
 
     /// Writes an object in the place of the one with that version. Absent exactly where the key isn't stored,
     /// Conflict exactly where the stored version differs.
+    #[inline(never)]
     pub fn update(
         &mut self,
         key: Key,
@@ -90,6 +92,7 @@ impl Store {
 
     /// Writes a node's Ready at a time of day. Absent exactly where the node isn't stored; Unchanged where the same
     /// status was written less than 300 s before.
+    #[inline(never)]
     pub fn post_status(
         &mut self,
         node: u32,

@@ -2,6 +2,7 @@
 ghost use Rattle.std.specs.Prelude.{◌≤◌, ◌≡◌, IfOk, All, length};
 ghost use Rattle.script_reader.specs.Documents.{doc_of};
 ghost use Rattle.script_reader.specs.Lawful.{AreLawful, IsLawful, IsLawfulDoc};
+ghost use Rattle.world_core.specs.Worlds.{IsReady, at_of, end_of};
 
 use super::*;
 use kube_base::{Beat, Names, NoMemory, ProcId, Version, Wall};
@@ -158,6 +159,51 @@ fn does_the_only_beat(rt: HostRuntime) -> Result<(), Fail> {
     assert_eq!(rt; deeds.as_slice(), want.as_slice());
     assert_eq!(rt; world.at(), Beat(1));
     assert!(rt; world.finished());
+    Ok(())
+}
+
+/// The world before its first beat.
+fn world_of(rt: &impl Abort, alloc: Global, document: Document) -> Result<World, Fail>
+    requires { IsLawfulDoc (doc_of document) }
+    ensures { IfOk result (λ w. IsReady w × (at_of w ≡ 0) × (end_of w ≡ document.settings.end_beat.0)) }
+{
+    let is_run = runs(&document);
+    assert!(rt; is_run);
+    Ok(World::new(alloc, document)?)
+}
+
+/// Nobody is up, so nothing happens up to the end.
+#[test]
+fn skips_to_the_end(rt: HostRuntime) -> Result<(), Fail> {
+    let mut controllers = Procs::new(rt.alloc());
+    controllers.push(controller(10, 1_000_000, false))?;
+    let document = document(rt.alloc(), settings(40, false), controllers)?;
+    let world = world_of(&rt, rt.alloc(), document)?;
+    let (mut world, deeds) = world.beat()?;
+    assert_eq!(rt; deeds.as_slice().len(), 0);
+    world.skip_quiet();
+    assert_eq!(rt; world.at(), Beat(41));
+    assert!(rt; world.finished());
+    Ok(())
+}
+
+/// The first Get arrives in beat 1, its reply in beat 2, and the Create of the election Lease in beat 3.
+#[test]
+fn stores_the_lease(rt: HostRuntime) -> Result<(), Fail> {
+    let document = one(rt.alloc(), settings(9, false), 1_000_000)?;
+    let world = world_of(&rt, rt.alloc(), document)?;
+    let (mut world, _) = world.beat()?;
+    world.skip_quiet();
+    assert_eq!(rt; world.at(), Beat(1));
+    let (world, _) = world.beat()?;
+    let (world, _) = world.beat()?;
+    assert_eq!(rt; world.objects()?.as_slice().len(), 0);
+    let (world, _) = world.beat()?;
+    let items = world.objects()?;
+    assert_eq!(rt; items.as_slice().len(), 1);
+    for item in items.as_slice() {
+        assert_eq!(rt; item.0, ELECTION);
+    }
     Ok(())
 }
 
