@@ -172,6 +172,17 @@ fn world_of(rt: &impl Abort, alloc: Global, document: Document) -> Result<World,
     Ok(World::new(alloc, document)?)
 }
 
+/// The world after its next beat.
+fn after_beat(rt: &impl Abort, world: World) -> Result<World, Fail>
+    requires { IsReady world }
+    ensures { IfOk result IsReady }
+{
+    let finished = world.finished();
+    assert!(rt; !finished);
+    let (world, _) = world.beat()?;
+    Ok(world)
+}
+
 /// Nobody is up, so nothing happens up to the end.
 #[test]
 fn skips_to_the_end(rt: HostRuntime) -> Result<(), Fail> {
@@ -203,12 +214,12 @@ fn stops_at_a_message(rt: HostRuntime) -> Result<(), Fail> {
 fn stores_the_lease(rt: HostRuntime) -> Result<(), Fail> {
     let document = one(rt.alloc(), settings(9, false), 1_000_000)?;
     let world = world_of(&rt, rt.alloc(), document)?;
-    let (world, _) = world.beat()?;
-    let (world, _) = world.beat()?;
-    let (world, _) = world.beat()?;
+    let world = after_beat(&rt, world)?;
+    let world = after_beat(&rt, world)?;
+    let world = after_beat(&rt, world)?;
     let before = world.objects()?;
     assert_eq!(rt; before.as_slice().len(), 0);
-    let (world, _) = world.beat()?;
+    let world = after_beat(&rt, world)?;
     let items = world.objects()?;
     assert_eq!(rt; items.as_slice().len(), 1);
     for item in items.as_slice() {
