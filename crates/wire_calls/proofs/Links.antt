@@ -1,12 +1,12 @@
 -- Delays and losses that are set.
-use Rattle.std.proofs.Common.{◌≡◌, ℕ, zero, suc, ◌<◌, ◌==◌, Bool, true, false, cond, List, [], ◌∷◌, length, slice_get, slice_set, get_or, Option, Some, None, refl, ap, ◌∙◌, arith}
+use Rattle.std.proofs.Common.{◌≡◌, ℕ, zero, suc, ◌<◌, ◌==◌, Bool, true, false, cond, List, [], ◌∷◌, length, replicate, slice_get, slice_set, get_or, Option, Some, None, refl, ap, ◌∙◌, arith}
 use Rattle.std.proofs.lemmas.Bool.{eqb-true}
 use Rattle.std.proofs.lemmas.Bool.Decides.{nat_tests}
 use Rattle.kube_objects.specs.Entry.{Entry}
 use Rattle.kube_objects.specs.Newest.{or_else, when}
 use Rattle.kube_objects.specs.Wire.{in_force, request_delay_of, reply_delay_of, request_loss_of, reply_loss_of}
 use Rattle.wire_calls.specs.declared.link.Link.{Link}
-use Rattle.wire_calls.specs.WireStands.{IsDelay, or_first, link_at, link_in}
+use Rattle.wire_calls.specs.WireStands.{IsDelay, first_link, or_first, link_at, link_in}
 
 slice_get-set : {X : Type 0} (xs : List X) (i p : ℕ) (x : X) → i < length xs → slice_get (slice_set xs i x) p ≡ cond (i == p) (Some x) (slice_get xs p)
 slice_get-set [] i p x below = absurd (omega (arith, below))
@@ -28,6 +28,11 @@ pub link_at-get_or : (links : List Link) (i : ℕ) (d : Link) → i < length lin
 link_at-get_or [] i d below = absurd (omega (arith, below))
 link_at-get_or (x ∷ links) zero d below = refl
 link_at-get_or (x ∷ links) (suc i) d below = link_at-get_or links i d (omega (arith, below))
+
+pub link_at-replicate : (n p : ℕ) → link_at (replicate n first_link) p ≡ first_link
+link_at-replicate zero p = refl
+link_at-replicate (suc n) zero = refl
+link_at-replicate (suc n) (suc p) = link_at-replicate n p
 
 -- ---- what an event on this process or another makes of what is in force
 

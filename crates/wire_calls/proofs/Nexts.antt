@@ -10,7 +10,7 @@ use Rattle.wire_calls.specs.InFlight.{pending, IsLeast}
 use Rattle.wire_calls.specs.WireStands.{WireStands, IsQuiet, NextIs, earlier_of, as_arrived, as_delivered}
 use Rattle.wire_calls.proofs.Orders.{quiet-kept, kept-quiet}
 
-pub next-is : (processes k : ℕ) (arriving : List Sent) (coming : List Back) (h : List Entry) (w : Wire) (a b : Option Beat) → WireStands processes k arriving coming h w → IsLeast w.requests a → IsLeast w.replies b → NextIs k arriving coming h (earlier_of a b)
+pub next-is : (processes k : ℕ) (arriving : List Sent) (coming : List Back) (h : List Entry) (w : Wire) (a b : Option Beat) → WireStands processes k arriving coming h w → IsLeast (pending w.requests) a → IsLeast (pending w.replies) b → NextIs k arriving coming h (earlier_of a b)
 next-is processes k arriving coming h w a b s = by_least a b
   where
     quiet : (j : ℕ) → pending w.requests j ≡ [] → pending w.replies j ≡ [] → IsQuiet k arriving coming h j
@@ -25,11 +25,11 @@ next-is processes k arriving coming h w a b s = by_least a b
     no_reply : (j : ℕ) → IsQuiet k arriving coming h j → pending w.replies j ≡ []
     no_reply j q = kept-quiet as_delivered k coming (λ i. replies_due i h) (pending w.replies) s.replies j q.1
 
-    by_test : (x y : Beat) (t : Bool) → nat_lt y.0 x.0 ≡ t → IsLeast w.requests (Some x) → IsLeast w.replies (Some y) → NextIs k arriving coming h (cond t (Some y) (Some x))
+    by_test : (x y : Beat) (t : Bool) → nat_lt y.0 x.0 ≡ t → IsLeast (pending w.requests) (Some x) → IsLeast (pending w.replies) (Some y) → NextIs k arriving coming h (cond t (Some y) (Some x))
     by_test x y true is l m = (λ q. m.0 (no_reply y.0 q), λ j below. quiet j (l.1 j (let lt : y.0 < x.0 = ltb-true y.0 x.0 is in omega (arith, lt, below))) (m.1 j below))
     by_test x y false is l m = (λ q. l.0 (no_request x.0 q), λ j below. quiet j (l.1 j below) (m.1 j (let le : x.0 ≤ y.0 = ltb-false y.0 x.0 is in omega (arith, le, below))))
 
-    by_least : (a b : Option Beat) → IsLeast w.requests a → IsLeast w.replies b → NextIs k arriving coming h (earlier_of a b)
+    by_least : (a b : Option Beat) → IsLeast (pending w.requests) a → IsLeast (pending w.replies) b → NextIs k arriving coming h (earlier_of a b)
     by_least None None l m = λ j. quiet j (l j) (m j)
     by_least (Some x) None l m = (λ q. l.0 (no_request x.0 q), λ j below. quiet j (l.1 j below) (m j))
     by_least None (Some y) l m = (λ q. m.0 (no_reply y.0 q), λ j below. quiet j (l j) (m.1 j below))

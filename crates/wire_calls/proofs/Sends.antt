@@ -14,7 +14,7 @@ use Rattle.wire_calls.specs.declared.message.Delivered.{Delivered}
 use Rattle.wire_calls.specs.declared.message.Sent as told
 use Rattle.wire_calls.specs.declared.message.Sent.TheVariants.{Lost, InFlight}
 use Rattle.wire_calls.specs.declared.wire.Wire.{Wire}
-use Rattle.wire_calls.specs.InFlight.{pending, HasNoEmpty}
+use Rattle.wire_calls.specs.InFlight.{pending, IsLive}
 use Rattle.wire_calls.specs.Messages.{sent_as_told}
 use Rattle.wire_calls.specs.WireStands.{WireStands, as_arrived, as_delivered, link_at}
 use Rattle.wire_calls.proofs.Orders.{in_order-push}
@@ -58,7 +58,7 @@ pub wire-lost-reply : (processes k step : ℕ) (arriving : List Sent) (coming : 
 wire-lost-reply processes k step arriving coming h q call reply written w s =
     record { count = s.count; links = s.links; requests = s.requests; replies = s.replies; live_requests = s.live_requests; live_replies = s.live_replies; delays = s.delays }
 
-pub wire-request : (processes k step j : ℕ) (arriving : List Sent) (coming : List Back) (h : List Entry) (q : Identity) (call : Call) (w : Wire) (f : Flight Arrived) (message : Arrived) → WireStands processes k arriving coming h w → k < j → message ≡ as_arrived (record { who = q; call = call; arrives = Some j }) → ((i : ℕ) → pending f i ≡ cond (j == i) (pending w.requests i ++ message ∷ []) (pending w.requests i)) → HasNoEmpty f → WireStands processes k arriving coming (entry k step q (Sends call (Some j)) ∷ h) (record { links = w.links; requests = f; replies = w.replies })
+pub wire-request : (processes k step j : ℕ) (arriving : List Sent) (coming : List Back) (h : List Entry) (q : Identity) (call : Call) (w : Wire) (f : Flight Arrived) (message : Arrived) → WireStands processes k arriving coming h w → k < j → message ≡ as_arrived (record { who = q; call = call; arrives = Some j }) → ((i : ℕ) → pending f i ≡ cond (j == i) (pending w.requests i ++ message ∷ []) (pending w.requests i)) → IsLive f → WireStands processes k arriving coming (entry k step q (Sends call (Some j)) ∷ h) (record { links = w.links; requests = f; replies = w.replies })
 wire-request processes k step j arriving coming h q call w f message s after is pushed live =
     record {
       count = s.count;
@@ -71,7 +71,7 @@ wire-request processes k step j arriving coming h q call w f message s after is 
       delays = s.delays;
     }
 
-pub wire-reply : (processes k step j : ℕ) (arriving : List Sent) (coming : List Back) (h : List Entry) (q : Identity) (call : Call) (reply : Reply) (written : Option Object) (w : Wire) (f : Flight Delivered) (message : Delivered) → WireStands processes k arriving coming h w → k < j → message ≡ as_delivered (record { who = q; call = call; reply = reply; comes = Some j }) → ((i : ℕ) → pending f i ≡ cond (j == i) (pending w.replies i ++ message ∷ []) (pending w.replies i)) → HasNoEmpty f → WireStands processes k arriving coming (entry k step q (Answers call reply (Some j) written) ∷ h) (record { links = w.links; requests = w.requests; replies = f })
+pub wire-reply : (processes k step j : ℕ) (arriving : List Sent) (coming : List Back) (h : List Entry) (q : Identity) (call : Call) (reply : Reply) (written : Option Object) (w : Wire) (f : Flight Delivered) (message : Delivered) → WireStands processes k arriving coming h w → k < j → message ≡ as_delivered (record { who = q; call = call; reply = reply; comes = Some j }) → ((i : ℕ) → pending f i ≡ cond (j == i) (pending w.replies i ++ message ∷ []) (pending w.replies i)) → IsLive f → WireStands processes k arriving coming (entry k step q (Answers call reply (Some j) written) ∷ h) (record { links = w.links; requests = w.requests; replies = f })
 wire-reply processes k step j arriving coming h q call reply written w f message s after is pushed live =
     record {
       count = s.count;

@@ -5,7 +5,7 @@ use Rattle.kube_objects.specs.declared.script.What.TheVariants.{Delay, Loss}
 use Rattle.kube_objects.specs.Entry.{Entry, Deed, Event, Sends, Answers}
 use Rattle.kube_objects.specs.InFlight.{requests_due, replies_due}
 use Rattle.kube_objects.specs.Wire.{Sent, Back, request_delay, reply_delay, loses_requests, loses_replies}
-use Rattle.wire_calls.specs.InFlight.{pending, HasNoEmpty}
+use Rattle.wire_calls.specs.InFlight.{pending, IsLive}
 use Rattle.wire_calls.specs.declared.link.Link.{Link}
 use Rattle.wire_calls.specs.declared.message.Arrived.{Arrived}
 use Rattle.wire_calls.specs.declared.message.Delivered.{Delivered}
@@ -62,8 +62,8 @@ pub record WireStands (processes k : ℕ) (arriving : List Sent) (coming : List 
   pub links : (p : ℕ) → link_at w.links.items p ≡ link_in p h
   pub requests : InOrder as_arrived k arriving (λ j. requests_due j h) (pending w.requests)
   pub replies : InOrder as_delivered k coming (λ j. replies_due j h) (pending w.replies)
-  pub live_requests : HasNoEmpty w.requests
-  pub live_replies : HasNoEmpty w.replies
+  pub live_requests : IsLive w.requests
+  pub live_replies : IsLive w.replies
   pub delays : (p : ℕ) → IsDelay (request_delay p h) × IsDelay (reply_delay p h)
 
 -- ---- the next beat

@@ -1,90 +1,90 @@
 // Messages in flight one way, by the beats at which they arrive.
-ghost use Rattle.std.specs.Prelude.{◌≡◌, ◌==◌, ◌∷◌, ◌++◌, [], ℕ, List, Option, cond, OnOk, OnErr, MatchOption, ◌<◌};
-ghost use Rattle.std.specs.VecDeque.{deque_items};
-ghost use Rattle.wire_calls.specs.InFlight.{pending, HasNoEmpty, IsLeast, first_of, rest_of};
+ghost use Rattle.std.specs.Prelude.{◌≡◌, ◌==◌, ◌<◌, ◌∷◌, ◌++◌, [], ℕ, length, cond, OnOk, OnErr, IsSome};
+ghost use Rattle.wire_calls.specs.InFlight.{pending, IsLive, IsLeast, first_of, rest_of};
 
+use crate::queues::{Queues, take_first};
 use kube_base::{Beat, NoMemory};
 use std::alloc::Global;
-use std::collections::{BTreeMap, VecDeque};
+use std::collections::VecDeque;
 
-/// For each beat at which something arrives, what arrives, the oldest first. The queue that was emptied last is kept, with
-/// its memory, for the next beat.
+/// For each beat at which something arrives, what arrives, the oldest first. Nearly always that is one beat only: its queue
+/// is the front, which is found without a search and keeps its memory.
 #[derive(Drop)]
 pub(crate) struct Flight<T> {
-    alloc: Global,
-    beats: BTreeMap<Beat, VecDeque<T>>,
-    spare: Option<VecDeque<T>>,
+    /// The beat of the front, which has no queue among the others.
+    beat: Beat,
+    front: VecDeque<T>,
+    others: Queues<T>,
 }
 
 impl<T: Copy + Drop> Flight<T> {
     pub(crate) fn new(alloc: Global) -> Flight<T>
         ensures nothing { (j : ℕ) → pending result j ≡ [] }
-        ensures live { HasNoEmpty result }
+        ensures live { IsLive result }
     {
         Flight {
-            alloc,
-            beats: BTreeMap::new(alloc),
-            spare: None,
+            beat: Beat(0),
+            front: VecDeque::new(alloc),
+            others: Queues::new(alloc),
         }
     }
 
     /// Adds a message behind the others of its beat.
     pub(crate) fn push(&mut self, beat: Beat, message: T) -> Result<(), NoMemory>
-        ensures ok { OnOk result ((j : ℕ) → pending self.new j ≡ cond (beat.0 == j) (pending self.old j ++ message ∷ []) (pending self.old j)) }
+        ensures ok { IsLive self.old → OnOk result ((j : ℕ) → pending self.new j ≡ cond (beat.0 == j) (pending self.old j ++ message ∷ []) (pending self.old j)) }
         ensures err { OnErr result ((j : ℕ) → pending self.new j ≡ pending self.old j) }
-        ensures live { HasNoEmpty self.old → HasNoEmpty self.new }
+        ensures live { IsLive self.old → IsLive self.new }
     {
-        if let Some(queue) = self.beats.get_mut(&beat) {
-            queue.push_back(message)?;
+        self.claim_front(beat);
+        if self.beat.0 == beat.0 {
+            self.front.push_back(message)?;
             return Ok(());
         }
-        let mut queue = self.empty_queue();
-        queue.push_back(message)?;
-        self.beats.insert(beat, queue)?;
-        Ok(())
+        self.others.push(beat, message)
     }
 
-    fn empty_queue(&mut self) -> VecDeque<T>
-        ensures empty { deque_items result ≡ [] }
-        ensures same { self.new.beats ≡ self.old.beats }
+    /// An empty front becomes that of a beat, where the beat has no queue among the others.
+    fn claim_front(&mut self, beat: Beat)
+        ensures same { (j : ℕ) → pending self.new j ≡ pending self.old j }
+        ensures live { IsLive self.old → IsLive self.new }
     {
-        match self.spare.take() {
-            Some(mut queue) => {
-                queue.clear();
-                queue
+        if self.front.is_empty() {
+            if !self.others.has(beat) {
+                self.beat = beat;
             }
-            None => VecDeque::new(self.alloc),
         }
     }
 
     /// Takes out the first message of a beat.
     pub(crate) fn take(&mut self, beat: Beat) -> Option<T>
-        ensures first { result ≡ first_of (pending self.old beat.0) }
-        ensures rest { (j : ℕ) → pending self.new j ≡ cond (beat.0 == j) (rest_of (pending self.old j)) (pending self.old j) }
-        ensures live { HasNoEmpty self.old → HasNoEmpty self.new }
+        ensures fewer { IsSome result → length (pending self.new beat.0) < length (pending self.old beat.0) }
+        ensures first { IsLive self.old → result ≡ first_of (pending self.old beat.0) }
+        ensures rest { IsLive self.old → (j : ℕ) → pending self.new j ≡ cond (beat.0 == j) (rest_of (pending self.old j)) (pending self.old j) }
+        ensures live { IsLive self.old → IsLive self.new }
     {
-        let queue = self.beats.get_mut(&beat)?;
-        let first = take_first(queue);
-        if queue.is_empty() {
-            self.spare = self.beats.remove(&beat);
+        if self.beat.0 == beat.0 {
+            return take_first(&mut self.front);
         }
-        first
+        self.others.take(beat)
     }
 
     /// The least beat at which something arrives.
     pub(crate) fn least(&self) -> Option<Beat>
-        ensures { HasNoEmpty self.now → IsLeast self.now result }
+        ensures { IsLive self.now → IsLeast (pending self.now) result }
     {
-        match self.beats.first_key_value() {
-            Some(entry) => Some(*entry.0),
-            None => None,
+        let other = self.others.least();
+        if self.front.is_empty() {
+            return other;
+        }
+        match other {
+            Some(other) => {
+                if other.0 < self.beat.0 {
+                    Some(other)
+                } else {
+                    Some(self.beat)
+                }
+            }
+            None => Some(self.beat),
         }
     }
-}
-
-fn take_first<T: Drop>(queue: &mut VecDeque<T>) -> Option<T>
-    ensures first { result ≡ first_of (deque_items queue.old) }
-    ensures rest { deque_items queue.new ≡ rest_of (deque_items queue.old) }
-{
-    queue.pop_front()
 }

@@ -4,6 +4,7 @@
 mod flight;
 mod link;
 mod message;
+mod queues;
 #[cfg(test)]
 mod tests;
 mod wire;

@@ -31,4 +31,4 @@ returns-in_ok-push-in-InFlight-clause-ok c processes k step arriving coming h q 
     let after = arrival-after _ k _ c.in-InFlight.arrives.0 (s.delays q.process).0.0 here in
     let message = ap (λ q. as_message q c.args.ask.number c.args.ask.request) (sym by) ∙ ap (λ n. as_message q n c.args.ask.request) (sym number) ∙ ap (λ r. as_message q call.number r) (sym request) in
     subst (λ o. WireStands processes k arriving coming (entry k step q (Sends call o) ∷ h) (record { links = c.args.self.now.links; requests = c.push.new.self; replies = c.args.self.now.replies })) (sym here)
-    (wire-request processes k step c.in-InFlight.arrives.0 arriving coming h q call c.args.self.now c.push.new.self _ s after message c.in_ok-push-in-InFlight.ensures.ok (c.in_ok-push-in-InFlight.ensures.live s.live_requests))
+    (wire-request processes k step c.in-InFlight.arrives.0 arriving coming h q call c.args.self.now c.push.new.self _ s after message (c.in_ok-push-in-InFlight.ensures.ok s.live_requests) (c.in_ok-push-in-InFlight.ensures.live s.live_requests))

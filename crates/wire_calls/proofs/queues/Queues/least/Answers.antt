@@ -1,7 +1,7 @@
 use Rattle.std.proofs.Common.{◌∙◌, sym, ap, subst}
 use Rattle.std.specs.VecDeque.{deque_items}
 use Rattle.wire_calls.proofs.Beats.{below-least, items_by, IsLive}
-use Rattle.wire_calls.proofs.flight.Flight.least.Goals as goal
+use Rattle.wire_calls.proofs.queues.Queues.least.Goals as goal
 
 pub returns-in-Some : goal.returns-in-Some
 returns-in-Some g c live =

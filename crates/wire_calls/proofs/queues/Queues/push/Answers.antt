@@ -3,7 +3,7 @@ use Rattle.kube_base.specs.contracts.numbers.BeatOrd.TheImpl as beat_ord
 use Rattle.std.specs.BTreeMap.{Updates}
 use Rattle.std.specs.VecDeque.{deque_items}
 use Rattle.wire_calls.proofs.Beats.{updates-get, change-pending, change-live, items_by, pending_by, IsLive, either, never-empty}
-use Rattle.wire_calls.proofs.flight.Flight.push.Goals as goal
+use Rattle.wire_calls.proofs.queues.Queues.push.Goals as goal
 
 on-err : {A E : Type 0} {P : Type 0} (r : Result A E) → P → OnErr r P
 on-err (Ok x) p = tt

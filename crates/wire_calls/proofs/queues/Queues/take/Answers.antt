@@ -2,7 +2,7 @@ use Rattle.std.proofs.Common.{◌≡◌, [], ◌∙◌, Some, None, sym, ap, rul
 use Rattle.std.specs.VecDeque.{deque_items}
 use Rattle.wire_calls.specs.InFlight.{rest_of}
 use Rattle.wire_calls.proofs.Beats.{updates-get, emptied-get, change-pending, change-live, items_by, nil-from-length}
-use Rattle.wire_calls.proofs.flight.Flight.take.Goals as goal
+use Rattle.wire_calls.proofs.queues.Queues.take.Goals as goal
 use borrow.Author.Tests.{eqb-true}
 
 pub returns-then-is_empty-clause-rest : goal.returns-then-is_empty-clause-rest
