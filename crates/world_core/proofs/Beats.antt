@@ -8,7 +8,7 @@ use Rattle.kube_objects.specs.InFlight.{requests_due, replies_due, is_due}
 use Rattle.kube_objects.specs.Wire.{Sent, reply_delay, loses_replies, arrival, reply_arrival}
 use Rattle.history.specs.Due.{answer_all, deliver_all}
 use Rattle.history.specs.History.{beat}
-use Rattle.history.specs.Steps.{start_first, starts_below, first_starts, step_one, answered, step_two, step_three, turns}
+use Rattle.history.specs.Steps.{start_first, starts_below, first_starts, step_one, answered, step_three, turns}
 use Rattle.history.proofs.Due.{step_two-due, step_three-due}
 use Rattle.wire_calls.proofs.Frames.{wire-next-beat}
 use Rattle.world_core.specs.declared.state.State.{State}

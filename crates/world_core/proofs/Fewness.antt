@@ -1,5 +1,5 @@
 -- What a history counts stays within its types up to the end of a document.
-use Rattle.std.proofs.Common.{◌≡◌, ℕ, suc, ◌+◌, ◌<◌, ◌≤◌, ◌^◌, length, arith}
+use Rattle.std.proofs.Common.{ℕ, suc, ◌≤◌, length, arith}
 use Rattle.kube_objects.specs.Document.{Doc}
 use Rattle.history.specs.History.{history, beat}
 use Rattle.history_laws.specs.Calls.{CallsAreFew}

@@ -1,12 +1,10 @@
 -- A clock gets the rates of a process's events, one after the other.
-use Rattle.std.proofs.Common.{◌≡◌, ℕ, zero, suc, ◌+◌, ◌<◌, ◌≤◌, ◌++◌, ◌==◌, nat_le, if◌then◌else◌, Bool, true, false, List, [], ◌∷◌, Option, Some, None, length, get_or, take, drop, refl, sym, ap, ◌∙◌, subst, arith, add-one}
+use Rattle.std.proofs.Common.{◌≡◌, ℕ, suc, ◌+◌, ◌<◌, ◌≤◌, ◌++◌, nat_le, if◌then◌else◌, Bool, true, false, List, [], ◌∷◌, Option, Some, None, length, get_or, take, drop, refl, sym, ap, ◌∙◌, subst, arith, add-one}
 use Rattle.std.proofs.Math.Seq.{take-suc, drop-cons}
 use Rattle.kube_objects.specs.declared.script.Event.{Event}
-use Rattle.kube_objects.specs.declared.script.What.{What}
-use Rattle.kube_objects.specs.declared.script.What.TheVariants as what
 use Rattle.kube_objects.specs.Clocks.{last_rate, rate_of}
-use Rattle.kube_objects.specs.Document.{Doc, end_beat}
-use Rattle.kube_objects.specs.Newest.{only_if, or_else, when}
+use Rattle.kube_objects.specs.Document.{Doc}
+use Rattle.kube_objects.specs.Newest.{only_if, or_else}
 use Rattle.script_reader.specs.Lawful.{AreLawfulFrom}
 use Rattle.skew_clock.specs.Clocking.{Clocking, last_set, rate_at}
 use Rattle.world_core.specs.Controllers.{AreEventsFrom, SameSpan}

@@ -15,7 +15,7 @@ use Rattle.history.specs.Steps.{attempts, controller_turn, finish, restart}
 use Rattle.leader_elector.specs.declared.candidate.Candidate.{Candidate}
 use Rattle.leader_elector.specs.declared.leading.Leading.{Leading}
 use Rattle.leader_elector.specs.Moves.{candidate_turn, expired, leading_turn, tested, try_before}
-use Rattle.leader_elector.specs.Stands.{CandidateStands, LeadingStands}
+use Rattle.leader_elector.specs.Stands.{LeadingStands}
 use Rattle.leader_elector.proofs.Expiry.{deadline-expiry}
 use Rattle.world_core.specs.declared.controller.Controller.{Controller}
 use Rattle.world_core.specs.declared.controller.Role.TheVariants as role

@@ -1,7 +1,7 @@
 -- The documents that the world runs have no kubelet.
-use Rattle.std.proofs.Common.{◌≡◌, ◌++◌, Bool, true, List, [], ◌∷◌, length, refl, ap, ◌∙◌}
+use Rattle.std.proofs.Common.{◌≡◌, ◌++◌, true, List, [], ◌∷◌, refl, ap, ◌∙◌}
 use Rattle.std.proofs.lemmas.List.{append-nil}
-use Rattle.kube_objects.specs.Document.{Doc, processes}
+use Rattle.kube_objects.specs.Document.{Doc}
 use Rattle.world_core.specs.Forms.{is_empty, is_run}
 use Rattle.world_core.proofs.Names.{and-left}
 

@@ -1,23 +1,22 @@
 -- A controller through the script's entries: those on others, and those on itself.
-use Rattle.std.proofs.Common.{◌≡◌, ℕ, ◌+◌, ◌<◌, ◌^◌, ◌++◌, ◌==◌, ◌&&◌, Bool, true, false, List, [], ◌∷◌, Option, Some, None, refl, sym, ap, ◌∙◌, subst, arith}
+use Rattle.std.proofs.Common.{◌≡◌, ℕ, ◌+◌, ◌<◌, ◌^◌, ◌++◌, ◌==◌, true, false, List, [], ◌∷◌, Option, Some, None, refl, sym, ap, ◌∙◌, subst}
 use Rattle.std.proofs.lemmas.List.{append-nil}
 use Rattle.kube_base.specs.declared.numbers.ProcId.{ProcId}
 use Rattle.kube_base.specs.declared.numbers.Version.{Version}
 use Rattle.kube_objects.specs.declared.call.Ask.{Ask}
 use Rattle.kube_objects.specs.declared.call.Request.{Request}
 use Rattle.kube_objects.specs.declared.deed.Act.TheVariants as act
-use Rattle.kube_objects.specs.declared.deed.Deed as deed
 use Rattle.kube_objects.specs.declared.key.Key.{Key}
 use Rattle.kube_objects.specs.declared.object.Object.{Object}
 use Rattle.kube_objects.specs.declared.script.What.{What}
 use Rattle.kube_objects.specs.declared.script.What.TheVariants as what
 use Rattle.kube_objects.specs.Clocks.{store_wall, whole_second}
 use Rattle.kube_objects.specs.Document.{Doc}
-use Rattle.kube_objects.specs.Elector.{release, release_from, shown}
+use Rattle.kube_objects.specs.Elector.{release}
 use Rattle.kube_objects.specs.Entry.{Entry, Identity, Deed, First, Event, Starts, Crashes, Stops, Sends, Release, entry, script_entry, actor_of}
 use Rattle.kube_objects.specs.Identities.{identity}
-use Rattle.kube_objects.specs.Newest.{added, newest, when, only_if, join}
-use Rattle.kube_objects.specs.Process.{alive, begun, born, gone, life, cancels, ended, is_start, restart_says, starts}
+use Rattle.kube_objects.specs.Newest.{added, newest, when, join}
+use Rattle.kube_objects.specs.Process.{alive, gone, life, cancels, ended, is_start, restart_says, starts}
 use Rattle.kube_objects.specs.Stamps.{stamped}
 use Rattle.kube_objects.specs.Wire.{next_call, send}
 use Rattle.history.specs.History.{put_all}
@@ -28,7 +27,7 @@ use Rattle.leader_elector.proofs.Frames.{candidate-quiet, leading-quiet}
 use Rattle.world_core.specs.declared.controller.Controller.{Controller}
 use Rattle.world_core.specs.declared.controller.Role.{Role}
 use Rattle.world_core.specs.declared.controller.Role.TheVariants as role
-use Rattle.world_core.specs.Controllers.{AsksOn, Begun, ControllerStands, Crashed, RoleStands, StoppedAs, crashed_deeds, is_up_as, restart_reading, started_deeds, stop_in, stopped, stopped_deeds}
+use Rattle.world_core.specs.Controllers.{AsksOn, Begun, ControllerStands, RoleStands, StoppedAs, is_up_as, restart_reading, stop_in, stopped}
 use Rattle.world_core.specs.Plain.{IsFew, IsPlain}
 use Rattle.world_core.proofs.Beside.{controller-others}
 use Rattle.world_core.proofs.Names.{eq-self, of_process-own}

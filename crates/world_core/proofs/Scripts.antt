@@ -1,5 +1,5 @@
 -- The world through an entry of the script.
-use Rattle.std.proofs.Common.{◌≡◌, ℕ, ◌+◌, ◌<◌, ◌++◌, Bool, true, false, List, [], ◌∷◌, Option, Some, None, slice_get, length, length-append, refl, sym, ap, ◌∙◌, subst, append_assoc, arith}
+use Rattle.std.proofs.Common.{◌≡◌, ℕ, ◌<◌, ◌++◌, true, false, List, ◌∷◌, Option, Some, None, length, length-append, refl, sym, ap, ◌∙◌, subst, append_assoc, arith}
 use Rattle.std.proofs.lemmas.List.{append-nil}
 use Rattle.kube_base.specs.declared.numbers.ProcId.{ProcId}
 use Rattle.kube_base.specs.declared.numbers.Version.{Version}
@@ -25,8 +25,8 @@ use Rattle.world_core.specs.declared.controller.Controller.{Controller}
 use Rattle.world_core.specs.declared.state.State.{State}
 use Rattle.world_core.specs.Controllers.{ControllerStands, AsksOn, stop_in, stopped}
 use Rattle.world_core.specs.Plain.{IsKnown}
-use Rattle.world_core.specs.States.{SameDocument, RestStands, EachStands, Running}
-use Rattle.world_core.proofs.Around.{Around, around-world, around-own, around-started, alive-known}
+use Rattle.world_core.specs.States.{SameDocument, EachStands, Running}
+use Rattle.world_core.proofs.Around.{Around, around-own, around-started, alive-known}
 use Rattle.world_core.proofs.Names.{lt-from, eq-isnt}
 use Rattle.world_core.proofs.Plainly.{known-later}
 use Rattle.world_core.proofs.Scripted.{plain-script, controller-event}

@@ -1,7 +1,7 @@
-use Rattle.std.proofs.Common.{◌≡◌, ℕ, ◌+◌, ◌∷◌, Some, None, take, drop, sym, ◌∙◌, subst}
+use Rattle.std.proofs.Common.{◌≡◌, ◌+◌, ◌∷◌, take, drop, sym, ◌∙◌, subst}
 use Rattle.kube_objects.specs.Clocks.{last_rate}
 use Rattle.kube_objects.specs.Newest.{or_else}
-use Rattle.skew_clock.specs.Clocking.{Clocking, last_set, rate_at}
+use Rattle.skew_clock.specs.Clocking.{last_set, rate_at}
 use Rattle.world_core.specs.Controllers.{AreEventsFrom, SameSpan}
 use Rattle.world_core.proofs.Rates.{events-set, events-unset, rates-set, rates-unset, same-set}
 use Rattle.world_core.proofs.controller.set_rates.Goals as goal

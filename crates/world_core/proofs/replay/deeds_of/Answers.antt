@@ -1,6 +1,6 @@
-use Rattle.std.proofs.Common.{◌≡◌, ◌+◌, ◌≤◌, ◌++◌, suc, [], sym, ap, ◌∙◌, subst, add-one, arith}
+use Rattle.std.proofs.Common.{◌≡◌, ◌+◌, ◌++◌, suc, [], sym, ap, ◌∙◌, subst, add-one, arith}
 use Rattle.kube_objects.specs.Document.{end_beat}
-use Rattle.history.specs.History.{history, beat}
+use Rattle.history.specs.History.{history}
 use Rattle.history.specs.Printed.{printed}
 use Rattle.script_reader.specs.Documents.{doc_of}
 use Rattle.world_core.specs.Worlds.{at_of, end_of, WorldStands}

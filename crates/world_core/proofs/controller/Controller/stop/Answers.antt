@@ -1,5 +1,5 @@
 use Rattle.std.proofs.Common.{◌≡◌, None, sym, ap, ◌∙◌, subst}
-use Rattle.kube_objects.specs.Clocks.{local, wall}
+use Rattle.kube_objects.specs.Clocks.{wall}
 use Rattle.kube_objects.specs.Identities.{identity}
 use Rattle.world_core.specs.declared.controller.Role.TheVariants as role
 use Rattle.world_core.specs.Controllers.{StoppedAs}

@@ -1,8 +1,7 @@
-use Rattle.std.proofs.Common.{◌≡◌, ◌<◌, ◌++◌, vec_len, refl, sym, ap, ◌∙◌, arith}
+use Rattle.std.proofs.Common.{◌<◌, ◌++◌, vec_len, refl, ap, ◌∙◌, arith}
 use Rattle.kube_objects.specs.declared.deed.Act.TheVariants as act
 use Rattle.kube_objects.specs.declared.deed.Actor.TheVariants as actor
 use Rattle.kube_objects.specs.declared.script.What.TheVariants as what
-use Rattle.kube_objects.specs.Document.{processes}
 use Rattle.kube_objects.specs.Identities.{identity}
 use Rattle.kube_objects.specs.Newest.{when}
 use Rattle.history.specs.Printed.{deeds_of}

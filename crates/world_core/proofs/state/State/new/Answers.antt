@@ -1,7 +1,7 @@
 use Rattle.std.proofs.Common.{◌≡◌, ◌<◌, ◌++◌, [], length, refl, sym, ap, ◌∙◌, subst, arith}
 use Rattle.std.proofs.lemmas.Bool.{le-leb}
 use Rattle.kube_objects.specs.Document.{Doc, processes}
-use Rattle.kube_objects.specs.InFlight.{requests_due, replies_due}
+use Rattle.kube_objects.specs.InFlight.{replies_due}
 use Rattle.history.specs.History.{history}
 use Rattle.script_reader.specs.Documents.{doc_of}
 use Rattle.script_reader.specs.Lawful.{AreLawfulFrom}

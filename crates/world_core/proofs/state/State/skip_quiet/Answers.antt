@@ -1,8 +1,8 @@
-use Rattle.std.proofs.Common.{◌≡◌, ℕ, ◌+◌, ◌<◌, ◌≤◌, drop, sym, ap, ◌∙◌, subst, arith}
+use Rattle.std.proofs.Common.{◌≡◌, ℕ, ◌<◌, ◌≤◌, drop, sym, ap, ◌∙◌, subst, arith}
 use Rattle.kube_objects.specs.InFlight.{requests_due, replies_due}
 use Rattle.history.specs.Steps.{turns}
 use Rattle.script_reader.specs.Lawful.{AreLawfulFrom}
-use Rattle.world_core.specs.States.{AddNothing, AreSilent, IsPlaced, StateStands, at_of, end_of}
+use Rattle.world_core.specs.States.{AreSilent, IsPlaced, StateStands}
 use Rattle.world_core.proofs.Quiet.{lawful-below, placed-skips, quiet-beats, silent-below, world-skips}
 use Rattle.world_core.proofs.state.State.skip_quiet.Goals as goal
 

@@ -1,4 +1,4 @@
-use Rattle.std.proofs.Common.{◌≡◌, ◌<◌, ◌≤◌, sym, ◌∙◌, subst, arith}
+use Rattle.std.proofs.Common.{◌≡◌, ◌≤◌, sym, ◌∙◌, subst, arith}
 use Rattle.history.specs.Steps.{turn}
 use Rattle.world_core.specs.States.{Running}
 use Rattle.world_core.proofs.Moving.{read-at, within-end, within-processes}
