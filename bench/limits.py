@@ -138,7 +138,7 @@ def main():
     given = parser.parse_args()
     program = shlex.split(given.program)
     if program == [PROGRAM] and not os.access(PROGRAM, os.X_OK):
-        parser.error("no built program: run 'cd crates/kube_replay && rt run -- replay' first, or give --program")
+        parser.error("no built program: run 'cd crates/kube_replay && rt run -- replay < ../../examples/one-controller.json' first, or give --program")
     wrong = 0
     print('%-30s %10s %8s  %s' % ('document', 'bytes', 'seconds', 'line'))
     for title, make, most, line, line_over in LIMITS:

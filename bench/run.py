@@ -15,6 +15,7 @@ import hashlib
 import json
 import os
 import shlex
+import subprocess
 import sys
 import tempfile
 import time
@@ -82,20 +83,19 @@ def text_of(value):
 
 def measured(command, word, path):
     """Runs once: seconds, peak memory in MiB, exit status, and a digest of what was written."""
-    with open(path, 'rb') as given, tempfile.TemporaryFile() as written:
+    with open(path, 'rb') as given, tempfile.TemporaryFile() as written, tempfile.NamedTemporaryFile('r') as peak:
         start = time.monotonic()
-        child = os.posix_spawnp(command[0], [*command, word], os.environ, file_actions=[
-            (os.POSIX_SPAWN_DUP2, given.fileno(), 0), (os.POSIX_SPAWN_DUP2, written.fileno(), 1)])
-        _, status, usage = os.wait4(child, 0)
+        status = subprocess.run(['/usr/bin/time', '-q', '-f', '%M', '-o', peak.name, *command, word],
+                                stdin=given, stdout=written).returncode
         seconds = time.monotonic() - start
+        mebibytes = int(peak.read().split()[-1]) / 1024
         written.seek(0)
         digest = hashlib.sha256()
         size = 0
         for piece in iter(lambda: written.read(1 << 20), b''):
             digest.update(piece)
             size += len(piece)
-    per_mebibyte = 1 << 20 if sys.platform == 'darwin' else 1 << 10
-    return seconds, usage.ru_maxrss / per_mebibyte, os.waitstatus_to_exitcode(status), (size, digest.hexdigest())
+    return seconds, mebibytes, status, (size, digest.hexdigest())
 
 
 def best(command, word, path, runs):
@@ -119,7 +119,7 @@ def main():
     program = shlex.split(given.program)
     reference = shlex.split(given.reference) if given.reference else None
     if program == [PROGRAM] and not os.access(PROGRAM, os.X_OK):
-        parser.error("no built program: run 'cd crates/kube_replay && rt run -- replay' first, or give --program")
+        parser.error("no built program: run 'cd crates/kube_replay && rt run -- replay < ../../examples/one-controller.json' first, or give --program")
     wrong = 0
     row = '%-16s %-7s %10s %10s %9s %9s %11s %9s %7s  %s'
     print(row % ('document', 'command', 'bytes in', 'bytes out', 'seconds', 'MiB', 'ref. sec.', 'ref. MiB', 'ratio', 'output'))
