@@ -186,7 +186,8 @@ impl Controller {
             → Turned doc k p h self.new result }
     {
         let started = self.restart(beat);
-        let turn = self.on_timer(beat, delay);
+        let now = self.clock.local(beat);
+        let turn = self.on_timer(beat, now, delay);
         Turn {
             started,
             ended: turn.ended,
@@ -194,10 +195,9 @@ impl Controller {
         }
     }
 
-    /// Whether it is known that its turn does nothing from this beat to before `until`.
-    pub fn is_asleep(&self, beat: Beat) -> bool
-        ensures before { result ≡ true → beat.0 < self.now.until.0 }
-        ensures still { (doc : Doc) (k p : ℕ) (h : List Entry) → ControllerStands doc p h self.now → result ≡ true → k ≤ self.now.clock.end → k < self.now.until.0 → IsStill doc k p h }
+    // Whether it is known that its turn does nothing from this beat to before `until`.
+    fn is_asleep(&self, beat: Beat) -> bool
+        ensures { (doc : Doc) (k p : ℕ) (h : List Entry) → ControllerStands doc p h self.now → result ≡ true → k ≤ self.now.clock.end → k < self.now.until.0 → IsStill doc k p h }
     {
         beat.0 < self.until.0 && self.sleeps(self.below)
     }
@@ -268,24 +268,7 @@ impl Controller {
     }
 
     // The rest of its turn, after the restart.
-    fn on_timer(&mut self, beat: Beat, delay: u64) -> Turn
-        requires within { beat.0 ≤ self.old.clock.end }
-        requires delay { delay ≤ 86400000000000000 }
-        ensures same { SameController self.old self.new }
-        ensures incarnation { self.new.incarnation ≡ self.old.incarnation }
-        ensures stands { (doc : Doc) (k p : ℕ) (h : List Entry) → ControllerStands doc p h self.old → beat.0 ≡ k → delay ≡ restart_delay doc → IsFew h
-            → Timed doc k p h self.new result.ended result.ask }
-    {
-        let now = self.clock.local(beat);
-        if self.sleeps(Local(now.0 + 1)) {
-            self.doze();
-            return quiet();
-        }
-        self.wakes(beat, now, delay)
-    }
-
-    // The rest of its turn, where it doesn't sleep.
-    fn wakes(&mut self, beat: Beat, now: Local, delay: u64) -> Turn
+    fn on_timer(&mut self, beat: Beat, now: Local, delay: u64) -> Turn
         requires within { beat.0 ≤ self.old.clock.end }
         requires now { now.0 ≤ 2 * 10 ^ 18 }
         requires delay { delay ≤ 86400000000000000 }

@@ -475,7 +475,8 @@ impl State {
         ensures stands { (doc : Doc) (k : ℕ) (before : List Deed) (arriving : List Sent) (coming : List Back) (h : List Entry) → Running doc k before arriving coming h self.old deeds.old → IsFew (turn doc k i h)
             → OnOk result (Running doc k before arriving coming (turn doc k i h) self.new deeds.new) }
     {
-        if self.controllers[i].is_asleep(self.beat) {
+        let wakes = self.next_turn(i, Beat(self.beat.0 + 1));
+        if self.beat.0 < wakes.0 {
             return Ok(());
         }
         self.take_turn(i, deeds)
