@@ -243,7 +243,9 @@ impl Controller {
         }
     }
 
-    // Looks for the beat up to which it sleeps, so that its next turns needn't read the clock.
+    // Looks for the beat up to which it sleeps, so that its next turns needn't read the clock. It stays out of line, so that a
+    // controller that sleeps costs two comparisons.
+    #[inline(never)]
     fn doze(&mut self)
         ensures same { SameController self.old self.new }
         ensures incarnation { self.new.incarnation ≡ self.old.incarnation }
