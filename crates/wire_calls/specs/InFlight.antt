@@ -1,5 +1,5 @@
 -- Messages by the beats at which they arrive.
-use Rattle.std.specs.Prelude.{◌≡◌, ℕ, ◌<◌, ◌==◌, cond, List, [], ◌∷◌, ◌++◌, Option, Some, None}
+use Rattle.std.specs.Prelude.{◌≡◌, ℕ, ◌<◌, ◌==◌, Bool, true, false, cond, List, [], ◌∷◌, ◌++◌, Option, Some, None}
 use Rattle.std.specs.BTreeMap.{get}
 use Rattle.std.specs.Ordering.{nat_cmp}
 use Rattle.std.specs.VecDeque.{deque_items}
@@ -22,6 +22,10 @@ in_front flight j = cond (flight.beat.0 == j) (deque_items flight.front) []
 -- what arrives at a beat, the oldest first
 abbrev pub pending : {T : Type 0} → Flight T → ℕ → List T
 pending flight j = in_front flight j ++ queued flight.others j
+
+abbrev pub has_any : {T : Type 0} → List T → Bool
+has_any [] = false
+has_any (x ∷ xs) = true
 
 abbrev pub first_of : {T : Type 0} → List T → Option T
 first_of [] = None

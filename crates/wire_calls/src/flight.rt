@@ -1,6 +1,6 @@
 // Messages in flight one way, by the beats at which they arrive.
 ghost use Rattle.std.specs.Prelude.{◌≡◌, ◌==◌, ◌<◌, ◌∷◌, ◌++◌, [], ℕ, length, cond, OnOk, OnErr, IsSome};
-ghost use Rattle.wire_calls.specs.InFlight.{pending, IsLive, IsLeast, first_of, rest_of};
+ghost use Rattle.wire_calls.specs.InFlight.{pending, IsLive, IsLeast, first_of, has_any, rest_of};
 
 use crate::queues::{Queues, take_first};
 use kube_base::{Beat, NoMemory};
@@ -66,6 +66,16 @@ impl<T: Copy + Drop> Flight<T> {
             return take_first(&mut self.front);
         }
         self.others.take(beat)
+    }
+
+    /// Whether something arrives at a beat.
+    pub(crate) fn has(&self, beat: Beat) -> bool
+        ensures { IsLive self.now → result ≡ has_any (pending self.now beat.0) }
+    {
+        if self.beat.0 == beat.0 {
+            return !self.front.is_empty();
+        }
+        self.others.has(beat)
     }
 
     /// The least beat at which something arrives.

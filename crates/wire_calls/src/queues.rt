@@ -1,7 +1,7 @@
 // Queues of messages by beats.
 ghost use Rattle.std.specs.Prelude.{◌≡◌, ◌==◌, ◌∷◌, ◌++◌, [], ℕ, false, cond, OnOk, OnErr};
 ghost use Rattle.std.specs.VecDeque.{deque_items};
-ghost use Rattle.wire_calls.specs.InFlight.{queued, HasNoEmpty, IsLeast, first_of, rest_of};
+ghost use Rattle.wire_calls.specs.InFlight.{queued, HasNoEmpty, IsLeast, first_of, has_any, rest_of};
 
 use kube_base::{Beat, NoMemory};
 use std::alloc::Global;
@@ -73,7 +73,8 @@ impl<T: Copy + Drop> Queues<T> {
 
     /// Whether a beat has a queue. Where it has none, nothing arrives at it.
     pub(crate) fn has(&self, beat: Beat) -> bool
-        ensures { result ≡ false → queued self.now beat.0 ≡ [] }
+        ensures none { result ≡ false → queued self.now beat.0 ≡ [] }
+        ensures some { HasNoEmpty self.now → result ≡ has_any (queued self.now beat.0) }
     {
         self.beats.contains_key(&beat)
     }

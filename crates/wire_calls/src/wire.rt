@@ -8,7 +8,7 @@ ghost use Rattle.kube_objects.specs.Wire.{request_arrival, reply_arrival, loses_
 ghost use Rattle.kube_objects.specs.declared.object.Object.{Object};
 ghost use Rattle.kube_objects.specs.declared.script.What.TheVariants.{Delay, Loss};
 ghost use Rattle.kube_base.specs.declared.numbers.Version.{Version};
-ghost use Rattle.wire_calls.specs.InFlight.{first_of, rest_of};
+ghost use Rattle.wire_calls.specs.InFlight.{first_of, has_any, rest_of};
 ghost use Rattle.wire_calls.specs.Messages.{sent_as_told};
 ghost use Rattle.wire_calls.specs.WireStands.{WireStands, requests_at, replies_at, arrived_of, delivered_of, NextIs, earlier_of, link_at};
 
@@ -105,6 +105,22 @@ impl Wire {
                 Ok(Sent::InFlight(arrives))
             }
         }
+    }
+
+    /// Whether a request arrives now.
+    pub fn has_request(&self, now: Beat) -> bool
+        ensures { (processes k : ℕ) (arriving : List flights.Sent) (coming : List flights.Back) (h : List Entry) → WireStands processes k arriving coming h self.now → now.0 ≡ k
+            → result ≡ has_any arriving }
+    {
+        self.requests.has(now)
+    }
+
+    /// Whether a reply comes now.
+    pub fn has_reply(&self, now: Beat) -> bool
+        ensures { (processes k : ℕ) (arriving : List flights.Sent) (coming : List flights.Back) (h : List Entry) → WireStands processes k arriving coming h self.now → now.0 ≡ k
+            → result ≡ has_any coming }
+    {
+        self.replies.has(now)
     }
 
     /// Takes out the first sent request that arrives now. None exactly where there is none.

@@ -1,5 +1,6 @@
--- One element of a list is replaced.
-use Rattle.std.proofs.Common.{◌≡◌, ℕ, zero, suc, ◌+◌, List, [], ◌∷◌, ◌++◌, subst, Some, length, slice_get, slice_set, refl, ap, arith}
+-- Lists: one element is replaced, or there is none.
+use Rattle.std.proofs.Common.{◌≡◌, ℕ, zero, suc, ◌+◌, false, List, [], ◌∷◌, ◌++◌, subst, Some, length, slice_get, slice_set, refl, ap, arith}
+use Rattle.wire_calls.specs.InFlight.{has_any}
 
 pub slice_get-set_same : {A : Type 0} (xs : List A) (i : ℕ) (x y : A) → slice_get xs i ≡ Some y → slice_get (slice_set xs i x) i ≡ Some x
 slice_get-set_same [] i x y is = cc
@@ -29,3 +30,7 @@ every-end P (z ∷ zs) x all last (suc i) y is = every-end (λ j. P (suc j)) zs 
 pub length-end : {A : Type 0} (xs : List A) (x : A) → length (xs ++ x ∷ []) ≡ length xs + 1
 length-end [] x = refl
 length-end (z ∷ zs) x = omega (arith, length-end zs x)
+
+pub none-from : {A : Type 0} (xs : List A) → has_any xs ≡ false → xs ≡ []
+none-from [] none = refl
+none-from (x ∷ xs) none = cc

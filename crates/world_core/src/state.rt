@@ -383,8 +383,22 @@ impl State {
     }
 
     // Requests that arrive are answered, and each reply is sent.
-    #[inline(never)]
     fn arrivals(&mut self, deeds: &mut Deeds) -> Result<(), NoMemory>
+        requires ready { IsReady self.old }
+        requires within { at_of self.old ≤ end_of self.old }
+        ensures kept { OnOk result (Keeps self.old self.new) }
+        ensures stands { (doc : Doc) (k : ℕ) (before : List Deed) (arriving : List Sent) (coming : List Back) (h : List Entry) → Running doc k before arriving coming h self.old deeds.old → SentByKnown (processes doc) h arriving
+            → OnOk result (Running doc k before [] coming (answer_all k arriving h) self.new deeds.new) }
+    {
+        if !self.wire.has_request(self.beat) {
+            return Ok(());
+        }
+        self.answer_requests(deeds)
+    }
+
+    // It stays out of line, so that a beat at which nothing arrives makes no room for it.
+    #[inline(never)]
+    fn answer_requests(&mut self, deeds: &mut Deeds) -> Result<(), NoMemory>
         requires ready { IsReady self.old }
         requires within { at_of self.old ≤ end_of self.old }
         ensures kept { OnOk result (Keeps self.old self.new) }
@@ -406,8 +420,22 @@ impl State {
     }
 
     // Replies that arrive are delivered.
-    #[inline(never)]
     fn deliveries(&mut self, deeds: &mut Deeds) -> Result<(), NoMemory>
+        requires ready { IsReady self.old }
+        requires within { at_of self.old ≤ end_of self.old }
+        ensures kept { OnOk result (Keeps self.old self.new) }
+        ensures stands { (doc : Doc) (k : ℕ) (before : List Deed) (arriving : List Sent) (coming : List Back) (h : List Entry) → Running doc k before arriving coming h self.old deeds.old → BackToKnown (processes doc) h coming → IsFew (deliver_all doc k coming h)
+            → OnOk result (Running doc k before arriving [] (deliver_all doc k coming h) self.new deeds.new) }
+    {
+        if !self.wire.has_reply(self.beat) {
+            return Ok(());
+        }
+        self.deliver_replies(deeds)
+    }
+
+    // It stays out of line, as the answering does.
+    #[inline(never)]
+    fn deliver_replies(&mut self, deeds: &mut Deeds) -> Result<(), NoMemory>
         requires ready { IsReady self.old }
         requires within { at_of self.old ≤ end_of self.old }
         ensures kept { OnOk result (Keeps self.old self.new) }

@@ -1,30 +1,13 @@
-use Rattle.std.proofs.Common.{refl, sym, ◌∙◌}
+use Rattle.std.proofs.Common.{◌≡◌, [], sym, ◌∙◌, subst}
 use Rattle.kube_objects.specs.Document.{processes}
-use Rattle.wire_calls.specs.InFlight.{rest_of}
-use Rattle.world_core.proofs.Loops.{same-on, delivering-more, delivering-done, rewired}
+use Rattle.history.specs.Due.{deliver_all}
+use Rattle.world_core.specs.States.{Running}
+use Rattle.world_core.proofs.Lists.{none-from}
 use Rattle.world_core.proofs.state.State.deliveries.Goals as goal
 
-pub coming-preserved : goal.coming-preserved
-coming-preserved c =
-    let kept = c.coming.invariant.kept in
-    let next = c.in_ok-deliver.ensures.kept in
-    record {
-      kept = record { ready = next.ready; same = same-on c.args.self.now c.coming.self _ kept.same (record { beat = next.same.beat; end = next.same.end; restart = next.same.restart; epoch = next.same.epoch; micros = next.same.micros; events = next.same.events; names = next.same.names }); place = next.place ∙ kept.place; count = next.count ∙ kept.count };
-      stands = λ doc k before arriving coming h r known few.
-          let a = c.coming.invariant.stands doc k before arriving coming h r known few in
-          let rest = a.running.world.rest in
-          let at = rest.document.at in
-          let first = c.delivery.ensures.answer (processes doc) k arriving a.left a.now rest.wire at in
-          let wire = c.delivery.ensures.stands (processes doc) k arriving a.left a.now rest.wire at in
-          delivering-more doc k before c.coming.deeds c.deliver.new.deeds arriving coming h c.coming.self c.deliver.new.self c.in-Some.back a (sym first ∙ c.in-Some.is) few
-          (λ b is known_b few_b. c.in_ok-deliver.ensures.stands doc k before arriving (rest_of a.left) a.now b (rewired doc k before c.coming.deeds arriving arriving a.left (rest_of a.left) a.now c.coming.self _ (record { beat = refl; end = refl; restart = refl; epoch = refl; micros = refl; events = refl; names = refl }) refl refl wire a.running) is known_b few_b);
-    }
-
-pub returns-clause-stands : goal.returns-clause-stands
-returns-clause-stands c doc k before arriving coming h r known few =
-    let a = c.coming.invariant.stands doc k before arriving coming h r known few in
-    let rest = a.running.world.rest in
-    let at = rest.document.at in
-    let first = c.delivery.ensures.answer (processes doc) k arriving a.left a.now rest.wire at in
-    delivering-done doc k before c.coming.deeds arriving coming h c.coming.self _ a (sym first ∙ c.in_default.is)
-    (λ run. rewired doc k before c.coming.deeds arriving arriving a.left (rest_of a.left) a.now c.coming.self _ (record { beat = refl; end = refl; restart = refl; epoch = refl; micros = refl; events = refl; names = refl }) refl refl (c.delivery.ensures.stands (processes doc) k arriving a.left a.now rest.wire at) run)
+pub returns-then-not-has_reply-clause-stands : goal.returns-then-not-has_reply-clause-stands
+returns-then-not-has_reply-clause-stands c doc k before arriving coming h r known few =
+    let rest = r.world.rest in
+    let is : coming ≡ [] = none-from coming (sym (c.has_reply.ensures (processes doc) k arriving coming h rest.wire rest.document.at) ∙ c.if-not-has_reply.true) in
+    subst (λ bs. Running doc k before arriving [] (deliver_all doc k bs h) c.args.self.now c.args.deeds.now) (sym is)
+    (subst (λ bs. Running doc k before arriving bs h c.args.self.now c.args.deeds.now) is r)

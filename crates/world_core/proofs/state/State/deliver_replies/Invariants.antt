@@ -8,7 +8,7 @@ use Rattle.wire_calls.specs.WireStands.{replies_at}
 use Rattle.world_core.specs.Plain.{BackToKnown, IsFew}
 use Rattle.world_core.specs.States.{Keeps, Running}
 use Rattle.world_core.proofs.Loops.{Delivering}
-use Rattle.world_core.proofs.state.State.deliveries.Given as goal
+use Rattle.world_core.proofs.state.State.deliver_replies.Given as goal
 
 abbrev pub invariant-coming : goal.invariant-coming
 invariant-coming l =

@@ -7,7 +7,7 @@ use Rattle.wire_calls.specs.WireStands.{requests_at}
 use Rattle.world_core.specs.Plain.{SentByKnown}
 use Rattle.world_core.specs.States.{Keeps, Running}
 use Rattle.world_core.proofs.Loops.{Answering}
-use Rattle.world_core.proofs.state.State.arrivals.Given as goal
+use Rattle.world_core.proofs.state.State.answer_requests.Given as goal
 
 abbrev pub invariant-arriving : goal.invariant-arriving
 invariant-arriving l =
