@@ -23,7 +23,9 @@ fn sends_and_loses(rt: HostRuntime) -> Result<(), Fail> {
     let sent = wire.send(who, 1, ask(1), Beat(5))?;
     assert_eq!(rt; sent, Sent::InFlight(Beat(6)));
     assert_eq!(rt; wire.next(), Some(Beat(6)));
+    assert!(rt; !wire.has_request(Beat(5)));
     assert_eq!(rt; wire.arrival(Beat(5)), None);
+    assert!(rt; wire.has_request(Beat(6)));
     match wire.arrival(Beat(6)) {
         Some(arrived) => {
             assert_eq!(rt; arrived.who, who);
@@ -33,6 +35,7 @@ fn sends_and_loses(rt: HostRuntime) -> Result<(), Fail> {
         }
         None => assert!(rt; false, "it arrives"),
     }
+    assert!(rt; !wire.has_request(Beat(6)));
     assert_eq!(rt; wire.arrival(Beat(6)), None);
     assert!(rt; wire.passes(who));
     wire.set_loss(who, true, false);
@@ -78,7 +81,9 @@ fn replies_and_loses(rt: HostRuntime) -> Result<(), Fail> {
     let sent = wire.reply(&arrived, reply, Beat(1))?;
     assert_eq!(rt; sent, Sent::InFlight(Beat(61)));
     assert_eq!(rt; wire.next(), Some(Beat(61)));
+    assert!(rt; !wire.has_reply(Beat(60)));
     assert_eq!(rt; wire.delivery(Beat(60)), None);
+    assert!(rt; wire.has_reply(Beat(61)));
     match wire.delivery(Beat(61)) {
         Some(delivered) => {
             assert_eq!(rt; delivered.who, who);

@@ -187,12 +187,9 @@ impl Controller {
     {
         let started = self.restart(beat);
         let now = self.clock.local(beat);
-        let turn = self.on_timer(beat, now, delay);
-        Turn {
-            started,
-            ended: turn.ended,
-            ask: turn.ask,
-        }
+        let mut turn = self.on_timer(beat, now, delay);
+        turn.started = started;
+        turn
     }
 
     // Whether it is known that its turn does nothing from this beat to before `until`.

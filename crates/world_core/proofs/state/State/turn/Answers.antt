@@ -1,4 +1,4 @@
-use Rattle.std.proofs.Common.{◌≡◌, ◌<◌, sym, ap, ◌∙◌, subst, arith}
+use Rattle.std.proofs.Common.{◌≡◌, sym, ap, ◌∙◌, subst, arith}
 use Rattle.history.specs.Steps.{turn}
 use Rattle.world_core.specs.States.{Running}
 use Rattle.world_core.proofs.Loops.{keeps-on}
