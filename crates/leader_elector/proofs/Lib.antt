@@ -2,5 +2,6 @@ pub mod Own
 pub mod Expiry
 pub mod Attempts
 pub mod Replies
+pub mod Tries
 pub mod Frames
 pub mod Wakes

@@ -11,13 +11,16 @@ use Rattle.kube_objects.specs.Entry.{Entry, Identity, Call, CallKind, Deed, Star
 use Rattle.kube_objects.specs.Process.{begun, call_in}
 use Rattle.kube_objects.specs.Turns.{react, expire_call, end_term, try}
 use Rattle.kube_objects.specs.Wire.{next_call, send}
+use Rattle.leader_elector.specs.declared.candidate.Candidate.{Candidate}
 use Rattle.leader_elector.specs.declared.candidate.CandidateNext.{CandidateNext}
 use Rattle.leader_elector.specs.declared.candidate.CandidateNext.TheVariants as candidate
+use Rattle.leader_elector.specs.declared.candidate.Heard.{Heard}
+use Rattle.leader_elector.specs.declared.candidate.Heard.TheVariants as heard
 use Rattle.leader_elector.specs.declared.elector.Elector.{Elector}
 use Rattle.leader_elector.specs.declared.follow.Follow as code
 use Rattle.leader_elector.specs.declared.leading.LeadingNext.{LeadingNext}
 use Rattle.leader_elector.specs.declared.leading.LeadingNext.TheVariants as leading
-use Rattle.leader_elector.specs.Stands.{CandidateStands, ElectorStands, LeadingStands, ended_identity, follow_of}
+use Rattle.leader_elector.specs.Stands.{CandidateStands, ElectorStands, IsChosen, LeadingStands, ended_identity, follow_of}
 
 -- next is h with the request sent, whose arrival the state doesn't look at
 pub record Asked (k step : ℕ) (q : Identity) (h next : List Entry) (Stands : List Entry → Type 0) (ask : Ask) : Type 0 where
@@ -39,6 +42,11 @@ abbrev pub CandidateTurns : Doc → ℕ → Identity → List Entry → Candidat
 CandidateTurns doc k q h (candidate.Stay c) = (try doc k q h ≡ h) × CandidateStands doc q h c
 CandidateTurns doc k q h (candidate.Ask c ask) = Asked k 4 q h (try doc k q h) (λ x. CandidateStands doc q x c) ask
 CandidateTurns doc k q h (candidate.Lead l) = ⊥
+
+-- what a candidate does, by what it asks in its turn
+abbrev pub after_turn : Candidate → Option Ask → CandidateNext
+after_turn c None = candidate.Stay c
+after_turn c (Some ask) = candidate.Ask c ask
 
 -- a leader's turn; h is the history after the expiry
 abbrev pub LeadingTurns : Doc → ℕ → Identity → List Entry → LeadingNext → Type 0
@@ -71,6 +79,12 @@ abbrev pub CandidateReplies : Doc → ℕ → Identity → List Entry → List E
 CandidateReplies doc k q h next (candidate.Stay c) = (next ≡ h) × CandidateStands doc q h c
 CandidateReplies doc k q h next (candidate.Ask c ask) = Asked k 3 q h next (λ x. CandidateStands doc q x c) ask
 CandidateReplies doc k q h next (candidate.Lead l) = (version : Version) × (next ≡ entry k 3 q (Leads version) ∷ h) × LeadingStands doc q next l
+
+-- the same, where the candidate is to become a leader
+abbrev pub CandidateHears : Doc → ℕ → Identity → List Entry → List Entry → Candidate → Heard → Type 0
+CandidateHears doc k q h next c heard.Stays = (next ≡ h) × CandidateStands doc q h c
+CandidateHears doc k q h next c (heard.Asks ask) = Asked k 3 q h next (λ x. CandidateStands doc q x c) ask
+CandidateHears doc k q h next c heard.Leads = (version : Version) × (next ≡ entry k 3 q (Leads version) ∷ h) × IsChosen doc q h c
 
 abbrev pub LeadingReplies : Doc → ℕ → Identity → List Entry → List Entry → LeadingNext → Type 0
 LeadingReplies doc k q h next (leading.Stay l) = (next ≡ h) × LeadingStands doc q h l

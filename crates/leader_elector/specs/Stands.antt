@@ -82,6 +82,10 @@ pub record CandidateStands (doc : Doc) (q : Identity) (h : List Entry) (c : Cand
   pub settled : IsSettled q h
   pub leads : leads q h ≡ false
 
+-- a candidate that a reply has made the holder, and that is to lead
+abbrev pub IsChosen : Doc → Identity → List Entry → Candidate → Type 0
+IsChosen doc q h c = ElectorStands doc q h c.elector
+
 pub record LeadingStands (doc : Doc) (q : Identity) (h : List Entry) (l : Leading) : Type 0 where
   pub elector : ElectorStands doc q h l.elector
   pub settled : IsSettled q h

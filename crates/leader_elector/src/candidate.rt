@@ -1,12 +1,14 @@
 // A candidate asks for the election Lease until it leads.
 ghost use Rattle.std.specs.Prelude.{◌≡◌, ◌≤◌, ◌<◌, ◌+◌, ◌^◌, ℕ, nat_lt, true, false, List, ◌∷◌, Some, None};
+ghost use Rattle.kube_base.specs.declared.numbers.Version.{Version};
 ghost use Rattle.kube_objects.specs.Clocks.{local, wall as wall_at};
 ghost use Rattle.kube_objects.specs.Document.{Doc};
 ghost use Rattle.kube_objects.specs.Elector.{timer};
-ghost use Rattle.kube_objects.specs.Entry.{Call, Delivers, Entry, Identity, Starts, entry};
+ghost use Rattle.kube_objects.specs.Entry.{Call, Delivers, Entry, Identity, Leads, Starts, entry};
 ghost use Rattle.kube_objects.specs.Process.{alive, begun, call_in, counted};
-ghost use Rattle.leader_elector.specs.Moves.{CandidateReplies, CandidateStays, CandidateTurns, IsLeast, becomes_leader, candidate_turn, delivered, expired, reacted, wake_from};
-ghost use Rattle.leader_elector.specs.Stands.{CandidateStands, IsNew, IsTimingOf};
+ghost use Rattle.leader_elector.specs.declared.candidate.Heard.TheVariants as heard;
+ghost use Rattle.leader_elector.specs.Moves.{CandidateHears, CandidateReplies, CandidateStays, CandidateTurns, IsLeast, after_turn, becomes_leader, candidate_turn, delivered, expired, reacted, wake_from};
+ghost use Rattle.leader_elector.specs.Stands.{CandidateStands, IsChosen, IsNew, IsTimingOf, LeadingStands};
 
 use crate::elector::Elector;
 use crate::follow::Follow;
@@ -26,6 +28,14 @@ pub enum CandidateNext {
     Stay(Candidate),
     Ask(Candidate, Ask),
     Lead(Leading),
+}
+
+/// What a reply makes a candidate do: nothing, a request, or it is to lead.
+#[derive(Clone, Copy, Debug)]
+pub enum Heard {
+    Stays,
+    Asks(Ask),
+    Leads,
 }
 
 impl Candidate {
@@ -50,11 +60,22 @@ impl Candidate {
             → wall.0 ≡ wall_at doc q.process k → begun q h + 1 < 2 ^ 64
             → CandidateTurns doc k q (expired doc k q h) result }
     {
-        let expired = self.elector.expire(now);
-        match self.elector.attempt(expired, false, now, wall) {
+        match self.turn(now, wall) {
             Some(ask) => CandidateNext::Ask(self, ask),
             None => CandidateNext::Stay(self),
         }
+    }
+
+    /// As `on_timer`, in place: what it asks, if anything.
+    pub fn turn(&mut self, now: Local, wall: Wall) -> Option<Ask>
+        requires now { now.0 ≤ 2000000000000000000 }
+        ensures { (doc : Doc) (q : Identity) (h : List Entry) (k : ℕ)
+            → CandidateStands doc q h self.old → now.0 ≡ local doc q.process k
+            → wall.0 ≡ wall_at doc q.process k → begun q h + 1 < 2 ^ 64
+            → CandidateTurns doc k q (expired doc k q h) (after_turn self.new result) }
+    {
+        let expired = self.elector.expire(now);
+        self.elector.attempt(expired, false, now, wall)
     }
 
     /// A reply. Only one to the call that waits, with its number and within its timeout, counts.
@@ -71,17 +92,45 @@ impl Candidate {
             → counted doc q k number h ≡ Some call
             → CandidateReplies doc k q (delivered k q call reply h) (reacted doc k q call reply h) result }
     {
-        let Some(follow) = self.elector.receive(false, number, &reply, now, wall) else {
-            return CandidateNext::Stay(self);
+        match self.hear(number, &reply, now, wall) {
+            Heard::Stays => CandidateNext::Stay(self),
+            Heard::Asks(ask) => CandidateNext::Ask(self, ask),
+            Heard::Leads => CandidateNext::Lead(self.lead(now)),
+        }
+    }
+
+    /// As `on_reply`, in place. Where it is to lead, `lead` makes it a leader at the same reading.
+    pub fn hear(&mut self, number: u64, reply: &Reply, now: Local, wall: Wall) -> Heard
+        requires now { now.0 ≤ 2000000000000000000 }
+        ensures uncounted { (doc : Doc) (q : Identity) (h : List Entry) (k : ℕ)
+            → CandidateStands doc q h self.old → now.0 ≡ local doc q.process k
+            → alive q.process h ≡ Some q.incarnation
+            → counted doc q k number h ≡ None → (call : Call)
+            → (result ≡ heard.Stays) × CandidateStands doc q (entry k 3 q (Delivers call reply.now false) ∷ h) self.new }
+        ensures counts { (doc : Doc) (q : Identity) (h : List Entry) (k : ℕ) (call : Call)
+            → CandidateStands doc q h self.old → now.0 ≡ local doc q.process k
+            → wall.0 ≡ wall_at doc q.process k → begun q h + 1 < 2 ^ 64
+            → counted doc q k number h ≡ Some call
+            → CandidateHears doc k q (delivered k q call reply.now h) (reacted doc k q call reply.now h) self.new result }
+    {
+        let Some(follow) = self.elector.receive(false, number, reply, now, wall) else {
+            return Heard::Stays;
         };
         match follow {
-            Follow::Fails => CandidateNext::Stay(self),
-            Follow::Asks(request) => {
-                let ask = self.elector.ask(request, false, now);
-                CandidateNext::Ask(self, ask)
-            }
-            Follow::Succeeds(_) => CandidateNext::Lead(Leading::new(self.elector, now)),
+            Follow::Fails => Heard::Stays,
+            Follow::Asks(request) => Heard::Asks(self.elector.ask(request, false, now)),
+            Follow::Succeeds(_) => Heard::Leads,
         }
+    }
+
+    /// Leads from this reading on, which is that of the reply by which it is to lead.
+    pub fn lead(self, now: Local) -> Leading
+        requires now { now.0 ≤ 2000000000000000000 }
+        ensures { (doc : Doc) (q : Identity) (h : List Entry) (k step : ℕ) (version : Version)
+            → IsChosen doc q h self → now.0 ≡ local doc q.process k
+            → LeadingStands doc q (entry k step q (Leads version) ∷ h) result }
+    {
+        Leading::new(self.elector, now)
     }
 
     /// The least reading at which `on_timer` does anything: that at which the call that waits has expired, or else the timer.

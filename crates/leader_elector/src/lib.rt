@@ -12,7 +12,7 @@ mod timing;
 mod waiting;
 
 pub use acting::Acting;
-pub use candidate::{Candidate, CandidateNext};
+pub use candidate::{Candidate, CandidateNext, Heard};
 pub use ended::{Ended, Released};
 pub use leading::{Leading, LeadingNext};
 pub use timing::Timing;

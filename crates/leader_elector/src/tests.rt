@@ -212,6 +212,21 @@ fn renews_every_two_seconds(rt: HostRuntime) {
 }
 
 #[test]
+fn leads_in_place(rt: HostRuntime) {
+    let mut candidate = Candidate::start(ProcId(0), 1, TIMING, at(0));
+    assert_eq!(rt; asks(candidate.turn(at(0), wall(0))), Does::Asks(1, GET));
+    assert_eq!(rt; asks(candidate.turn(at(1), wall(1))), Does::Stays);
+    let Heard::Asks(ask) = candidate.hear(1, &Reply::Absent, at(2), wall(2)) else {
+        panic!(rt; "a create is expected");
+    };
+    assert_eq!(rt; asks(Some(ask)), create(2, lease(0, 2, 2, 0)));
+    let done = Reply::Done(Version(1));
+    assert!(rt; matches!(candidate.hear(1, &done, at(3), wall(3)), Heard::Stays));
+    assert!(rt; matches!(candidate.hear(2, &done, at(4), wall(4)), Heard::Leads));
+    assert_eq!(rt; candidate.lead(at(4)).deadline(), at(104));
+}
+
+#[test]
 fn finds_itself_as_the_holder(rt: HostRuntime) {
     // the accepted update's reply is lost
     let old = Lease {

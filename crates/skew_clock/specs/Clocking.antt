@@ -30,9 +30,13 @@ abbrev pub moved : ℤ → ℕ → ℕ
 moved (pos micros) at = at + micros
 moved (negsuc micros) at = at - (micros + 1)
 
+-- the time of day when the clock shows a reading, in microseconds
+abbrev pub wall_when : Clocking → ℕ → ℕ
+wall_when c shown = moved c.offset (c.epoch + shown / 1000000)
+
 -- the time of day at a beat, in microseconds
 abbrev pub wall_of : Clocking → ℕ → ℕ
-wall_of c k = moved c.offset (c.epoch + reading c k / 1000000)
+wall_of c k = wall_when c (reading c k)
 
 -- k is the first beat, up to the end, at which the clock shows at least this
 pub record IsFirst (shows : ℕ → ℕ) (end at k : ℕ) : Type 0 where

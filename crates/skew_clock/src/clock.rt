@@ -1,6 +1,6 @@
 // A clock whose rate changes at beats.
 ghost use Rattle.std.specs.Prelude.{◌≡◌, ℕ, pos, ◌+ℤ◌, ◌+◌, ◌*◌, ◌/◌, ◌^◌, ◌<◌, ◌≤◌, [], ◌∷◌, IfOk, IfSome, IfNone, OnOk, OnErr};
-ghost use Rattle.skew_clock.specs.Clocking.{rate_at, last_set, reading, wall_of, IsFirst, IsRate, IsEpoch, IsOffset, IsSpan};
+ghost use Rattle.skew_clock.specs.Clocking.{rate_at, last_set, reading, wall_of, wall_when, IsFirst, IsRate, IsEpoch, IsOffset, IsSpan};
 
 use kube_base::{Beat, Local, NoMemory, Wall};
 use std::alloc::Global;
@@ -110,7 +110,17 @@ impl Clock {
         ensures exact { pos result.0 ≡ pos (self.now.epoch + reading self.now beat.0 / 1000000) +ℤ self.now.offset }
         ensures range { result.0 ≤ 10 ^ 16 }
     {
-        let micros = self.local(beat).0 / UNITS_PER_MICRO;
+        self.wall_at(self.local(beat))
+    }
+
+    /// The time of day when the clock reads this, in microseconds.
+    pub fn wall_at(&self, reading: Local) -> Wall
+        requires { reading.0 ≤ 2 * 10 ^ 18 }
+        ensures value { result.0 ≡ wall_when self.now reading.0 }
+        ensures exact { pos result.0 ≡ pos (self.now.epoch + reading.0 / 1000000) +ℤ self.now.offset }
+        ensures range { result.0 ≤ 10 ^ 16 }
+    {
+        let micros = reading.0 / UNITS_PER_MICRO;
         Wall((self.epoch.0 + micros).saturating_add_signed(self.offset_micros))
     }
 

@@ -23,7 +23,7 @@ use Rattle.history.specs.Steps.{deliver_as, react_as, delivered}
 use Rattle.leader_elector.specs.Moves.{Asked, delivered as with_reply, reacted}
 use Rattle.world_core.specs.declared.controller.Controller.{Controller}
 use Rattle.world_core.specs.declared.controller.Role.{Role}
-use Rattle.world_core.specs.Controllers.{RoleStands, ControllerStands, Replied}
+use Rattle.world_core.specs.Controllers.{RoleStands, ControllerStands, IsLed, Replied}
 use Rattle.world_core.specs.Plain.{AreQuiet, with_deeds}
 use Rattle.world_core.proofs.Names.{eq-isnt}
 use Rattle.kube_base.specs.declared.numbers.Local.{Local}
@@ -277,3 +277,8 @@ pub replied-down : (doc : Doc) (k p : ℕ) (b : Back) (n : ℕ) (reply : Reply) 
 replied-down doc k p b n reply h c at s is back =
     let down = role-at doc p h c (role.Down at) s is in
     replied-uncounted doc k p c.incarnation b n reply h c (role.Down at) s back (absent-uncounted doc k (identity p c.incarnation) n h (down-absent p c.incarnation h down.0)) down
+
+pub led-role : (doc : Doc) (p i : ℕ) (r : Role) → Makes doc p i (λ g. IsLed doc (identity p i) g r) r
+led-role doc p i (role.Down at) g up led = absurd led
+led-role doc p i (role.Candidate x) g up led = absurd led
+led-role doc p i (role.Leading x) g up led = (up, led)

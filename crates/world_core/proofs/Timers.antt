@@ -16,7 +16,7 @@ use Rattle.history.specs.Printed.{printed, deeds_of}
 use Rattle.history.specs.Steps.{finish, attempts}
 use Rattle.leader_elector.specs.declared.candidate.Candidate.{Candidate}
 use Rattle.leader_elector.specs.declared.leading.Leading.{Leading}
-use Rattle.leader_elector.specs.Moves.{Asked, expired, tested}
+use Rattle.leader_elector.specs.Moves.{Asked, CandidateTurns, after_turn, expired, tested}
 use Rattle.leader_elector.specs.Stands.{CandidateStands, LeadingStands}
 use Rattle.world_core.specs.declared.controller.Controller.{Controller}
 use Rattle.world_core.specs.declared.controller.Role.{Role}
@@ -134,3 +134,9 @@ leading-ends doc k p h c at s up goes at_is =
     let restarts : Some at.0 ≡ restart_reading doc p (ended p g) = ap (λ (n : ℕ). Some n) at_is ∙ ap (restart_reading doc p) (sym (ended-end k 4 q e)) in
     timed-from doc k p h g (record c { role = role.Down (Some at) }) true None (up-settled doc k p c.incarnation h up ∙ goes) (ap (λ ds. ds ++ deeds_of k (actor_of q) (Some act.End)) (printed-expired doc k q h))
     (attempts-down doc k p g down, stands-role doc p h g c (role.Down (Some at)) s (starts-expired doc k p q h) (down, restarts))
+
+-- whatever a candidate's turn asks
+pub candidate-turned : (doc : Doc) (k p : ℕ) (h : List Entry) (c : Controller) (x : Candidate) (ask : Option Ask) → ControllerStands doc p h c → alive p h ≡ Some c.incarnation →
+    CandidateTurns doc k (identity p c.incarnation) (expired doc k (identity p c.incarnation) h) (after_turn x ask) → Timed doc k p h (record c { role = role.Candidate x }) false ask
+candidate-turned doc k p h c x None s up t = candidate-stays doc k p h c x s up t.0 t.1
+candidate-turned doc k p h c x (Some ask) s up t = candidate-asks doc k p h c x ask s up t

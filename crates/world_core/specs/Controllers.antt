@@ -89,6 +89,12 @@ pub record SameController (old new : Controller) : Type 0 where
   pub clock : new.clock ≡ old.clock
   pub up_first : new.up_first ≡ old.up_first
 
+-- the role is that of a leader
+abbrev pub IsLed : Doc → Identity → List Entry → Role → Type 0
+IsLed doc q h (Down at) = ⊥
+IsLed doc q h (Candidate c) = ⊥
+IsLed doc q h (Leading l) = LeadingStands doc q h l
+
 -- next is the history with what is asked; h is that before
 abbrev pub AsksOn : Doc → ℕ → ℕ → ℕ → List Entry → List Entry → Controller → Option Ask → Type 0
 AsksOn doc k step p h next c None = (next ≡ h) × ControllerStands doc p h c

@@ -1,25 +1,29 @@
 // A controller of the world: its clock and its part in the election.
-ghost use Rattle.std.specs.Prelude.{◌≡◌, ◌*◌, ◌*ℤ◌, ◌≤ℤ◌, pos, negsuc, ◌+◌, ◌<◌, ◌≤◌, ◌^◌, ℕ, true, false, List, [], Some, None, IfOk, OnOk};
+ghost use Rattle.std.specs.Prelude.{◌≡◌, ◌*◌, ◌*ℤ◌, ◌≤ℤ◌, pos, negsuc, ◌+◌, ◌<◌, ◌≤◌, ◌^◌, ◌∷◌, ℕ, true, false, List, [], Some, None, IfOk, OnOk};
 ghost use Rattle.kube_base.specs.declared.numbers.ProcId.{ProcId};
 ghost use Rattle.kube_base.specs.declared.numbers.Version.{Version};
 ghost use Rattle.kube_objects.specs.declared.call.Reply.TheVariants as Reply;
 ghost use Rattle.kube_objects.specs.declared.script.What.TheVariants as what;
-ghost use Rattle.kube_objects.specs.Clocks.{local, rate_of as ppm_of, last_rate};
+ghost use Rattle.kube_objects.specs.Clocks.{local, wall as wall_in, rate_of as ppm_of, last_rate};
 ghost use Rattle.kube_objects.specs.Document.{Doc, is_controller, of_millis, process_at, restart_delay};
-ghost use Rattle.kube_objects.specs.Entry.{Entry};
+ghost use Rattle.kube_objects.specs.Entry.{Entry, Identity, Leads, entry};
 ghost use Rattle.kube_objects.specs.Identities.{identity};
 ghost use Rattle.kube_objects.specs.Newest.{or_else};
 ghost use Rattle.kube_objects.specs.Process.{starts};
 ghost use Rattle.kube_objects.specs.Wire.{Back};
 ghost use Rattle.history.specs.Steps.{happens, start, restart};
+ghost use Rattle.leader_elector.specs.declared.candidate.Candidate.{Candidate};
+ghost use Rattle.leader_elector.specs.declared.leading.Leading.{Leading};
+ghost use Rattle.leader_elector.specs.Stands.{IsChosen};
 ghost use Rattle.script_reader.specs.Lawful.{AreLawful, IsLawful};
 ghost use Rattle.skew_clock.specs.Clocking.{rate_at, last_set, reading};
-ghost use Rattle.world_core.specs.Controllers.{AreEventsFrom, ControllerStands, SameController, Crashed, Begun, StoppedAs, Restarted, Timed, Turned, Replied, SameSpan, IsStill, is_up_as, waiting_of};
+ghost use Rattle.world_core.specs.declared.controller.Role.TheVariants as role;
+ghost use Rattle.world_core.specs.Controllers.{AreEventsFrom, ControllerStands, SameController, Crashed, Begun, StoppedAs, Restarted, Timed, Turned, Replied, IsLed, SameSpan, IsStill, is_up_as, waiting_of};
 ghost use Rattle.world_core.specs.Plain.{IsPlain, IsFew};
 
-use kube_base::{Beat, Local, NoMemory, ProcId, Version};
+use kube_base::{Beat, Local, NoMemory, ProcId, Version, Wall};
 use kube_objects::{Ask, Event, Proc, Reply, Settings, What};
-use leader_elector::{Candidate, CandidateNext, Leading, LeadingNext, Timing};
+use leader_elector::{Candidate, Heard, Leading, LeadingNext, Timing};
 use skew_clock::Clock;
 use std::alloc::Global;
 use std::mem;
@@ -187,7 +191,7 @@ impl Controller {
     {
         let started = self.restart(beat);
         let now = self.clock.local(beat);
-        let mut turn = self.on_timer(beat, now, delay);
+        let mut turn = self.on_timer(now, delay);
         turn.started = started;
         turn
     }
@@ -267,95 +271,111 @@ impl Controller {
     }
 
     // The rest of its turn, after the restart.
-    fn on_timer(&mut self, beat: Beat, now: Local, delay: u64) -> Turn
-        requires within { beat.0 ≤ self.old.clock.end }
+    fn on_timer(&mut self, now: Local, delay: u64) -> Turn
         requires now { now.0 ≤ 2 * 10 ^ 18 }
         requires delay { delay ≤ 86400000000000000 }
         ensures same { SameController self.old self.new }
         ensures incarnation { self.new.incarnation ≡ self.old.incarnation }
-        ensures stands { (doc : Doc) (k p : ℕ) (h : List Entry) → ControllerStands doc p h self.old → beat.0 ≡ k → now.0 ≡ local doc p k → delay ≡ restart_delay doc → IsFew h
+        ensures stands { (doc : Doc) (k p : ℕ) (h : List Entry) → ControllerStands doc p h self.old → now.0 ≡ local doc p k → delay ≡ restart_delay doc → IsFew h
             → Timed doc k p h self.new result.ended result.ask }
     {
-        let wall = self.clock.wall(beat);
-        match mem::replace(&mut self.role, Role::Down(None)) {
-            Role::Down(at) => {
-                self.role = Role::Down(at);
-                quiet()
+        let wall = self.clock.wall_at(now);
+        match &mut self.role {
+            Role::Down(_) => asking(None),
+            Role::Candidate(candidate) => asking(candidate.turn(now, wall)),
+            Role::Leading(_) => self.lead_on(now, wall, delay),
+        }
+    }
+
+    // The same for a leader.
+    fn lead_on(&mut self, now: Local, wall: Wall, delay: u64) -> Turn
+        requires now { now.0 ≤ 2 * 10 ^ 18 }
+        requires delay { delay ≤ 86400000000000000 }
+        ensures same { SameController self.old self.new }
+        ensures incarnation { self.new.incarnation ≡ self.old.incarnation }
+        ensures stands { (doc : Doc) (k p : ℕ) (h : List Entry) (l : Leading) → ControllerStands doc p h self.old → self.old.role ≡ role.Leading l → now.0 ≡ local doc p k → wall.0 ≡ wall_in doc p k → delay ≡ restart_delay doc → IsFew h
+            → Timed doc k p h self.new result.ended result.ask }
+    {
+        let Role::Leading(leading) = mem::replace(&mut self.role, Role::Down(None)) else {
+            return asking(None);
+        };
+        match leading.on_timer(now, wall) {
+            LeadingNext::Stay(leading) => {
+                self.role = Role::Leading(leading);
+                asking(None)
             }
-            Role::Candidate(candidate) => match candidate.on_timer(now, wall) {
-                CandidateNext::Stay(candidate) => {
-                    self.role = Role::Candidate(candidate);
-                    quiet()
-                }
-                CandidateNext::Ask(candidate, ask) => {
-                    self.role = Role::Candidate(candidate);
-                    asking(ask)
-                }
-                CandidateNext::Lead(leading) => {
-                    self.role = Role::Leading(leading);
-                    quiet()
-                }
-            },
-            Role::Leading(leading) => match leading.on_timer(now, wall) {
-                LeadingNext::Stay(leading) => {
-                    self.role = Role::Leading(leading);
-                    quiet()
-                }
-                LeadingNext::Ask(leading, ask) => {
-                    self.role = Role::Leading(leading);
-                    asking(ask)
-                }
-                LeadingNext::End(_) => {
-                    self.role = Role::Down(Some(Local(now.0 + delay)));
-                    ending()
-                }
-            },
+            LeadingNext::Ask(leading, ask) => {
+                self.role = Role::Leading(leading);
+                asking(Some(ask))
+            }
+            LeadingNext::End(_) => {
+                self.role = Role::Down(Some(Local(now.0 + delay)));
+                ending()
+            }
         }
     }
 
     /// A reply that comes to an incarnation of the controller.
-    pub fn receive(&mut self, incarnation: u32, number: u64, reply: Reply, beat: Beat) -> Received
+    pub fn receive(&mut self, incarnation: u32, number: u64, reply: &Reply, beat: Beat) -> Received
         requires { beat.0 ≤ self.old.clock.end }
         ensures same { SameController self.old self.new }
         ensures incarnation { self.new.incarnation ≡ self.old.incarnation }
-        ensures stands { (doc : Doc) (k p : ℕ) (b : Back) (h : List Entry) → ControllerStands doc p h self.old → beat.0 ≡ k → b.who ≡ identity p incarnation → b.call.number ≡ number → b.reply ≡ reply
+        ensures stands { (doc : Doc) (k p : ℕ) (b : Back) (h : List Entry) → ControllerStands doc p h self.old → beat.0 ≡ k → b.who ≡ identity p incarnation → b.call.number ≡ number → b.reply ≡ reply.now
             → is_controller doc p ≡ true → IsFew h → Replied doc k p b h self.new result }
     {
         if incarnation != self.incarnation {
             return stays();
         }
         let now = self.clock.local(beat);
-        let wall = self.clock.wall(beat);
-        match mem::replace(&mut self.role, Role::Down(None)) {
-            Role::Down(at) => {
-                self.role = Role::Down(at);
-                stays()
-            }
-            Role::Candidate(candidate) => match candidate.on_reply(number, reply, now, wall) {
-                CandidateNext::Stay(candidate) => {
-                    self.role = Role::Candidate(candidate);
-                    stays()
-                }
-                CandidateNext::Ask(candidate, ask) => {
-                    self.role = Role::Candidate(candidate);
-                    asks(ask)
-                }
-                CandidateNext::Lead(leading) => {
-                    self.role = Role::Leading(leading);
+        let wall = self.clock.wall_at(now);
+        match &mut self.role {
+            Role::Down(_) => stays(),
+            Role::Candidate(candidate) => match candidate.hear(number, reply, now, wall) {
+                Heard::Stays => stays(),
+                Heard::Asks(ask) => asks(ask),
+                Heard::Leads => {
+                    self.lead(now);
                     leads(reply)
                 }
             },
-            Role::Leading(leading) => match leading.on_reply(number, reply, now, wall) {
-                LeadingNext::Stay(leading) => {
-                    self.role = Role::Leading(leading);
-                    stays()
-                }
-                LeadingNext::Ask(leading, ask) => {
-                    self.role = Role::Leading(leading);
-                    asks(ask)
-                }
-                LeadingNext::End(_) => stays(),
-            },
+            Role::Leading(_) => self.hear(number, *reply, now, wall),
+        }
+    }
+
+    // A candidate that is to lead leads from this reading on.
+    fn lead(&mut self, now: Local)
+        requires { now.0 ≤ 2 * 10 ^ 18 }
+        ensures same { self.new ≡ record self.old { role = self.new.role } }
+        ensures leads { (doc : Doc) (q : Identity) (h : List Entry) (k : ℕ) (version : Version) (c : Candidate) → self.old.role ≡ role.Candidate c → IsChosen doc q h c → now.0 ≡ local doc q.process k
+            → IsLed doc q (entry k 3 q (Leads version) ∷ h) self.new.role }
+    {
+        let Role::Candidate(candidate) = mem::replace(&mut self.role, Role::Down(None)) else {
+            return;
+        };
+        self.role = Role::Leading(candidate.lead(now));
+    }
+
+    // A reply that comes to a leader.
+    fn hear(&mut self, number: u64, reply: Reply, now: Local, wall: Wall) -> Received
+        requires { now.0 ≤ 2 * 10 ^ 18 }
+        ensures same { SameController self.old self.new }
+        ensures incarnation { self.new.incarnation ≡ self.old.incarnation }
+        ensures stands { (doc : Doc) (k p : ℕ) (b : Back) (h : List Entry) (l : Leading) → ControllerStands doc p h self.old → self.old.role ≡ role.Leading l → now.0 ≡ local doc p k → wall.0 ≡ wall_in doc p k → b.who ≡ identity p self.old.incarnation
+            → b.call.number ≡ number → b.reply ≡ reply → is_controller doc p ≡ true → IsFew h → Replied doc k p b h self.new result }
+    {
+        let Role::Leading(leading) = mem::replace(&mut self.role, Role::Down(None)) else {
+            return stays();
+        };
+        match leading.on_reply(number, reply, now, wall) {
+            LeadingNext::Stay(leading) => {
+                self.role = Role::Leading(leading);
+                stays()
+            }
+            LeadingNext::Ask(leading, ask) => {
+                self.role = Role::Leading(leading);
+                asks(ask)
+            }
+            LeadingNext::End(_) => stays(),
         }
     }
 }
@@ -428,23 +448,13 @@ fn stopping(stopped: bool, ask: Option<Ask>) -> Stopped
     Stopped { stopped, ask }
 }
 
-fn quiet() -> Turn
-    ensures { result ≡ record { started = false; ended = false; ask = None } }
+fn asking(ask: Option<Ask>) -> Turn
+    ensures { result ≡ record { started = false; ended = false; ask = ask } }
 {
     Turn {
         started: false,
         ended: false,
-        ask: None,
-    }
-}
-
-fn asking(ask: Ask) -> Turn
-    ensures { result ≡ record { started = false; ended = false; ask = Some ask } }
-{
-    Turn {
-        started: false,
-        ended: false,
-        ask: Some(ask),
+        ask,
     }
 }
 
@@ -477,9 +487,9 @@ fn asks(ask: Ask) -> Received
     }
 }
 
-fn leads(reply: Reply) -> Received
+fn leads(reply: &Reply) -> Received
     ensures none { result.ask ≡ None }
-    ensures lead { (version : Version) → reply ≡ Reply.Done version → result.lead ≡ Some version }
+    ensures lead { (version : Version) → reply.now ≡ Reply.Done version → result.lead ≡ Some version }
 {
     Received {
         lead: done(reply),
@@ -487,10 +497,10 @@ fn leads(reply: Reply) -> Received
     }
 }
 
-fn done(reply: Reply) -> Option<Version>
-    ensures { (version : Version) → reply ≡ Reply.Done version → result ≡ Some version }
+fn done(reply: &Reply) -> Option<Version>
+    ensures { (version : Version) → reply.now ≡ Reply.Done version → result ≡ Some version }
 {
-    match reply {
+    match *reply {
         Reply::Done(version) => Some(version),
         _ => None,
     }

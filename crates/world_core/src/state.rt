@@ -462,7 +462,7 @@ impl State {
             return Ok(());
         }
         let controller = &mut self.controllers[i];
-        let received = controller.receive(back.incarnation, back.number, back.reply, self.beat);
+        let received = controller.receive(back.incarnation, back.number, &back.reply, self.beat);
         let who = controller.me;
         let incarnation = controller.incarnation;
         tell(

@@ -38,6 +38,11 @@ fn rounds_down_behind_the_epoch(rt: HostRuntime) -> Result<(), Fail> {
     assert_eq!(rt; clock.wall(Beat(0)), Wall(1_704_063_600_000_000));
     assert_eq!(rt; clock.wall(Beat(1)), Wall(1_704_063_600_000_500));
     assert_eq!(rt; clock.wall(Beat(1_000)), Wall(1_704_063_600_500_001));
+    assert_eq!(rt; clock.wall_at(Local(999_999)), Wall(1_704_063_600_000_000));
+    assert_eq!(rt;
+        clock.wall_at(Local(1_000_000)),
+        Wall(1_704_063_600_000_001)
+    );
     for (at, beat) in [
         (0, Some(Beat(0))),
         (1_704_063_600_000_000, Some(Beat(0))),

@@ -1,51 +1,18 @@
-use Rattle.std.proofs.Common.{◌≡◌, ◌∙◌, ◌∷◌, true, sym, ap, subst, refl}
-use Rattle.kube_objects.specs.Elector.{leads}
-use Rattle.kube_objects.specs.Entry.{Delivers, Leads, Plain, Sends, entry}
-use Rattle.kube_objects.specs.Turns.{lead_if, react}
-use Rattle.kube_objects.specs.Wire.{next_call, send}
-use Rattle.leader_elector.specs.Moves.{Asked, Received, delivered, reacted}
-use Rattle.leader_elector.specs.Stands.{ElectorStands, LeadingStands, follow_of}
-use Rattle.leader_elector.proofs.Own.{settled-own}
+use Rattle.std.proofs.Common.{sym, subst}
+use Rattle.leader_elector.specs.Moves.{delivered}
+use Rattle.leader_elector.specs.Stands.{LeadingStands}
 use Rattle.leader_elector.proofs.candidate.Candidate.on_reply.Goals as goal
 
-pub returns-in_default-clause-counts : goal.returns-in_default-clause-counts
-returns-in_default-clause-counts c doc q h k call s now wall room is =
-    absurd (subst (λ r. Received doc k q call c.args.reply h c.receive.new.self r) c.in_default.is (c.receive.ensures.counts doc q h k call s.elector s.leads now wall is))
+pub returns-in-Stays-clause-uncounted : goal.returns-in-Stays-clause-uncounted
+returns-in-Stays-clause-uncounted c doc q h k s now up none call = (c.in-Stays.ensures.uncounted doc q h k s now up none call).1
 
-pub returns-in-Fails-clause-counts : goal.returns-in-Fails-clause-counts
-returns-in-Fails-clause-counts c doc q h k call s now wall room is =
-    let g = delivered k q call c.args.reply h in
-    let t = c.in-Some.ensures.counts doc q h k call s.elector s.leads now wall is in (
-      ap (λ f. react k q (leads q h) f g) (sym t.0 ∙ ap follow_of c.in-Fails.is),
-      record {
-        elector = t.1;
-        settled = settled-own q h k 3 (Delivers call c.args.reply true) (λ n. refl);
-        leads = s.leads;
-      },
-    )
+pub returns-in-Asks-clause-uncounted : goal.returns-in-Asks-clause-uncounted
+returns-in-Asks-clause-uncounted c doc q h k s now up none call = let no = (c.in-Asks.ensures.uncounted doc q h k s now up none call).0 in cc
 
-pub returns-in-Asks-clause-counts : goal.returns-in-Asks-clause-counts
-returns-in-Asks-clause-counts c doc q h k call s now wall room is =
-    let g = delivered k q call c.args.reply h in
-    let t = c.in-Some.ensures.counts doc q h k call s.elector s.leads now wall is in
-    let asks : reacted doc k q call c.args.reply h ≡ send k 3 q Plain c.in-Asks.request g = ap (λ f. react k q (leads q h) f g) (sym t.0 ∙ ap follow_of c.in-Asks.is) in
-    let a : Asked k 3 q g (reacted doc k q call c.args.reply h) (λ x. ElectorStands doc q x c.ask-ask.new.self) c.ask-ask.result = c.ask-ask.ensures doc q g _ k 3 t.1 now room asks in
-    record {
-      kind = a.kind;
-      sent = a.sent;
-      number = a.number;
-      stands = λ arrives. record {
-        elector = a.stands arrives;
-        settled = settled-own q g k 3 (Sends (next_call q k a.kind c.ask-ask.result.request g) arrives) (λ n. refl);
-        leads = s.leads;
-      };
-    }
+pub returns-in-Leads-clause-uncounted : goal.returns-in-Leads-clause-uncounted
+returns-in-Leads-clause-uncounted c doc q h k s now up none call = let no = (c.in-Leads.ensures.uncounted doc q h k s now up none call).0 in cc
 
-pub returns-in-Succeeds-clause-counts : goal.returns-in-Succeeds-clause-counts
-returns-in-Succeeds-clause-counts c doc q h k call s now wall room is =
-    let g = delivered k q call c.args.reply h in
-    let version = c.in-Succeeds.field-0 in
-    let t = c.in-Some.ensures.counts doc q h k call s.elector s.leads now wall is in
-    let next : reacted doc k q call c.args.reply h ≡ entry k 3 q (Leads version) ∷ g =
-    ap (λ f. react k q (leads q h) f g) (sym t.0 ∙ ap follow_of c.in-Succeeds.is) ∙ ap (λ b. lead_if k q b version g) s.leads in
-    (version, next, subst (λ x. LeadingStands doc q x c.new.result) (sym next) (c.new.ensures doc q g k 3 version t.1 now))
+pub returns-in-Leads-clause-counts : goal.returns-in-Leads-clause-counts
+returns-in-Leads-clause-counts c doc q h k call s now wall room is =
+    let t = c.in-Leads.ensures.counts doc q h k call s now wall room is in
+    (t.0, t.1, subst (λ x. LeadingStands doc q x c.lead.result) (sym t.1) (c.lead.ensures doc q (delivered k q call c.args.reply h) k 3 t.0 t.2 now))

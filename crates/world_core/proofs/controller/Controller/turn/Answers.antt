@@ -12,7 +12,7 @@ pub returns-clause-stands : goal.returns-clause-stands
 returns-clause-stands c doc n k p h s at delay plain few =
     let r = c.restart-started.ensures.stands doc n k p h s at plain few in
     let now : c.local-now.result.0 ≡ local doc p k = c.local-now.ensures.value ∙ reading-local doc p c.args.beat.0 c.restart-started.new.self.clock r.stands.clock ∙ ap (local doc p) at in
-    let t = c.on_timer-turn.ensures.stands doc k p (restart doc k p h) r.stands at now delay few in
+    let t = c.on_timer-turn.ensures.stands doc k p (restart doc k p h) r.stands now delay few in
     let base = settled doc k p (restart doc k p h) in
     record {
       told = t.told

@@ -1,0 +1,51 @@
+use Rattle.std.proofs.Common.{◌≡◌, ◌∙◌, ◌∷◌, true, sym, ap, subst, refl}
+use Rattle.kube_objects.specs.Elector.{leads}
+use Rattle.kube_objects.specs.Entry.{Delivers, Leads, Plain, Sends, entry}
+use Rattle.kube_objects.specs.Turns.{lead_if, react}
+use Rattle.kube_objects.specs.Wire.{next_call, send}
+use Rattle.leader_elector.specs.Moves.{Asked, Received, delivered, reacted}
+use Rattle.leader_elector.specs.Stands.{ElectorStands, follow_of}
+use Rattle.leader_elector.proofs.Own.{settled-own}
+use Rattle.leader_elector.proofs.candidate.Candidate.hear.Goals as goal
+
+pub returns-in_default-clause-counts : goal.returns-in_default-clause-counts
+returns-in_default-clause-counts c doc q h k call s now wall room is =
+    absurd (subst (λ r. Received doc k q call c.args.reply.now h c.receive.new.self r) c.in_default.is (c.receive.ensures.counts doc q h k call s.elector s.leads now wall is))
+
+pub returns-in-Fails-clause-counts : goal.returns-in-Fails-clause-counts
+returns-in-Fails-clause-counts c doc q h k call s now wall room is =
+    let g = delivered k q call c.args.reply.now h in
+    let t = c.in-Some.ensures.counts doc q h k call s.elector s.leads now wall is in (
+      ap (λ f. react k q (leads q h) f g) (sym t.0 ∙ ap follow_of c.in-Fails.is),
+      record {
+        elector = t.1;
+        settled = settled-own q h k 3 (Delivers call c.args.reply.now true) (λ n. refl);
+        leads = s.leads;
+      },
+    )
+
+pub returns-in-Asks-clause-counts : goal.returns-in-Asks-clause-counts
+returns-in-Asks-clause-counts c doc q h k call s now wall room is =
+    let g = delivered k q call c.args.reply.now h in
+    let t = c.in-Some.ensures.counts doc q h k call s.elector s.leads now wall is in
+    let asks : reacted doc k q call c.args.reply.now h ≡ send k 3 q Plain c.in-Asks.request g = ap (λ f. react k q (leads q h) f g) (sym t.0 ∙ ap follow_of c.in-Asks.is) in
+    let a : Asked k 3 q g (reacted doc k q call c.args.reply.now h) (λ x. ElectorStands doc q x c.ask.new.self) c.ask.result = c.ask.ensures doc q g _ k 3 t.1 now room asks in
+    record {
+      kind = a.kind;
+      sent = a.sent;
+      number = a.number;
+      stands = λ arrives. record {
+        elector = a.stands arrives;
+        settled = settled-own q g k 3 (Sends (next_call q k a.kind c.ask.result.request g) arrives) (λ n. refl);
+        leads = s.leads;
+      };
+    }
+
+pub returns-in-Succeeds-clause-counts : goal.returns-in-Succeeds-clause-counts
+returns-in-Succeeds-clause-counts c doc q h k call s now wall room is =
+    let g = delivered k q call c.args.reply.now h in
+    let version = c.in-Succeeds.field-0 in
+    let t = c.in-Some.ensures.counts doc q h k call s.elector s.leads now wall is in
+    let next : reacted doc k q call c.args.reply.now h ≡ entry k 3 q (Leads version) ∷ g =
+    ap (λ f. react k q (leads q h) f g) (sym t.0 ∙ ap follow_of c.in-Succeeds.is) ∙ ap (λ b. lead_if k q b version g) s.leads in
+    (version, next, t.1)
