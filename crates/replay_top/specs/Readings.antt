@@ -13,7 +13,7 @@ Means bytes outcome = (command : Command) → obeyed command bytes ≡ outcome c
 
 -- what the bytes of the source mean, and what is left of them
 abbrev pub Reads : List ℕ → Option (List ℕ) → Reading → Type 0
-Reads bytes left (Document d) = (left ≡ Some []) × Means bytes (λ command. answer_to command d)
+Reads bytes left (Document d value) = (left ≡ Some []) × Means bytes (λ command. answer_to command d)
 Reads bytes left (Refused r) = (left ≡ Some []) × Means bytes (λ command. refused r [])
 Reads bytes left TooLarge = (rest : List ℕ) × (left ≡ Some rest) × Means bytes (λ command. refused (of_whole 33) rest)
 Reads bytes left Fault = Unit {0}
@@ -21,5 +21,5 @@ Reads bytes left NoMemory = Unit {0}
 
 -- a document that was read is lawful
 abbrev pub IsLawfulReading : Reading → Type 0
-IsLawfulReading (Document d) = IsLawfulDoc (doc_of d)
+IsLawfulReading (Document d value) = IsLawfulDoc (doc_of d)
 IsLawfulReading _ = Unit {0}

@@ -9,13 +9,15 @@ ghost use Rattle.replay_top.specs.Readings.{Reads, IsLawfulReading};
 
 use byte_edge::{Source, TakeFault, take_all};
 use manifest_json::{ReadFault, Refusal};
-use script_reader::{Document, documents_are_lawful, read_document};
+use script_reader::{Document, document_of, documents_are_lawful, read_value};
+use serde_json::Value;
 use std::alloc::Global;
 
 /// What a source had.
 #[derive(Drop)]
 pub enum Reading {
-    Document(Document),
+    /// A document, and the JSON value that it was read from.
+    Document(Document, Value),
     Refused(Refusal),
     /// More bytes than a document may have.
     TooLarge,
@@ -39,18 +41,21 @@ pub(crate) fn read<S: Source>(alloc: Global, source: &mut S) -> Reading
         Err(TakeFault::TooLarge) => return Reading::TooLarge,
         Err(TakeFault::NoMemory) => return Reading::NoMemory,
     };
-    match document_of(alloc, &bytes) {
-        Ok(document) => Reading::Document(document),
+    match read_bytes(alloc, &bytes) {
+        Ok((document, value)) => Reading::Document(document, value),
         Err(ReadFault::Refused(refusal)) => Reading::Refused(refusal),
         Err(ReadFault::NoMemory) => Reading::NoMemory,
     }
 }
 
-/// The document in these bytes, which is lawful.
-pub(crate) fn document_of(alloc: Global, bytes: &[u8]) -> Result<Document, ReadFault>
-    ensures exact { Gives (λ document. document) result (document_walk bytes.now) }
-    ensures lawful { IfOk result (λ document. IsLawfulDoc (doc_of document)) }
+/// The document in these bytes, which is lawful, and their JSON value.
+#[tactic(auto, unfolding(script_reader::specs::Walk::document_walk))]
+pub(crate) fn read_bytes(alloc: Global, bytes: &[u8]) -> Result<(Document, Value), ReadFault>
+    ensures exact { Gives (λ read. read.0) result (document_walk bytes.now) }
+    ensures lawful { IfOk result (λ read. IsLawfulDoc (doc_of read.0)) }
 {
     documents_are_lawful();
-    read_document(alloc, bytes)
+    let value = read_value(alloc, bytes)?;
+    let document = document_of(alloc, &value)?;
+    Ok((document, value))
 }

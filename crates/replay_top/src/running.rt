@@ -101,7 +101,18 @@ fn obey<S: Source, K: Sink>(alloc: Global, command: Command, source: &mut S, sin
     ensures sink_fault { result ≡ Status.SinkFault → Rose (K.faults sink.old) (K.faults sink.new) }
 {
     match read(alloc, source) {
-        Reading::Document(document) => answer(alloc, command, sink, document),
+        Reading::Document(document, value) => {
+            // A run has its memory first. A check frees the value's many small pieces last: before the document's large
+            // ones they would be gone through once more.
+            let _last = match command {
+                Command::Replay => {
+                    drop(value);
+                    None
+                }
+                Command::Check => Some(value),
+            };
+            answer(alloc, command, sink, document)
+        }
         Reading::Refused(refusal) => refuse(alloc, sink, refusal.code, refusal.path.as_slice()),
         Reading::TooLarge => refuse(alloc, sink, TOO_LARGE, b"/"),
         Reading::Fault => Status::SourceFault,

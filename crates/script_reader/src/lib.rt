@@ -19,4 +19,4 @@ mod tests;
 pub use document::Document;
 pub use laws::{documents_are_lawful, lawful_documents_are_sound};
 pub use premise::lease_premise;
-pub use reading::read_document;
+pub use reading::{document_of, read_document, read_value};

@@ -26,12 +26,12 @@ use std::alloc::Global;
 pub fn read_document(alloc: Global, bytes: &[u8]) -> Result<Document, ReadFault>
     ensures { Gives (λ document. document) result (document_walk bytes.now) }
 {
-    let value = parse(alloc, bytes)?;
-    document_at(alloc, &value)
+    let value = read_value(alloc, bytes)?;
+    document_of(alloc, &value)
 }
 
-/// The JSON value of the bytes.
-fn parse(alloc: Global, bytes: &[u8]) -> Result<Value, ReadFault>
+/// The JSON value of these bytes, of which `document_of` makes the document.
+pub fn read_value(alloc: Global, bytes: &[u8]) -> Result<Value, ReadFault>
     ensures { Gives view result (walk.data_of bytes.now) }
 {
     match Value::from_slice(alloc, bytes) {
@@ -45,9 +45,9 @@ fn parse(alloc: Global, bytes: &[u8]) -> Result<Value, ReadFault>
     }
 }
 
-/// The document of a JSON value.
+/// The document of a JSON value with its defaults, or the first refusal of the walk.
 #[tactic(auto, unfolding(crate::specs::Walk::document_at))]
-fn document_at(alloc: Global, value: &Value) -> Result<Document, ReadFault>
+pub fn document_of(alloc: Global, value: &Value) -> Result<Document, ReadFault>
     ensures { Gives (λ document. document) result (walk.document_at (view value.now)) }
 {
     top_in(alloc, value)?;

@@ -1,7 +1,7 @@
 // Traces by the deeds of whole documents, which need no source and no sink.
 use super::rows::Row;
 use crate::lines::{add_deeds, add_first};
-use crate::reading::document_of;
+use crate::reading::read_bytes;
 use crate::texts::process_names;
 use std::alloc::Global;
 use std::process::Abort;
@@ -11,7 +11,8 @@ use world_core::{deeds_of, runs};
 /// The deeds of a document give the lines of its trace.
 pub(crate) fn expect_deeds(rt: &impl Abort, alloc: Global, row: &Row) -> Result<(), Fail> {
     let bytes = row.document.as_bytes();
-    let (Ok(document), Ok(named)) = (document_of(alloc, bytes), document_of(alloc, bytes)) else {
+    let (Ok((document, _)), Ok((named, _))) = (read_bytes(alloc, bytes), read_bytes(alloc, bytes))
+    else {
         return Err(Fail::from("refused"));
     };
     if !runs(&document) {

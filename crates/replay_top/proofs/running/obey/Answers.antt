@@ -4,8 +4,8 @@ use Rattle.replay_top.specs.Outcome.{obeyed, answer_to, refused, of_whole, Ends}
 use Rattle.replay_top.proofs.Endings.{ends-moved}
 use Rattle.replay_top.proofs.running.obey.Goals as goal
 
-pub returns-in-Document-clause-text : goal.returns-in-Document-clause-text
-returns-in-Document-clause-text g c bytes told =
+pub returns-after-command-clause-text : goal.returns-after-command-clause-text
+returns-after-command-clause-text g c bytes told =
     let reads = c.in-Document.ensures.told bytes told in
     let command = c.args.command in
     let taken = g.K.Sink.taken in

@@ -3,7 +3,7 @@ use Rattle.serde_json.specs.View.{view}
 use Rattle.manifest_json.proofs.KeptLemmas.{fails-by}
 use Rattle.script_reader.specs.Walk.{data_of}
 use Rattle.script_reader.proofs.Parsed.{data-found, data-refused, never}
-use Rattle.script_reader.proofs.reading.parse.Goals as goal
+use Rattle.script_reader.proofs.reading.read_value.Goals as goal
 
 pub returns-in-Ok : goal.returns-in-Ok
 returns-in-Ok c = data-found c.args.bytes.now (view c.in-Ok.value) c.in-Ok.ensures.ok.0 c.in-Ok.ensures.ok.1
