@@ -102,8 +102,8 @@ fn obey<S: Source, K: Sink>(alloc: Global, command: Command, source: &mut S, sin
 {
     match read(alloc, source) {
         Reading::Document(document, value) => {
-            // A run has its memory first. A check frees the value's many small pieces last: before the document's large
-            // ones they would be gone through once more.
+            // `replay` frees the value before it runs, and `check` after the document: its many small pieces are gone
+            // through once more where large ones are freed after them.
             let _last = match command {
                 Command::Replay => {
                     drop(value);
