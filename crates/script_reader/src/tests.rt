@@ -1,8 +1,9 @@
 // Documents, and the refusals of documents that aren't read.
-use crate::read_document;
+use crate::{document_of, read_document, read_value};
 use kube_base::{Beat, ProcId, Wall};
 use kube_objects::{Event, Key, Kind, Proc, RatePolicy, ReadyStatus, What};
 use manifest_json::ReadFault;
+use serde_json::Value;
 use std::alloc::Global;
 use std::process::Abort;
 use std::test::Fail;
@@ -60,6 +61,21 @@ fn reads_processes(rt: HostRuntime) -> Result<(), Fail> {
     assert_eq!(rt; document.kubelets.as_slice(), [kubelet].as_slice());
     assert_eq!(rt; document.objects.items.as_slice().len(), 1);
     assert_eq!(rt; document.objects.skipped, 1);
+    Ok(())
+}
+
+/// A document in two steps: the JSON value, and what it says.
+#[test]
+fn reads_by_its_value(rt: HostRuntime) -> Result<(), Fail> {
+    let value = read_value(rt.alloc(), GOOD.as_bytes())
+        .ok()
+        .ok_or("refused")?;
+    assert_eq!(rt; value.get("version").and_then(Value::as_u64), Some(2));
+    let document = document_of(rt.alloc(), &value).ok().ok_or("refused")?;
+    assert_eq!(rt; document.settings.end_beat, Beat(90));
+    assert_eq!(rt; document.controllers.as_slice().len(), 2);
+    assert_eq!(rt; document.kubelets.as_slice().len(), 1);
+    assert_eq!(rt; document.events.as_slice().len(), 5);
     Ok(())
 }
 
