@@ -2,7 +2,7 @@
 use Rattle.std.proofs.Common.{◌≡◌, ℕ, zero, suc, ◌+◌, ◌*◌, ◌/◌, refl, ap, ◌∙◌}
 use Rattle.kube_objects.specs.Clocks.{local, wall, moved}
 use Rattle.kube_objects.specs.Document.{Doc, beat_micros, offset_millis}
-use Rattle.skew_clock.specs.Clocking.{Clocking, rate_at, reading, wall_of, wall_when}
+use Rattle.skew_clock.specs.Clocking.{Clocking, rate_at, reading, wall_when}
 use Rattle.world_core.specs.Controllers.{ClockStands}
 
 pub reading-local : (doc : Doc) (p k : ℕ) (c : Clocking) → ClockStands doc p c → reading c k ≡ local doc p k
@@ -12,12 +12,6 @@ reading-local doc p (suc k) c s =
     ap (λ n. n + c.beat_micros * rate_at c.sets k) (reading-local doc p k c s)
     ∙ ap (λ n. local doc p k + n * rate_at c.sets k) s.micros
     ∙ ap (λ n. local doc p k + beat_micros doc * n) (s.rates k)
-
-pub wall-wall : (doc : Doc) (p k : ℕ) (c : Clocking) → ClockStands doc p c → wall_of c k ≡ wall doc p k
-wall-wall doc p k c s =
-    s.offset (c.epoch + reading c k / 1000000)
-    ∙ ap (λ n. moved (offset_millis doc p) (n + reading c k / 1000000)) s.epoch
-    ∙ ap (λ n. moved (offset_millis doc p) (doc.settings.epoch.0 + n / 1000000)) (reading-local doc p k c s)
 
 pub wall-when : (doc : Doc) (p k shown : ℕ) (c : Clocking) → ClockStands doc p c → shown ≡ local doc p k → wall_when c shown ≡ wall doc p k
 wall-when doc p k shown c s is =

@@ -166,7 +166,7 @@ impl Controller {
             Role::Candidate(_) => stopping(true, None),
             Role::Leading(leading) => {
                 let now = self.clock.local(beat);
-                let wall = self.clock.wall(beat);
+                let wall = self.clock.wall_at(now);
                 stopping(true, leading.release(now, wall).ask)
             }
         }
