@@ -1,13 +1,16 @@
 pub mod Answers
 pub mod CallSlots
 pub mod Clocks
+pub mod Deletes
 pub mod Document
 pub mod Elector
 pub mod Entry
 pub mod Feeds
 pub mod Identities
 pub mod InFlight
+pub mod InForce
 pub mod Keys
+pub mod Kinds
 pub mod Newest
 pub mod Process
 pub mod Stamps
