@@ -119,7 +119,13 @@ bare_node name = (node_key name, object.Node (record { region = 0; zone = 0; tai
 -- the Lease of a node, with this renew time
 abbrev pub renewed : ℕ → Option Wall → Key × Object
 renewed name at =
-    (node_lease name, object.Lease (record { holder = holder.Foreign name; duration = None; acquired = None; renewed = at; transitions = None }))
+    (node_lease name, object.Lease (record {
+      holder = holder.Foreign name;
+      duration = None;
+      acquired = None;
+      renewed = at;
+      transitions = None;
+    }))
 
 -- a condition taint is tolerated for some seconds
 abbrev pub tolerating : ℕ → ℕ → Toleration

@@ -29,7 +29,12 @@ ready_node name = (
     region = r1;
     zone = zone_a;
     taints = [];
-    ready = Some (record { status = ready.True; reason = 1; heartbeat = Some (record { 0 = 1704067080000000 }); transition = Some (record { 0 = 1698915640000000 }) });
+    ready = Some (record {
+    status = ready.True;
+    reason = 1;
+    heartbeat = Some (record { 0 = 1704067080000000 });
+    transition = Some (record { 0 = 1698915640000000 });
+  });
   }),
 )
 
@@ -73,7 +78,12 @@ objects = ready_node n1 ∷ ready_node n2 ∷ ready_node n3
 -- pod when it is due by the taint.
 abbrev pub dead_node_and_failover : Doc
 dead_node_and_failover = record {
-  settings = record (settings 364) { beat_millis = 1000; lease_duration_seconds = 120; renew_deadline_millis = 60000; retry_period_millis = 20000 };
+  settings = record (settings 364) {
+    beat_millis = 1000;
+    lease_duration_seconds = 120;
+    renew_deadline_millis = 60000;
+    retry_period_millis = 20000;
+  };
   controllers = patient c1 ∷ patient c2 ∷ [];
   kubelets = kubelet n1 ∷ kubelet n2 ∷ kubelet n3 ∷ [];
   objects = objects;
