@@ -29,7 +29,8 @@ last_pass q = newest (λ e h. pass_says q e.beat e.actor e.deed)
 
 abbrev pub is_after_pass : Doc → ℕ → Identity → Option ℕ → Bool
 is_after_pass doc k q None = true
-is_after_pass doc k q (Some last) = nat_le (local doc q.process last + of_millis doc.settings.monitor_period_millis) (local doc q.process k)
+is_after_pass doc k q (Some last) =
+    nat_le (local doc q.process last + of_millis doc.settings.monitor_period_millis) (local doc q.process k)
 
 -- whether a synced tick has a pass: the term's first, and then one a monitor period after the last
 abbrev pub is_pass_due : Doc → ℕ → Identity → List Entry → Bool
