@@ -285,6 +285,10 @@ module _ (doc : Doc) (P : ℕ → List Entry → Type 0) (keeps : KeepsTurn doc 
   pub walk_any_turn : (k p : ℕ) (h : List Entry) → P k h → P k (turn doc k p h)
   walk_any_turn k p h s = walk_turn doc Anyone P keeps k p h (λ i role up acting. tt) s
 
+  -- from the end of a term on
+  pub walk_any_after_end : (k p : ℕ) → is_controller doc p ≡ true → (h : List Entry) → P k h → P k (ticks doc k p (attempts doc k p h))
+  walk_any_after_end k p role h s = walk_ticks doc Anyone P keeps k p (attempts doc k p h) (λ i up acting. tt) (walk_attempts doc Anyone P keeps k p role h s)
+
   pub walk_any_turns : (k n : ℕ) (h : List Entry) → P k h → P k (turns doc k n h)
   walk_any_turns k n h s = walk_turns doc Anyone P keeps k n h (λ p i role up acting. tt) s
 
