@@ -325,16 +325,16 @@ def test_pictures(browser, folder, pictures):
     """Screenshots to look at, where a folder for them is given."""
     if not pictures:
         return
-    cases = [('two-leaders', os.path.join(TOP, 'examples', 'uneven-clocks', 'trace.txt'), 330, 'cp-east-1', 10),
-             ('failover', os.path.join(TOP, 'examples', 'leader-crashes', 'trace.txt'), 470, 'cp-east-2', 15),
-             ('zone-outage', os.path.join(HERE, 'data', 'zone-outage.txt'), 1000, 'worker-b-3', 86)]
-    for name, path, height, lane, line in cases:
+    cases = [('two-leaders', os.path.join(TOP, 'examples', 'uneven-clocks', 'trace.txt'), 330, 'controller cp-east-1', '189 cp-east-1_1 end'),
+             ('failover', os.path.join(TOP, 'examples', 'leader-crashes', 'trace.txt'), 330, 'controller cp-east-2', '204 cp-east-2_1 lead v=4'),
+             ('zone-outage', os.path.join(HERE, 'data', 'zone-outage.txt'), 985, 'node worker-b-1', '212 cp-2_1 taint worker-b-1 unreachable v=274')]
+    for name, path, height, lane, text in cases:
         open_trace(browser, folder, path)
         browser.size(1120, height + 172)
         browser.frame()
-        kind = 'node' if lane.startswith('worker') else 'controller'
-        browser.run('timeline.goTo(timeline.model.lanes.get(%r), Number(timeline.model.lineText(%d).split(" ")[0]), %d)'
-                    % (kind + ' ' + lane, line, line))
+        beat = int(text.split()[0])
+        line = next(number for number in range(2, 200) if browser.run('timeline.model.lineText(%d)' % number) == text)
+        browser.run('timeline.goTo(timeline.model.lanes.get(%r), %d, %d)' % (lane, beat, line))
         browser.picture(os.path.join(pictures, name + '.png'))
     browser.run('timeline.theme = "dark", timeline.applyTheme()')
     browser.picture(os.path.join(pictures, 'dark.png'))
