@@ -26,6 +26,9 @@ use Rattle.manifest_json.specs.Written.{text_of}
 abbrev pub IsHeld : Texts → ℕ → Type 0
 IsHeld names n = n < length names
 
+abbrev pub AreHeld : Texts → List ℕ → Type 0
+AreHeld names known = AllByRecursion (IsHeld names) known
+
 -- the text of the number is not empty
 abbrev pub IsFilled : Texts → ℕ → Type 0
 IsFilled names n = (length (text_of names n) == 0) ≡ false
