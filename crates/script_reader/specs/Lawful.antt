@@ -8,13 +8,13 @@ use Rattle.kube_objects.specs.declared.key.Key.{Key}
 use Rattle.kube_objects.specs.declared.node.ReadyStatus.{ReadyStatus}
 use Rattle.kube_objects.specs.declared.node.ReadyStatus.TheVariants as status
 use Rattle.kube_objects.specs.declared.object.Object.{Object}
-use Rattle.kube_objects.specs.declared.object.Object.TheVariants as object
 use Rattle.kube_objects.specs.declared.script.Event.{Event}
 use Rattle.kube_objects.specs.declared.script.Proc.{Proc}
 use Rattle.kube_objects.specs.declared.script.What.{What}
 use Rattle.kube_objects.specs.declared.script.What.TheVariants.{Rate, Delay, Loss, Crash, Start, Stop, Watch, Ready, Put, Remove}
 use Rattle.kube_objects.specs.declared.settings.Settings.{Settings}
 use Rattle.kube_objects.specs.Document.{Doc, is_controller, processes, end_beat}
+use Rattle.kube_objects.specs.Kinds.{IsOfKind}
 use Rattle.kube_objects.specs.Keys.{key_eq}
 use Rattle.kube_objects.specs.Stored.{election}
 use Rattle.manifest_json.specs.Fields.{Texts}
@@ -85,12 +85,6 @@ AreNamedApart procs = IsDistinct (λ a b. a == b) (numbers_of procs)
 -- no two of these objects have the same key
 abbrev pub AreKeyedApart : List (Key × Object) → Type 0
 AreKeyedApart objects = IsDistinct key_eq (map (λ item. item.0) objects)
-
--- an object stands under a key of its kind
-abbrev pub IsOfKind : Key → Object → Type 0
-IsOfKind key (object.Node node) = key.kind ≡ kind.Node
-IsOfKind key (object.Lease lease) = key.kind ≡ kind.Lease
-IsOfKind key (object.Pod pod) = key.kind ≡ kind.Pod
 
 -- an event names processes of the document of the right sort, has its ranges, and leaves the election Lease alone
 abbrev pub IsLawfulWhat : Doc → What → Type 0
