@@ -55,12 +55,16 @@ is_recent at None = false
 is_recent at (Some heartbeat) = nat_lt at (heartbeat.0 + 300000000)
 
 abbrev pub posted_as : ReadyStatus → ℕ → Option Wall → Ready
-posted_as status at transition = record { status = status; reason = kubelet_reason status; heartbeat = Some (record { 0 = at }); transition = transition }
+posted_as status at transition =
+    record { status = status; reason = kubelet_reason status; heartbeat = Some (record { 0 = at }); transition = transition }
 
 -- what a status makes of Ready at a whole second, where it changes anything
 abbrev pub posted_ready : ReadyStatus → ℕ → Option Ready → Option Ready
 posted_ready status at None = Some (posted_as status at (Some (record { 0 = at })))
-posted_ready status at (Some r) = cond (same_status r.status status) (cond (is_recent at r.heartbeat) None (Some (posted_as status at r.transition))) (Some (posted_as status at (Some (record { 0 = at }))))
+posted_ready status at (Some r) =
+    cond (same_status r.status status)
+    (cond (is_recent at r.heartbeat) None (Some (posted_as status at r.transition)))
+    (Some (posted_as status at (Some (record { 0 = at }))))
 
 abbrev pub with_ready : Node → Option Ready → Option Node
 with_ready node None = None

@@ -19,4 +19,4 @@ shown_at shown (Some key) = shown key
 
 -- whether a key stands among these
 abbrev pub is_among : List Key → Key → Bool
-is_among keys key = list_any (key_eq key) keys
+is_among keys key = list_any (λ k. key_eq k key) keys

@@ -1,6 +1,7 @@
 // The call of one incarnation that waits for its reply.
 ghost use Rattle.std.specs.Prelude.{◌≡◌, ℕ, ◌+◌, ◌^◌, ◌<◌, true, not, List, ◌∷◌, Option, Some, None};
-ghost use Rattle.kube_objects.specs.CallSlots.{CallSlotStands, calls_of, held_call, is_awaited, is_late_call, is_overdue, next_number, waits};
+ghost use Rattle.kube_objects.specs.CallSlots.{CallSlotStands, is_late_call, waits};
+ghost use Rattle.kube_objects.specs.CallSlots.{calls_of, held_call, is_awaited, is_overdue, next_number};
 ghost use Rattle.kube_objects.specs.Clocks.{local};
 ghost use Rattle.kube_objects.specs.Document.{Doc, call_timeout};
 ghost use Rattle.kube_objects.specs.Entry.{Entry, Identity, Call, CallKind, Release, Sends, Delivers, Expires, entry};
@@ -42,7 +43,8 @@ impl CallSlot {
     /// Whether no call is held.
     pub fn is_idle(&self) -> bool
         ensures held { result ≡ not (has (held_call self.now)) }
-        ensures call { (doc : Doc) (q : Identity) (h : List Entry) → CallSlotStands doc q h self.now → result ≡ not (has (call_in q h)) }
+        ensures call { (doc : Doc) (q : Identity) (h : List Entry) → CallSlotStands doc q h self.now
+            → result ≡ not (has (call_in q h)) }
     {
         self.waiting.is_none()
     }
@@ -52,9 +54,11 @@ impl CallSlot {
         ensures next { result ≡ next_number (calls_of self.old) }
         ensures count { calls_of self.new ≡ result }
         ensures held { held_call self.new ≡ Some (result, now.0) }
-        ensures number { (doc : Doc) (q : Identity) (h : List Entry) → CallSlotStands doc q h self.old → begun q h + 1 < 2 ^ 64 → result ≡ begun q h + 1 }
-        ensures stands { (doc : Doc) (q : Identity) (h : List Entry) (k step : ℕ) (kind : CallKind) (request : Request) (arrives : Option ℕ)
-            → CallSlotStands doc q h self.old → begun q h + 1 < 2 ^ 64 → now.0 ≡ local doc q.process k → waits kind ≡ true
+        ensures number { (doc : Doc) (q : Identity) (h : List Entry) → CallSlotStands doc q h self.old → begun q h + 1 < 2 ^ 64
+            → result ≡ begun q h + 1 }
+        ensures stands { (doc : Doc) (q : Identity) (h : List Entry) (k step : ℕ) (kind : CallKind) (request : Request)
+            (arrives : Option ℕ) → CallSlotStands doc q h self.old → begun q h + 1 < 2 ^ 64
+            → now.0 ≡ local doc q.process k → waits kind ≡ true
             → CallSlotStands doc q (entry k step q (Sends (next_call q k kind request h) arrives) ∷ h) self.new }
     {
         self.begun = self.begun.saturating_add(1);
@@ -70,9 +74,11 @@ impl CallSlot {
         ensures next { result ≡ next_number (calls_of self.old) }
         ensures count { calls_of self.new ≡ result }
         ensures held { held_call self.new ≡ None }
-        ensures number { (doc : Doc) (q : Identity) (h : List Entry) → CallSlotStands doc q h self.old → begun q h + 1 < 2 ^ 64 → result ≡ begun q h + 1 }
+        ensures number { (doc : Doc) (q : Identity) (h : List Entry) → CallSlotStands doc q h self.old → begun q h + 1 < 2 ^ 64
+            → result ≡ begun q h + 1 }
         ensures stands { (doc : Doc) (q : Identity) (h : List Entry) (k step : ℕ) (request : Request) (arrives : Option ℕ)
-            → CallSlotStands doc q h self.old → begun q h + 1 < 2 ^ 64 → CallSlotStands doc q (entry k step q (Sends (next_call q k Release request h) arrives) ∷ h) self.new }
+            → CallSlotStands doc q h self.old → begun q h + 1 < 2 ^ 64
+            → CallSlotStands doc q (entry k step q (Sends (next_call q k Release request h) arrives) ∷ h) self.new }
     {
         self.begun = self.begun.saturating_add(1);
         self.waiting = None;
@@ -82,7 +88,8 @@ impl CallSlot {
     /// Whether a reply with this number counts: the call that is held has it, and its timeout isn't over. The timeout is in 10^-12 s.
     pub fn accepts(&self, number: u64, now: Local, timeout: u64) -> bool
         ensures held { result ≡ is_awaited number now.0 timeout (held_call self.now) }
-        ensures call { (doc : Doc) (q : Identity) (h : List Entry) (k : ℕ) → CallSlotStands doc q h self.now → now.0 ≡ local doc q.process k → timeout ≡ call_timeout doc q.process
+        ensures call { (doc : Doc) (q : Identity) (h : List Entry) (k : ℕ) → CallSlotStands doc q h self.now
+            → now.0 ≡ local doc q.process k → timeout ≡ call_timeout doc q.process
             → result ≡ has (answered_call doc q k number (call_in q h)) }
     {
         match self.waiting {
@@ -96,7 +103,8 @@ impl CallSlot {
     /// Whether a call is held whose timeout is over. The timeout is in 10^-12 s.
     pub fn expired(&self, now: Local, timeout: u64) -> bool
         ensures held { result ≡ is_overdue now.0 timeout (held_call self.now) }
-        ensures call { (doc : Doc) (q : Identity) (h : List Entry) (k : ℕ) → CallSlotStands doc q h self.now → now.0 ≡ local doc q.process k → timeout ≡ call_timeout doc q.process
+        ensures call { (doc : Doc) (q : Identity) (h : List Entry) (k : ℕ) → CallSlotStands doc q h self.now
+            → now.0 ≡ local doc q.process k → timeout ≡ call_timeout doc q.process
             → result ≡ is_late_call doc q k (call_in q h) }
     {
         match self.waiting {

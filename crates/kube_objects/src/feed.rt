@@ -32,7 +32,8 @@ pub trait Feed {
     /// Every stored key stands among the changes.
     ghost listed: { (feed : Self) (key : Key) → has (shown feed key) ≡ true → is_among (changed feed) key ≡ true };
     /// Every stored object is of its key's kind.
-    ghost kinds: { (feed : Self) (key : Key) (version : Version) (object : Object) → shown feed key ≡ Some (version, object) → IsOfKind key object };
+    ghost kinds: { (feed : Self) (key : Key) (version : Version) (object : Object)
+        → shown feed key ≡ Some (version, object) → IsOfKind key object };
 }
 
 /// The changes of a store from a position on, and what is stored now under their keys.
@@ -70,5 +71,6 @@ pub trait Changed {
     /// Every stored key stands among the changes so far.
     ghost listed: { (since : Self) (key : Key) → has (shown since key) ≡ true → is_among (changed since) key ≡ true };
     /// Every stored object is of its key's kind.
-    ghost kinds: { (since : Self) (key : Key) (version : Version) (object : Object) → shown since key ≡ Some (version, object) → IsOfKind key object };
+    ghost kinds: { (since : Self) (key : Key) (version : Version) (object : Object)
+        → shown since key ≡ Some (version, object) → IsOfKind key object };
 }
