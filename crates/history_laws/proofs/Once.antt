@@ -25,6 +25,7 @@ use Rattle.history_laws.proofs.Plainly.{upper, for_new, for_old, if_some, some_i
 use Rattle.history_laws.proofs.Walk.{StartIsNext, Arriving, Coming, stopped_at, after_reply, Keeps, walk_at_turn}
 use Rattle.history_laws.proofs.Counting.{CountedFor, counted_is}
 use Rattle.history_laws.proofs.Expired.{expired_none}
+use Rattle.history_laws.proofs.Ticks.{walk_tick}
 use Rattle.history_laws.proofs.Rounds.{Runs, RunsOwn, runs_more, runs_empty, goes_on}
 use Rattle.history_laws.proofs.Lives.{Counted, Over, counted_more, over_more}
 
@@ -251,7 +252,7 @@ once_keeps doc = record {
     seeks = λ k p i call h role up expired late s.
         try_right k (identity p i) Plain (Get (node_lease (node_of doc p))) h up (expired_none (identity p i) k h call expired) (λ other. inr (inr ((s.rounds (identity p i) role).1 k call expired late))) refl s;
     posts = λ k p i h role up none s. try_right k (identity p i) Plain (post doc (identity p i) k h) h up (no_round (identity p i) h none (s.rounds (identity p i) role)) (λ other. inr (inl refl)) refl s;
-    ticks = λ k q t h acting made s. right_more doc k 4 _ h tt (tt, tt) (λ q by. tt) (λ q. refl) (λ q w. waits_more k 4 q _ h refl (λ c. tt) w) s;
+    ticks = λ k q h acting s. walk_tick doc k q (Right doc k 4) (λ t g made s. right_more doc k 4 _ g tt (tt, tt) (λ q by. tt) (λ q. refl) (λ q w. waits_more k 4 q _ g refl (λ c. tt) w) s) h s;
   };
 }
   where

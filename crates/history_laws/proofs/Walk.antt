@@ -11,13 +11,13 @@ use Rattle.kube_objects.specs.declared.script.What.TheVariants as what
 use Rattle.kube_objects.specs.Clocks.{local}
 use Rattle.kube_objects.specs.Document.{Doc, processes, is_controller, is_up_first}
 use Rattle.kube_objects.specs.Elector.{Follow, Fails, Asks, Succeeds, follow_on, leads, deadline, timer, attempt, release, acts}
-use Rattle.kube_objects.specs.Entry.{Entry, Identity, Call, Plain, Release, Deed, Event as Happens, Starts, Crashes, Stops, Ends, Delivers, Expires, Leads, Tick, actor_of, entry, script_entry}
+use Rattle.kube_objects.specs.Entry.{Entry, Identity, Call, Plain, Release, Deed, Event as Happens, Starts, Crashes, Stops, Ends, Delivers, Expires, Leads, actor_of, entry, script_entry}
 use Rattle.kube_objects.specs.Identities.{identity}
 use Rattle.kube_objects.specs.Kubelet.{node_of, is_post, has_round, next_request, post, send_next, is_post_call, round_if, is_round_due, round_timer, round}
 use Rattle.kube_objects.specs.Newest.{has}
 use Rattle.kube_objects.specs.Process.{alive, starts, begun, call_in, counted, is_late, ended, is_restart_due}
 use Rattle.kube_objects.specs.Stored.{election, node_lease}
-use Rattle.kube_objects.specs.Tick.{add}
+use Rattle.kube_objects.specs.Tick.{tick}
 use Rattle.kube_objects.specs.Turns.{lead_if, react, expire_as, expire_call, end_as, end_term, just_expired, is_fast_call, attempt_if, try}
 use Rattle.kube_objects.specs.Wire.{send, Sent, Back, sent_of, back_of}
 use Rattle.history.specs.History.{three_steps, history, at_turn}
@@ -25,7 +25,7 @@ use Rattle.history.specs.Steps.{start, start_first, starts_below, first_starts, 
 use Rattle.history_laws.specs.Tails.{In}
 use Rattle.history_laws.proofs.Expired.{expired_none}
 use Rattle.history_laws.proofs.Plainly.{true_is, and_left, not_true}
-use Rattle.history_laws.proofs.Ticks.{MadeTick, walk_tick}
+use Rattle.history_laws.proofs.Ticks.{walk_tick}
 
 abbrev pub InScript : Event → List Event → Type 0
 InScript e [] = ⊥
@@ -90,7 +90,7 @@ pub record KeepsTurn (doc : Doc) (A : Identity → ℕ → Type 0) (P : ℕ → 
       → P k h → P k (send k 4 (identity p i) Plain (Get (node_lease (node_of doc p))) h)
   pub posts : (k p i : ℕ) (h : List Entry) → is_controller doc p ≡ false → alive p h ≡ Some i → has_round (identity p i) h ≡ false
       → P k h → P k (send k 4 (identity p i) Plain (post doc (identity p i) k h) h)
-  pub ticks : (k : ℕ) (q : Identity) (t : Tick) (h : List Entry) → A q k → MadeTick doc k q t h → P k h → P k (add k q t h)
+  pub ticks : (k : ℕ) (q : Identity) (h : List Entry) → A q k → P k h → P k (tick doc k q h)
 
 -- a property, at a beat and a step, that each kind of entry keeps
 pub record Keeps (doc : Doc) (P : ℕ → ℕ → List Entry → Type 0) : Type 0 where
@@ -138,7 +138,7 @@ all_turns doc A P more = record {
   attempts = λ k p i h role up waits s. more k _ h refl refl (tt, refl) s;
   seeks = λ k p i call h role up expired late s. more k _ h refl refl (tt, refl) s;
   posts = λ k p i h role up none s. more k _ h refl refl (tt, refl) s;
-  ticks = λ k q t h acting made s. more k _ h refl refl (tt, tt) s;
+  ticks = λ k q h acting s. walk_tick doc k q (P k) (λ t g made s. more k _ g refl refl (tt, tt) s) h s;
 }
 
 -- a property that every new entry keeps, whatever its kind
@@ -217,7 +217,7 @@ module _ (doc : Doc) (A : Identity → ℕ → Type 0) (P : ℕ → List Entry �
 
   walk_tick_as : (k : ℕ) (q : Identity) (b : Bool) → (b ≡ true → A q k) → (h : List Entry) → P k h → P k (tick_as doc k q b h)
   walk_tick_as k q false acting h s = s
-  walk_tick_as k q true acting h s = walk_tick doc k q (P k) (λ t g made s. keeps.ticks k q t g (acting refl) made s) h s
+  walk_tick_as k q true acting h s = keeps.ticks k q h (acting refl) s
 
   pub walk_expiry : (k p : ℕ) (h : List Entry) → P k h → P k (expire doc k p h)
   walk_expiry k p h s = walk_if_up k p (λ q T. expire_call doc k q (call_in q T) T) (λ i T up s. walk_expire k p i T up (call_in (identity p i) T) refl s) (alive p h) h refl s

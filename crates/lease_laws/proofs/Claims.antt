@@ -19,6 +19,7 @@ use Rattle.history.specs.Sound.{IsSound}
 use Rattle.history.specs.Steps.{turns}
 use Rattle.history_laws.proofs.Counting.{present_is}
 use Rattle.history_laws.proofs.Plainly.{and_left, and_right, false_is}
+use Rattle.history_laws.proofs.Ticks.{walk_tick}
 use Rattle.history_laws.proofs.Walk.{Anyone, KeepsTurn, walk_any_turns}
 use Rattle.lease_laws.proofs.Invariant.{view, Wide, FitObject, CoveredBy, HeldRight, Led, Inv}
 use Rattle.lease_laws.proofs.Clocks.{local_at_least}
@@ -87,7 +88,7 @@ same_stored doc t = record {
   attempts = λ k p i h role up waits s. s;
   seeks = λ k p i call h role up expired late s. s;
   posts = λ k p i h role up none s. s;
-  ticks = λ k q t h acting made s. stored_tick doc k q t h made ∙ s;
+  ticks = λ k q h acting s. walk_tick doc k q (λ g. stored election g ≡ t) (λ x g made s. stored_tick doc k q x g made ∙ s) h s;
 }
 
 stored_turns : (doc : Doc) (k p : ℕ) (h : List Entry) → stored election (turns doc k p h) ≡ stored election h

@@ -27,6 +27,7 @@ use Rattle.history.specs.Sound.{IsSoundEvent, AreSound, IsSound}
 use Rattle.history.specs.Steps.{comes_at, answered}
 use Rattle.history_laws.proofs.Plainly.{upper, if_some, same_self, some_is, none_is, false_is, and_left}
 use Rattle.history_laws.proofs.Counting.{CountedFor, counted_is, only_value, when_test, when_value}
+use Rattle.history_laws.proofs.Ticks.{walk_tick}
 use Rattle.history_laws.proofs.Walk.{InScript, Scripted, Arriving, Coming, stopped_at, after_reply, Keeps}
 use Rattle.lease_laws.proofs.Invariant.{View, view, Fit, FitRequest, OnTop, Wrote, MayAsk, Base, After, AnswerRight, SentRight, Elsewhere, BackRight, EntryRight, NumberedIn, HeldRight, Saw, Led, Inv}
 use Rattle.lease_laws.proofs.EachKind.{after_arrival, keep_starts, keep_crashes, keep_ends, keep_stops, keep_event, keep_leads, keep_expires, keep_uncounted, keep_counted, keep_sends}
@@ -315,7 +316,7 @@ all_keep doc high greatest sound = record {
     attempts = λ k p i h role up waits s end. keep_sends doc high k h (s end) 4 (identity p i) (attempt doc (identity p i) k h).0 (attempt doc (identity p i) k h).1 (attempt_right doc high k h (s end) (identity p i) role);
     seeks = λ k p i call h role up expired late s end. keep_sends doc high k h (s end) 4 (identity p i) Plain (Get (node_lease (node_of doc p))) (asks_elsewhere doc high (view h) (identity p i) k (Get (node_lease (node_of doc p))) role refl);
     posts = λ k p i h role up none s end. keep_sends doc high k h (s end) 4 (identity p i) Plain (post doc (identity p i) k h) (asks_elsewhere doc high (view h) (identity p i) k (post doc (identity p i) k h) role refl);
-    ticks = λ k q t h acting made s end. keep_quiet doc high k h (entry k 4 q (Ticks t)) (quiet_tick k q t (deletes_elsewhere doc k q t h made)) (s end);
+    ticks = λ k q h acting s. walk_tick doc k q (Kept doc high k) (λ t g made s end. keep_quiet doc high k g (entry k 4 q (Ticks t)) (quiet_tick k q t (deletes_elsewhere doc k q t g made)) (s end)) h s;
   };
 }
   where
