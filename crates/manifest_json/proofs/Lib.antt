@@ -1,4 +1,5 @@
 pub mod FieldsBack
+pub mod FittingItems
 pub mod Getting
 pub mod Growing
 pub mod HoldersBack

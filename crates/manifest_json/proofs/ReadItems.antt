@@ -292,7 +292,7 @@ item-reads names known path value held = search (skip, if_kind-reads)
 
 -- ---- lists
 
-three : (a b c : Bool) → (a && b && c) ≡ true → (a ≡ true) × (b ≡ true) × (c ≡ true)
+pub three : (a b c : Bool) → (a && b && c) ≡ true → (a ≡ true) × (b ≡ true) × (c ≡ true)
 three true true c h = (refl, refl, h)
 three true false c h = absurd cc
 three false b c h = absurd cc

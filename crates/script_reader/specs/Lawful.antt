@@ -18,7 +18,7 @@ use Rattle.kube_objects.specs.Kinds.{IsOfKind}
 use Rattle.kube_objects.specs.Keys.{key_eq}
 use Rattle.kube_objects.specs.Stored.{election}
 use Rattle.manifest_json.specs.Fields.{Texts}
-use Rattle.manifest_json.specs.Readable.{IsNameNumber, IsReadableItem, IsReadable}
+use Rattle.manifest_json.specs.Readable.{IsNameNumber, IsReadableItem, AreKeyedApart, IsReadable}
 use Rattle.manifest_json.specs.Walk.{kind_count, kind_limit}
 use Rattle.script_reader.specs.Walk.{numbers_of}
 
@@ -81,10 +81,6 @@ pub record IsLawful (p : Proc) : Type 0 where
 -- no two of these processes have the same name
 abbrev pub AreNamedApart : List Proc → Type 0
 AreNamedApart procs = IsDistinct (λ a b. a == b) (numbers_of procs)
-
--- no two of these objects have the same key
-abbrev pub AreKeyedApart : List (Key × Object) → Type 0
-AreKeyedApart objects = IsDistinct key_eq (map (λ item. item.0) objects)
 
 -- an event names processes of the document of the right sort, has its ranges, and leaves the election Lease alone
 abbrev pub IsLawfulWhat : Doc → What → Type 0

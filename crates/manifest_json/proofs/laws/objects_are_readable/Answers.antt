@@ -1,3 +1,4 @@
+use Rattle.manifest_json.proofs.FittingItems.{keys-apart, kinds-few}
 use Rattle.manifest_json.proofs.ReadItems.{list-reads, object-reads, writable-items}
 use Rattle.manifest_json.proofs.laws.objects_are_readable.Goals as goal
 
@@ -9,3 +10,6 @@ returns-clause-objects c = λ names new known path value found held is. ((object
 
 pub returns-clause-writable : goal.returns-clause-writable
 returns-clause-writable c = λ names known items h. writable-items names known items h.each
+
+pub returns-clause-apart : goal.returns-clause-apart
+returns-clause-apart c = λ items fit. (keys-apart items fit, λ kind. kinds-few kind items fit)
