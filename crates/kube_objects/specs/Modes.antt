@@ -83,8 +83,8 @@ all_full doc nodes = nat_lt 0 (length nodes) && list_all (λ place. is_full (sta
 -- the rate of a zone under the document's policy; on says whether the all-Full mode is
 abbrev pub rate_in : Doc → Bool → List Node → Place → ℕ
 rate_in doc on nodes place =
-    rate_of on (state_in doc nodes place) doc.settings.rate_policy doc.settings.primary_rate doc.settings.secondary_rate doc.settings.large_zone
-    (size_in place nodes)
+    rate_of on (state_in doc nodes place) doc.settings.rate_policy doc.settings.primary_rate doc.settings.secondary_rate
+    doc.settings.large_zone (size_in place nodes)
 
 -- ---- the mode
 

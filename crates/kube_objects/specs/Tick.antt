@@ -99,7 +99,12 @@ pass doc k q h = pass_if doc k q (is_pass_due doc k q h) h
 
 -- a taint that a tick adds: without a value, with the whole second of the controller's time of day
 abbrev pub new_taint : Doc → ℕ → Identity → ℕ → Taint
-new_taint doc k q wanted = record { key = wanted; value = 0; effect = NoExecute; added = Some (record { 0 = whole_second (wall doc q.process k) }) }
+new_taint doc k q wanted = record {
+  key = wanted;
+  value = 0;
+  effect = NoExecute;
+  added = Some (record { 0 = whole_second (wall doc q.process k) });
+}
 
 abbrev pub with_taints : Node → List Taint → Node
 with_taints node taints = record node { taints = taints }
@@ -114,7 +119,8 @@ and_taint false taint taints = taints ++ taint ∷ []
 
 -- without the opposite of the wanted taint; that one stays as it is where it is there, else it is put at the end
 abbrev pub swapped : Taint → Node → Node
-swapped taint node = with_taints node (and_taint (list_any (is_wanted taint.key) node.taints) taint (filter (λ other. not (is_opposite taint.key other)) node.taints))
+swapped taint node = with_taints node
+    (and_taint (list_any (is_wanted taint.key) node.taints) taint (filter (λ other. not (is_opposite taint.key other)) node.taints))
 
 abbrev pub untaint_if : ℕ → Identity → ℕ → Version → Node → Bool → List Entry → List Entry
 untaint_if k q name given node false h = h
@@ -122,7 +128,8 @@ untaint_if k q name given node true h = add k q (Untaint name given (untainted n
 
 abbrev pub swap_if : Doc → ℕ → Identity → ℕ → Version → Node → ℕ → Bool → List Entry → List Entry
 swap_if doc k q name given node wanted false h = h
-swap_if doc k q name given node wanted true h = add k q (Swap name wanted given (swapped (new_taint doc k q wanted) node) (try_node q name given h)) h
+swap_if doc k q name given node wanted true h =
+    add k q (Swap name wanted given (swapped (new_taint doc k q wanted) node) (try_node q name given h)) h
 
 abbrev pub clean_as : Doc → ℕ → Identity → ℕ → Version → Node → Wants → List Entry → List Entry
 clean_as doc k q name given node Nothing h = untaint_if k q name given node (has_condition node) h
@@ -173,7 +180,8 @@ tainted doc k q h = for_each (taint doc k q) (places (nodes q h)) h
 
 abbrev pub delete_if : ℕ → Identity → Key → Version → ℕ → Version → ℕ → Bool → List Entry → List Entry
 delete_if k q pod given node node_given at false h = h
-delete_if k q pod given node node_given at true h = add k q (Delete pod given node_given at (try_delete q pod given node node_given h)) h
+delete_if k q pod given node node_given at true h =
+    add k q (Delete pod given node_given at (try_delete q pod given node node_given h)) h
 
 -- node is the name of the pod's node
 abbrev pub evict_due : Doc → ℕ → Identity → Key → Version → ℕ → Version → Due → List Entry → List Entry

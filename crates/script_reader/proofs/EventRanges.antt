@@ -18,11 +18,12 @@ use Rattle.script_reader.specs.declared.table.EventType.{EventType}
 use Rattle.script_reader.specs.declared.table.EventType.TheVariants as types
 use Rattle.script_reader.specs.declared.table.Table.TheVariants as tables
 use Rattle.script_reader.specs.Fields.{under, object_at, needed_whole, needed_text, needed_posted}
-use Rattle.script_reader.specs.Lawful.{IsOfKind, IsLawfulWhat, AreLawfulFrom}
+use Rattle.kube_objects.specs.Kinds.{IsOfKind}
+use Rattle.script_reader.specs.Lawful.{IsLawfulWhat, AreLawfulFrom}
 use Rattle.script_reader.specs.Tables.{known_in}
 use Rattle.script_reader.specs.Walk.{Cast, controller_named, kubelet_named, process_named, proc_id, behind, or_else, process_at, rate_at, delay_at, loss_at, crash_at, start_at, stop_at, watch_at, ready_at, put_at, remove_at, beside, what_at, type_at, edits_election, if_event, event_at, events_from, events_in}
 use Rattle.script_reader.proofs.FieldRanges.{IsIn, of_required, needed_whole-in, array-few}
-use Rattle.script_reader.proofs.Getting.{Gets, Has, done, refused, weaker, by_test, of_option, and_then, skip}
+use Rattle.manifest_json.proofs.Getting.{Gets, Has, done, refused, weaker, by_test, of_option, and_then, skip}
 use Rattle.script_reader.proofs.ObjectKinds.{object-kind}
 
 -- ---- the processes that events name

@@ -10,7 +10,7 @@ use Rattle.manifest_json.specs.declared.fault.Refusal.{Refusal}
 use Rattle.manifest_json.specs.Fields.{or_refuse}
 use Rattle.manifest_json.specs.Walk.{items_len}
 use Rattle.script_reader.specs.Fields.{under, default_of, required, whole_or, whole_in, whole_at, needed_whole, signed_or, signed_in, signed_at, array_in}
-use Rattle.script_reader.proofs.Getting.{Gets, done, refused, by_test, skip}
+use Rattle.manifest_json.proofs.Getting.{Gets, done, refused, by_test, skip}
 
 -- a key that may be missing
 module _ {A : Type 0} {P : A → Type 0} (read : Data → Result A Refusal) where

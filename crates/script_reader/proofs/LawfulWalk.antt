@@ -15,7 +15,7 @@ use Rattle.script_reader.specs.Laws.{DocumentsAreLawful}
 use Rattle.script_reader.specs.Walk.{version_in, settings_at, controllers_in, kubelets_in, objects_in, no_objects, numbers_of, cast_of, events_in, top_in, document_at, data_of, document_walk}
 use Rattle.script_reader.proofs.EventRanges.{IsOf, events-in}
 use Rattle.script_reader.proofs.FieldRanges.{of_default, of_required}
-use Rattle.script_reader.proofs.Getting.{Gets, done, and_then, skip}
+use Rattle.manifest_json.proofs.Getting.{Gets, done, and_then, skip}
 use Rattle.script_reader.proofs.ObjectKinds.{IsItem, list-kinds}
 use Rattle.script_reader.proofs.ProcessRanges.{settings-in, controllers-in, kubelets-in}
 

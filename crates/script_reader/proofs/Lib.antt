@@ -1,7 +1,6 @@
 mod ClockRatesLemmas
 mod EventRanges
 mod FieldRanges
-mod Getting
 mod LawfulWalk
 pub mod Loops
 pub mod Named

@@ -9,8 +9,8 @@ use Rattle.kube_objects.specs.declared.key.Kind.TheVariants as kinds
 use Rattle.kube_objects.specs.declared.object.Object.{Object}
 use Rattle.manifest_json.specs.Fields.{Texts, field, parent_at}
 use Rattle.manifest_json.specs.Walk.{spaced_key_at, node_at, lease_at, pod_at, of_kind_at, if_kind, item_at, object_walk, with_found, with_item, list_step, list_from, list_walk}
-use Rattle.script_reader.specs.Lawful.{IsOfKind}
-use Rattle.script_reader.proofs.Getting.{Gets, done, refused, by_test, and_then, skip}
+use Rattle.kube_objects.specs.Kinds.{IsOfKind}
+use Rattle.manifest_json.proofs.Getting.{Gets, done, refused, by_test, and_then, skip}
 
 spaced_key-kind : (names : Texts) (path : List ℕ) (kind : Kind) (metadata : Option Data) → Gets (λ r. r.0.kind ≡ kind) (spaced_key_at names path kind metadata)
 unfolding spaced_key_at

@@ -20,7 +20,7 @@ use Rattle.script_reader.specs.Fields.{under, text_at, needed_whole, flag_at, po
 use Rattle.script_reader.specs.Lawful.{AreLawful, IsLawful}
 use Rattle.script_reader.specs.Walk.{object_in, if_end, beats_at, timings_at, standard, periods_at, rates_at, is_sound, settings_at, named_at, clock_at, timings_of, has_name, controller_at, controllers_from, not_empty, controllers_in, kubelet_at, kubelets_from, kubelets_in}
 use Rattle.script_reader.proofs.FieldRanges.{IsIn, whole_at-in, IsSignedIn, signed_at-in, array-few}
-use Rattle.script_reader.proofs.Getting.{Gets, done, refused, weaker, by_test, and_then, skip}
+use Rattle.manifest_json.proofs.Getting.{Gets, done, refused, weaker, by_test, and_then, skip}
 
 -- ---- settings
 
