@@ -119,6 +119,30 @@ pub pods_only : (h : List Entry) → Each IsPodKey (pod_keys h)
 pods_only [] = tt
 pods_only (e ∷ h) = pods_more (write_of e.deed) (pod_keys h) (pods_only h)
 
+-- what the delete of one pod keeps, the look at the pod keeps
+pub evict_step : (doc : Doc) (k : ℕ) (q : Identity) (P : List Entry → Type 0) (pod : Key) (h : List Entry) → IsPodKey pod → P h
+    → ((given node_given : Version) (at : ℕ) (a : Option Answer) → IsDelete doc k q pod given node_given at a h → P (add k q (Delete pod given node_given at a) h)) → P (evict doc k q pod h)
+evict_step doc k q P pod h kind p more = by_stale (is_stale q pod h) (seen_pod q pod h) refl
+  where
+    by_time : (x : Version × Pod) (y : Version × Node) → seen_pod q pod h ≡ Some x → seen_node q x.1.node h ≡ Some y → (at : ℕ) → due x.1 y.1 ≡ At at → (b : Bool) → nat_le at (wall doc q.process k) ≡ b
+        → P (delete_if k q pod x.0 x.1.node y.0 at b h)
+    by_time x y sees sees_node at time false test = p
+    by_time x y sees sees_node at time true test =
+        more x.0 y.0 at (try_delete q pod x.0 x.1.node y.0 h) (record { kind = kind; x = x.1; y = y.1; sees = sees; sees_node = sees_node; time = time; test = test; is = refl })
+
+    by_due : (x : Version × Pod) (y : Version × Node) → seen_pod q pod h ≡ Some x → seen_node q x.1.node h ≡ Some y → (o : Due) → due x.1 y.1 ≡ o → P (evict_due doc k q pod x.0 x.1.node y.0 o h)
+    by_due x y sees sees_node Never time = p
+    by_due x y sees sees_node (At at) time = by_time x y sees sees_node at time (nat_le at (wall doc q.process k)) refl
+
+    by_node : (x : Version × Pod) → seen_pod q pod h ≡ Some x → (o : Option (Version × Node)) → seen_node q x.1.node h ≡ o → P (evict_on doc k q pod x o h)
+    by_node x sees None sees_node = p
+    by_node x sees (Some y) sees_node = by_due x y sees sees_node (due x.1 y.1) refl
+
+    by_stale : (b : Bool) (o : Option (Version × Pod)) → seen_pod q pod h ≡ o → P (evict_seen doc k q pod b o h)
+    by_stale true o is = p
+    by_stale false None is = p
+    by_stale false (Some x) is = by_node x is (seen_node q x.1.node h) refl
+
 -- ---- the walk
 
 module _ (doc : Doc) (k : ℕ) (q : Identity) (P : List Entry → Type 0) (more : (t : Tick) (h : List Entry) → MadeTick doc k q t h → P h → P (add k q t h)) where
@@ -225,26 +249,7 @@ module _ (doc : Doc) (k : ℕ) (q : Identity) (P : List Entry → Type 0) (more 
   walk_tainted h p = every (taint doc k q) walk_taint (places (nodes q h)) h p
 
   pub walk_evict : (pod : Key) (h : List Entry) → IsPodKey pod → P h → P (evict doc k q pod h)
-  walk_evict pod h kind p = by_stale (is_stale q pod h) (seen_pod q pod h) refl
-    where
-      by_time : (x : Version × Pod) (y : Version × Node) → seen_pod q pod h ≡ Some x → seen_node q x.1.node h ≡ Some y → (at : ℕ) → due x.1 y.1 ≡ At at → (b : Bool) → nat_le at (wall doc q.process k) ≡ b
-          → P (delete_if k q pod x.0 x.1.node y.0 at b h)
-      by_time x y sees sees_node at time false test = p
-      by_time x y sees sees_node at time true test =
-          more (Delete pod x.0 y.0 at (try_delete q pod x.0 x.1.node y.0 h)) h (record { kind = kind; x = x.1; y = y.1; sees = sees; sees_node = sees_node; time = time; test = test; is = refl }) p
-
-      by_due : (x : Version × Pod) (y : Version × Node) → seen_pod q pod h ≡ Some x → seen_node q x.1.node h ≡ Some y → (o : Due) → due x.1 y.1 ≡ o → P (evict_due doc k q pod x.0 x.1.node y.0 o h)
-      by_due x y sees sees_node Never time = p
-      by_due x y sees sees_node (At at) time = by_time x y sees sees_node at time (nat_le at (wall doc q.process k)) refl
-
-      by_node : (x : Version × Pod) → seen_pod q pod h ≡ Some x → (o : Option (Version × Node)) → seen_node q x.1.node h ≡ o → P (evict_on doc k q pod x o h)
-      by_node x sees None sees_node = p
-      by_node x sees (Some y) sees_node = by_due x y sees sees_node (due x.1 y.1) refl
-
-      by_stale : (b : Bool) (o : Option (Version × Pod)) → seen_pod q pod h ≡ o → P (evict_seen doc k q pod b o h)
-      by_stale true o is = p
-      by_stale false None is = p
-      by_stale false (Some x) is = by_node x is (seen_node q x.1.node h) refl
+  walk_evict pod h kind p = evict_step doc k q P pod h kind p (λ given node_given at a made. more (Delete pod given node_given at a) h made p)
 
   pub walk_evicted : (h : List Entry) → P h → P (evicted doc k q h)
   walk_evicted h p = each (evict doc k q) IsPodKey walk_evict (pod_keys h) h (pods_only h) p

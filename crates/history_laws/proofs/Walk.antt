@@ -11,7 +11,7 @@ use Rattle.kube_objects.specs.declared.script.What.TheVariants as what
 use Rattle.kube_objects.specs.Clocks.{local}
 use Rattle.kube_objects.specs.Document.{Doc, processes, is_controller, is_up_first}
 use Rattle.kube_objects.specs.Elector.{Follow, Fails, Asks, Succeeds, follow_on, leads, deadline, timer, attempt, release, acts}
-use Rattle.kube_objects.specs.Entry.{Entry, Identity, Call, Plain, Release, Deed, Event as Happens, Starts, Crashes, Stops, Ends, Delivers, Expires, Leads, actor_of, entry, script_entry}
+use Rattle.kube_objects.specs.Entry.{Entry, Identity, Call, Plain, Release, Deed, Event as Happens, Starts, Crashes, Stops, Ends, Delivers, Expires, Leads, Ticks, actor_of, entry, script_entry}
 use Rattle.kube_objects.specs.Identities.{identity}
 use Rattle.kube_objects.specs.Kubelet.{node_of, is_post, has_round, next_request, post, send_next, is_post_call, round_if, is_round_due, round_timer, round}
 use Rattle.kube_objects.specs.Newest.{has}
@@ -25,7 +25,7 @@ use Rattle.history.specs.Steps.{start, start_first, starts_below, first_starts, 
 use Rattle.history_laws.specs.Tails.{In}
 use Rattle.history_laws.proofs.Expired.{expired_none}
 use Rattle.history_laws.proofs.Plainly.{true_is, and_left, not_true}
-use Rattle.history_laws.proofs.Ticks.{walk_tick}
+use Rattle.history_laws.proofs.Ticks.{MadeTick, walk_tick}
 
 abbrev pub InScript : Event → List Event → Type 0
 InScript e [] = ⊥
@@ -163,6 +163,43 @@ all_kinds doc P on next more = record {
   asks = λ k b waiting h request coming is role follows was s. more _ (after_reply k b waiting h) (tt, refl) s;
   turns = all_turns doc (Ticking doc) (λ k h. P k 4 h) (λ k x h beat step next s.
       subst (λ step. P k step (x ∷ h)) step (subst (λ k. P k x.step (x ∷ h)) beat (more x h next (subst (λ k. P k x.step h) (sym beat) (subst (λ step. P k step h) (sym step) s)))));
+}
+
+-- an entry of a tick is by one who ticks, and is as a tick makes it
+abbrev pub Made : Doc → ℕ → Actor → Deed → List Entry → Type 0
+Made doc k who (Ticks t) h = (q : Identity) × (who ≡ actor_of q) × Ticking doc q k × MadeTick doc k q t h
+Made doc k who _ h = Unit {0}
+
+-- a property that every new entry keeps, of whom only a tick's is known how it was made
+pub all_made : (doc : Doc) (P : ℕ → ℕ → List Entry → Type 0)
+    → ((k step : ℕ) (h : List Entry) → P k step h → P k (suc step) h)
+    → ((k : ℕ) (h : List Entry) → P k 4 h → P (suc k) 1 h)
+    → ((x : Entry) (h : List Entry) → Made doc x.beat x.actor x.deed h → P x.beat x.step h → P x.beat x.step (x ∷ h))
+    → Keeps doc P
+all_made doc P on next more = record {
+  on = on;
+  next = λ k s. next k (history doc (suc k)) s;
+  event = λ k w h scripted s. more _ h tt s;
+  starts = λ k step p h s. more _ h tt s;
+  crashes = λ k p i h up s. more _ h tt s;
+  stops = λ k id i h scripted up s. more _ h tt s;
+  releases = λ k id i before request scripted up is was s. more _ (stopped_at k id i before) tt s;
+  answers = λ k s h at t. more _ h tt t;
+  ignores = λ k b h coming is s. more _ h tt s;
+  counts = λ k b waiting h coming is s. more _ h tt s;
+  follows = λ k b waiting h request coming is role follows was s. more _ (after_reply k b waiting h) tt s;
+  leads = λ k b waiting h version coming is role follows was s. more _ (after_reply k b waiting h) tt s;
+  asks = λ k b waiting h request coming is role follows was s. more _ (after_reply k b waiting h) tt s;
+  turns = record {
+    restarts = λ k p h s. more _ h tt s;
+    expires = λ k p i call h up waits late s. more _ h tt s;
+    ends = λ k p i at h role up is before s. more _ h tt s;
+    polls = λ k p i h role up waits s. more _ h tt s;
+    attempts = λ k p i h role up waits s. more _ h tt s;
+    seeks = λ k p i call h role up expired late s. more _ h tt s;
+    posts = λ k p i h role up none s. more _ h tt s;
+    ticks = λ k q h acting s. walk_tick doc k q (P k 4) (λ t g made s. more _ g (q, refl, acting, made) s) h s;
+  };
 }
 
 -- ---- step 4
