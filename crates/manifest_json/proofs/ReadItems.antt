@@ -323,7 +323,7 @@ with_item-reads : (names : Texts) (known path : List ℕ) (items : List (Key × 
 with_item-reads names known path items None all one = done _ all
 with_item-reads names known path items (Some found) all one = and_then (found-reads names known path items found all one) (λ more h. done _ h)
 
-IsReadable-grows : {a b : Texts} (g : Grows a b) (known : List ℕ) → AreHeld a known → (items : List (Key × Object)) → IsReadable a known items → IsReadable b known items
+pub IsReadable-grows : {a b : Texts} (g : Grows a b) (known : List ℕ) → AreHeld a known → (items : List (Key × Object)) → IsReadable a known items → IsReadable b known items
 IsReadable-grows g known held items h = record { each = all-weaker _ _ items (IsReadableItem-grows g known held) h.each; fit = h.fit }
 
 step-reads : (names : Texts) (known path : List ℕ) (items : List (Key × Object)) (d : Data) → AreHeld names known → IsReadable names known items → Reads names (λ ns r. IsReadable ns known r.0) (list_step names known path items d)
