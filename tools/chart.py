@@ -189,8 +189,9 @@ def axes(plan):
 def picture(plan, asked, rows):
     plan = {**plan, 'runs': [[value if number(value) else plain(value) for value in run] for run in plan['runs']]}
     place = axes(plan)
-    out = ['<svg xmlns="http://www.w3.org/2000/svg" width="%d" height="%d" ' % (WIDTH, HEIGHT * len(asked)) +
-           'font-family="DejaVu Sans, Verdana, sans-serif" font-size="12" fill="#16202b">', '<rect width="100%" height="100%" fill="#fff"/>']
+    out = ['<svg xmlns="http://www.w3.org/2000/svg" width="%d" height="%d"' % (WIDTH, HEIGHT * len(asked)),
+           ' font-family="DejaVu Sans, Verdana, sans-serif" font-size="12" fill="#16202b">',
+           '<rect width="100%" height="100%" fill="#fff"/>']
     for i, question in enumerate(asked):
         out += lines(plan, question, rows, i * HEIGHT, *place) if place else cells(plan, question, rows, i * HEIGHT)
     return '\n'.join(out + ['</svg>', ''])

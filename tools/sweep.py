@@ -15,6 +15,7 @@ broken off goes on where it stopped, by the same command. docs/pictures.md tells
 """
 import argparse
 import csv
+import glob
 import itertools
 import json
 import os
@@ -201,10 +202,11 @@ class Replays:
 
     def one(self, number):
         path = run_path(self.folder, number, '')
+        part = '%s.%d.part' % (path, os.getpid())
         with self.lock:
             if self.stopped:
                 return
-            with open(path + '.json') as document, open(path + '.part', 'w') as trace:
+            with open(path + '.json') as document, open(part, 'w') as trace:
                 process = subprocess.Popen([*self.program, 'replay'], stdin=document, stdout=trace, stderr=subprocess.PIPE,
                                            start_new_session=True)
             self.running.add(process)
@@ -214,7 +216,7 @@ class Replays:
             if self.stopped:
                 return
         if process.returncode in (0, 1):
-            os.replace(path + '.part', path + '.trace')
+            os.replace(part, path + '.trace')
         else:
             self.faults.append('%s.json ends with status %d %s' % (path, process.returncode, said.decode(errors='replace').strip()[-200:]))
         self.progress.step()
@@ -267,6 +269,8 @@ def write_table(folder, ask=()):
             table.writerow([number, *map(plain, values), row['premise'], row['outcome'], *(text(row[question]) for question in asked)])
     os.replace(path + '.part', path)
     write_whole(os.path.join(folder, 'answers.svg'), chart.picture(plan, asked, rows))
+    for part in glob.glob(os.path.join(glob.escape(folder), 'runs', '*.part')):
+        os.remove(part)
     print(path, os.path.join(folder, 'answers.svg'))
 
 

@@ -16,8 +16,8 @@ def find_or_install():
     for name in ('chromium', 'chromium-browser'):
         if shutil.which(name):
             return name
-    subprocess.run(['apt-get', 'update', '-q'], check=True)
-    subprocess.run(['apt-get', 'install', '-y', '-q', '--no-install-recommends', 'chromium'], check=True)
+    subprocess.run(['apt-get', 'update', '-qq'], check=True)
+    subprocess.run(['apt-get', 'install', '-y', '-qq', '--no-install-recommends', 'chromium'], check=True, stdout=subprocess.DEVNULL)
     return 'chromium'
 
 

@@ -1,4 +1,4 @@
-"""What the lines of a trace say of lanes, marks and states, counted apart from the page and in another way: line by line and beat by beat."""
+"""What the lines of a trace say of lanes, marks and states, counted apart from the page and in another way: beat by beat."""
 from collections import Counter
 
 TAKEN = ('start', 'crash', 'stop', 'end', 'lead', 'zone', 'mode', 'put', 'remove')

@@ -221,8 +221,9 @@ def luminance(colour):
 def test_looks(browser, folder, pictures):
     """What stands for other things differs in pattern or lightness, whatever colours one sees; both themes; paper."""
     open_trace(browser, folder, os.path.join(TOP, 'examples', 'uneven-clocks', 'trace.txt'))
-    others = [('leading', 'up'), ('leading', 'several'), ('nobody', 'several'), ('True', 'False'), ('True', 'Unknown'), ('False', 'Unknown'),
-              ('not-ready', 'unreachable'), ('Normal', 'PartialDisruption'), ('PartialDisruption', 'FullDisruption')]
+    others = [('leading', 'up'), ('leading', 'several'), ('nobody', 'several'), ('True', 'False'), ('True', 'Unknown'),
+              ('False', 'Unknown'), ('not-ready', 'unreachable'), ('Normal', 'PartialDisruption'),
+              ('PartialDisruption', 'FullDisruption')]
     for theme in ('light', 'dark'):
         browser.run('timeline.theme = %r, timeline.applyTheme(), timeline.drawNow()' % theme)
         fills = browser.run('Object.fromEntries(Object.entries(SPANS).map(([kind, span]) => '
@@ -241,9 +242,10 @@ def test_looks(browser, folder, pictures):
 
 def test_wrong_text(browser, folder, pictures):
     """What is no trace is refused, and a line that isn't known is told."""
-    cases = [('refused 6 /settings\n', 'is no trace'), ('', 'Open the text'), ('trace 1 beat=100 end=9 premise=yes\n0 c1_1 jump\n', 'line 2'),
-             ('trace 1 beat=100 end=9 premise=yes\n5 c1_1 start\n4 c1_1 crash\n', 'line 3'), ('trace 1 beat=100 end=9 premise=yes\n0 c1_1 st', 'cut short'),
-             ('trace 1 beat=100 end=9 premise=yes\n1 <b>_1 start\n1 a&amp;_1 start\n', '2 lines')]
+    head = 'trace 1 beat=100 end=9 premise=yes\n'
+    cases = [('refused 6 /settings\n', 'is no trace'), ('', 'Open the text'), (head + '0 c1_1 jump\n', 'line 2'),
+             (head + '5 c1_1 start\n4 c1_1 crash\n', 'line 3'), (head + '0 c1_1 st', 'cut short'),
+             (head + '1 <b>_1 start\n1 a&amp;_1 start\n', '2 lines')]
     for text, wanted in cases:
         path = os.path.join(folder, 'wrong.txt')
         with open(path, 'w') as file:
@@ -325,9 +327,10 @@ def test_pictures(browser, folder, pictures):
     """Screenshots to look at, where a folder for them is given."""
     if not pictures:
         return
-    cases = [('two-leaders', os.path.join(TOP, 'examples', 'uneven-clocks', 'trace.txt'), 330, 'controller cp-east-1', '189 cp-east-1_1 end'),
-             ('failover', os.path.join(TOP, 'examples', 'leader-crashes', 'trace.txt'), 330, 'controller cp-east-2', '204 cp-east-2_1 lead v=4'),
-             ('zone-outage', os.path.join(HERE, 'data', 'zone-outage.txt'), 985, 'node worker-b-1', '212 cp-2_1 taint worker-b-1 unreachable v=274')]
+    examples, data = os.path.join(TOP, 'examples'), os.path.join(HERE, 'data')
+    cases = [('two-leaders', examples + '/uneven-clocks/trace.txt', 330, 'controller cp-east-1', '189 cp-east-1_1 end'),
+             ('failover', examples + '/leader-crashes/trace.txt', 330, 'controller cp-east-2', '204 cp-east-2_1 lead v=4'),
+             ('zone-outage', data + '/zone-outage.txt', 985, 'node worker-b-1', '212 cp-2_1 taint worker-b-1 unreachable v=274')]
     for name, path, height, lane, text in cases:
         open_trace(browser, folder, path)
         browser.size(1120, height + 172)
@@ -357,7 +360,7 @@ def main():
             if given.only in test.__name__:
                 browser.size(1280, 800)
                 test(browser, folder, given.pictures)
-                print('%s: %s' % (test.__name__.removeprefix('test_'), 'done' if not faults else '%d faults so far' % len(faults)), flush=True)
+                print('%s: %s' % (test.__name__.removeprefix('test_'), '%d faults so far' % len(faults) if faults else 'done'), flush=True)
     sys.exit(1 if faults else 0)
 
 
