@@ -2,7 +2,7 @@
 use Rattle.std.specs.Prelude.{refl}
 use Rattle.kube_objects.specs.Document.{of_seconds, of_millis}
 use Rattle.kube_objects.specs.Tokens.{token_size}
-use Rattle.tick_examples.specs.Queues.{TaintAfterFailover, SwapNeedsNoToken, ZonesApart, ReadyAndMarkedAtOnce, WaitingInAnotherZone}
+use Rattle.tick_examples.specs.Queues.{TaintAfterFailover, SwapNeedsNoToken, ZonesApart, ReadyAndMarkedAtOnce, WaitingInAnotherZone, LostTaintGoesBack}
 
 pub taint_after_failover : TaintAfterFailover
 unfolding of_seconds of_millis token_size
@@ -23,3 +23,7 @@ ready_and_marked_at_once = refl
 pub waiting_in_another_zone : WaitingInAnotherZone
 unfolding of_seconds of_millis token_size
 waiting_in_another_zone = refl
+
+pub lost_taint_goes_back : LostTaintGoesBack
+unfolding of_seconds of_millis token_size
+lost_taint_goes_back = refl

@@ -112,20 +112,37 @@ beating name zone status taints n = (
 abbrev pub node : ℕ → ℕ → ReadyStatus → List Taint → Key × Object
 node name zone status taints = beating name zone status taints 0
 
--- a node without labels, taints and Ready condition
+abbrev pub without_heartbeat : ℕ → ℕ → ReadyStatus → Key × Object
+without_heartbeat name zone status = (
+  node_key name,
+  object.Node (record {
+    region = r1;
+    zone = zone;
+    taints = [];
+    ready = Some (record { status = status; reason = 0; heartbeat = None; transition = None });
+  }),
+)
+
+-- a node without Ready condition
+abbrev pub unready_node : ℕ → ℕ → List Taint → Key × Object
+unready_node name zone taints = (node_key name, object.Node (record { region = r1; zone = zone; taints = taints; ready = None }))
+
+-- and one without labels and taints too
 abbrev pub bare_node : ℕ → Key × Object
 bare_node name = (node_key name, object.Node (record { region = 0; zone = 0; taints = []; ready = None }))
 
 -- the Lease of a node, with this renew time
 abbrev pub renewed : ℕ → Option Wall → Key × Object
-renewed name at =
-    (node_lease name, object.Lease (record {
-      holder = holder.Foreign name;
-      duration = None;
-      acquired = None;
-      renewed = at;
-      transitions = None;
-    }))
+renewed name at = (
+  node_lease name,
+  object.Lease (record {
+    holder = holder.Foreign name;
+    duration = None;
+    acquired = None;
+    renewed = at;
+    transitions = None;
+  }),
+)
 
 -- a condition taint is tolerated for some seconds
 abbrev pub tolerating : ℕ → ℕ → Toleration

@@ -30,11 +30,11 @@ ready_node name = (
     zone = zone_a;
     taints = [];
     ready = Some (record {
-    status = ready.True;
-    reason = 1;
-    heartbeat = Some (record { 0 = 1704067080000000 });
-    transition = Some (record { 0 = 1698915640000000 });
-  });
+      status = ready.True;
+      reason = 1;
+      heartbeat = Some (record { 0 = 1704067080000000 });
+      transition = Some (record { 0 = 1698915640000000 });
+    });
   }),
 )
 

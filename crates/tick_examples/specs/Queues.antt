@@ -1,5 +1,5 @@
 -- Queued taints, and swaps.
-use Rattle.std.specs.Prelude.{◌≡◌, [], ◌∷◌}
+use Rattle.std.specs.Prelude.{◌≡◌, true, false, [], ◌∷◌}
 use Rattle.kube_objects.specs.declared.call.Answer.TheVariants as answer
 use Rattle.kube_objects.specs.declared.deed.Act.TheVariants as act
 use Rattle.kube_objects.specs.declared.node.ReadyStatus.TheVariants as ready
@@ -9,7 +9,7 @@ use Rattle.kube_objects.specs.Stored.{election, node_key}
 use Rattle.kube_objects.specs.Tainting.{not_ready, unreachable}
 use Rattle.history.specs.History.{whole_history}
 use Rattle.history.specs.Printed.{printed}
-use Rattle.history_examples.specs.Documents.{settings, c1, c2, at_beat, crash, line, script_line}
+use Rattle.history_examples.specs.Documents.{settings, c1, c2, at_beat, loss, crash, line, script_line}
 use Rattle.tick_examples.specs.Clusters.{n1, n2, n3, n4, m1, m2, r1, zone_a, zone_b, default, p1, cluster, second, condition_at, beating, node, tolerating, pod_at, pod, puts, version, done}
 
 -- The second taint comes a whole interval after the first pass of the new term.
@@ -147,4 +147,25 @@ WaitingInAnotherZone = printed (whole_history waiting_in_another_zone) ≡
     ∷ script_line 80 (act.Put (node_key n1) (version 8))
     ∷ line 104 0 1 (act.Tainted n2 not_ready (done 9))
     ∷ line 204 0 1 (act.Tainted n1 not_ready (done 10))
+    ∷ []
+
+-- The taint of n1 at beat 104 is lost: it has taken the token, and n1 is behind n2.
+abbrev pub lost_taint_goes_back : Doc
+lost_taint_goes_back = cluster (settings 210)
+    (node n1 zone_a ready.False []
+    ∷ node n2 zone_a ready.False []
+    ∷ node n3 zone_a ready.True []
+    ∷ [])
+    (at_beat 100 (loss 0 true false)
+    ∷ at_beat 110 (loss 0 false false)
+    ∷ [])
+
+abbrev pub LostTaintGoesBack : Type 0
+LostTaintGoesBack = printed (whole_history lost_taint_goes_back) ≡
+    line 0 0 1 act.Start
+    ∷ line 3 0 1 (act.Create election (done 4) 0)
+    ∷ line 4 0 1 (act.Lead (version 4))
+    ∷ line 4 0 1 (act.Zone r1 zone_a zone.Normal 100)
+    ∷ line 7 0 1 (act.Update election (done 5) 0)
+    ∷ line 204 0 1 (act.Tainted n2 not_ready (done 6))
     ∷ []

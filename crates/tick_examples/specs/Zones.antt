@@ -9,8 +9,8 @@ use Rattle.kube_objects.specs.Stored.{election, node_key, node_lease}
 use Rattle.kube_objects.specs.Tainting.{not_ready, unreachable}
 use Rattle.history.specs.History.{whole_history}
 use Rattle.history.specs.Printed.{printed}
-use Rattle.history_examples.specs.Documents.{settings, line, script_line}
-use Rattle.tick_examples.specs.Clusters.{n1, n2, n3, n4, m1, r1, zone_a, zone_b, default, p1, p2, cluster, second, at_second, condition, beating, node, renewed, pod_at, pod, puts, removes, version, done}
+use Rattle.history_examples.specs.Documents.{settings, at_beat, line, script_line}
+use Rattle.tick_examples.specs.Clusters.{n1, n2, n3, n4, m1, r1, zone_a, zone_b, default, p1, p2, cluster, second, at_second, condition, beating, node, without_heartbeat, bare_node, unready_node, renewed, pod_at, pod, puts, removes, watch, version, done}
 
 -- Both nodes are not ready: the all-Full mode takes the taint away, and nobody is tainted. A pass ends it; the zone has a rate from then
 -- on, so its token comes an interval later.
@@ -168,4 +168,141 @@ RenewTimeReturns = printed (whole_history renew_time_returns) ≡
     ∷ script_line 100 (act.Put (node_key n2) (version 8))
     ∷ line 154 0 1 (act.Marked n1 3 (done 9))
     ∷ line 154 0 1 (act.Tainted n1 unreachable (done 10))
+    ∷ []
+
+-- So with a heartbeat that is missing at the pass of beat 54 and back at that of 104: neither is news.
+abbrev pub heartbeat_returns : Doc
+heartbeat_returns = cluster (record (settings 160) { grace_period_millis = 10000 })
+    (node n1 zone_a ready.True []
+    ∷ node n2 zone_a ready.True []
+    ∷ [])
+    (puts 50 (without_heartbeat n1 zone_a ready.True)
+    ∷ puts 100 (node n1 zone_a ready.True [])
+    ∷ puts 100 (beating n2 zone_a ready.True [] 10)
+    ∷ [])
+
+abbrev pub HeartbeatReturns : Type 0
+HeartbeatReturns = printed (whole_history heartbeat_returns) ≡
+    line 0 0 1 act.Start
+    ∷ line 3 0 1 (act.Create election (done 3) 0)
+    ∷ line 4 0 1 (act.Lead (version 3))
+    ∷ line 4 0 1 (act.Zone r1 zone_a zone.Normal 100)
+    ∷ line 7 0 1 (act.Update election (done 4) 0)
+    ∷ script_line 50 (act.Put (node_key n1) (version 5))
+    ∷ script_line 100 (act.Put (node_key n1) (version 6))
+    ∷ script_line 100 (act.Put (node_key n2) (version 7))
+    ∷ line 154 0 1 (act.Marked n1 3 (done 8))
+    ∷ line 154 0 1 (act.Tainted n1 unreachable (done 9))
+    ∷ []
+
+-- A node is removed, and put again as it was after a pass without it: the pass of beat 104 hears of it.
+abbrev pub node_comes_back : Doc
+node_comes_back = cluster (record (settings 160) { grace_period_millis = 10000 })
+    (node n1 zone_a ready.True []
+    ∷ node n2 zone_a ready.True []
+    ∷ [])
+    (removes 50 (node_key n1)
+    ∷ puts 60 (node n1 zone_a ready.True [])
+    ∷ puts 100 (beating n2 zone_a ready.True [] 10)
+    ∷ [])
+
+abbrev pub NodeComesBack : Type 0
+NodeComesBack = printed (whole_history node_comes_back) ≡
+    line 0 0 1 act.Start
+    ∷ line 3 0 1 (act.Create election (done 3) 0)
+    ∷ line 4 0 1 (act.Lead (version 3))
+    ∷ line 4 0 1 (act.Zone r1 zone_a zone.Normal 100)
+    ∷ line 7 0 1 (act.Update election (done 4) 0)
+    ∷ script_line 50 (act.Removed (node_key n1) (version 5))
+    ∷ script_line 60 (act.Put (node_key n1) (version 6))
+    ∷ script_line 100 (act.Put (node_key n2) (version 7))
+    ∷ []
+
+-- A node without Ready has the startup grace; it is marked with a reason of its own.
+abbrev pub never_ready : Doc
+never_ready = cluster (record (settings 160) { startup_grace_millis = 10000 })
+    (bare_node n1
+    ∷ node n2 zone_a ready.True []
+    ∷ [])
+    []
+
+abbrev pub NeverReady : Type 0
+NeverReady = printed (whole_history never_ready) ≡
+    line 0 0 1 act.Start
+    ∷ line 3 0 1 (act.Create election (done 3) 0)
+    ∷ line 4 0 1 (act.Lead (version 3))
+    ∷ line 4 0 1 (act.Zone 0 0 zone.Full 100)
+    ∷ line 4 0 1 (act.Zone r1 zone_a zone.Normal 100)
+    ∷ line 7 0 1 (act.Update election (done 4) 0)
+    ∷ line 154 0 1 (act.Marked n1 4 (done 5))
+    ∷ line 154 0 1 (act.Tainted n1 unreachable (done 6))
+    ∷ []
+
+-- The end of the all-Full mode at beat 54 counts as having heard of every node, so n2 is not marked at beat 154.
+abbrev pub mode_end_is_heard : Doc
+mode_end_is_heard = cluster (record (settings 160) { grace_period_millis = 10000 })
+    (node n1 zone_a ready.False []
+    ∷ node n2 zone_a ready.False []
+    ∷ [])
+    (puts 50 (beating n1 zone_a ready.True [] 5)
+    ∷ [])
+
+abbrev pub ModeEndIsHeard : Type 0
+ModeEndIsHeard = printed (whole_history mode_end_is_heard) ≡
+    line 0 0 1 act.Start
+    ∷ line 3 0 1 (act.Create election (done 3) 0)
+    ∷ line 4 0 1 (act.Lead (version 3))
+    ∷ line 4 0 1 (act.Mode true)
+    ∷ line 4 0 1 (act.Zone r1 zone_a zone.Full 0)
+    ∷ line 7 0 1 (act.Update election (done 4) 0)
+    ∷ script_line 50 (act.Put (node_key n1) (version 5))
+    ∷ line 54 0 1 (act.Mode false)
+    ∷ line 54 0 1 (act.Zone r1 zone_a zone.Normal 100)
+    ∷ line 154 0 1 (act.Tainted n2 not_ready (done 6))
+    ∷ []
+
+-- A node without Ready has its condition taint taken away in the all-Full mode, and is left alone outside it.
+abbrev pub unready_left_alone : Doc
+unready_left_alone = cluster (settings 60)
+    (unready_node n1 zone_a (condition not_ready 0 ∷ [])
+    ∷ node n2 zone_a ready.False []
+    ∷ [])
+    (puts 20 (unready_node n1 zone_a (condition not_ready 0 ∷ []))
+    ∷ puts 50 (node n2 zone_a ready.True [])
+    ∷ puts 58 (unready_node n1 zone_a (condition not_ready 0 ∷ []))
+    ∷ [])
+
+abbrev pub UnreadyLeftAlone : Type 0
+UnreadyLeftAlone = printed (whole_history unready_left_alone) ≡
+    line 0 0 1 act.Start
+    ∷ line 3 0 1 (act.Create election (done 3) 0)
+    ∷ line 4 0 1 (act.Lead (version 3))
+    ∷ line 4 0 1 (act.Mode true)
+    ∷ line 4 0 1 (act.Zone r1 zone_a zone.Full 0)
+    ∷ line 4 0 1 (act.Untainted n1 (done 4))
+    ∷ line 7 0 1 (act.Update election (done 5) 0)
+    ∷ script_line 20 (act.Put (node_key n1) (version 6))
+    ∷ line 20 0 1 (act.Untainted n1 (done 7))
+    ∷ script_line 50 (act.Put (node_key n2) (version 8))
+    ∷ line 54 0 1 (act.Mode false)
+    ∷ line 54 0 1 (act.Zone r1 zone_a zone.Normal 100)
+    ∷ script_line 58 (act.Put (node_key n1) (version 9))
+    ∷ []
+
+-- The watch comes on at beat 30: the first sync and the first pass are then.
+abbrev pub late_watch : Doc
+late_watch = cluster (settings 35)
+    (node n1 zone_a ready.True []
+    ∷ [])
+    (at_beat 0 (watch 0 false)
+    ∷ at_beat 30 (watch 0 true)
+    ∷ [])
+
+abbrev pub LateWatch : Type 0
+LateWatch = printed (whole_history late_watch) ≡
+    line 0 0 1 act.Start
+    ∷ line 3 0 1 (act.Create election (done 2) 0)
+    ∷ line 4 0 1 (act.Lead (version 2))
+    ∷ line 7 0 1 (act.Update election (done 3) 0)
+    ∷ line 30 0 1 (act.Zone r1 zone_a zone.Normal 100)
     ∷ []

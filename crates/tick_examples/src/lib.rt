@@ -3,8 +3,8 @@
 #![tactic(auto)]
 
 ghost use Rattle.tick_examples.specs.Kubelets.{SilentKubelet, LostCalls};
-ghost use Rattle.tick_examples.specs.Zones.{ModeEnds, GentlePolicy, RateChanges, ZoneReturns, SwapAfterTheMode, RenewTimeReturns};
-ghost use Rattle.tick_examples.specs.Queues.{TaintAfterFailover, SwapNeedsNoToken, ZonesApart, ReadyAndMarkedAtOnce, WaitingInAnotherZone};
+ghost use Rattle.tick_examples.specs.Zones.{ModeEnds, GentlePolicy, RateChanges, ZoneReturns, SwapAfterTheMode, RenewTimeReturns, HeartbeatReturns, NodeComesBack, NeverReady, ModeEndIsHeard, UnreadyLeftAlone, LateWatch};
+ghost use Rattle.tick_examples.specs.Queues.{TaintAfterFailover, SwapNeedsNoToken, ZonesApart, ReadyAndMarkedAtOnce, WaitingInAnotherZone, LostTaintGoesBack};
 ghost use Rattle.tick_examples.specs.Evictions.{UnseenPut, UnseenPutOfTheSame, LostDeletes, RefusedByTheNode, RefusedByThePod, StaleUntaint, DueMovesWhileLost, ExactlyDue, NotYetDue};
 ghost use Rattle.tick_examples.specs.Failover.{DeadNodeAndFailover};
 ghost use Rattle.tick_examples.specs.Tables.{StatesByCounts, RatesByPolicy, DueByTolerations, NoScheduleIsNeverDue};
@@ -23,6 +23,12 @@ pub fn worked_zones()
     ensures zone_returns { ZoneReturns }
     ensures swap_after_the_mode { SwapAfterTheMode }
     ensures renew_time_returns { RenewTimeReturns }
+    ensures heartbeat_returns { HeartbeatReturns }
+    ensures node_comes_back { NodeComesBack }
+    ensures never_ready { NeverReady }
+    ensures mode_end_is_heard { ModeEndIsHeard }
+    ensures unready_left_alone { UnreadyLeftAlone }
+    ensures late_watch { LateWatch }
 {}
 
 /// The traces of queued taints and of swaps.
@@ -32,6 +38,7 @@ pub fn worked_queues()
     ensures zones_apart { ZonesApart }
     ensures ready_and_marked_at_once { ReadyAndMarkedAtOnce }
     ensures waiting_in_another_zone { WaitingInAnotherZone }
+    ensures lost_taint_goes_back { LostTaintGoesBack }
 {}
 
 /// The traces of evictions, and of writes that are refused or lost.

@@ -15,3 +15,6 @@ returns-clause-ready_and_marked_at_once c = worked.ready_and_marked_at_once
 
 pub returns-clause-waiting_in_another_zone : goal.returns-clause-waiting_in_another_zone
 returns-clause-waiting_in_another_zone c = worked.waiting_in_another_zone
+
+pub returns-clause-lost_taint_goes_back : goal.returns-clause-lost_taint_goes_back
+returns-clause-lost_taint_goes_back c = worked.lost_taint_goes_back

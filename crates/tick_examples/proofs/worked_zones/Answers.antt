@@ -18,3 +18,21 @@ returns-clause-swap_after_the_mode c = worked.swap_after_the_mode
 
 pub returns-clause-renew_time_returns : goal.returns-clause-renew_time_returns
 returns-clause-renew_time_returns c = worked.renew_time_returns
+
+pub returns-clause-heartbeat_returns : goal.returns-clause-heartbeat_returns
+returns-clause-heartbeat_returns c = worked.heartbeat_returns
+
+pub returns-clause-node_comes_back : goal.returns-clause-node_comes_back
+returns-clause-node_comes_back c = worked.node_comes_back
+
+pub returns-clause-never_ready : goal.returns-clause-never_ready
+returns-clause-never_ready c = worked.never_ready
+
+pub returns-clause-mode_end_is_heard : goal.returns-clause-mode_end_is_heard
+returns-clause-mode_end_is_heard c = worked.mode_end_is_heard
+
+pub returns-clause-unready_left_alone : goal.returns-clause-unready_left_alone
+returns-clause-unready_left_alone c = worked.unready_left_alone
+
+pub returns-clause-late_watch : goal.returns-clause-late_watch
+returns-clause-late_watch c = worked.late_watch
