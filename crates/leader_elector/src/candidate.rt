@@ -1,6 +1,7 @@
 // A candidate asks for the election Lease until it leads.
 ghost use Rattle.std.specs.Prelude.{◌≡◌, ◌≤◌, ◌<◌, ◌+◌, ◌^◌, ℕ, nat_lt, true, false, List, ◌∷◌, Some, None};
 ghost use Rattle.kube_base.specs.declared.numbers.Version.{Version};
+ghost use Rattle.kube_base.specs.Bounds.{most_local};
 ghost use Rattle.kube_objects.specs.Clocks.{local, wall as wall_at};
 ghost use Rattle.kube_objects.specs.Document.{Doc};
 ghost use Rattle.kube_objects.specs.Elector.{timer};
@@ -53,7 +54,7 @@ impl Candidate {
 
     /// A turn: a call that has expired is forgotten, then an attempt starts where it is time. It never leads.
     pub fn on_timer(mut self, now: Local, wall: Wall) -> CandidateNext
-        requires now { now.0 ≤ 2000000000000000000 }
+        requires now { now.0 ≤ most_local }
         ensures never_leads { becomes_leader result ≡ false }
         ensures turns { (doc : Doc) (q : Identity) (h : List Entry) (k : ℕ)
             → CandidateStands doc q h self → now.0 ≡ local doc q.process k
@@ -68,7 +69,7 @@ impl Candidate {
 
     /// As `on_timer`, in place: what it asks, if anything.
     pub fn turn(&mut self, now: Local, wall: Wall) -> Option<Ask>
-        requires now { now.0 ≤ 2000000000000000000 }
+        requires now { now.0 ≤ most_local }
         ensures { (doc : Doc) (q : Identity) (h : List Entry) (k : ℕ)
             → CandidateStands doc q h self.old → now.0 ≡ local doc q.process k
             → wall.0 ≡ wall_at doc q.process k → begun q h + 1 < 2 ^ 64
@@ -80,7 +81,7 @@ impl Candidate {
 
     /// A reply. Only one to the call that waits, with its number and within its timeout, counts.
     pub fn on_reply(mut self, number: u64, reply: Reply, now: Local, wall: Wall) -> CandidateNext
-        requires now { now.0 ≤ 2000000000000000000 }
+        requires now { now.0 ≤ most_local }
         ensures uncounted { (doc : Doc) (q : Identity) (h : List Entry) (k : ℕ)
             → CandidateStands doc q h self → now.0 ≡ local doc q.process k
             → alive q.process h ≡ Some q.incarnation
@@ -101,7 +102,7 @@ impl Candidate {
 
     /// As `on_reply`, in place. Where it is to lead, `lead` makes it a leader at the same reading.
     pub fn hear(&mut self, number: u64, reply: &Reply, now: Local, wall: Wall) -> Heard
-        requires now { now.0 ≤ 2000000000000000000 }
+        requires now { now.0 ≤ most_local }
         ensures uncounted { (doc : Doc) (q : Identity) (h : List Entry) (k : ℕ)
             → CandidateStands doc q h self.old → now.0 ≡ local doc q.process k
             → alive q.process h ≡ Some q.incarnation
@@ -125,7 +126,7 @@ impl Candidate {
 
     /// Leads from this reading on, which is that of the reply by which it is to lead.
     pub fn lead(self, now: Local) -> Leading
-        requires now { now.0 ≤ 2000000000000000000 }
+        requires now { now.0 ≤ most_local }
         ensures { (doc : Doc) (q : Identity) (h : List Entry) (k step : ℕ) (version : Version)
             → IsChosen doc q h self → now.0 ≡ local doc q.process k
             → LeadingStands doc q (entry k step q (Leads version) ∷ h) result }

@@ -1,6 +1,7 @@
 // A leader renews the election Lease until its deadline.
 ghost use Rattle.std.specs.Prelude.{◌≡◌, ◌≤◌, ◌<◌, ◌+◌, ◌^◌, ℕ, not, nat_lt, is_some, true, false, List, ◌∷◌, Some, None, IfSome};
 ghost use Rattle.kube_base.specs.declared.numbers.Version.{Version};
+ghost use Rattle.kube_base.specs.Bounds.{most_local};
 ghost use Rattle.kube_objects.specs.Clocks.{local, wall as wall_at};
 ghost use Rattle.kube_objects.specs.Document.{Doc};
 ghost use Rattle.kube_objects.specs.Elector.{acts, deadline, release, timer};
@@ -10,10 +11,10 @@ ghost use Rattle.leader_elector.specs.Moves.{LeadingReplies, LeadingStays, Leadi
 ghost use Rattle.leader_elector.specs.Stands.{ElectorStands, LeadingStands, acting_identity, deadline_of, ended_identity, leading_identity};
 
 use crate::elector::{Elector, given_up};
-use crate::follow::{ELECTION, Follow};
+use crate::follow::Follow;
 use crate::{Acting, Ended, Released};
 use kube_base::{Local, Wall};
-use kube_objects::{Ask, Reply, Request};
+use kube_objects::{Ask, Key, Reply, Request};
 
 /// A process that leads.
 #[derive(Drop)]
@@ -33,7 +34,7 @@ pub enum LeadingNext {
 impl Leading {
     /// A candidate's success begins a term, and its next attempt starts at its next turn.
     pub(crate) fn new(elector: Elector, now: Local) -> Leading
-        requires now { now.0 ≤ 2000000000000000000 }
+        requires now { now.0 ≤ most_local }
         ensures { (doc : Doc) (q : Identity) (h : List Entry) (k step : ℕ) (version : Version)
             → ElectorStands doc q h elector → now.0 ≡ local doc q.process k
             → LeadingStands doc q (entry k step q (Leads version) ∷ h) result }
@@ -50,7 +51,7 @@ impl Leading {
 
     /// A turn: a call that has expired is forgotten, the term ends where the deadline is reached, then an attempt starts where it is time.
     pub fn on_timer(mut self, now: Local, wall: Wall) -> LeadingNext
-        requires now { now.0 ≤ 2000000000000000000 }
+        requires now { now.0 ≤ most_local }
         ensures ends { ends result ≡ not (nat_lt now.0 (deadline_of self)) }
         ensures turns { (doc : Doc) (q : Identity) (h : List Entry) (k : ℕ)
             → LeadingStands doc q h self → now.0 ≡ local doc q.process k
@@ -69,7 +70,7 @@ impl Leading {
 
     /// A reply. Only one to the call that waits, with its number and within its timeout, counts. The term goes on.
     pub fn on_reply(mut self, number: u64, reply: Reply, now: Local, wall: Wall) -> LeadingNext
-        requires now { now.0 ≤ 2000000000000000000 }
+        requires now { now.0 ≤ most_local }
         ensures goes_on { ends result ≡ false }
         ensures uncounted { (doc : Doc) (q : Identity) (h : List Entry) (k : ℕ)
             → LeadingStands doc q h self → now.0 ≡ local doc q.process k
@@ -150,7 +151,7 @@ impl Leading {
         let ask = match self.elector.seen {
             Some(seen) if self.elector.holds(&seen.lease) => {
                 let lease = given_up(&seen.lease, wall);
-                let request = Request::Update(ELECTION, seen.version, lease);
+                let request = Request::Update(Key::ELECTION, seen.version, lease);
                 let number = self.elector.slot.begin_unheld();
                 Some(Ask { number, request })
             }

@@ -6,7 +6,7 @@ use Rattle.leader_elector.proofs.candidate.Candidate.start.Goals as goal
 pub returns : goal.returns
 returns c doc q h k step me incarnation timing now new =
     record {
-      elector = c.start.ensures doc q h k step me incarnation timing now new;
+      elector = c.start.ensures.history doc q h k step me incarnation timing now new;
       settled = settled-own q h k step Starts (λ n. refl);
       leads = new.leads;
     }

@@ -12,4 +12,4 @@ returns c doc q h k s now wall room =
     let led : leads q e ≡ false = leads-expiry doc k q h (call_in q h) ∙ s.leads in
     let room_now : begun q e + 1 < 2 ^ 64 = subst (λ n. n + 1 < 2 ^ 64) (sym (begun-expiry doc k q h (call_in q h))) room in
     turns-tried doc k q e c.attempt.new.self c.expire-expired.result c.attempt.result led (c.expire-expired.ensures.settled doc q h k s.elector s.settled now)
-    (c.attempt.ensures doc q e k (c.expire-expired.ensures.stands doc q h k s.elector now) led (c.expire-expired.ensures.fast doc q h k s.elector s.settled now) now wall room_now)
+    (c.attempt.ensures.history doc q e k (c.expire-expired.ensures.stands doc q h k s.elector now) led (c.expire-expired.ensures.fast doc q h k s.elector s.settled now) now wall room_now)

@@ -33,7 +33,7 @@ returns-in-Asks-clause-counts c doc q h k call s now wall room is =
     let t = c.in-Some.ensures.counts doc q h k call s.elector s.leads now wall is in
     let wanted : follow_on doc q k call.kind call.request c.args.reply g ≡ Asks c.in-Asks.request = sym t.0 ∙ ap follow_of c.in-Asks.is in
     let asks : reacted doc k q call c.args.reply h ≡ send k 3 q Plain c.in-Asks.request g = ap (λ f. react k q (leads q h) f g) wanted in
-    let a : Asked k 3 q g (reacted doc k q call c.args.reply h) (λ x. ElectorStands doc q x c.ask-ask.new.self) c.ask-ask.result = c.ask-ask.ensures doc q g _ k 3 t.1 now room asks in
+    let a : Asked k 3 q g (reacted doc k q call c.args.reply h) (λ x. ElectorStands doc q x c.ask-ask.new.self) c.ask-ask.result = c.ask-ask.ensures.history doc q g _ k 3 t.1 now room asks in
     record {
       kind = a.kind;
       sent = a.sent;
