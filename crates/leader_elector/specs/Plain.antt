@@ -70,7 +70,7 @@ with_call t now k (Some x) = record k {
 }
 
 -- this call has begun
-pub record Begins (old : Elector) (now : ℕ) (x : CallKind × Request) (new : Elector) (ask : Ask) : Type 0 where
+pub record BeginsCall (old : Elector) (now : ℕ) (x : CallKind × Request) (new : Elector) (ask : Ask) : Type 0 where
   pub number : ask.number ≡ next_number (calls_of old.slot)
   pub request : ask.request ≡ x.1
   pub kept : kept_of new ≡ with_call old.timing now (kept_of old) (Some x)

@@ -19,7 +19,7 @@ ghost use Rattle.leader_elector.specs.Stands.{ElectorStands, IsNew, IsSettled, I
 
 ghost use Rattle.leader_elector.specs.Plain.{IsSame, after_expiry, after_reply, asked_of, attempt_in, follow_in, follow_keeps_kind};
 ghost use Rattle.leader_elector.specs.Plain.{has_lost_update, identity_of, kept_of, moment_of, numbered, turn_in, wake_in, with_call};
-ghost use Rattle.leader_elector.specs.Plain.{Begins, Receives, begun_in};
+ghost use Rattle.leader_elector.specs.Plain.{BeginsCall, Receives, begun_in};
 ghost use Rattle.leader_elector.specs.Stands.{Wait};
 
 use crate::Timing;
@@ -120,11 +120,11 @@ impl Elector {
         Some(self.begin(led, now, wall))
     }
 
-    /// Begins an attempt: a leader may renew without a Get.
+    /// BeginsCall an attempt: a leader may renew without a Get.
     fn begin(&mut self, led: bool, now: Local, wall: Wall) -> Ask
         requires now { now.0 ≤ most_local }
         ensures same { IsSame self.old self.new }
-        ensures asks { Begins self.old now.0 (begun_in self.old (moment_of self.old now.0 wall.0) led (kept_of self.old)) self.new result }
+        ensures asks { BeginsCall self.old now.0 (begun_in self.old (moment_of self.old now.0 wall.0) led (kept_of self.old)) self.new result }
         ensures history { (doc : Doc) (q : Identity) (h : List Entry) (k : ℕ)
             → ElectorStands doc q h self.old → leads q h ≡ led
             → now.0 ≡ local doc q.process k → wall.0 ≡ wall_at doc q.process k
@@ -141,7 +141,7 @@ impl Elector {
     fn renew(&mut self, now: Local, wall: Wall) -> Ask
         requires now { now.0 ≤ most_local }
         ensures same { IsSame self.old self.new }
-        ensures asks { Begins self.old now.0 (attempt_at (identity_of self.old) (moment_of self.old now.0 wall.0) (kept_of self.old).observed (kept_of self.old).shown) self.new result }
+        ensures asks { BeginsCall self.old now.0 (attempt_at (identity_of self.old) (moment_of self.old now.0 wall.0) (kept_of self.old).observed (kept_of self.old).shown) self.new result }
         ensures history { (doc : Doc) (q : Identity) (h : List Entry) (k : ℕ)
             → ElectorStands doc q h self.old
             → now.0 ≡ local doc q.process k → wall.0 ≡ wall_at doc q.process k
@@ -158,12 +158,12 @@ impl Elector {
         self.ask(Request::Update(Key::ELECTION, seen.version, lease), true, now)
     }
 
-    /// Begins a call.
+    /// BeginsCall a call.
     pub(crate) fn ask(&mut self, request: Request, fast: bool, now: Local) -> Ask
         requires kind { keeps_kind request ≡ true }
         requires now { now.0 ≤ most_local }
         ensures same { IsSame self.old self.new }
-        ensures asks { Begins self.old now.0 (kind_of fast, request) self.new result }
+        ensures asks { BeginsCall self.old now.0 (kind_of fast, request) self.new result }
         ensures history { (doc : Doc) (q : Identity) (h next : List Entry) (k step : ℕ)
             → ElectorStands doc q h self.old → now.0 ≡ local doc q.process k
             → begun q h + 1 < 2 ^ 64 → next ≡ send k step q (kind_of fast) request h

@@ -1,5 +1,6 @@
+use Rattle.leader_elector.proofs.Taken.{answered-never, takes-ask, takes-silent}
 use Rattle.std.proofs.Common.{◌≡◌, ◌∙◌, ◌∷◌, true, sym, ap, subst, refl}
-use Rattle.kube_objects.specs.Elector.{leads}
+use Rattle.kube_objects.specs.Elector.{Fails, Succeeds, leads}
 use Rattle.kube_objects.specs.Entry.{Delivers, Leads, Plain, Sends, entry}
 use Rattle.kube_objects.specs.Turns.{lead_if, react}
 use Rattle.kube_objects.specs.Wire.{next_call, send}
@@ -49,3 +50,17 @@ returns-in-Succeeds-clause-counts c doc q h k call s now wall room is =
     let next : reacted doc k q call c.args.reply.now h ≡ entry k 3 q (Leads version) ∷ g =
     ap (λ f. react k q (leads q h) f g) (sym t.0 ∙ ap follow_of c.in-Succeeds.is) ∙ ap (λ b. lead_if k q b version g) s.leads in
     (version, next, t.1)
+
+pub returns-in_default-clause-takes : goal.returns-in_default-clause-takes
+returns-in_default-clause-takes c w counts waits = absurd (answered-never c.receive.result c.in_default.is (c.receive.ensures.held w counts waits))
+
+pub returns-in-Fails-clause-takes : goal.returns-in-Fails-clause-takes
+returns-in-Fails-clause-takes c w counts waits = takes-silent c.in-Some.follow Fails (ap follow_of c.in-Fails.is) refl (c.in-Some.ensures.held w counts waits)
+
+pub returns-in-Asks-clause-takes : goal.returns-in-Asks-clause-takes
+returns-in-Asks-clause-takes c w counts waits =
+    takes-ask c.in-Some.follow c.in-Asks.request c.ask.result (ap follow_of c.in-Asks.is) (c.in-Some.ensures.held w counts waits) c.ask.ensures.same c.ask.ensures.asks
+
+pub returns-in-Succeeds-clause-takes : goal.returns-in-Succeeds-clause-takes
+returns-in-Succeeds-clause-takes c w counts waits =
+    takes-silent c.in-Some.follow (Succeeds c.in-Succeeds.field-0) (ap follow_of c.in-Succeeds.is) refl (c.in-Some.ensures.held w counts waits)

@@ -6,8 +6,8 @@ use Rattle.leader_elector.proofs.Expiry.{begun-expiry, leads-expiry}
 use Rattle.leader_elector.proofs.Tries.{turns-tried}
 use Rattle.leader_elector.proofs.candidate.Candidate.turn.Goals as goal
 
-pub returns : goal.returns
-returns c doc q h k s now wall room =
+pub returns-clause-turns : goal.returns-clause-turns
+returns-clause-turns c doc q h k s now wall room =
     let e = expired doc k q h in
     let led : leads q e ≡ false = leads-expiry doc k q h (call_in q h) ∙ s.leads in
     let room_now : begun q e + 1 < 2 ^ 64 = subst (λ n. n + 1 < 2 ^ 64) (sym (begun-expiry doc k q h (call_in q h))) room in

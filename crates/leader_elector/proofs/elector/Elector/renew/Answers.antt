@@ -1,7 +1,7 @@
 use Rattle.std.proofs.Common.{◌≡◌, ◌&&◌, true, refl, subst}
 use Rattle.kube_objects.specs.Elector.{attempt_at, is_valid, renewed_at}
 use Rattle.kube_objects.specs.Identities.{is_own}
-use Rattle.leader_elector.specs.Plain.{Begins, identity_of, moment_of}
+use Rattle.leader_elector.specs.Plain.{BeginsCall, identity_of, moment_of}
 use Rattle.std.proofs.Common.{◌∙◌, sym, ap, cond}
 use Rattle.kube_objects.specs.declared.call.Request.TheVariants.{Get, Update}
 use Rattle.kube_objects.specs.Elector.{attempt_from, observed_at, renewed, shown}
@@ -42,4 +42,4 @@ returns-clause-asks c =
     ap (λ s. attempt_at q m (observed_of s) (shown_of s)) c.in-Some.is
     ∙ ap (λ b. cond b (Fast, Update election seen.version (renewed_at q m seen.lease)) (Plain, Get election)) own
     ∙ ap (λ l. (Fast, Update election seen.version l)) (sym (c.renewed-lease.ensures.moment c.args.now.0)) in
-    subst (λ x. Begins self c.args.now.0 x c.ask-2.new.self c.ask-2.result) (sym is) c.ask-2.ensures.asks
+    subst (λ x. BeginsCall self c.args.now.0 x c.ask-2.new.self c.ask-2.result) (sym is) c.ask-2.ensures.asks

@@ -1,4 +1,6 @@
-use Rattle.std.proofs.Common.{◌≡◌, ◌∙◌, ◌+◌, true, Some, sym, ap, subst, refl}
+use Rattle.leader_elector.specs.declared.timing.Timing.{Timing}
+use Rattle.leader_elector.proofs.Taken.{answered-never, takes-ask, takes-silent}
+use Rattle.std.proofs.Common.{◌≡◌, ◌∙◌, ◌+◌, false, true, Some, sym, ap, subst, refl}
 use Rattle.kube_objects.specs.Elector.{Fails, Asks, Succeeds, follow_on, leads}
 use Rattle.kube_objects.specs.Entry.{Delivers, Plain, Sends}
 use Rattle.kube_objects.specs.Turns.{lead_if, react}
@@ -60,3 +62,18 @@ returns-in-Succeeds-clause-counts c doc q h k call s now wall room is =
         deadline = (λ i. Some (now i + t.1.timing.retry i + t.1.timing.renew i)) ∙ sym (deadline-delivered doc k q call c.args.reply h (Succeeds version) s.leads succeeds);
       },
     )
+
+pub returns-in_default-clause-follows : goal.returns-in_default-clause-follows
+returns-in_default-clause-follows c w counts waits = absurd (answered-never c.receive.result c.in_default.is (c.receive.ensures.held w counts waits))
+
+pub returns-in-Fails-clause-follows : goal.returns-in-Fails-clause-follows
+returns-in-Fails-clause-follows c w counts waits = (false, takes-silent c.in-Some.follow Fails (ap follow_of c.in-Fails.is) refl (c.in-Some.ensures.held w counts waits), refl)
+
+pub returns-in-Asks-clause-follows : goal.returns-in-Asks-clause-follows
+returns-in-Asks-clause-follows c w counts waits =
+    (takes-ask c.in-Some.follow c.in-Asks.request c.ask-ask.result (ap follow_of c.in-Asks.is) (c.in-Some.ensures.held w counts waits) c.ask-ask.ensures.same c.ask-ask.ensures.asks, refl)
+
+pub returns-in-Succeeds-clause-follows : goal.returns-in-Succeeds-clause-follows
+returns-in-Succeeds-clause-follows c w counts waits =
+    let r = c.in-Some.ensures.held w counts waits in
+    (true, takes-silent c.in-Some.follow (Succeeds c.in-Succeeds.field-0) (ap follow_of c.in-Succeeds.is) refl r, ap (λ (t : Timing). c.args.now.0 + t.retry + t.renew) r.same.timing)
