@@ -84,7 +84,9 @@ leads q h = has (newest (λ e T. lead_says q e.actor e.deed) h)
 -- led says whether the identity leads before the entry
 abbrev pub deadline_says : Doc → Identity → ℕ → Actor → Bool → Deed → Option ℕ
 deadline_says doc q k who led (Leads version) = when (is_by q who) (local doc q.process k + renew_deadline doc q.process)
-deadline_says doc q k who led (Delivers call reply counted) = when ((counted && is_by q who) && (led && succeeds call.request reply)) (local doc q.process k + retry_period doc q.process + renew_deadline doc q.process)
+deadline_says doc q k who led (Delivers call reply counted) =
+    when ((counted && is_by q who) && (led && succeeds call.request reply))
+    (local doc q.process k + retry_period doc q.process + renew_deadline doc q.process)
 deadline_says doc q k who led _ = None
 
 -- the reading at which a term ends
@@ -167,7 +169,8 @@ is_blocked q now seen lease = is_other q lease.holder && is_valid now seen lease
 
 abbrev pub follow_get : Doc → Identity → ℕ → ℕ → Reply → Follow
 follow_get doc q k seen Absent = Asks (Create election (created doc q k))
-follow_get doc q k seen (Found version lease) = cond (is_blocked q (local doc q.process k) seen lease) Fails (Asks (Update election version (updated doc q k lease)))
+follow_get doc q k seen (Found version lease) =
+    cond (is_blocked q (local doc q.process k) seen lease) Fails (Asks (Update election version (updated doc q k lease)))
 follow_get doc q k seen _ = Fails
 
 -- an update without a Get falls back to the Get
@@ -200,8 +203,12 @@ timer_follow (Succeeds version) led next = when led next
 abbrev pub timer_says : Doc → Identity → Entry → List Entry → Deed → Option ℕ
 timer_says doc q e h Starts = when (is_by q e.actor) (local doc q.process e.beat)
 timer_says doc q e h (Leads version) = when (is_by q e.actor) (local doc q.process e.beat)
-timer_says doc q e h (Expires call) = when (is_by q e.actor && not (is_fast call.kind)) (local doc q.process e.beat + retry_period doc q.process)
-timer_says doc q e h (Delivers call reply counted) = only_if (counted && is_by q e.actor) (timer_follow (follow_on doc q e.beat call.kind call.request reply (e ∷ h)) (leads q h) (local doc q.process e.beat + retry_period doc q.process))
+timer_says doc q e h (Expires call) =
+    when (is_by q e.actor && not (is_fast call.kind)) (local doc q.process e.beat + retry_period doc q.process)
+timer_says doc q e h (Delivers call reply counted) =
+    only_if (counted && is_by q e.actor)
+    (timer_follow (follow_on doc q e.beat call.kind call.request reply (e ∷ h)) (leads q h)
+    (local doc q.process e.beat + retry_period doc q.process))
 timer_says doc q e h _ = None
 
 -- the reading at which the next attempt starts
@@ -211,11 +218,14 @@ timer doc q h = or_zero (newest (λ e T. timer_says doc q e T e.deed) h)
 -- an update without a Get, where the record last shown is one's own and valid
 abbrev pub attempt_from : Doc → Identity → ℕ → ℕ → Option Shown → CallKind × Request
 attempt_from doc q k seen None = (Plain, Get election)
-attempt_from doc q k seen (Some x) = cond (is_own q x.1.holder && is_valid (local doc q.process k) seen x.1) (Fast, Update election x.0 (renewed doc q k x.1)) (Plain, Get election)
+attempt_from doc q k seen (Some x) =
+    cond (is_own q x.1.holder && is_valid (local doc q.process k) seen x.1)
+    (Fast, Update election x.0 (renewed doc q k x.1)) (Plain, Get election)
 
 -- the request with which an attempt starts at beat k
 abbrev pub attempt : Doc → Identity → ℕ → List Entry → CallKind × Request
-attempt doc q k h = cond (doc.settings.fast_renew && leads q h) (attempt_from doc q k (observed_at doc q h) (shown q h)) (Plain, Get election)
+attempt doc q k h =
+    cond (doc.settings.fast_renew && leads q h) (attempt_from doc q k (observed_at doc q h) (shown q h)) (Plain, Get election)
 
 abbrev pub release_from : Doc → Identity → ℕ → Option Shown → Option Request
 release_from doc q k None = None

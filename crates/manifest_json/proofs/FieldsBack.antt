@@ -1,5 +1,5 @@
 -- Fields that are written are read back.
-use Rattle.std.proofs.Common.{◌≡◌, ℕ, zero, suc, ℤ, pos, negsuc, ◌*◌, ◌/◌, ◌^◌, ◌<◌, ◌==◌, ◌&&◌, not, Bool, true, false, cond, List, [], ◌∷◌, length, slice_get, Option, Some, None, unwrap_or, Ok, refl, sym, ap, subst, ◌∙◌, arith, bytes_eq}
+use Rattle.std.proofs.Common.{◌≡◌, ℕ, zero, suc, ℤ, pos, negsuc, ◌*◌, ◌/◌, ◌^◌, ◌<◌, ◌==◌, ◌&&◌, not, Bool, true, false, cond, List, [], ◌∷◌, length, slice_get, Option, Some, None, unwrap_or, option_and_then, Ok, refl, sym, ap, subst, ◌∙◌, arith, bytes_eq}
 use Rattle.std.specs.Option.{option_map}
 use Rattle.std.proofs.lemmas.Bool.{le-leb, lt-ltb}
 use Rattle.std.proofs.lemmas.Bool.Decides.{nat_tests}
@@ -12,7 +12,7 @@ use Rattle.kube_base.specs.declared.numbers.Wall.{Wall}
 use Rattle.kube_base.proofs.NameLemmas.{number_in-found, with_name-found}
 use Rattle.kube_base.proofs.TimeTexts.{time_of-seconds_text, time_of-micros_text}
 use Rattle.manifest_json.specs.Faults.{refuse}
-use Rattle.manifest_json.specs.Fields.{Texts, unless_null, field, field_in, parent_at, text_at, items_at, time_at, count_at, signed_at, some_or_refuse, numbered, named}
+use Rattle.manifest_json.specs.Fields.{Texts, unless_null, field, field_in, parent_at, text_at, items_at, time_at, count_at, fits, signed_at, some_or_refuse, numbered, named}
 use Rattle.manifest_json.specs.Walk.{whole_second}
 use Rattle.manifest_json.specs.Written.{Field, with_field, members_of, filled_text, filled_object, filled_array, text_of, in_seconds, in_micros, count}
 use Rattle.manifest_json.specs.Readable.{IsHeld, IsNameNumber, IsTime, IsWholeSecond, IsCount, IsSigned}
@@ -149,5 +149,7 @@ count-back path (Some n) h = ap (λ b. some_or_refuse (cond b (Some n) None) 14 
 
 pub signed-back : (path : List ℕ) (z : Option ℤ) → IsSigned z → signed_at path (unless_null (option_map (λ seconds. number (of_integer seconds)) z)) ≡ Ok z
 signed-back path None h = refl
-signed-back path (Some (pos n)) h = ap (λ b. some_or_refuse (cond b (Some (pos n)) None) 14 path) (lt-ltb n (2 ^ 63) h)
-signed-back path (Some (negsuc n)) h = refl
+signed-back path (Some (pos n)) h =
+    ap (λ b. some_or_refuse (option_and_then fits (cond b (Some (pos n)) None)) 14 path) (lt-ltb n (2 ^ 63) h)
+    ∙ ap (λ b. some_or_refuse (cond b (Some (pos n)) None) 14 path) (lt-ltb n (2 ^ 63) h)
+signed-back path (Some (negsuc n)) h = ap (λ b. some_or_refuse (cond b (Some (negsuc n)) None) 14 path) (lt-ltb n (2 ^ 63) h)

@@ -1,5 +1,5 @@
 -- Fields of a manifest's objects. A null counts as a missing key (profile: what the Kubernetes API server does with it).
-use Rattle.std.specs.Prelude.{ℕ, ◌-◌, ◌==◌, ◌&&◌, ◌||◌, not, nat_le, Bool, false, List, [], ◌∷◌, length, slice_index, Option, Some, None, option_and_then, is_some, Result, Ok, Err, ℤ, if◌then◌else◌}
+use Rattle.std.specs.Prelude.{ℕ, ◌-◌, ◌==◌, ◌&&◌, ◌||◌, not, nat_le, nat_lt, ◌^◌, Bool, false, List, [], ◌∷◌, length, slice_index, Option, Some, None, option_and_then, is_some, Result, Ok, Err, ℤ, pos, negsuc, if◌then◌else◌}
 use Rattle.std.specs.Char.{is_ascii_digit, is_ascii_lowercase, is_ascii_uppercase}
 use Rattle.std.specs.List.{list_all}
 use Rattle.serde_json.specs.Data.{Data, Items, no_items, Members}
@@ -105,10 +105,14 @@ abbrev pub count_at : List ℕ → Option Data → Result (Option ℕ) Refusal
 count_at path None = Ok None
 count_at path (Some d) = some_or_refuse (option_and_then small (option_and_then as_u64 (as_number d))) 14 path
 
--- a whole number of 64 bits with its sign
+-- a whole number has 64 bits with its sign
+abbrev pub fits : ℤ → Option ℤ
+fits (pos n) = if nat_lt n (2 ^ 63) then Some (pos n) else None
+fits (negsuc n) = if nat_lt n (2 ^ 63) then Some (negsuc n) else None
+
 abbrev pub signed_at : List ℕ → Option Data → Result (Option ℤ) Refusal
 signed_at path None = Ok None
-signed_at path (Some d) = some_or_refuse (option_and_then as_i64 (as_number d)) 14 path
+signed_at path (Some d) = some_or_refuse (option_and_then fits (option_and_then as_i64 (as_number d))) 14 path
 
 -- ---- numbered texts
 
