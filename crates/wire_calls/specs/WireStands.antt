@@ -81,12 +81,6 @@ abbrev pub NextIs : ℕ → List Sent → List Back → List Entry → Option Be
 NextIs k arriving coming h None = (j : ℕ) → IsQuiet k arriving coming h j
 NextIs k arriving coming h (Some beat) = (IsQuiet k arriving coming h beat.0 → ⊥) × ((j : ℕ) → j < beat.0 → IsQuiet k arriving coming h j)
 
--- the earlier of two beats, where there is one
-abbrev pub earlier_of : Option Beat → Option Beat → Option Beat
-earlier_of None b = b
-earlier_of (Some a) None = Some a
-earlier_of (Some a) (Some b) = cond (nat_lt b.0 a.0) (Some b) (Some a)
-
 -- ---- what the wire doesn't look at
 
 -- whether a deed sends a message, or changes how messages travel

@@ -1,5 +1,5 @@
 // The wire: delays and losses of each process, and what is in flight each way.
-ghost use Rattle.std.specs.Prelude.{◌≡◌, ◌+◌, ◌≤◌, ◌<◌, not, ℕ, List, [], ◌∷◌, Option, IfOk, OnOk, OnErr, IsSome};
+ghost use Rattle.std.specs.Prelude.{◌≡◌, ◌+◌, ◌≤◌, ◌<◌, not, ℕ, List, [], ◌∷◌, Option, IfOk, OnOk, OnErr, IsSome, IfSome, true};
 ghost use Rattle.kube_objects.specs.Entry as entries;
 ghost use Rattle.kube_objects.specs.Entry.{Entry, Identity, Call, entry, script_entry};
 ghost use Rattle.kube_objects.specs.Identities.{identity};
@@ -8,9 +8,9 @@ ghost use Rattle.kube_objects.specs.Wire.{request_arrival, reply_arrival, loses_
 ghost use Rattle.kube_objects.specs.declared.object.Object.{Object};
 ghost use Rattle.kube_objects.specs.declared.script.What.TheVariants.{Delay, Loss};
 ghost use Rattle.kube_base.specs.declared.numbers.Version.{Version};
-ghost use Rattle.wire_calls.specs.InFlight.{first_of, has_any, rest_of};
-ghost use Rattle.wire_calls.specs.Messages.{sent_as_told};
-ghost use Rattle.wire_calls.specs.WireStands.{WireStands, requests_at, replies_at, arrived_of, delivered_of, NextIs, earlier_of, link_at};
+ghost use Rattle.kube_objects.specs.Kinds.{keeps_kind};
+ghost use Rattle.wire_calls.specs.InFlight.{AllPass, earlier_of, first_of, has_any, pending, rest_of};
+ghost use Rattle.wire_calls.specs.Messages.{request_keeps_kind, sent_as_told};
 
 use crate::flight::Flight;
 use crate::link::{Link, travel};
@@ -25,9 +25,12 @@ pub struct Wire {
     links: Vec<Link>,
     requests: Flight<Arrived>,
     replies: Flight<Delivered>,
+    ghost kinds: { AllPass request_keeps_kind (pending requests) },
 }
 
 impl Wire {
+    ghost use Rattle.wire_calls.specs.WireStands.{WireStands, requests_at, replies_at, arrived_of, delivered_of, NextIs, link_at};
+
     /// All delays are one beat, nothing is lost and nothing is in flight.
     pub fn new(alloc: Global, processes: u32) -> Result<Wire, NoMemory>
         ensures { IfOk result (λ wire. (k : ℕ) → WireStands processes k [] [] [] wire) }
@@ -125,6 +128,7 @@ impl Wire {
 
     /// Takes out the first sent request that arrives now. None exactly where there is none.
     pub fn arrival(&mut self, now: Beat) -> Option<Arrived>
+        ensures kind { IfSome result (λ arrived. keeps_kind arrived.request ≡ true) }
         ensures fewer { IsSome result → requests_at self.new now.0 < requests_at self.old now.0 }
         ensures answer { (processes k : ℕ) (arriving : List flights.Sent) (coming : List flights.Back) (h : List Entry) → WireStands processes k arriving coming h self.old → now.0 ≡ k
             → result ≡ arrived_of (first_of arriving) }
