@@ -42,7 +42,8 @@ rest_of (x ∷ xs) = xs
 
 -- no queue is kept in which nothing is
 abbrev pub HasNoEmpty : {T : Type 0} → Queues T → Type 0
-HasNoEmpty queues = (j : ℕ) → elim (get beat_cmp queues.beats (record { 0 = j })) [ None ↦ Unit {0} | Some queue ↦ deque_items queue ≡ [] → ⊥ ]
+HasNoEmpty queues =
+    (j : ℕ) → elim (get beat_cmp queues.beats (record { 0 = j })) [ None ↦ Unit {0} | Some queue ↦ deque_items queue ≡ [] → ⊥ ]
 
 -- the beat of the front has no queue among the others, and none of those is empty
 pub record IsLive {T : Type 0} (flight : Flight T) : Type 0 where

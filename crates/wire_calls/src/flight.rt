@@ -32,7 +32,8 @@ impl<T: Copy + Drop> Flight<T> {
     /// Adds a message behind the others of its beat.
     pub(crate) fn push(&mut self, beat: Beat, message: T) -> Result<(), NoMemory>
         ensures each { (test : T → Bool) → AllPass test (pending self.old) → test message ≡ true → AllPass test (pending self.new) }
-        ensures ok { IsLive self.old → OnOk result ((j : ℕ) → pending self.new j ≡ cond (beat.0 == j) (pending self.old j ++ message ∷ []) (pending self.old j)) }
+        ensures ok { IsLive self.old → OnOk result ((j : ℕ)
+            → pending self.new j ≡ cond (beat.0 == j) (pending self.old j ++ message ∷ []) (pending self.old j)) }
         ensures err { OnErr result ((j : ℕ) → pending self.new j ≡ pending self.old j) }
         ensures live { IsLive self.old → IsLive self.new }
     {
@@ -62,7 +63,8 @@ impl<T: Copy + Drop> Flight<T> {
         ensures others { (test : T → Bool) → AllPass test (pending self.old) → AllPass test (pending self.new) }
         ensures fewer { IsSome result → length (pending self.new beat.0) < length (pending self.old beat.0) }
         ensures first { IsLive self.old → result ≡ first_of (pending self.old beat.0) }
-        ensures rest { IsLive self.old → (j : ℕ) → pending self.new j ≡ cond (beat.0 == j) (rest_of (pending self.old j)) (pending self.old j) }
+        ensures rest { IsLive self.old → (j : ℕ) → pending self.new j
+            ≡ cond (beat.0 == j) (rest_of (pending self.old j)) (pending self.old j) }
         ensures live { IsLive self.old → IsLive self.new }
     {
         if self.beat.0 == beat.0 {
