@@ -322,6 +322,7 @@ impl Feed for Store {
             None => None,
         }
     }
+
     ghost listed = { listed_in };
 
     ghost kinds = { kinds_in };
