@@ -1,7 +1,9 @@
 pub mod Due
+pub mod Evictions
 pub mod History
 pub mod Premise
 pub mod Printed
 pub mod Safe
 pub mod Sound
+pub mod Spacing
 pub mod Steps

@@ -4,7 +4,6 @@ use Rattle.kube_base.specs.declared.numbers.Version.{Version}
 use Rattle.kube_objects.specs.declared.call.Answer.{Answer}
 use Rattle.kube_objects.specs.declared.call.Answer.TheVariants as answer
 use Rattle.kube_objects.specs.declared.call.Reply.{Reply}
-use Rattle.kube_objects.specs.declared.call.Reply.TheVariants as reply
 use Rattle.kube_objects.specs.declared.call.Request.{Request}
 use Rattle.kube_objects.specs.declared.call.Request.TheVariants as request
 use Rattle.kube_objects.specs.declared.deed.Act.{Act}
@@ -19,15 +18,7 @@ use Rattle.kube_objects.specs.Entry.{Entry, Deed, Event, Starts, Crashes, Stops,
 use Rattle.kube_objects.specs.Keys.{key_eq}
 use Rattle.kube_objects.specs.Newest.{or_zero}
 use Rattle.kube_objects.specs.Stored.{election}
-
--- a reply to a write; no other is printed
-abbrev pub as_answer : Reply → Option Answer
-as_answer (reply.Found version lease) = None
-as_answer (reply.Done version) = Some (answer.Done version)
-as_answer reply.Absent = Some answer.Absent
-as_answer reply.Exists = Some answer.Exists
-as_answer (reply.Conflict version) = Some (answer.Conflict version)
-as_answer reply.Unchanged = None
+use Rattle.kube_objects.specs.Tries.{as_answer}
 
 -- an accepted renewal of a node's Lease isn't printed
 abbrev pub if_told : Key → Answer → Option Answer

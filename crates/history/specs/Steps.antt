@@ -12,10 +12,12 @@ use Rattle.kube_objects.specs.Document.{Doc, processes, is_controller, is_up_fir
 use Rattle.kube_objects.specs.Elector.{follow_on, leads, deadline, release, acts}
 use Rattle.kube_objects.specs.Entry.{Entry, Identity, Call, Release, Event as Happens, Starts, Crashes, Stops, Answers, Delivers, entry, script_entry}
 use Rattle.kube_objects.specs.Identities.{identity}
+use Rattle.kube_objects.specs.Kubelet.{next_request, send_next, round}
 use Rattle.kube_objects.specs.Newest.{when, has}
 use Rattle.kube_objects.specs.Process.{alive, starts, call_in, counted, ended, is_restart_due}
 use Rattle.kube_objects.specs.Stamps.{stamped}
 use Rattle.kube_objects.specs.Stored.{stored, next_version}
+use Rattle.kube_objects.specs.Tick.{tick}
 use Rattle.kube_objects.specs.Turns.{react, expire_call, end_term, try}
 use Rattle.kube_objects.specs.Wire.{reply_arrival, send, Sent, Back, sent_of, back_of}
 
@@ -115,9 +117,9 @@ step_two k h = each (λ e. answer_due k (sent_of e.actor e.deed)) h h
 
 -- ---- step 3: replies that arrive are delivered, in the order of their answering
 
--- a kubelet's answer to a counted reply will stand here
+-- what a kubelet sends next
 abbrev pub kubelet_react : Doc → ℕ → Identity → Call → Reply → List Entry → List Entry
-kubelet_react doc k q call reply h = h
+kubelet_react doc k q call reply h = send_next k q (next_request doc q k call.request reply) h
 
 -- what a counted reply causes; h has it on top
 abbrev pub react_as : Doc → ℕ → Identity → Call → Reply → Bool → List Entry → List Entry
@@ -173,10 +175,7 @@ finish doc k p h = if_up p (λ q T. end_term doc k q (deadline doc q T) T) (aliv
 abbrev pub attempts : Doc → ℕ → ℕ → List Entry → List Entry
 attempts doc k p h = if_up p (try doc k) (alive p h) h
 
--- the entries of an acting controller's tick will stand here
-abbrev pub tick : Doc → ℕ → Identity → List Entry → List Entry
-tick doc k q h = h
-
+-- where it acts as the leader
 abbrev pub tick_as : Doc → ℕ → Identity → Bool → List Entry → List Entry
 tick_as doc k q false h = h
 tick_as doc k q true h = tick doc k q h
@@ -184,12 +183,19 @@ tick_as doc k q true h = tick doc k q h
 abbrev pub ticks : Doc → ℕ → ℕ → List Entry → List Entry
 ticks doc k p h = if_up p (λ q T. tick_as doc k q (acts doc q k T) T) (alive p h) h
 
-abbrev pub controller_turn : Doc → ℕ → ℕ → List Entry → List Entry
-controller_turn doc k p h = ticks doc k p (attempts doc k p (finish doc k p (expire doc k p (restart doc k p h))))
+-- a controller's turn but for its tick
+abbrev pub elector_turn : Doc → ℕ → ℕ → List Entry → List Entry
+elector_turn doc k p h = attempts doc k p (finish doc k p (expire doc k p (restart doc k p h)))
 
--- a kubelet's turn will stand here
+abbrev pub controller_turn : Doc → ℕ → ℕ → List Entry → List Entry
+controller_turn doc k p h = ticks doc k p (elector_turn doc k p h)
+
+-- a round begins where it is time
+abbrev pub rounds : Doc → ℕ → ℕ → List Entry → List Entry
+rounds doc k p h = if_up p (round doc k) (alive p h) h
+
 abbrev pub kubelet_turn : Doc → ℕ → ℕ → List Entry → List Entry
-kubelet_turn doc k p h = h
+kubelet_turn doc k p h = rounds doc k p (expire doc k p h)
 
 abbrev pub turn_as : Doc → ℕ → ℕ → Bool → List Entry → List Entry
 turn_as doc k p true h = controller_turn doc k p h

@@ -5,7 +5,7 @@ use Rattle.kube_objects.specs.declared.call.Request.{Request}
 use Rattle.kube_objects.specs.declared.call.Request.TheVariants as request
 use Rattle.kube_objects.specs.declared.lease.Lease.{Lease}
 use Rattle.kube_objects.specs.declared.object.Object.TheVariants as object
-use Rattle.kube_objects.specs.Entry.{Identity, Call, Plain, Starts, Sends, Answers, Delivers, Leads, entry}
+use Rattle.kube_objects.specs.Entry.{Identity, Call, Plain, Starts, Sends, Answers, Delivers, Leads, Ticks, Sync, Pass, entry}
 use Rattle.kube_objects.specs.Identities.{identity, holder_of}
 use Rattle.kube_objects.specs.Stored.{election}
 use Rattle.history.specs.History.{history}
@@ -22,9 +22,11 @@ abbrev pub call : ℕ → ℕ → Request → Call
 call number sent asked = record { number = number; request = asked; sent = sent; kind = Plain }
 
 -- the newest entry first
-abbrev pub TenEntries : Type 0
-TenEntries = history (alone 60 [] []) 6 ≡
+abbrev pub TwelveEntries : Type 0
+TwelveEntries = history (alone 60 [] []) 6 ≡
     entry 5 2 me (Answers (call 3 4 (request.Get election)) (reply.Found (record { 0 = 1 }) first_record) (Some 6) None)
+    ∷ entry 4 4 me (Ticks Pass)
+    ∷ entry 4 4 me (Ticks Sync)
     ∷ entry 4 4 me (Sends (call 3 4 (request.Get election)) (Some 5))
     ∷ entry 4 3 me (Leads (record { 0 = 1 }))
     ∷ entry 4 3 me (Delivers (call 2 2 (request.Create election first_record)) (reply.Done (record { 0 = 1 })) true)

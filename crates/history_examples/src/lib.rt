@@ -4,7 +4,7 @@
 ghost use Rattle.history_examples.specs.Elections.{FirstElection, DoubleSpeed, SecondCreateIsRefused, SecondTakeoverIsRefused, VersionsCountEveryWrite, StormInOneBeat, ReplyToAnOldIncarnation};
 ghost use Rattle.history_examples.specs.Renewals.{LateRenewalConflicts, DeadlineEndsTheTerm, ReplyAtTheTimeoutCounts, ReplyAfterTheTimeoutIsIgnored, ReplyToAnotherCallIsIgnored, SuccessAtTheDeadline, CrashCancelsARestart, FastRenewal, FastRenewalFallsBack, StopIsFollowedByRelease, ReleaseBeforeALoss, ReleaseAfterALoss, RenewalOutrunsRelease};
 ghost use Rattle.history_examples.specs.Takeovers.{OwnRecordAfterLostReply, TakeoverAfterCrash, DurationInTheRecordCounts, CreateOutlivesItsSender, SlowReplyCounts};
-ghost use Rattle.history_examples.specs.Entries.{TenEntries};
+ghost use Rattle.history_examples.specs.Entries.{TwelveEntries};
 ghost use Rattle.history_examples.specs.Actors.{TwoActWithoutPremise, OneActsUnderPremise};
 
 /// The traces of first elections.
@@ -44,9 +44,9 @@ pub fn worked_takeovers()
     ensures slow_reply_counts { SlowReplyCounts }
 {}
 
-/// The first ten entries of a history.
+/// The first twelve entries of a history.
 pub fn worked_entries()
-    ensures { TenEntries }
+    ensures { TwelveEntries }
 {}
 
 /// Who acts, where the lease premise fails and where it holds.

@@ -2,4 +2,4 @@ use Rattle.history_examples.proofs.Entries as worked
 use Rattle.history_examples.proofs.worked_entries.Goals as goal
 
 pub returns : goal.returns
-returns c = worked.ten_entries
+returns c = worked.twelve_entries

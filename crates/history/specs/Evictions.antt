@@ -1,0 +1,90 @@
+-- The claims on evictions: a controller deletes a pod only when it is due on the controller's clock, and at the first tick that
+-- reaches the store. They hold of every document. Source: Kubernetes, Taints and Tolerations; the profile.
+use Rattle.std.specs.Prelude.{ℕ, ◌≤◌, ◌≡◌, true, false, List, [], ◌∷◌, Option, Some, None}
+use Rattle.kube_base.specs.declared.numbers.Version.{Version}
+use Rattle.kube_objects.specs.declared.call.Answer.{Answer}
+use Rattle.kube_objects.specs.declared.call.Answer.TheVariants as answer
+use Rattle.kube_objects.specs.declared.deed.Actor.{Actor}
+use Rattle.kube_objects.specs.declared.deed.Actor.TheVariants as actor
+use Rattle.kube_objects.specs.declared.key.Key.{Key}
+use Rattle.kube_objects.specs.declared.node.Node.{Node}
+use Rattle.kube_objects.specs.declared.pod.Due.{Due}
+use Rattle.kube_objects.specs.declared.pod.Due.TheVariants.{Never, At}
+use Rattle.kube_objects.specs.declared.pod.Pod.{Pod}
+use Rattle.kube_objects.specs.Answers.{as_kind, node_in}
+use Rattle.kube_objects.specs.Clocks.{wall}
+use Rattle.kube_objects.specs.Document.{Doc, end_beat}
+use Rattle.kube_objects.specs.Entry.{Entry, Identity, Deed, Ticks, Delete}
+use Rattle.kube_objects.specs.Identities.{identity}
+use Rattle.kube_objects.specs.InForce.{watches}
+use Rattle.kube_objects.specs.Seen.{pod_in, is_pod}
+use Rattle.kube_objects.specs.Stored.{stored, node_key}
+use Rattle.kube_objects.specs.Tolerations.{due}
+use Rattle.kube_objects.specs.Wire.{loses_requests}
+use Rattle.history.specs.History.{whole_history, at_turn}
+use Rattle.history.specs.Safe.{Acts}
+use Rattle.history.specs.Steps.{turn}
+
+-- ---- when a stored pod is due
+
+abbrev pub stored_node : ℕ → List Entry → Option (Version × Node)
+stored_node name h = as_kind node_in (stored (node_key name) h)
+
+abbrev pub stored_pod : Key → List Entry → Option (Version × Pod)
+stored_pod key h = as_kind pod_in (stored key h)
+
+abbrev pub due_on : Pod → Option (Version × Node) → Due
+due_on pod None = Never
+due_on pod (Some y) = due pod y.1
+
+abbrev pub due_of : Option (Version × Pod) → List Entry → Due
+due_of None h = Never
+due_of (Some x) h = due_on x.1 (stored_node x.1.node h)
+
+-- when a pod is due that is stored, and whose node is
+abbrev pub pod_due : Key → List Entry → Due
+pod_due pod h = due_of (stored_pod pod h) h
+
+abbrev pub IsDue : ℕ → Due → Type 0
+IsDue now Never = ⊥
+IsDue now (At at) = at ≤ now
+
+-- ---- not early
+
+abbrev pub IfDone : Option Answer → Type 0 → Type 0
+IfDone (Some (answer.Done version)) holds = holds
+IfDone _ holds = Unit {0}
+
+abbrev pub IfBy : Actor → (Identity → Type 0) → Type 0
+IfBy actor.Script holds = Unit {0}
+IfBy (actor.Proc id incarnation) holds = holds (identity id.0 incarnation)
+
+-- an accepted delete takes a pod that is due; h is the history before it
+abbrev pub NotEarlyAt : Doc → ℕ → Actor → Deed → List Entry → Type 0
+NotEarlyAt doc k who (Ticks (Delete pod given node_given at tried)) h =
+    IfDone tried (IfBy who (λ q. IsDue (wall doc q.process k) (pod_due pod h)))
+NotEarlyAt doc k who _ h = Unit {0}
+
+abbrev pub NotEarlyIn : Doc → List Entry → Type 0
+NotEarlyIn doc [] = Unit {0}
+NotEarlyIn doc (e ∷ h) = NotEarlyAt doc e.beat e.actor e.deed h × NotEarlyIn doc h
+
+abbrev pub NotEarly : Doc → Type 0
+NotEarly doc = NotEarlyIn doc (whole_history doc)
+
+-- ---- prompt
+
+-- the history after a process's turn in beat k
+abbrev pub after_turn : Doc → ℕ → ℕ → List Entry
+after_turn doc p k = turn doc k p (at_turn doc p k)
+
+-- after the tick of a controller with its watch on and its requests passing no stored pod is due whose node is stored
+abbrev pub PromptAt : Doc → Identity → ℕ → Type 0
+PromptAt doc q k =
+    Acts doc q k
+    → watches doc q.process (at_turn doc q.process k) ≡ true
+    → loses_requests q.process (at_turn doc q.process k) ≡ false
+    → (pod : Key) → is_pod pod.kind ≡ true → IsDue (wall doc q.process k) (pod_due pod (after_turn doc q.process k)) → ⊥
+
+abbrev pub Prompt : Doc → Type 0
+Prompt doc = (q : Identity) (k : ℕ) → k ≤ end_beat doc → PromptAt doc q k
