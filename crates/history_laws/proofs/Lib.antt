@@ -1,12 +1,15 @@
 pub mod Plainly
 pub mod Expired
+pub mod Counting
+pub mod Rounds
+pub mod Ticks
 pub mod Walk
 pub mod Tailed
 pub mod Versions
 pub mod Order
 pub mod Lives
-pub mod Counting
 pub mod Once
 pub mod Numbers
 pub mod Starts
 pub mod Bounds
+pub mod Bare

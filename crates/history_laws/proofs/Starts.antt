@@ -13,14 +13,16 @@ use Rattle.kube_objects.specs.Document.{Doc, processes, is_controller, is_up_fir
 use Rattle.kube_objects.specs.Elector.{Follow, Fails, Asks, Succeeds, follow_on, leads, deadline, timer, release, acts}
 use Rattle.kube_objects.specs.Entry.{Entry, Identity, Call, First, Event as Happens, Stops, Delivers, entry, script_entry}
 use Rattle.kube_objects.specs.Identities.{identity}
+use Rattle.kube_objects.specs.Kubelet.{next_request, send_next, is_post_call, round_if, is_round_due, round}
 use Rattle.kube_objects.specs.Newest.{added, has, when}
 use Rattle.kube_objects.specs.Process.{alive, starts, call_in, counted, ended, is_late, is_restart_due}
 use Rattle.kube_objects.specs.Stamps.{stamped}
 use Rattle.kube_objects.specs.Turns.{react, expire_as, expire_call, end_as, end_term, just_expired, is_fast_call, attempt_if, try}
 use Rattle.kube_objects.specs.Wire.{Sent, Back, sent_of, back_of}
 use Rattle.history.specs.History.{put_all, history}
-use Rattle.history.specs.Steps.{start, start_first, starts_below, first_starts, start_if_down, crash, released, stop, effect, stamp, event_version, happens_if, happen_all, step_one, each, comes_at, answer_if, answer_due, step_two, react_as, deliver_as, deliver_if, deliver_due, step_three, if_up, restart_as, restart_if, restart, expire, finish, attempts, tick_as, ticks, turn_as, turns}
+use Rattle.history.specs.Steps.{start, start_first, starts_below, first_starts, start_if_down, crash, released, stop, effect, stamp, event_version, happens_if, happen_all, step_one, each, comes_at, answer_if, answer_due, step_two, react_as, deliver_as, deliver_if, deliver_due, step_three, if_up, restart_as, restart_if, restart, expire, finish, attempts, tick_as, ticks, rounds, kubelet_turn, turn_as, turns}
 use Rattle.history_laws.specs.Starts.{StartsAreFew}
+use Rattle.history_laws.proofs.Ticks.{walk_tick}
 
 -- a step adds no start of the process
 abbrev Quiet : ℕ → List Entry → List Entry → Type 0
@@ -155,9 +157,13 @@ react_quiet k p q led (Asks request) h = same p h
 react_quiet k p q true (Succeeds version) h = same p h
 react_quiet k p q false (Succeeds version) h = same p h
 
+next_quiet : (k p : ℕ) (q : Identity) (o : Option Request) (h : List Entry) → Quiet p (send_next k q o h) h
+next_quiet k p q None h = same p h
+next_quiet k p q (Some request) h = same p h
+
 react_as_quiet : (doc : Doc) (k p : ℕ) (q : Identity) (c : Call) (reply : Reply) (b : Bool) (h : List Entry) → Quiet p (react_as doc k q c reply b h) h
 react_as_quiet doc k p q c reply true h = react_quiet k p q (leads q h) (follow_on doc q k c.kind c.request reply h) h
-react_as_quiet doc k p q c reply false h = same p h
+react_as_quiet doc k p q c reply false h = next_quiet k p q (next_request doc q k c.request reply) h
 
 deliver_as_quiet : (doc : Doc) (k p : ℕ) (q : Identity) (c : Call) (reply : Reply) (o : Option Call) (h : List Entry) → Quiet p (deliver_as doc k q c reply o h) h
 deliver_as_quiet doc k p q c reply None h = same p h
@@ -205,8 +211,24 @@ try_quiet doc k p q h = by_test (is_fast_call (just_expired q k h)) (not (has (c
     by_test false false = same p h
 
 tick_quiet : (doc : Doc) (k p : ℕ) (q : Identity) (b : Bool) (h : List Entry) → Quiet p (tick_as doc k q b h) h
-tick_quiet doc k p q true h = same p h
+tick_quiet doc k p q true h = walk_tick doc k q (λ g. Quiet p g h) (λ t g made s. s) h (same p h)
 tick_quiet doc k p q false h = same p h
+
+round_quiet : (doc : Doc) (k p : ℕ) (q : Identity) (h : List Entry) → Quiet p (round doc k q h) h
+round_quiet doc k p q h = by_test (is_post_call (just_expired q k h)) (is_round_due doc k q h)
+  where
+    by_test : (late due : Bool) → Quiet p (round_if doc k q late due h) h
+    by_test true due = same p h
+    by_test false true = same p h
+    by_test false false = same p h
+
+expiry_quiet : (doc : Doc) (k c p : ℕ) (h : List Entry) → Quiet p (expire doc k c h) h
+expiry_quiet doc k c p h = up_quiet c p (λ q T. expire_call doc k q (call_in q T) T) (λ q T. expire_quiet doc k p q (call_in q T) T) (alive c h) h
+
+kubelet_quiet : (doc : Doc) (k c p : ℕ) (h : List Entry) → Quiet p (kubelet_turn doc k c h) h
+kubelet_quiet doc k c p h =
+    let h1 = expire doc k c h in
+    quiet_trans p (rounds doc k c h1) h1 h (up_quiet c p (round doc k) (round_quiet doc k p) (alive c h1) h1) (expiry_quiet doc k c p h)
 
 -- after the restart of a turn
 rest_quiet : (doc : Doc) (k c p : ℕ) (h : List Entry) → Quiet p (ticks doc k c (attempts doc k c (finish doc k c (expire doc k c h)))) h
@@ -214,7 +236,7 @@ rest_quiet doc k c p h =
     let h2 = expire doc k c h in
     let h3 = finish doc k c h2 in
     let h4 = attempts doc k c h3 in
-    let a : Quiet p h2 h = up_quiet c p (λ q T. expire_call doc k q (call_in q T) T) (λ q T. expire_quiet doc k p q (call_in q T) T) (alive c h) h in
+    let a : Quiet p h2 h = expiry_quiet doc k c p h in
     let b : Quiet p h3 h2 = up_quiet c p (λ q T. end_term doc k q (deadline doc q T) T) (λ q T. end_quiet doc k p q (deadline doc q T) T) (alive c h2) h2 in
     let d : Quiet p h4 h3 = up_quiet c p (try doc k) (try_quiet doc k p) (alive c h3) h3 in
     let e : Quiet p (ticks doc k c h4) h4 = up_quiet c p (λ q T. tick_as doc k q (acts doc q k T) T) (λ q T. tick_quiet doc k p q (acts doc q k T) T) (alive c h4) h4 in
@@ -238,11 +260,11 @@ restart_other doc k c p None h other = by_test (is_restart_due doc c k (ended c 
 
 turn_one : (doc : Doc) (k c p : ℕ) (b : Bool) (h : List Entry) → One p (turn_as doc k c b h) h
 turn_one doc k c p true h = let a = rest_quiet doc k c p (restart doc k c h) in let b = restart_one doc k c p (alive c h) h in omega (arith, a, b)
-turn_one doc k c p false h = quiet_one p h h (same p h)
+turn_one doc k c p false h = quiet_one p (kubelet_turn doc k c h) h (kubelet_quiet doc k c p h)
 
 turn_other : (doc : Doc) (k c p : ℕ) (b : Bool) (h : List Entry) → (c ≡ p → ⊥) → Quiet p (turn_as doc k c b h) h
 turn_other doc k c p true h other = let a = rest_quiet doc k c p (restart doc k c h) in let b = restart_other doc k c p (alive c h) h other in omega (arith, a, b)
-turn_other doc k c p false h other = same p h
+turn_other doc k c p false h other = kubelet_quiet doc k c p h
 
 turns_other : (doc : Doc) (k n p : ℕ) (h : List Entry) → n ≤ p → Quiet p (turns doc k n h) h
 turns_other doc k zero p h le = same p h

@@ -1,10 +1,12 @@
 -- Positions of a history.
 use Rattle.std.proofs.Common.{◌≡◌, ◌⊎◌, ℕ, zero, suc, ◌+◌, ◌-◌, ◌≤◌, ◌&&◌, Bool, true, false, Option, Some, None, List, [], ◌∷◌, refl, sym, ap, subst, inl, inr, arith}
 use Rattle.kube_objects.specs.declared.call.Reply.{Reply}
+use Rattle.kube_objects.specs.declared.call.Request.{Request}
 use Rattle.kube_objects.specs.Document.{Doc, processes, is_controller}
 use Rattle.kube_objects.specs.Elector.{Follow, Fails, Asks, Succeeds, follow_on, leads}
 use Rattle.kube_objects.specs.Entry.{Entry, Identity, Call, Delivers, entry}
 use Rattle.kube_objects.specs.Identities.{is_by, of_process}
+use Rattle.kube_objects.specs.Kubelet.{next_request, send_next}
 use Rattle.kube_objects.specs.Newest.{count, has}
 use Rattle.kube_objects.specs.Process.{starts, begun, is_start, is_send, counted}
 use Rattle.kube_objects.specs.Stored.{writes, write_of}
@@ -14,7 +16,7 @@ use Rattle.history.specs.History.{three_steps, history, at_turn}
 use Rattle.history.specs.Steps.{each, comes_at, answer_if, answer_due, react_as, deliver_as, deliver_if, deliver_due, step_one, step_two, step_three, turns}
 use Rattle.history_laws.specs.Tails.{In, IsTail}
 use Rattle.history_laws.proofs.Plainly.{added_more}
-use Rattle.history_laws.proofs.Walk.{Keeps, all_kinds, walk_one, walk_two, walk_three, walk_steps, walk_turn, walk_turns}
+use Rattle.history_laws.proofs.Walk.{Anyone, KeepsTurn, Keeps, all_turns, all_kinds, walk_one, walk_two, walk_three, walk_steps, walk_any_turn, walk_any_turns}
 
 pub tail_all : (h : List Entry) → IsTail h h
 tail_all [] = refl
@@ -68,6 +70,9 @@ writes_tail g h at = count_tail (λ e. has (write_of e.deed)) g h at
 pub adds : (doc : Doc) (g : List Entry) → Keeps doc (λ k step h. IsTail g h)
 adds doc g = all_kinds doc (λ k step h. IsTail g h) (λ k step h s. s) (λ k h s. s) (λ x h next s. inr s)
 
+turn_adds : (doc : Doc) (g : List Entry) → KeepsTurn doc Anyone (λ k h. IsTail g h)
+turn_adds doc g = all_turns doc Anyone (λ k h. IsTail g h) (λ k x h beat step next s. inr s)
+
 pub one_adds : (doc : Doc) (k : ℕ) (g h : List Entry) → IsTail g h → IsTail g (step_one doc k h)
 one_adds doc k g h at = walk_one doc (λ k step h. IsTail g h) (adds doc g) k h at
 
@@ -81,7 +86,7 @@ pub steps_add : (doc : Doc) (k : ℕ) (g h : List Entry) → IsTail g h → IsTa
 steps_add doc k g h at = walk_steps doc (λ k step h. IsTail g h) (adds doc g) k h at
 
 pub turns_add : (doc : Doc) (k n : ℕ) (g h : List Entry) → IsTail g h → IsTail g (turns doc k n h)
-turns_add doc k n g h at = walk_turns doc (λ k h. IsTail g h) (adds doc g).turns k n h at
+turns_add doc k n g h at = walk_any_turns doc (λ k h. IsTail g h) (turn_adds doc g) k n h at
 
 -- so does a part of step 2 or 3
 pub each_adds : (f : Entry → List Entry → List Entry) → ((e : Entry) (g h : List Entry) → IsTail g h → IsTail g (f e h)) → (l g h : List Entry) → IsTail g h → IsTail g (each f l h)
@@ -102,9 +107,13 @@ react_adds k q led (Asks request) g h at = inr at
 react_adds k q true (Succeeds version) g h at = at
 react_adds k q false (Succeeds version) g h at = inr at
 
+next_adds : (k : ℕ) (q : Identity) (o : Option Request) (g h : List Entry) → IsTail g h → IsTail g (send_next k q o h)
+next_adds k q None g h at = at
+next_adds k q (Some request) g h at = inr at
+
 react_as_adds : (doc : Doc) (k : ℕ) (q : Identity) (c : Call) (reply : Reply) (b : Bool) (g h : List Entry) → IsTail g h → IsTail g (react_as doc k q c reply b h)
 react_as_adds doc k q c reply true g h at = react_adds k q (leads q h) (follow_on doc q k c.kind c.request reply h) g h at
-react_as_adds doc k q c reply false g h at = at
+react_as_adds doc k q c reply false g h at = next_adds k q (next_request doc q k c.request reply) g h at
 
 deliver_as_adds : (doc : Doc) (k : ℕ) (q : Identity) (c : Call) (reply : Reply) (o : Option Call) (g h : List Entry) → IsTail g h → IsTail g (deliver_as doc k q c reply o h)
 deliver_as_adds doc k q c reply None g h at = inr at
@@ -123,7 +132,7 @@ turns_on doc k p zero h = let e : p ≡ p + 0 = omega arith in subst (λ m. IsTa
 turns_on doc k p (suc n) h =
     let e : suc (p + n) ≡ p + suc n = omega arith in
     subst (λ m. IsTail (turns doc k p h) (turns doc k m h)) e
-    (walk_turn doc (λ j g. IsTail (turns doc k p h) g) (adds doc (turns doc k p h)).turns k (p + n) (turns doc k (p + n) h) (turns_on doc k p n h))
+    (walk_any_turn doc (λ j g. IsTail (turns doc k p h) g) (turn_adds doc (turns doc k p h)) k (p + n) (turns doc k (p + n) h) (turns_on doc k p n h))
 
 -- the history at a turn is a position of the history with that beat
 pub turn_tail : (doc : Doc) (p k : ℕ) → p ≤ processes doc → IsTail (at_turn doc p k) (history doc (suc k))

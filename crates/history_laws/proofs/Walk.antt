@@ -1,5 +1,5 @@
 -- One walk through the steps of every beat: what each kind of entry keeps holds of every history.
-use Rattle.std.proofs.Common.{◌≡◌, ◌⊎◌, ℕ, zero, suc, ◌+◌, ◌==◌, ◌&&◌, not, nat_lt, Bool, true, false, List, [], ◌∷◌, Option, Some, None, IfSome, refl, sym, inl, inr}
+use Rattle.std.proofs.Common.{◌≡◌, ◌⊎◌, ℕ, zero, suc, ◌+◌, ◌==◌, ◌&&◌, not, nat_lt, Bool, true, false, List, [], ◌∷◌, Option, Some, None, IfSome, refl, sym, subst, inl, inr}
 use Rattle.kube_base.specs.declared.numbers.ProcId.{ProcId}
 use Rattle.kube_base.specs.declared.numbers.Version.{Version}
 use Rattle.kube_objects.specs.declared.call.Request.{Request}
@@ -11,18 +11,22 @@ use Rattle.kube_objects.specs.declared.script.What.TheVariants as what
 use Rattle.kube_objects.specs.Clocks.{local}
 use Rattle.kube_objects.specs.Document.{Doc, processes, is_controller, is_up_first}
 use Rattle.kube_objects.specs.Elector.{Follow, Fails, Asks, Succeeds, follow_on, leads, deadline, timer, attempt, release, acts}
-use Rattle.kube_objects.specs.Entry.{Entry, Identity, Call, Plain, Release, Deed, Event as Happens, Starts, Crashes, Stops, Ends, Delivers, Expires, Leads, actor_of, entry, script_entry}
+use Rattle.kube_objects.specs.Entry.{Entry, Identity, Call, Plain, Release, Deed, Event as Happens, Starts, Crashes, Stops, Ends, Delivers, Expires, Leads, Ticks, actor_of, entry, script_entry}
 use Rattle.kube_objects.specs.Identities.{identity}
+use Rattle.kube_objects.specs.Kubelet.{node_of, is_post, has_round, next_request, post, send_next, is_post_call, round_if, is_round_due, round_timer, round}
 use Rattle.kube_objects.specs.Newest.{has}
 use Rattle.kube_objects.specs.Process.{alive, starts, begun, call_in, counted, is_late, ended, is_restart_due}
-use Rattle.kube_objects.specs.Stored.{election}
+use Rattle.kube_objects.specs.Stored.{election, node_lease}
+use Rattle.kube_objects.specs.Tick.{tick}
 use Rattle.kube_objects.specs.Turns.{lead_if, react, expire_as, expire_call, end_as, end_term, just_expired, is_fast_call, attempt_if, try}
 use Rattle.kube_objects.specs.Wire.{send, Sent, Back, sent_of, back_of}
 use Rattle.history.specs.History.{three_steps, history, at_turn}
-use Rattle.history.specs.Steps.{start, start_first, starts_below, first_starts, start_if_down, crash, released, stop, effect, stamp, event_version, happens_if, happen_all, step_one, each, comes_at, answered, answer_if, answer_due, step_two, react_as, deliver_as, deliver_if, deliver_due, step_three, if_up, restart_as, restart_if, restart, expire, finish, attempts, tick_as, ticks, controller_turn, turn_as, turn, turns}
+use Rattle.history.specs.Steps.{start, start_first, starts_below, first_starts, start_if_down, crash, released, stop, effect, stamp, event_version, happens_if, happen_all, step_one, each, comes_at, answered, answer_if, answer_due, step_two, react_as, deliver_as, deliver_if, deliver_due, step_three, if_up, restart_as, restart_if, restart, expire, finish, attempts, tick_as, ticks, controller_turn, kubelet_turn, turn_as, turn, turns}
 use Rattle.history_laws.specs.Tails.{In}
+use Rattle.history_laws.proofs.Counting.{counted_is}
 use Rattle.history_laws.proofs.Expired.{expired_none}
-use Rattle.history_laws.proofs.Plainly.{true_is}
+use Rattle.history_laws.proofs.Plainly.{true_is, and_left, not_true}
+use Rattle.history_laws.proofs.Ticks.{MadeTick, walk_tick}
 
 abbrev pub InScript : Event → List Event → Type 0
 InScript e [] = ⊥
@@ -54,10 +58,28 @@ stopped_at k id i before = entry k 1 (identity id.0 i) Stops ∷ script_entry k 
 abbrev pub after_reply : ℕ → Back → Call → List Entry → List Entry
 after_reply k b waiting h = entry k 3 b.who (Delivers waiting b.reply true) ∷ h
 
--- a property at a beat that each kind of entry of a turn keeps
-pub record KeepsTurn (doc : Doc) (P : ℕ → List Entry → Type 0) : Type 0 where
+-- the history as the tick of a turn begins; h is that at the turn
+abbrev pub to_tick : Doc → ℕ → ℕ → List Entry → List Entry
+to_tick doc k p h = attempts doc k p (finish doc k p (expire doc k p (restart doc k p h)))
+
+-- an identity acts as its tick begins in its turn of beat k
+pub record Ticking (doc : Doc) (q : Identity) (k : ℕ) : Type 0 where
+  pub role : is_controller doc q.process ≡ true
+  pub up : alive q.process (to_tick doc k q.process (at_turn doc q.process k)) ≡ Some q.incarnation
+  pub acting : acts doc q k (to_tick doc k q.process (at_turn doc q.process k)) ≡ true
+
+-- somebody, of whom nothing is known
+abbrev pub Anyone : Identity → ℕ → Type 0
+Anyone q k = Unit {0}
+
+-- whoever acts as the tick begins of a turn on this history is one of these
+abbrev pub Begins : Doc → (Identity → ℕ → Type 0) → ℕ → ℕ → List Entry → Type 0
+Begins doc A k p h = (i : ℕ) → is_controller doc p ≡ true → alive p (to_tick doc k p h) ≡ Some i → acts doc (identity p i) k (to_tick doc k p h) ≡ true → A (identity p i) k
+
+-- a property at a beat that each kind of entry of a turn keeps; A says who ticks
+pub record KeepsTurn (doc : Doc) (A : Identity → ℕ → Type 0) (P : ℕ → List Entry → Type 0) : Type 0 where
   pub restarts : (k p : ℕ) (h : List Entry) → P k h → P k (start k 4 p h)
-  pub expires : (k p i : ℕ) (call : Call) (h : List Entry) → is_controller doc p ≡ true → alive p h ≡ Some i → call_in (identity p i) h ≡ Some call → is_late doc (identity p i) k call ≡ true
+  pub expires : (k p i : ℕ) (call : Call) (h : List Entry) → alive p h ≡ Some i → call_in (identity p i) h ≡ Some call → is_late doc (identity p i) k call ≡ true
       → P k h → P k (entry k 4 (identity p i) (Expires call) ∷ h)
   pub ends : (k p i at : ℕ) (h : List Entry) → is_controller doc p ≡ true → alive p h ≡ Some i → deadline doc (identity p i) h ≡ Some at → nat_lt (local doc p k) at ≡ false
       → P k h → P k (entry k 4 (identity p i) Ends ∷ h)
@@ -65,6 +87,11 @@ pub record KeepsTurn (doc : Doc) (P : ℕ → List Entry → Type 0) : Type 0 wh
       → P k h → P k (send k 4 (identity p i) Plain (Get election) h)
   pub attempts : (k p i : ℕ) (h : List Entry) → is_controller doc p ≡ true → alive p h ≡ Some i → call_in (identity p i) h ≡ None
       → P k h → P k (send k 4 (identity p i) (attempt doc (identity p i) k h).0 (attempt doc (identity p i) k h).1 h)
+  pub seeks : (k p i : ℕ) (call : Call) (h : List Entry) → is_controller doc p ≡ false → alive p h ≡ Some i → just_expired (identity p i) k h ≡ Some call → is_post call.request ≡ true
+      → P k h → P k (send k 4 (identity p i) Plain (Get (node_lease (node_of doc p))) h)
+  pub posts : (k p i : ℕ) (h : List Entry) → is_controller doc p ≡ false → alive p h ≡ Some i → has_round (identity p i) h ≡ false
+      → P k h → P k (send k 4 (identity p i) Plain (post doc (identity p i) k h) h)
+  pub ticks : (k : ℕ) (q : Identity) (h : List Entry) → A q k → P k h → P k (tick doc k q h)
 
 -- a property, at a beat and a step, that each kind of entry keeps
 pub record Keeps (doc : Doc) (P : ℕ → ℕ → List Entry → Type 0) : Type 0 where
@@ -85,7 +112,10 @@ pub record Keeps (doc : Doc) (P : ℕ → ℕ → List Entry → Type 0) : Type 
   pub leads : (k : ℕ) (b : Back) (waiting : Call) (h : List Entry) (version : Version) → Coming k h b → counted doc b.who k b.call.number h ≡ Some waiting
       → is_controller doc b.who.process ≡ true → follow_on doc b.who k waiting.kind waiting.request b.reply (after_reply k b waiting h) ≡ Succeeds version
       → P k 3 h → P k 3 (after_reply k b waiting h) → P k 3 (entry k 3 b.who (Leads version) ∷ after_reply k b waiting h)
-  pub turns : KeepsTurn doc (λ k h. P k 4 h)
+  pub asks : (k : ℕ) (b : Back) (waiting : Call) (h : List Entry) (request : Request) → Coming k h b → counted doc b.who k b.call.number h ≡ Some waiting
+      → is_controller doc b.who.process ≡ false → next_request doc b.who k waiting.request b.reply ≡ Some request
+      → P k 3 h → P k 3 (after_reply k b waiting h) → P k 3 (send k 3 b.who Plain request (after_reply k b waiting h))
+  pub turns : KeepsTurn doc (Ticking doc) (λ k h. P k 4 h)
 
 -- what every new entry has: a call's number is the next one, and so is a start's incarnation
 abbrev pub StartIsNext : Actor → Deed → List Entry → Type 0
@@ -95,8 +125,27 @@ StartIsNext who _ h = Unit {0}
 abbrev pub CallIsNext : List Entry → Sent → Type 0
 CallIsNext h s = s.call.number ≡ begun s.who h + 1
 
+-- and whoever comes to lead is up
+abbrev pub LeadIsUp : Actor → Deed → List Entry → Type 0
+LeadIsUp who (Leads version) h = (q : Identity) × (who ≡ actor_of q) × (alive q.process h ≡ Some q.incarnation)
+LeadIsUp who _ h = Unit {0}
+
 abbrev pub IsNext : Entry → List Entry → Type 0
-IsNext x h = StartIsNext x.actor x.deed h × IfSome (sent_of x.actor x.deed) (CallIsNext h)
+IsNext x h = StartIsNext x.actor x.deed h × IfSome (sent_of x.actor x.deed) (CallIsNext h) × LeadIsUp x.actor x.deed h
+
+-- a property of turns that every new entry keeps, whatever its kind
+pub all_turns : (doc : Doc) (A : Identity → ℕ → Type 0) (P : ℕ → List Entry → Type 0)
+    → ((k : ℕ) (x : Entry) (h : List Entry) → x.beat ≡ k → x.step ≡ 4 → IsNext x h → P k h → P k (x ∷ h)) → KeepsTurn doc A P
+all_turns doc A P more = record {
+  restarts = λ k p h s. more k _ h refl refl ((p, refl), tt, tt) s;
+  expires = λ k p i call h up waits late s. more k _ h refl refl (tt, tt, tt) s;
+  ends = λ k p i at h role up is before s. more k _ h refl refl (tt, tt, tt) s;
+  polls = λ k p i h role up waits s. more k _ h refl refl (tt, refl, tt) s;
+  attempts = λ k p i h role up waits s. more k _ h refl refl (tt, refl, tt) s;
+  seeks = λ k p i call h role up expired late s. more k _ h refl refl (tt, refl, tt) s;
+  posts = λ k p i h role up none s. more k _ h refl refl (tt, refl, tt) s;
+  ticks = λ k q h acting s. walk_tick doc k q (P k) (λ t g made s. more k _ g refl refl (tt, tt, tt) s) h s;
+}
 
 -- a property that every new entry keeps, whatever its kind
 pub all_kinds : (doc : Doc) (P : ℕ → ℕ → List Entry → Type 0)
@@ -107,28 +156,61 @@ pub all_kinds : (doc : Doc) (P : ℕ → ℕ → List Entry → Type 0)
 all_kinds doc P on next more = record {
   on = on;
   next = λ k s. next k (history doc (suc k)) s;
-  event = λ k w h scripted s. more _ h (tt, tt) s;
-  starts = λ k step p h s. more _ h ((p, refl), tt) s;
-  crashes = λ k p i h up s. more _ h (tt, tt) s;
-  stops = λ k id i h scripted up s. more _ h (tt, tt) s;
-  releases = λ k id i before request scripted up is was s. more _ (stopped_at k id i before) (tt, refl) s;
-  answers = λ k s h at t. more _ h (tt, tt) t;
-  ignores = λ k b h coming is s. more _ h (tt, tt) s;
-  counts = λ k b waiting h coming is s. more _ h (tt, tt) s;
-  follows = λ k b waiting h request coming is role follows was s. more _ (after_reply k b waiting h) (tt, refl) s;
-  leads = λ k b waiting h version coming is role follows was s. more _ (after_reply k b waiting h) (tt, tt) s;
+  event = λ k w h scripted s. more _ h (tt, tt, tt) s;
+  starts = λ k step p h s. more _ h ((p, refl), tt, tt) s;
+  crashes = λ k p i h up s. more _ h (tt, tt, tt) s;
+  stops = λ k id i h scripted up s. more _ h (tt, tt, tt) s;
+  releases = λ k id i before request scripted up is was s. more _ (stopped_at k id i before) (tt, refl, tt) s;
+  answers = λ k s h at t. more _ h (tt, tt, tt) t;
+  ignores = λ k b h coming is s. more _ h (tt, tt, tt) s;
+  counts = λ k b waiting h coming is s. more _ h (tt, tt, tt) s;
+  follows = λ k b waiting h request coming is role follows was s. more _ (after_reply k b waiting h) (tt, refl, tt) s;
+  leads = λ k b waiting h version coming is role follows was s. more _ (after_reply k b waiting h) (tt, tt, (b.who, refl, (counted_is doc b.who k b.call.number h waiting is).up)) s;
+  asks = λ k b waiting h request coming is role follows was s. more _ (after_reply k b waiting h) (tt, refl, tt) s;
+  turns = all_turns doc (Ticking doc) (λ k h. P k 4 h) (λ k x h beat step next s.
+      subst (λ step. P k step (x ∷ h)) step (subst (λ k. P k x.step (x ∷ h)) beat (more x h next (subst (λ k. P k x.step h) (sym beat) (subst (λ step. P k step h) (sym step) s)))));
+}
+
+-- an entry of a tick is by one who ticks, and is as a tick makes it
+abbrev pub Made : Doc → ℕ → Actor → Deed → List Entry → Type 0
+Made doc k who (Ticks t) h = (q : Identity) × (who ≡ actor_of q) × Ticking doc q k × MadeTick doc k q t h
+Made doc k who _ h = Unit {0}
+
+-- a property that every new entry keeps, of whom only a tick's is known how it was made
+pub all_made : (doc : Doc) (P : ℕ → ℕ → List Entry → Type 0)
+    → ((k step : ℕ) (h : List Entry) → P k step h → P k (suc step) h)
+    → ((k : ℕ) (h : List Entry) → P k 4 h → P (suc k) 1 h)
+    → ((x : Entry) (h : List Entry) → Made doc x.beat x.actor x.deed h → P x.beat x.step h → P x.beat x.step (x ∷ h))
+    → Keeps doc P
+all_made doc P on next more = record {
+  on = on;
+  next = λ k s. next k (history doc (suc k)) s;
+  event = λ k w h scripted s. more _ h tt s;
+  starts = λ k step p h s. more _ h tt s;
+  crashes = λ k p i h up s. more _ h tt s;
+  stops = λ k id i h scripted up s. more _ h tt s;
+  releases = λ k id i before request scripted up is was s. more _ (stopped_at k id i before) tt s;
+  answers = λ k s h at t. more _ h tt t;
+  ignores = λ k b h coming is s. more _ h tt s;
+  counts = λ k b waiting h coming is s. more _ h tt s;
+  follows = λ k b waiting h request coming is role follows was s. more _ (after_reply k b waiting h) tt s;
+  leads = λ k b waiting h version coming is role follows was s. more _ (after_reply k b waiting h) tt s;
+  asks = λ k b waiting h request coming is role follows was s. more _ (after_reply k b waiting h) tt s;
   turns = record {
-    restarts = λ k p h s. more _ h ((p, refl), tt) s;
-    expires = λ k p i call h role up waits late s. more _ h (tt, tt) s;
-    ends = λ k p i at h role up is before s. more _ h (tt, tt) s;
-    polls = λ k p i h role up waits s. more _ h (tt, refl) s;
-    attempts = λ k p i h role up waits s. more _ h (tt, refl) s;
+    restarts = λ k p h s. more _ h tt s;
+    expires = λ k p i call h up waits late s. more _ h tt s;
+    ends = λ k p i at h role up is before s. more _ h tt s;
+    polls = λ k p i h role up waits s. more _ h tt s;
+    attempts = λ k p i h role up waits s. more _ h tt s;
+    seeks = λ k p i call h role up expired late s. more _ h tt s;
+    posts = λ k p i h role up none s. more _ h tt s;
+    ticks = λ k q h acting s. walk_tick doc k q (P k 4) (λ t g made s. more _ g (q, refl, acting, made) s) h s;
   };
 }
 
 -- ---- step 4
 
-module _ (doc : Doc) (P : ℕ → List Entry → Type 0) (keeps : KeepsTurn doc P) where
+module _ (doc : Doc) (A : Identity → ℕ → Type 0) (P : ℕ → List Entry → Type 0) (keeps : KeepsTurn doc A P) where
   walk_if_up : (k p : ℕ) (f : Identity → List Entry → List Entry) → ((i : ℕ) (h : List Entry) → alive p h ≡ Some i → P k h → P k (f (identity p i) h)) → (up : Option ℕ) (h : List Entry) → alive p h ≡ up → P k h → P k (if_up p f up h)
   walk_if_up k p f one None h is s = s
   walk_if_up k p f one (Some i) h is s = one i h is s
@@ -141,13 +223,13 @@ module _ (doc : Doc) (P : ℕ → List Entry → Type 0) (keeps : KeepsTurn doc 
   walk_restart k p (Some i) h s = s
   walk_restart k p None h s = walk_restart_as k p (is_restart_due doc p k (ended p h)) h s
 
-  walk_expire_as : (k p i : ℕ) (call : Call) → is_controller doc p ≡ true → (h : List Entry) → alive p h ≡ Some i → call_in (identity p i) h ≡ Some call → (b : Bool) → is_late doc (identity p i) k call ≡ b → P k h → P k (expire_as k (identity p i) call b h)
-  walk_expire_as k p i call role h up waits false late s = s
-  walk_expire_as k p i call role h up waits true late s = keeps.expires k p i call h role up waits late s
+  walk_expire_as : (k p i : ℕ) (call : Call) (h : List Entry) → alive p h ≡ Some i → call_in (identity p i) h ≡ Some call → (b : Bool) → is_late doc (identity p i) k call ≡ b → P k h → P k (expire_as k (identity p i) call b h)
+  walk_expire_as k p i call h up waits false late s = s
+  walk_expire_as k p i call h up waits true late s = keeps.expires k p i call h up waits late s
 
-  walk_expire : (k p i : ℕ) → is_controller doc p ≡ true → (h : List Entry) → alive p h ≡ Some i → (o : Option Call) → call_in (identity p i) h ≡ o → P k h → P k (expire_call doc k (identity p i) o h)
-  walk_expire k p i role h up None waits s = s
-  walk_expire k p i role h up (Some call) waits s = walk_expire_as k p i call role h up waits (is_late doc (identity p i) k call) refl s
+  walk_expire : (k p i : ℕ) (h : List Entry) → alive p h ≡ Some i → (o : Option Call) → call_in (identity p i) h ≡ o → P k h → P k (expire_call doc k (identity p i) o h)
+  walk_expire k p i h up None waits s = s
+  walk_expire k p i h up (Some call) waits s = walk_expire_as k p i call h up waits (is_late doc (identity p i) k call) refl s
 
   walk_end_as : (k p i at : ℕ) → is_controller doc p ≡ true → (h : List Entry) → alive p h ≡ Some i → deadline doc (identity p i) h ≡ Some at → (b : Bool) → nat_lt (local doc p k) at ≡ b → P k h → P k (end_as k (identity p i) b h)
   walk_end_as k p i at role h up is true before s = s
@@ -176,40 +258,82 @@ module _ (doc : Doc) (P : ℕ → List Entry → Type 0) (keeps : KeepsTurn doc 
       by_call None due = refl
       by_call (Some c) due = absurd (true_is (sym due))
 
-  walk_tick : (k : ℕ) (q : Identity) (b : Bool) (h : List Entry) → P k h → P k (tick_as doc k q b h)
-  walk_tick k q false h s = s
-  walk_tick k q true h s = s
+  walk_tick_as : (k : ℕ) (q : Identity) (b : Bool) → (b ≡ true → A q k) → (h : List Entry) → P k h → P k (tick_as doc k q b h)
+  walk_tick_as k q false acting h s = s
+  walk_tick_as k q true acting h s = keeps.ticks k q h (acting refl) s
 
-  pub walk_after_end : (k p : ℕ) → is_controller doc p ≡ true → (h : List Entry) → P k h → P k (ticks doc k p (attempts doc k p h))
-  walk_after_end k p role h s =
-      let h4 = attempts doc k p h in
-      let s4 : P k h4 = walk_if_up k p (try doc k) (λ i T up s. walk_try k p i role T up s) (alive p h) h refl s in
-      walk_if_up k p (λ q T. tick_as doc k q (acts doc q k T) T) (λ i T up s. walk_tick k (identity p i) (acts doc (identity p i) k T) T s) (alive p h4) h4 refl s4
-
-  pub walk_expiry : (k p : ℕ) → is_controller doc p ≡ true → (h : List Entry) → P k h → P k (expire doc k p h)
-  walk_expiry k p role h s = walk_if_up k p (λ q T. expire_call doc k q (call_in q T) T) (λ i T up s. walk_expire k p i role T up (call_in (identity p i) T) refl s) (alive p h) h refl s
+  pub walk_expiry : (k p : ℕ) (h : List Entry) → P k h → P k (expire doc k p h)
+  walk_expiry k p h s = walk_if_up k p (λ q T. expire_call doc k q (call_in q T) T) (λ i T up s. walk_expire k p i T up (call_in (identity p i) T) refl s) (alive p h) h refl s
 
   walk_finish : (k p : ℕ) → is_controller doc p ≡ true → (h : List Entry) → P k h → P k (finish doc k p h)
   walk_finish k p role h s = walk_if_up k p (λ q T. end_term doc k q (deadline doc q T) T) (λ i T up s. walk_end k p i role T up (deadline doc (identity p i) T) refl s) (alive p h) h refl s
 
-  walk_controller : (k p : ℕ) → is_controller doc p ≡ true → (h : List Entry) → P k h → P k (controller_turn doc k p h)
-  walk_controller k p role h s =
+  pub walk_attempts : (k p : ℕ) → is_controller doc p ≡ true → (h : List Entry) → P k h → P k (attempts doc k p h)
+  walk_attempts k p role h s = walk_if_up k p (try doc k) (λ i T up s. walk_try k p i role T up s) (alive p h) h refl s
+
+  -- up to the tick
+  pub walk_to_tick : (k p : ℕ) → is_controller doc p ≡ true → (h : List Entry) → P k h → P k (to_tick doc k p h)
+  walk_to_tick k p role h s =
       let h1 = restart doc k p h in
       let s1 : P k h1 = walk_restart k p (alive p h) h s in
       let h2 = expire doc k p h1 in
-      let s2 : P k h2 = walk_expiry k p role h1 s1 in
-      walk_after_end k p role (finish doc k p h2) (walk_finish k p role h2 s2)
+      let s2 : P k h2 = walk_expiry k p h1 s1 in
+      walk_attempts k p role (finish doc k p h2) (walk_finish k p role h2 s2)
 
-  walk_turn_as : (k p : ℕ) (b : Bool) → is_controller doc p ≡ b → (h : List Entry) → P k h → P k (turn_as doc k p b h)
-  walk_turn_as k p true role h s = walk_controller k p role h s
-  walk_turn_as k p false role h s = s
+  pub walk_ticks : (k p : ℕ) (h : List Entry) → ((i : ℕ) → alive p h ≡ Some i → acts doc (identity p i) k h ≡ true → A (identity p i) k) → P k h → P k (ticks doc k p h)
+  walk_ticks k p h acting s = by_up (alive p h) refl
+    where
+      by_up : (o : Option ℕ) → alive p h ≡ o → P k (if_up p (λ q T. tick_as doc k q (acts doc q k T) T) o h)
+      by_up None up = s
+      by_up (Some i) up = walk_tick_as k (identity p i) (acts doc (identity p i) k h) (acting i up) h s
 
-  pub walk_turn : (k p : ℕ) (h : List Entry) → P k h → P k (turn doc k p h)
-  walk_turn k p h s = walk_turn_as k p (is_controller doc p) refl h s
+  walk_controller : (k p : ℕ) → is_controller doc p ≡ true → (h : List Entry) → Begins doc A k p h → P k h → P k (controller_turn doc k p h)
+  walk_controller k p role h begins s = walk_ticks k p (to_tick doc k p h) (λ i up acting. begins i role up acting) (walk_to_tick k p role h s)
 
-  pub walk_turns : (k n : ℕ) (h : List Entry) → P k h → P k (turns doc k n h)
-  walk_turns k zero h s = s
-  walk_turns k (suc p) h s = walk_turn k p (turns doc k p h) (walk_turns k p h s)
+  walk_round_if : (k p i : ℕ) → is_controller doc p ≡ false → (h : List Entry) → alive p h ≡ Some i → (o : Option Call) → just_expired (identity p i) k h ≡ o → (late due : Bool) → is_post_call o ≡ late → (due ≡ true → has_round (identity p i) h ≡ false)
+      → P k h → P k (round_if doc k (identity p i) late due h)
+  walk_round_if k p i role h up None expired true due is none s = absurd (true_is (sym is))
+  walk_round_if k p i role h up (Some call) expired true due is none s = keeps.seeks k p i call h role up expired is s
+  walk_round_if k p i role h up o expired false true is none s = keeps.posts k p i h role up (none refl) s
+  walk_round_if k p i role h up o expired false false is none s = s
+
+  walk_round : (k p i : ℕ) → is_controller doc p ≡ false → (h : List Entry) → alive p h ≡ Some i → P k h → P k (round doc k (identity p i) h)
+  walk_round k p i role h up s =
+      let q = identity p i in
+      walk_round_if k p i role h up (just_expired q k h) refl (is_post_call (just_expired q k h)) (is_round_due doc k q h) refl
+      (λ due. not_true (has_round q h) (and_left (not (has_round q h)) (not (nat_lt (local doc p k) (round_timer doc q h))) due)) s
+
+  walk_kubelet : (k p : ℕ) → is_controller doc p ≡ false → (h : List Entry) → P k h → P k (kubelet_turn doc k p h)
+  walk_kubelet k p role h s =
+      let h1 = expire doc k p h in
+      walk_if_up k p (round doc k) (λ i T up s. walk_round k p i role T up s) (alive p h1) h1 refl (walk_expiry k p h s)
+
+  walk_turn_as : (k p : ℕ) (b : Bool) → is_controller doc p ≡ b → (h : List Entry) → Begins doc A k p h → P k h → P k (turn_as doc k p b h)
+  walk_turn_as k p true role h begins s = walk_controller k p role h begins s
+  walk_turn_as k p false role h begins s = walk_kubelet k p role h s
+
+  pub walk_turn : (k p : ℕ) (h : List Entry) → Begins doc A k p h → P k h → P k (turn doc k p h)
+  walk_turn k p h begins s = walk_turn_as k p (is_controller doc p) refl h begins s
+
+  pub walk_turns : (k n : ℕ) (h : List Entry) → ((p : ℕ) → Begins doc A k p (turns doc k p h)) → P k h → P k (turns doc k n h)
+  walk_turns k zero h begins s = s
+  walk_turns k (suc p) h begins s = walk_turn k p (turns doc k p h) (begins p) (walk_turns k p h begins s)
+
+-- who acts in the turns of a history's beat ticks
+pub ticking_begins : (doc : Doc) (k p : ℕ) → Begins doc (Ticking doc) k p (at_turn doc p k)
+ticking_begins doc k p i role up acting = record { role = role; up = up; acting = acting }
+
+-- where nothing is to be known of who ticks
+module _ (doc : Doc) (P : ℕ → List Entry → Type 0) (keeps : KeepsTurn doc Anyone P) where
+  pub walk_any_turn : (k p : ℕ) (h : List Entry) → P k h → P k (turn doc k p h)
+  walk_any_turn k p h s = walk_turn doc Anyone P keeps k p h (λ i role up acting. tt) s
+
+  -- from the end of a term on
+  pub walk_any_after_end : (k p : ℕ) → is_controller doc p ≡ true → (h : List Entry) → P k h → P k (ticks doc k p (attempts doc k p h))
+  walk_any_after_end k p role h s = walk_ticks doc Anyone P keeps k p (attempts doc k p h) (λ i up acting. tt) (walk_attempts doc Anyone P keeps k p role h s)
+
+  pub walk_any_turns : (k n : ℕ) (h : List Entry) → P k h → P k (turns doc k n h)
+  walk_any_turns k n h s = walk_turns doc Anyone P keeps k n h (λ p i role up acting. tt) s
 
 -- ---- steps 1 to 3, and histories
 
@@ -310,11 +434,16 @@ module _ (doc : Doc) (P : ℕ → ℕ → List Entry → Type 0) (keeps : Keeps 
   walk_react k g b waiting h coming is role led (Asks request) follows was s = more_over g k 3 _ (after_reply k b waiting h) s (keeps.follows k b waiting h request coming is role follows was s.0)
   walk_react k g b waiting h coming is role led (Succeeds version) follows was s = walk_lead k g b waiting h led version s (keeps.leads k b waiting h version coming is role follows was)
 
+  walk_ask : (k : ℕ) (g : List Entry) (b : Back) (waiting : Call) (h : List Entry) → Coming k h b → counted doc b.who k b.call.number h ≡ Some waiting → is_controller doc b.who.process ≡ false
+      → (o : Option Request) → next_request doc b.who k waiting.request b.reply ≡ o → P k 3 h → Over g k 3 (after_reply k b waiting h) → Over g k 3 (send_next k b.who o (after_reply k b waiting h))
+  walk_ask k g b waiting h coming is role None asked was s = s
+  walk_ask k g b waiting h coming is role (Some request) asked was s = more_over g k 3 _ (after_reply k b waiting h) s (keeps.asks k b waiting h request coming is role asked was s.0)
+
   walk_react_as : (k : ℕ) (g : List Entry) (b : Back) (waiting : Call) (h : List Entry) → Coming k h b → counted doc b.who k b.call.number h ≡ Some waiting
       → (role : Bool) → is_controller doc b.who.process ≡ role → P k 3 h → Over g k 3 (after_reply k b waiting h) → Over g k 3 (react_as doc k b.who waiting b.reply role (after_reply k b waiting h))
   walk_react_as k g b waiting h coming is true role was s =
       walk_react k g b waiting h coming is role (leads b.who (after_reply k b waiting h)) (follow_on doc b.who k waiting.kind waiting.request b.reply (after_reply k b waiting h)) refl was s
-  walk_react_as k g b waiting h coming is false role was s = s
+  walk_react_as k g b waiting h coming is false role was s = walk_ask k g b waiting h coming is role (next_request doc b.who k waiting.request b.reply) refl was s
 
   walk_deliver_as : (k : ℕ) (g : List Entry) (b : Back) (h : List Entry) → Coming k h b → (o : Option Call) → counted doc b.who k b.call.number h ≡ o → Over g k 3 h → Over g k 3 (deliver_as doc k b.who b.call b.reply o h)
   walk_deliver_as k g b h coming None is s = more_over g k 3 _ h s (keeps.ignores k b h coming is s.0)
@@ -349,8 +478,8 @@ module _ (doc : Doc) (P : ℕ → ℕ → List Entry → Type 0) (keeps : Keeps 
   walk_history first zero = first
   walk_history first (suc k) =
       let h = three_steps doc k (history doc k) in
-      keeps.next k (walk_turns doc (λ k h. P k 4 h) keeps.turns k (processes doc) h (walk_steps k (history doc k) (walk_history first k)))
+      keeps.next k (walk_turns doc (Ticking doc) (λ k h. P k 4 h) keeps.turns k (processes doc) h (λ p. ticking_begins doc k p) (walk_steps k (history doc k) (walk_history first k)))
 
   -- the history at a turn
   pub walk_at_turn : P 0 1 (history doc 0) → (p k : ℕ) → P k 4 (at_turn doc p k)
-  walk_at_turn first p k = walk_turns doc (λ k h. P k 4 h) keeps.turns k p (three_steps doc k (history doc k)) (walk_steps k (history doc k) (walk_history first k))
+  walk_at_turn first p k = walk_turns doc (Ticking doc) (λ k h. P k 4 h) keeps.turns k p (three_steps doc k (history doc k)) (λ p. ticking_begins doc k p) (walk_steps k (history doc k) (walk_history first k))

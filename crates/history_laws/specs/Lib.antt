@@ -3,3 +3,4 @@ pub mod Versions
 pub mod Order
 pub mod Calls
 pub mod Starts
+pub mod Bare

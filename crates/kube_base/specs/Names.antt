@@ -1,5 +1,6 @@
 -- Names and their numbers. A list of names is a list of texts, and a name's number is its place there (profile).
-use Rattle.std.specs.Prelude.{◌≡◌, ℕ, ◌<◌, ◌^◌, true, List, [], ◌∷◌, ◌++◌, Option, Some, codes, length, take, position, slice_get, if◌then◌else◌}
+use Rattle.std.specs.Prelude.{◌≡◌, ℕ, ◌<◌, ◌^◌, true, List, [], ◌∷◌, ◌++◌, Option, Some, codes, length, take, position}
+use Rattle.std.specs.Prelude.{slice_get, if◌then◌else◌}
 use Rattle.std.specs.List.{list_any, list_all, position_or_len}
 use Rattle.std.specs.Str.{bytes_eq, is_utf8}
 
@@ -22,7 +23,8 @@ fixed_names =
     ∷ codes "node.kubernetes.io/not-ready" ∷ codes "node.kubernetes.io/unreachable" ∷ codes "kube-system"
     ∷ codes "kube-controller-manager" ∷ codes "kube-node-lease" ∷ []
 
--- what holds of every list of names: it begins with the fixed ones, each text is UTF-8 and stands at one place alone, and numbers have 32 bits
+-- what holds of every list of names: it begins with the fixed ones, each text is UTF-8 and stands at one place alone, and
+-- numbers have 32 bits
 pub record AreNames (names : List (List ℕ)) : Type 0 where
   pub fixed : take 10 names ≡ fixed_names
   pub text : list_all is_utf8 names ≡ true

@@ -1,5 +1,7 @@
 -- Times as the texts of RFC 3339 that Kubernetes writes, in microseconds since 1970-01-01T00:00:00Z, leap seconds not counted.
-use Rattle.std.specs.Prelude.{ℕ, zero, suc, ◌+◌, ◌-◌, ◌*◌, ◌/◌, ◌%◌, ◌==◌, ◌&&◌, nat_lt, nat_le, Bool, List, [], ◌∷◌, ◌++◌, length, drop, position, not, slice_index, codes, Option, Some, None, unwrap_or, ℤ, pos, negsuc, neg_ℤ, ◌+ℤ◌, ◌-ℤ◌, ◌*ℤ◌, if◌then◌else◌}
+use Rattle.std.specs.Prelude.{ℕ, zero, suc, ◌+◌, ◌-◌, ◌*◌, ◌/◌, ◌%◌, ◌==◌, ◌&&◌, nat_lt, nat_le, Bool}
+use Rattle.std.specs.Prelude.{List, [], ◌∷◌, ◌++◌, length, drop, position, not, slice_index, codes, Option, Some, None, unwrap_or}
+use Rattle.std.specs.Prelude.{ℤ, pos, negsuc, neg_ℤ, ◌+ℤ◌, ◌-ℤ◌, ◌*ℤ◌, if◌then◌else◌}
 use Rattle.std.specs.Char.{is_ascii_digit}
 use Rattle.jiff_core.specs.Calendar.{days_in_month, days_from_civil, day_count}
 use Rattle.kube_base.specs.declared.numbers.Wall.{Wall}
@@ -49,7 +51,8 @@ second_at text = do
   hour ← two_at text 11
   minute ← two_at text 14
   second ← two_at text 17
-  if is_at text 10 84 && is_at text 13 58 && is_at text 16 58 && nat_lt hour 24 && nat_lt minute 60 && nat_lt second 60 then Some (3600 * hour + 60 * minute + second) else None
+  if is_at text 10 84 && is_at text 13 58 && is_at text 16 58 && nat_lt hour 24 && nat_lt minute 60 && nat_lt second 60
+      then Some (3600 * hour + 60 * minute + second) else None
 
 -- how many digits stand after the dot, if there is one: one to nine
 abbrev pub few_digits : ℕ → Option ℕ
@@ -86,7 +89,8 @@ offset_at text place =
     else (do
       hours ← two_at text (place + 1)
       minutes ← two_at text (place + 4)
-      if is_at text (place + 3) 58 && (length text == place + 6) && nat_lt hours 24 && nat_lt minutes 60 then signed_offset (slice_index text place) (3600 * hours + 60 * minutes) else None)
+      if is_at text (place + 3) 58 && (length text == place + 6) && nat_lt hours 24 && nat_lt minutes 60
+          then signed_offset (slice_index text place) (3600 * hours + 60 * minutes) else None)
 
 -- the time of a second and its microseconds, from 1970-01-01T00:00:00Z to the end of 2261
 abbrev pub wall_of : ℤ → ℕ → Option Wall
@@ -135,14 +139,17 @@ abbrev pub two_digits : ℕ → List ℕ
 two_digits n = digit (n / 10) ∷ digit n ∷ []
 
 abbrev pub date_text : ℕ → ℕ → ℕ → List ℕ
-date_text year month day = digit (year / 1000) ∷ digit (year / 100) ∷ digit (year / 10) ∷ digit year ∷ codes "-" ++ two_digits month ++ codes "-" ++ two_digits day
+date_text year month day =
+    digit (year / 1000) ∷ digit (year / 100) ∷ digit (year / 10) ∷ digit year ∷ codes "-" ++ two_digits month ++ codes "-" ++ two_digits day
 
 abbrev pub clock_text : ℕ → List ℕ
 clock_text second = two_digits (second / 3600) ++ codes ":" ++ two_digits (second / 60 % 60) ++ codes ":" ++ two_digits (second % 60)
 
 -- `YYYY-MM-DDTHH:MM:SS` of a second
 abbrev pub date_time_text : ℕ → List ℕ
-date_time_text second = date_text (year_of (second / 86_400)) (month_of (second / 86_400)) (day_of (second / 86_400)) ++ codes "T" ++ clock_text (second % 86_400)
+date_time_text second =
+    date_text (year_of (second / 86_400)) (month_of (second / 86_400)) (day_of (second / 86_400))
+    ++ codes "T" ++ clock_text (second % 86_400)
 
 -- the form in seconds
 unfoldable pub seconds_text : Wall → List ℕ

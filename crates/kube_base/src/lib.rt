@@ -1,6 +1,7 @@
 //! Numbers with names of their own, names as bytes, lists, and want of memory.
 #![tactic(auto)]
 
+mod fixed;
 mod list_of;
 mod memory;
 mod name;
@@ -9,6 +10,10 @@ mod numbers;
 mod steps;
 mod times;
 
+pub use fixed::{
+    KUBE_CONTROLLER_MANAGER, KUBE_NODE_LEASE, KUBE_SYSTEM, KUBELET_NOT_READY, KUBELET_READY,
+    NODE_STATUS_NEVER_UPDATED, NODE_STATUS_UNKNOWN, NOT_READY, UNREACHABLE,
+};
 pub use list_of::ListOf;
 pub use memory::NoMemory;
 pub use name::Name;

@@ -1,10 +1,12 @@
 // Times of day as texts of RFC 3339.
 ghost use Rattle.std.specs.Char.{is_ascii_digit};
-ghost use Rattle.std.specs.Prelude.{codes, position, not, ◌++◌, ◌≡◌, ◌+◌, ◌-◌, ◌*◌, ◌/◌, ◌%◌, ◌<◌, ◌≤◌, ◌==◌, ℕ, ℤ, pos, neg_ℤ, ◌+ℤ◌, ◌-ℤ◌, ◌*ℤ◌, ◌≤ℤ◌, take, length, Some, None, Option, IfOk, IfSome};
+ghost use Rattle.std.specs.Prelude.{codes, position, not, ◌++◌, ◌≡◌, ◌+◌, ◌-◌, ◌*◌, ◌/◌, ◌%◌, ◌<◌, ◌≤◌, ◌==◌, ℕ};
+ghost use Rattle.std.specs.Prelude.{ℤ, pos, neg_ℤ, ◌+ℤ◌, ◌-ℤ◌, ◌*ℤ◌, ◌≤ℤ◌, take, length, Some, None, Option, IfOk, IfSome};
 ghost use Rattle.std.specs.Str.{IsUtf8};
 ghost use Rattle.jiff_core.specs.Calendar.{IsEpochDay, IsWithin};
 ghost use Rattle.kube_base.specs.Times as spec;
-ghost use Rattle.kube_base.specs.Times.{day_at, day_number, second_at, fraction_digits, instant, micros_of, offset_at, wall_of, time_of, year_of, month_of, day_of, date_time_text, six_digits, seconds_text, micros_text, last_wall};
+ghost use Rattle.kube_base.specs.Times.{day_at, day_number, second_at, fraction_digits, instant, micros_of, offset_at, wall_of, time_of};
+ghost use Rattle.kube_base.specs.Times.{year_of, month_of, day_of, date_time_text, six_digits, seconds_text, micros_text, last_wall};
 
 use crate::{Name, NoMemory, Wall};
 use jiff_core::civil::Date;

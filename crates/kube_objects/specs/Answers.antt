@@ -1,6 +1,7 @@
 -- How the store answers a request after a history. Source: Kubernetes API concepts; the rule on a status that
 -- is posted again is the profile's.
 use Rattle.std.specs.Prelude.{ℕ, ◌+◌, ◌==◌, nat_lt, Bool, true, false, cond, List, Option, Some, None}
+use Rattle.kube_base.specs.declared.fixed.TheConstants.{KUBELET_READY, KUBELET_NOT_READY}
 use Rattle.kube_base.specs.declared.numbers.Version.{Version}
 use Rattle.kube_base.specs.declared.numbers.Wall.{Wall}
 use Rattle.kube_objects.specs.declared.call.Reply.{Reply}
@@ -44,10 +45,9 @@ same_status ready.False ready.False = true
 same_status ready.Unknown ready.Unknown = true
 same_status _ _ = false
 
--- 1 and 2 are the numbers of KubeletReady and KubeletNotReady
 abbrev pub kubelet_reason : ReadyStatus → ℕ
-kubelet_reason ready.True = 1
-kubelet_reason _ = 2
+kubelet_reason ready.True = KUBELET_READY
+kubelet_reason _ = KUBELET_NOT_READY
 
 -- whether a heartbeat is less than five minutes old
 abbrev pub is_recent : ℕ → Option Wall → Bool
@@ -55,12 +55,16 @@ is_recent at None = false
 is_recent at (Some heartbeat) = nat_lt at (heartbeat.0 + 300000000)
 
 abbrev pub posted_as : ReadyStatus → ℕ → Option Wall → Ready
-posted_as status at transition = record { status = status; reason = kubelet_reason status; heartbeat = Some (record { 0 = at }); transition = transition }
+posted_as status at transition =
+    record { status = status; reason = kubelet_reason status; heartbeat = Some (record { 0 = at }); transition = transition }
 
 -- what a status makes of Ready at a whole second, where it changes anything
 abbrev pub posted_ready : ReadyStatus → ℕ → Option Ready → Option Ready
 posted_ready status at None = Some (posted_as status at (Some (record { 0 = at })))
-posted_ready status at (Some r) = cond (same_status r.status status) (cond (is_recent at r.heartbeat) None (Some (posted_as status at r.transition))) (Some (posted_as status at (Some (record { 0 = at }))))
+posted_ready status at (Some r) =
+    cond (same_status r.status status)
+    (cond (is_recent at r.heartbeat) None (Some (posted_as status at r.transition)))
+    (Some (posted_as status at (Some (record { 0 = at }))))
 
 abbrev pub with_ready : Node → Option Ready → Option Node
 with_ready node None = None

@@ -1,5 +1,6 @@
 -- Clocks. A clock's reading at a beat is the sum of what it ran in the beats before. Source: profile.
-use Rattle.std.specs.Prelude.{ℕ, ℤ, pos, negsuc, zero, suc, ◌+◌, ◌-◌, ◌*◌, ◌/◌, ◌%◌, ◌==◌, nat_le, List, [], ◌∷◌, Option, Some, None}
+use Rattle.std.specs.Prelude.{ℕ, ℤ, pos, negsuc, zero, suc, ◌+◌, ◌-◌, ◌*◌, ◌/◌, ◌==◌, nat_le}
+use Rattle.std.specs.Prelude.{List, [], ◌∷◌, Option, Some, None}
 use Rattle.kube_objects.specs.declared.script.Event.{Event}
 use Rattle.kube_objects.specs.declared.script.What.{What}
 use Rattle.kube_objects.specs.declared.script.What.TheVariants.{Rate}
@@ -37,5 +38,6 @@ wall doc p k = moved (offset_millis doc p) (doc.settings.epoch.0 + local doc p k
 abbrev pub store_wall : Doc → ℕ → ℕ
 store_wall doc k = doc.settings.epoch.0 + k * beat_micros doc
 
+-- the last whole second that isn't after a time of day in microseconds
 abbrev pub whole_second : ℕ → ℕ
-whole_second at = at - at % 1000000
+whole_second at = at / 1000000 * 1000000

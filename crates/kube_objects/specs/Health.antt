@@ -1,6 +1,7 @@
 -- When a node was last heard of, and marks, read from the history. Source: the node lifecycle controller of Kubernetes, its monitor of
 -- node health; the profile.
 use Rattle.std.specs.Prelude.{ℕ, ◌+◌, ◌==◌, ◌&&◌, ◌||◌, not, nat_lt, nat_le, Bool, true, false, List, Option, Some, None}
+use Rattle.kube_base.specs.declared.fixed.TheConstants.{NODE_STATUS_UNKNOWN, NODE_STATUS_NEVER_UPDATED}
 use Rattle.kube_base.specs.declared.numbers.Version.{Version}
 use Rattle.kube_base.specs.declared.numbers.Wall.{Wall}
 use Rattle.kube_objects.specs.declared.deed.Actor.{Actor}
@@ -116,10 +117,10 @@ probe q name h = or_zero (newest (λ e T. when (is_probe q name e.actor e.deed T
 
 -- ---- marks
 
--- Ready as a mark leaves it at a whole second; 3 and 4 are the numbers of NodeStatusUnknown and NodeStatusNeverUpdated
+-- Ready as a mark leaves it at a whole second
 abbrev pub marked : ℕ → Option Ready → Ready
-marked at None = record { status = ready.Unknown; reason = 4; heartbeat = None; transition = Some (record { 0 = at }) }
-marked at (Some r) = record { status = ready.Unknown; reason = 3; heartbeat = r.heartbeat; transition = Some (record { 0 = at }) }
+marked at None = record { status = ready.Unknown; reason = NODE_STATUS_NEVER_UPDATED; heartbeat = None; transition = Some (record { 0 = at }) }
+marked at (Some r) = record { status = ready.Unknown; reason = NODE_STATUS_UNKNOWN; heartbeat = r.heartbeat; transition = Some (record { 0 = at }) }
 
 abbrev pub is_unknown_status : ReadyStatus → Bool
 is_unknown_status ready.Unknown = true

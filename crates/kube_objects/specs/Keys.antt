@@ -14,7 +14,8 @@ kind_rank Pod = 2
 
 -- by kind, then namespace, then name
 abbrev pub key_cmp : Key → Key → Ordering
-key_cmp a b = ordering_then (nat_cmp (kind_rank a.kind) (kind_rank b.kind)) (ordering_then (nat_cmp a.space b.space) (nat_cmp a.name b.name))
+key_cmp a b =
+    ordering_then (nat_cmp (kind_rank a.kind) (kind_rank b.kind)) (ordering_then (nat_cmp a.space b.space) (nat_cmp a.name b.name))
 
 abbrev pub key_eq : Key → Key → Bool
 key_eq = eq_by_cmp key_cmp

@@ -11,6 +11,7 @@ pub mod Identities
 pub mod InFlight
 pub mod InForce
 pub mod Keys
+pub mod Kinds
 pub mod Kubelet
 pub mod Modes
 pub mod Newest

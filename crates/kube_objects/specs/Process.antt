@@ -5,7 +5,8 @@ use Rattle.kube_objects.specs.declared.script.What.{What}
 use Rattle.kube_objects.specs.declared.script.What.TheVariants as what
 use Rattle.kube_objects.specs.Clocks.{local}
 use Rattle.kube_objects.specs.Document.{Doc, call_timeout, restart_delay}
-use Rattle.kube_objects.specs.Entry.{Entry, Identity, Call, CallKind, Plain, Fast, Release, Deed, Event, Starts, Crashes, Stops, Ends, Sends, Delivers, Expires}
+use Rattle.kube_objects.specs.Entry.{Entry, Identity, Call, CallKind, Plain, Fast, Release}
+use Rattle.kube_objects.specs.Entry.{Deed, Event, Starts, Crashes, Stops, Ends, Sends, Delivers, Expires}
 use Rattle.kube_objects.specs.Identities.{is_by, of_process}
 use Rattle.kube_objects.specs.Newest.{newest, count, when, only_if, join, has}
 

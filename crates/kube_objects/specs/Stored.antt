@@ -1,6 +1,7 @@
 -- What is stored: the content of a key's last accepted write. A resourceVersion is the number of accepted
 -- writes of the store up to and including a write. Source: Kubernetes API concepts, resource versions; profile.
 use Rattle.std.specs.Prelude.{ℕ, ◌+◌, List, Option, Some, None}
+use Rattle.kube_base.specs.declared.fixed.TheConstants.{KUBE_SYSTEM, KUBE_CONTROLLER_MANAGER, KUBE_NODE_LEASE}
 use Rattle.kube_base.specs.declared.numbers.Version.{Version}
 use Rattle.kube_objects.specs.declared.call.Answer.{Answer}
 use Rattle.kube_objects.specs.declared.call.Answer.TheVariants as answer
@@ -19,15 +20,15 @@ use Rattle.kube_objects.specs.Identities.{identity_of}
 use Rattle.kube_objects.specs.Keys.{key_eq}
 use Rattle.kube_objects.specs.Newest.{newest, count, has, join, when}
 
--- ---- keys with a meaning; 7, 8 and 9 are the numbers of kube-system, kube-controller-manager and kube-node-lease
+-- ---- keys with a meaning
 
 -- the Lease kube-system/kube-controller-manager
 abbrev pub election : Key
-election = record { kind = kind.Lease; space = 7; name = 8 }
+election = record { kind = kind.Lease; space = KUBE_SYSTEM; name = KUBE_CONTROLLER_MANAGER }
 
 -- the Lease kube-node-lease/NODE
 abbrev pub node_lease : ℕ → Key
-node_lease name = record { kind = kind.Lease; space = 9; name = name }
+node_lease name = record { kind = kind.Lease; space = KUBE_NODE_LEASE; name = name }
 
 abbrev pub node_key : ℕ → Key
 node_key name = record { kind = kind.Node; space = 0; name = name }

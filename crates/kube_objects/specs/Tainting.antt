@@ -3,6 +3,7 @@
 use Rattle.std.specs.Prelude.{ℕ, ◌==◌, ◌&&◌, ◌||◌, not, nat_lt, Bool, true, false, cond, List, [], ◌∷◌, Option, Some, None}
 use Rattle.std.specs.List.{list_any}
 use Rattle.kube_base.specs.declared.numbers.Version.{Version}
+use Rattle.kube_base.specs.declared.fixed.TheConstants.{NOT_READY, UNREACHABLE}
 use Rattle.kube_objects.specs.declared.deed.Actor.{Actor}
 use Rattle.kube_objects.specs.declared.node.Node.{Node}
 use Rattle.kube_objects.specs.declared.node.Ready.{Ready}
@@ -16,13 +17,13 @@ use Rattle.kube_objects.specs.Newest.{newest, when, only_if, has, or_zero}
 use Rattle.kube_objects.specs.Seen.{seen_node}
 use Rattle.kube_objects.specs.Stamps.{is_no_execute}
 
--- ---- condition taints; 5 and 6 are the numbers of node.kubernetes.io/not-ready and node.kubernetes.io/unreachable
+-- ---- condition taints: node.kubernetes.io/not-ready and node.kubernetes.io/unreachable
 
 abbrev pub not_ready : ℕ
-not_ready = 5
+not_ready = NOT_READY
 
 abbrev pub unreachable : ℕ
-unreachable = 6
+unreachable = UNREACHABLE
 
 -- whatever its value
 abbrev pub is_condition : Taint → Bool

@@ -1,7 +1,8 @@
 -- Which toleration tolerates a taint, and when a pod is due to be evicted from a node.
 -- Source for which toleration tolerates: Kubernetes, Taints and Tolerations. That the time counts from the taint's stored
 -- `timeAdded` is the profile's.
-use Rattle.std.specs.Prelude.{ℕ, ℤ, Bool, true, false, ◌==◌, ◌&&◌, ◌||◌, ◌+◌, ◌*◌, min, pos, negsuc, List, [], ◌∷◌, map, find, Option, Some, None}
+use Rattle.std.specs.Prelude.{ℕ, ℤ, Bool, true, false, ◌==◌, ◌&&◌, ◌||◌, ◌+◌, ◌*◌, min, pos, negsuc}
+use Rattle.std.specs.Prelude.{List, [], ◌∷◌, map, find, Option, Some, None}
 use Rattle.kube_base.specs.declared.numbers.Wall.{Wall}
 use Rattle.kube_objects.specs.declared.node.Effect.{Effect}
 use Rattle.kube_objects.specs.declared.node.Effect.TheVariants.{NoSchedule, PreferNoSchedule, NoExecute}
@@ -36,7 +37,10 @@ value_fits Equal wanted value = wanted == value
 
 -- the effect is missing or equal, the key is empty, which is number 0, or equal, and the operator is Exists, or Equal with equal values
 abbrev pub tolerates : Toleration → Taint → Bool
-tolerates toleration taint = effect_fits toleration.effect taint.effect && (toleration.key == 0 || toleration.key == taint.key) && value_fits toleration.operator toleration.value taint.value
+tolerates toleration taint =
+    effect_fits toleration.effect taint.effect
+    && (toleration.key == 0 || toleration.key == taint.key)
+    && value_fits toleration.operator toleration.value taint.value
 
 -- the first of the pod's tolerations that tolerates the taint: it alone counts
 abbrev pub first_tolerating : List Toleration → Taint → Option Toleration

@@ -61,4 +61,6 @@ attempt_if doc k q false true h = send k 4 q (attempt doc q k h).0 (attempt doc 
 attempt_if doc k q false false h = h
 
 abbrev pub try : Doc → ℕ → Identity → List Entry → List Entry
-try doc k q h = attempt_if doc k q (is_fast_call (just_expired q k h)) (not (has (call_in q h)) && not (nat_lt (local doc q.process k) (timer doc q h))) h
+try doc k q h =
+    attempt_if doc k q (is_fast_call (just_expired q k h))
+    (not (has (call_in q h)) && not (nat_lt (local doc q.process k) (timer doc q h))) h

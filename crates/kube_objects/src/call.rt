@@ -1,4 +1,7 @@
 // Requests that travel to the store, and what it answers.
+ghost use Rattle.std.specs.Prelude.{◌≡◌, true};
+ghost use Rattle.kube_objects.specs.Kinds.{keeps_kind};
+
 use crate::{Key, Lease, ReadyStatus};
 use kube_base::{Version, Wall};
 
@@ -22,11 +25,12 @@ pub enum Reply {
     Unchanged,
 }
 
-/// A request with its number in the incarnation.
+/// A request with its number in the incarnation. It writes a Lease under the key of a Lease alone.
 #[derive(Clone, Copy, Debug, PartialEq, Eq)]
 pub struct Ask {
     pub number: u64,
     pub request: Request,
+    ghost kinds: { keeps_kind request ≡ true },
 }
 
 /// How a write was answered. A conflict tells the version that is stored.

@@ -1,7 +1,9 @@
 // What a cache reads: the list of changes, and the objects stored now.
-ghost use Rattle.std.specs.Prelude.{◌≡◌, ℕ, ◌+◌, ◌^◌, ◌<◌, List, Option, length, slice_get};
+ghost use Rattle.std.specs.Prelude.{◌≡◌, ℕ, ◌+◌, ◌^◌, ◌<◌, true, List, Option, Some, length, drop, slice_get};
 ghost use Rattle.kube_base.specs.declared.numbers.Version.{Version};
-ghost use Rattle.kube_objects.specs.Feeds.{shown_pair, shown_at};
+ghost use Rattle.kube_objects.specs.Feeds.{is_among, shown_pair, shown_at};
+ghost use Rattle.kube_objects.specs.Kinds.{IsOfKind};
+ghost use Rattle.kube_objects.specs.Newest.{has};
 ghost use Rattle.kube_objects.specs.declared.key.Key.{Key};
 ghost use Rattle.kube_objects.specs.declared.object.Object.{Object};
 
@@ -26,10 +28,18 @@ pub trait Feed {
     /// The object stored now under a key. None exactly where the key isn't stored.
     fn object(&self, key: &Key) -> Option<(Version, &Object)>
         ensures { shown_pair result ≡ shown self.now key.now };
+
+    /// Every stored key stands among the changes.
+    ghost listed: { (feed : Self) (key : Key) → has (shown feed key) ≡ true → is_among (changed feed) key ≡ true };
+    /// Every stored object is of its key's kind.
+    ghost kinds: { (feed : Self) (key : Key) (version : Version) (object : Object)
+        → shown feed key ≡ Some (version, object) → IsOfKind key object };
 }
 
 /// The changes of a store from a position on, and what is stored now under their keys.
 pub trait Changed {
+    /// The key of each accepted write so far, the oldest first.
+    ghost changed: { Self → List Key };
     /// The position of the first of these changes.
     ghost from: { Self → ℕ };
     /// The keys of the changes, the oldest first.
@@ -53,4 +63,14 @@ pub trait Changed {
     /// The object stored now under the key at a place. None exactly from `count` on, or where that key isn't stored.
     fn object(&self, place: u64) -> Option<(Version, &Object)>
         ensures { shown_pair result ≡ shown_at (shown self.now) (slice_get (keys self.now) place) };
+
+    /// These are the changes from the position on.
+    ghost last: { (since : Self) → keys since ≡ drop (from since) (changed since) };
+    /// The position and the count make up the number of changes so far.
+    ghost total: { (since : Self) → from since + length (keys since) ≡ length (changed since) };
+    /// Every stored key stands among the changes so far.
+    ghost listed: { (since : Self) (key : Key) → has (shown since key) ≡ true → is_among (changed since) key ≡ true };
+    /// Every stored object is of its key's kind.
+    ghost kinds: { (since : Self) (key : Key) (version : Version) (object : Object)
+        → shown since key ≡ Some (version, object) → IsOfKind key object };
 }

@@ -2,7 +2,7 @@
 ghost use Rattle.std.specs.Prelude.{◌≡◌};
 ghost use Rattle.kube_objects.specs.Keys.{key_cmp};
 
-use kube_base::ListOf;
+use kube_base::{KUBE_CONTROLLER_MANAGER, KUBE_SYSTEM, ListOf};
 use std::cmp::Ordering;
 
 /// The kinds of objects, in their order.
@@ -19,6 +19,15 @@ pub struct Key {
     pub kind: Kind,
     pub space: u32,
     pub name: u32,
+}
+
+impl Key {
+    /// The key of the election Lease, `kube-system/kube-controller-manager`.
+    pub const ELECTION: Key = Key {
+        kind: Kind::Lease,
+        space: KUBE_SYSTEM,
+        name: KUBE_CONTROLLER_MANAGER,
+    };
 }
 
 /// Keys in order.

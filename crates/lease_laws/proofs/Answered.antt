@@ -21,22 +21,22 @@ use Rattle.kube_objects.specs.Newest.{or_zero, has, when}
 use Rattle.kube_objects.specs.Process.{stops, begun, call_in}
 use Rattle.kube_objects.specs.Stored.{Held, election, key_of, request_write, at_key, stored, writes, next_version}
 use Rattle.history_laws.proofs.Plainly.{added_more, for_new, some_is, false_is}
-use Rattle.lease_laws.proofs.Invariant.{View, view, Wide, Fit, FitObject, IsFree, OnTop, Safe, Wrote, Saw, CoveredBy, Covered, Asked, MayAsk, After, BackRight, Numbered, EntryNumbered, HeldRight, Inv}
+use Rattle.lease_laws.proofs.Invariant.{View, view, Wide, Fit, FitObject, IsFree, OnTop, Safe, Wrote, Saw, CoveredBy, Covered, Asked, MayAsk, After, Elsewhere, BackRight, Numbered, EntryNumbered, HeldRight, Inv}
 use Rattle.lease_laws.proofs.Grown.{NewTop, Grows, wide_more}
 use Rattle.lease_laws.proofs.EachKind.{entries_more, shown_more, leading_more, top_stays, held_stays}
 
 record Kept (doc : Doc) (high k : ℕ) (h : List Entry) (q : Identity) (c : Call) (reply : Reply) (at : Option ℕ) (wrote : Option Object) : Type 0 where
   grows : Grows doc high (view h) (view (entry k 2 q (Answers c reply at wrote) ∷ h))
-  right : BackRight doc high k (view (entry k 2 q (Answers c reply at wrote) ∷ h)) k (record { who = q; call = c; reply = reply; comes = at })
+  right : Elsewhere doc q c → BackRight doc high k (view (entry k 2 q (Answers c reply at wrote) ∷ h)) k (record { who = q; call = c; reply = reply; comes = at })
   held : IfSome (stored election (entry k 2 q (Answers c reply at wrote) ∷ h)) (HeldRight doc k (view (entry k 2 q (Answers c reply at wrote) ∷ h)))
 
-keep_kept : (doc : Doc) (high k : ℕ) (h : List Entry) → Inv doc high k h → (q : Identity) (c : Call) (reply : Reply) (at : Option ℕ) (wrote : Option Object) → Numbered (begun q h) (call_in q h) c → Kept doc high k h q c reply at wrote
+keep_kept : (doc : Doc) (high k : ℕ) (h : List Entry) → Inv doc high k h → (q : Identity) (c : Call) (reply : Reply) (at : Option ℕ) (wrote : Option Object) → Numbered (begun q h) (call_in q h) c → Elsewhere doc q c → Kept doc high k h q c reply at wrote
     → Inv doc high k (entry k 2 q (Answers c reply at wrote) ∷ h)
-keep_kept doc high k h s q c reply at wrote numbered kept =
+keep_kept doc high k h s q c reply at wrote numbered other kept =
     let x = entry k 2 q (Answers c reply at wrote) in
     record {
       held = kept.held;
-      entries = entries_more doc high k h x s kept.grows (tt, kept.right);
+      entries = entries_more doc high k h x s kept.grows (tt, kept.right other);
       numbers = for_new (EntryNumbered h) x h (tt, numbered) s.numbers;
       shown = λ p is. shown_more doc high (view h) (view (x ∷ h)) kept.grows (shown p h) (or_zero (observed p h)) (s.shown p is);
       led = λ p is. leading_more doc high (view h) (view (x ∷ h)) p kept.grows (deadline doc p h) (s.led p is);
@@ -94,8 +94,8 @@ covered_own doc high k d h q lease before = inr (inl (refl, before))
 
 -- a request that is no write
 reads : (doc : Doc) (high k : ℕ) (v : View) (q : Identity) (c : Call) (reply : Reply) (at : Option ℕ) → c.sent < k → After k at → IfSome (told c.request reply) (λ x. Saw v x.0 x.1 (k + 1)) → succeeds c.request reply ≡ false
-    → BackRight doc high k v k (record { who = q; call = c; reply = reply; comes = at })
-reads doc high k v q c reply at before after seen fails = record { later = after; answer = λ is. record { sent = before; beat = omega arith; told = seen; covered = λ so. absurd (false_is (sym fails ∙ so)) } }
+    → Elsewhere doc q c → BackRight doc high k v k (record { who = q; call = c; reply = reply; comes = at })
+reads doc high k v q c reply at before after seen fails other = record { later = after; elsewhere = other; answer = λ is. record { sent = before; beat = omega arith; told = seen; covered = λ so. absurd (false_is (sym fails ∙ so)) } }
 
 is_lease : (x : Object) (lease : Lease) → lease_in x ≡ Some lease → x ≡ object.Lease lease
 is_lease (object.Lease l) lease is = ap object.Lease (some_is l lease is)
@@ -133,7 +133,7 @@ kept_by doc high k h q number d way at s before after None is (Create key lease)
     subst (λ key. Kept doc high k h q (record { number = number; request = Create key lease; sent = d; kind = way }) (Done (next_version h)) at (Some (object.Lease lease))) (sym asked.key)
     (record {
       grows = grows_made doc high k d h q lease s before (subst (λ t. IfSome t (Safe doc high q d)) (sym is) tt);
-      right = record { later = after; answer = λ role. record { sent = before; beat = omega arith; told = saw_made k h q lease; covered = λ so. covered_own doc high k d h q lease before } };
+      right = λ other. record { later = after; elsewhere = other; answer = λ role. record { sent = before; beat = omega arith; told = saw_made k h q lease; covered = λ so. covered_own doc high k d h q lease before } };
       held = held_made doc k h q lease asked.fit;
     })
 kept_by doc high k h q number d way at s before after (Some y) is (Create key lease) asked =
@@ -149,7 +149,7 @@ kept_by doc high k h q number d way at s before after (Some y) is (Update key v 
         subst (λ key. Kept doc high k h q (record { number = number; request = Update key v lease; sent = d; kind = way }) (Done (next_version h)) at (Some (object.Lease lease))) (sym asked.key)
         (record {
           grows = grows_made doc high k d h q lease s before (subst (λ t. IfSome t (Safe doc high q d)) (sym is) safe);
-          right = record { later = after; answer = λ role. record { sent = before; beat = omega arith; told = saw_made k h q lease; covered = λ so. covered_own doc high k d h q lease before } };
+          right = λ other. record { later = after; elsewhere = other; answer = λ role. record { sent = before; beat = omega arith; told = saw_made k h q lease; covered = λ so. covered_own doc high k d h q lease before } };
           held = held_made doc k h q lease asked.fit;
         })
     by_test false same =
@@ -168,7 +168,7 @@ kept_elsewhere doc high k h s q c reply at wrote role other after =
     let x = entry k 2 q (Answers c reply at wrote) in
     let same_top = top_stays x h (written_elsewhere c.request wrote other) in
     let g : Grows doc high (view h) (view (x ∷ h)) = record { writes = added_more (has (request_write c.request wrote)) (writes h); stops = λ p. omega arith; top = inl same_top } in
-    record { grows = g; right = record { later = after; answer = λ is. absurd (false_is (sym role ∙ is)) }; held = held_stays doc high k x h s g same_top }
+    record { grows = g; right = λ other. record { later = after; elsewhere = other; answer = λ is. absurd (false_is (sym role ∙ is)) }; held = held_stays doc high k x h s g same_top }
 
 -- a request that was sent before is answered
 pub keep_answers : (doc : Doc) (high k : ℕ) (h : List Entry) → Inv doc high k h → (q : Identity) (c : Call) (at : Option ℕ) → MayAsk doc high (view h) q c.sent c.request → Numbered (begun q h) (call_in q h) c → c.sent < k → After k at
@@ -179,6 +179,6 @@ keep_answers doc high k h s q c at may numbered before after = by_role (is_contr
     by_role true role =
         let asked = may.controller role in
         subst (λ key. Inv doc high k (entry k 2 q (Answers c (answer_over (next_version h) (stored key h) c.request) at (written_over (stored key h) c.request (answer_over (next_version h) (stored key h) c.request))) ∷ h)) (sym asked.key)
-        (keep_kept doc high k h s q c (answer_over (next_version h) (stored election h) c.request) at (written_over (stored election h) c.request (answer_over (next_version h) (stored election h) c.request)) numbered
+        (keep_kept doc high k h s q c (answer_over (next_version h) (stored election h) c.request) at (written_over (stored election h) c.request (answer_over (next_version h) (stored election h) c.request)) numbered may.kubelet
         (kept_by doc high k h q c.number c.sent c.kind at s before after (stored election h) refl c.request asked))
-    by_role false role = keep_kept doc high k h s q c (answer c.request h) at (written c.request h) numbered (kept_elsewhere doc high k h s q c (answer c.request h) at (written c.request h) role (may.kubelet role) after)
+    by_role false role = keep_kept doc high k h s q c (answer c.request h) at (written c.request h) numbered may.kubelet (kept_elsewhere doc high k h s q c (answer c.request h) at (written c.request h) role (may.kubelet role) after)

@@ -19,10 +19,12 @@ use Rattle.history.specs.Sound.{IsSound}
 use Rattle.history.specs.Steps.{turns}
 use Rattle.history_laws.proofs.Counting.{present_is}
 use Rattle.history_laws.proofs.Plainly.{and_left, and_right, false_is}
-use Rattle.history_laws.proofs.Walk.{KeepsTurn, walk_turns}
+use Rattle.history_laws.proofs.Ticks.{walk_tick}
+use Rattle.history_laws.proofs.Walk.{Anyone, KeepsTurn, walk_any_turns}
 use Rattle.lease_laws.proofs.Invariant.{view, Wide, FitObject, CoveredBy, HeldRight, Led, Inv}
 use Rattle.lease_laws.proofs.Clocks.{local_at_least}
 use Rattle.lease_laws.proofs.Histories.{turn_right}
+use Rattle.lease_laws.proofs.Quiet.{stored_tick}
 use Rattle.lease_laws.proofs.Premises.{Premise}
 
 -- x beats fast enough for another, and within x of the own clock
@@ -77,17 +79,20 @@ is_holder doc premise sound q k end is = holds doc premise k end (at_turn doc q.
 
 -- ---- step 4 writes no election Lease
 
-same_stored : (doc : Doc) (t : Option Held) → KeepsTurn doc (λ k h. stored election h ≡ t)
+same_stored : (doc : Doc) (t : Option Held) → KeepsTurn doc Anyone (λ k h. stored election h ≡ t)
 same_stored doc t = record {
   restarts = λ k p h s. s;
-  expires = λ k p i call h role up waits late s. s;
+  expires = λ k p i call h up waits late s. s;
   ends = λ k p i at h role up is before s. s;
   polls = λ k p i h role up waits s. s;
   attempts = λ k p i h role up waits s. s;
+  seeks = λ k p i call h role up expired late s. s;
+  posts = λ k p i h role up none s. s;
+  ticks = λ k q h acting s. walk_tick doc k q (λ g. stored election g ≡ t) (λ x g made s. stored_tick doc k q x g made ∙ s) h s;
 }
 
 stored_turns : (doc : Doc) (k p : ℕ) (h : List Entry) → stored election (turns doc k p h) ≡ stored election h
-stored_turns doc k p h = walk_turns doc (λ k g. stored election g ≡ stored election h) (same_stored doc (stored election h)) k p h refl
+stored_turns doc k p h = walk_any_turns doc (λ k g. stored election g ≡ stored election h) (same_stored doc (stored election h)) k p h refl
 
 -- what a holder's text says of a process
 abbrev process_of : HolderText → ℕ

@@ -102,8 +102,13 @@ pub record SentRight (doc : Doc) (high k : ℕ) (v : View) (s : Sent) : Type 0 w
   pub may : MayAsk doc high v s.who s.call.sent s.call.request
   pub later : After s.call.sent s.arrives
 
+-- a kubelet's request is on another key
+abbrev pub Elsewhere : Doc → Identity → Call → Type 0
+Elsewhere doc q c = is_controller doc q.process ≡ false → key_eq (key_of c.request) election ≡ false
+
 pub record BackRight (doc : Doc) (high k : ℕ) (v : View) (b : ℕ) (x : Back) : Type 0 where
   pub later : After b x.comes
+  pub elsewhere : Elsewhere doc x.who x.call
   pub answer : is_controller doc x.who.process ≡ true → AnswerRight doc high k v x.who b x.call x.reply
 
 abbrev pub EntryRight : Doc → ℕ → ℕ → View → Entry → Type 0

@@ -14,21 +14,25 @@ use Rattle.kube_objects.specs.declared.script.What.TheVariants as what
 use Rattle.kube_objects.specs.Clocks.{local, rate}
 use Rattle.kube_objects.specs.Document.{Doc, end_beat, is_controller, call_timeout, renew_deadline}
 use Rattle.kube_objects.specs.Elector.{Shown, told, shown, observed, observed_at, succeeds, leads, is_blocked, is_valid, created, renewed, taken, updated, given_up, Fails, Asks, Succeeds, not_done, follow_on, attempt_from, attempt, release_from, release}
-use Rattle.kube_objects.specs.Entry.{Entry, Identity, Call, CallKind, Plain, Fast, Release}
+use Rattle.kube_objects.specs.Entry.{Entry, Identity, Call, CallKind, Plain, Fast, Release, Ticks, entry}
 use Rattle.kube_objects.specs.Identities.{identity, is_own}
+use Rattle.kube_objects.specs.Keys.{key_eq}
+use Rattle.kube_objects.specs.Kubelet.{node_of, heartbeat_lease, next_request, post}
 use Rattle.kube_objects.specs.Newest.{or_zero, added, only_if}
 use Rattle.kube_objects.specs.Process.{stops}
-use Rattle.kube_objects.specs.Stored.{Held, election, key_of, stored}
+use Rattle.kube_objects.specs.Stored.{Held, election, node_lease, key_of, stored}
 use Rattle.kube_objects.specs.Wire.{reply_arrival, send, Sent, Back, sent_of, back_of}
 use Rattle.history.specs.History.{history}
 use Rattle.history.specs.Sound.{IsSoundEvent, AreSound, IsSound}
 use Rattle.history.specs.Steps.{comes_at, answered}
-use Rattle.history_laws.proofs.Plainly.{upper, if_some, same_self, none_is, false_is, and_left}
+use Rattle.history_laws.proofs.Plainly.{upper, if_some, same_self, some_is, none_is, false_is, and_left}
 use Rattle.history_laws.proofs.Counting.{CountedFor, counted_is, only_value, when_test, when_value}
+use Rattle.history_laws.proofs.Ticks.{walk_tick}
 use Rattle.history_laws.proofs.Walk.{InScript, Scripted, Arriving, Coming, stopped_at, after_reply, Keeps}
-use Rattle.lease_laws.proofs.Invariant.{View, view, Fit, FitRequest, OnTop, Wrote, MayAsk, Base, After, AnswerRight, SentRight, BackRight, EntryRight, NumberedIn, HeldRight, Saw, Led, Inv}
+use Rattle.lease_laws.proofs.Invariant.{View, view, Fit, FitRequest, OnTop, Wrote, MayAsk, Base, After, AnswerRight, SentRight, Elsewhere, BackRight, EntryRight, NumberedIn, HeldRight, Saw, Led, Inv}
 use Rattle.lease_laws.proofs.EachKind.{after_arrival, keep_starts, keep_crashes, keep_ends, keep_stops, keep_event, keep_leads, keep_expires, keep_uncounted, keep_counted, keep_sends}
 use Rattle.lease_laws.proofs.Answered.{keep_answers}
+use Rattle.lease_laws.proofs.Quiet.{keep_quiet, quiet_tick, deletes_elsewhere}
 use Rattle.lease_laws.proofs.Follows.{own_base, found_base}
 
 -- no controller's clock is faster
@@ -52,6 +56,29 @@ asks doc high v q d r role key fit base = record { controller = λ is. record { 
 
 asks_get : (doc : Doc) (high : ℕ) (v : View) (q : Identity) (d : ℕ) → is_controller doc q.process ≡ true → MayAsk doc high v q d (Get election)
 asks_get doc high v q d role = asks doc high v q d (Get election) role refl tt tt
+
+-- what a kubelet may ask
+asks_elsewhere : (doc : Doc) (high : ℕ) (v : View) (q : Identity) (d : ℕ) (r : Request) → is_controller doc q.process ≡ false → key_eq (key_of r) election ≡ false → MayAsk doc high v q d r
+asks_elsewhere doc high v q d r role other = record { controller = λ is. absurd (false_is (sym role ∙ is)); kubelet = λ is. other }
+
+-- it asks on with the key of its Get
+next_right : (doc : Doc) (high : ℕ) (v : View) (q : Identity) (d : ℕ) (c : Call) (reply : Reply) (next : Request) → is_controller doc q.process ≡ false → key_eq (key_of c.request) election ≡ false
+    → next_request doc q d c.request reply ≡ Some next → MayAsk doc high v q d next
+next_right doc high v q d c reply next role other is = asks_elsewhere doc high v q d next role (cases c.request reply other is)
+  where
+    next_key : (r : Request) → key_eq (key_of r) election ≡ false → Some r ≡ Some next → key_eq (key_of next) election ≡ false
+    next_key r other is = subst (λ r. key_eq (key_of r) election ≡ false) (some_is r next is) other
+
+    cases : (r : Request) (reply : Reply) → key_eq (key_of r) election ≡ false → next_request doc q d r reply ≡ Some next → key_eq (key_of next) election ≡ false
+    cases (PostStatus name status at) reply other is = next_key (Get (node_lease (node_of doc q.process))) refl is
+    cases (Get key) Absent other is = next_key (Create key (heartbeat_lease doc q d None)) other is
+    cases (Get key) (Found version lease) other is = next_key (Update key version (heartbeat_lease doc q d (Some lease))) other is
+    cases (Get key) (Done version) other is = absurd (none_is next is)
+    cases (Get key) Exists other is = absurd (none_is next is)
+    cases (Get key) (Conflict version) other is = absurd (none_is next is)
+    cases (Get key) Unchanged other is = absurd (none_is next is)
+    cases (Create key lease) reply other is = absurd (none_is next is)
+    cases (Update key version lease) reply other is = absurd (none_is next is)
 
 abbrev ShownRight : List Entry → Identity → Shown → Type 0
 ShownRight h q x = Saw (view h) x.0 x.1 (or_zero (observed q h))
@@ -193,6 +220,7 @@ saw_later v version lease b n le saw = (saw.0, later v.top saw.1)
 
 -- a counted reply answers the call that waited, in time
 record Replied (doc : Doc) (high k : ℕ) (h : List Entry) (q : Identity) (waiting : Call) (reply : Reply) : Type 0 where
+  elsewhere : Elsewhere doc q waiting
   answer : is_controller doc q.process ≡ true → (b : ℕ) × (b < k) × AnswerRight doc high k (view h) q b waiting reply
   timely : local doc q.process k ≤ local doc q.process waiting.sent + call_timeout doc q.process
 
@@ -202,6 +230,7 @@ replied doc high k h s b waiting coming is =
     let numbered : NumberedIn h b.who b.call = subst (λ o. IfSome o (λ b. NumberedIn h b.who b.call)) coming.is (s.numbers coming.e coming.stands).1 in
     let same : waiting ≡ b.call = numbered.one waiting is.waits is.number in
     record {
+      elsewhere = λ role. subst (λ (c : Call). key_eq (key_of c.request) election ≡ false) (sym same) (right.elsewhere role);
       answer = λ role. (coming.e.beat, comes_is k coming.e.beat b.comes coming.now right.later, subst (λ c. AnswerRight doc high k (view h) b.who coming.e.beat c b.reply) (sym same) (right.answer role));
       timely = ltb-false (local doc b.who.process waiting.sent + call_timeout doc b.who.process) (local doc b.who.process k) is.timely;
     }
@@ -239,7 +268,7 @@ Kept doc high k h = k ≤ end_beat doc → Inv doc high k h
 entry_later : (doc : Doc) (high k m : ℕ) → k ≤ m → (v : View) (e : Entry) → EntryRight doc high k v e → EntryRight doc high m v e
 entry_later doc high k m le v e r = (
   if_some (sent_of e.actor e.deed) (SentRight doc high k v) (SentRight doc high m v) (λ s r. record { may = r.may; later = r.later }) r.0,
-  if_some (back_of e.actor e.deed) (BackRight doc high k v e.beat) (BackRight doc high m v e.beat) (λ b r. record { later = r.later; answer = λ is. answer_later b (r.answer is) }) r.1,
+  if_some (back_of e.actor e.deed) (BackRight doc high k v e.beat) (BackRight doc high m v e.beat) (λ b r. record { later = r.later; elsewhere = r.elsewhere; answer = λ is. answer_later b (r.answer is) }) r.1,
 )
   where
     answer_later : (b : Back) → AnswerRight doc high k v b.who e.beat b.call b.reply → AnswerRight doc high m v b.who e.beat b.call b.reply
@@ -273,15 +302,21 @@ all_keep doc high greatest sound = record {
   follows = λ k b waiting h request coming is role follows was s end.
       keep_sends doc high k (after_reply k b waiting h) (s end) 3 b.who Plain request
       (followed_right doc high k (after_reply k b waiting h) greatest end (s end) b.who role waiting.kind waiting.request b.reply (told_right doc high k h b waiting (s end) role) request follows);
+  asks = λ k b waiting h request coming is role asked was s end.
+      keep_sends doc high k (after_reply k b waiting h) (s end) 3 b.who Plain request
+      (next_right doc high (view (after_reply k b waiting h)) b.who k waiting b.reply request role ((replied doc high k h (was end) b waiting coming (counted_is doc b.who k b.call.number h waiting is)).elsewhere role) asked);
   leads = λ k b waiting h version coming is role follows was s end.
       keep_leads doc high k (after_reply k b waiting h) (s end) 3 b.who version
       (leads_right doc high k h b waiting version role (replied doc high k h (was end) b waiting coming (counted_is doc b.who k b.call.number h waiting is)) follows);
   turns = record {
     restarts = λ k p h s end. keep_starts doc high k h (s end) k 4 p;
-    expires = λ k p i call h role up waits late s end. keep_expires doc high k h (s end) 4 (identity p i) call;
+    expires = λ k p i call h up waits late s end. keep_expires doc high k h (s end) 4 (identity p i) call;
     ends = λ k p i at h role up is before s end. keep_ends doc high k h (s end) 4 (identity p i);
     polls = λ k p i h role up waits s end. keep_sends doc high k h (s end) 4 (identity p i) Plain (Get election) (asks_get doc high (view h) (identity p i) k role);
     attempts = λ k p i h role up waits s end. keep_sends doc high k h (s end) 4 (identity p i) (attempt doc (identity p i) k h).0 (attempt doc (identity p i) k h).1 (attempt_right doc high k h (s end) (identity p i) role);
+    seeks = λ k p i call h role up expired late s end. keep_sends doc high k h (s end) 4 (identity p i) Plain (Get (node_lease (node_of doc p))) (asks_elsewhere doc high (view h) (identity p i) k (Get (node_lease (node_of doc p))) role refl);
+    posts = λ k p i h role up none s end. keep_sends doc high k h (s end) 4 (identity p i) Plain (post doc (identity p i) k h) (asks_elsewhere doc high (view h) (identity p i) k (post doc (identity p i) k h) role refl);
+    ticks = λ k q h acting s. walk_tick doc k q (Kept doc high k) (λ t g made s end. keep_quiet doc high k g (entry k 4 q (Ticks t)) (quiet_tick k q t (deletes_elsewhere doc k q t g made)) (s end)) h s;
   };
 }
   where

@@ -16,7 +16,7 @@ use Rattle.history_laws.proofs.Plainly.{upper, some_is, none_is, false_is, added
 use Rattle.history_laws.proofs.Counting.{present_is}
 use Rattle.history_laws.proofs.Lives.{Over, over_more}
 use Rattle.history_laws.proofs.Once.{counted_at_turn}
-use Rattle.history_laws.proofs.Walk.{IsNext, Keeps, all_kinds, walk_steps, walk_turn, walk_turns, walk_after_end}
+use Rattle.history_laws.proofs.Walk.{IsNext, Anyone, KeepsTurn, Keeps, all_turns, all_kinds, walk_steps, walk_any_turn, walk_any_turns, walk_any_after_end}
 
 -- ---- from turn to turn
 
@@ -26,18 +26,21 @@ Stays P = (x : Entry) (h : List Entry) → IsNext x h → P h → P (x ∷ h)
 keeps_of : (doc : Doc) (P : List Entry → Type 0) → Stays P → Keeps doc (λ k step h. P h)
 keeps_of doc P more = all_kinds doc (λ k step h. P h) (λ k step h s. s) (λ k h s. s) more
 
+turn_keeps : (doc : Doc) (P : List Entry → Type 0) → Stays P → KeepsTurn doc Anyone (λ k h. P h)
+turn_keeps doc P more = all_turns doc Anyone (λ k h. P h) (λ k x h beat step next s. more x h next s)
+
 turns_on : (doc : Doc) (P : List Entry → Type 0) → Stays P → (k p n : ℕ) (h : List Entry) → P (turns doc k p h) → P (turns doc k (p + n) h)
 turns_on doc P more k p zero h s = let e : p ≡ p + 0 = omega arith in subst (λ m. P (turns doc k m h)) e s
 turns_on doc P more k p (suc n) h s =
     let e : suc (p + n) ≡ p + suc n = omega arith in
-    subst (λ m. P (turns doc k m h)) e (walk_turn doc (λ k h. P h) (keeps_of doc P more).turns k (p + n) (turns doc k (p + n) h) (turns_on doc P more k p n h s))
+    subst (λ m. P (turns doc k m h)) e (walk_any_turn doc (λ k h. P h) (turn_keeps doc P more) k (p + n) (turns doc k (p + n) h) (turns_on doc P more k p n h s))
 
 next_beat : (doc : Doc) (P : List Entry → Type 0) → Stays P → (p k n : ℕ) → n ≤ processes doc → P (turns doc k n (three_steps doc k (history doc k))) → P (at_turn doc p (suc k))
 next_beat doc P more p k n le s =
     let e : n + (processes doc - n) ≡ processes doc = omega (arith, le) in
     let h = three_steps doc k (history doc k) in
     let whole : P (history doc (suc k)) = subst (λ m. P (turns doc k m h)) e (turns_on doc P more k n (processes doc - n) h s) in
-    walk_turns doc (λ k h. P h) (keeps_of doc P more).turns (suc k) p (three_steps doc (suc k) (history doc (suc k))) (walk_steps doc (λ k step h. P h) (keeps_of doc P more) (suc k) (history doc (suc k)) whole)
+    walk_any_turns doc (λ k h. P h) (turn_keeps doc P more) (suc k) p (three_steps doc (suc k) (history doc (suc k))) (walk_steps doc (λ k step h. P h) (keeps_of doc P more) (suc k) (history doc (suc k)) whole)
 
 later_turn : (doc : Doc) (P : List Entry → Type 0) → Stays P → (p k n : ℕ) → p ≤ processes doc → P (at_turn doc p k) → P (at_turn doc p (k + n))
 later_turn doc P more p k zero le s = let e : k ≡ k + 0 = omega arith in subst (λ m. P (at_turn doc p m)) e s
@@ -74,7 +77,7 @@ past : (doc : Doc) (m : ℕ) (q : Identity) (h : List Entry) (d : ℕ) → is_co
     → Over q (turn doc m q.process h)
 past doc m q h d role up has_deadline counted late =
     subst (λ b. Over q (turn_as doc m q.process b h)) (sym role)
-    (walk_after_end doc (λ k h. Over q h) (keeps_of doc (Over q) (over_stays q)).turns m q.process role (finish doc m q.process (expire doc m q.process (restart doc m q.process h)))
+    (walk_any_after_end doc (λ k h. Over q h) (turn_keeps doc (Over q) (over_stays q)) m q.process role (finish doc m q.process (expire doc m q.process (restart doc m q.process h)))
     (subst (λ o. Over q (finish doc m q.process (expire doc m q.process (restart_if doc m q.process o h)))) (sym up) expired))
   where
     by_late : (call : Call) (b : Bool) → Over q (finish doc m q.process (expire_as m q call b h))

@@ -1,9 +1,10 @@
 -- Items that a manifest can give with these names and controllers: each value is in its range or grammar, no key and no taint stands twice,
 -- and no limit is passed.
-use Rattle.std.specs.Prelude.{◌≡◌, ℕ, ℤ, pos, negsuc, ◌%◌, ◌^◌, ◌<◌, ◌≤◌, ◌==◌, ◌&&◌, not, nat_lt, Bool, true, false, List, [], ◌∷◌, ◌++◌, length, position, slice_get, Option, Some, None, unwrap_or}
-use Rattle.std.specs.List.{AllByRecursion, list_any}
+use Rattle.std.specs.Prelude.{◌≡◌, ℕ, ℤ, pos, negsuc, ◌%◌, ◌^◌, ◌<◌, ◌≤◌, ◌==◌, ◌&&◌, not, nat_lt, Bool, true, false, List, [], ◌∷◌, ◌++◌, length, map, position, slice_get, Option, Some, None, unwrap_or}
+use Rattle.std.specs.List.{AllByRecursion, IsDistinct, list_any}
 use Rattle.kube_base.specs.Times.{last_wall}
 use Rattle.kube_base.specs.declared.numbers.Wall.{Wall}
+use Rattle.kube_objects.specs.Keys.{key_eq}
 use Rattle.kube_objects.specs.declared.key.Key.{Key}
 use Rattle.kube_objects.specs.declared.key.Kind.TheVariants as kinds
 use Rattle.kube_objects.specs.declared.lease.Holder.{Holder}
@@ -25,6 +26,9 @@ use Rattle.manifest_json.specs.Written.{text_of}
 -- the names hold the number
 abbrev pub IsHeld : Texts → ℕ → Type 0
 IsHeld names n = n < length names
+
+abbrev pub AreHeld : Texts → List ℕ → Type 0
+AreHeld names known = AllByRecursion (IsHeld names) known
 
 -- the text of the number is not empty
 abbrev pub IsFilled : Texts → ℕ → Type 0
@@ -136,6 +140,10 @@ abbrev pub IsReadableItem : Texts → List ℕ → Key × Object → Type 0
 IsReadableItem names known (key, objects.Node n) = IsReadableNode names key n
 IsReadableItem names known (key, objects.Lease l) = IsReadableLease names known key l
 IsReadableItem names known (key, objects.Pod p) = IsReadablePod names key p
+
+-- no two of these items have the same key
+abbrev pub AreKeyedApart : List (Key × Object) → Type 0
+AreKeyedApart items = IsDistinct key_eq (map (λ item. item.0) items)
 
 -- each item has a new key, and there is room for one more of its kind
 abbrev pub items_fit : List (Key × Object) → List (Key × Object) → Bool

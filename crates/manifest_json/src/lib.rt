@@ -1,10 +1,12 @@
 //! Kubernetes manifests as `serde_json` values, read into typed objects and written back.
 #![tactic(auto)]
 
+pub mod codes;
 mod fault;
 mod field;
 mod grammar;
 mod kept;
+mod laws;
 mod lease;
 mod list;
 mod metadata;
@@ -18,6 +20,7 @@ mod write;
 pub use fault::{Path, ReadFault, Refusal, fault_below};
 pub use field::number;
 pub use grammar::is_name;
+pub use laws::objects_are_readable;
 pub use list::{Objects, read_list};
 pub use object::read_object;
 pub use write::write_list;

@@ -9,6 +9,7 @@ use Rattle.kube_objects.specs.declared.node.ReadyStatus.{ReadyStatus}
 use Rattle.kube_objects.specs.declared.object.Object.{Object}
 use Rattle.kube_objects.specs.Answers.{answer_create, answer_update, answer_post, as_kind, node_in, versioned, posted_node, posted_ready, with_ready, if_done, node_object}
 use Rattle.kube_objects.specs.Clocks.{whole_second}
+use Rattle.kube_objects.specs.Deletes.{delete_over}
 use Rattle.kube_objects.specs.Entry.{Entry}
 use Rattle.kube_objects.specs.Newest.{has}
 use Rattle.kube_objects.specs.Stored.{Held, write_of, request_write, key_of}
@@ -18,7 +19,7 @@ use Rattle.object_store.specs.declared.faults.StoreFault.{StoreFault}
 use Rattle.object_store.specs.declared.faults.StoreFault.TheVariants as fault
 use Rattle.object_store.specs.declared.store.Store.{Store}
 use Rattle.object_store.specs.Stands.{StoreStands, version_in, node_in_pair}
-use Rattle.object_store.specs.StoreAnswers.{kept_of, delete_over, Told, ToldPost, UnlessPosted, reply_of, reply_of_post}
+use Rattle.object_store.specs.StoreAnswers.{kept_of, Told, ToldPost, UnlessPosted, reply_of, reply_of_post}
 use Rattle.object_store.proofs.Keeps.{store-beside}
 
 abbrev number_of : Option Version → ℕ

@@ -1,2 +1,4 @@
+pub mod FeedLaws
+pub mod Kept
 pub mod Stands
 pub mod StoreAnswers

@@ -57,8 +57,11 @@ shown_in s key = get key_cmp s.objects key
 abbrev pub start_since : Since → ℕ
 start_since s = s.position
 
+abbrev pub changed_since : Since → List Key
+changed_since s = changed_in s.store.now
+
 abbrev pub keys_since : Since → List Key
-keys_since s = drop s.position (changed_in s.store.now)
+keys_since s = drop s.position (changed_since s)
 
 abbrev pub shown_since : Since → Key → Option (Version × Object)
 shown_since s = shown_in s.store.now

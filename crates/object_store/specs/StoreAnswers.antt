@@ -1,5 +1,5 @@
 -- What the store answers to its own calls after a history. Source: Kubernetes API concepts, resource versions; profile.
-use Rattle.std.specs.Prelude.{◌≡◌, ◌==◌, cond, List, [], ◌∷◌, ◌++◌, Option, Some, None, Result, Ok, Err}
+use Rattle.std.specs.Prelude.{◌≡◌, List, [], ◌∷◌, ◌++◌, Option, Some, None, Result, Ok, Err}
 use Rattle.kube_base.specs.declared.memory.NoMemory.{NoMemory}
 use Rattle.kube_base.specs.declared.numbers.Version.{Version}
 use Rattle.kube_objects.specs.declared.call.Reply.{Reply}
@@ -42,20 +42,7 @@ abbrev pub lease_pair : Option (Version × Object) → Option (Version × Lease)
 lease_pair None = None
 lease_pair (Some p) = versioned p.0 (lease_in p.1)
 
--- ---- the answer to a delete of a pod, by the versions of the pod and of its node
-
-abbrev pub delete_at_node : Version → Version → Option Held → Reply
-delete_at_node next node_given None = reply.Absent
-delete_at_node next node_given (Some node) = cond (node.version.0 == node_given.0) (reply.Done next) (reply.Conflict node.version)
-
--- the pod's conflict comes before the node's, and what is absent before both
-abbrev pub delete_over : Version → Version → Version → Option Held → Option Held → Reply
-delete_over next given node_given None _ = reply.Absent
-delete_over next given node_given (Some pod) None = reply.Absent
-delete_over next given node_given (Some pod) (Some node) = cond (pod.version.0 == given.0) (delete_at_node next node_given (Some node)) (reply.Conflict pod.version)
-
-abbrev pub answer_delete : Key → Version → Key → Version → List Entry → Reply
-answer_delete pod given node node_given h = delete_over (next_version h) given node_given (stored pod h) (stored node h)
+-- ---- the store's own calls
 
 -- the version that a removal writes, where the key is stored
 abbrev pub answer_remove : Key → List Entry → Option Version

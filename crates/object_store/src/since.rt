@@ -1,4 +1,6 @@
 // The changes of a store from a position on.
+ghost use Rattle.std.specs.Prelude.{◌≤◌, length};
+
 use crate::Store;
 use kube_base::Version;
 use kube_objects::{Changed, Feed, Key, Object};
@@ -8,6 +10,7 @@ use kube_objects::{Changed, Feed, Key, Object};
 pub struct Since<'a> {
     store: &'a Store,
     position: u64,
+    ghost within: { position ≤ length store.now.changes.items },
 }
 
 impl<'a> Since<'a> {
@@ -15,6 +18,7 @@ impl<'a> Since<'a> {
     ghost use Rattle.object_store.specs.Stands.{start_since, keys_since, shown_since, changed_in, shown_in};
 
     pub(crate) fn new(store: &'a Store, position: u64) -> Since<'a>
+        requires { position ≤ length (changed_in store.now) }
         ensures store { result.store.now ≡ store.now }
         ensures position { result.position ≡ position }
     {
@@ -23,7 +27,11 @@ impl<'a> Since<'a> {
 }
 
 impl Changed for Since<'_> {
-    ghost use Rattle.object_store.specs.Stands.{start_since, keys_since, shown_since};
+    ghost use Rattle.std.specs.Prelude.{refl};
+    ghost use Rattle.object_store.specs.FeedLaws.{kinds_since, listed_since, total_since};
+    ghost use Rattle.object_store.specs.Stands.{changed_since, start_since, keys_since, shown_since};
+
+    ghost changed = { changed_since };
 
     ghost from = { start_since };
 
@@ -52,4 +60,11 @@ impl Changed for Since<'_> {
             None => None,
         }
     }
+    ghost last = { λ since. refl };
+
+    ghost total = { total_since };
+
+    ghost listed = { listed_since };
+
+    ghost kinds = { kinds_since };
 }

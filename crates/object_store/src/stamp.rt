@@ -1,17 +1,9 @@
 // An object as it is put: a NoExecute taint without a time gets the store's time of day in whole seconds.
 ghost use Rattle.std.specs.Prelude.{◌≡◌, IfOk};
-ghost use Rattle.kube_objects.specs.Clocks as clocks;
 ghost use Rattle.kube_objects.specs.Stamps as stamps;
 
 use kube_base::{ListOf, NoMemory, Wall};
 use kube_objects::{Effect, Node, Object, Taint, Taints};
-
-/// Rounds down to a whole second.
-pub(crate) fn whole_second(at: Wall) -> Wall
-    ensures { result.0 ≡ clocks.whole_second at.0 }
-{
-    Wall(at.0 - at.0 % 1_000_000)
-}
 
 fn stamped_taint(taint: &Taint, at: Wall) -> Taint
     ensures { result ≡ stamps.stamp_taint at.0 taint.now }

@@ -2,13 +2,8 @@
 ghost use Rattle.std.specs.Prelude.{◌≡◌, Some, IfOk, option_copied};
 ghost use Rattle.kube_objects.specs.Answers as answers;
 
-use kube_base::{NoMemory, Wall};
+use kube_base::{KUBELET_NOT_READY, KUBELET_READY, NoMemory, Wall};
 use kube_objects::{Node, Object, Ready, ReadyStatus};
-
-// The numbers of the names KubeletReady and KubeletNotReady.
-const KUBELET_READY: u32 = 1;
-
-const KUBELET_NOT_READY: u32 = 2;
 
 // How long a status that stays the same isn't written again, in microseconds.
 const STATUS_LASTS: u64 = 300_000_000;

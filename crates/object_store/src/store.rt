@@ -1,26 +1,27 @@
 // The store: a map from keys to objects with their versions, and the key of each accepted write.
-ghost use Rattle.std.specs.Prelude.{◌≡◌, ◌+◌, ◌∷◌, [], List, Option, Some, None, IfOk, OnOk, IfErr, OnErr, option_copied, vec_len, drop};
+ghost use Rattle.std.specs.Prelude.{◌≡◌, ◌+◌, ◌≤◌, ◌∷◌, [], true, length, List, Option, Some, None, IfOk, OnOk, IfErr, OnErr, option_copied, vec_len, drop};
 ghost use Rattle.std.specs.BTreeMap.{get};
 ghost use Rattle.std.specs.List.Sorted.{IsStrictlySortedBy};
 ghost use Rattle.std.specs.Map.{keys_of, lookup};
 ghost use Rattle.kube_objects.specs.Answers.{answer, written};
 ghost use Rattle.kube_objects.specs.Answers as answers;
 ghost use Rattle.kube_objects.specs.Clocks.{whole_second};
+ghost use Rattle.kube_objects.specs.Deletes.{answer_delete};
 ghost use Rattle.kube_objects.specs.Entry.{Entry};
 ghost use Rattle.kube_objects.specs.Feeds.{shown_pair};
 ghost use Rattle.kube_objects.specs.Keys.{key_cmp, key_eq};
+ghost use Rattle.kube_objects.specs.Kinds.{IsOfKind, keeps_kind};
+ghost use Rattle.object_store.specs.Kept.{AreAmong, AreOfKinds};
 ghost use Rattle.kube_objects.specs.Newest.{has, when};
 ghost use Rattle.kube_objects.specs.Stamps.{stamped};
 ghost use Rattle.kube_objects.specs.Stored.{stored, write_of, next_version, request_write};
 ghost use Rattle.kube_objects.specs.declared.call.Request.TheVariants.{PostStatus};
-ghost use Rattle.object_store.specs.StoreAnswers.{Told, ToldPost, UnlessPosted, answer_delete, answer_remove, kept_of, object_of, changed_keys};
 ghost use Rattle.kube_objects.specs.Stored as stored_words;
-ghost use Rattle.object_store.specs.Stands.{StoreStands, Writes, SameStore, shown_in, version_in, node_in_pair, start_since, keys_since, shown_since};
 ghost use Rattle.kube_objects.specs.declared.key.Key.{Key};
 
 use crate::replies::{found, told, told_post};
 use crate::{Posted, Since, StoreFault, stamp, status};
-use kube_base::{NoMemory, Version, Wall};
+use kube_base::{NoMemory, Version, Wall, whole_second};
 use kube_objects::{Feed, Items, Key, Kind, Node, Object, ReadyStatus, Reply, Request};
 use std::alloc::Global;
 use std::collections::BTreeMap;
@@ -30,9 +31,14 @@ use std::collections::BTreeMap;
 pub struct Store {
     objects: BTreeMap<Key, (Version, Object)>,
     changes: Vec<Key>,
+    ghost kinds: { AreOfKinds objects },
+    ghost among: { AreAmong changes.items objects },
 }
 
 impl Store {
+    ghost use Rattle.object_store.specs.StoreAnswers.{Told, ToldPost, UnlessPosted, answer_remove, kept_of, object_of, changed_keys};
+    ghost use Rattle.object_store.specs.Stands.{StoreStands, Writes, SameStore, shown_in, version_in, node_in_pair, changed_in, start_since, keys_since, shown_since};
+
     /// Holds nothing; its version is 0.
     pub fn new(alloc: Global) -> Store
         ensures { StoreStands [] result }
@@ -56,6 +62,7 @@ impl Store {
     /// Writes an object under a key that isn't stored. Exists exactly where it is stored.
     #[inline(never)]
     pub fn create(&mut self, key: Key, object: Object) -> Result<Version, StoreFault>
+        requires kind { IsOfKind key object }
         ensures answer { (h : List Entry) → StoreStands h self.old → Told result (answers.answer_create (next_version h) (stored key h)) }
         ensures ok { (h : List Entry) (e : Entry) → StoreStands h self.old → write_of e.deed ≡ Some (key, Some object) → OnOk result (StoreStands (e ∷ h) self.new) }
         ensures err { (h : List Entry) → StoreStands h self.old → OnErr result (StoreStands h self.new) }
@@ -75,6 +82,7 @@ impl Store {
         version: Version,
         object: Object,
     ) -> Result<Version, StoreFault>
+        requires kind { IsOfKind key object }
         ensures answer { (h : List Entry) → StoreStands h self.old → Told result (answers.answer_update (next_version h) version (stored key h)) }
         ensures ok { (h : List Entry) (e : Entry) → StoreStands h self.old → write_of e.deed ≡ Some (key, Some object) → OnOk result (StoreStands (e ∷ h) self.new) }
         ensures err { (h : List Entry) → StoreStands h self.old → OnErr result (StoreStands h self.new) }
@@ -108,7 +116,7 @@ impl Store {
         let Some(stored) = self.node_at(&key) else {
             return Err(StoreFault::Absent);
         };
-        let Some(ready) = status::posted_ready(status, stamp::whole_second(at), stored.ready) else {
+        let Some(ready) = status::posted_ready(status, whole_second(at), stored.ready) else {
             return Ok(Posted::Unchanged);
         };
         let Ok(written) = status::with_ready(stored, ready) else {
@@ -153,11 +161,12 @@ impl Store {
 
     /// Writes an object, whatever is stored. A NoExecute taint without a time gets the whole second of `now`.
     pub fn put(&mut self, key: Key, object: Object, now: Wall) -> Result<Version, NoMemory>
+        requires kind { IsOfKind key object }
         ensures answer { (h : List Entry) → StoreStands h self.old → IfOk result (λ version. version ≡ next_version h) }
         ensures ok { (h : List Entry) (e : Entry) → StoreStands h self.old → write_of e.deed ≡ Some (key, Some (stamped (whole_second now.0) object)) → OnOk result (StoreStands (e ∷ h) self.new) }
         ensures err { (h : List Entry) → StoreStands h self.old → OnErr result (StoreStands h self.new) }
     {
-        let stamped = stamp::stamped(object, stamp::whole_second(now))?;
+        let stamped = stamp::stamped(object, whole_second(now))?;
         self.write(key, stamped)
     }
 
@@ -176,6 +185,7 @@ impl Store {
 
     /// Answers a request that arrives.
     pub fn answer(&mut self, request: Request) -> Result<Reply, NoMemory>
+        requires kind { keeps_kind request ≡ true }
         ensures answer { (h : List Entry) → StoreStands h self.old → IfOk result (λ reply. reply ≡ answer request h) }
         ensures ok { (h : List Entry) (e : Entry) → StoreStands h self.old → write_of e.deed ≡ request_write request (written request h) → OnOk result (StoreStands (e ∷ h) self.new) }
         ensures err { (h : List Entry) → StoreStands h self.old → OnErr result (StoreStands h self.new) }
@@ -204,6 +214,7 @@ impl Store {
 
     /// The changes from a position on. Costs nothing.
     pub fn since(&self, position: u64) -> Since<'_>
+        requires { position ≤ length (changed_in self.now) }
         ensures start { start_since result ≡ position }
         ensures keys { (h : List Entry) → StoreStands h self.now → keys_since result ≡ drop position (changed_keys h) }
         ensures shown { (h : List Entry) (key : Key) → StoreStands h self.now → shown_since result key ≡ kept_of (stored key h) }
@@ -213,6 +224,7 @@ impl Store {
 
     /// Writes an object under the next version.
     fn write(&mut self, key: Key, object: Object) -> Result<Version, NoMemory>
+        requires kind { IsOfKind key object }
         ensures ok { IfOk result (λ version. Writes self.old self.new key (Some object) × (version.0 ≡ vec_len self.old.changes + 1)) }
         ensures err { OnErr result (SameStore self.old self.new) }
     {
@@ -228,6 +240,7 @@ impl Store {
     }
 
     fn write_or_fault(&mut self, key: Key, object: Object) -> Result<Version, StoreFault>
+        requires kind { IsOfKind key object }
         ensures ok { IfOk result (λ version. Writes self.old self.new key (Some object) × (version.0 ≡ vec_len self.old.changes + 1)) }
         ensures err { IfErr result (λ fault. (fault ≡ StoreFault.NoMemory) × SameStore self.old self.new) }
     {
@@ -278,6 +291,7 @@ fn node_key(name: u32) -> Key
 
 impl Feed for Store {
     ghost use Rattle.object_store.specs.Stands.{changed_in, shown_in};
+    ghost use Rattle.object_store.specs.FeedLaws.{kinds_in, listed_in};
 
     ghost changed = { changed_in };
 
@@ -297,4 +311,7 @@ impl Feed for Store {
             None => None,
         }
     }
+    ghost listed = { listed_in };
+
+    ghost kinds = { kinds_in };
 }

@@ -1,16 +1,20 @@
 -- Numbers of a document lie in their ranges.
-use Rattle.std.proofs.Common.{◌≡◌, ℕ, ◌≤◌, nat_le, nat_lt, ◌&&◌, true, List, Option, Some, None, Result, ℤ, ◌≤ℤ◌, leb-true, ltb-false}
+use Rattle.std.proofs.Common.{◌≡◌, ℕ, ◌≤◌, nat_le, nat_lt, ◌&&◌, cond, Bool, true, false, codes, List, Option, Some, None, Result, ℤ, ◌≤ℤ◌, leb-true, ltb-false}
 use Rattle.std.specs.Prelude.{int_le}
+use Rattle.std.specs.Str.{bytes_eq}
 use Rattle.std.proofs.lemmas.Bool.{and_parts}
 use Rattle.std.proofs.lemmas.Float.{T_from_true}
 use Rattle.std.specs.Int.Signed.{le_z_yes}
 use Rattle.serde_json.specs.Data.{Data}
 use Rattle.serde_json.specs.Find.{get, as_array}
+use Rattle.manifest_json.specs.declared.codes.TheConstants.{OUT_OF_RANGE, WRONG_TYPE}
 use Rattle.manifest_json.specs.declared.fault.Refusal.{Refusal}
 use Rattle.manifest_json.specs.Fields.{or_refuse}
 use Rattle.manifest_json.specs.Walk.{items_len}
-use Rattle.script_reader.specs.Fields.{under, default_of, required, whole_or, whole_in, whole_at, needed_whole, signed_or, signed_in, signed_at, array_in}
-use Rattle.script_reader.proofs.Getting.{Gets, done, refused, by_test, skip}
+use Rattle.kube_objects.specs.declared.node.ReadyStatus.TheVariants as statuses
+use Rattle.script_reader.specs.Lawful.{IsPosted}
+use Rattle.script_reader.specs.Fields.{under, default_of, required, whole_or, whole_in, whole_at, needed_whole, signed_or, signed_in, signed_at, array_in, text_at, needed_text, posted_of, posted_at, needed_posted}
+use Rattle.manifest_json.proofs.Getting.{Gets, Has, done, refused, by_test, skip, of_option}
 
 -- a key that may be missing
 module _ {A : Type 0} {P : A → Type 0} (read : Data → Result A Refusal) where
@@ -74,4 +78,22 @@ module _ (least most : ℤ) where
 pub array-few : (most : ℕ) (path : List ℕ) (d : Data) → Gets (λ items. items_len items ≤ most) (array_in most path d)
 unfolding array_in
 array-few most path d =
-    skip (or_refuse (as_array d) 5 path) (λ items. by_test (nat_lt most (items_len items)) _ _ (λ e. refused _) (λ few. done items (ltb-false most (items_len items) few)))
+    skip (or_refuse (as_array d) WRONG_TYPE path) (λ items. by_test (nat_lt most (items_len items)) _ _ (λ e. refused _) (λ few. done items (ltb-false most (items_len items) few)))
+
+-- ---- statuses that a kubelet posts
+
+has-posted : (text : List ℕ) → Has IsPosted (posted_of text)
+has-posted text = by (bytes_eq text (codes "True")) (bytes_eq text (codes "False"))
+  where
+    by : (a b : Bool) → Has IsPosted (cond a (Some statuses.True) (cond b (Some statuses.False) None))
+    by true b = tt
+    by false true = tt
+    by false false = tt
+
+pub posted_at-in : (path key : List ℕ) (d : Data) → Gets IsPosted (posted_at path key d)
+unfolding posted_at
+posted_at-in path key d = skip (text_at (codes "True") path key d) (λ text. of_option (posted_of text) OUT_OF_RANGE (under path key) (has-posted text))
+
+pub needed_posted-in : (path key : List ℕ) (d : Data) → Gets IsPosted (needed_posted path key d)
+unfolding needed_posted
+needed_posted-in path key d = skip (needed_text path key d) (λ text. of_option (posted_of text) OUT_OF_RANGE (under path key) (has-posted text))

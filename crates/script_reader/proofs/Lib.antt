@@ -1,11 +1,9 @@
 mod ClockRatesLemmas
 mod EventRanges
 mod FieldRanges
-mod Getting
 mod LawfulWalk
 pub mod Loops
 pub mod Named
-mod ObjectKinds
 pub mod Parsed
 mod ProcessRanges
 pub mod SoundDocuments

@@ -87,7 +87,7 @@ module _ (p : ℕ → Bool) where
           made (length xs + 1) here ∙ ap (λ b. cond b (Some (length xs + 1)) None) (no_lt (length xs + 1) (length xs + 1) (omega arith))
           ∙ ap (λ b. cond b (Some (length xs)) None) (sym f) ∙ ap (λ b. cond b (position p xs) (cond (p x) (Some (length xs)) None)) (sym e)
 
-any_map : (q : ℕ) (ps : List Proc) → list_any (λ o. q == o) (numbers_of ps) ≡ has_name q ps
+pub any_map : (q : ℕ) (ps : List Proc) → list_any (λ o. q == o) (numbers_of ps) ≡ has_name q ps
 any_map q [] = refl
 any_map q (p ∷ ps) = ap (λ b. (q == p.name) || b) (any_map q ps)
 

@@ -1,9 +1,11 @@
 // What holds of every document that is read. These functions do nothing: each carries a law on its contract.
-ghost use Rattle.script_reader.specs.Laws.{DocumentsAreLawful, LawfulIsSound};
+ghost use Rattle.script_reader.specs.Laws.{DocumentsAreLawful, DocumentsAreWellNamed, LawfulIsSound};
 
-/// Every document that the walk gives keeps its ranges, the order of its events, and what they name.
+/// Every document that the walk gives keeps its ranges, own rules and limits, the order of its events, and what they name. Its names hold its
+/// numbers, and its objects are those that a manifest can give.
 pub fn documents_are_lawful()
-    ensures { DocumentsAreLawful }
+    ensures lawful { DocumentsAreLawful }
+    ensures named { DocumentsAreWellNamed }
 {}
 
 /// A lawful document leaves the election Lease alone, stops controllers only, and has delays of at least one beat.

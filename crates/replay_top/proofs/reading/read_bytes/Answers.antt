@@ -6,4 +6,4 @@ pub returns-clause-lawful : goal.returns-clause-lawful
 unfolding document_walk
 returns-clause-lawful c =
     let read : document_walk c.args.bytes.now ≡ Ok c.in_ok-document.document = rw c.in_ok-value.ensures c.in_ok-document.ensures in
-    c.documents_are_lawful.ensures c.args.bytes.now c.in_ok-document.document read
+    c.documents_are_lawful.ensures.lawful c.args.bytes.now c.in_ok-document.document read

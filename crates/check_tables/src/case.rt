@@ -1,0 +1,84 @@
+// The cases of rows.
+use crate::manifest::{holder_in, written_of};
+use crate::repeated::repeated;
+use crate::table::Kind;
+use crate::trial::{ample, both_write, ends, writes};
+use kube_base::NoMemory;
+use replay_top::Status;
+use std::alloc::Global;
+
+/// Whether a row holds, in a table of this kind with this form.
+pub(crate) fn holds(alloc: Global, kind: Kind, form: &str, row: &str) -> Result<bool, NoMemory> {
+    match kind {
+        Kind::Words => usage_holds(alloc, form, row),
+        _ => match row.split_once('\t') {
+            Some((wanted, case)) => case_holds(alloc, kind, form, wanted, case),
+            None => Ok(false),
+        },
+    }
+}
+
+/// Whether a case gives what is wanted.
+fn case_holds(
+    alloc: Global,
+    kind: Kind,
+    form: &str,
+    wanted: &str,
+    case: &str,
+) -> Result<bool, NoMemory> {
+    let input = filled(alloc, form, case)?;
+    let line = line_of(alloc, wanted)?;
+    match kind {
+        Kind::Both => both_write(alloc, input.as_bytes(), line.as_str()),
+        Kind::Check => writes(alloc, "check", input.as_bytes(), line.as_str()),
+        Kind::CheckOnly => check_only(alloc, input.as_bytes(), line.as_str()),
+        Kind::Many => many_hold(alloc, case, line.as_str()),
+        Kind::Holder => is_text(holder_in(alloc, input.as_str())?, wanted),
+        Kind::Written => is_text(written_of(alloc, input.as_str())?, wanted),
+        _ => Ok(false),
+    }
+}
+
+/// The form with a case in the place of `CASE`.
+fn filled(alloc: Global, form: &str, case: &str) -> Result<String, NoMemory> {
+    match form.split_once("CASE") {
+        Some((before, after)) => Ok(format!(in alloc; "{before}{case}{after}")?),
+        None => Ok(String::from_str(alloc, case)?),
+    }
+}
+
+fn line_of(alloc: Global, text: &str) -> Result<String, NoMemory> {
+    Ok(format!(in alloc; "{text}\n")?)
+}
+
+fn is_text(text: Option<String>, wanted: &str) -> Result<bool, NoMemory> {
+    match text {
+        Some(text) => Ok(text.as_str() == wanted),
+        None => Ok(false),
+    }
+}
+
+/// Whether `check` writes the line, and `replay` refuses the document as not run.
+fn check_only(alloc: Global, document: &[u8], line: &str) -> Result<bool, NoMemory> {
+    let checked = writes(alloc, "check", document, line)?;
+    let refused = writes(alloc, "replay", document, "refused 99 /\n")?;
+    Ok(checked && refused)
+}
+
+fn many_hold(alloc: Global, parts: &str, line: &str) -> Result<bool, NoMemory> {
+    match repeated(alloc, parts)? {
+        Some(document) => both_write(alloc, document.as_bytes(), line),
+        None => Ok(false),
+    }
+}
+
+/// Whether a run with the words of the row, each after a tab, writes the usage.
+fn usage_holds(alloc: Global, usage: &str, row: &str) -> Result<bool, NoMemory> {
+    let mut words = Vec::new(alloc);
+    for word in row.split('\t').skip(1) {
+        words.push(String::from_str(alloc, word)?)?;
+    }
+    let line = line_of(alloc, usage)?;
+    let trial = ample(b"{}", line.len());
+    ends(alloc, &words, &trial, Status::Usage, line.as_bytes())
+}

@@ -1,0 +1,54 @@
+// A table of cases in a text.
+
+/// What the rows of a table are, by its first line.
+#[derive(Clone, Copy, Debug, PartialEq, Eq)]
+pub(crate) enum Kind {
+    /// What both commands write, and the document.
+    Both,
+    /// What `check` writes, and the document.
+    Check,
+    /// What `check` writes, and a document that `replay` refuses as not run.
+    CheckOnly,
+    /// What both commands write, and a document with many members, in parts.
+    Many,
+    /// The words of a run that writes the second line.
+    Words,
+    /// Who the holder is, and a Lease's identity.
+    Holder,
+    /// How many items are skipped, the List that is written, and the List that is read.
+    Written,
+    /// The trace of the document in the second line.
+    Trace,
+    /// The trace of the document in the second line, which is also run over a source and a sink that fail.
+    Faults,
+}
+
+/// The kind, the form of what is run, in which `CASE` stands for what a row has, and the rows.
+#[derive(Clone, Copy)]
+pub(crate) struct Table<'a> {
+    pub(crate) kind: Kind,
+    pub(crate) form: &'a str,
+    pub(crate) rest: &'a str,
+}
+
+pub(crate) fn table_in(text: &str) -> Option<Table<'_>> {
+    let (first, below) = text.split_once('\n')?;
+    let (form, rest) = below.split_once('\n')?;
+    let kind = kind_of(first)?;
+    Some(Table { kind, form, rest })
+}
+
+fn kind_of(line: &str) -> Option<Kind> {
+    match line {
+        "both" => Some(Kind::Both),
+        "check" => Some(Kind::Check),
+        "check only" => Some(Kind::CheckOnly),
+        "many" => Some(Kind::Many),
+        "words" => Some(Kind::Words),
+        "holder" => Some(Kind::Holder),
+        "written" => Some(Kind::Written),
+        "trace" => Some(Kind::Trace),
+        "faults" => Some(Kind::Faults),
+        _ => None,
+    }
+}

@@ -1,0 +1,5 @@
+pub mod KeyNames
+pub mod Cache
+pub mod Early
+pub mod Current
+pub mod Turns

@@ -1,0 +1,266 @@
+-- One walk through a tick, for every property that each of its entries keeps.
+use Rattle.std.proofs.Common.{◌≡◌, ◌≤◌, ℕ, ◌&&◌, not, nat_lt, nat_le, if◌then◌else◌, Bool, true, false, List, [], ◌∷◌, Option, Some, None, refl, arith}
+use Rattle.std.specs.List.{list_any}
+use Rattle.std.specs.declared.cmp.Ordering.{Ordering}
+use Rattle.std.specs.declared.cmp.Ordering.TheVariants.{Less, Equal, Greater}
+use Rattle.kube_base.specs.declared.numbers.Version.{Version}
+use Rattle.kube_objects.specs.declared.call.Answer.{Answer}
+use Rattle.kube_objects.specs.declared.key.Key.{Key}
+use Rattle.kube_objects.specs.declared.node.Node.{Node}
+use Rattle.kube_objects.specs.declared.node.ZoneState.{ZoneState}
+use Rattle.kube_objects.specs.declared.node.ZoneState.TheVariants.{Normal, Partial, Full}
+use Rattle.kube_objects.specs.declared.pod.Due.{Due}
+use Rattle.kube_objects.specs.declared.pod.Due.TheVariants.{Never, At}
+use Rattle.kube_objects.specs.declared.pod.Pod.{Pod}
+use Rattle.kube_objects.specs.declared.settings.RatePolicy.{RatePolicy}
+use Rattle.kube_objects.specs.declared.settings.RatePolicy.TheVariants.{Standard, Gentle, Halt}
+use Rattle.kube_objects.specs.Clocks.{wall}
+use Rattle.kube_objects.specs.Document.{Doc}
+use Rattle.kube_objects.specs.Entry.{Entry, Identity, Place, Tick, Sync, Pass, Mark, Mode, Zone, Untaint, Swap, Head, Delete}
+use Rattle.kube_objects.specs.Health.{is_pass_due, mark_of}
+use Rattle.kube_objects.specs.InForce.{watches}
+use Rattle.kube_objects.specs.Keys.{key_cmp}
+use Rattle.kube_objects.specs.Modes.{nodes, places, state_in, size_in, rate_in, all_full, mode}
+use Rattle.kube_objects.specs.Newest.{when}
+use Rattle.kube_objects.specs.Seen.{seen_node, seen_pod, is_fresh, is_synced, is_stale, node_names, is_pod, pod_key, pod_keys, insert_once, insert_named, named}
+use Rattle.kube_objects.specs.Stored.{Write, write_of, node_key}
+use Rattle.kube_objects.specs.Tainting.{Wants, Nothing, Wanted, Whatever, wants, has_condition, is_opposite, waits, Queued, head_of}
+use Rattle.kube_objects.specs.Tick.{add, for_each, sync_if, sync, mark_as, mark_seen, mark, mode_if, is_same_mode, mode_as, set_mode, zone_if, zone_as, zone, set_zones, marks, pass_if, pass, untaint_if, swap_if, clean_as, clean_seen, clean, cleaned, taint_as, taint_head, taint_if, taint, tainted, delete_if, evict_due, evict_on, evict_seen, evict, evicted, tick_if, tick}
+use Rattle.kube_objects.specs.Tokens.{rated, is_rated, has_token}
+use Rattle.kube_objects.specs.Tolerations.{due}
+use Rattle.kube_objects.specs.Tries.{try_node, try_delete}
+use Rattle.kube_objects.specs.Zones.{state_rate, partial_rate, full_rate, rate_of}
+
+-- a try to write a node as the cache has it
+abbrev pub IsTry : Identity → ℕ → Version → Option Answer → List Entry → Type 0
+IsTry q name given answer h = (node : Node) × (seen_node q name h ≡ Some (given, node)) × (answer ≡ try_node q name given h)
+
+-- a try to delete a pod that is due on its node, both as the cache has them
+pub record IsDelete (doc : Doc) (k : ℕ) (q : Identity) (pod : Key) (given node_given : Version) (at : ℕ) (answer : Option Answer) (h : List Entry) : Type 0 where
+  pub kind : is_pod pod.kind ≡ true
+  pub x : Pod
+  pub y : Node
+  pub sees : seen_pod q pod h ≡ Some (given, x)
+  pub sees_node : seen_node q x.node h ≡ Some (node_given, y)
+  pub time : due x y ≡ At at
+  pub test : nat_le at (wall doc q.process k) ≡ true
+  pub is : answer ≡ try_delete q pod given x.node node_given h
+
+-- a rate isn't above the primary one, where the secondary one isn't
+abbrev pub IsRate : Doc → ℕ → Type 0
+IsRate doc rate = doc.settings.secondary_rate ≤ doc.settings.primary_rate → rate ≤ doc.settings.primary_rate
+
+-- what is known of a tick's entry when it is made
+abbrev pub MadeTick : Doc → ℕ → Identity → Tick → List Entry → Type 0
+MadeTick doc k q Sync h = Unit {0}
+MadeTick doc k q Pass h = Unit {0}
+MadeTick doc k q (Mark name given node answer) h = IsTry q name given answer h
+MadeTick doc k q (Mode on) h = Unit {0}
+MadeTick doc k q (Zone place state rate) h = IsRate doc rate
+MadeTick doc k q (Untaint name given node answer) h = IsTry q name given answer h
+MadeTick doc k q (Swap name wanted given node answer) h = IsTry q name given answer h
+MadeTick doc k q (Head place name wanted given node answer) h = (has_token doc q k place h ≡ true) × IsTry q name given answer h
+MadeTick doc k q (Delete pod given node_given at answer) h = IsDelete doc k q pod given node_given at answer h
+
+-- ---- rates
+
+rate_most : (doc : Doc) (on : Bool) (s : ZoneState) (size : ℕ)
+    → IsRate doc (rate_of on s doc.settings.rate_policy doc.settings.primary_rate doc.settings.secondary_rate doc.settings.large_zone size)
+rate_most doc true s size le = omega arith
+rate_most doc false s size le = by_state s
+  where
+    by_partial : (policy : RatePolicy) → partial_rate policy doc.settings.secondary_rate doc.settings.large_zone size ≤ doc.settings.primary_rate
+    by_partial Standard = by_size (nat_lt doc.settings.large_zone size)
+      where
+        by_size : (b : Bool) → (if b then doc.settings.secondary_rate else 0) ≤ doc.settings.primary_rate
+        by_size true = le
+        by_size false = omega arith
+    by_partial Gentle = le
+    by_partial Halt = omega arith
+
+    by_full : (policy : RatePolicy) → full_rate policy doc.settings.primary_rate doc.settings.secondary_rate ≤ doc.settings.primary_rate
+    by_full Standard = omega arith
+    by_full Gentle = le
+    by_full Halt = omega arith
+
+    by_state : (s : ZoneState) → state_rate s doc.settings.rate_policy doc.settings.primary_rate doc.settings.secondary_rate doc.settings.large_zone size ≤ doc.settings.primary_rate
+    by_state Normal = omega arith
+    by_state Partial = by_partial doc.settings.rate_policy
+    by_state Full = by_full doc.settings.rate_policy
+
+-- ---- the keys of pods
+
+-- what holds of each of some things
+abbrev pub Each : {A : Type 0} → (A → Type 0) → List A → Type 0
+Each P [] = Unit {0}
+Each P (x ∷ xs) = P x × Each P xs
+
+insert_each : {A : Type 0} (compare : A → A → Ordering) (P : A → Type 0) (x : A) (ys : List A) → P x → Each P ys → Each P (insert_once compare x ys)
+insert_each compare P x [] new old = (new, tt)
+insert_each compare P x (y ∷ ys) new old = by_order (compare x y) (insert_each compare P x ys new old.1)
+  where
+    by_order : (o : Ordering) → Each P (insert_once compare x ys) → Each P (elim o [ Less ↦ x ∷ y ∷ ys | Equal ↦ y ∷ ys | Greater ↦ y ∷ insert_once compare x ys ])
+    by_order Less later = (new, old)
+    by_order Equal later = old
+    by_order Greater later = (old.0, later)
+
+abbrev pub IsPodKey : Key → Type 0
+IsPodKey key = is_pod key.kind ≡ true
+
+pods_more : (o : Option Write) (keys : List Key) → Each IsPodKey keys → Each IsPodKey (insert_named key_cmp (named pod_key o) keys)
+pods_more None keys old = old
+pods_more (Some w) keys old = by_kind (is_pod w.0.kind) refl
+  where
+    by_kind : (b : Bool) → is_pod w.0.kind ≡ b → Each IsPodKey (insert_named key_cmp (when b w.0) keys)
+    by_kind true is = insert_each key_cmp IsPodKey w.0 keys is old
+    by_kind false is = old
+
+pub pods_only : (h : List Entry) → Each IsPodKey (pod_keys h)
+pods_only [] = tt
+pods_only (e ∷ h) = pods_more (write_of e.deed) (pod_keys h) (pods_only h)
+
+-- what the delete of one pod keeps, the look at the pod keeps
+pub evict_step : (doc : Doc) (k : ℕ) (q : Identity) (P : List Entry → Type 0) (pod : Key) (h : List Entry) → IsPodKey pod → P h
+    → ((given node_given : Version) (at : ℕ) (a : Option Answer) → IsDelete doc k q pod given node_given at a h → P (add k q (Delete pod given node_given at a) h)) → P (evict doc k q pod h)
+evict_step doc k q P pod h kind p more = by_stale (is_stale q pod h) (seen_pod q pod h) refl
+  where
+    by_time : (x : Version × Pod) (y : Version × Node) → seen_pod q pod h ≡ Some x → seen_node q x.1.node h ≡ Some y → (at : ℕ) → due x.1 y.1 ≡ At at → (b : Bool) → nat_le at (wall doc q.process k) ≡ b
+        → P (delete_if k q pod x.0 x.1.node y.0 at b h)
+    by_time x y sees sees_node at time false test = p
+    by_time x y sees sees_node at time true test =
+        more x.0 y.0 at (try_delete q pod x.0 x.1.node y.0 h) (record { kind = kind; x = x.1; y = y.1; sees = sees; sees_node = sees_node; time = time; test = test; is = refl })
+
+    by_due : (x : Version × Pod) (y : Version × Node) → seen_pod q pod h ≡ Some x → seen_node q x.1.node h ≡ Some y → (o : Due) → due x.1 y.1 ≡ o → P (evict_due doc k q pod x.0 x.1.node y.0 o h)
+    by_due x y sees sees_node Never time = p
+    by_due x y sees sees_node (At at) time = by_time x y sees sees_node at time (nat_le at (wall doc q.process k)) refl
+
+    by_node : (x : Version × Pod) → seen_pod q pod h ≡ Some x → (o : Option (Version × Node)) → seen_node q x.1.node h ≡ o → P (evict_on doc k q pod x o h)
+    by_node x sees None sees_node = p
+    by_node x sees (Some y) sees_node = by_due x y sees sees_node (due x.1 y.1) refl
+
+    by_stale : (b : Bool) (o : Option (Version × Pod)) → seen_pod q pod h ≡ o → P (evict_seen doc k q pod b o h)
+    by_stale true o is = p
+    by_stale false None is = p
+    by_stale false (Some x) is = by_node x is (seen_node q x.1.node h) refl
+
+-- ---- the walk
+
+module _ (doc : Doc) (k : ℕ) (q : Identity) (P : List Entry → Type 0) (more : (t : Tick) (h : List Entry) → MadeTick doc k q t h → P h → P (add k q t h)) where
+  each : {A : Type 0} (f : A → List Entry → List Entry) (Q : A → Type 0) → ((a : A) (h : List Entry) → Q a → P h → P (f a h)) → (xs : List A) (h : List Entry) → Each Q xs → P h → P (for_each f xs h)
+  each f Q keeps [] h all p = p
+  each f Q keeps (x ∷ xs) h all p = each f Q keeps xs (f x h) all.1 (keeps x h all.0 p)
+
+  every : {A : Type 0} (f : A → List Entry → List Entry) → ((a : A) (h : List Entry) → P h → P (f a h)) → (xs : List A) (h : List Entry) → P h → P (for_each f xs h)
+  every f keeps [] h p = p
+  every f keeps (x ∷ xs) h p = every f keeps xs (f x h) (keeps x h p)
+
+  pub walk_sync : (h : List Entry) → P h → P (sync doc k q h)
+  walk_sync h p = by_test (watches doc q.process h && not (is_fresh q h))
+    where
+      by_test : (b : Bool) → P (sync_if k q b h)
+      by_test true = more Sync h tt p
+      by_test false = p
+
+  walk_mark : (name : ℕ) (h : List Entry) → P h → P (mark doc k q name h)
+  walk_mark name h p = by_seen (seen_node q name h) refl
+    where
+      by_mark : (x : Version × Node) → seen_node q name h ≡ Some x → (o : Option Node) → P (mark_as k q name x.0 o h)
+      by_mark x is None = p
+      by_mark x is (Some written) = more (Mark name x.0 written (try_node q name x.0 h)) h (x.1, is, refl) p
+
+      by_seen : (o : Option (Version × Node)) → seen_node q name h ≡ o → P (mark_seen doc k q name o h)
+      by_seen None is = p
+      by_seen (Some x) is = by_mark x is (mark_of doc q k name x.1 h)
+
+  walk_mode : (h : List Entry) → P h → P (set_mode doc k q h)
+  walk_mode h p = by_mode (all_full doc (nodes q h))
+    where
+      by_test : (on b : Bool) → P (mode_if k q on b h)
+      by_test on true = p
+      by_test on false = more (Mode on) h tt p
+
+      by_mode : (on : Bool) → P (mode_as k q on h)
+      by_mode on = by_test on (is_same_mode on (mode q h))
+
+  walk_zone : (seen : List Node) (place : Place) (h : List Entry) → P h → P (zone doc k q seen place h)
+  walk_zone seen place h p = by_state (state_in doc seen place) (rate_in doc (mode q h) seen place) (rate_most doc (mode q h) (state_in doc seen place) (size_in place seen))
+    where
+      by_test : (s : ZoneState) (rate : ℕ) → IsRate doc rate → (b : Bool) → P (zone_if k q place s rate b h)
+      by_test s rate most true = p
+      by_test s rate most false = more (Zone place s rate) h most p
+
+      by_state : (s : ZoneState) (rate : ℕ) → IsRate doc rate → P (zone_as k q place s rate h)
+      by_state s rate most = by_test s rate most (is_rated s rate (rated q place h))
+
+  walk_zones : (h : List Entry) → P h → P (set_zones doc k q h)
+  walk_zones h p = every (zone doc k q (nodes q h)) (λ place g p. walk_zone (nodes q h) place g p) (places (nodes q h)) h p
+
+  pub walk_pass : (h : List Entry) → P h → P (pass doc k q h)
+  walk_pass h p = by_test (is_pass_due doc k q h)
+    where
+      by_test : (b : Bool) → P (pass_if doc k q b h)
+      by_test false = p
+      by_test true =
+          let passed = add k q Pass h in
+          let marked = marks doc k q passed in
+          walk_zones (set_mode doc k q marked) (walk_mode marked (every (mark doc k q) walk_mark (node_names passed) passed (more Pass h tt p)))
+
+  walk_clean : (name : ℕ) (h : List Entry) → P h → P (clean doc k q name h)
+  walk_clean name h p = by_stale (is_stale q (node_key name) h) (seen_node q name h) refl
+    where
+      by_untaint : (x : Version × Node) → seen_node q name h ≡ Some x → (b : Bool) → P (untaint_if k q name x.0 x.1 b h)
+      by_untaint x is false = p
+      by_untaint x is true = more _ h (x.1, is, refl) p
+
+      by_swap : (x : Version × Node) → seen_node q name h ≡ Some x → (wanted : ℕ) (b : Bool) → P (swap_if doc k q name x.0 x.1 wanted b h)
+      by_swap x is wanted false = p
+      by_swap x is wanted true = more _ h (x.1, is, refl) p
+
+      by_wants : (x : Version × Node) → seen_node q name h ≡ Some x → (w : Wants) → P (clean_as doc k q name x.0 x.1 w h)
+      by_wants x is Nothing = by_untaint x is (has_condition x.1)
+      by_wants x is (Wanted wanted) = by_swap x is wanted (list_any (is_opposite wanted) x.1.taints)
+      by_wants x is Whatever = p
+
+      by_stale : (b : Bool) (o : Option (Version × Node)) → seen_node q name h ≡ o → P (clean_seen doc k q name b o h)
+      by_stale true o is = p
+      by_stale false None is = p
+      by_stale false (Some x) is = by_wants x is (wants (mode q h) x.1)
+
+  pub walk_cleaned : (h : List Entry) → P h → P (cleaned doc k q h)
+  walk_cleaned h p = every (clean doc k q) walk_clean (node_names h) h p
+
+  walk_taint : (place : Place) (h : List Entry) → P h → P (taint doc k q place h)
+  walk_taint place h p = by_token (has_token doc q k place h) refl
+    where
+      by_seen : has_token doc q k place h ≡ true → (name : ℕ) (wanted : Option ℕ) (o : Option (Version × Node)) → seen_node q name h ≡ o → P (taint_as doc k q place name wanted o h)
+      by_seen token name None o is = p
+      by_seen token name (Some wanted) None is = p
+      by_seen token name (Some wanted) (Some x) is = more _ h (token, (x.1, is, refl)) p
+
+      by_head : has_token doc q k place h ≡ true → (o : Option Queued) → P (taint_head doc k q place o h)
+      by_head token None = p
+      by_head token (Some head) = by_seen token head.1 (waits q place head.1 h) (seen_node q head.1 h) refl
+
+      by_token : (b : Bool) → has_token doc q k place h ≡ b → P (taint_if doc k q place b h)
+      by_token false token = p
+      by_token true token = by_head token (head_of q place (node_names h) h)
+
+  pub walk_tainted : (h : List Entry) → P h → P (tainted doc k q h)
+  walk_tainted h p = every (taint doc k q) walk_taint (places (nodes q h)) h p
+
+  pub walk_evict : (pod : Key) (h : List Entry) → IsPodKey pod → P h → P (evict doc k q pod h)
+  walk_evict pod h kind p = evict_step doc k q P pod h kind p (λ given node_given at a made. more (Delete pod given node_given at a) h made p)
+
+  pub walk_evicted : (h : List Entry) → P h → P (evicted doc k q h)
+  walk_evicted h p = each (evict doc k q) IsPodKey walk_evict (pod_keys h) h (pods_only h) p
+
+  pub walk_tick : (h : List Entry) → P h → P (tick doc k q h)
+  walk_tick h p = by_test (is_synced q (sync doc k q h))
+    where
+      by_test : (b : Bool) → P (tick_if doc k q b (sync doc k q h))
+      by_test false = walk_sync h p
+      by_test true =
+          let a = sync doc k q h in
+          let b = pass doc k q a in
+          let c = cleaned doc k q b in
+          walk_evicted (tainted doc k q c) (walk_tainted c (walk_cleaned b (walk_pass a (walk_sync h p))))

@@ -1,0 +1,197 @@
+"""The picture of a sweep, as SVG: for each question the answer against the value, one line for each second value, or a map of cells."""
+import json
+import math
+from html import escape
+
+import questions
+
+WIDTH, HEIGHT, LEFT, RIGHT, TOP, BOTTOM = 760, 320, 76, 170, 34, 48
+# Lines differ in shape and lightness too, for those who see colours otherwise.
+COLOURS = ['#0b4f8a', '#c05a00', '#2b9b8f', '#8a5c9b', '#6b6b6b', '#c9a100']
+MOST_LINES = len(COLOURS)
+
+
+def number(value):
+    return isinstance(value, (int, float)) and not isinstance(value, bool)
+
+
+def plain(value):
+    return value if isinstance(value, str) else json.dumps(value)
+
+
+def steps(low, high, wanted):
+    """Round numbers from low to high."""
+    if high <= low:
+        high = low + 1
+    power = 10 ** math.floor(math.log10((high - low) / wanted))
+    step = next(power * n for n in (1, 2, 5, 10) if power * n * wanted >= high - low)
+    first = math.ceil(low / step - 1e-9)
+    return [round(step * i, 10) for i in range(first, math.floor(high / step + 1e-9) + 1)]
+
+
+def short(value):
+    if not number(value):
+        return plain(value)
+    return '%g' % value if abs(value) < 10_000 else '{:,}'.format(round(value))
+
+
+class Scale:
+    """Values on an axis: by their size, or evenly one beside the other, also where one isn't a number."""
+
+    def __init__(self, values, low, high, even=False):
+        self.low, self.high = low, high
+        numbers = all(map(number, values))
+        self.by_size = numbers and not even
+        self.order = sorted(set(values)) if numbers else list(dict.fromkeys(values))
+        self.least, self.greatest = (self.order[0], self.order[-1]) if self.by_size else (-.5, len(self.order) - .5)
+
+    def __call__(self, value):
+        at = value if self.by_size else self.order.index(value)
+        share = .5 if self.greatest == self.least else (at - self.least) / (self.greatest - self.least)
+        return self.low + share * (self.high - self.low)
+
+    def size(self):
+        """Of one of the values that stand evenly."""
+        return abs(self.high - self.low) / len(self.order)
+
+    def ticks(self):
+        if self.by_size and len(self.order) > 8:
+            return [(self(value), short(value)) for value in steps(self.least, self.greatest, 8) if self.least <= value <= self.greatest]
+        return [(self(value), short(value)) for value in self.order[::math.ceil(len(self.order) / 12)]]
+
+
+def text(x, y, words, anchor='middle', more=''):
+    return '<text x="%.1f" y="%.1f" text-anchor="%s"%s>%s</text>' % (x, y, anchor, more, escape(str(words)))
+
+
+def shape(kind, x, y, colour, radius=3.2):
+    """A point: the kinds are disc, square, diamond, ring, triangle and cross."""
+    r = radius
+    if kind in (0, 3):
+        return '<circle cx="%.1f" cy="%.1f" r="%.1f" fill="%s" stroke="%s"/>' % (x, y, r, 'white' if kind else colour, colour)
+    paths = {1: 'M-1 -1H1V1H-1Z', 2: 'M0 -1.3L1.3 0L0 1.3L-1.3 0Z', 4: 'M0 -1.2L1.2 1H-1.2Z', 5: 'M-1 -1L1 1M-1 1L1 -1'}
+    paint = 'fill="%s"' % colour if kind != 5 else 'fill="none" stroke="%s" stroke-width=".6"' % colour
+    return '<path transform="translate(%.1f %.1f) scale(%.1f)" d="%s" %s/>' % (x, y, r, paths[kind], paint)
+
+
+def frame(top, title, label, xs, ys):
+    """Title, axes and the names of ticks. `ys` are pairs of a height and its words."""
+    right, foot = WIDTH - RIGHT, top + HEIGHT - BOTTOM
+    out = [text(LEFT, top + 16, title, 'start', ' font-weight="bold"'), text((LEFT + right) / 2, foot + 36, label)]
+    for y, words in ys:
+        out.append('<path d="M%d %.1fH%d" stroke="#d9dee4"/>' % (LEFT, y, right))
+        out.append(text(LEFT - 7, y + 4, words, 'end'))
+    for x, words in xs.ticks():
+        out.append('<path d="M%.1f %.1fv5" stroke="#5c6773"/>' % (x, foot))
+        out.append(text(x, foot + 18, words))
+    out.append('<path d="M%d %.1fH%d" stroke="#5c6773"/>' % (LEFT, foot, right))
+    return out
+
+
+def lines(plan, question, rows, top, across, by):
+    """The answer against the value of one path, a line for each value of the other, if there is one. `never` stands at the top."""
+    values = [row[question] for row in rows]
+    greatest = max([value for value in values if number(value)] + [0])
+    heights = steps(0, greatest or 1, 5)
+    foot, head = top + HEIGHT - BOTTOM, top + TOP
+    high = max(heights[-1], greatest)
+    y = lambda value: foot - (foot - head - 12) * value / high
+    xs = Scale([run[across] for run in plan['runs']], LEFT + 8, WIDTH - RIGHT - 8)
+    out = frame(top, questions.title(question), plan['paths'][across], xs, [(y(value), short(value)) for value in heights])
+    groups = list(dict.fromkeys(run[by] for run in plan['runs'])) if by is not None else [None]
+    for place, group in enumerate(groups):
+        points = [(xs(run[across]), row) for run, row in zip(plan['runs'], rows) if by is None or run[by] == group]
+        out += one_line(points, question, y, place, foot, head, plan['drawn'][across])
+    return out + (legend(plan['paths'][by], groups, head) if by is not None else []) + notes(rows, question, foot)
+
+
+def legend(path, groups, head):
+    x, out = WIDTH - RIGHT + 18, [text(WIDTH - RIGHT + 10, head - 4, path.rpartition('/')[2], 'start')]
+    for place, group in enumerate(groups):
+        out.append(shape(place, x, head + 12 + 18 * place, COLOURS[place]))
+        out.append(text(x + 10, head + 16 + 18 * place, short(group), 'start'))
+    return out
+
+
+def one_line(points, question, y, place, foot, head, drawn):
+    out, path = [], ''
+    for x, row in sorted(points, key=lambda point: point[0]):
+        value = row[question]
+        if number(value):
+            path += '%s%.1f %.1f' % ('L' if path and path[-1] != ' ' else 'M', x, y(value))
+            out.append(shape(place, x, y(value), COLOURS[place], 2.2 if len(points) > 60 else 3.2))
+            continue
+        path += ' '
+        if value == 'never':
+            out.append(shape(5, x, head, '#a33a00', 4))
+        elif row['outcome'] != 'done':
+            out.append('<path d="M%.1f %.1fv-7" stroke="#a33a00" stroke-width="2"/>' % (x, foot))
+    if not drawn:
+        out.insert(0, '<path d="%s" fill="none" stroke="%s" stroke-width="1.2"/>' % (path.strip(), COLOURS[place]))
+    return out
+
+
+def notes(rows, question, foot):
+    """What the marks beside the points mean, where there are such."""
+    x, out = WIDTH - RIGHT + 10, []
+    refused = sum(row['outcome'] != 'done' for row in rows)
+    never = sum(row[question] == 'never' for row in rows)
+    silent = sum(row[question] is None for row in rows) - refused
+    for count, words in ((never, '%d times never (crosses)'), (refused, '%d refused (strokes)'), (silent, '%d without an answer')):
+        if count > 0:
+            out.append(text(x, foot - 4 - 16 * len(out), words % count, 'start', ' fill="#5c6773"'))
+    return out
+
+
+def cells(plan, question, rows, top):
+    """The answer as the lightness of a cell, where both values are many; of draws as that of a point."""
+    found = [row[question] for row in rows if number(row[question])]
+    low, high = (min(found), max(found)) if found else (0, 0)
+    drawn, (xs, ys) = plan['drawn'][0], zip(*plan['runs'])
+    foot, head, right = top + HEIGHT - BOTTOM, top + TOP, WIDTH - RIGHT
+    across, up = Scale(xs, LEFT, right, not drawn), Scale(ys, foot, head, not drawn)
+    wide, tall = (9, 9) if drawn else (across.size(), up.size())
+    out = frame(top, questions.title(question) + ', against ' + plan['paths'][1], plan['paths'][0], across, up.ticks())
+    for run, row in zip(plan['runs'], rows):
+        x, y, value = across(run[0]), up(run[1]), row[question]
+        fill = shade(value, low, high) if number(value) else 'none'
+        out.append('<rect x="%.1f" y="%.1f" width="%.1f" height="%.1f" fill="%s" stroke="#fff" stroke-width=".4"/>'
+                   % (x - wide / 2, y - tall / 2, wide, tall, fill))
+        if value == 'never':
+            out.append(shape(5, x, y, '#a33a00', min(4, tall / 3)))
+    return out + shades(low, high, right + 12, head + 90) + notes(rows, question, foot)
+
+
+def shades(low, high, x, y):
+    out = []
+    for i in range(6):
+        value = low + (high - low) * i / 5
+        out.append('<rect x="%d" y="%d" width="14" height="14" fill="%s"/>' % (x, y - 16 * i, shade(value, low, high)))
+        out.append(text(x + 20, y + 11 - 16 * i, '%.4g' % value, 'start'))
+    return out
+
+
+def shade(value, low, high):
+    """From nearly white to dark blue."""
+    share = (value - low) / (high - low) if high > low else .5
+    return '#%02x%02x%02x' % tuple(round(a + (b - a) * share) for a, b in ((226, 11), (236, 60), (245, 110)))
+
+
+def axes(plan):
+    """The path that goes across, and the path that has a line for each value: that with the fewer values. None where cells tell more."""
+    if len(plan['paths']) == 1:
+        return 0, None
+    counts = [len(set(values)) for values in zip(*plan['runs'])]
+    by = 1 if counts[1] <= counts[0] else 0
+    return (1 - by, by) if counts[by] <= MOST_LINES else None
+
+
+def picture(plan, asked, rows):
+    plan = {**plan, 'runs': [[value if number(value) else plain(value) for value in run] for run in plan['runs']]}
+    place = axes(plan)
+    out = ['<svg xmlns="http://www.w3.org/2000/svg" width="%d" height="%d"' % (WIDTH, HEIGHT * len(asked)),
+           ' font-family="DejaVu Sans, Verdana, sans-serif" font-size="12" fill="#16202b">',
+           '<rect width="100%" height="100%" fill="#fff"/>']
+    for i, question in enumerate(asked):
+        out += lines(plan, question, rows, i * HEIGHT, *place) if place else cells(plan, question, rows, i * HEIGHT)
+    return '\n'.join(out + ['</svg>', ''])

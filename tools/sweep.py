@@ -1,0 +1,348 @@
+#!/usr/bin/env python3
+"""Replays a document for many values of one or two of its keys, and tells how the answers move.
+
+    tools/sweep.py all DOCUMENT FOLDER --vary PATH=VALUES [--vary PATH=VALUES] --ask QUESTION [--ask QUESTION ..]
+    tools/sweep.py plan DOCUMENT FOLDER ..      writes the documents alone, with the same words behind
+    tools/sweep.py replay FOLDER                replays the documents that have no trace yet
+    tools/sweep.py missing FOLDER               names these documents, for GNU parallel
+    tools/sweep.py table FOLDER                 reads the traces, and writes answers.csv and answers.svg
+    tools/sweep.py measure TRACE .. --ask QUESTION      the answers of any traces
+    tools/sweep.py questions                    what can be asked
+
+PATH is /settings/KEY, /controllers/NAME/KEY, /kubelets/NODE/KEY or /events/PLACE/KEY; `*` for NAME or NODE is each of them. VALUES is
+FROM..TO, FROM..TO..STEP, a list A,B,C, or random:FROM..TO:COUNT. --set PATH=VALUE changes the document for all runs. A sweep that was
+broken off goes on where it stopped, by the same command. docs/pictures.md tells more.
+"""
+import argparse
+import csv
+import glob
+import itertools
+import json
+import os
+import random
+import re
+import shlex
+import signal
+import subprocess
+import sys
+import threading
+import time
+from concurrent.futures import ProcessPoolExecutor, ThreadPoolExecutor
+
+sys.path.insert(0, os.path.dirname(os.path.abspath(__file__)))
+import chart
+import questions
+
+TOP = os.path.dirname(os.path.dirname(os.path.abspath(__file__)))
+BUILT = os.path.join(TOP, 'crates', 'kube_replay', 'out', 'kube_replay')
+MOST_RUNS = 1_000_000
+
+
+class Wrong(Exception):
+    """What the reader of the command line gets to see."""
+
+
+# Values and paths
+
+def read_values(text, draws):
+    """The values that VALUES stands for."""
+    drawn = re.fullmatch(r'random:(-?\d+)\.\.(-?\d+):(\d+)', text)
+    if drawn:
+        low, high, count = map(int, drawn.groups())
+        return [draws.randint(low, high) for _ in range(count)]
+    reach = re.fullmatch(r'(-?\d+)\.\.(-?\d+)(?:\.\.([1-9]\d*))?', text)
+    if reach:
+        return list(range(int(reach[1]), int(reach[2]) + 1, int(reach[3] or 1)))
+    return [read_value(part) for part in text.split(',')]
+
+
+def read_value(text):
+    try:
+        return json.loads(text)
+    except ValueError:
+        return text
+
+
+def split_setting(text):
+    path, equals, values = text.partition('=')
+    if not equals or not path.startswith('/'):
+        raise Wrong('%s is not of the form PATH=VALUES' % text)
+    return path, values
+
+
+def holders(document, path):
+    """The objects of the document that have the key at the end of a path, and this key."""
+    parts = path.split('/')[1:]
+    if len(parts) == 2 and parts[0] == 'settings':
+        return [document['settings']], parts[1]
+    if len(parts) == 3 and parts[0] in ('controllers', 'kubelets'):
+        name = {'controllers': 'name', 'kubelets': 'node'}[parts[0]]
+        found = [each for each in document.get(parts[0], []) if parts[1] in ('*', each[name])]
+    elif len(parts) == 3 and parts[0] == 'events' and parts[1].isdecimal():
+        found = document.get('events', [])[int(parts[1]):][:1]
+    else:
+        raise Wrong('%s is no key of settings, of a process or of an event' % path)
+    if not found:
+        raise Wrong('%s: the document has no such process or event' % path)
+    return found, parts[2]
+
+
+def changed(document, changes):
+    """The document with other values. Its events are put in the order of their beats again."""
+    document = json.loads(json.dumps(document))
+    places = [(holders(document, path), value) for path, value in changes]
+    for (objects, key), value in places:
+        for each in objects:
+            each[key] = value
+    if 'events' in document:
+        document['events'].sort(key=lambda event: event['beat'])
+    return document
+
+
+# The plan: a folder with plan.json and the documents of all runs
+
+def make_plan(given):
+    draws = random.Random(given.seed)
+    varied = [(path, read_values(values, draws)) for path, values in map(split_setting, given.vary)]
+    if not 1 <= len(varied) <= 2:
+        raise Wrong('one or two values are varied')
+    paired = len(varied) == 2 and all('=random:' in text for text in given.vary)
+    combine = zip if paired else itertools.product
+    fixed = [(path, read_value(value)) for path, value in map(split_setting, given.set)]
+    asked = given.ask or ['leaderless']
+    for question in asked:
+        questions.find(question)
+    with (sys.stdin if given.document == '-' else open(given.document)) as file:
+        document = json.load(file)
+    runs = [list(values) for values in combine(*(values for _, values in varied))]
+    if not 0 < len(runs) <= MOST_RUNS:
+        raise Wrong('these are %d runs' % len(runs))
+    return {'document': changed(document, fixed), 'paths': [path for path, _ in varied], 'runs': runs, 'ask': asked,
+            'drawn': ['=random:' in text for text in given.vary]}
+
+
+def write_plan(given):
+    """Writes the plan and its documents, or goes on with the same one. Other questions may be asked of the same runs."""
+    plan, path = make_plan(given), os.path.join(given.folder, 'plan.json')
+    if os.path.exists(path):
+        old = read_plan(given.folder)
+        if {**old, 'ask': None} != {**plan, 'ask': None}:
+            raise Wrong('%s holds another sweep' % given.folder)
+    os.makedirs(os.path.join(given.folder, 'runs'), exist_ok=True)
+    for number, values in enumerate(plan['runs']):
+        run = run_path(given.folder, number, '.json')
+        if not os.path.exists(run):
+            write_whole(run, json.dumps(changed(plan['document'], zip(plan['paths'], values))))
+    write_whole(path, json.dumps(plan))
+
+
+def read_plan(folder):
+    try:
+        with open(os.path.join(folder, 'plan.json')) as file:
+            return json.load(file)
+    except OSError as fault:
+        raise Wrong('%s holds no sweep: %s' % (folder, fault.strerror)) from fault
+
+
+def run_path(folder, number, ending):
+    return os.path.join(folder, 'runs', '%05d%s' % (number, ending))
+
+
+def write_whole(path, text):
+    """A file that is there is whole, whenever the sweep is broken off."""
+    with open(path + '.part', 'w') as file:
+        file.write(text)
+    os.replace(path + '.part', path)
+
+
+def missing(folder, share='0/1'):
+    """The numbers of the runs without a trace, of one share of several."""
+    part, parts = map(int, share.split('/'))
+    if not 0 <= part < parts:
+        raise Wrong('a share is I/N, with I from 0 to N - 1')
+    count = len(read_plan(folder)['runs'])
+    return [number for number in range(part, count, parts) if not os.path.exists(run_path(folder, number, '.trace'))]
+
+
+# Replaying
+
+class Progress:
+    """How many are done, and how long the rest will take, on standard error: on a terminal in one line, else every ten seconds."""
+
+    def __init__(self, total, before):
+        self.total, self.before, self.done, self.begin, self.last = total, before, 0, time.monotonic(), 0
+        self.lock = threading.Lock()
+
+    def step(self):
+        with self.lock:
+            self.done += 1
+            now, terminal = time.monotonic(), sys.stderr.isatty()
+            if now - self.last < (.2 if terminal else 10) and self.done < self.total:
+                return
+            self.last = now
+            passed = now - self.begin
+            left = passed / self.done * (self.total - self.done)
+            counts = self.before + self.done, self.before + self.total
+            words = '%d of %d replayed, %s so far, %s left' % (*counts, clock(passed), clock(left))
+            ending = '' if terminal and self.done < self.total else '\n'
+            print('\r\033[K' + words if terminal else words, end=ending, file=sys.stderr, flush=True)
+
+
+def clock(seconds):
+    seconds = round(seconds)
+    return '%d s' % seconds if seconds < 120 else '%d min' % round(seconds / 60) if seconds < 7200 else '%.1f h' % (seconds / 3600)
+
+
+class Replays:
+    """Replays on all cores. The trace of a document that is refused is the line that says so."""
+
+    def __init__(self, folder, program, progress):
+        self.folder, self.program, self.progress = folder, program, progress
+        self.faults, self.running, self.stopped, self.lock = [], set(), False, threading.Lock()
+
+    def one(self, number):
+        path = run_path(self.folder, number, '')
+        part = '%s.%d.part' % (path, os.getpid())
+        with self.lock:
+            if self.stopped:
+                return
+            with open(path + '.json') as document, open(part, 'w') as trace:
+                process = subprocess.Popen([*self.program, 'replay'], stdin=document, stdout=trace, stderr=subprocess.PIPE,
+                                           start_new_session=True)
+            self.running.add(process)
+        said = process.communicate()[1]
+        with self.lock:
+            self.running.discard(process)
+            if self.stopped:
+                return
+        if process.returncode in (0, 1):
+            os.replace(part, path + '.trace')
+        else:
+            self.faults.append('%s.json ends with status %d %s' % (path, process.returncode, said.decode(errors='replace').strip()[-200:]))
+        self.progress.step()
+
+    def stop(self):
+        with self.lock:
+            self.stopped = True
+            for process in self.running:
+                os.killpg(process.pid, signal.SIGKILL)
+
+
+def replay(folder, program, jobs, share='0/1'):
+    numbers = missing(folder, share)
+    total = len(read_plan(folder)['runs'])
+    if not numbers:
+        return
+    replays = Replays(folder, program, Progress(len(numbers), 0 if share != '0/1' else total - len(numbers)))
+    signal.signal(signal.SIGTERM, signal.default_int_handler)
+    with ThreadPoolExecutor(jobs) as pool:
+        try:
+            list(pool.map(replays.one, numbers))
+        except KeyboardInterrupt:
+            replays.stop()
+            raise Wrong('broken off; the same command goes on from here') from None
+    if replays.faults:
+        raise Wrong('%d runs failed, the first: %s' % (len(replays.faults), replays.faults[0]))
+
+
+# The table and the picture
+
+def answer(task):
+    path, asked = task
+    with open(path) as trace:
+        return questions.answers(trace, asked)
+
+
+def write_table(folder, ask=()):
+    plan = read_plan(folder)
+    asked, left = ask or plan['ask'], missing(folder)
+    if left:
+        raise Wrong('%d of %d runs have no trace yet' % (len(left), len(plan['runs'])))
+    tasks = [(run_path(folder, number, '.trace'), asked) for number in range(len(plan['runs']))]
+    with ProcessPoolExecutor() as pool:
+        rows = list(pool.map(answer, tasks, chunksize=16))
+    path = os.path.join(folder, 'answers.csv')
+    with open(path + '.part', 'w', newline='') as file:
+        table = csv.writer(file, lineterminator='\n')
+        table.writerow(['run', *plan['paths'], 'premise', 'outcome', *asked])
+        for number, (values, row) in enumerate(zip(plan['runs'], rows)):
+            table.writerow([number, *map(plain, values), row['premise'], row['outcome'], *(text(row[question]) for question in asked)])
+    os.replace(path + '.part', path)
+    write_whole(os.path.join(folder, 'answers.svg'), chart.picture(plan, asked, rows))
+    for part in glob.glob(os.path.join(glob.escape(folder), 'runs', '*.part')):
+        os.remove(part)
+    print(path, os.path.join(folder, 'answers.svg'))
+
+
+def plain(value):
+    return value if isinstance(value, str) else json.dumps(value)
+
+
+def text(value):
+    return '' if value is None else '%.6g' % value if isinstance(value, float) else value
+
+
+def measure(paths, asked):
+    table = csv.writer(sys.stdout, lineterminator='\n')
+    table.writerow(['trace', 'premise', 'outcome', *asked])
+    for path in paths:
+        row = answer((path, asked))
+        table.writerow([path, row['premise'], row['outcome'], *(text(row[question]) for question in asked)])
+
+
+# The command line
+
+def options():
+    parser = argparse.ArgumentParser(description=__doc__, formatter_class=argparse.RawDescriptionHelpFormatter)
+    commands = parser.add_subparsers(dest='command', required=True)
+    for name in ('all', 'plan', 'replay', 'missing', 'table', 'measure', 'questions'):
+        command = commands.add_parser(name)
+        if name in ('all', 'plan'):
+            command.add_argument('document')
+            command.add_argument('--vary', action='append', default=[], metavar='PATH=VALUES')
+            command.add_argument('--set', action='append', default=[], metavar='PATH=VALUE')
+            command.add_argument('--seed', type=int, default=1)
+        if name == 'measure':
+            command.add_argument('trace', nargs='+')
+        elif name != 'questions':
+            command.add_argument('folder')
+        if name in ('all', 'plan', 'table', 'measure'):
+            command.add_argument('--ask', action='append', default=[], metavar='QUESTION')
+        if name in ('all', 'replay'):
+            command.add_argument('--program')
+            command.add_argument('--jobs', type=int)
+        if name == 'replay':
+            command.add_argument('--share', default='0/1', metavar='I/N')
+    return parser.parse_args()
+
+
+def program_of(given):
+    """The program's words, and how many run at once: the launcher, where nothing else is there, alone."""
+    if given.program:
+        return shlex.split(given.program), given.jobs or os.cpu_count()
+    if os.path.exists(BUILT):
+        return [BUILT], given.jobs or os.cpu_count()
+    print('sweep: the program is not built; each run takes half a minute or more', file=sys.stderr)
+    return [os.path.join(TOP, 'kube_replay')], given.jobs or 1
+
+
+def run(given):
+    if given.command in ('all', 'plan'):
+        write_plan(given)
+    if given.command in ('all', 'replay'):
+        replay(given.folder, *program_of(given), getattr(given, 'share', '0/1'))
+    if given.command in ('all', 'table'):
+        write_table(given.folder, given.ask)
+    if given.command == 'missing':
+        print('\n'.join(run_path(given.folder, number, '.json') for number in missing(given.folder)))
+    if given.command == 'measure':
+        measure(given.trace, given.ask or list(questions.QUESTIONS))
+    if given.command == 'questions':
+        print(questions.told())
+
+
+if __name__ == '__main__':
+    try:
+        run(options())
+    except (Wrong, questions.Unknown, OSError, ValueError) as fault:
+        sys.exit('sweep: %s' % fault)

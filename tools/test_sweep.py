@@ -1,0 +1,318 @@
+#!/usr/bin/env python3
+"""Sweeps over the examples, and compares each answer with that of a single run, measured in another way.
+
+    python3 tools/test_sweep.py [--program COMMAND] [--only NAME] [--pictures FOLDER]
+
+COMMAND is a program that takes the word `replay` and the document on standard input, by default the built one. The sweeps run on all
+cores, broken off twice, and by GNU parallel over ssh to this machine, whose server is started on a free port with keys of its own. Where
+parallel, rsync or the server are missing, the distribution's packages are installed. A document with kubelets is left out, and told, where
+the program refuses such documents. The exit status is 1 where anything differs. --pictures keeps the pictures.
+"""
+import argparse
+import csv
+import json
+import os
+import shlex
+import shutil
+import signal
+import socket
+import subprocess
+import sys
+import tempfile
+import time
+from concurrent.futures import ThreadPoolExecutor
+
+HERE = os.path.dirname(os.path.abspath(__file__))
+TOP = os.path.dirname(HERE)
+sys.path.insert(0, os.path.join(TOP, 'view'))
+import lines
+
+SWEEP = os.path.join(HERE, 'sweep.py')
+BUILT = os.path.join(TOP, 'crates', 'kube_replay', 'out', 'kube_replay')
+CRASHES = os.path.join(TOP, 'examples', 'leader-crashes', 'document.json')
+SILENT = os.path.join(HERE, 'data', 'silent-kubelets.json')
+EVERY_FORM = os.path.join(TOP, 'view', 'data', 'every-form.txt')
+PACKAGES = {'parallel': 'parallel', 'rsync': 'rsync', '/usr/sbin/sshd': 'openssh-server', 'ssh': 'openssh-client'}
+faults = []
+
+
+def same(what, found, wanted):
+    if found != wanted:
+        faults.append(what)
+        print('DIFFERS %s: found %.300r, wanted %.300r' % (what, found, wanted))
+
+
+def sweep(*words, folder, wait=True):
+    command = ['nice', '-n', '10', sys.executable, SWEEP, *words]
+    if not wait:
+        return subprocess.Popen(command, cwd=folder, stdout=subprocess.DEVNULL, stderr=subprocess.DEVNULL)
+    done = subprocess.run(command, cwd=folder, stdout=subprocess.PIPE, stderr=subprocess.PIPE, text=True)
+    if done.returncode != 0:
+        print(done.stderr[-400:])
+    same('status of ' + words[0], done.returncode, 0)
+    return done.stdout
+
+
+def read_csv(path):
+    with open(path) as file:
+        return list(csv.DictReader(file))
+
+
+def read_bytes(path):
+    with open(path, 'rb') as file:
+        return file.read()
+
+
+# Single runs, and their answers beat by beat
+
+def single(given, folder, number, document):
+    path = os.path.join(folder, 'single-%d.txt' % number)
+    with open(path, 'w') as out:
+        status = subprocess.run([*shlex.split(given.program), 'replay'], input=json.dumps(document).encode(), stdout=out).returncode
+    return path if status == 0 else None
+
+
+def failover(path):
+    """The longest time without a leader between two leads, beat by beat."""
+    head, rows = lines.read(path)
+    gap = longest = None
+    for beat in range(int(head['end']) + 1):
+        if lines.leaders(rows, beat):
+            longest = max(gap or 0, longest or 0) if gap is not None else longest
+            gap = 0
+        elif gap is not None:
+            gap += 1
+    if gap:
+        return 'never'
+    return '%g' % (longest * int(head['beat']) / 1000) if longest else ''
+
+
+def evictions(path):
+    return str(sum(words[0] == 'evict' and lines.taken(words) for _, _, _, words in lines.read(path)[1]))
+
+
+def compare(name, given, folder, documents, question, measure):
+    """All rows of a sweep's table with single runs of documents that are made here."""
+    with ThreadPoolExecutor() as pool:
+        paths = list(pool.map(lambda task: single(given, folder, *task), enumerate(documents)))
+    found = [row[question] if row['outcome'] == 'done' else None for row in read_csv(os.path.join(folder, name, 'answers.csv'))]
+    wanted = [path and measure(path) for path in paths]
+    same(name, found, wanted)
+    print('%s: %d runs, %d refused, from %s to %s' % (name, len(found), found.count(None), found[0], found[-1]), flush=True)
+
+
+def load(path):
+    with open(path) as file:
+        return json.load(file)
+
+
+def with_settings(path, **settings):
+    document = load(path)
+    document['settings'].update(settings)
+    return document
+
+
+def with_crash(beat):
+    document = with_settings(CRASHES, endBeat=500)
+    document['events'][0]['beat'] = beat
+    document['events'].sort(key=lambda event: event['beat'])
+    return document
+
+
+# The tests
+
+CRASH_WORDS = (CRASHES, 'crashes', '--set', '/settings/endBeat=500', '--vary', '/events/0/beat=5..204',
+               '--ask', 'failover', '--ask', 'leaderless')
+
+
+def test_lease_duration(given, folder):
+    """Failover time against the lease duration; too short ones are refused."""
+    sweep('all', CRASHES, 'leases', '--set', '/settings/endBeat=900', '--vary', '/settings/leaseDurationSeconds=9..60',
+          '--ask', 'failover', '--program', given.program, folder=folder)
+    documents = [with_settings(CRASHES, endBeat=900, leaseDurationSeconds=seconds) for seconds in range(9, 61)]
+    compare('leases', given, folder, documents, 'failover', failover)
+
+
+def test_crash_beat(given, folder):
+    """Failover time against the beat of the crash, 200 runs."""
+    sweep('all', *CRASH_WORDS, '--program', given.program, folder=folder)
+    compare('crashes', given, folder, [with_crash(beat) for beat in range(5, 205)], 'failover', failover)
+
+
+def test_two_values(given, folder):
+    """Two values in a grid, drawn ones in pairs, and the same draws from the same seed."""
+    sweep('all', CRASHES, 'both', '--set', '/settings/endBeat=500', '--vary', '/settings/leaseDurationSeconds=12,15,20,30',
+          '--vary', '/events/0/beat=5..105..2', '--ask', 'failover', '--program', given.program, folder=folder)
+    rows = read_csv(os.path.join(folder, 'both', 'answers.csv'))
+    same('a grid', (len(rows), len({(row['/settings/leaseDurationSeconds'], row['/events/0/beat']) for row in rows})), (204, 204))
+    for name in ('draws', 'draws-again'):
+        sweep('all', CRASHES, name, '--vary', '/events/0/beat=random:5..60:12',
+              '--vary', '/controllers/*/ratePpm=random:990000..1010000:12', '--seed', '7', '--ask', 'leaderless',
+              '--program', given.program, folder=folder)
+    tables = [read_bytes(os.path.join(folder, name, 'answers.csv')) for name in ('draws', 'draws-again')]
+    same('draws of one seed', (tables[0], len(tables[0].splitlines())), (tables[1], 13))
+
+
+def test_document_with_nodes(given, folder):
+    """The trace of view/data that stands beside its document is the program's."""
+    if not runs_kubelets(given):
+        return
+    trace = single(given, folder, 0, load(os.path.join(TOP, 'view', 'data', 'zone-outage.json')))
+    same('zone-outage', read_bytes(trace), read_bytes(os.path.join(TOP, 'view', 'data', 'zone-outage.txt')))
+
+
+def runs_kubelets(given):
+    probe = subprocess.run([*shlex.split(given.program), 'replay'], input=json.dumps(load(SILENT)), stdout=subprocess.PIPE, text=True)
+    if probe.stdout.startswith('refused 99'):
+        print('LEFT OUT, since this program answers %s to kubelets:' % probe.stdout.strip())
+    return not probe.stdout.startswith('refused 99')
+
+
+def test_grace_period(given, folder):
+    """Evictions against the grace period."""
+    if not runs_kubelets(given):
+        return
+    sweep('all', SILENT, 'grace', '--vary', '/settings/gracePeriodMillis=20000..200000..10000', '--ask', 'evictions',
+          '--ask', 'taints-a-minute', '--program', given.program, folder=folder)
+    documents = [with_settings(SILENT, gracePeriodMillis=millis) for millis in range(20_000, 200_001, 10_000)]
+    compare('grace', given, folder, documents, 'evictions', evictions)
+
+
+def traces(folder):
+    runs = os.path.join(folder, 'runs')
+    names = [name for name in os.listdir(runs) if name.endswith('.trace')] if os.path.isdir(runs) else []
+    return {name: os.stat(os.path.join(runs, name)).st_ino for name in names}
+
+
+def test_broken_off(given, folder):
+    """Killed once and interrupted once, it goes on, and ends with the same bytes."""
+    words = ('all', CRASH_WORDS[0], 'broken', *CRASH_WORDS[2:], '--jobs', '1', '--program', given.program)
+    broken = os.path.join(folder, 'broken')
+    for count, stroke in ((15, signal.SIGKILL), (40, signal.SIGINT)):
+        running = sweep(*words, folder=folder, wait=False)
+        while len(traces(broken)) < count and running.poll() is None:
+            time.sleep(.05)
+        running.send_signal(stroke)
+        running.wait()
+        before = traces(broken)
+        same('broken off after some', count <= len(before) < 200, True)
+    sweep(*words[:-4], '--program', given.program, folder=folder)
+    after = traces(broken)
+    same('no run is done twice', {name: after[name] for name in before}, before)
+    for name in ('answers.csv', 'answers.svg'):
+        same('broken off: ' + name, read_bytes(os.path.join(broken, name)), read_bytes(os.path.join(folder, 'crashes', name)))
+    print('broken off with %d traces, then whole' % len(before), flush=True)
+
+
+def need_packages():
+    missing = [package for command, package in PACKAGES.items() if not shutil.which(command)]
+    if missing:
+        subprocess.run(['apt-get', 'update', '-qq'], check=True)
+        subprocess.run(['apt-get', 'install', '-y', '-qq', '--no-install-recommends', *missing], check=True, stdout=subprocess.DEVNULL)
+
+
+def start_server(folder):
+    """An ssh server on a free port of this machine, and the login that reaches it."""
+    for name in ('host', 'user'):
+        subprocess.run(['ssh-keygen', '-q', '-t', 'ed25519', '-N', '', '-f', os.path.join(folder, name)], check=True)
+    with socket.socket() as free:
+        free.bind(('127.0.0.1', 0))
+        port = free.getsockname()[1]
+    settings = {'Port': port, 'ListenAddress': '127.0.0.1', 'HostKey': os.path.join(folder, 'host'), 'PidFile': 'none', 'UsePAM': 'no',
+                'AuthorizedKeysFile': os.path.join(folder, 'user.pub'), 'StrictModes': 'no', 'PasswordAuthentication': 'no'}
+    with open(os.path.join(folder, 'sshd_config'), 'w') as file:
+        file.writelines('%s %s\n' % pair for pair in settings.items())
+    os.makedirs('/run/sshd', exist_ok=True)
+    server = subprocess.Popen(['/usr/sbin/sshd', '-D', '-e', '-f', os.path.join(folder, 'sshd_config')], stderr=subprocess.DEVNULL)
+    wishes = {'UserKnownHostsFile': folder + '/known', 'StrictHostKeyChecking': 'no', 'LogLevel': 'ERROR', 'IdentitiesOnly': 'yes',
+              'ControlMaster': 'auto', 'ControlPath': folder + '/control', 'ControlPersist': '20'}
+    words = ['-o %s=%s' % wish for wish in wishes.items()]
+    login = 'ssh -p %d -i %s/user %s 127.0.0.1' % (port, folder, ' '.join(words))
+    for _ in range(50):
+        if subprocess.run([*login.split(), 'true'], stderr=subprocess.DEVNULL).returncode == 0:
+            return server, login
+        time.sleep(.1)
+    raise RuntimeError('the ssh server does not answer')
+
+
+def test_over_ssh(given, folder):
+    """The same sweep by GNU parallel over ssh to this machine: the same bytes."""
+    need_packages()
+    server, login = start_server(folder)
+    try:
+        sweep('plan', CRASH_WORDS[0], 'far', *CRASH_WORDS[2:], folder=folder)
+        names = sweep('missing', 'far', folder=folder)
+        command = given.program + ' replay < {} > {.}.part; test $? -le 1 && mv {.}.part {.}.trace'
+        subprocess.run(['nice', '-n', '10', 'parallel', '--will-cite', '--sshlogin', '4/' + login, '--workdir', '...',
+                        '--transferfile', '{}', '--return', '{.}.trace', '--cleanup', command],
+                       input=names, text=True, cwd=folder, check=True, stdout=subprocess.DEVNULL)
+    finally:
+        server.terminate()
+        server.wait()
+    sweep('table', 'far', folder=folder)
+    for name in ('answers.csv', 'answers.svg'):
+        same('over ssh: ' + name, read_bytes(os.path.join(folder, 'far', name)), read_bytes(os.path.join(folder, 'crashes', name)))
+    print('over ssh: %d runs' % len(names.splitlines()), flush=True)
+
+
+def test_shares(given, folder):
+    """Three shares, as the pods of an Indexed Job take them: the same bytes."""
+    sweep('plan', CRASH_WORDS[0], 'shares', *CRASH_WORDS[2:], folder=folder)
+    for share in ('2/3', '0/3', '1/3'):
+        sweep('replay', 'shares', '--share', share, '--program', given.program, folder=folder)
+    sweep('table', 'shares', folder=folder)
+    same('shares', read_bytes(os.path.join(folder, 'shares', 'answers.csv')), read_bytes(os.path.join(folder, 'crashes', 'answers.csv')))
+
+
+def test_written_by_hand(given, folder):
+    """Answers come from the trace alone: one that was written by hand is measured, also where it stands in for a program's."""
+    wanted = {'premise': 'no', 'outcome': 'done', 'leaderless': '12.5', 'failover': 'never', 'two-leaders': '1.5', 'evictions': '1',
+              'taints-a-minute': '2', 'eviction-delay': '1.5', 'eviction-delay:n.2': ''}
+    asked = [word for question in list(wanted)[2:] for word in ('--ask', question)]
+    found = list(csv.DictReader(sweep('measure', EVERY_FORM, *asked, folder=folder).splitlines()))
+    same('measured', [{key: row[key] for key in wanted} for row in found], [wanted])
+    stand_in = os.path.join(folder, 'stand_in')
+    with open(stand_in, 'w') as file:
+        file.write('#!/bin/sh\ncat > /dev/null\ncat %s\n' % shlex.quote(EVERY_FORM))
+    os.chmod(stand_in, 0o755)
+    sweep('all', CRASHES, 'hand', '--vary', '/settings/endBeat=1..3', *asked, '--program', stand_in, folder=folder)
+    rows = read_csv(os.path.join(folder, 'hand', 'answers.csv'))
+    same('stood in', [{key: row[key] for key in wanted} for row in rows], [wanted] * 3)
+
+
+def test_refused_words(given, folder):
+    """Words that can't be are answered by one line and status 1; another sweep's folder is left as it is."""
+    cases = [('all', CRASHES, 'none', '--ask', 'leaderless'), ('all', CRASHES, 'none', '--vary', 'settings=1'),
+             ('all', CRASHES, 'none', '--vary', '/controllers/cp-9/up=true'), ('all', CRASHES, 'none', '--vary', '/objects/0/kind=1'),
+             ('plan', CRASHES, 'none', '--vary', '/events/0/beat=1..3', '--ask', 'luck'), ('table', 'none'), ('replay', 'none'),
+             ('plan', CRASHES, 'crashes', '--vary', '/events/0/beat=1..3', '--ask', 'failover')]
+    for words in cases:
+        done = subprocess.run([sys.executable, SWEEP, *words], cwd=folder, stderr=subprocess.PIPE, stdout=subprocess.PIPE, text=True)
+        same('refused %s' % (words,), (done.returncode, done.stderr.startswith('sweep: '), done.stderr.count('\n')), (1, True, 1))
+
+
+TESTS = [test_written_by_hand, test_lease_duration, test_crash_beat, test_two_values, test_document_with_nodes, test_grace_period,
+         test_broken_off, test_over_ssh, test_shares, test_refused_words]
+
+
+def main():
+    options = argparse.ArgumentParser(description=__doc__.splitlines()[0])
+    options.add_argument('--program', default=BUILT)
+    options.add_argument('--only', default='')
+    options.add_argument('--pictures', metavar='FOLDER')
+    given = options.parse_args()
+    with tempfile.TemporaryDirectory() as folder:
+        for test in TESTS:
+            # The whole sweep over the crash's beat is what others are compared with.
+            if given.only in test.__name__ or test is test_crash_beat:
+                test(given, folder)
+                print('%s: %s' % (test.__name__.removeprefix('test_'), '%d faults so far' % len(faults) if faults else 'done'), flush=True)
+        for name in ('leases', 'crashes', 'both', 'grace') if given.pictures else ():
+            path = os.path.join(folder, name, 'answers.svg')
+            if os.path.exists(path):
+                shutil.copy(path, os.path.join(given.pictures, name + '.svg'))
+    sys.exit(1 if faults else 0)
+
+
+if __name__ == '__main__':
+    main()
