@@ -1,0 +1,9 @@
+pub mod Lists
+pub mod Fits
+pub mod Requests
+pub mod Answered
+pub mod Walls
+pub mod TickSteps
+pub mod Starting
+pub mod Readings
+pub mod Naming

@@ -1,0 +1,388 @@
+-- A tick of a controller keeps a history of which all can be written.
+use Rattle.std.proofs.Common.{◌≡◌, ℕ, ◌≤◌, ◌==◌, ◌&&◌, ◌||◌, not, Bool, true, false, cond, List, [], ◌∷◌, filter, Option, Some, None, refl, sym, subst, arith}
+use Rattle.std.proofs.lemmas.Bool.{eqb-true, leb-true}
+use Rattle.std.specs.List.{AllByRecursion, list_any}
+use Rattle.kube_base.specs.Times.{last_wall}
+use Rattle.kube_base.specs.declared.fixed.TheConstants.{NOT_READY, UNREACHABLE}
+use Rattle.kube_base.specs.declared.numbers.Version.{Version}
+use Rattle.kube_objects.specs.declared.call.Answer.{Answer}
+use Rattle.kube_objects.specs.declared.call.Answer.TheVariants as answers
+use Rattle.kube_objects.specs.declared.call.Reply.{Reply}
+use Rattle.kube_objects.specs.declared.call.Reply.TheVariants as reply
+use Rattle.kube_objects.specs.declared.deed.Act.{Act}
+use Rattle.kube_objects.specs.declared.deed.Act.TheVariants as act
+use Rattle.kube_objects.specs.declared.key.Key.{Key}
+use Rattle.kube_objects.specs.declared.node.Node.{Node}
+use Rattle.kube_objects.specs.declared.node.Ready.{Ready}
+use Rattle.kube_objects.specs.declared.node.ReadyStatus.{ReadyStatus}
+use Rattle.kube_objects.specs.declared.node.ReadyStatus.TheVariants as ready
+use Rattle.kube_objects.specs.declared.node.Taint.{Taint}
+use Rattle.kube_objects.specs.declared.node.ZoneState.{ZoneState}
+use Rattle.kube_objects.specs.declared.pod.Pod.{Pod}
+use Rattle.kube_objects.specs.Answers.{as_kind, answer_update}
+use Rattle.kube_objects.specs.Clocks.{wall, whole_second}
+use Rattle.kube_objects.specs.Deletes.{delete_at_node, delete_over}
+use Rattle.kube_objects.specs.Document.{Doc}
+use Rattle.kube_objects.specs.Entry.{Entry, Identity, Place, Ticks, Tick, Sync, Pass, Mark, Mode, Zone, Untaint, Swap, Head, Delete, actor_of}
+use Rattle.kube_objects.specs.Health.{is_pass_due, is_unknown, is_silent, marked, with_mark}
+use Rattle.kube_objects.specs.InForce.{watches}
+use Rattle.kube_objects.specs.Modes.{is_in, and_node, nodes_among, nodes, place_of, place_cmp, places, state_in, rate_in, all_full, mode}
+use Rattle.kube_objects.specs.Newest.{when, only_if}
+use Rattle.kube_objects.specs.Seen.{seen, pod_in, seen_node, seen_pod, is_fresh, is_synced, is_stale, node_names, is_pod, pod_keys}
+use Rattle.kube_objects.specs.Stored.{Held, node_key, stored, next_version, node_write, try_write, tick_write}
+use Rattle.kube_objects.specs.Tainting.{Wants, Nothing, Wanted, Whatever, wants_by, wants_ready, wants, is_condition, has_condition, is_wanted, is_opposite, wanted_key, lacks, lacks_in, waits, Queued, head_of}
+use Rattle.kube_objects.specs.Tick.{add, for_each, sync_if, sync, mark_as, mark_seen, mark, mode_if, is_same_mode, mode_as, set_mode, zone_if, zone_as, zone, set_zones, marks, pass_if, pass, new_taint, with_taints, untainted, and_taint, swapped, untaint_if, swap_if, clean_as, clean_seen, clean, cleaned, tainted_with, taint_as, taint_head, taint_if, taint, tainted, evict, tick_if, tick}
+use Rattle.kube_objects.specs.Tokens.{rated, is_rated, has_token}
+use Rattle.kube_objects.specs.Tries.{as_answer, tried, try_node, try_delete}
+use Rattle.kube_objects.specs.Wire.{loses_requests}
+use Rattle.kube_objects.specs.Writable.{answers_write, is_condition_key}
+use Rattle.history.specs.Printed.{map_answer, tick_act}
+use Rattle.history_laws.proofs.Counting.{only_value}
+use Rattle.history_laws.proofs.Plainly.{none_is, false_is, and_both}
+use Rattle.history_laws.proofs.Ticks.{IsPodKey, IsDelete, Each, pods_only, evict_step}
+use Rattle.manifest_json.specs.Fields.{Texts}
+use Rattle.manifest_json.specs.Readable.{IsHeld}
+use Rattle.naming_laws.specs.Items.{IsWritableTaint, IsWritableReady, IsWritableNode}
+use Rattle.naming_laws.proofs.Answered.{second_within}
+use Rattle.naming_laws.proofs.Fits.{IsFitWrite, IsTold, IsFitDeed, AreFit, IsFitFound, seen_fit, node_seen_fit}
+use Rattle.naming_laws.proofs.Lists.{all_append, all_filter, all_once}
+use Rattle.naming_laws.proofs.Requests.{HoldsFixed, IsEarly}
+
+-- ---- answers of tries
+
+-- a try is answered as a write is
+abbrev IsTried : Option Answer → Type 0
+IsTried None = Unit {0}
+IsTried (Some a) = answers_write a ≡ true
+
+tried_fit : (q : Identity) (replied : Reply) (h : List Entry) → IsTried (as_answer replied) → IsTried (tried q replied h)
+tried_fit q replied h fit = by_loss (not (loses_requests q.process h))
+  where
+    by_loss : (b : Bool) → IsTried (only_if b (as_answer replied))
+    by_loss true = fit
+    by_loss false = tt
+
+update_tried : (next given : Version) (o : Option Held) → IsTried (as_answer (answer_update next given o))
+update_tried next given None = refl
+update_tried next given (Some x) = by_version (x.version.0 == given.0)
+  where
+    by_version : (b : Bool) → IsTried (as_answer (cond b (reply.Done next) (reply.Conflict x.version)))
+    by_version true = refl
+    by_version false = refl
+
+delete_tried : (next given node_given : Version) (pod node : Option Held) → IsTried (as_answer (delete_over next given node_given pod node))
+delete_tried next given node_given None at = refl
+delete_tried next given node_given (Some pod) None = refl
+delete_tried next given node_given (Some pod) (Some node) = by_version (pod.version.0 == given.0)
+  where
+    at_node : (b : Bool) → IsTried (as_answer (cond b (reply.Done next) (reply.Conflict node.version)))
+    at_node true = refl
+    at_node false = refl
+
+    by_version : (b : Bool) → IsTried (as_answer (cond b (delete_at_node next node_given (Some node)) (reply.Conflict pod.version)))
+    by_version true = at_node (node.version.0 == node_given.0)
+    by_version false = refl
+
+node_tried : (q : Identity) (name : ℕ) (given : Version) (h : List Entry) → IsTried (try_node q name given h)
+node_tried q name given h = tried_fit q (answer_update (next_version h) given (stored (node_key name) h)) h (update_tried (next_version h) given (stored (node_key name) h))
+
+pod_tried : (q : Identity) (pod : Key) (given : Version) (node : ℕ) (node_given : Version) (h : List Entry) → IsTried (try_delete q pod given node node_given h)
+pod_tried q pod given node node_given h =
+    tried_fit q (delete_over (next_version h) given node_given (stored pod h) (stored (node_key node) h)) h (delete_tried (next_version h) given node_given (stored pod h) (stored (node_key node) h))
+
+-- ---- wanted taints
+
+abbrev IsWantedKey : Option ℕ → Type 0
+IsWantedKey None = Unit {0}
+IsWantedKey (Some key) = is_condition_key key ≡ true
+
+by_ready : (o : Option Ready) → IsWantedKey (wanted_key (wants_ready o))
+by_ready None = tt
+by_ready (Some r) = by_status r.status
+  where
+    by_status : (s : ReadyStatus) → IsWantedKey (wanted_key (wants_by s))
+    by_status ready.True = tt
+    by_status ready.False = refl
+    by_status ready.Unknown = refl
+
+wanted_fit : (on : Bool) (node : Node) → IsWantedKey (wanted_key (wants on node))
+wanted_fit true node = tt
+wanted_fit false node = by_ready node.ready
+
+waits_fit : (on : Bool) (place : Place) (o : Option (Version × Node)) (wanted : ℕ) → lacks_in on place o ≡ Some wanted → is_condition_key wanted ≡ true
+waits_fit on place None wanted is = absurd (none_is wanted is)
+waits_fit on place (Some x) wanted is =
+    let lacked : lacks on x.1 ≡ Some wanted = only_value (is_in place x.1) (lacks on x.1) wanted is in
+    subst IsWantedKey (only_value (not (has_condition x.1)) (wanted_key (wants on x.1)) wanted lacked) (wanted_fit on x.1)
+
+-- ---- the tick
+
+module _ (names : Texts) (c : ℕ) (fixed : HoldsFixed names) (doc : Doc) (k : ℕ) (q : Identity) (early : IsEarly doc q.process k) where
+  abbrev Fit : List Entry → Type 0
+  Fit h = AreFit names c h
+
+  condition_held : (key : ℕ) → is_condition_key key ≡ true → IsHeld names key
+  condition_held key is = by_both (key == NOT_READY) (key == UNREACHABLE) refl refl is
+    where
+      by_both : (a b : Bool) → (key == NOT_READY) ≡ a → (key == UNREACHABLE) ≡ b → (a || b) ≡ true → IsHeld names key
+      by_both true b first second is = omega (arith, fixed, eqb-true key NOT_READY first)
+      by_both false true first second is = omega (arith, fixed, eqb-true key UNREACHABLE second)
+      by_both false false first second is = absurd (false_is is)
+
+  second_early : whole_second (wall doc q.process k) ≤ last_wall
+  second_early = omega (arith, early, second_within (wall doc q.process k))
+
+  -- ---- nodes that are written
+
+  marked_fit : (node : Node) → IsWritableNode names node → IsWritableNode names (with_mark (whole_second (wall doc q.process k)) node)
+  marked_fit node fit = record { region = fit.region; zone = fit.zone; taints = fit.taints; ready = by_old node.ready fit.ready }
+    where
+      by_old : (o : Option Ready) → IsWritableReady names o → IsWritableReady names (Some (marked (whole_second (wall doc q.process k)) o))
+      by_old None old = record { reason = omega (arith, fixed); heartbeat = tt; transition = second_early }
+      by_old (Some r) old = record { reason = omega (arith, fixed); heartbeat = old.heartbeat; transition = second_early }
+
+  new_fit : (wanted : ℕ) → IsHeld names wanted → IsWritableTaint names (new_taint doc k q wanted)
+  new_fit wanted held = record { key = held; value = omega (arith, fixed); added = second_early }
+
+  taints_fit : (node : Node) (taints : List Taint) → IsWritableNode names node → AllByRecursion (IsWritableTaint names) taints → IsWritableNode names (with_taints node taints)
+  taints_fit node taints fit all = record { region = fit.region; zone = fit.zone; taints = all; ready = fit.ready }
+
+  untainted_fit : (node : Node) → IsWritableNode names node → IsWritableNode names (untainted node)
+  untainted_fit node fit = taints_fit node _ fit (all_filter (IsWritableTaint names) (λ taint. not (is_condition taint)) node.taints fit.taints)
+
+  swapped_fit : (wanted : ℕ) (node : Node) → IsHeld names wanted → IsWritableNode names node → IsWritableNode names (swapped (new_taint doc k q wanted) node)
+  swapped_fit wanted node held fit = taints_fit node _ fit (by_there (list_any (is_wanted wanted) node.taints))
+    where
+      others : List Taint
+      others = filter (λ other. not (is_opposite wanted other)) node.taints
+
+      left : AllByRecursion (IsWritableTaint names) others
+      left = all_filter (IsWritableTaint names) (λ other. not (is_opposite wanted other)) node.taints fit.taints
+
+      by_there : (b : Bool) → AllByRecursion (IsWritableTaint names) (and_taint b (new_taint doc k q wanted) others)
+      by_there true = left
+      by_there false = all_append (IsWritableTaint names) others (new_taint doc k q wanted ∷ []) left (new_fit wanted held, tt)
+
+  tainted_fit : (wanted : ℕ) (node : Node) → IsHeld names wanted → IsWritableNode names node → IsWritableNode names (tainted_with (new_taint doc k q wanted) node)
+  tainted_fit wanted node held fit =
+      taints_fit node _ fit (all_append (IsWritableTaint names) node.taints (new_taint doc k q wanted ∷ []) fit.taints (new_fit wanted held, tt))
+
+  -- ---- entries of tries
+
+  told_by : (make : Answer → Act) → ((a : Answer) → answers_write a ≡ true → IsTold names (actor_of q) (Some (make a))) → (o : Option Answer) → IsTried o → IsTold names (actor_of q) (map_answer make o)
+  told_by make each None is = tt
+  told_by make each (Some a) is = each a is
+
+  wrote_by : (name : ℕ) (written : Node) → IsHeld names name → IsWritableNode names written → (o : Option Answer) → IsFitWrite names c (try_write (node_write name written) o)
+  wrote_by name written held fit None = tt
+  wrote_by name written held fit (Some (answers.Done version)) = record { kind = refl; space = omega (arith, fixed); name = held; object = fit }
+  wrote_by name written held fit (Some answers.Absent) = tt
+  wrote_by name written held fit (Some answers.Exists) = tt
+  wrote_by name written held fit (Some (answers.Conflict version)) = tt
+
+  mark_deed : (name : ℕ) (given : Version) (node : Node) (h : List Entry) → IsFitFound names c name node
+      → IsFitDeed names c (actor_of q) (Ticks (Mark name given (with_mark (whole_second (wall doc q.process k)) node) (try_node q name given h)))
+  mark_deed name given node h found = record {
+    told = by_reason node.ready (try_node q name given h) (node_tried q name given h);
+    wrote = wrote_by name (with_mark (whole_second (wall doc q.process k)) node) found.held (marked_fit node found.fit) (try_node q name given h);
+    carries = tt;
+  }
+    where
+      by_reason : (r : Option Ready) (o : Option Answer) → IsTried o → IsTold names (actor_of q) (map_answer (λ a. act.Marked name (marked (whole_second (wall doc q.process k)) r).reason a) o)
+      by_reason None o tried = told_by _ (λ a is. (record { form = is; held = (found.held, (omega (arith, fixed), tt)); timely = tt }, refl)) o tried
+      by_reason (Some r) o tried = told_by _ (λ a is. (record { form = is; held = (found.held, (omega (arith, fixed), tt)); timely = tt }, refl)) o tried
+
+  untaint_deed : (name : ℕ) (given : Version) (node : Node) (h : List Entry) → IsFitFound names c name node
+      → IsFitDeed names c (actor_of q) (Ticks (Untaint name given (untainted node) (try_node q name given h)))
+  untaint_deed name given node h found = record {
+    told = told_by (λ a. act.Untainted name a) (λ a is. (record { form = is; held = (found.held, tt); timely = tt }, refl)) (try_node q name given h) (node_tried q name given h);
+    wrote = wrote_by name (untainted node) found.held (untainted_fit node found.fit) (try_node q name given h);
+    carries = tt;
+  }
+
+  swap_deed : (name wanted : ℕ) (given : Version) (node : Node) (h : List Entry) → is_condition_key wanted ≡ true → IsFitFound names c name node
+      → IsFitDeed names c (actor_of q) (Ticks (Swap name wanted given (swapped (new_taint doc k q wanted) node) (try_node q name given h)))
+  swap_deed name wanted given node h key found = let held = condition_held wanted key in record {
+    told = told_by (λ a. act.Swapped name wanted a) (λ a is. (record { form = and_both (is_condition_key wanted) (answers_write a) key is; held = (found.held, (held, tt)); timely = tt }, refl))
+        (try_node q name given h) (node_tried q name given h);
+    wrote = wrote_by name (swapped (new_taint doc k q wanted) node) found.held (swapped_fit wanted node held found.fit) (try_node q name given h);
+    carries = tt;
+  }
+
+  head_deed : (place : Place) (name wanted : ℕ) (given : Version) (node : Node) (h : List Entry) → is_condition_key wanted ≡ true → IsFitFound names c name node
+      → IsFitDeed names c (actor_of q) (Ticks (Head place name wanted given (tainted_with (new_taint doc k q wanted) node) (try_node q name given h)))
+  head_deed place name wanted given node h key found = let held = condition_held wanted key in record {
+    told = told_by (λ a. act.Tainted name wanted a) (λ a is. (record { form = and_both (is_condition_key wanted) (answers_write a) key is; held = (found.held, (held, tt)); timely = tt }, refl))
+        (try_node q name given h) (node_tried q name given h);
+    wrote = wrote_by name (tainted_with (new_taint doc k q wanted) node) found.held (tainted_fit wanted node held found.fit) (try_node q name given h);
+    carries = tt;
+  }
+
+  delete_wrote : (pod : Key) (o : Option Answer) → IsFitWrite names c (try_write (pod, None) o)
+  delete_wrote pod None = tt
+  delete_wrote pod (Some (answers.Done version)) = tt
+  delete_wrote pod (Some answers.Absent) = tt
+  delete_wrote pod (Some answers.Exists) = tt
+  delete_wrote pod (Some (answers.Conflict version)) = tt
+
+  pod_seen : (pod : Key) (given : Version) (x : Pod) (h : List Entry) → Fit h → seen_pod q pod h ≡ Some (given, x) → IsHeld names pod.space × IsHeld names pod.name
+  pod_seen pod given x h fit is = by_seen (seen q pod h) refl is
+    where
+      by_seen : (o : Option Held) → seen q pod h ≡ o → as_kind pod_in o ≡ Some (given, x) → IsHeld names pod.space × IsHeld names pod.name
+      by_seen None at is = absurd (none_is (given, x) is)
+      by_seen (Some y) at is = let item = seen_fit names c q h fit pod y at in (item.space, item.name)
+
+  delete_deed : (pod : Key) (given node_given : Version) (at : ℕ) (a : Option Answer) (h : List Entry) → Fit h → IsDelete doc k q pod given node_given at a h
+      → IsFitDeed names c (actor_of q) (Ticks (Delete pod given node_given at a))
+  delete_deed pod given node_given at a h fit made = record {
+    told = told_by (λ a. act.Evicted pod (record { 0 = at }) a) (λ a is. (record { form = and_both (is_pod pod.kind) (answers_write a) made.kind is; held = (held.0, (held.1, tt)); timely = due }, refl)) a
+        (subst IsTried (sym made.is) (pod_tried q pod given made.x.node node_given h));
+    wrote = delete_wrote pod a;
+    carries = tt;
+  }
+    where
+      held : IsHeld names pod.space × IsHeld names pod.name
+      held = pod_seen pod given made.x h fit made.sees
+
+      due : at ≤ last_wall
+      due = omega (arith, early, leb-true at (wall doc q.process k) made.test)
+
+  -- ---- zones
+
+  abbrev IsHeldPlace : Place → Type 0
+  IsHeldPlace place = IsHeld names place.region × IsHeld names place.zone
+
+  among_fit : (h : List Entry) → Fit h → (ns : List ℕ) → AllByRecursion (IsWritableNode names) (nodes_among q ns h)
+  among_fit h fit [] = tt
+  among_fit h fit (n ∷ ns) = by_seen (among_fit h fit ns) (seen_node q n h) refl
+    where
+      by_seen : AllByRecursion (IsWritableNode names) (nodes_among q ns h) → (o : Option (Version × Node)) → seen_node q n h ≡ o → AllByRecursion (IsWritableNode names) (and_node o (nodes_among q ns h))
+      by_seen rest None is = rest
+      by_seen rest (Some x) is = ((node_seen_fit names c q h fit n x is).fit, rest)
+
+  places_held : (ns : List Node) → AllByRecursion (IsWritableNode names) ns → AllByRecursion IsHeldPlace (places ns)
+  places_held [] all = tt
+  places_held (n ∷ ns) all = all_once place_cmp IsHeldPlace (place_of n) (places ns) (all.0.region, all.0.zone) (places_held ns all.1)
+
+  -- ---- the walk
+
+  every : {A : Type 0} (f : A → List Entry → List Entry) → ((a : A) (h : List Entry) → Fit h → Fit (f a h)) → (xs : List A) (h : List Entry) → Fit h → Fit (for_each f xs h)
+  every f keeps [] h fit = fit
+  every f keeps (x ∷ xs) h fit = every f keeps xs (f x h) (keeps x h fit)
+
+  those : {A : Type 0} (f : A → List Entry → List Entry) (Q : A → Type 0) → ((a : A) (h : List Entry) → Q a → Fit h → Fit (f a h)) → (xs : List A) (h : List Entry) → AllByRecursion Q xs → Fit h → Fit (for_each f xs h)
+  those f Q keeps [] h all fit = fit
+  those f Q keeps (x ∷ xs) h all fit = those f Q keeps xs (f x h) all.1 (keeps x h all.0 fit)
+
+  silent : (t : Tick) (h : List Entry) → IsTold names (actor_of q) (tick_act t) → IsFitWrite names c (tick_write t) → Fit h → Fit (add k q t h)
+  silent t h told wrote fit = (record { told = told; wrote = wrote; carries = tt }, fit)
+
+  keeps_sync : (h : List Entry) → Fit h → Fit (sync doc k q h)
+  keeps_sync h fit = by_test (watches doc q.process h && not (is_fresh q h))
+    where
+      by_test : (b : Bool) → Fit (sync_if k q b h)
+      by_test true = silent Sync h tt tt fit
+      by_test false = fit
+
+  keeps_mark : (name : ℕ) (h : List Entry) → Fit h → Fit (mark doc k q name h)
+  keeps_mark name h fit = by_seen (seen_node q name h) refl
+    where
+      by_test : (x : Version × Node) → seen_node q name h ≡ Some x → (b : Bool) → Fit (mark_as k q name x.0 (when b (with_mark (whole_second (wall doc q.process k)) x.1)) h)
+      by_test x is true = (mark_deed name x.0 x.1 h (node_seen_fit names c q h fit name x is), fit)
+      by_test x is false = fit
+
+      by_seen : (o : Option (Version × Node)) → seen_node q name h ≡ o → Fit (mark_seen doc k q name o h)
+      by_seen None is = fit
+      by_seen (Some x) is = by_test x is (not (is_unknown x.1.ready) && is_silent doc q k name x.1.ready h)
+
+  keeps_mode : (h : List Entry) → Fit h → Fit (set_mode doc k q h)
+  keeps_mode h fit = by_mode (all_full doc (nodes q h))
+    where
+      by_test : (on b : Bool) → Fit (mode_if k q on b h)
+      by_test on true = fit
+      by_test on false = silent (Mode on) h (record { form = refl; held = tt; timely = tt }, refl) tt fit
+
+      by_mode : (on : Bool) → Fit (mode_as k q on h)
+      by_mode on = by_test on (is_same_mode on (mode q h))
+
+  keeps_zone : (ns : List Node) (place : Place) (h : List Entry) → IsHeldPlace place → Fit h → Fit (zone doc k q ns place h)
+  keeps_zone ns place h held fit = by_state (state_in doc ns place) (rate_in doc (mode q h) ns place)
+    where
+      by_test : (s : ZoneState) (rate : ℕ) (b : Bool) → Fit (zone_if k q place s rate b h)
+      by_test s rate true = fit
+      by_test s rate false = silent (Zone place s rate) h (record { form = refl; held = (held.0, (held.1, tt)); timely = tt }, refl) tt fit
+
+      by_state : (s : ZoneState) (rate : ℕ) → Fit (zone_as k q place s rate h)
+      by_state s rate = by_test s rate (is_rated s rate (rated q place h))
+
+  keeps_zones : (h : List Entry) → Fit h → Fit (set_zones doc k q h)
+  keeps_zones h fit =
+      those (zone doc k q (nodes q h)) IsHeldPlace (λ place g held fit. keeps_zone (nodes q h) place g held fit) (places (nodes q h)) h
+      (places_held (nodes q h) (among_fit h fit (node_names h))) fit
+
+  keeps_pass : (h : List Entry) → Fit h → Fit (pass doc k q h)
+  keeps_pass h fit = by_test (is_pass_due doc k q h)
+    where
+      by_test : (b : Bool) → Fit (pass_if doc k q b h)
+      by_test false = fit
+      by_test true =
+          let passed = add k q Pass h in
+          let marked = marks doc k q passed in
+          keeps_zones (set_mode doc k q marked) (keeps_mode marked (every (mark doc k q) keeps_mark (node_names passed) passed (silent Pass h tt tt fit)))
+
+  keeps_clean : (name : ℕ) (h : List Entry) → Fit h → Fit (clean doc k q name h)
+  keeps_clean name h fit = by_stale (is_stale q (node_key name) h) (seen_node q name h) refl
+    where
+      by_untaint : (x : Version × Node) → IsFitFound names c name x.1 → (b : Bool) → Fit (untaint_if k q name x.0 x.1 b h)
+      by_untaint x found false = fit
+      by_untaint x found true = (untaint_deed name x.0 x.1 h found, fit)
+
+      by_swap : (x : Version × Node) → IsFitFound names c name x.1 → (wanted : ℕ) → is_condition_key wanted ≡ true → (b : Bool) → Fit (swap_if doc k q name x.0 x.1 wanted b h)
+      by_swap x found wanted key false = fit
+      by_swap x found wanted key true = (swap_deed name wanted x.0 x.1 h key found, fit)
+
+      by_wants : (x : Version × Node) → IsFitFound names c name x.1 → (w : Wants) → IsWantedKey (wanted_key w) → Fit (clean_as doc k q name x.0 x.1 w h)
+      by_wants x found Nothing key = by_untaint x found (has_condition x.1)
+      by_wants x found (Wanted wanted) key = by_swap x found wanted key (list_any (is_opposite wanted) x.1.taints)
+      by_wants x found Whatever key = fit
+
+      by_stale : (b : Bool) (o : Option (Version × Node)) → seen_node q name h ≡ o → Fit (clean_seen doc k q name b o h)
+      by_stale true o is = fit
+      by_stale false None is = fit
+      by_stale false (Some x) is = by_wants x (node_seen_fit names c q h fit name x is) (wants (mode q h) x.1) (wanted_fit (mode q h) x.1)
+
+  keeps_taint : (place : Place) (h : List Entry) → Fit h → Fit (taint doc k q place h)
+  keeps_taint place h fit = by_token (has_token doc q k place h)
+    where
+      by_seen : (name : ℕ) (o : Option ℕ) → waits q place name h ≡ o → (x : Option (Version × Node)) → seen_node q name h ≡ x → Fit (taint_as doc k q place name o x h)
+      by_seen name None waiting x is = fit
+      by_seen name (Some wanted) waiting None is = fit
+      by_seen name (Some wanted) waiting (Some x) is =
+          (head_deed place name wanted x.0 x.1 h (waits_fit (mode q h) place (seen_node q name h) wanted waiting) (node_seen_fit names c q h fit name x is), fit)
+
+      by_head : (o : Option Queued) → Fit (taint_head doc k q place o h)
+      by_head None = fit
+      by_head (Some head) = by_seen head.1 (waits q place head.1 h) refl (seen_node q head.1 h) refl
+
+      by_token : (b : Bool) → Fit (taint_if doc k q place b h)
+      by_token false = fit
+      by_token true = by_head (head_of q place (node_names h) h)
+
+  keeps_evict : (pod : Key) (h : List Entry) → IsPodKey pod → Fit h → Fit (evict doc k q pod h)
+  keeps_evict pod h kind fit = evict_step doc k q (AreFit names c) pod h kind fit (λ given node_given at a made. (delete_deed pod given node_given at a h fit made, fit))
+
+  evicts : (keys : List Key) (h : List Entry) → Each IsPodKey keys → Fit h → Fit (for_each (evict doc k q) keys h)
+  evicts [] h all fit = fit
+  evicts (pod ∷ keys) h all fit = evicts keys (evict doc k q pod h) all.1 (keeps_evict pod h all.0 fit)
+
+  pub keeps_tick : (h : List Entry) → Fit h → Fit (tick doc k q h)
+  keeps_tick h fit = by_test (is_synced q (sync doc k q h))
+    where
+      by_test : (b : Bool) → Fit (tick_if doc k q b (sync doc k q h))
+      by_test false = keeps_sync h fit
+      by_test true =
+          let a = sync doc k q h in
+          let b = pass doc k q a in
+          let d = cleaned doc k q b in
+          let e = tainted doc k q d in
+          evicts (pod_keys e) e (pods_only e) (every (taint doc k q) keeps_taint (places (nodes q d)) d (every (clean doc k q) keeps_clean (node_names b) b (keeps_pass a (keeps_sync h fit))))
