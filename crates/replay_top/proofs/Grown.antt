@@ -15,7 +15,7 @@ use Rattle.history.specs.Printed.{printed, deeds_of, act_of}
 use Rattle.history_laws.specs.Tails.{IsTail}
 use Rattle.history_laws.proofs.Once.{calls_are_few}
 use Rattle.history_laws.proofs.Starts.{starts_are_few}
-use Rattle.world_core.specs.Plain.{IsFew}
+use Rattle.world_process.specs.Plain.{IsFew}
 use Rattle.history_laws.proofs.Order.{histories_are_positions}
 use Rattle.kube_objects.specs.Entry.{Entry, First, script_entry}
 use Rattle.world_core.specs.declared.world.World.{World}
@@ -115,7 +115,7 @@ pub trace-named : (d : Document) (names processes : List (List ℕ)) → names �
 unfolding trace
 trace-named d names processes named ordered = ap (λ n. trace_of (doc_of d) n processes) named ∙ ap (trace_of (doc_of d) d.names) ordered
 
--- the same history has the same trace
-pub trace-same : (doc : Doc) (names processes : List (List ℕ)) (j k : ℕ) → history doc j ≡ history doc k → trace_before doc names processes j ≡ trace_before doc names processes k
+-- beats of which nothing is printed leave the trace as it is
+pub trace-same : (doc : Doc) (names processes : List (List ℕ)) (j k : ℕ) → printed (history doc j) ≡ printed (history doc k) → trace_before doc names processes j ≡ trace_before doc names processes k
 unfolding trace_before
-trace-same doc names processes j k same = ap (λ h. first_line doc ++ lines_of names processes (printed h)) same
+trace-same doc names processes j k same = ap (λ ds. first_line doc ++ lines_of names processes ds) same

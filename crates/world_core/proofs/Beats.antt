@@ -12,9 +12,9 @@ use Rattle.history.specs.Steps.{start_first, starts_below, first_starts, step_on
 use Rattle.history.proofs.Due.{step_two-due, step_three-due}
 use Rattle.wire_calls.proofs.Frames.{wire-next-beat}
 use Rattle.world_core.specs.declared.state.State.{State}
-use Rattle.world_core.specs.Plain.{IsFew}
+use Rattle.world_process.specs.Plain.{IsFew}
 use Rattle.world_core.specs.States.{StateWithin, IsPlaced, StateStands}
-use Rattle.world_core.proofs.Grows.{Grows, grows-on, grows-same, grows-entry, grows-happen_all, grows-turns, few-before}
+use Rattle.world_process.proofs.Grows.{Grows, grows-on, grows-same, grows-entry, grows-happen_all, grows-turns, few-before}
 use Rattle.world_core.proofs.Loops.{grows-deliver_all}
 
 -- ---- starts send nothing
@@ -96,12 +96,12 @@ world-next doc k h w s placed =
     record {
       within = record {
         rest = record {
-          document = record { at = ap (λ n. n + 1) d.at; restart = d.restart; count = d.count; controllers = d.controllers; epoch = d.epoch; micros = d.micros; events = d.events };
+          document = record { at = ap (λ n. n + 1) d.at; restart = d.restart; count = d.count; epoch = d.epoch; micros = d.micros; events = d.events };
           plain = s.rest.plain;
           store = s.rest.store;
           wire = wire-next-beat (processes doc) k h w.wire s.rest.wire;
         };
-        controllers = s.controllers;
+        processes = s.processes;
       };
       placed = placed;
     }

@@ -3,7 +3,7 @@ use Rattle.std.proofs.Common.{◌≡◌, ◌++◌, true, List, [], ◌∷◌, re
 use Rattle.std.proofs.lemmas.List.{append-nil}
 use Rattle.kube_objects.specs.Document.{Doc}
 use Rattle.world_core.specs.Forms.{is_empty, is_run}
-use Rattle.world_core.proofs.Names.{and-left}
+use Rattle.world_process.proofs.Names.{and-left}
 
 empty-is : {A : Type 0} (xs : List A) → is_empty xs ≡ true → xs ≡ []
 empty-is [] is = refl

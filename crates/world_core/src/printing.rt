@@ -74,35 +74,35 @@ fn if_told(key: &Key, answer: Answer) -> Option<Answer>
 }
 
 /// What is printed of a start.
-pub fn starting(started: bool) -> Option<Act>
+pub fn start_act(started: bool) -> Option<Act>
     ensures { result ≡ when started Act.Start }
 {
     if started { Some(Act::Start) } else { None }
 }
 
 /// What is printed of a crash.
-pub fn crashing(crashed: bool) -> Option<Act>
+pub fn crash_act(crashed: bool) -> Option<Act>
     ensures { result ≡ when crashed Act.Crash }
 {
     if crashed { Some(Act::Crash) } else { None }
 }
 
 /// What is printed of a stop.
-pub fn stopping(stopped: bool) -> Option<Act>
+pub fn stop_act(stopped: bool) -> Option<Act>
     ensures { result ≡ when stopped Act.Stop }
 {
     if stopped { Some(Act::Stop) } else { None }
 }
 
 /// What is printed of an end.
-pub fn ending(ended: bool) -> Option<Act>
+pub fn end_act(ended: bool) -> Option<Act>
     ensures { result ≡ when ended Act.End }
 {
     if ended { Some(Act::End) } else { None }
 }
 
 /// What is printed of a lead.
-pub fn leading(lead: Option<Version>) -> Option<Act>
+pub fn lead_act(lead: Option<Version>) -> Option<Act>
     ensures { result ≡ option_map Act.Lead lead }
 {
     match lead {
@@ -112,7 +112,7 @@ pub fn leading(lead: Option<Version>) -> Option<Act>
 }
 
 /// What is printed of a removal, where something was removed.
-pub fn removing(key: Key, version: Option<Version>) -> Option<Act>
+pub fn remove_act(key: Key, version: Option<Version>) -> Option<Act>
     ensures { result ≡ event_act (What.Remove key) version }
 {
     match version {

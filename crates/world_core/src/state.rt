@@ -22,25 +22,25 @@ ghost use Rattle.kube_objects.specs.Document.{is_up_first, processes};
 ghost use Rattle.wire_calls.specs.WireStands.{WireStands, as_delivered, replies_at, requests_at};
 ghost use Rattle.script_reader.specs.Documents.{doc_of};
 ghost use Rattle.script_reader.specs.Lawful.{AreLawful, AreLawfulFrom, IsLawful, IsLawfulDoc};
-ghost use Rattle.world_core.specs.declared.controller.Controller.{Controller};
-ghost use Rattle.world_core.specs.Controllers.{AreEventsFrom};
+ghost use Rattle.world_process.specs.Clocked.{AreEventsFrom};
+ghost use Rattle.world_process.specs.Processes.{is_up_first_as};
 ghost use Rattle.world_core.specs.Forms.{is_run};
-ghost use Rattle.world_core.specs.Plain.{IsFew, IsKnown, SentByKnown, BackToKnown};
+ghost use Rattle.world_process.specs.Plain.{IsFew, IsKnown, SentByKnown, BackToKnown};
 ghost use Rattle.history.specs.Due.{answer_all, deliver_all};
-ghost use Rattle.world_core.specs.States.{AddNothing, AreSilent, EachStands, at_of, end_of, names_of, HasDelays, IsReady, IsPlaced, SameDocument, Keeps, StateStands, StateWithin, Running, Happens, Scripted};
+ghost use Rattle.world_core.specs.States.{Skipped, AreSilent, EachStands, at_of, end_of, names_of, GoOnTo, AreMadeOf, SendsAsked, HasDelays, IsReady, IsPlaced, SameDocument, Keeps, StateStands, StateWithin, Running, Happens, Scripted};
 
-use crate::controller::{Controller, picoseconds};
-use crate::printing::{answer_act, crashing, ending, leading, removing, starting, stopping, tell};
+use crate::printing::{answer_act, crash_act, end_act, lead_act, remove_act, start_act, stop_act, tell};
 use kube_base::{Beat, Names, NoMemory, ProcId, Wall};
 use kube_objects::{
-    Act, Actor, Deeds, Event, Events, Items, Key, Object, Procs, Reply, Request, Settings, What,
+    Act, Actor, Ask, Deeds, Event, Events, Items, Key, Object, Procs, Reply, Request, Settings, What,
 };
 use object_store::Store;
 use script_reader::Document;
 use std::alloc::Global;
 use wire_calls::{Arrived, Delivered, Wire};
+use world_process::{Controller, Process, picoseconds};
 
-/// Controllers, the store and the wire between them, before a beat. The events before the place have happened.
+/// Processes, the store and the wire between them, before a beat. The events before the place have happened.
 #[derive(Drop)]
 pub struct State {
     alloc: Global,
@@ -51,7 +51,7 @@ pub struct State {
     micros: u32,
     store: Store,
     wire: Wire,
-    controllers: Vec<Controller>,
+    processes: Vec<Process>,
     place: usize,
     events: Events,
     names: Names,
@@ -67,14 +67,14 @@ impl State {
         ensures stands { IfOk result (StateStands (doc_of document) 0 (history (doc_of document) 0)) }
     {
         let settings = document.settings;
-        let controllers = made(
+        let processes = processes_of(
             alloc,
             &settings,
             &document.controllers,
             document.events.as_slice(),
         )?;
-        let wire = Wire::new(alloc, controllers.len() as u32)?;
-        let store = filled(alloc, &document.objects.items, settings.epoch)?;
+        let wire = Wire::new(alloc, processes.len() as u32)?;
+        let store = store_of(alloc, &document.objects.items, settings.epoch)?;
         Ok(State {
             alloc,
             beat: Beat(0),
@@ -84,7 +84,7 @@ impl State {
             micros: settings.beat_millis * 1000,
             store,
             wire,
-            controllers,
+            processes,
             place: 0,
             events: document.events,
             names: document.names,
@@ -138,23 +138,37 @@ impl State {
         Ok(deeds)
     }
 
-    /// Goes on to the next beat at which something may happen, at most to the one after the end. Nothing happens in the
+    /// Goes on to the next beat at which something may happen, at most to the one after the end. Nothing is printed of the
     /// beats between.
     pub fn skip_quiet(&mut self)
         requires ready { IsReady self.old }
-        requires begun { 0 < at_of self.old }
         requires within { at_of self.old ≤ end_of self.old + 1 }
         ensures kept { IsReady self.new × (at_of self.old ≤ at_of self.new) × (at_of self.new ≤ end_of self.new + 1) × (end_of self.new ≡ end_of self.old) × (names_of self.new ≡ names_of self.old) }
-        ensures stands { (doc : Doc) (k : ℕ) (h : List Entry) → StateStands doc k h self.old
-            → StateStands doc (at_of self.new) h self.new × AddNothing doc k (at_of self.new) h }
+        ensures stands { (doc : Doc) (k : ℕ) (h : List Entry) → StateStands doc k h self.old → Skipped doc k h self.new }
     {
-        let last = Beat(self.end.0 + 1);
+        let last = self.next_start(Beat(self.end.0 + 1));
         let outside = self.next_message(self.next_event(last));
         if outside.0 <= self.beat.0 {
             return;
         }
         let busy = self.next_turns(outside);
         self.beat = later(self.beat, busy);
+    }
+
+    // Beat 0 where a process starts in it that is still to be done, or the bound.
+    fn next_start(&self, bound: Beat) -> Beat
+        ensures bound { result.0 ≤ bound.0 }
+        ensures starts { (doc : Doc) (k j : ℕ) (h : List Entry) → at_of self.now ≡ k → length self.now.processes.items ≡ processes doc
+            → EachStands doc h self.now.processes.items → k ≤ j → j < result.0 → first_starts doc j h ≡ h }
+    {
+        if self.beat.0 != 0 {
+            return bound;
+        }
+        if starts_any(self.processes.as_slice()) {
+            Beat(0)
+        } else {
+            bound
+        }
     }
 
     // The beat of the next event, or the bound where that is earlier.
@@ -188,27 +202,27 @@ impl State {
         ensures still { (doc : Doc) (k j : ℕ) (arriving : List Sent) (coming : List Back) (h : List Entry) → StateWithin doc k arriving coming h self.old → j ≤ end_of self.old → j < result.0 → turns doc j (processes doc) h ≡ h }
     {
         let mut next = bound;
-        for i in 0..self.controllers.len() {
+        for i in 0..self.processes.len() {
             next = self.next_turn(i, next);
         }
         next
     }
 
-    // The next beat at which a controller's turn may do something, or the bound where that is earlier.
+    // The next beat at which a process's turn may do something, or the bound where that is earlier.
     fn next_turn(&mut self, i: usize, bound: Beat) -> Beat
-        requires index { i < vec_len self.old.controllers }
+        requires index { i < vec_len self.old.processes }
         requires ready { IsReady self.old }
         ensures kept { Keeps self.old self.new }
         ensures bound { result.0 ≤ bound.0 }
         ensures stands { (doc : Doc) (k : ℕ) (arriving : List Sent) (coming : List Back) (h : List Entry) → StateWithin doc k arriving coming h self.old → StateWithin doc k arriving coming h self.new }
         ensures still { (doc : Doc) (k j : ℕ) (arriving : List Sent) (coming : List Back) (h : List Entry) → StateWithin doc k arriving coming h self.old → j ≤ end_of self.old → j < result.0 → turn doc j i h ≡ h }
     {
-        let controller = &mut self.controllers[i];
-        let wakes = controller.wakes_from(self.beat);
+        let process = &mut self.processes[i];
+        let wakes = process.wakes_from(self.beat);
         earlier(wakes, bound)
     }
 
-    // In beat 0 each controller starts that is up at first.
+    // In beat 0 each process starts that is up at first.
     #[inline(never)]
     fn first_starts(&mut self, deeds: &mut Deeds) -> Result<(), NoMemory>
         requires ready { IsReady self.old }
@@ -220,26 +234,26 @@ impl State {
         if self.beat.0 != 0 {
             return Ok(());
         }
-        for i in 0..self.controllers.len() {
+        for i in 0..self.processes.len() {
             self.first_start(i, deeds)?;
         }
         Ok(())
     }
 
     fn first_start(&mut self, i: usize, deeds: &mut Deeds) -> Result<(), NoMemory>
-        requires index { i < vec_len self.old.controllers }
+        requires index { i < vec_len self.old.processes }
         requires ready { IsReady self.old }
         requires within { at_of self.old ≤ end_of self.old }
         ensures kept { OnOk result (Keeps self.old self.new) }
         ensures stands { (doc : Doc) (before : List Deed) (arriving : List Sent) (coming : List Back) (h : List Entry) → Running doc 0 before arriving coming h self.old deeds.old → IsFew (start_first i (is_up_first doc i) h)
             → OnOk result (Running doc 0 before arriving coming (start_first i (is_up_first doc i) h) self.new deeds.new) }
     {
-        let controller = &mut self.controllers[i];
-        if !controller.up_first {
+        let process = &mut self.processes[i];
+        if !process.is_up_first() {
             return Ok(());
         }
-        controller.start(self.beat);
-        let actor = Actor::Proc(controller.me, controller.incarnation);
+        process.start(self.beat);
+        let actor = process.actor();
         tell(deeds, self.beat, actor, Some(Act::Start))
     }
 
@@ -258,7 +272,7 @@ impl State {
             if event.beat.0 != self.beat.0 {
                 return Ok(());
             }
-            let what = copied(&event.what)?;
+            let what = copy_of(&event.what)?;
             self.place += 1;
             self.happen(what, deeds)?;
         }
@@ -300,13 +314,13 @@ impl State {
         ensures stands { OnOk result (Happens self.old deeds.old self.new deeds.new (What.Crash who)) }
     {
         let i = who.0 as usize;
-        if i >= self.controllers.len() {
+        if i >= self.processes.len() {
             return Ok(());
         }
-        let controller = &mut self.controllers[i];
-        let crashed = controller.crash();
-        let actor = Actor::Proc(controller.me, controller.incarnation);
-        tell(deeds, self.beat, actor, crashing(crashed))
+        let process = &mut self.processes[i];
+        let crashed = process.crash();
+        let actor = process.actor();
+        tell(deeds, self.beat, actor, crash_act(crashed))
     }
 
     fn start(&mut self, who: ProcId, deeds: &mut Deeds) -> Result<(), NoMemory>
@@ -316,13 +330,13 @@ impl State {
         ensures stands { OnOk result (Happens self.old deeds.old self.new deeds.new (What.Start who)) }
     {
         let i = who.0 as usize;
-        if i >= self.controllers.len() {
+        if i >= self.processes.len() {
             return Ok(());
         }
-        let controller = &mut self.controllers[i];
-        let started = controller.begin(self.beat);
-        let actor = Actor::Proc(controller.me, controller.incarnation);
-        tell(deeds, self.beat, actor, starting(started))
+        let process = &mut self.processes[i];
+        let started = process.begin(self.beat);
+        let actor = process.actor();
+        tell(deeds, self.beat, actor, start_act(started))
     }
 
     // A stopped leader's release is sent at once.
@@ -333,22 +347,16 @@ impl State {
         ensures stands { OnOk result (Happens self.old deeds.old self.new deeds.new (What.Stop who)) }
     {
         let i = who.0 as usize;
-        if i >= self.controllers.len() {
+        if i >= self.processes.len() {
             return Ok(());
         }
-        let controller = &mut self.controllers[i];
-        let stopped = controller.stop(self.beat);
-        let who = controller.me;
-        let incarnation = controller.incarnation;
-        let actor = Actor::Proc(who, incarnation);
-        tell(deeds, self.beat, actor, stopping(stopped.stopped))?;
-        match stopped.ask {
-            None => Ok(()),
-            Some(ask) => {
-                self.wire.send(who, incarnation, ask, self.beat)?;
-                Ok(())
-            }
-        }
+        let process = &mut self.processes[i];
+        let stopped = process.stop(self.beat);
+        let actor = process.actor();
+        let who = process.me();
+        let incarnation = process.incarnation();
+        tell(deeds, self.beat, actor, stop_act(stopped.stopped))?;
+        send_asked(&mut self.wire, who, incarnation, stopped.ask, self.beat)
     }
 
     fn put(&mut self, key: Key, object: Object, deeds: &mut Deeds) -> Result<(), NoMemory>
@@ -370,7 +378,7 @@ impl State {
         ensures stands { OnOk result (Happens self.old deeds.old self.new deeds.new (What.Remove key)) }
     {
         let version = self.store.remove(key)?;
-        tell(deeds, self.beat, Actor::Script, removing(key, version))
+        tell(deeds, self.beat, Actor::Script, remove_act(key, version))
     }
 
     // The store's time of day.
@@ -458,29 +466,21 @@ impl State {
             → OnOk result (Running doc k before arriving coming (delivered doc k b h) self.new deeds.new) }
     {
         let i = back.who.0 as usize;
-        if i >= self.controllers.len() {
+        if i >= self.processes.len() {
             return Ok(());
         }
-        let controller = &mut self.controllers[i];
-        let received = controller.receive(back.incarnation, back.number, &back.reply, self.beat);
-        let who = controller.me;
-        let incarnation = controller.incarnation;
-        tell(
-            deeds,
-            self.beat,
-            Actor::Proc(who, incarnation),
-            leading(received.lead),
-        )?;
-        match received.ask {
-            None => Ok(()),
-            Some(ask) => {
-                self.wire.send(who, incarnation, ask, self.beat)?;
-                Ok(())
-            }
-        }
+        let process = &mut self.processes[i];
+        let received = process.receive(back.incarnation, back.number, &back.reply, self.beat);
+        let actor = process.actor();
+        let who = process.me();
+        let incarnation = process.incarnation();
+        tell(deeds, self.beat, actor, lead_act(received.lead))?;
+        send_asked(
+            &mut self.wire, who, incarnation, received.ask, self.beat,
+        )
     }
 
-    // Each controller has its turn, in order.
+    // Each process has its turn, in order.
     #[inline(never)]
     fn turns(&mut self, deeds: &mut Deeds) -> Result<(), NoMemory>
         requires ready { IsReady self.old }
@@ -489,14 +489,14 @@ impl State {
         ensures stands { (doc : Doc) (k : ℕ) (before : List Deed) (arriving : List Sent) (coming : List Back) (h : List Entry) → Running doc k before arriving coming h self.old deeds.old → IsFew (turns doc k (processes doc) h)
             → OnOk result (Running doc k before arriving coming (turns doc k (processes doc) h) self.new deeds.new) }
     {
-        for i in 0..self.controllers.len() {
+        for i in 0..self.processes.len() {
             self.turn(i, deeds)?;
         }
         Ok(())
     }
 
     fn turn(&mut self, i: usize, deeds: &mut Deeds) -> Result<(), NoMemory>
-        requires index { i < vec_len self.old.controllers }
+        requires index { i < vec_len self.old.processes }
         requires ready { IsReady self.old }
         requires within { at_of self.old ≤ end_of self.old }
         ensures kept { OnOk result (Keeps self.old self.new) }
@@ -510,30 +510,24 @@ impl State {
         self.take_turn(i, deeds)
     }
 
-    // A turn of a controller that may do something.
+    // A turn of a process that may do something.
     #[inline(never)]
     fn take_turn(&mut self, i: usize, deeds: &mut Deeds) -> Result<(), NoMemory>
-        requires index { i < vec_len self.old.controllers }
+        requires index { i < vec_len self.old.processes }
         requires ready { IsReady self.old }
         requires within { at_of self.old ≤ end_of self.old }
         ensures kept { OnOk result (Keeps self.old self.new) }
         ensures stands { (doc : Doc) (k : ℕ) (before : List Deed) (arriving : List Sent) (coming : List Back) (h : List Entry) → Running doc k before arriving coming h self.old deeds.old → IsFew (turn doc k i h)
             → OnOk result (Running doc k before arriving coming (turn doc k i h) self.new deeds.new) }
     {
-        let controller = &mut self.controllers[i];
-        let turn = controller.turn(self.beat, self.restart);
-        let who = controller.me;
-        let incarnation = controller.incarnation;
-        let actor = Actor::Proc(who, incarnation);
-        tell(deeds, self.beat, actor, starting(turn.started))?;
-        tell(deeds, self.beat, actor, ending(turn.ended))?;
-        match turn.ask {
-            None => Ok(()),
-            Some(ask) => {
-                self.wire.send(who, incarnation, ask, self.beat)?;
-                Ok(())
-            }
-        }
+        let process = &mut self.processes[i];
+        let turn = process.turn(self.beat, self.restart);
+        let actor = process.actor();
+        let who = process.me();
+        let incarnation = process.incarnation();
+        tell(deeds, self.beat, actor, start_act(turn.started))?;
+        tell(deeds, self.beat, actor, end_act(turn.ended))?;
+        send_asked(&mut self.wire, who, incarnation, turn.ask, self.beat)
     }
 }
 
@@ -558,6 +552,30 @@ fn send_back(wire: &mut Wire, to: &Arrived, reply: Reply, now: Beat) -> Result<(
     Ok(())
 }
 
+// What a process asks is sent, where it asks.
+fn send_asked(
+    wire: &mut Wire,
+    who: ProcId,
+    incarnation: u32,
+    ask: Option<Ask>,
+    now: Beat,
+) -> Result<(), NoMemory>
+    requires { now.0 ≤ 700000000 }
+    ensures same { OnOk result (replies_at wire.new now.0 ≡ replies_at wire.old now.0) }
+    ensures sends { OnOk result (SendsAsked now.0 (identity who.0 incarnation) ask wire.old wire.new) }
+{
+    if let Some(ask) = ask {
+        wire.send(who, incarnation, ask, now)?;
+    }
+    Ok(())
+}
+
+fn starts_any(processes: &[Process]) -> bool
+    ensures { result ≡ false → All (λ x. is_up_first_as x ≡ false) processes.now }
+{
+    processes.iter().any(|process| process.is_up_first())
+}
+
 fn earlier(a: Beat, b: Beat) -> Beat
     ensures { (result.0 ≤ a.0) × (result.0 ≤ b.0) }
 {
@@ -573,7 +591,7 @@ fn later(a: Beat, b: Beat) -> Beat
 }
 
 // An event's copy equals it.
-fn copied(what: &What) -> Result<What, NoMemory>
+fn copy_of(what: &What) -> Result<What, NoMemory>
     ensures { IfOk result (λ copy. copy ≡ what.now) }
 {
     match what {
@@ -591,7 +609,7 @@ fn copied(what: &What) -> Result<What, NoMemory>
 }
 
 // The store with a document's objects, put in order.
-fn filled(alloc: Global, items: &Items, epoch: Wall) -> Result<Store, NoMemory>
+fn store_of(alloc: Global, items: &Items, epoch: Wall) -> Result<Store, NoMemory>
     ensures { (doc : Doc) → doc.settings.epoch ≡ epoch → IfOk result (StoreStands (put_all doc items.now [])) }
 {
     let mut store = Store::new(alloc);
@@ -601,25 +619,26 @@ fn filled(alloc: Global, items: &Items, epoch: Wall) -> Result<Store, NoMemory>
     Ok(store)
 }
 
-// The controllers of a document, in order.
-fn made(
+// The processes of a document that the world runs, in order.
+fn processes_of(
     alloc: Global,
     settings: &Settings,
-    processes: &Procs,
+    controllers: &Procs,
     events: &[Event],
-) -> Result<Vec<Controller>, NoMemory>
+) -> Result<Vec<Process>, NoMemory>
     requires settings { AreLawful settings.now }
-    requires processes { All IsLawful processes.now }
+    requires controllers { All IsLawful controllers.now }
     requires events { AreEventsFrom settings.now.end_beat.0 0 events.now }
-    requires few { length processes.now ≤ 16 }
-    ensures count { IfOk result (λ cs. length cs.items ≡ length processes.now) }
-    ensures clocks { IfOk result (λ cs. (i : ℕ) (c : Controller) → slice_get cs.items i ≡ Some c → c.clock.end ≡ settings.now.end_beat.0) }
-    ensures stands { (doc : Doc) → doc.settings ≡ settings.now → (doc.controllers ++ doc.kubelets) ≡ processes.now → doc.events ≡ events.now → IfOk result (λ cs. EachStands doc [] cs.items) }
+    requires few { length controllers.now ≤ 16 }
+    ensures count { IfOk result (λ xs. length xs.items ≡ length controllers.now) }
+    ensures clocks { IfOk result (λ xs. GoOnTo settings.now.end_beat.0 xs.items) }
+    ensures stands { (doc : Doc) → AreMadeOf doc settings.now controllers.now events.now → IfOk result (λ xs. EachStands doc [] xs.items) }
 {
-    let mut controllers = Vec::new(alloc);
-    for process in processes.as_slice() {
-        let me = ProcId(controllers.len() as u32);
-        controllers.push(Controller::new(alloc, me, settings, process, events)?)?;
+    let mut processes = Vec::new(alloc);
+    for process in controllers.as_slice() {
+        let me = ProcId(processes.len() as u32);
+        let controller = Controller::new(alloc, me, settings, process, events)?;
+        processes.push(Process::Controller(controller))?;
     }
-    Ok(controllers)
+    Ok(processes)
 }

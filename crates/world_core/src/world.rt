@@ -13,9 +13,8 @@ ghost use Rattle.object_store.specs.StoreAnswers.{object_of};
 ghost use Rattle.script_reader.specs.Documents.{doc_of};
 ghost use Rattle.script_reader.specs.Lawful.{IsLawfulDoc};
 ghost use Rattle.world_core.specs.Forms.{is_run};
-ghost use Rattle.world_core.specs.Plain.{IsFew};
-ghost use Rattle.world_core.specs.States.{AddNothing};
-ghost use Rattle.world_core.specs.Worlds.{IsReady, WorldStands, at_of, end_of, names_of};
+ghost use Rattle.world_process.specs.Plain.{IsFew};
+ghost use Rattle.world_core.specs.Worlds.{IsReady, Skipped, WorldStands, at_of, end_of, names_of};
 
 use crate::state::State;
 use kube_base::{Beat, Names, NoMemory};
@@ -23,7 +22,7 @@ use kube_objects::{Deeds, Items};
 use script_reader::Document;
 use std::alloc::Global;
 
-/// Controllers, the store and the wire between them, before a beat. It is boxed, so that a beat doesn't move it.
+/// Processes, the store and the wire between them, before a beat. It is boxed, so that a beat doesn't move it.
 #[derive(Drop)]
 pub struct World {
     state: Box<State>,
@@ -85,15 +84,13 @@ impl World {
         Ok((self, deeds))
     }
 
-    /// Goes on to the next beat at which something may happen, at most to the one after the end. Nothing happens in the
+    /// Goes on to the next beat at which something may happen, at most to the one after the end. Nothing is printed of the
     /// beats between.
     pub fn skip_quiet(&mut self)
         requires ready { IsReady self.old }
-        requires begun { 0 < at_of self.old }
         requires within { at_of self.old ≤ end_of self.old + 1 }
         ensures kept { IsReady self.new × (at_of self.old ≤ at_of self.new) × (at_of self.new ≤ end_of self.new + 1) × (end_of self.new ≡ end_of self.old) × (names_of self.new ≡ names_of self.old) }
-        ensures stands { (doc : Doc) (k : ℕ) (h : List Entry) → WorldStands doc k h self.old
-            → WorldStands doc (at_of self.new) h self.new × AddNothing doc k (at_of self.new) h }
+        ensures stands { (doc : Doc) (k : ℕ) (h : List Entry) → WorldStands doc k h self.old → Skipped doc k h self.new }
     {
         self.state.skip_quiet();
     }

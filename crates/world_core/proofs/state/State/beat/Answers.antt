@@ -6,7 +6,7 @@ use Rattle.history.specs.Due.{answer_all, deliver_all}
 use Rattle.history.specs.Printed.{printed}
 use Rattle.history.specs.Steps.{first_starts, turns}
 use Rattle.world_core.specs.declared.state.State.{State}
-use Rattle.world_core.specs.Plain.{IsFew, SentByKnown, BackToKnown}
+use Rattle.world_process.specs.Plain.{IsFew, SentByKnown, BackToKnown}
 use Rattle.world_core.specs.States.{IsPlaced, StateStands, Running}
 use Rattle.world_core.proofs.Beats.{one, two, three, beat-is, few-three, few-one, few-starts, requests-starts, replies-starts, replies-answers, world-next}
 use Rattle.world_core.proofs.Known.{requests-known, replies-known}

@@ -26,6 +26,6 @@ loop-i-preserved c =
 pub returns-clause-still : goal.returns-clause-still
 returns-clause-still c doc k j arriving coming h s within less =
     let count = s.rest.document.count in
-    let len = c.args.self.now.controllers.ok.0 in
+    let len = c.args.self.now.processes.ok.0 in
     let last : c.loop-i.i ≡ processes doc = omega (arith, c.loop-i-test.false, c.loop-i.auto.i-end, c.len-i-end.ensures, count, len) in
     subst (λ n. turns doc j n h ≡ h) last (c.loop-i.invariant.still doc k j arriving coming h s within less)

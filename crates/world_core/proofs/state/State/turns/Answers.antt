@@ -13,7 +13,7 @@ loop-i-preserved c =
       stands = λ doc k before arriving coming h r few.
           let done = c.loop-i.invariant.stands doc k before arriving coming h r few in
           let count = r.world.rest.document.count in
-          let len = c.args.self.now.controllers.ok.0 in
+          let len = c.args.self.now.processes.ok.0 in
           let less : i < processes doc = omega (arith, c.loop-i-test.true, c.len-i-end.ensures, count, len) in
           subst (λ n. Running doc k before arriving coming (turns doc k n h) c.turn.new.self c.turn.new.deeds) (sym (add-one i))
           (c.in_ok-turn.ensures.stands doc k before arriving coming (turns doc k i h) done (few-turns doc k i (processes doc) h less few));
@@ -22,6 +22,6 @@ loop-i-preserved c =
 pub returns-clause-stands : goal.returns-clause-stands
 returns-clause-stands c doc k before arriving coming h r few =
     let count = r.world.rest.document.count in
-    let len = c.args.self.now.controllers.ok.0 in
+    let len = c.args.self.now.processes.ok.0 in
     let last : c.loop-i.i ≡ processes doc = omega (arith, c.loop-i-test.false, c.loop-i.auto.i-end, c.len-i-end.ensures, count, len) in
     subst (λ n. Running doc k before arriving coming (turns doc k n h) c.loop-i.self c.loop-i.deeds) last (c.loop-i.invariant.stands doc k before arriving coming h r few)
