@@ -183,8 +183,12 @@ tick_as doc k q true h = tick doc k q h
 abbrev pub ticks : Doc → ℕ → ℕ → List Entry → List Entry
 ticks doc k p h = if_up p (λ q T. tick_as doc k q (acts doc q k T) T) (alive p h) h
 
+-- a controller's turn but for its tick
+abbrev pub elector_turn : Doc → ℕ → ℕ → List Entry → List Entry
+elector_turn doc k p h = attempts doc k p (finish doc k p (expire doc k p (restart doc k p h)))
+
 abbrev pub controller_turn : Doc → ℕ → ℕ → List Entry → List Entry
-controller_turn doc k p h = ticks doc k p (attempts doc k p (finish doc k p (expire doc k p (restart doc k p h))))
+controller_turn doc k p h = ticks doc k p (elector_turn doc k p h)
 
 -- a round begins where it is time
 abbrev pub rounds : Doc → ℕ → ℕ → List Entry → List Entry
