@@ -3,7 +3,7 @@ use Rattle.std.proofs.Common.{◌≡◌, ℕ, ◌==◌, ◌&&◌, false, List, �
 use Rattle.kube_objects.specs.declared.call.Reply.{Reply}
 use Rattle.kube_objects.specs.declared.object.Object.{Object}
 use Rattle.kube_objects.specs.Document.{Doc}
-use Rattle.kube_objects.specs.Entry.{Entry, Identity, Call, Deed, Answers, entry}
+use Rattle.kube_objects.specs.Entry.{Entry, Identity, Call, Deed, Answers, Tick, Ticks, entry}
 use Rattle.kube_objects.specs.Identities.{identity, is_same, is_by}
 use Rattle.kube_objects.specs.Process.{alive, ended}
 use Rattle.leader_elector.proofs.Frames.{candidate-foreign, leading-foreign, candidate-quiet, leading-quiet}
@@ -53,3 +53,13 @@ controller-answered doc p k step q call reply comes written h c s =
     by_role (role.Down at) r = r
     by_role (role.Candidate x) r = (r.0, candidate-quiet doc (identity p c.incarnation) (entry k step q (Answers call reply comes written)) h x refl r.1)
     by_role (role.Leading x) r = (r.0, leading-quiet doc (identity p c.incarnation) (entry k step q (Answers call reply comes written)) h x refl r.1)
+
+-- an entry of a tick, whosever it is
+pub controller-ticked : (doc : Doc) (p k step : ℕ) (q : Identity) (tick : Tick) (h : List Entry) (c : Controller) → ControllerStands doc p h c → ControllerStands doc p (entry k step q (Ticks tick) ∷ h) c
+controller-ticked doc p k step q tick h c s =
+    record { sort = s.sort; me = s.me; incarnation = s.incarnation; timing = s.timing; clock = s.clock; up_first = s.up_first; asleep = s.asleep; role = by_role c.role s.role }
+  where
+    by_role : (r : Role) → RoleStands doc p c.incarnation h r → RoleStands doc p c.incarnation (entry k step q (Ticks tick) ∷ h) r
+    by_role (role.Down at) r = r
+    by_role (role.Candidate x) r = (r.0, candidate-quiet doc (identity p c.incarnation) (entry k step q (Ticks tick)) h x refl r.1)
+    by_role (role.Leading x) r = (r.0, leading-quiet doc (identity p c.incarnation) (entry k step q (Ticks tick)) h x refl r.1)

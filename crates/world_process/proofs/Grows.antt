@@ -10,10 +10,13 @@ use Rattle.kube_objects.specs.Document.{Doc, is_controller, is_up_first, process
 use Rattle.kube_objects.specs.Elector.{Follow, Fails, Asks, Succeeds, deadline, release, acts, leads, follow_on}
 use Rattle.kube_objects.specs.Entry.{Entry, Identity, Call, Stops, Event, Delivers, entry, script_entry}
 use Rattle.kube_objects.specs.Identities.{identity, is_by}
+use Rattle.kube_objects.specs.Kubelet.{next_request, send_next, round_if, round}
 use Rattle.kube_objects.specs.Process.{alive, begun, starts, is_send, call_in, counted, ended, is_late, is_restart_due}
+use Rattle.kube_objects.specs.Tick.{add}
 use Rattle.kube_objects.specs.Turns.{lead_if, react, expire_as, expire_call, end_as, end_term, attempt_if, try}
 use Rattle.kube_objects.specs.Wire.{Sent, Back, sent_of, back_of}
-use Rattle.history.specs.Steps.{start_if_down, crash, released, stop, effect, stamp, event_version, happens, happens_if, happen_all, start_first, starts_below, first_starts, each, answer_if, answer_due, step_two, react_as, deliver_as, delivered, deliver_if, deliver_due, step_three, if_up, restart_as, restart_if, restart, expire, finish, attempts, tick_as, ticks, controller_turn, turn_as, turn, turns, comes_at}
+use Rattle.history.specs.Steps.{start_if_down, crash, released, stop, effect, stamp, event_version, happens, happens_if, happen_all, start_first, starts_below, first_starts, each, answer_if, answer_due, step_two, react_as, deliver_as, delivered, deliver_if, deliver_due, step_three, if_up, restart_as, restart_if, restart, expire, finish, attempts, tick_as, ticks, elector_turn, controller_turn, kubelet_turn, turn_as, turn, turns, comes_at}
+use Rattle.history_laws.proofs.Ticks.{walk_tick}
 use Rattle.world_process.specs.Plain.{IsFew}
 use Rattle.world_process.proofs.Plainly.{added-more, starts-more}
 
@@ -125,9 +128,13 @@ grows-react k q led Fails h = grows-same h
 grows-react k q led (Asks request) h = grows-entry _ h
 grows-react k q led (Succeeds version) h = grows-lead_if k q led version h
 
+grows-send_next : (k : ℕ) (q : Identity) (wanted : Option Request) (h : List Entry) → Grows h (send_next k q wanted h)
+grows-send_next k q None h = grows-same h
+grows-send_next k q (Some request) h = grows-entry _ h
+
 grows-react_as : (doc : Doc) (k : ℕ) (q : Identity) (call : Call) (reply : Reply) (b : Bool) (h : List Entry) → Grows h (react_as doc k q call reply b h)
 grows-react_as doc k q call reply true h = grows-react k q (leads q h) (follow_on doc q k call.kind call.request reply h) h
-grows-react_as doc k q call reply false h = grows-same h
+grows-react_as doc k q call reply false h = grows-send_next k q (next_request doc q k call.request reply) h
 
 grows-deliver_as : (doc : Doc) (k : ℕ) (q : Identity) (call : Call) (reply : Reply) (waiting : Option Call) (h : List Entry) → Grows h (deliver_as doc k q call reply waiting h)
 grows-deliver_as doc k q call reply None h = grows-entry _ h
@@ -182,7 +189,7 @@ grows-attempt_if doc k q false false h = grows-same h
 
 grows-tick_as : (doc : Doc) (k : ℕ) (q : Identity) (b : Bool) (h : List Entry) → Grows h (tick_as doc k q b h)
 grows-tick_as doc k q false h = grows-same h
-grows-tick_as doc k q true h = grows-same h
+grows-tick_as doc k q true h = walk_tick doc k q (Grows h) (λ t g made grown. grows-on h g (add k q t g) grown (grows-entry _ g)) h (grows-same h)
 
 grows-if_up : (p : ℕ) (f : Identity → List Entry → List Entry) → ((q : Identity) (h : List Entry) → Grows h (f q h)) → (up : Option ℕ) (h : List Entry) → Grows h (if_up p f up h)
 grows-if_up p f more None h = grows-same h
@@ -203,23 +210,35 @@ grows-try doc k q h = grows-attempt_if doc k q _ _ h
 grows-attempts : (doc : Doc) (k p : ℕ) (h : List Entry) → Grows h (attempts doc k p h)
 grows-attempts doc k p h = grows-if_up p (try doc k) (grows-try doc k) (alive p h) h
 
-grows-ticks : (doc : Doc) (k p : ℕ) (h : List Entry) → Grows h (ticks doc k p h)
+pub grows-ticks : (doc : Doc) (k p : ℕ) (h : List Entry) → Grows h (ticks doc k p h)
 grows-ticks doc k p h = grows-if_up p (λ q T. tick_as doc k q (acts doc q k T) T) (λ q T. grows-tick_as doc k q (acts doc q k T) T) (alive p h) h
 
--- the turn goes on from a point of it
-pub grows-acts : (doc : Doc) (k p : ℕ) (h : List Entry) → Grows h (ticks doc k p (attempts doc k p h))
-grows-acts doc k p h = grows-on h (attempts doc k p h) _ (grows-attempts doc k p h) (grows-ticks doc k p (attempts doc k p h))
-
-pub grows-controller_turn : (doc : Doc) (k p : ℕ) (h : List Entry) → Grows h (controller_turn doc k p h)
-grows-controller_turn doc k p h =
+grows-elector_turn : (doc : Doc) (k p : ℕ) (h : List Entry) → Grows h (elector_turn doc k p h)
+grows-elector_turn doc k p h =
     let r = restart doc k p h in
     let e = expire doc k p r in
     let f = finish doc k p e in
-    grows-on h r _ (grows-restart doc k p h) (grows-on r e _ (grows-expire doc k p r) (grows-on e f _ (grows-finish doc k p e) (grows-acts doc k p f)))
+    grows-on h r _ (grows-restart doc k p h) (grows-on r e _ (grows-expire doc k p r) (grows-on e f _ (grows-finish doc k p e) (grows-attempts doc k p f)))
+
+pub grows-controller_turn : (doc : Doc) (k p : ℕ) (h : List Entry) → Grows h (controller_turn doc k p h)
+grows-controller_turn doc k p h = grows-on h (elector_turn doc k p h) _ (grows-elector_turn doc k p h) (grows-ticks doc k p (elector_turn doc k p h))
+
+grows-round_if : (doc : Doc) (k : ℕ) (q : Identity) (posted due : Bool) (h : List Entry) → Grows h (round_if doc k q posted due h)
+grows-round_if doc k q true due h = grows-entry _ h
+grows-round_if doc k q false true h = grows-entry _ h
+grows-round_if doc k q false false h = grows-same h
+
+grows-round : (doc : Doc) (k : ℕ) (q : Identity) (h : List Entry) → Grows h (round doc k q h)
+grows-round doc k q h = grows-round_if doc k q _ _ h
+
+grows-kubelet_turn : (doc : Doc) (k p : ℕ) (h : List Entry) → Grows h (kubelet_turn doc k p h)
+grows-kubelet_turn doc k p h =
+    let e = expire doc k p h in
+    grows-on h e _ (grows-expire doc k p h) (grows-if_up p (round doc k) (grows-round doc k) (alive p e) e)
 
 grows-turn_as : (doc : Doc) (k p : ℕ) (b : Bool) (h : List Entry) → Grows h (turn_as doc k p b h)
 grows-turn_as doc k p true h = grows-controller_turn doc k p h
-grows-turn_as doc k p false h = grows-same h
+grows-turn_as doc k p false h = grows-kubelet_turn doc k p h
 
 pub grows-turn : (doc : Doc) (k p : ℕ) (h : List Entry) → Grows h (turn doc k p h)
 grows-turn doc k p h = grows-turn_as doc k p (is_controller doc p) h
@@ -236,9 +255,9 @@ grows-more_turns doc k m (suc n) h =
     (grows-on (turns doc k m h) (turns doc k (m + n) h) (turns doc k (suc (m + n)) h) (grows-more_turns doc k m n h) (grows-turn doc k (m + n) (turns doc k (m + n) h)))
 
 -- what a turn adds after the restart
-pub grows-after_restart : (doc : Doc) (k p : ℕ) (h : List Entry) → Grows (restart doc k p h) (controller_turn doc k p h)
+pub grows-after_restart : (doc : Doc) (k p : ℕ) (h : List Entry) → Grows (restart doc k p h) (elector_turn doc k p h)
 grows-after_restart doc k p h =
     let r = restart doc k p h in
     let e = expire doc k p r in
     let f = finish doc k p e in
-    grows-on r e _ (grows-expire doc k p r) (grows-on e f _ (grows-finish doc k p e) (grows-acts doc k p f))
+    grows-on r e _ (grows-expire doc k p r) (grows-on e f _ (grows-finish doc k p e) (grows-attempts doc k p f))

@@ -11,7 +11,7 @@ use Rattle.kube_objects.specs.declared.script.What.{What}
 use Rattle.kube_objects.specs.declared.script.What.TheVariants as what
 use Rattle.kube_objects.specs.Clocks.{store_wall, whole_second}
 use Rattle.kube_objects.specs.Document.{Doc, is_controller}
-use Rattle.kube_objects.specs.Entry.{Entry, Identity, Call, Deed, First, Event, Starts, Crashes, Answers, Delivers, entry, script_entry, actor_of}
+use Rattle.kube_objects.specs.Entry.{Entry, Identity, Call, Deed, First, Event, Starts, Crashes, Answers, Tick, Ticks, entry, script_entry, actor_of}
 use Rattle.kube_objects.specs.Identities.{identity}
 use Rattle.kube_objects.specs.Newest.{when, join}
 use Rattle.kube_objects.specs.Process.{alive, life, gone, starts, counted}
@@ -19,7 +19,7 @@ use Rattle.kube_objects.specs.Stamps.{stamped}
 use Rattle.kube_objects.specs.Wire.{Back}
 use Rattle.history.specs.History.{put_all}
 use Rattle.history.specs.Printed.{printed, deeds_of}
-use Rattle.history.specs.Steps.{crash, deliver_as, delivered, happens, react_as, start, start_if_down}
+use Rattle.history.specs.Steps.{crash, happens, start, start_if_down}
 use Rattle.world_process.specs.declared.kubelet.Kubelet.{Kubelet}
 use Rattle.world_process.specs.Kubelets.{Begun, Crashed, KubeletStands}
 use Rattle.world_process.specs.Moves as moves
@@ -43,6 +43,9 @@ kubelet-others doc p k step q d h b other s =
 pub kubelet-answered : (doc : Doc) (p k step : ℕ) (q : Identity) (call : Call) (reply : Reply) (comes : Option ℕ) (written : Option Object) (h : List Entry) (b : Kubelet) → KubeletStands doc p h b →
     KubeletStands doc p (entry k step q (Answers call reply comes written) ∷ h) b
 kubelet-answered doc p k step q call reply comes written h b s = kubelet-later doc p (entry k step q (Answers call reply comes written)) h b refl refl s
+
+pub kubelet-ticked : (doc : Doc) (p k step : ℕ) (q : Identity) (tick : Tick) (h : List Entry) (b : Kubelet) → KubeletStands doc p h b → KubeletStands doc p (entry k step q (Ticks tick) ∷ h) b
+kubelet-ticked doc p k step q tick h b s = kubelet-later doc p (entry k step q (Ticks tick)) h b refl refl s
 
 pub kubelet-put_all : (doc : Doc) (p : ℕ) (items : List (Key × Object)) (h : List Entry) (b : Kubelet) → KubeletStands doc p h b → KubeletStands doc p (put_all doc items h) b
 kubelet-put_all doc p [] h b s = s
@@ -78,29 +81,3 @@ kubelet-begun doc k id h b new down s stands =
           ∙ ap (λ ds. ds ++ deeds_of k (actor_of q) (Some act.Start)) (append-nil (printed h))
           ∙ ap (λ n. printed h ++ deeds_of k (actor_of (identity id.0 n)) (Some act.Start)) same;
     }
-
--- ---- a reply to it causes nothing
-
-kubelet-delivered : (doc : Doc) (p k : ℕ) (q : Identity) (call : Call) (reply : Reply) (counts : Bool) (h : List Entry) (b : Kubelet) → KubeletStands doc p h b → KubeletStands doc p (entry k 3 q (Delivers call reply counts) ∷ h) b
-kubelet-delivered doc p k q call reply counts h b s = kubelet-later doc p (entry k 3 q (Delivers call reply counts)) h b refl refl s
-
-pub kubelet-replied : (doc : Doc) (k p : ℕ) (b : Back) (h : List Entry) (x : Kubelet) → b.who.process ≡ p → KubeletStands doc p h x →
-    moves.Replied doc k (identity p x.incarnation) b h (λ g. KubeletStands doc p g x) (record { lead = None; ask = None })
-kubelet-replied doc k p b h x process s = by_counted (counted doc b.who k b.call.number h) refl
-  where
-    Wanted : Type 0
-    Wanted = moves.Replied doc k (identity p x.incarnation) b h (λ y. KubeletStands doc p y x) (record { lead = None; ask = None })
-
-    quiet : (call : Call) (counts : Bool) → delivered doc k b h ≡ entry k 3 b.who (Delivers call b.reply counts) ∷ h → Wanted
-    quiet call counts is =
-        let next = entry k 3 b.who (Delivers call b.reply counts) ∷ h in
-        record {
-          told = ap printed is;
-          asks = record { deeds = Delivers call b.reply counts ∷ []; quiet = (refl, tt); adds = is; stands = subst (λ g. KubeletStands doc p g x) (sym is) (kubelet-delivered doc p k b.who call b.reply counts h x s) };
-        }
-
-    by_counted : (w : Option Call) → counted doc b.who k b.call.number h ≡ w → Wanted
-    by_counted None none = quiet b.call false (ap (λ w. deliver_as doc k b.who b.call b.reply w h) none)
-    by_counted (Some w) some =
-        let g = entry k 3 b.who (Delivers w b.reply true) ∷ h in
-        quiet w true (ap (λ c. deliver_as doc k b.who b.call b.reply c h) some ∙ ap (λ t. react_as doc k b.who w b.reply t g) (ap (is_controller doc) process ∙ s.sort))

@@ -6,16 +6,16 @@ use Rattle.kube_objects.specs.declared.key.Key.{Key}
 use Rattle.kube_objects.specs.declared.object.Object.{Object}
 use Rattle.kube_objects.specs.declared.script.What.{What}
 use Rattle.kube_objects.specs.Document.{Doc, is_controller, is_up_first}
-use Rattle.kube_objects.specs.Entry.{Entry, Identity, Call, Deed, Event, Answers, entry, script_entry}
+use Rattle.kube_objects.specs.Entry.{Entry, Identity, Call, Deed, Event, Answers, Tick, Ticks, entry, script_entry}
 use Rattle.kube_objects.specs.Process.{cancels, starts}
 use Rattle.history.specs.History.{put_all}
-use Rattle.history.specs.Steps.{controller_turn, turn, turn_as}
+use Rattle.history.specs.Steps.{elector_turn}
 use Rattle.world_process.specs.declared.process.Process.{Process}
 use Rattle.world_process.specs.declared.process.Process.TheVariants.{Controller, Kubelet}
 use Rattle.world_process.specs.Controllers.{IsStill}
 use Rattle.world_process.specs.Processes.{ProcessStands, me_of, incarnation_of, is_up_first_as}
-use Rattle.world_process.proofs.Beside.{controller-others, controller-answered}
-use Rattle.world_process.proofs.Kubelets.{kubelet-others, kubelet-answered, kubelet-put_all, kubelet-event}
+use Rattle.world_process.proofs.Beside.{controller-others, controller-answered, controller-ticked}
+use Rattle.world_process.proofs.Kubelets.{kubelet-others, kubelet-answered, kubelet-ticked, kubelet-put_all, kubelet-event}
 use Rattle.world_process.proofs.Lives.{is_event}
 use Rattle.world_process.proofs.Resting.{turn-still}
 use Rattle.world_process.proofs.Scripted.{controller-put_all, controller-event}
@@ -45,6 +45,10 @@ pub process-answered : (doc : Doc) (p k step : ℕ) (q : Identity) (call : Call)
 process-answered doc p k step q call reply comes written h (Controller c) s = controller-answered doc p k step q call reply comes written h c s
 process-answered doc p k step q call reply comes written h (Kubelet b) s = kubelet-answered doc p k step q call reply comes written h b s
 
+pub process-ticked : (doc : Doc) (p k step : ℕ) (q : Identity) (tick : Tick) (h : List Entry) (x : Process) → ProcessStands doc p h x → ProcessStands doc p (entry k step q (Ticks tick) ∷ h) x
+process-ticked doc p k step q tick h (Controller c) s = controller-ticked doc p k step q tick h c s
+process-ticked doc p k step q tick h (Kubelet b) s = kubelet-ticked doc p k step q tick h b s
+
 pub process-put_all : (doc : Doc) (p : ℕ) (items : List (Key × Object)) (h : List Entry) (x : Process) → ProcessStands doc p h x → ProcessStands doc p (put_all doc items h) x
 process-put_all doc p items h (Controller c) s = controller-put_all doc p items h c s
 process-put_all doc p items h (Kubelet b) s = kubelet-put_all doc p items h b s
@@ -55,11 +59,5 @@ process-event doc p k step event version h (Kubelet b) other s = kubelet-event d
 
 -- ---- turns
 
-pub turn-of : (doc : Doc) (k p : ℕ) (h : List Entry) → is_controller doc p ≡ true → turn doc k p h ≡ controller_turn doc k p h
-turn-of doc k p h is = ap (λ t. turn_as doc k p t h) is
-
-pub controller-still : (doc : Doc) (k p : ℕ) (h : List Entry) → is_controller doc p ≡ true → IsStill doc k p h → turn doc k p h ≡ h
-controller-still doc k p h is still = turn-of doc k p h is ∙ turn-still doc k p h still
-
-pub kubelet-still : (doc : Doc) (k p : ℕ) (h : List Entry) → is_controller doc p ≡ false → turn doc k p h ≡ h
-kubelet-still doc k p h is = ap (λ t. turn_as doc k p t h) is
+pub controller-still : (doc : Doc) (k p : ℕ) (h : List Entry) → IsStill doc k p h → elector_turn doc k p h ≡ h
+controller-still doc k p h still = turn-still doc k p h still

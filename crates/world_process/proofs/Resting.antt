@@ -11,7 +11,7 @@ use Rattle.kube_objects.specs.Identities.{identity}
 use Rattle.kube_objects.specs.Process.{alive, call_in, is_late}
 use Rattle.kube_objects.specs.Turns.{attempt_if, end_as, end_term, expire_as, expire_call, try}
 use Rattle.history.specs.Printed.{printed}
-use Rattle.history.specs.Steps.{attempts, controller_turn, finish, restart}
+use Rattle.history.specs.Steps.{attempts, elector_turn, finish, restart}
 use Rattle.leader_elector.specs.declared.candidate.Candidate.{Candidate}
 use Rattle.leader_elector.specs.declared.leading.Leading.{Leading}
 use Rattle.leader_elector.specs.Moves.{candidate_turn, expired, leading_turn, tested, try_before}
@@ -24,7 +24,7 @@ use Rattle.world_process.specs.Moves.{settled}
 use Rattle.world_process.proofs.Standing.{role-at}
 use Rattle.world_process.proofs.Restarts.{restart-never, restart-waits}
 use Rattle.world_process.proofs.Timers.{candidate-settled, up-settled}
-use Rattle.world_process.proofs.Turning.{attempts-down, attempts-up, expire-down, finish-down, restart-up, ticks-same}
+use Rattle.world_process.proofs.Turning.{attempts-down, attempts-up, expire-down, finish-down, restart-up}
 
 -- a reading below one that isn't above the wake
 pub below-wake : (now below wake : ℕ) → now < below → nat_le below wake ≡ true → nat_lt now wake ≡ true
@@ -142,9 +142,8 @@ timed-still doc k p h c s still =
       asks = subst (λ g. AsksOn doc k 4 p g (attempts doc k p g) c None) (sym still.settles) (still.tries, s);
     }
 
-pub turn-still : (doc : Doc) (k p : ℕ) (h : List Entry) → IsStill doc k p h → controller_turn doc k p h ≡ h
+pub turn-still : (doc : Doc) (k p : ℕ) (h : List Entry) → IsStill doc k p h → elector_turn doc k p h ≡ h
 turn-still doc k p h still =
-    ticks-same doc k p (attempts doc k p (settled doc k p (restart doc k p h)))
-    ∙ ap (λ g. attempts doc k p (settled doc k p g)) still.restarts
+    ap (λ g. attempts doc k p (settled doc k p g)) still.restarts
     ∙ ap (attempts doc k p) still.settles
     ∙ still.tries

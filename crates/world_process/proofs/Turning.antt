@@ -2,25 +2,14 @@
 use Rattle.std.proofs.Common.{◌≡◌, ℕ, Bool, true, false, List, Option, Some, None, refl, ap, ◌∙◌}
 use Rattle.std.proofs.lemmas.List.{append-nil}
 use Rattle.kube_objects.specs.Document.{Doc}
-use Rattle.kube_objects.specs.Elector.{deadline, acts}
+use Rattle.kube_objects.specs.Elector.{deadline}
 use Rattle.kube_objects.specs.Entry.{Entry, Identity, Call}
 use Rattle.kube_objects.specs.Identities.{identity}
 use Rattle.kube_objects.specs.Process.{alive, starts, call_in, is_late, ended, is_restart_due}
 use Rattle.kube_objects.specs.Turns.{expire_as, expire_call, end_term, try}
 use Rattle.history.specs.Printed.{printed}
-use Rattle.history.specs.Steps.{restart_as, restart_if, restart, if_up, expire, finish, attempts, tick_as, ticks}
+use Rattle.history.specs.Steps.{restart_as, restart_if, restart, if_up, expire, finish, attempts}
 use Rattle.leader_elector.specs.Moves.{expired, tested}
-
-tick_as-same : (doc : Doc) (k : ℕ) (q : Identity) (b : Bool) (h : List Entry) → tick_as doc k q b h ≡ h
-tick_as-same doc k q true h = refl
-tick_as-same doc k q false h = refl
-
-pub ticks-same : (doc : Doc) (k p : ℕ) (h : List Entry) → ticks doc k p h ≡ h
-ticks-same doc k p h = by_life (alive p h)
-  where
-    by_life : (up : Option ℕ) → if_up p (λ q T. tick_as doc k q (acts doc q k T) T) up h ≡ h
-    by_life None = refl
-    by_life (Some i) = tick_as-same doc k (identity p i) (acts doc (identity p i) k h) h
 
 pub restart-up : (doc : Doc) (k p i : ℕ) (h : List Entry) → alive p h ≡ Some i → restart doc k p h ≡ h
 restart-up doc k p i h up = ap (λ x. restart_if doc k p x h) up

@@ -66,21 +66,17 @@ pub record StoppedAs (doc : Doc) (k : ℕ) (id : ProcId) (h : List Entry) (i : �
 abbrev pub settled : Doc → ℕ → ℕ → List Entry → List Entry
 settled doc k p h = finish doc k p (expire doc k p h)
 
--- the history after all of a turn that asks nothing; a kubelet's turn has no such part so far
-abbrev pub settled_as : Doc → ℕ → ℕ → Bool → List Entry → List Entry
-settled_as doc k p true h = settled doc k p (restart doc k p h)
-settled_as doc k p false h = h
-
+-- the history after all of a controller's turn that asks nothing
 abbrev pub before_asking : Doc → ℕ → ℕ → List Entry → List Entry
-before_asking doc k p h = settled_as doc k p (is_controller doc p) h
+before_asking doc k p h = settled doc k p (restart doc k p h)
 
 abbrev pub ended_deeds : ℕ → Identity → Bool → List deed.Deed
 ended_deeds k q b = deeds_of k (actor_of q) (when b act.End)
 
--- a process has done its turn
+-- a controller has done its turn, but for its tick
 pub record Turned (doc : Doc) (k p : ℕ) (h : List Entry) (i : ℕ) (Stands : List Entry → Type 0) (t : Turn) : Type 0 where
   pub told : printed (before_asking doc k p h) ≡ printed h ++ started_deeds k (identity p i) t.started ++ ended_deeds k (identity p i) t.ended
-  pub asks : AsksOn k 4 (identity p i) (before_asking doc k p h) (turn doc k p h) Stands t.ask
+  pub asks : AsksOn k 4 (identity p i) (before_asking doc k p h) (elector_turn doc k p h) Stands t.ask
 
 -- ---- a reply
 

@@ -8,7 +8,7 @@ ghost use Rattle.kube_objects.specs.Entry.{Entry};
 ghost use Rattle.kube_objects.specs.Identities.{identity};
 ghost use Rattle.kube_objects.specs.Process.{starts};
 ghost use Rattle.kube_objects.specs.Wire.{Back};
-ghost use Rattle.history.specs.Steps.{happens, start, restart, turn};
+ghost use Rattle.history.specs.Steps.{happens, start, elector_turn};
 ghost use Rattle.world_process.specs.Plain.{IsPlain, IsFew};
 ghost use Rattle.world_process.specs.Processes.{ProcessStands, SameProcess, Crashed, Begun, StoppedAs, Turned, Replied, me_of, incarnation_of, clock_of, is_up_first_as};
 
@@ -113,14 +113,14 @@ impl Process {
         }
     }
 
-    /// Its turn: it may start again, end, or ask a request. The delay of a restart is in units of 10^-12 s. A kubelet's
-    /// turn does nothing so far.
+    /// A controller's turn but for its tick: it may start again, end, or ask a request. The delay of a restart is in units
+    /// of 10^-12 s. A kubelet does nothing so far.
     pub fn turn(&mut self, beat: Beat, delay: u64) -> Turn
         requires within { beat.0 ≤ (clock_of self.old).end }
         requires delay { delay ≤ 86400000000000000 }
         ensures same { SameProcess self.old self.new }
-        ensures stands { (doc : Doc) (n k p : ℕ) (h : List Entry) → ProcessStands doc p h self.old → beat.0 ≡ k → delay ≡ restart_delay doc
-            → IsPlain n h → IsFew (turn doc k p h) → Turned doc k p h self.new result }
+        ensures stands { (doc : Doc) (n k p : ℕ) (h : List Entry) → ProcessStands doc p h self.old → is_controller doc p ≡ true
+            → beat.0 ≡ k → delay ≡ restart_delay doc → IsPlain n h → IsFew (elector_turn doc k p h) → Turned doc k p h self.new result }
     {
         match self {
             Process::Controller(controller) => controller.turn(beat, delay),
@@ -128,12 +128,13 @@ impl Process {
         }
     }
 
-    /// The first beat at which its turn may do something: in each beat before, up to the end, it does nothing.
+    /// The first beat at which a controller's turn may do something but for its tick: in each beat before, up to the end,
+    /// it doesn't.
     pub fn wakes_from(&mut self, beat: Beat) -> Beat
         ensures same { SameProcess self.old self.new }
         ensures stands { (doc : Doc) (p : ℕ) (h : List Entry) → ProcessStands doc p h self.old → ProcessStands doc p h self.new }
-        ensures still { (doc : Doc) (k p : ℕ) (h : List Entry) → ProcessStands doc p h self.old → k ≤ (clock_of self.old).end → k < result.0
-            → turn doc k p h ≡ h }
+        ensures still { (doc : Doc) (k p : ℕ) (h : List Entry) → ProcessStands doc p h self.old → is_controller doc p ≡ true
+            → k ≤ (clock_of self.old).end → k < result.0 → elector_turn doc k p h ≡ h }
     {
         match self {
             Process::Controller(controller) => controller.wakes_from(beat),
@@ -141,12 +142,12 @@ impl Process {
         }
     }
 
-    /// A reply that comes to an incarnation of it. A kubelet does nothing on one so far.
+    /// A reply that comes to an incarnation of a controller. A kubelet does nothing on one so far.
     pub fn receive(&mut self, incarnation: u32, number: u64, reply: &Reply, beat: Beat) -> Received
         requires { beat.0 ≤ (clock_of self.old).end }
         ensures same { SameProcess self.old self.new }
-        ensures stands { (doc : Doc) (k p : ℕ) (b : Back) (h : List Entry) → ProcessStands doc p h self.old → beat.0 ≡ k → b.who ≡ identity p incarnation
-            → b.call.number ≡ number → b.reply ≡ reply.now → IsFew h → Replied doc k p b h self.new result }
+        ensures stands { (doc : Doc) (k p : ℕ) (b : Back) (h : List Entry) → ProcessStands doc p h self.old → is_controller doc p ≡ true
+            → beat.0 ≡ k → b.who ≡ identity p incarnation → b.call.number ≡ number → b.reply ≡ reply.now → IsFew h → Replied doc k p b h self.new result }
     {
         match self {
             Process::Controller(controller) => controller.receive(incarnation, number, reply, beat),
