@@ -1,6 +1,5 @@
 -- The trace grows with the beats.
-use Rattle.std.proofs.Common.{◌≡◌, ℕ, suc, ◌+◌, ◌≤◌, List, [], ◌∷◌, ◌++◌, Option, Bool, true, false, nat_lt, IsTrue, ◌↔◌, ◌<◌, length, refl, inl, inr, sym, ap, ◌∙◌, subst, append_assoc, add-one, arith}
-use Rattle.std.proofs.lemmas.Bool.{ltb-true, ltb-false}
+use Rattle.std.proofs.Common.{◌≡◌, ℕ, suc, ◌+◌, ◌≤◌, List, [], ◌∷◌, ◌++◌, Option, length, refl, inl, inr, sym, ap, ◌∙◌, subst, append_assoc, add-one, arith}
 use Rattle.std.proofs.lemmas.List.{append-nil}
 use Rattle.std.proofs.lemmas.Grind.{flat_map-append}
 use Rattle.kube_objects.specs.declared.deed.Deed.{Deed}
@@ -71,19 +70,6 @@ trace-next doc names processes k n deeds is told =
     lines-more doc names processes (printed (history doc k)) deeds
     ∙ ap (λ x. first_line doc ++ lines_of names processes x) told
     ∙ ap (trace_before doc names processes) (sym (is ∙ add-one k))
-
-never : false ≡ true → ⊥
-never h = cc
-
-pub not-over : (end at : ℕ) (b : Bool) → (IsTrue b ↔ (end < at)) → b ≡ false → at ≤ end
-not-over end at b tells answer = by_test (nat_lt end at) refl
-  where
-    by_test : (t : Bool) → nat_lt end at ≡ t → at ≤ end
-    by_test false is = ltb-false end at is
-    by_test true is = absurd (never (sym answer ∙ tells.1 (ltb-true end at is)))
-
-pub over : (end at : ℕ) (b : Bool) → (IsTrue b ↔ (end < at)) → b ≡ true → at ≤ end + 1 → at ≡ end + 1
-over end at b tells answer within = omega (arith, tells.0 answer, within)
 
 -- what the world counts stays within its types
 pub few : (doc : Doc) (k : ℕ) → length doc.events ≤ 100000 → k ≤ 604800000 → IsFew (history doc (suc k))

@@ -5,10 +5,11 @@ use Rattle.history.specs.History.{history}
 use Rattle.history.specs.Printed.{printed}
 use Rattle.world_core.specs.Worlds.{WorldStands, at_of, end_of, names_of}
 use Rattle.world_core.proofs.Quiet.{history-from}
+use Rattle.world_core.proofs.Ranges.{not-over, over}
 use Rattle.replay_top.specs.Lines.{trace_before, lines_of}
 use Rattle.replay_top.specs.Spoken.{Spoken}
 use Rattle.replay_top.proofs.Said.{spoken-given, spoken-front, spoken-so_far, spoken-more}
-use Rattle.replay_top.proofs.Grown.{gave-whole, next-stands, trace-next, trace-same, not-over, over, few, trace-end}
+use Rattle.replay_top.proofs.Grown.{gave-whole, next-stands, trace-next, trace-same, few, trace-end}
 use Rattle.replay_top.proofs.trace.write_beats.Goals as goal
 
 pub returns-in-Err-clause-written : goal.returns-in-Err-clause-written
