@@ -309,20 +309,28 @@ def options():
         if name in ('all', 'plan', 'table', 'measure'):
             command.add_argument('--ask', action='append', default=[], metavar='QUESTION')
         if name in ('all', 'replay'):
-            command.add_argument('--program', default=BUILT if os.path.exists(BUILT) else os.path.join(TOP, 'kube_replay'))
-            command.add_argument('--jobs', type=int, default=os.cpu_count())
+            command.add_argument('--program')
+            command.add_argument('--jobs', type=int)
         if name == 'replay':
             command.add_argument('--share', default='0/1', metavar='I/N')
     return parser.parse_args()
 
 
+def program_of(given):
+    """The program's words, and how many run at once: the launcher, where nothing else is there, alone."""
+    if given.program:
+        return shlex.split(given.program), given.jobs or os.cpu_count()
+    if os.path.exists(BUILT):
+        return [BUILT], given.jobs or os.cpu_count()
+    print('sweep: the program is not built; each run takes half a minute or more', file=sys.stderr)
+    return [os.path.join(TOP, 'kube_replay')], given.jobs or 1
+
+
 def run(given):
     if given.command in ('all', 'plan'):
         write_plan(given)
-    if given.command == 'all':
-        replay(given.folder, shlex.split(given.program), given.jobs)
-    if given.command == 'replay':
-        replay(given.folder, shlex.split(given.program), given.jobs, given.share)
+    if given.command in ('all', 'replay'):
+        replay(given.folder, *program_of(given), getattr(given, 'share', '0/1'))
     if given.command in ('all', 'table'):
         write_table(given.folder, given.ask)
     if given.command == 'missing':

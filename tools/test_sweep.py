@@ -153,12 +153,24 @@ def test_two_values(given, folder):
     same('draws of one seed', (tables[0], len(tables[0].splitlines())), (tables[1], 13))
 
 
+def test_document_with_nodes(given, folder):
+    """The trace of view/data that stands beside its document is the program's."""
+    if not runs_kubelets(given):
+        return
+    trace = single(given, folder, 0, load(os.path.join(TOP, 'view', 'data', 'zone-outage.json')))
+    same('zone-outage', read_bytes(trace), read_bytes(os.path.join(TOP, 'view', 'data', 'zone-outage.txt')))
+
+
+def runs_kubelets(given):
+    probe = subprocess.run([*shlex.split(given.program), 'replay'], input=json.dumps(load(SILENT)), stdout=subprocess.PIPE, text=True)
+    if probe.stdout.startswith('refused 99'):
+        print('LEFT OUT, since this program answers %s to kubelets:' % probe.stdout.strip())
+    return not probe.stdout.startswith('refused 99')
+
+
 def test_grace_period(given, folder):
     """Evictions against the grace period."""
-    document = load(SILENT)
-    probe = subprocess.run([*shlex.split(given.program), 'replay'], input=json.dumps(document), stdout=subprocess.PIPE, text=True).stdout
-    if probe.startswith('refused 99'):
-        print('grace: LEFT OUT, since this program answers %s' % probe.strip())
+    if not runs_kubelets(given):
         return
     sweep('all', SILENT, 'grace', '--vary', '/settings/gracePeriodMillis=20000..200000..10000', '--ask', 'evictions',
           '--ask', 'taints-a-minute', '--program', given.program, folder=folder)
@@ -279,8 +291,8 @@ def test_refused_words(given, folder):
         same('refused %s' % (words,), (done.returncode, done.stderr.startswith('sweep: '), done.stderr.count('\n')), (1, True, 1))
 
 
-TESTS = [test_written_by_hand, test_lease_duration, test_crash_beat, test_two_values, test_grace_period, test_broken_off, test_over_ssh,
-         test_shares, test_refused_words]
+TESTS = [test_written_by_hand, test_lease_duration, test_crash_beat, test_two_values, test_document_with_nodes, test_grace_period,
+         test_broken_off, test_over_ssh, test_shares, test_refused_words]
 
 
 def main():

@@ -310,7 +310,7 @@ def test_large(browser, folder, pictures):
         true('%s in the page opens within 3 s (%.2f s)' % (make.__name__, embedded), embedded <= 3)
 
 
-# Moves through the whole trace, zooms in and out, and scrolls the lanes; answers the milliseconds of each drawing.
+# Moves through the whole trace, zooms in and out, scrolls the lanes, and zooms with folded ones; answers the milliseconds of each drawing.
 MOVES = '''(async () => {
   const times = [], { chart, scroller } = timeline, frame = () => new Promise(done => requestAnimationFrame(done));
   const draw = async () => { const begin = performance.now(); timeline.drawNow(); times.push(performance.now() - begin); await frame(); };
@@ -319,6 +319,8 @@ MOVES = '''(async () => {
   for (let i = 0; i < 30; i++) { chart.pan(40); await draw(); }
   for (let i = 0; i < 20; i++) { chart.zoom(1.25, 700); await draw(); }
   for (let i = 0; i < 50; i++) { scroller.scrollTop += 300; await draw(); }
+  for (const kind of ['node', 'pod']) timeline.fold(kind);
+  for (let i = 0; i < 30; i++) { chart.zoom(.9, 700); await draw(); }
   return times;
 })()'''
 

@@ -4,7 +4,7 @@ ghost use Rattle.std.specs.List.{list_all};
 ghost use Rattle.manifest_json.specs.Written as written;
 
 use kube_base::Wall;
-use kube_objects::{Items, Key, Object, Ready};
+use kube_objects::{Items, Key, Object, Ready, Taint};
 
 /// The end of the year 2261.
 const LAST_WALL: Wall = Wall(9_214_646_399_999_999);
@@ -21,12 +21,17 @@ fn is_writable_item(item: &(Key, Object)) -> bool
 {
     match &item.1 {
         Object::Node(node) => {
-            let taints = node.taints.as_slice();
-            taints.iter().all(|taint| is_writable(taint.added)) && is_writable_ready(node.ready)
+            are_writable_taints(node.taints.as_slice()) && is_writable_ready(node.ready)
         }
         Object::Lease(lease) => is_writable(lease.acquired) && is_writable(lease.renewed),
         Object::Pod(_) => true,
     }
+}
+
+fn are_writable_taints(taints: &[Taint]) -> bool
+    ensures { result ≡ list_all written.is_writable_taint taints.now }
+{
+    taints.iter().all(|taint| is_writable(taint.added))
 }
 
 fn is_writable_ready(ready: Option<Ready>) -> bool

@@ -23,6 +23,7 @@ use Rattle.kube_objects.specs.Wire.{send, Sent, Back, sent_of, back_of}
 use Rattle.history.specs.History.{three_steps, history, at_turn}
 use Rattle.history.specs.Steps.{start, start_first, starts_below, first_starts, start_if_down, crash, released, stop, effect, stamp, event_version, happens_if, happen_all, step_one, each, comes_at, answered, answer_if, answer_due, step_two, react_as, deliver_as, deliver_if, deliver_due, step_three, if_up, restart_as, restart_if, restart, expire, finish, attempts, tick_as, ticks, controller_turn, kubelet_turn, turn_as, turn, turns}
 use Rattle.history_laws.specs.Tails.{In}
+use Rattle.history_laws.proofs.Counting.{counted_is}
 use Rattle.history_laws.proofs.Expired.{expired_none}
 use Rattle.history_laws.proofs.Plainly.{true_is, and_left, not_true}
 use Rattle.history_laws.proofs.Ticks.{MadeTick, walk_tick}
@@ -124,21 +125,26 @@ StartIsNext who _ h = Unit {0}
 abbrev pub CallIsNext : List Entry → Sent → Type 0
 CallIsNext h s = s.call.number ≡ begun s.who h + 1
 
+-- and whoever comes to lead is up
+abbrev pub LeadIsUp : Actor → Deed → List Entry → Type 0
+LeadIsUp who (Leads version) h = (q : Identity) × (who ≡ actor_of q) × (alive q.process h ≡ Some q.incarnation)
+LeadIsUp who _ h = Unit {0}
+
 abbrev pub IsNext : Entry → List Entry → Type 0
-IsNext x h = StartIsNext x.actor x.deed h × IfSome (sent_of x.actor x.deed) (CallIsNext h)
+IsNext x h = StartIsNext x.actor x.deed h × IfSome (sent_of x.actor x.deed) (CallIsNext h) × LeadIsUp x.actor x.deed h
 
 -- a property of turns that every new entry keeps, whatever its kind
 pub all_turns : (doc : Doc) (A : Identity → ℕ → Type 0) (P : ℕ → List Entry → Type 0)
     → ((k : ℕ) (x : Entry) (h : List Entry) → x.beat ≡ k → x.step ≡ 4 → IsNext x h → P k h → P k (x ∷ h)) → KeepsTurn doc A P
 all_turns doc A P more = record {
-  restarts = λ k p h s. more k _ h refl refl ((p, refl), tt) s;
-  expires = λ k p i call h up waits late s. more k _ h refl refl (tt, tt) s;
-  ends = λ k p i at h role up is before s. more k _ h refl refl (tt, tt) s;
-  polls = λ k p i h role up waits s. more k _ h refl refl (tt, refl) s;
-  attempts = λ k p i h role up waits s. more k _ h refl refl (tt, refl) s;
-  seeks = λ k p i call h role up expired late s. more k _ h refl refl (tt, refl) s;
-  posts = λ k p i h role up none s. more k _ h refl refl (tt, refl) s;
-  ticks = λ k q h acting s. walk_tick doc k q (P k) (λ t g made s. more k _ g refl refl (tt, tt) s) h s;
+  restarts = λ k p h s. more k _ h refl refl ((p, refl), tt, tt) s;
+  expires = λ k p i call h up waits late s. more k _ h refl refl (tt, tt, tt) s;
+  ends = λ k p i at h role up is before s. more k _ h refl refl (tt, tt, tt) s;
+  polls = λ k p i h role up waits s. more k _ h refl refl (tt, refl, tt) s;
+  attempts = λ k p i h role up waits s. more k _ h refl refl (tt, refl, tt) s;
+  seeks = λ k p i call h role up expired late s. more k _ h refl refl (tt, refl, tt) s;
+  posts = λ k p i h role up none s. more k _ h refl refl (tt, refl, tt) s;
+  ticks = λ k q h acting s. walk_tick doc k q (P k) (λ t g made s. more k _ g refl refl (tt, tt, tt) s) h s;
 }
 
 -- a property that every new entry keeps, whatever its kind
@@ -150,17 +156,17 @@ pub all_kinds : (doc : Doc) (P : ℕ → ℕ → List Entry → Type 0)
 all_kinds doc P on next more = record {
   on = on;
   next = λ k s. next k (history doc (suc k)) s;
-  event = λ k w h scripted s. more _ h (tt, tt) s;
-  starts = λ k step p h s. more _ h ((p, refl), tt) s;
-  crashes = λ k p i h up s. more _ h (tt, tt) s;
-  stops = λ k id i h scripted up s. more _ h (tt, tt) s;
-  releases = λ k id i before request scripted up is was s. more _ (stopped_at k id i before) (tt, refl) s;
-  answers = λ k s h at t. more _ h (tt, tt) t;
-  ignores = λ k b h coming is s. more _ h (tt, tt) s;
-  counts = λ k b waiting h coming is s. more _ h (tt, tt) s;
-  follows = λ k b waiting h request coming is role follows was s. more _ (after_reply k b waiting h) (tt, refl) s;
-  leads = λ k b waiting h version coming is role follows was s. more _ (after_reply k b waiting h) (tt, tt) s;
-  asks = λ k b waiting h request coming is role follows was s. more _ (after_reply k b waiting h) (tt, refl) s;
+  event = λ k w h scripted s. more _ h (tt, tt, tt) s;
+  starts = λ k step p h s. more _ h ((p, refl), tt, tt) s;
+  crashes = λ k p i h up s. more _ h (tt, tt, tt) s;
+  stops = λ k id i h scripted up s. more _ h (tt, tt, tt) s;
+  releases = λ k id i before request scripted up is was s. more _ (stopped_at k id i before) (tt, refl, tt) s;
+  answers = λ k s h at t. more _ h (tt, tt, tt) t;
+  ignores = λ k b h coming is s. more _ h (tt, tt, tt) s;
+  counts = λ k b waiting h coming is s. more _ h (tt, tt, tt) s;
+  follows = λ k b waiting h request coming is role follows was s. more _ (after_reply k b waiting h) (tt, refl, tt) s;
+  leads = λ k b waiting h version coming is role follows was s. more _ (after_reply k b waiting h) (tt, tt, (b.who, refl, (counted_is doc b.who k b.call.number h waiting is).up)) s;
+  asks = λ k b waiting h request coming is role follows was s. more _ (after_reply k b waiting h) (tt, refl, tt) s;
   turns = all_turns doc (Ticking doc) (λ k h. P k 4 h) (λ k x h beat step next s.
       subst (λ step. P k step (x ∷ h)) step (subst (λ k. P k x.step (x ∷ h)) beat (more x h next (subst (λ k. P k x.step h) (sym beat) (subst (λ step. P k step h) (sym step) s)))));
 }

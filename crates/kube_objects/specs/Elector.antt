@@ -107,49 +107,74 @@ acts doc q k h = is_present (alive q.process h) q.incarnation && is_before (loca
 abbrev pub one_more : Option ℕ → ℕ
 one_more transitions = cond (nat_lt (or_zero transitions) 2147483647) (or_zero transitions + 1) 2147483647
 
--- a record that is created at beat k
-abbrev pub created : Doc → Identity → ℕ → Lease
-created doc q k = record {
+-- what an elector goes by at one moment: its lease duration in seconds, its reading, and its time of day
+pub record Moment : Type 0 where
+  pub seconds : ℕ
+  pub now : ℕ
+  pub wall : ℕ
+
+-- at beat k
+abbrev pub moment : Doc → Identity → ℕ → Moment
+moment doc q k = record { seconds = lease_seconds doc q.process; now = local doc q.process k; wall = wall doc q.process k }
+
+-- a record that is created
+abbrev pub created_at : Identity → Moment → Lease
+created_at q m = record {
   holder = holder_of q;
-  duration = Some (lease_seconds doc q.process);
-  acquired = Some (record { 0 = wall doc q.process k });
-  renewed = Some (record { 0 = wall doc q.process k });
+  duration = Some m.seconds;
+  acquired = Some (record { 0 = m.wall });
+  renewed = Some (record { 0 = m.wall });
   transitions = Some 0;
 }
 
--- one's own record, renewed at beat k
-abbrev pub renewed : Doc → Identity → ℕ → Lease → Lease
-renewed doc q k lease = record {
+abbrev pub created : Doc → Identity → ℕ → Lease
+created doc q k = created_at q (moment doc q k)
+
+-- one's own record, renewed
+abbrev pub renewed_at : Identity → Moment → Lease → Lease
+renewed_at q m lease = record {
   holder = holder_of q;
-  duration = Some (lease_seconds doc q.process);
+  duration = Some m.seconds;
   acquired = lease.acquired;
-  renewed = Some (record { 0 = wall doc q.process k });
+  renewed = Some (record { 0 = m.wall });
   transitions = lease.transitions;
 }
 
--- another's record, taken over at beat k
-abbrev pub taken : Doc → Identity → ℕ → Lease → Lease
-taken doc q k lease = record {
+abbrev pub renewed : Doc → Identity → ℕ → Lease → Lease
+renewed doc q k = renewed_at q (moment doc q k)
+
+-- another's record, taken over
+abbrev pub taken_at : Identity → Moment → Lease → Lease
+taken_at q m lease = record {
   holder = holder_of q;
-  duration = Some (lease_seconds doc q.process);
-  acquired = Some (record { 0 = wall doc q.process k });
-  renewed = Some (record { 0 = wall doc q.process k });
+  duration = Some m.seconds;
+  acquired = Some (record { 0 = m.wall });
+  renewed = Some (record { 0 = m.wall });
   transitions = Some (one_more lease.transitions);
 }
 
--- the record that an update after a Get writes
-abbrev pub updated : Doc → Identity → ℕ → Lease → Lease
-updated doc q k lease = cond (is_own q lease.holder) (renewed doc q k lease) (taken doc q k lease)
+abbrev pub taken : Doc → Identity → ℕ → Lease → Lease
+taken doc q k = taken_at q (moment doc q k)
 
--- the record that gives up the lead at beat k
-abbrev pub given_up : Doc → Identity → ℕ → Lease → Lease
-given_up doc q k lease = record {
+-- the record that an update after a Get writes
+abbrev pub updated_at : Identity → Moment → Lease → Lease
+updated_at q m lease = cond (is_own q lease.holder) (renewed_at q m lease) (taken_at q m lease)
+
+abbrev pub updated : Doc → Identity → ℕ → Lease → Lease
+updated doc q k = updated_at q (moment doc q k)
+
+-- the record that gives up the lead at a time of day
+abbrev pub given_up_at : ℕ → Lease → Lease
+given_up_at at lease = record {
   holder = holder.Nobody;
   duration = Some 1;
-  acquired = Some (record { 0 = wall doc q.process k });
-  renewed = Some (record { 0 = wall doc q.process k });
+  acquired = Some (record { 0 = at });
+  renewed = Some (record { 0 = at });
   transitions = lease.transitions;
 }
+
+abbrev pub given_up : Doc → Identity → ℕ → Lease → Lease
+given_up doc q k = given_up_at (wall doc q.process k)
 
 -- whether a record's duration isn't over at a reading
 abbrev pub is_valid : ℕ → ℕ → Lease → Bool
@@ -167,11 +192,14 @@ pub data Follow : Type 0 where
 abbrev pub is_blocked : Identity → ℕ → ℕ → Lease → Bool
 is_blocked q now seen lease = is_other q lease.holder && is_valid now seen lease
 
+abbrev pub follow_get_at : Identity → Moment → ℕ → Reply → Follow
+follow_get_at q m seen Absent = Asks (Create election (created_at q m))
+follow_get_at q m seen (Found version lease) =
+    cond (is_blocked q m.now seen lease) Fails (Asks (Update election version (updated_at q m lease)))
+follow_get_at q m seen _ = Fails
+
 abbrev pub follow_get : Doc → Identity → ℕ → ℕ → Reply → Follow
-follow_get doc q k seen Absent = Asks (Create election (created doc q k))
-follow_get doc q k seen (Found version lease) =
-    cond (is_blocked q (local doc q.process k) seen lease) Fails (Asks (Update election version (updated doc q k lease)))
-follow_get doc q k seen _ = Fails
+follow_get doc q k = follow_get_at q (moment doc q k)
 
 -- an update without a Get falls back to the Get
 abbrev pub not_done : CallKind → Follow
@@ -183,12 +211,16 @@ abbrev pub follow_write : CallKind → Reply → Follow
 follow_write kind (Done version) = Succeeds version
 follow_write kind _ = not_done kind
 
--- what a counted reply at beat k is followed by; h has the reply on top
+-- what a counted reply is followed by
+abbrev pub follow_at : Identity → Moment → ℕ → CallKind → Request → Reply → Follow
+follow_at q m seen kind (Get key) reply = follow_get_at q m seen reply
+follow_at q m seen kind (Create key lease) reply = follow_write kind reply
+follow_at q m seen kind (Update key given lease) reply = follow_write kind reply
+follow_at q m seen kind (PostStatus name status at) reply = Fails
+
+-- at beat k; h has the reply on top
 abbrev pub follow_on : Doc → Identity → ℕ → CallKind → Request → Reply → List Entry → Follow
-follow_on doc q k kind (Get key) reply h = follow_get doc q k (observed_at doc q h) reply
-follow_on doc q k kind (Create key lease) reply h = follow_write kind reply
-follow_on doc q k kind (Update key given lease) reply h = follow_write kind reply
-follow_on doc q k kind (PostStatus name status at) reply h = Fails
+follow_on doc q k kind request reply h = follow_at q (moment doc q k) (observed_at doc q h) kind request reply
 
 abbrev pub is_fast : CallKind → Bool
 is_fast Fast = true
@@ -216,20 +248,27 @@ abbrev pub timer : Doc → Identity → List Entry → ℕ
 timer doc q h = or_zero (newest (λ e T. timer_says doc q e T e.deed) h)
 
 -- an update without a Get, where the record last shown is one's own and valid
+abbrev pub attempt_at : Identity → Moment → ℕ → Option Shown → CallKind × Request
+attempt_at q m seen None = (Plain, Get election)
+attempt_at q m seen (Some x) =
+    cond (is_own q x.1.holder && is_valid m.now seen x.1)
+    (Fast, Update election x.0 (renewed_at q m x.1)) (Plain, Get election)
+
 abbrev pub attempt_from : Doc → Identity → ℕ → ℕ → Option Shown → CallKind × Request
-attempt_from doc q k seen None = (Plain, Get election)
-attempt_from doc q k seen (Some x) =
-    cond (is_own q x.1.holder && is_valid (local doc q.process k) seen x.1)
-    (Fast, Update election x.0 (renewed doc q k x.1)) (Plain, Get election)
+attempt_from doc q k = attempt_at q (moment doc q k)
 
 -- the request with which an attempt starts at beat k
 abbrev pub attempt : Doc → Identity → ℕ → List Entry → CallKind × Request
 attempt doc q k h =
     cond (doc.settings.fast_renew && leads q h) (attempt_from doc q k (observed_at doc q h) (shown q h)) (Plain, Get election)
 
+-- what gives up the lead at a time of day, where the record last shown is one's own
+abbrev pub release_at : Identity → ℕ → Option Shown → Option Request
+release_at q at None = None
+release_at q at (Some x) = when (is_own q x.1.holder) (Update election x.0 (given_up_at at x.1))
+
 abbrev pub release_from : Doc → Identity → ℕ → Option Shown → Option Request
-release_from doc q k None = None
-release_from doc q k (Some x) = when (is_own q x.1.holder) (Update election x.0 (given_up doc q k x.1))
+release_from doc q k = release_at q (wall doc q.process k)
 
 -- what a stop of a leader sends at beat k
 abbrev pub release : Doc → Identity → ℕ → List Entry → Option Request

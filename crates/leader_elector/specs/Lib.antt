@@ -1,2 +1,4 @@
-pub mod Stands
+pub mod Calls
 pub mod Moves
+pub mod Plain
+pub mod Stands

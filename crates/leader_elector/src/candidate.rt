@@ -1,6 +1,7 @@
 // A candidate asks for the election Lease until it leads.
 ghost use Rattle.std.specs.Prelude.{◌≡◌, ◌≤◌, ◌<◌, ◌+◌, ◌^◌, ℕ, nat_lt, true, false, List, ◌∷◌, Some, None};
 ghost use Rattle.kube_base.specs.declared.numbers.Version.{Version};
+ghost use Rattle.kube_base.specs.Bounds.{most_local};
 ghost use Rattle.kube_objects.specs.Clocks.{local, wall as wall_at};
 ghost use Rattle.kube_objects.specs.Document.{Doc};
 ghost use Rattle.kube_objects.specs.Elector.{timer};
@@ -9,6 +10,11 @@ ghost use Rattle.kube_objects.specs.Process.{alive, begun, call_in, counted};
 ghost use Rattle.leader_elector.specs.declared.candidate.Heard.TheVariants as heard;
 ghost use Rattle.leader_elector.specs.Moves.{CandidateHears, CandidateReplies, CandidateStays, CandidateTurns, IsLeast, after_turn, becomes_leader, candidate_turn, delivered, expired, reacted, wake_from};
 ghost use Rattle.leader_elector.specs.Stands.{CandidateStands, IsChosen, IsNew, IsTimingOf, LeadingStands};
+
+ghost use Rattle.leader_elector.specs.Calls.{BeginsTerm, CandidateFollows, CandidateTakesReply, CandidateTakesTurn, TakesTurn, counts_in};
+ghost use Rattle.leader_elector.specs.Plain.{identity_of, kept_of, moment_of, wake_in};
+ghost use Rattle.leader_elector.specs.Stands.{Wait, waiting_of};
+ghost use Rattle.leader_elector.specs.declared.candidate.CandidateNext.TheVariants as next;
 
 use crate::elector::Elector;
 use crate::follow::Follow;
@@ -41,7 +47,9 @@ pub enum Heard {
 impl Candidate {
     /// A candidate that has sent nothing. Its first attempt starts at its next turn.
     pub fn start(me: ProcId, incarnation: u32, timing: Timing, now: Local) -> Candidate
-        ensures { (doc : Doc) (q : Identity) (h : List Entry) (k step : ℕ) → me.0 ≡ q.process
+        ensures me { (result.elector.me ≡ me) × (result.elector.incarnation ≡ incarnation) × (result.elector.timing ≡ timing) }
+        ensures kept { kept_of result.elector ≡ record { calls = 0; held = None; wait = None; shown = None; observed = 0; timer = now.0 } }
+        ensures stands { (doc : Doc) (q : Identity) (h : List Entry) (k step : ℕ) → me.0 ≡ q.process
             → incarnation ≡ q.incarnation → IsTimingOf doc q.process timing
             → now.0 ≡ local doc q.process k → IsNew doc q h
             → CandidateStands doc q (entry k step q Starts ∷ h) result }
@@ -53,8 +61,9 @@ impl Candidate {
 
     /// A turn: a call that has expired is forgotten, then an attempt starts where it is time. It never leads.
     pub fn on_timer(mut self, now: Local, wall: Wall) -> CandidateNext
-        requires now { now.0 ≤ 2000000000000000000 }
+        requires now { now.0 ≤ most_local }
         ensures never_leads { becomes_leader result ≡ false }
+        ensures takes { CandidateTakesTurn self.elector now.0 wall.0 result }
         ensures turns { (doc : Doc) (q : Identity) (h : List Entry) (k : ℕ)
             → CandidateStands doc q h self → now.0 ≡ local doc q.process k
             → wall.0 ≡ wall_at doc q.process k → begun q h + 1 < 2 ^ 64
@@ -68,8 +77,9 @@ impl Candidate {
 
     /// As `on_timer`, in place: what it asks, if anything.
     pub fn turn(&mut self, now: Local, wall: Wall) -> Option<Ask>
-        requires now { now.0 ≤ 2000000000000000000 }
-        ensures { (doc : Doc) (q : Identity) (h : List Entry) (k : ℕ)
+        requires now { now.0 ≤ most_local }
+        ensures takes { TakesTurn false self.old.elector now.0 wall.0 self.new.elector result }
+        ensures turns { (doc : Doc) (q : Identity) (h : List Entry) (k : ℕ)
             → CandidateStands doc q h self.old → now.0 ≡ local doc q.process k
             → wall.0 ≡ wall_at doc q.process k → begun q h + 1 < 2 ^ 64
             → CandidateTurns doc k q (expired doc k q h) (after_turn self.new result) }
@@ -80,7 +90,10 @@ impl Candidate {
 
     /// A reply. Only one to the call that waits, with its number and within its timeout, counts.
     pub fn on_reply(mut self, number: u64, reply: Reply, now: Local, wall: Wall) -> CandidateNext
-        requires now { now.0 ≤ 2000000000000000000 }
+        requires now { now.0 ≤ most_local }
+        ensures stays { counts_in self.elector number now.0 ≡ false → result ≡ next.Stay self }
+        ensures follows { (w : Wait) → counts_in self.elector number now.0 ≡ true → waiting_of self.elector.waiting ≡ Some w
+            → CandidateFollows self.elector (moment_of self.elector now.0 wall.0) w reply result }
         ensures uncounted { (doc : Doc) (q : Identity) (h : List Entry) (k : ℕ)
             → CandidateStands doc q h self → now.0 ≡ local doc q.process k
             → alive q.process h ≡ Some q.incarnation
@@ -101,7 +114,10 @@ impl Candidate {
 
     /// As `on_reply`, in place. Where it is to lead, `lead` makes it a leader at the same reading.
     pub fn hear(&mut self, number: u64, reply: &Reply, now: Local, wall: Wall) -> Heard
-        requires now { now.0 ≤ 2000000000000000000 }
+        requires now { now.0 ≤ most_local }
+        ensures stays { counts_in self.old.elector number now.0 ≡ false → (result ≡ heard.Stays) × (self.new ≡ self.old) }
+        ensures takes { (w : Wait) → counts_in self.old.elector number now.0 ≡ true → waiting_of self.old.elector.waiting ≡ Some w
+            → CandidateTakesReply self.old.elector (moment_of self.old.elector now.0 wall.0) w reply.now self.new.elector result }
         ensures uncounted { (doc : Doc) (q : Identity) (h : List Entry) (k : ℕ)
             → CandidateStands doc q h self.old → now.0 ≡ local doc q.process k
             → alive q.process h ≡ Some q.incarnation
@@ -125,8 +141,9 @@ impl Candidate {
 
     /// Leads from this reading on, which is that of the reply by which it is to lead.
     pub fn lead(self, now: Local) -> Leading
-        requires now { now.0 ≤ 2000000000000000000 }
-        ensures { (doc : Doc) (q : Identity) (h : List Entry) (k step : ℕ) (version : Version)
+        requires now { now.0 ≤ most_local }
+        ensures begins { BeginsTerm self.elector now.0 result }
+        ensures stands { (doc : Doc) (q : Identity) (h : List Entry) (k step : ℕ) (version : Version)
             → IsChosen doc q h self → now.0 ≡ local doc q.process k
             → LeadingStands doc q (entry k step q (Leads version) ∷ h) result }
     {
@@ -135,6 +152,7 @@ impl Candidate {
 
     /// The least reading at which `on_timer` does anything: that at which the call that waits has expired, or else the timer.
     pub fn wake(&self) -> Local
+        ensures kept { result.0 ≡ wake_in (kept_of self.now.elector) }
         ensures reading { (doc : Doc) (q : Identity) (h : List Entry)
             → CandidateStands doc q h self.now
             → result.0 ≡ wake_from doc q (timer doc q h) (call_in q h) }

@@ -1,10 +1,15 @@
 // What a candidate and a leader have in common: the call that waits, the record last shown, the timer.
-ghost use Rattle.std.specs.Prelude.{◌≡◌, ◌&&◌, ◌≤◌, ◌<◌, ◌+◌, ◌^◌, ℕ, false, true, List, ◌∷◌, Option, Some, None};
+ghost use Rattle.std.specs.Prelude.{◌≡◌, ◌&&◌, ◌≤◌, ◌<◌, ◌+◌, ◌^◌, ℕ, false, true, List, ◌∷◌, Option, Some, None, IfSome};
+ghost use Rattle.kube_base.specs.Bounds.{most_local};
 ghost use Rattle.kube_objects.specs.Clocks.{local, wall as wall_at};
 ghost use Rattle.kube_objects.specs.Document.{Doc};
-ghost use Rattle.kube_objects.specs.Elector.{attempt, attempt_from, created, follow_get, follow_on, given_up, is_blocked, is_valid, leads, newly, observed_at, one_more, renewed, shown, taken, timer, timer_follow, updated};
+ghost use Rattle.kube_objects.specs.CallSlots.{held_call, is_awaited};
+ghost use Rattle.kube_objects.specs.Elector.{attempt, attempt_from, created, follow_get, follow_on, given_up, is_blocked, is_valid, leads};
+ghost use Rattle.kube_objects.specs.Elector.{newly, observed_at, one_more, renewed, shown, taken, timer, timer_follow, updated};
+ghost use Rattle.kube_objects.specs.Elector.{attempt_at, created_at, follow_at, follow_get_at, given_up_at, renewed_at, taken_at, updated_at};
 ghost use Rattle.kube_objects.specs.Entry.{Call, Entry, Identity, Starts, entry};
 ghost use Rattle.kube_objects.specs.Identities.{holder_of, is_other, is_own};
+ghost use Rattle.kube_objects.specs.Kinds.{keeps_kind};
 ghost use Rattle.kube_objects.specs.Newest.{or_else};
 ghost use Rattle.kube_objects.specs.Process.{alive, begun, call_in, counted};
 ghost use Rattle.kube_objects.specs.Turns.{is_fast_call, just_expired, try};
@@ -12,12 +17,17 @@ ghost use Rattle.kube_objects.specs.Wire.{send};
 ghost use Rattle.leader_elector.specs.Moves.{Asked, Received, Tried, delivered, expired, last_of, wake_from};
 ghost use Rattle.leader_elector.specs.Stands.{ElectorStands, IsNew, IsSettled, IsTimingOf, follow_of, is_fast_wait, kind_of, observed_of, shown_of, waiting_of};
 
+ghost use Rattle.leader_elector.specs.Plain.{IsSame, after_expiry, after_reply, asked_of, attempt_in, follow_in, follow_keeps_kind};
+ghost use Rattle.leader_elector.specs.Plain.{has_lost_update, identity_of, kept_of, moment_of, numbered, turn_in, wake_in, with_call};
+ghost use Rattle.leader_elector.specs.Plain.{BeginsCall, Receives, begun_in};
+ghost use Rattle.leader_elector.specs.Stands.{Wait};
+
 use crate::Timing;
-use crate::follow::{ELECTION, Follow, follow_write, told};
+use crate::follow::{Follow, follow_write, told};
 use crate::seen::Seen;
 use crate::waiting::Waiting;
 use kube_base::{Local, ProcId, Version, Wall};
-use kube_objects::{Ask, CallSlot, Holder, Lease, Reply, Request};
+use kube_objects::{Ask, CallSlot, Holder, Key, Lease, Reply, Request};
 
 const MOST_TRANSITIONS: u32 = 2147483647;
 
@@ -34,7 +44,9 @@ pub(crate) struct Elector {
 
 impl Elector {
     pub(crate) fn start(me: ProcId, incarnation: u32, timing: Timing, now: Local) -> Elector
-        ensures { (doc : Doc) (q : Identity) (h : List Entry) (k step : ℕ) → me.0 ≡ q.process
+        ensures me { (result.me ≡ me) × (result.incarnation ≡ incarnation) × (result.timing ≡ timing) }
+        ensures kept { kept_of result ≡ record { calls = 0; held = None; wait = None; shown = None; observed = 0; timer = now.0 } }
+        ensures history { (doc : Doc) (q : Identity) (h : List Entry) (k step : ℕ) → me.0 ≡ q.process
             → incarnation ≡ q.incarnation → IsTimingOf doc q.process timing
             → now.0 ≡ local doc q.process k → IsNew doc q h
             → ElectorStands doc q (entry k step q Starts ∷ h) result }
@@ -54,7 +66,10 @@ impl Elector {
 
     /// Forgets a call that has expired. Whether it was an update without a Get.
     pub(crate) fn expire(&mut self, now: Local) -> bool
-        requires now { now.0 ≤ 2000000000000000000 }
+        requires now { now.0 ≤ most_local }
+        ensures same { IsSame self.old self.new }
+        ensures lost { result ≡ has_lost_update self.old.timing now.0 (kept_of self.old) }
+        ensures kept { kept_of self.new ≡ after_expiry self.old.timing now.0 (kept_of self.old) }
         ensures stands { (doc : Doc) (q : Identity) (h : List Entry) (k : ℕ)
             → ElectorStands doc q h self.old → now.0 ≡ local doc q.process k
             → ElectorStands doc q (expired doc k q h) self.new }
@@ -85,8 +100,11 @@ impl Elector {
         now: Local,
         wall: Wall,
     ) -> Option<Ask>
-        requires now { now.0 ≤ 2000000000000000000 }
-        ensures { (doc : Doc) (q : Identity) (h : List Entry) (k : ℕ)
+        requires now { now.0 ≤ most_local }
+        ensures same { IsSame self.old self.new }
+        ensures asks { asked_of result ≡ numbered (kept_of self.old) (turn_in self.old (moment_of self.old now.0 wall.0) expired led (kept_of self.old)) }
+        ensures kept { kept_of self.new ≡ with_call self.old.timing now.0 (kept_of self.old) (turn_in self.old (moment_of self.old now.0 wall.0) expired led (kept_of self.old)) }
+        ensures history { (doc : Doc) (q : Identity) (h : List Entry) (k : ℕ)
             → ElectorStands doc q h self.old → leads q h ≡ led
             → expired ≡ is_fast_call (just_expired q k h)
             → now.0 ≡ local doc q.process k → wall.0 ≡ wall_at doc q.process k
@@ -94,7 +112,7 @@ impl Elector {
             → Tried doc k q h (try doc k q h) self.new expired result }
     {
         if expired {
-            return Some(self.ask(Request::Get(ELECTION), false, now));
+            return Some(self.ask(Request::Get(Key::ELECTION), false, now));
         }
         if !self.slot.is_idle() || now.0 < self.timer.0 {
             return None;
@@ -102,10 +120,12 @@ impl Elector {
         Some(self.begin(led, now, wall))
     }
 
-    /// Begins an attempt: a leader may renew without a Get.
+    /// BeginsCall an attempt: a leader may renew without a Get.
     fn begin(&mut self, led: bool, now: Local, wall: Wall) -> Ask
-        requires now { now.0 ≤ 2000000000000000000 }
-        ensures { (doc : Doc) (q : Identity) (h : List Entry) (k : ℕ)
+        requires now { now.0 ≤ most_local }
+        ensures same { IsSame self.old self.new }
+        ensures asks { BeginsCall self.old now.0 (begun_in self.old (moment_of self.old now.0 wall.0) led (kept_of self.old)) self.new result }
+        ensures history { (doc : Doc) (q : Identity) (h : List Entry) (k : ℕ)
             → ElectorStands doc q h self.old → leads q h ≡ led
             → now.0 ≡ local doc q.process k → wall.0 ≡ wall_at doc q.process k
             → begun q h + 1 < 2 ^ 64
@@ -114,32 +134,37 @@ impl Elector {
         if self.timing.fast && led {
             return self.renew(now, wall);
         }
-        self.ask(Request::Get(ELECTION), false, now)
+        self.ask(Request::Get(Key::ELECTION), false, now)
     }
 
     /// An update without a Get where the record last shown is one's own and valid.
     fn renew(&mut self, now: Local, wall: Wall) -> Ask
-        requires now { now.0 ≤ 2000000000000000000 }
-        ensures { (doc : Doc) (q : Identity) (h : List Entry) (k : ℕ)
+        requires now { now.0 ≤ most_local }
+        ensures same { IsSame self.old self.new }
+        ensures asks { BeginsCall self.old now.0 (attempt_at (identity_of self.old) (moment_of self.old now.0 wall.0) (kept_of self.old).observed (kept_of self.old).shown) self.new result }
+        ensures history { (doc : Doc) (q : Identity) (h : List Entry) (k : ℕ)
             → ElectorStands doc q h self.old
             → now.0 ≡ local doc q.process k → wall.0 ≡ wall_at doc q.process k
             → begun q h + 1 < 2 ^ 64
             → Asked k 4 q h (send k 4 q (attempt_from doc q k (observed_at doc q h) (shown q h)).0 (attempt_from doc q k (observed_at doc q h) (shown q h)).1 h) (λ x. ElectorStands doc q x self.new) result }
     {
         let Some(seen) = self.seen else {
-            return self.ask(Request::Get(ELECTION), false, now);
+            return self.ask(Request::Get(Key::ELECTION), false, now);
         };
         if !self.is_renewable(&seen, now) {
-            return self.ask(Request::Get(ELECTION), false, now);
+            return self.ask(Request::Get(Key::ELECTION), false, now);
         }
         let lease = self.renewed(&seen.lease, wall);
-        self.ask(Request::Update(ELECTION, seen.version, lease), true, now)
+        self.ask(Request::Update(Key::ELECTION, seen.version, lease), true, now)
     }
 
-    /// Begins a call.
+    /// BeginsCall a call.
     pub(crate) fn ask(&mut self, request: Request, fast: bool, now: Local) -> Ask
-        requires now { now.0 ≤ 2000000000000000000 }
-        ensures { (doc : Doc) (q : Identity) (h next : List Entry) (k step : ℕ)
+        requires kind { keeps_kind request ≡ true }
+        requires now { now.0 ≤ most_local }
+        ensures same { IsSame self.old self.new }
+        ensures asks { BeginsCall self.old now.0 (kind_of fast, request) self.new result }
+        ensures history { (doc : Doc) (q : Identity) (h next : List Entry) (k step : ℕ)
             → ElectorStands doc q h self.old → now.0 ≡ local doc q.process k
             → begun q h + 1 < 2 ^ 64 → next ≡ send k step q (kind_of fast) request h
             → Asked k step q h next (λ x. ElectorStands doc q x self.new) result }
@@ -164,7 +189,11 @@ impl Elector {
         now: Local,
         wall: Wall,
     ) -> Option<Follow>
-        requires now { now.0 ≤ 2000000000000000000 }
+        requires now { now.0 ≤ most_local }
+        ensures kind { IfSome result (λ follow. follow_keeps_kind (follow_of follow) ≡ true) }
+        ensures unheld { is_awaited number now.0 self.old.timing.timeout (held_call self.old.slot) ≡ false → (result ≡ None) × (self.new ≡ self.old) }
+        ensures held { (w : Wait) → is_awaited number now.0 self.old.timing.timeout (held_call self.old.slot) ≡ true → waiting_of self.old.waiting ≡ Some w
+            → Receives self.old (moment_of self.old now.0 wall.0) led w reply.now self.new result }
         ensures uncounted { (doc : Doc) (q : Identity) (h : List Entry) (k : ℕ)
             → ElectorStands doc q h self.old → now.0 ≡ local doc q.process k
             → alive q.process h ≡ Some q.incarnation
@@ -220,7 +249,7 @@ impl Elector {
 
     /// The next attempt starts a retry period after a failure, and after a leader's success.
     fn set_timer(&mut self, follow: &Follow, led: bool, now: Local)
-        requires now { now.0 ≤ 2000000000000000000 }
+        requires now { now.0 ≤ most_local }
         ensures changed { self.new ≡ record self.old { timer = self.new.timer } }
         ensures timer { self.new.timer.0 ≡ or_else self.old.timer.0 (timer_follow (follow_of follow.now) led (now.0 + self.old.timing.retry)) }
     {
@@ -235,7 +264,9 @@ impl Elector {
     }
 
     fn follow(&self, waiting: &Waiting, reply: &Reply, now: Local, wall: Wall) -> Follow
-        ensures { (doc : Doc) (q : Identity) (h : List Entry) (k : ℕ) → self.now.me.0 ≡ q.process
+        ensures kind { follow_keeps_kind (follow_of result) ≡ true }
+        ensures moment { follow_of result ≡ follow_at (identity_of self.now) (moment_of self.now now.0 wall.0) (observed_of self.now.seen) (kind_of waiting.now.fast) waiting.now.request reply.now }
+        ensures history { (doc : Doc) (q : Identity) (h : List Entry) (k : ℕ) → self.now.me.0 ≡ q.process
             → self.now.incarnation ≡ q.incarnation → IsTimingOf doc q.process self.now.timing
             → now.0 ≡ local doc q.process k → wall.0 ≡ wall_at doc q.process k
             → observed_of self.now.seen ≡ observed_at doc q h
@@ -250,18 +281,20 @@ impl Elector {
     }
 
     fn follow_get(&self, reply: &Reply, now: Local, wall: Wall) -> Follow
-        ensures { (doc : Doc) (q : Identity) (k : ℕ) → self.now.me.0 ≡ q.process
+        ensures kind { follow_keeps_kind (follow_of result) ≡ true }
+        ensures moment { follow_of result ≡ follow_get_at (identity_of self.now) (moment_of self.now now.0 wall.0) (observed_of self.now.seen) reply.now }
+        ensures history { (doc : Doc) (q : Identity) (k : ℕ) → self.now.me.0 ≡ q.process
             → self.now.incarnation ≡ q.incarnation → IsTimingOf doc q.process self.now.timing
             → now.0 ≡ local doc q.process k → wall.0 ≡ wall_at doc q.process k
             → follow_of result ≡ follow_get doc q k (observed_of self.now.seen) reply.now }
     {
         match *reply {
-            Reply::Absent => Follow::Asks(Request::Create(ELECTION, self.created(wall))),
+            Reply::Absent => Follow::Asks(Request::Create(Key::ELECTION, self.created(wall))),
             Reply::Found(version, lease) => {
                 if self.is_blocked(&lease, now) {
                     return Follow::Fails;
                 }
-                Follow::Asks(Request::Update(ELECTION, version, self.updated(&lease, wall)))
+                Follow::Asks(Request::Update(Key::ELECTION, version, self.updated(&lease, wall)))
             }
             _ => Follow::Fails,
         }
@@ -269,7 +302,8 @@ impl Elector {
 
     /// The least reading at which a turn does anything, a leader's deadline aside.
     pub(crate) fn wake(&self) -> Local
-        ensures { (doc : Doc) (q : Identity) (h : List Entry) → ElectorStands doc q h self.now
+        ensures kept { result.0 ≡ wake_in (kept_of self.now) }
+        ensures history { (doc : Doc) (q : Identity) (h : List Entry) → ElectorStands doc q h self.now
             → result.0 ≡ wake_from doc q (timer doc q h) (call_in q h) }
     {
         match self.waiting {
@@ -336,7 +370,8 @@ impl Elector {
     }
 
     fn created(&self, wall: Wall) -> Lease
-        ensures { (doc : Doc) (q : Identity) (k : ℕ) → self.now.me.0 ≡ q.process
+        ensures moment { (now : ℕ) → result ≡ created_at (identity_of self.now) (moment_of self.now now wall.0) }
+        ensures history { (doc : Doc) (q : Identity) (k : ℕ) → self.now.me.0 ≡ q.process
             → self.now.incarnation ≡ q.incarnation → IsTimingOf doc q.process self.now.timing
             → wall.0 ≡ wall_at doc q.process k
             → result ≡ created doc q k }
@@ -351,7 +386,8 @@ impl Elector {
     }
 
     fn renewed(&self, lease: &Lease, wall: Wall) -> Lease
-        ensures { (doc : Doc) (q : Identity) (k : ℕ) → self.now.me.0 ≡ q.process
+        ensures moment { (now : ℕ) → result ≡ renewed_at (identity_of self.now) (moment_of self.now now wall.0) lease.now }
+        ensures history { (doc : Doc) (q : Identity) (k : ℕ) → self.now.me.0 ≡ q.process
             → self.now.incarnation ≡ q.incarnation → IsTimingOf doc q.process self.now.timing
             → wall.0 ≡ wall_at doc q.process k
             → result ≡ renewed doc q k lease.now }
@@ -366,7 +402,8 @@ impl Elector {
     }
 
     fn taken(&self, lease: &Lease, wall: Wall) -> Lease
-        ensures { (doc : Doc) (q : Identity) (k : ℕ) → self.now.me.0 ≡ q.process
+        ensures moment { (now : ℕ) → result ≡ taken_at (identity_of self.now) (moment_of self.now now wall.0) lease.now }
+        ensures history { (doc : Doc) (q : Identity) (k : ℕ) → self.now.me.0 ≡ q.process
             → self.now.incarnation ≡ q.incarnation → IsTimingOf doc q.process self.now.timing
             → wall.0 ≡ wall_at doc q.process k
             → result ≡ taken doc q k lease.now }
@@ -381,7 +418,8 @@ impl Elector {
     }
 
     fn updated(&self, lease: &Lease, wall: Wall) -> Lease
-        ensures { (doc : Doc) (q : Identity) (k : ℕ) → self.now.me.0 ≡ q.process
+        ensures moment { (now : ℕ) → result ≡ updated_at (identity_of self.now) (moment_of self.now now wall.0) lease.now }
+        ensures history { (doc : Doc) (q : Identity) (k : ℕ) → self.now.me.0 ≡ q.process
             → self.now.incarnation ≡ q.incarnation → IsTimingOf doc q.process self.now.timing
             → wall.0 ≡ wall_at doc q.process k
             → result ≡ updated doc q k lease.now }
@@ -405,7 +443,8 @@ fn is_fast(waiting: &Option<Waiting>) -> bool
 
 /// The record that gives up the lead.
 pub(crate) fn given_up(lease: &Lease, wall: Wall) -> Lease
-    ensures { (doc : Doc) (q : Identity) (k : ℕ) → wall.0 ≡ wall_at doc q.process k
+    ensures moment { result ≡ given_up_at wall.0 lease.now }
+    ensures history { (doc : Doc) (q : Identity) (k : ℕ) → wall.0 ≡ wall_at doc q.process k
         → result ≡ given_up doc q k lease.now }
 {
     Lease {

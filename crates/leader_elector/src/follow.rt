@@ -1,17 +1,11 @@
 // What a reply is followed by.
-ghost use Rattle.std.specs.Prelude.{◌≡◌};
+ghost use Rattle.std.specs.Prelude.{◌≡◌, true};
 ghost use Rattle.kube_objects.specs.Elector.{done_shows, follow_write, told};
+ghost use Rattle.leader_elector.specs.Plain.{follow_keeps_kind};
 ghost use Rattle.leader_elector.specs.Stands.{follow_of, kind_of};
 
 use kube_base::Version;
-use kube_objects::{Key, Kind, Lease, Reply, Request};
-
-/// The key of the election Lease, `kube-system/kube-controller-manager`.
-pub(crate) const ELECTION: Key = Key {
-    kind: Kind::Lease,
-    space: 7,
-    name: 8,
-};
+use kube_objects::{Key, Lease, Reply, Request};
 
 /// An attempt fails, asks on, or succeeds with the version that was written.
 #[derive(Clone, Copy)]
@@ -48,11 +42,12 @@ fn written(lease: Lease, reply: &Reply) -> Option<(Version, Lease)>
 
 /// What a reply to a write is followed by: an update without a Get falls back to the Get.
 pub(crate) fn follow_write(fast: bool, reply: &Reply) -> Follow
-    ensures { follow_of result ≡ follow_write (kind_of fast) reply.now }
+    ensures kind { follow_keeps_kind (follow_of result) ≡ true }
+    ensures follow { follow_of result ≡ follow_write (kind_of fast) reply.now }
 {
     match *reply {
         Reply::Done(version) => Follow::Succeeds(version),
-        _ if fast => Follow::Asks(Request::Get(ELECTION)),
+        _ if fast => Follow::Asks(Request::Get(Key::ELECTION)),
         _ => Follow::Fails,
     }
 }

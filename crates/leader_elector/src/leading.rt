@@ -1,6 +1,7 @@
 // A leader renews the election Lease until its deadline.
-ghost use Rattle.std.specs.Prelude.{◌≡◌, ◌≤◌, ◌<◌, ◌+◌, ◌^◌, ℕ, not, nat_lt, is_some, true, false, List, ◌∷◌, Some, None, IfSome};
+ghost use Rattle.std.specs.Prelude.{◌≡◌, ◌≤◌, ◌<◌, ◌+◌, ◌^◌, ℕ, not, nat_lt, is_some, option_map, true, false, List, ◌∷◌, Some, None, IfSome};
 ghost use Rattle.kube_base.specs.declared.numbers.Version.{Version};
+ghost use Rattle.kube_base.specs.Bounds.{most_local};
 ghost use Rattle.kube_objects.specs.Clocks.{local, wall as wall_at};
 ghost use Rattle.kube_objects.specs.Document.{Doc};
 ghost use Rattle.kube_objects.specs.Elector.{acts, deadline, release, timer};
@@ -9,11 +10,18 @@ ghost use Rattle.kube_objects.specs.Process.{alive, begun, call_in, counted};
 ghost use Rattle.leader_elector.specs.Moves.{LeadingReplies, LeadingStays, LeadingTurns, IsLeast, Releases, delivered, ends, expired, leading_turn, reacted, wake_before, wake_from};
 ghost use Rattle.leader_elector.specs.Stands.{ElectorStands, LeadingStands, acting_identity, deadline_of, ended_identity, leading_identity};
 
+ghost use Rattle.kube_objects.specs.CallSlots.{calls_of, next_number};
+ghost use Rattle.kube_objects.specs.Elector.{release_at};
+ghost use Rattle.leader_elector.specs.Calls.{BeginsTerm, LeadingFollows, LeadingTakesTurn, counts_in, leading_wake};
+ghost use Rattle.leader_elector.specs.Plain.{asked_of, moment_of};
+ghost use Rattle.leader_elector.specs.Stands.{Wait, shown_of, waiting_of};
+ghost use Rattle.leader_elector.specs.declared.leading.LeadingNext.TheVariants as next;
+
 use crate::elector::{Elector, given_up};
-use crate::follow::{ELECTION, Follow};
+use crate::follow::Follow;
 use crate::{Acting, Ended, Released};
 use kube_base::{Local, Wall};
-use kube_objects::{Ask, Reply, Request};
+use kube_objects::{Ask, Key, Reply, Request};
 
 /// A process that leads.
 #[derive(Drop)]
@@ -33,8 +41,9 @@ pub enum LeadingNext {
 impl Leading {
     /// A candidate's success begins a term, and its next attempt starts at its next turn.
     pub(crate) fn new(elector: Elector, now: Local) -> Leading
-        requires now { now.0 ≤ 2000000000000000000 }
-        ensures { (doc : Doc) (q : Identity) (h : List Entry) (k step : ℕ) (version : Version)
+        requires now { now.0 ≤ most_local }
+        ensures begins { BeginsTerm elector now.0 result }
+        ensures stands { (doc : Doc) (q : Identity) (h : List Entry) (k step : ℕ) (version : Version)
             → ElectorStands doc q h elector → now.0 ≡ local doc q.process k
             → LeadingStands doc q (entry k step q (Leads version) ∷ h) result }
     {
@@ -50,8 +59,9 @@ impl Leading {
 
     /// A turn: a call that has expired is forgotten, the term ends where the deadline is reached, then an attempt starts where it is time.
     pub fn on_timer(mut self, now: Local, wall: Wall) -> LeadingNext
-        requires now { now.0 ≤ 2000000000000000000 }
+        requires now { now.0 ≤ most_local }
         ensures ends { ends result ≡ not (nat_lt now.0 (deadline_of self)) }
+        ensures takes { LeadingTakesTurn self now.0 wall.0 result }
         ensures turns { (doc : Doc) (q : Identity) (h : List Entry) (k : ℕ)
             → LeadingStands doc q h self → now.0 ≡ local doc q.process k
             → wall.0 ≡ wall_at doc q.process k → begun q h + 1 < 2 ^ 64
@@ -69,8 +79,11 @@ impl Leading {
 
     /// A reply. Only one to the call that waits, with its number and within its timeout, counts. The term goes on.
     pub fn on_reply(mut self, number: u64, reply: Reply, now: Local, wall: Wall) -> LeadingNext
-        requires now { now.0 ≤ 2000000000000000000 }
+        requires now { now.0 ≤ most_local }
         ensures goes_on { ends result ≡ false }
+        ensures stays { counts_in self.elector number now.0 ≡ false → result ≡ next.Stay self }
+        ensures follows { (w : Wait) → counts_in self.elector number now.0 ≡ true → waiting_of self.elector.waiting ≡ Some w
+            → LeadingFollows self (moment_of self.elector now.0 wall.0) w reply result }
         ensures uncounted { (doc : Doc) (q : Identity) (h : List Entry) (k : ℕ)
             → LeadingStands doc q h self → now.0 ≡ local doc q.process k
             → alive q.process h ≡ Some q.incarnation
@@ -125,6 +138,7 @@ impl Leading {
 
     /// The least reading at which `on_timer` does anything: as a candidate's, or the deadline where that is before.
     pub fn wake(&self) -> Local
+        ensures kept { result.0 ≡ leading_wake self.now }
         ensures reading { (doc : Doc) (q : Identity) (h : List Entry)
             → LeadingStands doc q h self.now
             → result.0 ≡ wake_before (wake_from doc q (timer doc q h) (call_in q h)) (deadline doc q h) }
@@ -143,6 +157,8 @@ impl Leading {
     /// Gives up the lead in order: where the holder last shown is this identity, an update says that nobody holds it.
     pub fn release(mut self, _now: Local, wall: Wall) -> Released
         ensures identity { ended_identity result.ended ≡ leading_identity self }
+        ensures releases { asked_of result.ask
+            ≡ option_map (λ r. (next_number (calls_of self.elector.slot), r)) (release_at (leading_identity self) wall.0 (shown_of self.elector.seen)) }
         ensures ask { (doc : Doc) (q : Identity) (h : List Entry) (k : ℕ)
             → LeadingStands doc q h self → wall.0 ≡ wall_at doc q.process k → begun q h + 1 < 2 ^ 64
             → Releases q h (release doc q k h) result.ask }
@@ -150,7 +166,7 @@ impl Leading {
         let ask = match self.elector.seen {
             Some(seen) if self.elector.holds(&seen.lease) => {
                 let lease = given_up(&seen.lease, wall);
-                let request = Request::Update(ELECTION, seen.version, lease);
+                let request = Request::Update(Key::ELECTION, seen.version, lease);
                 let number = self.elector.slot.begin_unheld();
                 Some(Ask { number, request })
             }

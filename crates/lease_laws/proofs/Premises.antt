@@ -68,11 +68,15 @@ long_at doc high (suc c) p all lt = ⊎_elim last (below (λ h. long_at doc high
     below : (p < c → is_long doc high p ≡ true) → (p ≡ c → ⊥) → is_long doc high p ≡ true
     below rest other = rest (omega (arith, other, lt))
 
+-- no controller's clock is faster than the greatest rate of the document's premise
+pub rates_at_most : (doc : Doc) → AtMost doc (greatest_below doc (length doc.controllers))
+rates_at_most doc p k role end = omega (arith, greatest_at doc p (end_beat doc) k end, greatest_of doc (length doc.controllers) p (ltb-true p (length doc.controllers) role))
+
 pub premise_from : (doc : Doc) → lease_premise doc ≡ true → Premise doc
 premise_from doc is = record {
   low = λ p. least_rate doc p (end_beat doc);
   high = greatest_below doc (length doc.controllers);
   least = λ p k end. least_at doc p (end_beat doc) k end;
-  greatest = λ p k role end. omega (arith, greatest_at doc p (end_beat doc) k end, greatest_of doc (length doc.controllers) p (ltb-true p (length doc.controllers) role));
+  greatest = rates_at_most doc;
   lease = λ p role. ltb-true _ _ (long_at doc (greatest_below doc (length doc.controllers)) (length doc.controllers) p is (ltb-true p (length doc.controllers) role));
 }

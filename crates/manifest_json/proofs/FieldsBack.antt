@@ -11,6 +11,7 @@ use Rattle.kube_base.specs.Names.{with_name, EachOnce}
 use Rattle.kube_base.specs.declared.numbers.Wall.{Wall}
 use Rattle.kube_base.proofs.NameLemmas.{number_in-found, with_name-found}
 use Rattle.kube_base.proofs.TimeTexts.{time_of-seconds_text, time_of-micros_text}
+use Rattle.manifest_json.specs.declared.codes.TheConstants.{BAD_NAME, BAD_NUMBER, BAD_TIME}
 use Rattle.manifest_json.specs.Faults.{refuse}
 use Rattle.manifest_json.specs.Fields.{Texts, unless_null, field, field_in, parent_at, text_at, items_at, time_at, count_at, fits, signed_at, some_or_refuse, numbered, named}
 use Rattle.manifest_json.specs.Walk.{whole_second}
@@ -123,7 +124,7 @@ module _ (names : Texts) (once : EachOnce names) where
       ∙ ap (λ ns. Ok (n, ns)) (with_name-found names (text_of names n) n found)
 
   pub named-back : (path : List ℕ) (n : ℕ) → IsNameNumber names n → named names path (text_of names n) ≡ Ok (n, names)
-  named-back path n h = ap (λ b. cond b (numbered names (text_of names n)) (refuse 12 path)) h.1 ∙ numbered-back n h.0
+  named-back path n h = ap (λ b. cond b (numbered names (text_of names n)) (refuse BAD_NAME path)) h.1 ∙ numbered-back n h.0
 
 -- ---- times and numbers
 
@@ -131,7 +132,7 @@ pub seconds-back : (path : List ℕ) (at : Option Wall) → IsWholeSecond at →
 seconds-back path None h = refl
 seconds-back path (Some w) h =
     let whole : w.0 / 1_000_000 * 1_000_000 ≡ w.0 = omega (arith, h.1) in
-    ap (λ o. some_or_refuse o 13 path) (time_of-seconds_text w h.0) ∙ ap (λ n. Ok (Some (record { 0 = n }))) whole
+    ap (λ o. some_or_refuse o BAD_TIME path) (time_of-seconds_text w h.0) ∙ ap (λ n. Ok (Some (record { 0 = n }))) whole
 
 pub whole-back : (at : Option Wall) → IsWholeSecond at → whole_second at ≡ at
 whole-back None h = refl
@@ -141,15 +142,15 @@ whole-back (Some w) h =
 
 pub micros-back : (path : List ℕ) (at : Option Wall) → IsTime at → time_at path (unless_null (in_micros at)) ≡ Ok at
 micros-back path None h = refl
-micros-back path (Some w) h = ap (λ o. some_or_refuse o 13 path) (time_of-micros_text w h)
+micros-back path (Some w) h = ap (λ o. some_or_refuse o BAD_TIME path) (time_of-micros_text w h)
 
 pub count-back : (path : List ℕ) (n : Option ℕ) → IsCount n → count_at path (unless_null (count n)) ≡ Ok n
 count-back path None h = refl
-count-back path (Some n) h = ap (λ b. some_or_refuse (cond b (Some n) None) 14 path) (le-leb n 2_147_483_647 h)
+count-back path (Some n) h = ap (λ b. some_or_refuse (cond b (Some n) None) BAD_NUMBER path) (le-leb n 2_147_483_647 h)
 
 pub signed-back : (path : List ℕ) (z : Option ℤ) → IsSigned z → signed_at path (unless_null (option_map (λ seconds. number (of_integer seconds)) z)) ≡ Ok z
 signed-back path None h = refl
 signed-back path (Some (pos n)) h =
-    ap (λ b. some_or_refuse (option_and_then fits (cond b (Some (pos n)) None)) 14 path) (lt-ltb n (2 ^ 63) h)
-    ∙ ap (λ b. some_or_refuse (cond b (Some (pos n)) None) 14 path) (lt-ltb n (2 ^ 63) h)
-signed-back path (Some (negsuc n)) h = ap (λ b. some_or_refuse (cond b (Some (negsuc n)) None) 14 path) (lt-ltb n (2 ^ 63) h)
+    ap (λ b. some_or_refuse (option_and_then fits (cond b (Some (pos n)) None)) BAD_NUMBER path) (lt-ltb n (2 ^ 63) h)
+    ∙ ap (λ b. some_or_refuse (cond b (Some (pos n)) None) BAD_NUMBER path) (lt-ltb n (2 ^ 63) h)
+signed-back path (Some (negsuc n)) h = ap (λ b. some_or_refuse (cond b (Some (negsuc n)) None) BAD_NUMBER path) (lt-ltb n (2 ^ 63) h)

@@ -11,6 +11,7 @@ use Rattle.kube_objects.specs.declared.key.Key.{Key}
 use Rattle.kube_objects.specs.declared.key.Kind.{Kind}
 use Rattle.kube_objects.specs.declared.key.Kind.TheVariants as kinds
 use Rattle.kube_objects.specs.declared.object.Object.{Object}
+use Rattle.manifest_json.specs.declared.codes.TheConstants.{DUPLICATE, TOO_MANY}
 use Rattle.manifest_json.specs.declared.fault.Refusal.{Refusal}
 use Rattle.manifest_json.specs.declared.fault.ReadFault.{ReadFault}
 use Rattle.manifest_json.specs.declared.fault.ReadFault.TheVariants.{Refused, NoMemory}
@@ -32,9 +33,9 @@ some_true : {A : Type 0} (b : Bool) (x y : A) → cond b (Some x) None ≡ Some 
 some_true true x y h = (refl, cc)
 some_true false x y h = absurd cc
 
-pub with_found-there : (path : List ℕ) (items : List (Key × Object)) (found : Key × Object) → has_key found.0 items ≡ true → with_found path items found ≡ refuse 31 path
+pub with_found-there : (path : List ℕ) (items : List (Key × Object)) (found : Key × Object) → has_key found.0 items ≡ true → with_found path items found ≡ refuse DUPLICATE path
 with_found-there path items found h =
-    ap (λ b. cond b (refuse 31 path) (cond (nat_lt (kind_count found.0.kind items) (kind_limit found.0.kind)) (Ok (items ++ found ∷ [])) (refuse 32 path))) h
+    ap (λ b. cond b (refuse DUPLICATE path) (cond (nat_lt (kind_count found.0.kind items) (kind_limit found.0.kind)) (Ok (items ++ found ∷ [])) (refuse TOO_MANY path))) h
 
 is_full : (items : List (Key × Object)) (kind : Kind) → with_one (counts_of items) kind ≡ None → nat_lt (kind_count kind items) (kind_limit kind) ≡ false
 is_full items kinds.Node h = none_false _ _ h
@@ -46,15 +47,15 @@ has_room items kinds.Node c h = (some_true _ _ _ h).0
 has_room items kinds.Lease c h = (some_true _ _ _ h).0
 has_room items kinds.Pod c h = (some_true _ _ _ h).0
 
-pub with_found-full : (path : List ℕ) (items : List (Key × Object)) (found : Key × Object) → has_key found.0 items ≡ false → with_one (counts_of items) found.0.kind ≡ None → with_found path items found ≡ refuse 32 path
+pub with_found-full : (path : List ℕ) (items : List (Key × Object)) (found : Key × Object) → has_key found.0 items ≡ false → with_one (counts_of items) found.0.kind ≡ None → with_found path items found ≡ refuse TOO_MANY path
 with_found-full path items found new full =
-    ap (λ b. cond b (refuse 31 path) (cond (nat_lt (kind_count found.0.kind items) (kind_limit found.0.kind)) (Ok (items ++ found ∷ [])) (refuse 32 path))) new
-    ∙ ap (λ b. cond b (Ok (items ++ found ∷ [])) (refuse 32 path)) (is_full items found.0.kind full)
+    ap (λ b. cond b (refuse DUPLICATE path) (cond (nat_lt (kind_count found.0.kind items) (kind_limit found.0.kind)) (Ok (items ++ found ∷ [])) (refuse TOO_MANY path))) new
+    ∙ ap (λ b. cond b (Ok (items ++ found ∷ [])) (refuse TOO_MANY path)) (is_full items found.0.kind full)
 
 pub with_found-new : (path : List ℕ) (items : List (Key × Object)) (found : Key × Object) (c : Counts) → has_key found.0 items ≡ false → with_one (counts_of items) found.0.kind ≡ Some c → with_found path items found ≡ Ok (items ++ found ∷ [])
 with_found-new path items found c new room =
-    ap (λ b. cond b (refuse 31 path) (cond (nat_lt (kind_count found.0.kind items) (kind_limit found.0.kind)) (Ok (items ++ found ∷ [])) (refuse 32 path))) new
-    ∙ ap (λ b. cond b (Ok (items ++ found ∷ [])) (refuse 32 path)) (has_room items found.0.kind c room)
+    ap (λ b. cond b (refuse DUPLICATE path) (cond (nat_lt (kind_count found.0.kind items) (kind_limit found.0.kind)) (Ok (items ++ found ∷ [])) (refuse TOO_MANY path))) new
+    ∙ ap (λ b. cond b (Ok (items ++ found ∷ [])) (refuse TOO_MANY path)) (has_room items found.0.kind c room)
 
 count_yes : (p : (Key × Object) → Bool) (xs : List (Key × Object)) (x : Key × Object) → p x ≡ true → count_by p (xs ++ x ∷ []) ≡ count_by p xs + 1
 count_yes p xs x h = sum_by-append (λ y. cond (p y) 1 0) xs (x ∷ []) ∙ ap (λ b. count_by p xs + (0 + cond b 1 0)) h

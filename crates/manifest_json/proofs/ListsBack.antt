@@ -18,6 +18,7 @@ use Rattle.kube_objects.specs.declared.object.Object.{Object}
 use Rattle.kube_objects.specs.declared.object.Object.TheVariants as objects
 use Rattle.kube_objects.specs.declared.pod.Pod.{Pod}
 use Rattle.kube_objects.specs.declared.pod.Toleration.{Toleration}
+use Rattle.manifest_json.specs.declared.codes.TheConstants.{BAD_KIND, BAD_LABEL, DUPLICATE, TOO_MANY, WRONG_JSON}
 use Rattle.manifest_json.specs.declared.fault.Refusal.{Refusal}
 use Rattle.manifest_json.specs.Faults.{◌>>=◌, refuse}
 use Rattle.manifest_json.specs.Fields.{Texts, unless_null, field, field_in, or_refuse, parent_at, text_at, items_at, time_at, count_at, numbered, named}
@@ -53,7 +54,7 @@ items_len-map f [] = refl
 items_len-map f (x ∷ xs) = ap (λ n. 1 + n) (items_len-map f xs) ∙ omega arith
 
 hundred-back : {A : Type 0} (path : List ℕ) (f : A → Data) (xs : List A) → length xs ≤ 100 → hundred path (items_of (map f xs)) ≡ Ok (items_of (map f xs))
-hundred-back path f xs le = ap (λ n. cond (nat_lt 100 n) (refuse 32 path) (Ok (items_of (map f xs)))) (items_len-map f xs) ∙ ap (λ b. cond b (refuse 32 path) (Ok (items_of (map f xs)))) (few (length xs) le)
+hundred-back path f xs le = ap (λ n. cond (nat_lt 100 n) (refuse TOO_MANY path) (Ok (items_of (map f xs)))) (items_len-map f xs) ∙ ap (λ b. cond b (refuse TOO_MANY path) (Ok (items_of (map f xs)))) (few (length xs) le)
   where
     few : (n : ℕ) → n ≤ 100 → nat_lt 100 n ≡ false
     few n le = grind (arith, nat_tests)
@@ -134,9 +135,9 @@ label-back : (names : Texts) (once : EachOnce names) (path place key : List ℕ)
     → label_at names path place key (filled_object (members_of fs)) ≡ Ok (n, names)
 unfolding label_at
 label-back names once path place key fs n d is h =
-    ap (λ o. text_at 10 (path ++ place) o >>= λ t. label_from names (path ++ codes "/metadata/labels") t) (field_in-is key fs d ∙ ap unless_null is)
-    ∙ ap (λ a. a >>= λ t. label_from names (path ++ codes "/metadata/labels") t) (text-back 10 (path ++ place) (text_of names n))
-    ∙ ap (λ b. cond b (numbered names (text_of names n)) (refuse 20 (path ++ codes "/metadata/labels"))) h.1
+    ap (λ o. text_at WRONG_JSON (path ++ place) o >>= λ t. label_from names (path ++ codes "/metadata/labels") t) (field_in-is key fs d ∙ ap unless_null is)
+    ∙ ap (λ a. a >>= λ t. label_from names (path ++ codes "/metadata/labels") t) (text-back WRONG_JSON (path ++ place) (text_of names n))
+    ∙ ap (λ b. cond b (numbered names (text_of names n)) (refuse BAD_LABEL (path ++ codes "/metadata/labels"))) h.1
     ∙ numbered-back names once n h.0
 
 labels-back : (names : Texts) (once : EachOnce names) (path : List ℕ) (key : Key) (n : Node) → IsLabelNumber names n.region → IsLabelNumber names n.zone
@@ -189,7 +190,7 @@ node-back names once path key n h =
     (ap (parent_at (path ++ codes "/status")) (field-is (codes "status") fs refl ∙ filled_object-there (members_of ts)) ∙ parent-back (path ++ codes "/status") (members_of ts))
     (conditions-back names once path n h.ready) h.kind h.space
 
-lease-parts : (names : Texts) (known path : List ℕ) (s : Option Data) (l : Lease) (t : List ℕ) → text_at 10 (path ++ codes "/spec/holderIdentity") (field_in (codes "holderIdentity") s) ≡ Ok t
+lease-parts : (names : Texts) (known path : List ℕ) (s : Option Data) (l : Lease) (t : List ℕ) → text_at WRONG_JSON (path ++ codes "/spec/holderIdentity") (field_in (codes "holderIdentity") s) ≡ Ok t
     → holder_of names known t ≡ Ok (l.holder, names) → count_at (path ++ codes "/spec/leaseDurationSeconds") (field_in (codes "leaseDurationSeconds") s) ≡ Ok l.duration
     → time_at (path ++ codes "/spec/acquireTime") (field_in (codes "acquireTime") s) ≡ Ok l.acquired → time_at (path ++ codes "/spec/renewTime") (field_in (codes "renewTime") s) ≡ Ok l.renewed
     → count_at (path ++ codes "/spec/leaseTransitions") (field_in (codes "leaseTransitions") s) ≡ Ok l.transitions → lease_spec_at names known path s ≡ Ok (l, names)
@@ -207,7 +208,7 @@ unfolding lease_spec_of
 lease_spec-back names once known path key l h =
     let fs : List Field = (codes "acquireTime", in_micros l.acquired) ∷ (codes "holderIdentity", filled_text (holder_text names known l.holder)) ∷ (codes "leaseDurationSeconds", count l.duration) ∷ (codes "leaseTransitions", count l.transitions) ∷ (codes "renewTime", in_micros l.renewed) ∷ [] in
     lease-parts names known path (filled_object (members_of fs)) l (holder_text names known l.holder)
-    (ap (text_at 10 (path ++ codes "/spec/holderIdentity")) (field_in-is (codes "holderIdentity") fs refl) ∙ text-back 10 (path ++ codes "/spec/holderIdentity") (holder_text names known l.holder))
+    (ap (text_at WRONG_JSON (path ++ codes "/spec/holderIdentity")) (field_in-is (codes "holderIdentity") fs refl) ∙ text-back WRONG_JSON (path ++ codes "/spec/holderIdentity") (holder_text names known l.holder))
     (holder-back names once known l.holder h.holder)
     (ap (count_at (path ++ codes "/spec/leaseDurationSeconds")) (field_in-is (codes "leaseDurationSeconds") fs refl) ∙ count-back (path ++ codes "/spec/leaseDurationSeconds") l.duration h.duration)
     (ap (time_at (path ++ codes "/spec/acquireTime")) (field_in-is (codes "acquireTime") fs refl) ∙ micros-back (path ++ codes "/spec/acquireTime") l.acquired h.acquired)
@@ -239,8 +240,8 @@ unfolding node_name_at pod_spec_of
 node_name-back names once path p h =
     let place = path ++ codes "/spec/nodeName" in
     let fs : List Field = (codes "nodeName", filled_text (text_of names p.node)) ∷ (codes "tolerations", filled_array (items_of (map (toleration_of names) p.tolerations))) ∷ [] in
-    ap (λ o. text_at 10 place o >>= λ t. node_name_from names place t) (field_in-is (codes "nodeName") fs refl)
-    ∙ ap (λ a. a >>= λ t. node_name_from names place t) (text-back 10 place (text_of names p.node))
+    ap (λ o. text_at WRONG_JSON place o >>= λ t. node_name_from names place t) (field_in-is (codes "nodeName") fs refl)
+    ∙ ap (λ a. a >>= λ t. node_name_from names place t) (text-back WRONG_JSON place (text_of names p.node))
     ∙ node_name-from names once place p.node h
 
 tolerations-back : (names : Texts) (once : EachOnce names) (path : List ℕ) (p : Pod) → AllByRecursion (IsReadableToleration names) p.tolerations → length p.tolerations ≤ 100
@@ -275,8 +276,8 @@ kind-back : (path : List ℕ) (fs : List Field) (v k : List ℕ) → distinct fs
     → kind_at path (object (members_of fs)) ≡ Ok (kind_from v k)
 unfolding kind_at
 kind-back path fs v k d version kind =
-    ap (λ o. or_refuse (option_and_then as_str o) 11 path >>= λ x. or_refuse (option_and_then as_str (get_member (codes "kind") (members_of fs))) 11 path >>= λ y. Ok (kind_from x y)) (get-lookup (codes "apiVersion") fs d ∙ version)
-    ∙ ap (λ o. or_refuse (option_and_then as_str o) 11 path >>= λ y. Ok (kind_from v y)) (get-lookup (codes "kind") fs d ∙ kind)
+    ap (λ o. or_refuse (option_and_then as_str o) BAD_KIND path >>= λ x. or_refuse (option_and_then as_str (get_member (codes "kind") (members_of fs))) BAD_KIND path >>= λ y. Ok (kind_from x y)) (get-lookup (codes "apiVersion") fs d ∙ version)
+    ∙ ap (λ o. or_refuse (option_and_then as_str o) BAD_KIND path >>= λ y. Ok (kind_from v y)) (get-lookup (codes "kind") fs d ∙ kind)
 
 item-back : (names : Texts) (once : EachOnce names) (known path : List ℕ) (key : Key) (o : Object) → IsReadableItem names known (key, o) → item_at names known path (object_of names known (key, o)) ≡ Ok (Some (key, o), names)
 unfolding item_at object_of of_kind_at node_of lease_of pod_of
@@ -298,8 +299,8 @@ item-back names once known path key (objects.Pod p) h =
 
 found-added : (path : List ℕ) (earlier : List (Key × Object)) (i : Key × Object) → has_key i.0 earlier ≡ false → nat_lt (kind_count i.0.kind earlier) (kind_limit i.0.kind) ≡ true → with_found path earlier i ≡ Ok (earlier ++ i ∷ [])
 found-added path earlier i new room =
-    ap (λ b. cond b (refuse 31 path) (cond (nat_lt (kind_count i.0.kind earlier) (kind_limit i.0.kind)) (Ok (earlier ++ i ∷ [])) (refuse 32 path))) new
-    ∙ ap (λ b. cond b (Ok (earlier ++ i ∷ [])) (refuse 32 path)) room
+    ap (λ b. cond b (refuse DUPLICATE path) (cond (nat_lt (kind_count i.0.kind earlier) (kind_limit i.0.kind)) (Ok (earlier ++ i ∷ [])) (refuse TOO_MANY path))) new
+    ∙ ap (λ b. cond b (Ok (earlier ++ i ∷ [])) (refuse TOO_MANY path)) room
 
 item-added : (path : List ℕ) (earlier : List (Key × Object)) (i : Key × Object) → with_found path earlier i ≡ Ok (earlier ++ i ∷ []) → with_item path earlier (Some i) ≡ Ok (earlier ++ i ∷ [], 0)
 item-added path earlier i added = ap (λ (a : Result (List (Key × Object)) Refusal). a >>= λ (more : List (Key × Object)). Ok (more, 0)) added
@@ -329,8 +330,8 @@ list-back names once known path items h =
     let fs : List Field = (codes "apiVersion", text (codes "v1")) ∷ (codes "items", Some (array all)) ∷ (codes "kind", text (codes "List")) ∷ [] in
     let d = object (members_of fs) in
     let place = path ++ codes "/items" in
-    ap (λ o. cond (is_text (codes "v1") (option_and_then as_str o) && is_text (codes "List") (option_and_then as_str (get_member (codes "kind") (members_of fs)))) (Ok d) (refuse 11 path) >>= λ x. items_at place (field (codes "items") x) >>= λ xs. list_from names known path 0 [] 0 xs) (get-lookup (codes "apiVersion") fs refl)
-    ∙ ap (λ o. cond (is_text (codes "List") (option_and_then as_str o)) (Ok d) (refuse 11 path) >>= λ x. items_at place (field (codes "items") x) >>= λ xs. list_from names known path 0 [] 0 xs) (get-lookup (codes "kind") fs refl)
+    ap (λ o. cond (is_text (codes "v1") (option_and_then as_str o) && is_text (codes "List") (option_and_then as_str (get_member (codes "kind") (members_of fs)))) (Ok d) (refuse BAD_KIND path) >>= λ x. items_at place (field (codes "items") x) >>= λ xs. list_from names known path 0 [] 0 xs) (get-lookup (codes "apiVersion") fs refl)
+    ∙ ap (λ o. cond (is_text (codes "List") (option_and_then as_str o)) (Ok d) (refuse BAD_KIND path) >>= λ x. items_at place (field (codes "items") x) >>= λ xs. list_from names known path 0 [] 0 xs) (get-lookup (codes "kind") fs refl)
     ∙ ap (λ o. items_at place o >>= λ xs. list_from names known path 0 [] 0 xs) (field-is (codes "items") fs refl)
     ∙ list_from-back names once known path 0 [] items h.each h.fit
 

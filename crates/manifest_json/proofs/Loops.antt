@@ -10,6 +10,7 @@ use Rattle.kube_objects.specs.declared.node.Ready.{Ready}
 use Rattle.kube_objects.specs.declared.node.Taint.{Taint}
 use Rattle.kube_objects.specs.declared.object.Object.{Object}
 use Rattle.kube_objects.specs.declared.pod.Toleration.{Toleration}
+use Rattle.manifest_json.specs.declared.codes.TheConstants.{TOO_MANY}
 use Rattle.manifest_json.specs.declared.fault.Refusal.{Refusal}
 use Rattle.manifest_json.specs.declared.fault.ReadFault.{ReadFault}
 use Rattle.manifest_json.specs.declared.fault.ReadFault.TheVariants.{Refused, NoMemory}
@@ -134,11 +135,11 @@ items_len-view : (vs : List Value) → items_len (items_view vs) ≡ length vs
 items_len-view [] = refl
 items_len-view (v ∷ vs) = ap (λ n. 1 + n) (items_len-view vs) ∙ omega arith
 
-pub hundred-over : (path : List ℕ) (vs : List Value) → 100 < length vs → hundred path (items_view vs) ≡ refuse 32 path
-hundred-over path vs lt = ap (λ b. cond b (refuse 32 path) (Ok (items_view vs))) (ap (λ n. nat_lt 100 n) (items_len-view vs) ∙ lt-ltb 100 (length vs) lt)
+pub hundred-over : (path : List ℕ) (vs : List Value) → 100 < length vs → hundred path (items_view vs) ≡ refuse TOO_MANY path
+hundred-over path vs lt = ap (λ b. cond b (refuse TOO_MANY path) (Ok (items_view vs))) (ap (λ n. nat_lt 100 n) (items_len-view vs) ∙ lt-ltb 100 (length vs) lt)
 
 pub hundred-few : (path : List ℕ) (vs : List Value) → length vs ≤ 100 → hundred path (items_view vs) ≡ Ok (items_view vs)
-hundred-few path vs le = ap (λ b. cond b (refuse 32 path) (Ok (items_view vs))) (ap (λ n. nat_lt 100 n) (items_len-view vs) ∙ by (nat_lt 100 (length vs)) refl)
+hundred-few path vs le = ap (λ b. cond b (refuse TOO_MANY path) (Ok (items_view vs))) (ap (λ n. nat_lt 100 n) (items_len-view vs) ∙ by (nat_lt 100 (length vs)) refl)
   where
     by : (b : Bool) → nat_lt 100 (length vs) ≡ b → nat_lt 100 (length vs) ≡ false
     by false e = e

@@ -14,6 +14,7 @@ use Rattle.kube_objects.specs.declared.node.Taint.{Taint}
 use Rattle.kube_objects.specs.declared.pod.Operator.{Operator}
 use Rattle.kube_objects.specs.declared.pod.Operator.TheVariants as operators
 use Rattle.kube_objects.specs.declared.pod.Toleration.{Toleration}
+use Rattle.manifest_json.specs.declared.codes.TheConstants.{BAD_TAINT_KEY, BAD_TOLERATION, DUPLICATE_TAINT, WRONG_JSON}
 use Rattle.manifest_json.specs.Faults.{◌>>=◌, refuse}
 use Rattle.manifest_json.specs.Fields.{Texts, unless_null, field, object_at, time_at, signed_at, numbered}
 use Rattle.manifest_json.specs.Walk.{effect_at, whole_second, same_taint, taint_text_at, taint_key_at, text_number_at, unless_earlier, taint_at, status_at, ready_at, is_text, condition_at, operator_at, any_effect_at, is_lawful, if_lawful, toleration_at}
@@ -23,13 +24,13 @@ use Rattle.manifest_json.proofs.FieldsBack.{get-lookup, field-is, text-there, te
 
 pub text_number-back : (names : Texts) (once : EachOnce names) (path key : List ℕ) (n : ℕ) → IsHeld names n → text_number_at names path key (unless_null (filled_text (text_of names n))) ≡ Ok (n, names)
 unfolding text_number_at
-text_number-back names once path key n h = ap (λ r. r >>= λ text. numbered names text) (text-back 10 (path ++ key) (text_of names n)) ∙ numbered-back names once n h
+text_number-back names once path key n h = ap (λ r. r >>= λ text. numbered names text) (text-back WRONG_JSON (path ++ key) (text_of names n)) ∙ numbered-back names once n h
 
 taint_key-back : (names : Texts) (once : EachOnce names) (path : List ℕ) (d : Data) (n : ℕ) → field (codes "key") d ≡ Some (string (text_of names n)) → IsHeld names n → IsFilled names n → taint_key_at names path d ≡ Ok (n, names)
 unfolding taint_key_at
 taint_key-back names once path d n is h filled =
-    ap (λ o. taint_text_at (path ++ codes "/key") o >>= λ text. cond (length text == 0) (refuse 21 (path ++ codes "/key")) (numbered names text)) is
-    ∙ ap (λ b. cond b (refuse 21 (path ++ codes "/key")) (numbered names (text_of names n))) filled
+    ap (λ o. taint_text_at (path ++ codes "/key") o >>= λ text. cond (length text == 0) (refuse BAD_TAINT_KEY (path ++ codes "/key")) (numbered names text)) is
+    ∙ ap (λ b. cond b (refuse BAD_TAINT_KEY (path ++ codes "/key")) (numbered names (text_of names n))) filled
     ∙ numbered-back names once n h
 
 taint-parts : (names : Texts) (path : List ℕ) (earlier : List Taint) (d : Data) (t : Taint) → object_at path d ≡ Ok d → taint_key_at names path d ≡ Ok (t.key, names)
@@ -43,7 +44,7 @@ taint-parts names path earlier d t o k v e a w n =
     ∙ ap (λ answer. answer >>= λ EFFECT. time_at (path ++ codes "/timeAdded") (field (codes "timeAdded") d) >>= λ ADDED. unless_earlier earlier path (record { key = t.key; value = t.value; effect = EFFECT; added = whole_second ADDED }) names) (e)
     ∙ ap (λ answer. answer >>= λ ADDED. unless_earlier earlier path (record { key = t.key; value = t.value; effect = t.effect; added = whole_second ADDED }) names) (a)
     ∙ ap (λ at. unless_earlier earlier path (record t { added = at }) names) w
-    ∙ ap (λ b. cond b (refuse 19 path) (Ok (t, names))) n
+    ∙ ap (λ b. cond b (refuse DUPLICATE_TAINT path) (Ok (t, names))) n
 
 effect-back : (path : List ℕ) (e : Effect) → effect_at path (Some (string (effect_text e))) ≡ Ok e
 effect-back path effects.NoSchedule = refl
@@ -73,7 +74,7 @@ toleration-parts names path d t o k v p e s l =
     ∙ ap (λ answer. answer >>= λ OPERATOR. any_effect_at (path ++ codes "/effect") (field (codes "effect") d) >>= λ EFFECT. signed_at (path ++ codes "/tolerationSeconds") (field (codes "tolerationSeconds") d) >>= λ SECONDS. if_lawful path (record { key = t.key; operator = OPERATOR; value = t.value; effect = EFFECT; seconds = SECONDS }) names) (p)
     ∙ ap (λ answer. answer >>= λ EFFECT. signed_at (path ++ codes "/tolerationSeconds") (field (codes "tolerationSeconds") d) >>= λ SECONDS. if_lawful path (record { key = t.key; operator = t.operator; value = t.value; effect = EFFECT; seconds = SECONDS }) names) (e)
     ∙ ap (λ answer. answer >>= λ SECONDS. if_lawful path (record { key = t.key; operator = t.operator; value = t.value; effect = t.effect; seconds = SECONDS }) names) (s)
-    ∙ ap (λ b. cond b (Ok (t, names)) (refuse 17 path)) l
+    ∙ ap (λ b. cond b (Ok (t, names)) (refuse BAD_TOLERATION path)) l
 
 operator-back : (path : List ℕ) (o : Operator) → operator_at path (Some (string (operator_text o))) ≡ Ok o
 unfolding operator_at

@@ -9,6 +9,7 @@ use Rattle.kube_base.specs.Names.{number_in, with_name}
 use Rattle.kube_base.specs.Times as times
 use Rattle.kube_base.specs.Times.{◌>>=◌, digit_at, fraction_digit, micros_of, wall_of, instant, day_at, second_at, fraction_digits, offset_at, zone_place, time_of, last_wall}
 use Rattle.kube_base.specs.declared.numbers.Wall.{Wall}
+use Rattle.manifest_json.specs.declared.codes.TheConstants.{BAD_NUMBER, BAD_TIME}
 use Rattle.manifest_json.specs.declared.fault.Refusal.{Refusal}
 use Rattle.manifest_json.specs.Fields.{Texts, is_name, is_label, some_or_refuse, time_at, small, count_at, fits, signed_at, numbered, named}
 use Rattle.manifest_json.specs.Readable.{IsHeld, IsFilled, IsNameNumber, IsLabelNumber, IsTime, IsWholeSecond, IsCount, IsSigned}
@@ -69,7 +70,7 @@ time-small text =
 
 pub time-in : (path : List ℕ) (d : Option Data) → Gets IsTime (time_at path d)
 time-in path None = done _ tt
-time-in path (Some d) = of_some IsTime _ 13 path (has_then _ (as_str d) time_of time-small)
+time-in path (Some d) = of_some IsTime _ BAD_TIME path (has_then _ (as_str d) time_of time-small)
 
 pub whole-in : (at : Option Wall) → IsTime at → IsWholeSecond (whole_second at)
 whole-in None h = tt
@@ -82,7 +83,7 @@ small-in n = has_if _ (nat_le n 2_147_483_647) n (leb-true n 2_147_483_647)
 
 pub count-in : (path : List ℕ) (d : Option Data) → Gets IsCount (count_at path d)
 count-in path None = done _ tt
-count-in path (Some d) = of_some IsCount _ 14 path (has_then _ (option_and_then as_u64 (as_number d)) small small-in)
+count-in path (Some d) = of_some IsCount _ BAD_NUMBER path (has_then _ (option_and_then as_u64 (as_number d)) small small-in)
 
 fits-in : (z : ℤ) → Has (λ n. IsSigned (Some n)) (fits z)
 fits-in (pos n) = has_if _ (nat_lt n (2 ^ 63)) (pos n) (ltb-true n (2 ^ 63))
@@ -90,7 +91,7 @@ fits-in (negsuc n) = has_if _ (nat_lt n (2 ^ 63)) (negsuc n) (ltb-true n (2 ^ 63
 
 pub signed-in : (path : List ℕ) (d : Option Data) → Gets IsSigned (signed_at path d)
 signed-in path None = done _ tt
-signed-in path (Some d) = of_some IsSigned _ 14 path (has_then _ (option_and_then as_i64 (as_number d)) fits fits-in)
+signed-in path (Some d) = of_some IsSigned _ BAD_NUMBER path (has_then _ (option_and_then as_i64 (as_number d)) fits fits-in)
 
 -- ---- texts
 

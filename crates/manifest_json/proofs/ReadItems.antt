@@ -17,6 +17,7 @@ use Rattle.kube_objects.specs.declared.node.Taint.{Taint}
 use Rattle.kube_objects.specs.declared.object.Object.{Object}
 use Rattle.kube_objects.specs.declared.object.Object.TheVariants as objects
 use Rattle.kube_objects.specs.declared.pod.Toleration.{Toleration}
+use Rattle.manifest_json.specs.declared.codes.TheConstants.{WRONG_JSON}
 use Rattle.manifest_json.specs.declared.fault.Refusal.{Refusal}
 use Rattle.manifest_json.specs.Fields.{Texts, is_label, field, field_in, object_at, parent_at, text_at, items_at}
 use Rattle.manifest_json.specs.Readable.{AreHeld, IsHeld, IsFilled, IsNameNumber, IsLabelNumber, IsTime, IsWholeSecond, IsReadableTaint, taints_differ, IsReadableReady, IsReadableNode, IsReadableLease, IsReadableToleration, IsNodeNumber, IsReadablePod, IsReadableItem, items_fit, IsReadable}
@@ -55,12 +56,12 @@ key-reads names path kind metadata =
 label-reads : (names : Texts) (path place key : List ℕ) (labels : Option Data) → Reads names IsLabelNumber (label_at names path place key labels)
 unfolding label_at
 label-reads names path place key labels =
-    skip (text_at 10 (path ++ place) (field_in key labels)) (λ text.
+    skip (text_at WRONG_JSON (path ++ place) (field_in key labels)) (λ text.
     by_test (is_label text) _ _ (λ e. weaker (numbered-reads names text) (λ r h. (h.0, (h.1.0, ap is_label h.1.1 ∙ e)))) (λ e. refused _))
 
 text-reads : (names : Texts) (path key : List ℕ) (d : Option Data) → Reads names IsHeld (text_number_at names path key d)
 unfolding text_number_at
-text-reads names path key d = skip (text_at 10 (path ++ key) d) (λ text. weaker (numbered-reads names text) (λ r h. (h.0, h.1.0)))
+text-reads names path key d = skip (text_at WRONG_JSON (path ++ key) d) (λ text. weaker (numbered-reads names text) (λ r h. (h.0, h.1.0)))
 
 -- ---- Nodes
 
@@ -168,17 +169,20 @@ node-reads names known path d =
     skip (parent_at (path ++ codes "/status") (field (codes "status") d)) (λ status.
     and_then (conditions-reads taints.1 path status) (λ ready r.
     let from_labels = Grows-then t.0 r.0 in
-    done _ (Grows-then n.0 (Grows-then l.0 from_labels), record {
-      kind = refl;
-      space = refl;
-      name = IsNameNumber-grows (Grows-then l.0 from_labels) name.0 n.1;
-      region = IsLabelNumber-grows from_labels labels.0 l.1;
-      zone = IsLabelNumber-grows from_labels labels.1 l.2;
-      taints = all-weaker _ _ taints.0 (IsReadableTaint-grows r.0) t.1.0;
-      few = t.1.1;
-      differ = t.1.2;
-      ready = r.1;
-    }))))))))
+    done _ (
+      Grows-then n.0 (Grows-then l.0 from_labels),
+      record {
+        kind = refl;
+        space = refl;
+        name = IsNameNumber-grows (Grows-then l.0 from_labels) name.0 n.1;
+        region = IsLabelNumber-grows from_labels labels.0 l.1;
+        zone = IsLabelNumber-grows from_labels labels.1 l.2;
+        taints = all-weaker _ _ taints.0 (IsReadableTaint-grows r.0) t.1.0;
+        few = t.1.1;
+        differ = t.1.2;
+        ready = r.1;
+      },
+    ))))))))
 
 -- ---- Leases
 
@@ -189,7 +193,7 @@ record IsSpec (known : List ℕ) (names : Texts) (l : Lease) : Type 0 where
 lease_spec-reads : (names : Texts) (known path : List ℕ) (spec : Option Data) → AreHeld names known → Reads names (IsSpec known) (lease_spec_at names known path spec)
 unfolding lease_spec_at
 lease_spec-reads names known path spec held =
-    skip (text_at 10 (path ++ codes "/spec/holderIdentity") (field_in (codes "holderIdentity") spec)) (λ text.
+    skip (text_at WRONG_JSON (path ++ codes "/spec/holderIdentity") (field_in (codes "holderIdentity") spec)) (λ text.
     and_then (holder-reads names known held text) (λ holder h.
     and_then (count-in (path ++ codes "/spec/leaseDurationSeconds") (field_in (codes "leaseDurationSeconds") spec)) (λ duration d.
     and_then (time-in (path ++ codes "/spec/acquireTime") (field_in (codes "acquireTime") spec)) (λ acquired a.
@@ -242,7 +246,7 @@ node_name-reads : (names : Texts) (path : List ℕ) (spec : Option Data) → Rea
 unfolding node_name_at
 node_name-reads names path spec =
     let place = path ++ codes "/spec/nodeName" in
-    skip (text_at 10 place (field_in (codes "nodeName") spec)) (λ text.
+    skip (text_at WRONG_JSON place (field_in (codes "nodeName") spec)) (λ text.
     by_test (length text == 0) _ _
     (λ e. weaker (numbered-reads names text) (λ r h. (h.0, (h.1.0, λ filled. absurd (let no : true ≡ false = sym (ap (λ t. length t == 0) h.1.1 ∙ e) ∙ filled in cc)))))
     (λ e. weaker (named-reads names place text) (λ r h. (h.0, (h.1.0, λ filled. h.1.1)))))
@@ -256,14 +260,17 @@ pod-reads names known path d =
     and_then (node_name-reads key.1 path spec) (λ node n.
     and_then (tolerations-reads node.1 path spec) (λ tolerations t.
     let from_key = Grows-then n.0 t.0 in
-    done _ (Grows-then k.0 from_key, record {
-      kind = k.1.0;
-      space = IsNameNumber-grows from_key key.0.space k.1.1;
-      name = IsNameNumber-grows from_key key.0.name k.1.2;
-      node = IsNodeNumber-grows t.0 node.0 n.1;
-      tolerations = t.1.0;
-      few = t.1.1;
-    }))))))
+    done _ (
+      Grows-then k.0 from_key,
+      record {
+        kind = k.1.0;
+        space = IsNameNumber-grows from_key key.0.space k.1.1;
+        name = IsNameNumber-grows from_key key.0.name k.1.2;
+        node = IsNodeNumber-grows t.0 node.0 n.1;
+        tolerations = t.1.0;
+        few = t.1.1;
+      },
+    ))))))
 
 -- ---- objects
 

@@ -7,6 +7,7 @@ use Rattle.serde_json.specs.Find.{get, as_null, as_number, as_str, as_u64, as_i6
 use Rattle.kube_base.specs.Times.{time_of}
 use Rattle.kube_base.specs.Names.{number_in, with_name}
 use Rattle.kube_base.specs.declared.numbers.Wall.{Wall}
+use Rattle.manifest_json.specs.declared.codes.TheConstants.{BAD_NAME, BAD_NUMBER, BAD_TIME, WRONG_JSON}
 use Rattle.manifest_json.specs.declared.fault.Refusal.{Refusal}
 use Rattle.manifest_json.specs.Faults.{refuse}
 
@@ -62,7 +63,7 @@ or_refuse None code path = refuse code path
 or_refuse (Some x) code path = Ok x
 
 abbrev pub object_or : Data → List ℕ → Option Members → Result Data Refusal
-object_or d path None = refuse 10 path
+object_or d path None = refuse WRONG_JSON path
 object_or d path (Some _) = Ok d
 
 -- the value is an object
@@ -86,7 +87,7 @@ text_at code path (Some d) = or_refuse (as_str d) code path
 -- an array that counts as empty where it is missing
 abbrev pub items_at : List ℕ → Option Data → Result Items Refusal
 items_at path None = Ok no_items
-items_at path (Some d) = or_refuse (as_array d) 10 path
+items_at path (Some d) = or_refuse (as_array d) WRONG_JSON path
 
 abbrev pub some_or_refuse : {A : Type 0} → Option A → ℕ → List ℕ → Result (Option A) Refusal
 some_or_refuse None code path = refuse code path
@@ -95,7 +96,7 @@ some_or_refuse (Some x) code path = Ok (Some x)
 -- a time
 abbrev pub time_at : List ℕ → Option Data → Result (Option Wall) Refusal
 time_at path None = Ok None
-time_at path (Some d) = some_or_refuse (option_and_then time_of (as_str d)) 13 path
+time_at path (Some d) = some_or_refuse (option_and_then time_of (as_str d)) BAD_TIME path
 
 abbrev pub small : ℕ → Option ℕ
 small n = if nat_le n 2_147_483_647 then Some n else None
@@ -103,7 +104,7 @@ small n = if nat_le n 2_147_483_647 then Some n else None
 -- a count of 31 bits
 abbrev pub count_at : List ℕ → Option Data → Result (Option ℕ) Refusal
 count_at path None = Ok None
-count_at path (Some d) = some_or_refuse (option_and_then small (option_and_then as_u64 (as_number d))) 14 path
+count_at path (Some d) = some_or_refuse (option_and_then small (option_and_then as_u64 (as_number d))) BAD_NUMBER path
 
 -- a whole number has 64 bits with its sign
 abbrev pub fits : ℤ → Option ℤ
@@ -112,7 +113,7 @@ fits (negsuc n) = if nat_lt n (2 ^ 63) then Some (negsuc n) else None
 
 abbrev pub signed_at : List ℕ → Option Data → Result (Option ℤ) Refusal
 signed_at path None = Ok None
-signed_at path (Some d) = some_or_refuse (option_and_then fits (option_and_then as_i64 (as_number d))) 14 path
+signed_at path (Some d) = some_or_refuse (option_and_then fits (option_and_then as_i64 (as_number d))) BAD_NUMBER path
 
 -- ---- numbered texts
 
@@ -125,4 +126,4 @@ numbered names text = Ok (number_in names text, with_name names text)
 
 -- a name that is numbered; another text is refused
 abbrev pub named : Texts → List ℕ → List ℕ → Result (ℕ × Texts) Refusal
-named names path text = if is_name text then numbered names text else refuse 12 path
+named names path text = if is_name text then numbered names text else refuse BAD_NAME path

@@ -27,6 +27,7 @@ use Rattle.kube_objects.specs.declared.object.Object.TheVariants as objects
 use Rattle.kube_objects.specs.declared.pod.Operator.{Operator}
 use Rattle.kube_objects.specs.declared.pod.Operator.TheVariants as operators
 use Rattle.kube_objects.specs.declared.pod.Toleration.{Toleration}
+use Rattle.manifest_json.specs.declared.codes.TheConstants.{BAD_EFFECT, BAD_KIND, BAD_LABEL, BAD_NAME, BAD_OPERATOR, BAD_READY_STATUS, BAD_TAINT_KEY, BAD_TOLERATION, DUPLICATE, DUPLICATE_TAINT, TOO_MANY, WRONG_JSON}
 use Rattle.manifest_json.specs.declared.fault.Refusal.{Refusal}
 use Rattle.manifest_json.specs.Faults.{◌>>=◌, refuse}
 use Rattle.manifest_json.specs.Fields.{Texts, is_label, field, field_in, or_refuse, object_at, parent_at, text_at, items_at, time_at, count_at, signed_at, numbered, named}
@@ -34,15 +35,15 @@ use Rattle.manifest_json.specs.Fields.{Texts, is_label, field, field_in, or_refu
 -- ---- metadata
 
 abbrev pub text_or_refuse : Option (List ℕ) → List ℕ → Result (List ℕ) Refusal
-text_or_refuse text path = or_refuse text 10 path
+text_or_refuse text path = or_refuse text WRONG_JSON path
 
 abbrev pub name_text_at : List ℕ → Option Data → Result (List ℕ) Refusal
-name_text_at path None = refuse 12 path
-name_text_at path (Some d) = or_refuse (as_str d) 10 path
+name_text_at path None = refuse BAD_NAME path
+name_text_at path (Some d) = or_refuse (as_str d) WRONG_JSON path
 
 abbrev pub space_text_at : List ℕ → Option Data → Result (List ℕ) Refusal
 space_text_at path None = Ok (codes "default")
-space_text_at path (Some d) = or_refuse (as_str d) 10 path
+space_text_at path (Some d) = or_refuse (as_str d) WRONG_JSON path
 
 -- `metadata.name`
 unfoldable pub name_at : Texts → List ℕ → Option Data → Result (ℕ × Texts) Refusal
@@ -66,12 +67,12 @@ spaced_key_at names path kind metadata = do
 -- ---- Nodes
 
 abbrev pub label_from : Texts → List ℕ → List ℕ → Result (ℕ × Texts) Refusal
-label_from names path text = if is_label text then numbered names text else refuse 20 path
+label_from names path text = if is_label text then numbered names text else refuse BAD_LABEL path
 
 -- a topology label
 unfoldable pub label_at : Texts → List ℕ → List ℕ → List ℕ → Option Data → Result (ℕ × Texts) Refusal
 label_at names path place key labels = do
-  text ← text_at 10 (path ++ place) (field_in key labels)
+  text ← text_at WRONG_JSON (path ++ place) (field_in key labels)
   label_from names (path ++ codes "/metadata/labels") text
 
 abbrev pub effect_of : List ℕ → Option Effect
@@ -81,7 +82,7 @@ effect_of text =
     else (if bytes_eq text (codes "NoExecute") then Some effects.NoExecute else None))
 
 abbrev pub effect_at : List ℕ → Option Data → Result Effect Refusal
-effect_at path d = or_refuse (option_and_then effect_of (option_and_then as_str d)) 15 path
+effect_at path d = or_refuse (option_and_then effect_of (option_and_then as_str d)) BAD_EFFECT path
 
 abbrev pub whole_second : Option Wall → Option Wall
 whole_second at = option_map (λ (w : Wall). record { 0 = w.0 / 1_000_000 * 1_000_000 }) at
@@ -96,22 +97,22 @@ abbrev pub same_taint : Taint → Taint → Bool
 same_taint a b = (a.key == b.key) && (effect_rank a.effect == effect_rank b.effect)
 
 abbrev pub taint_text_at : List ℕ → Option Data → Result (List ℕ) Refusal
-taint_text_at path None = refuse 21 path
-taint_text_at path (Some d) = or_refuse (as_str d) 10 path
+taint_text_at path None = refuse BAD_TAINT_KEY path
+taint_text_at path (Some d) = or_refuse (as_str d) WRONG_JSON path
 
 -- a taint's key, which isn't empty
 unfoldable pub taint_key_at : Texts → List ℕ → Data → Result (ℕ × Texts) Refusal
 taint_key_at names path d = do
   text ← taint_text_at (path ++ codes "/key") (field (codes "key") d)
-  if length text == 0 then refuse 21 (path ++ codes "/key") else numbered names text
+  if length text == 0 then refuse BAD_TAINT_KEY (path ++ codes "/key") else numbered names text
 
 unfoldable pub text_number_at : Texts → List ℕ → List ℕ → Option Data → Result (ℕ × Texts) Refusal
 text_number_at names path key d = do
-  text ← text_at 10 (path ++ key) d
+  text ← text_at WRONG_JSON (path ++ key) d
   numbered names text
 
 abbrev pub unless_earlier : List Taint → List ℕ → Taint → Texts → Result (Taint × Texts) Refusal
-unless_earlier earlier path taint names = if list_any (same_taint taint) earlier then refuse 19 path else Ok (taint, names)
+unless_earlier earlier path taint names = if list_any (same_taint taint) earlier then refuse DUPLICATE_TAINT path else Ok (taint, names)
 
 unfoldable pub taint_at : Texts → List ℕ → List Taint → Data → Result (Taint × Texts) Refusal
 taint_at names path earlier value = do
@@ -139,7 +140,7 @@ items_len (item d rest) = 1 + items_len rest
 
 -- at most a hundred members
 abbrev pub hundred : List ℕ → Items → Result Items Refusal
-hundred path items = if nat_lt 100 (items_len items) then refuse 32 path else Ok items
+hundred path items = if nat_lt 100 (items_len items) then refuse TOO_MANY path else Ok items
 
 unfoldable pub taints_at : Texts → List ℕ → Option Data → Result (List Taint × Texts) Refusal
 taints_at names path spec = do
@@ -154,7 +155,7 @@ status_of text =
     else (if bytes_eq text (codes "Unknown") then Some statuses.Unknown else None))
 
 abbrev pub status_at : List ℕ → Option Data → Result ReadyStatus Refusal
-status_at path d = or_refuse (option_and_then status_of (option_and_then as_str d)) 18 path
+status_at path d = or_refuse (option_and_then status_of (option_and_then as_str d)) BAD_READY_STATUS path
 
 -- a Ready condition
 unfoldable pub ready_at : Texts → List ℕ → Data → Result (Ready × Texts) Refusal
@@ -255,7 +256,7 @@ holder_of names known text = if length text == 0 then Ok (holders.Nobody, names)
 
 unfoldable pub lease_spec_at : Texts → List ℕ → List ℕ → Option Data → Result (Lease × Texts) Refusal
 lease_spec_at names known path spec = do
-  text ← text_at 10 (path ++ codes "/spec/holderIdentity") (field_in (codes "holderIdentity") spec)
+  text ← text_at WRONG_JSON (path ++ codes "/spec/holderIdentity") (field_in (codes "holderIdentity") spec)
   holder ← holder_of names known text
   duration ← count_at (path ++ codes "/spec/leaseDurationSeconds") (field_in (codes "leaseDurationSeconds") spec)
   acquired ← time_at (path ++ codes "/spec/acquireTime") (field_in (codes "acquireTime") spec)
@@ -280,17 +281,17 @@ operator_of text =
 
 unfoldable pub operator_at : List ℕ → Option Data → Result Operator Refusal
 operator_at path d = do
-  text ← text_at 16 path d
-  or_refuse (operator_of text) 16 path
+  text ← text_at BAD_OPERATOR path d
+  or_refuse (operator_of text) BAD_OPERATOR path
 
 abbrev pub some_effect_of : List ℕ → List ℕ → Result (Option Effect) Refusal
 some_effect_of path text = if length text == 0 then Ok None else (do
-  effect ← or_refuse (effect_of text) 15 path
+  effect ← or_refuse (effect_of text) BAD_EFFECT path
   Ok (Some effect))
 
 unfoldable pub any_effect_at : List ℕ → Option Data → Result (Option Effect) Refusal
 any_effect_at path d = do
-  text ← text_at 15 path d
+  text ← text_at BAD_EFFECT path d
   some_effect_of path text
 
 abbrev pub is_no_execute : Option Effect → Bool
@@ -308,7 +309,7 @@ abbrev pub is_lawful : Toleration → Bool
 is_lawful t = fits_operator t.operator t.key t.value && (is_none t.seconds || is_no_execute t.effect)
 
 abbrev pub if_lawful : List ℕ → Toleration → Texts → Result (Toleration × Texts) Refusal
-if_lawful path toleration names = if is_lawful toleration then Ok (toleration, names) else refuse 17 path
+if_lawful path toleration names = if is_lawful toleration then Ok (toleration, names) else refuse BAD_TOLERATION path
 
 unfoldable pub toleration_at : Texts → List ℕ → Data → Result (Toleration × Texts) Refusal
 toleration_at names path value = do
@@ -337,7 +338,7 @@ node_name_from names path text = if length text == 0 then numbered names text el
 
 unfoldable pub node_name_at : Texts → List ℕ → Option Data → Result (ℕ × Texts) Refusal
 node_name_at names path spec = do
-  text ← text_at 10 (path ++ codes "/spec/nodeName") (field_in (codes "nodeName") spec)
+  text ← text_at WRONG_JSON (path ++ codes "/spec/nodeName") (field_in (codes "nodeName") spec)
   node_name_from names (path ++ codes "/spec/nodeName") text
 
 unfoldable pub pod_at : Texts → List ℕ → Data → Result ((Key × Object) × Texts) Refusal
@@ -360,8 +361,8 @@ kind_from version kind =
 -- which of the kinds that are read, if any
 unfoldable pub kind_at : List ℕ → Data → Result (Option Kind) Refusal
 kind_at path d = do
-  version ← or_refuse (option_and_then as_str (get (codes "apiVersion") d)) 11 path
-  kind ← or_refuse (option_and_then as_str (get (codes "kind") d)) 11 path
+  version ← or_refuse (option_and_then as_str (get (codes "apiVersion") d)) BAD_KIND path
+  kind ← or_refuse (option_and_then as_str (get (codes "kind") d)) BAD_KIND path
   Ok (kind_from version kind)
 
 unfoldable pub of_kind_at : Texts → List ℕ → List ℕ → Data → Kind → Result ((Key × Object) × Texts) Refusal
@@ -387,7 +388,7 @@ unfoldable pub object_walk : Texts → List ℕ → List ℕ → Data → Result
 object_walk names known path value = do
   d ← object_at path value
   some ← kind_at path d
-  kind ← or_refuse some 11 path
+  kind ← or_refuse some BAD_KIND path
   of_kind_at names known path d kind
 
 -- how many objects of a kind a list may have
@@ -406,8 +407,8 @@ has_key key items = list_any (λ i. key_eq i.0 key) items
 -- one more object, whose key is new and whose kind is not full
 abbrev pub with_found : List ℕ → List (Key × Object) → (Key × Object) → Result (List (Key × Object)) Refusal
 with_found path items found =
-    if has_key found.0 items then refuse 31 path
-    else (if nat_lt (kind_count found.0.kind items) (kind_limit found.0.kind) then Ok (items ++ found ∷ []) else refuse 32 path)
+    if has_key found.0 items then refuse DUPLICATE path
+    else (if nat_lt (kind_count found.0.kind items) (kind_limit found.0.kind) then Ok (items ++ found ∷ []) else refuse TOO_MANY path)
 
 -- the objects after an item, and how many were skipped
 abbrev pub with_item : List ℕ → List (Key × Object) → Option (Key × Object) → Result (List (Key × Object) × ℕ) Refusal
@@ -432,7 +433,7 @@ abbrev pub is_list : Data → Bool
 is_list d = is_text (codes "v1") (option_and_then as_str (get (codes "apiVersion") d)) && is_text (codes "List") (option_and_then as_str (get (codes "kind") d))
 
 abbrev pub list_or_refuse : List ℕ → Data → Result Data Refusal
-list_or_refuse path d = if is_list d then Ok d else refuse 11 path
+list_or_refuse path d = if is_list d then Ok d else refuse BAD_KIND path
 
 -- a `v1` List: the items in order, how many were skipped, and the names that are held then
 unfoldable pub list_walk : Texts → List ℕ → List ℕ → Data → Result ((List (Key × Object) × ℕ) × Texts) Refusal

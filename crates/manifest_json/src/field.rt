@@ -8,6 +8,7 @@ ghost use Rattle.kube_base.specs.Times as times;
 ghost use Rattle.manifest_json.specs.Fields as spec;
 ghost use Rattle.manifest_json.specs.Walk.{hundred};
 
+use crate::codes::{BAD_NAME, BAD_NUMBER, BAD_TIME, TOO_MANY, WRONG_JSON};
 use crate::fault::{fault, fault_below};
 use crate::grammar::is_name;
 use crate::{Path, ReadFault};
@@ -41,7 +42,7 @@ pub(crate) fn object<'v>(path: &Path, value: &'v Value) -> Result<&'v Value, Rea
 {
     match value.as_object() {
         Some(_) => Ok(value),
-        None => Err(fault(10, path)),
+        None => Err(fault(WRONG_JSON, path)),
     }
 }
 
@@ -58,7 +59,7 @@ pub(crate) fn parent<'v>(
         None => Ok(None),
         Some(found) => match found.as_object() {
             Some(_) => Ok(Some(found)),
-            None => Err(fault_below(10, path, key)),
+            None => Err(fault_below(WRONG_JSON, path, key)),
         },
     }
 }
@@ -95,7 +96,7 @@ pub(crate) fn items<'v>(
         None => Ok(&[]),
         Some(found) => match found.as_array() {
             Some(list) => Ok(list.as_slice()),
-            None => Err(fault_below(10, path, key)),
+            None => Err(fault_below(WRONG_JSON, path, key)),
         },
     }
 }
@@ -109,7 +110,7 @@ pub(crate) fn hundred<'v>(
     ensures { Gives (λ few. items_view few.now) result (hundred (path.now ++ key.now) (items_view list.now)) }
 {
     if list.len() > 100 {
-        return Err(fault_below(32, path, key));
+        return Err(fault_below(TOO_MANY, path, key));
     }
     Ok(list)
 }
@@ -123,7 +124,7 @@ pub(crate) fn time(path: &Path, key: &str, value: Option<&Value>) -> Result<Opti
         None => Ok(None),
         Some(found) => match time_of(found) {
             Some(at) => Ok(Some(at)),
-            None => Err(fault_below(13, path, key)),
+            None => Err(fault_below(BAD_TIME, path, key)),
         },
     }
 }
@@ -148,9 +149,9 @@ pub(crate) fn count(path: &Path, key: &str, value: Option<&Value>) -> Result<Opt
             Some(n) => if n <= 2_147_483_647 {
                 Ok(Some(n as u32))
             } else {
-                Err(fault_below(14, path, key))
+                Err(fault_below(BAD_NUMBER, path, key))
             },
-            None => Err(fault_below(14, path, key)),
+            None => Err(fault_below(BAD_NUMBER, path, key)),
         },
     }
 }
@@ -168,7 +169,7 @@ pub(crate) fn signed(
         None => Ok(None),
         Some(found) => match found.as_i64() {
             Some(n) => Ok(Some(n)),
-            None => Err(fault_below(14, path, key)),
+            None => Err(fault_below(BAD_NUMBER, path, key)),
         },
     }
 }
@@ -194,6 +195,6 @@ pub(crate) fn named(names: &mut Names, path: &Path, key: &str, text: &str) -> Re
     if is_name(text) {
         number(names, text)
     } else {
-        Err(fault_below(12, path, key))
+        Err(fault_below(BAD_NAME, path, key))
     }
 }

@@ -4,6 +4,7 @@ ghost use Rattle.manifest_json.specs.Faults.{Gives};
 ghost use Rattle.manifest_json.specs.Kept.{Stands, with_one};
 ghost use Rattle.manifest_json.specs.Walk.{with_found};
 
+use crate::codes::{DUPLICATE, TOO_MANY};
 use crate::fault::fault;
 use crate::{Path, ReadFault};
 use kube_objects::{Items, Key, Kind, Object};
@@ -50,10 +51,10 @@ impl Kept {
     {
         let key = found.0;
         if self.keys.contains(&key) {
-            return Err(fault(31, path));
+            return Err(fault(DUPLICATE, path));
         }
         let Some(counts) = one_more(self.counts, key.kind) else {
-            return Err(fault(32, path));
+            return Err(fault(TOO_MANY, path));
         };
         match self.keys.insert(key) {
             Ok(_) => {}

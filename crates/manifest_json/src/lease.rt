@@ -6,6 +6,7 @@ ghost use Rattle.kube_base.specs.Names.{number_of};
 ghost use Rattle.manifest_json.specs.Faults.{Gives};
 ghost use Rattle.manifest_json.specs.Walk as walk;
 
+use crate::codes::WRONG_JSON;
 use crate::field::{count, field, field_in, number, parent, text, time};
 use crate::metadata::spaced_key;
 use crate::{Path, ReadFault};
@@ -44,7 +45,7 @@ fn lease_spec(
         (walk.lease_spec_at names.old known.now path.now (option_map (λ v. view v.now) spec.entry)) }
 {
     let text = text(
-        10,
+        WRONG_JSON,
         path,
         "/spec/holderIdentity",
         field_in(spec, "holderIdentity"),

@@ -1,6 +1,7 @@
 //! Kubernetes manifests as `serde_json` values, read into typed objects and written back.
 #![tactic(auto)]
 
+pub mod codes;
 mod fault;
 mod field;
 mod grammar;

@@ -5,6 +5,7 @@ ghost use Rattle.manifest_json.specs.Faults.{Gives};
 ghost use Rattle.manifest_json.specs.Kept.{Stands};
 ghost use Rattle.manifest_json.specs.Walk as walk;
 
+use crate::codes::BAD_KIND;
 use crate::fault::fault;
 use crate::field::{field, items, object};
 use crate::kept::Kept;
@@ -40,7 +41,7 @@ pub fn read_list(
 {
     let value = object(path, value)?;
     if !is_list(value) {
-        return Err(fault(11, path));
+        return Err(fault(BAD_KIND, path));
     }
     let list = items(path, "/items", field(value, "items"))?;
     objects_of(alloc, names, known, path, list)

@@ -5,6 +5,7 @@ ghost use Rattle.serde_json.specs.View.{view};
 ghost use Rattle.manifest_json.specs.Faults.{Gives};
 ghost use Rattle.manifest_json.specs.Walk as walk;
 
+use crate::codes::{BAD_NAME, WRONG_JSON};
 use crate::fault::fault_below;
 use crate::field::{field_in, named, number, text};
 use crate::{Path, ReadFault};
@@ -31,10 +32,10 @@ fn name_text<'v>(path: &Path, value: Option<&'v Value>) -> Result<&'v str, ReadF
         (walk.name_text_at (path.now ++ codes "/metadata/name") (option_map (λ v. view v.now) value.entry)) }
 {
     match value {
-        None => Err(fault_below(12, path, "/metadata/name")),
+        None => Err(fault_below(BAD_NAME, path, "/metadata/name")),
         Some(found) => match found.as_str() {
             Some(text) => Ok(text),
-            None => Err(fault_below(10, path, "/metadata/name")),
+            None => Err(fault_below(WRONG_JSON, path, "/metadata/name")),
         },
     }
 }
@@ -57,7 +58,7 @@ fn space_text<'v>(path: &Path, value: Option<&'v Value>) -> Result<&'v str, Read
         None => Ok("default"),
         Some(found) => match found.as_str() {
             Some(text) => Ok(text),
-            None => Err(fault_below(10, path, "/metadata/namespace")),
+            None => Err(fault_below(WRONG_JSON, path, "/metadata/namespace")),
         },
     }
 }
@@ -89,6 +90,6 @@ pub(crate) fn text_number(
     ensures { Gives (λ n. (n, names.new)) result
         (walk.text_number_at names.old path.now key.now (option_map (λ v. view v.now) value.entry)) }
 {
-    let text = text(10, path, key, value)?;
+    let text = text(WRONG_JSON, path, key, value)?;
     number(names, text)
 }

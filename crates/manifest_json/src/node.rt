@@ -7,6 +7,9 @@ ghost use Rattle.serde_json.specs.View.{view, items_view};
 ghost use Rattle.manifest_json.specs.Faults.{Gives};
 ghost use Rattle.manifest_json.specs.Walk as walk;
 
+use crate::codes::{
+    BAD_EFFECT, BAD_LABEL, BAD_READY_STATUS, BAD_TAINT_KEY, DUPLICATE_TAINT, WRONG_JSON,
+};
 use crate::fault::{fault, fault_below};
 use crate::field::{field, field_in, hundred, items, number, object, parent, text, time};
 use crate::grammar::is_label;
@@ -85,11 +88,11 @@ fn label(
     ensures { Gives (λ n. (n, names.new)) result
         (walk.label_at names.old path.now place.now key.now (option_map (λ v. view v.now) labels.entry)) }
 {
-    let text = text(10, path, place, field_in(labels, key))?;
+    let text = text(WRONG_JSON, path, place, field_in(labels, key))?;
     if is_label(text) {
         number(names, text)
     } else {
-        Err(fault_below(20, path, "/metadata/labels"))
+        Err(fault_below(BAD_LABEL, path, "/metadata/labels"))
     }
 }
 
@@ -164,7 +167,7 @@ fn taint(
         added: in_seconds(added),
     };
     if is_among(&taint, earlier) {
-        return Err(fault(19, path));
+        return Err(fault(DUPLICATE_TAINT, path));
     }
     Ok(taint)
 }
@@ -186,7 +189,7 @@ fn taint_key(names: &mut Names, path: &Path, value: &Value) -> Result<u32, ReadF
 {
     let text = taint_text(path, field(value, "key"))?;
     if text.is_empty() {
-        return Err(fault_below(21, path, "/key"));
+        return Err(fault_below(BAD_TAINT_KEY, path, "/key"));
     }
     number(names, text)
 }
@@ -196,10 +199,10 @@ fn taint_text<'v>(path: &Path, value: Option<&'v Value>) -> Result<&'v str, Read
         (walk.taint_text_at (path.now ++ codes "/key") (option_map (λ v. view v.now) value.entry)) }
 {
     match value {
-        None => Err(fault_below(21, path, "/key")),
+        None => Err(fault_below(BAD_TAINT_KEY, path, "/key")),
         Some(found) => match found.as_str() {
             Some(text) => Ok(text),
-            None => Err(fault_below(10, path, "/key")),
+            None => Err(fault_below(WRONG_JSON, path, "/key")),
         },
     }
 }
@@ -211,9 +214,9 @@ fn effect(path: &Path, value: Option<&Value>) -> Result<Effect, ReadFault>
     match value.and_then(Value::as_str) {
         Some(text) => match effect_of(text) {
             Some(effect) => Ok(effect),
-            None => Err(fault_below(15, path, "/effect")),
+            None => Err(fault_below(BAD_EFFECT, path, "/effect")),
         },
-        None => Err(fault_below(15, path, "/effect")),
+        None => Err(fault_below(BAD_EFFECT, path, "/effect")),
     }
 }
 
@@ -366,9 +369,9 @@ fn status(path: &Path, value: Option<&Value>) -> Result<ReadyStatus, ReadFault>
     match value.and_then(Value::as_str) {
         Some(text) => match status_of(text) {
             Some(status) => Ok(status),
-            None => Err(fault_below(18, path, "/status")),
+            None => Err(fault_below(BAD_READY_STATUS, path, "/status")),
         },
-        None => Err(fault_below(18, path, "/status")),
+        None => Err(fault_below(BAD_READY_STATUS, path, "/status")),
     }
 }
 

@@ -3,10 +3,12 @@ ghost use Rattle.std.specs.Prelude.{◌≡◌, ◌<◌, ◌^◌, codes, length, 
 ghost use Rattle.std.specs.Option.{option_map};
 ghost use Rattle.serde_json.specs.Find.{as_str};
 ghost use Rattle.serde_json.specs.View.{view};
+ghost use Rattle.manifest_json.specs.declared.codes.TheConstants.{BAD_KIND};
 ghost use Rattle.manifest_json.specs.Faults.{Gives};
 ghost use Rattle.manifest_json.specs.Fields as fields;
 ghost use Rattle.manifest_json.specs.Walk as walk;
 
+use crate::codes::BAD_KIND;
 use crate::fault::fault;
 use crate::field::object;
 use crate::lease::lease;
@@ -35,7 +37,7 @@ pub fn read_object(
 {
     let value = object(path, value)?;
     let Some(kind) = kind(path, value)? else {
-        return Err(fault(11, path));
+        return Err(fault(BAD_KIND, path));
     };
     of_kind(alloc, names, known, path, value, kind)
 }
@@ -73,11 +75,11 @@ fn kind(path: &Path, value: &Value) -> Result<Option<Kind>, ReadFault>
 
 fn kind_text<'v>(path: &Path, value: Option<&'v Value>) -> Result<&'v str, ReadFault>
     ensures { Gives (λ t. t.now) result
-        (fields.or_refuse (option_and_then as_str (option_map (λ v. view v.now) value.entry)) 11 path.now) }
+        (fields.or_refuse (option_and_then as_str (option_map (λ v. view v.now) value.entry)) BAD_KIND path.now) }
 {
     match value.and_then(Value::as_str) {
         Some(text) => Ok(text),
-        None => Err(fault(11, path)),
+        None => Err(fault(BAD_KIND, path)),
     }
 }
 

@@ -5,6 +5,7 @@ ghost use Rattle.serde_json.specs.View.{view, items_view};
 ghost use Rattle.manifest_json.specs.Faults.{Gives};
 ghost use Rattle.manifest_json.specs.Walk as walk;
 
+use crate::codes::{BAD_EFFECT, BAD_OPERATOR, BAD_TOLERATION, WRONG_JSON};
 use crate::fault::{fault, fault_below};
 use crate::field::{field, field_in, hundred, items, named, number, object, parent, signed, text};
 use crate::metadata::{spaced_key, text_number};
@@ -39,7 +40,12 @@ fn node_name(names: &mut Names, path: &Path, spec: Option<&Value>) -> Result<u32
     ensures { Gives (λ n. (n, names.new)) result
         (walk.node_name_at names.old path.now (option_map (λ v. view v.now) spec.entry)) }
 {
-    let text = text(10, path, "/spec/nodeName", field_in(spec, "nodeName"))?;
+    let text = text(
+        WRONG_JSON,
+        path,
+        "/spec/nodeName",
+        field_in(spec, "nodeName"),
+    )?;
     if text.is_empty() {
         number(names, text)
     } else {
@@ -120,7 +126,7 @@ fn toleration(names: &mut Names, path: &Path, value: &Value) -> Result<Toleratio
     if is_lawful(&toleration) {
         Ok(toleration)
     } else {
-        Err(fault(17, path))
+        Err(fault(BAD_TOLERATION, path))
     }
 }
 
@@ -129,10 +135,10 @@ fn operator(path: &Path, value: Option<&Value>) -> Result<Operator, ReadFault>
     ensures { Gives (λ operator. operator) result
         (walk.operator_at (path.now ++ codes "/operator") (option_map (λ v. view v.now) value.entry)) }
 {
-    let text = text(16, path, "/operator", value)?;
+    let text = text(BAD_OPERATOR, path, "/operator", value)?;
     match operator_of(text) {
         Some(operator) => Ok(operator),
-        None => Err(fault_below(16, path, "/operator")),
+        None => Err(fault_below(BAD_OPERATOR, path, "/operator")),
     }
 }
 
@@ -153,13 +159,13 @@ fn any_effect(path: &Path, value: Option<&Value>) -> Result<Option<Effect>, Read
     ensures { Gives (λ effect. effect) result
         (walk.any_effect_at (path.now ++ codes "/effect") (option_map (λ v. view v.now) value.entry)) }
 {
-    let text = text(15, path, "/effect", value)?;
+    let text = text(BAD_EFFECT, path, "/effect", value)?;
     if text.is_empty() {
         return Ok(None);
     }
     match effect_of(text) {
         Some(effect) => Ok(Some(effect)),
-        None => Err(fault_below(15, path, "/effect")),
+        None => Err(fault_below(BAD_EFFECT, path, "/effect")),
     }
 }
 

@@ -10,6 +10,7 @@ use Rattle.serde_json.specs.Data.{Data, Items, no_items, item}
 use Rattle.serde_json.specs.Find.{get}
 use Rattle.kube_base.specs.Names.{number_of}
 use Rattle.kube_base.specs.declared.numbers.ProcId.{ProcId}
+use Rattle.kube_objects.specs.Kinds.{IsOfKind}
 use Rattle.kube_objects.specs.Document.{Doc, is_controller, processes, end_beat}
 use Rattle.kube_objects.specs.declared.key.Key.{Key}
 use Rattle.kube_objects.specs.declared.key.Kind.{Kind}
@@ -19,6 +20,7 @@ use Rattle.kube_objects.specs.declared.object.Object.TheVariants as objects
 use Rattle.kube_objects.specs.declared.script.Event.{Event}
 use Rattle.kube_objects.specs.declared.script.What.{What}
 use Rattle.kube_objects.specs.declared.script.What.TheVariants as deeds
+use Rattle.manifest_json.specs.declared.codes.TheConstants.{UNKNOWN_PROCESS, WRONG_TYPE}
 use Rattle.manifest_json.proofs.Getting.{Gets, Has, done, refused, weaker, by_test, of_option, and_then, skip}
 use Rattle.manifest_json.proofs.Growing.{Grows, Grows-none, Grows-then}
 use Rattle.manifest_json.proofs.ReadFields.{Reads}
@@ -124,7 +126,7 @@ module _ (cast : Cast) where
 
   process-in : {P : ProcId → Type 0} (named : List ℕ → Option ProcId) → ((text : List ℕ) → Has P (named text)) → (path : List ℕ) (d : Data) → Gets P (process_at named path d)
   unfolding process_at
-  process-in named has path d = skip (needed_text path (codes "process") d) (λ text. of_option (named text) 8 (under path (codes "process")) (has text))
+  process-in named has path d = skip (needed_text path (codes "process") d) (λ text. of_option (named text) UNKNOWN_PROCESS (under path (codes "process")) (has text))
 
   -- ---- what events do
 
@@ -283,7 +285,7 @@ module _ (cast : Cast) where
   event-reads : (end : ℕ) (names : Texts) (last : ℕ) (path : List ℕ) (value : Data) → AreHeld names cast.controllers → Reads names (IsNext end last) (event_at cast end names last path value)
   unfolding event_at
   event-reads end names last path value held =
-      skip (object_at 5 path value) (λ d.
+      skip (object_at WRONG_TYPE path value) (λ d.
       skip (needed_whole 0 604800000 path (codes "beat") d) (λ beat.
       skip (type_at path d) (λ kind.
       skip (known_in (tables.Event kind) path d) (λ known.
@@ -305,11 +307,14 @@ module _ (cast : Cast) where
       and_then (events_from-reads end next.1 (place + 1) next.0.beat.0 rest (AreHeld-grows n.0 cast.controllers held)) (λ more m.
       let one = n.1 in
       let stands : IsReadableWhat more.1 cast.controllers next.0.what = readable-grows m.0 cast.controllers (AreHeld-grows n.0 cast.controllers held) next.0.what one.named.1 in
-      done _ (Grows-then n.0 m.0, record {
-        lawful = λ doc of. (one.after, rw of.end one.within, lawful end doc of next.0.what one.named.0 one.leaves, m.1.lawful doc of);
-        count = omega (arith, m.1.count);
-        readable = All-cons (λ e. IsReadableWhat more.1 cast.controllers e.what) next.0 more.0 stands m.1.readable;
-      })))
+      done _ (
+        Grows-then n.0 m.0,
+        record {
+          lawful = λ doc of. (one.after, rw of.end one.within, lawful end doc of next.0.what one.named.0 one.leaves, m.1.lawful doc of);
+          count = omega (arith, m.1.count);
+          readable = All-cons (λ e. IsReadableWhat more.1 cast.controllers e.what) next.0 more.0 stands m.1.readable;
+        },
+      )))
 
   -- at most 100,000 events, from beat 0 on
   pub record AreAll (end : ℕ) (names : Texts) (es : List Event) : Type 0 where

@@ -7,6 +7,7 @@ use Rattle.std.proofs.lemmas.Float.{T_from_true}
 use Rattle.std.specs.Int.Signed.{le_z_yes}
 use Rattle.serde_json.specs.Data.{Data}
 use Rattle.serde_json.specs.Find.{get, as_array}
+use Rattle.manifest_json.specs.declared.codes.TheConstants.{OUT_OF_RANGE, WRONG_TYPE}
 use Rattle.manifest_json.specs.declared.fault.Refusal.{Refusal}
 use Rattle.manifest_json.specs.Fields.{or_refuse}
 use Rattle.manifest_json.specs.Walk.{items_len}
@@ -77,7 +78,7 @@ module _ (least most : ℤ) where
 pub array-few : (most : ℕ) (path : List ℕ) (d : Data) → Gets (λ items. items_len items ≤ most) (array_in most path d)
 unfolding array_in
 array-few most path d =
-    skip (or_refuse (as_array d) 5 path) (λ items. by_test (nat_lt most (items_len items)) _ _ (λ e. refused _) (λ few. done items (ltb-false most (items_len items) few)))
+    skip (or_refuse (as_array d) WRONG_TYPE path) (λ items. by_test (nat_lt most (items_len items)) _ _ (λ e. refused _) (λ few. done items (ltb-false most (items_len items) few)))
 
 -- ---- statuses that a kubelet posts
 
@@ -91,8 +92,8 @@ has-posted text = by (bytes_eq text (codes "True")) (bytes_eq text (codes "False
 
 pub posted_at-in : (path key : List ℕ) (d : Data) → Gets IsPosted (posted_at path key d)
 unfolding posted_at
-posted_at-in path key d = skip (text_at (codes "True") path key d) (λ text. of_option (posted_of text) 6 (under path key) (has-posted text))
+posted_at-in path key d = skip (text_at (codes "True") path key d) (λ text. of_option (posted_of text) OUT_OF_RANGE (under path key) (has-posted text))
 
 pub needed_posted-in : (path key : List ℕ) (d : Data) → Gets IsPosted (needed_posted path key d)
 unfolding needed_posted
-needed_posted-in path key d = skip (needed_text path key d) (λ text. of_option (posted_of text) 6 (under path key) (has-posted text))
+needed_posted-in path key d = skip (needed_text path key d) (λ text. of_option (posted_of text) OUT_OF_RANGE (under path key) (has-posted text))

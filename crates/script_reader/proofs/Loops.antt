@@ -7,6 +7,7 @@ use Rattle.serde_json.specs.declared.value.Value.{Value}
 use Rattle.kube_objects.specs.declared.script.Event.{Event}
 use Rattle.kube_objects.specs.declared.script.Proc.{Proc}
 use Rattle.kube_objects.specs.declared.settings.Settings.{Settings}
+use Rattle.manifest_json.specs.declared.codes.TheConstants.{TOO_MANY}
 use Rattle.manifest_json.proofs.Loops.{items_view-drop, items_view-end, Fails-then}
 use Rattle.manifest_json.specs.declared.fault.Refusal.{Refusal}
 use Rattle.manifest_json.specs.declared.fault.ReadFault.{ReadFault}
@@ -21,11 +22,11 @@ items_len-view : (vs : List Value) → items_len (items_view vs) ≡ length vs
 items_len-view [] = refl
 items_len-view (v ∷ vs) = ap (λ n. 1 + n) (items_len-view vs) ∙ omega arith
 
-pub at_most-over : (most : ℕ) (path : List ℕ) (vs : List Value) → most < length vs → at_most most path (items_view vs) ≡ refuse 32 path
-at_most-over most path vs lt = ap (λ b. cond b (refuse 32 path) (Ok (items_view vs))) (ap (λ n. nat_lt most n) (items_len-view vs) ∙ lt-ltb most (length vs) lt)
+pub at_most-over : (most : ℕ) (path : List ℕ) (vs : List Value) → most < length vs → at_most most path (items_view vs) ≡ refuse TOO_MANY path
+at_most-over most path vs lt = ap (λ b. cond b (refuse TOO_MANY path) (Ok (items_view vs))) (ap (λ n. nat_lt most n) (items_len-view vs) ∙ lt-ltb most (length vs) lt)
 
 pub at_most-few : (most : ℕ) (path : List ℕ) (vs : List Value) → length vs ≤ most → at_most most path (items_view vs) ≡ Ok (items_view vs)
-at_most-few most path vs le = ap (λ b. cond b (refuse 32 path) (Ok (items_view vs))) (ap (λ n. nat_lt most n) (items_len-view vs) ∙ by (nat_lt most (length vs)) refl)
+at_most-few most path vs le = ap (λ b. cond b (refuse TOO_MANY path) (Ok (items_view vs))) (ap (λ n. nat_lt most n) (items_len-view vs) ∙ by (nat_lt most (length vs)) refl)
   where
     by : (b : Bool) → nat_lt most (length vs) ≡ b → nat_lt most (length vs) ≡ false
     by false e = e

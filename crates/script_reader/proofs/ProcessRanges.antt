@@ -345,4 +345,3 @@ module _ (settings : Settings) (timings : AreTimings (timings_of settings)) (own
   kubelets-in names d =
       and_then (array-few 1000 (codes "/kubelets") d) (λ all few.
       weaker (kubelets_from-in names 0 [] all (AreProcs-none names)) (λ r k. (k.0, (k.1.0, omega (arith, k.1.1, few)))))
-

@@ -9,6 +9,7 @@ use Rattle.kube_objects.specs.declared.node.ReadyStatus.{ReadyStatus}
 use Rattle.kube_objects.specs.declared.node.ReadyStatus.TheVariants as statuses
 use Rattle.kube_objects.specs.declared.settings.RatePolicy.{RatePolicy}
 use Rattle.kube_objects.specs.declared.settings.RatePolicy.TheVariants as policies
+use Rattle.manifest_json.specs.declared.codes.TheConstants.{MISSING_KEY, OUT_OF_RANGE, TOO_MANY, WRONG_TYPE}
 use Rattle.manifest_json.specs.declared.fault.Refusal.{Refusal}
 use Rattle.manifest_json.specs.Faults.{◌>>=◌, refuse}
 use Rattle.manifest_json.specs.Fields.{or_refuse, is_name}
@@ -25,19 +26,19 @@ default_of x read None = Ok x
 default_of x read (Some d) = read d
 
 abbrev pub required : {A : Type 0} → List ℕ → (Data → Result A Refusal) → Option Data → Result A Refusal
-required path read None = refuse 4 path
+required path read None = refuse MISSING_KEY path
 required path read (Some d) = read d
 
 -- ---- whole numbers
 
 -- a whole number that is no value of the range is outside of it, any other value is of the wrong type
 abbrev pub unless_whole : {A B : Type 0} → List ℕ → Option B → Result A Refusal
-unless_whole path None = refuse 5 path
-unless_whole path (Some n) = refuse 6 path
+unless_whole path None = refuse WRONG_TYPE path
+unless_whole path (Some n) = refuse OUT_OF_RANGE path
 
 abbrev pub whole_or : ℕ → ℕ → List ℕ → Option ℕ → Option ℤ → Result ℕ Refusal
 whole_or least most path None signed = unless_whole path signed
-whole_or least most path (Some n) signed = if nat_le least n && nat_le n most then Ok n else refuse 6 path
+whole_or least most path (Some n) signed = if nat_le least n && nat_le n most then Ok n else refuse OUT_OF_RANGE path
 
 -- a whole number from the least to the most
 abbrev pub whole_in : ℕ → ℕ → List ℕ → Data → Result ℕ Refusal
@@ -45,7 +46,7 @@ whole_in least most path d = whole_or least most path (option_and_then as_u64 (a
 
 abbrev pub signed_or : ℤ → ℤ → List ℕ → Option ℤ → Option ℕ → Result ℤ Refusal
 signed_or least most path None whole = unless_whole path whole
-signed_or least most path (Some n) whole = if int_le least n && int_le n most then Ok n else refuse 6 path
+signed_or least most path (Some n) whole = if int_le least n && int_le n most then Ok n else refuse OUT_OF_RANGE path
 
 -- the same of a number with a sign
 abbrev pub signed_in : ℤ → ℤ → List ℕ → Data → Result ℤ Refusal
@@ -65,7 +66,7 @@ signed_at default least most path key d = default_of default (signed_in least mo
 -- ---- true or false
 
 abbrev pub flag_in : List ℕ → Data → Result Bool Refusal
-flag_in path d = or_refuse (as_bool d) 5 path
+flag_in path d = or_refuse (as_bool d) WRONG_TYPE path
 
 abbrev pub flag_at : Bool → List ℕ → List ℕ → Data → Result Bool Refusal
 flag_at default path key d = default_of default (flag_in (under path key)) (get key d)
@@ -76,7 +77,7 @@ needed_flag path key d = required (under path key) (flag_in (under path key)) (g
 -- ---- texts
 
 abbrev pub text_in : List ℕ → Data → Result (List ℕ) Refusal
-text_in path d = or_refuse (as_str d) 5 path
+text_in path d = or_refuse (as_str d) WRONG_TYPE path
 
 abbrev pub needed_text : List ℕ → List ℕ → Data → Result (List ℕ) Refusal
 needed_text path key d = required (under path key) (text_in (under path key)) (get key d)
@@ -87,7 +88,7 @@ text_at default path key d = default_of default (text_in (under path key)) (get 
 
 -- the text is an RFC 1123 subdomain
 abbrev pub if_name : List ℕ → List ℕ → Result (List ℕ) Refusal
-if_name path text = if is_name text then Ok text else refuse 6 path
+if_name path text = if is_name text then Ok text else refuse OUT_OF_RANGE path
 
 unfoldable pub needed_name : List ℕ → List ℕ → Data → Result (List ℕ) Refusal
 needed_name path key d = do
@@ -108,12 +109,12 @@ posted_of text =
 unfoldable pub posted_at : List ℕ → List ℕ → Data → Result ReadyStatus Refusal
 posted_at path key d = do
   text ← text_at (codes "True") path key d
-  or_refuse (posted_of text) 6 (under path key)
+  or_refuse (posted_of text) OUT_OF_RANGE (under path key)
 
 unfoldable pub needed_posted : List ℕ → List ℕ → Data → Result ReadyStatus Refusal
 needed_posted path key d = do
   text ← needed_text path key d
-  or_refuse (posted_of text) 6 (under path key)
+  or_refuse (posted_of text) OUT_OF_RANGE (under path key)
 
 abbrev pub policy_of : List ℕ → Option RatePolicy
 policy_of text =
@@ -124,14 +125,14 @@ policy_of text =
 unfoldable pub policy_at : List ℕ → List ℕ → Data → Result RatePolicy Refusal
 policy_at path key d = do
   text ← text_at (codes "standard") path key d
-  or_refuse (policy_of text) 6 (under path key)
+  or_refuse (policy_of text) OUT_OF_RANGE (under path key)
 
 -- ---- times
 
 -- the instant lies in the years 2000 to 2199 of UTC
 abbrev pub if_epoch : List ℕ → Option Wall → Result Wall Refusal
-if_epoch path None = refuse 6 path
-if_epoch path (Some w) = if nat_le 946_684_800_000_000 w.0 && nat_lt w.0 7_258_118_400_000_000 then Ok w else refuse 6 path
+if_epoch path None = refuse OUT_OF_RANGE path
+if_epoch path (Some w) = if nat_le 946_684_800_000_000 w.0 && nat_lt w.0 7_258_118_400_000_000 then Ok w else refuse OUT_OF_RANGE path
 
 unfoldable pub epoch_at : List ℕ → List ℕ → Data → Result Wall Refusal
 epoch_at path key d = do
@@ -150,10 +151,10 @@ object_at code path d = object_or code path d (as_object d)
 
 -- at most so many members
 abbrev pub at_most : ℕ → List ℕ → Items → Result Items Refusal
-at_most most path items = if nat_lt most (items_len items) then refuse 32 path else Ok items
+at_most most path items = if nat_lt most (items_len items) then refuse TOO_MANY path else Ok items
 
 abbrev pub items_in : List ℕ → Data → Result Items Refusal
-items_in path d = or_refuse (as_array d) 5 path
+items_in path d = or_refuse (as_array d) WRONG_TYPE path
 
 -- an array of at most so many members
 unfoldable pub array_in : ℕ → List ℕ → Data → Result Items Refusal

@@ -3,6 +3,7 @@ use Rattle.std.specs.Prelude.{ℕ, ◌&&◌, ◌||◌, Bool, true, false, List, 
 use Rattle.std.specs.Str.{bytes_eq}
 use Rattle.serde_json.specs.Data.{Data, Members, no_members, member}
 use Rattle.serde_json.specs.Find.{as_object}
+use Rattle.manifest_json.specs.declared.codes.TheConstants.{UNKNOWN_KEY}
 use Rattle.manifest_json.specs.declared.fault.Refusal.{Refusal}
 use Rattle.manifest_json.specs.Faults.{refuse}
 use Rattle.script_reader.specs.declared.table.EventType.{EventType}
@@ -85,4 +86,4 @@ knows_members table (Some ms) = all_known table ms
 
 -- the value has no key that its table doesn't have
 abbrev pub known_in : Table → List ℕ → Data → Result Data Refusal
-known_in table path d = if knows_members table (as_object d) then Ok d else refuse 3 path
+known_in table path d = if knows_members table (as_object d) then Ok d else refuse UNKNOWN_KEY path

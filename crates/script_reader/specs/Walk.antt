@@ -24,6 +24,7 @@ use Rattle.kube_objects.specs.declared.script.What.{What}
 use Rattle.kube_objects.specs.declared.script.What.TheVariants as deeds
 use Rattle.kube_objects.specs.declared.settings.RatePolicy.{RatePolicy}
 use Rattle.kube_objects.specs.declared.settings.Settings.{Settings}
+use Rattle.manifest_json.specs.declared.codes.TheConstants.{BAD_JSON, BAD_SETTINGS, DUPLICATE, ELECTION_LEASE_EDIT, EVENT_ORDER, OUT_OF_RANGE, TOP_SHAPE, UNKNOWN_PROCESS, WRONG_TYPE}
 use Rattle.manifest_json.specs.declared.fault.Refusal.{Refusal}
 use Rattle.manifest_json.specs.declared.list.Objects.{Objects}
 use Rattle.manifest_json.specs.Faults.{◌>>=◌, refuse}
@@ -47,14 +48,14 @@ use Rattle.script_reader.specs.Tables.{known_in}
 -- an object with no key that its table doesn't have
 unfoldable pub object_in : Table → List ℕ → Data → Result Data Refusal
 object_in table path value = do
-  d ← object_at 5 path value
+  d ← object_at WRONG_TYPE path value
   known_in table path d
 
 -- ---- settings
 
 -- the last beat, which is at most a week after the first
 abbrev pub if_end : List ℕ → ℕ → ℕ → Result Beat Refusal
-if_end path millis end = if nat_lt 604_800_000 (end * millis) then refuse 6 path else Ok (record { 0 = end })
+if_end path millis end = if nat_lt 604_800_000 (end * millis) then refuse OUT_OF_RANGE path else Ok (record { 0 = end })
 
 unfoldable pub beats_at : List ℕ → Data → Result Beats Refusal
 beats_at path d = do
@@ -122,7 +123,7 @@ settings_of b t p r fast policy = record {
 
 -- the own rule of settings
 abbrev pub if_sound : List ℕ → Timings → Rates → Settings → Result Settings Refusal
-if_sound path t r settings = if is_sound t && nat_le r.secondary r.primary then Ok settings else refuse 7 path
+if_sound path t r settings = if is_sound t && nat_le r.secondary r.primary then Ok settings else refuse BAD_SETTINGS path
 
 -- settings; in version 1 `ratePolicy` is an unknown key, so it has its default there
 unfoldable pub settings_at : Version → List ℕ → Data → Result Settings Refusal
@@ -181,8 +182,8 @@ has_name name earlier = list_any (λ p. name == p.name) earlier
 -- the own rules of a controller
 abbrev pub if_controller : List ℕ → List Proc → ℕ → Timings → Proc → Texts → Result (Proc × Texts) Refusal
 if_controller path earlier name t controller names =
-    if has_name name earlier then refuse 31 (under path (codes "name"))
-    else (if is_sound t then Ok (controller, names) else refuse 7 path)
+    if has_name name earlier then refuse DUPLICATE (under path (codes "name"))
+    else (if is_sound t then Ok (controller, names) else refuse BAD_SETTINGS path)
 
 -- a controller; in version 1 the keys of its timings are unknown, so they are those of the settings
 unfoldable pub controller_at : Version → Settings → Texts → List ℕ → List Proc → Data → Result (Proc × Texts) Refusal
@@ -202,7 +203,7 @@ controllers_from version settings names place earlier (item d rest) = do
   controllers_from version settings next.1 (place + 1) (earlier ++ next.0 ∷ []) rest
 
 abbrev pub not_empty : List ℕ → Items → Result Items Refusal
-not_empty path no_items = refuse 6 path
+not_empty path no_items = refuse OUT_OF_RANGE path
 not_empty path (item d rest) = Ok (item d rest)
 
 unfoldable pub controllers_in : Version → Settings → Texts → Data → Result (List Proc × Texts) Refusal
@@ -228,7 +229,7 @@ kubelet_of name c ready t = record {
 -- the own rule of a kubelet
 abbrev pub if_kubelet : List ℕ → List Proc → ℕ → Proc → Texts → Result (Proc × Texts) Refusal
 if_kubelet path earlier name kubelet names =
-    if has_name name earlier then refuse 31 (under path (codes "node")) else Ok (kubelet, names)
+    if has_name name earlier then refuse DUPLICATE (under path (codes "node")) else Ok (kubelet, names)
 
 unfoldable pub kubelet_at : Settings → Texts → List ℕ → List Proc → Data → Result (Proc × Texts) Refusal
 kubelet_at settings names path earlier value = do
@@ -293,7 +294,7 @@ process_named cast names text = or_else (controller_named cast names text) (kube
 unfoldable pub process_at : (List ℕ → Option ProcId) → List ℕ → Data → Result ProcId Refusal
 process_at named path d = do
   text ← needed_text path (codes "process") d
-  or_refuse (named text) 8 (under path (codes "process"))
+  or_refuse (named text) UNKNOWN_PROCESS (under path (codes "process"))
 
 unfoldable pub rate_at : Cast → Texts → List ℕ → Data → Result What Refusal
 rate_at cast names path d = do
@@ -360,7 +361,7 @@ kind_of text =
 unfoldable pub kind_at : List ℕ → Data → Result Kind Refusal
 kind_at path d = do
   text ← needed_text path (codes "kind") d
-  or_refuse (kind_of text) 6 (under path (codes "kind"))
+  or_refuse (kind_of text) OUT_OF_RANGE (under path (codes "kind"))
 
 -- the number of a namespace; a Node has none
 abbrev pub space_of : Texts → Kind → List ℕ → Result (ℕ × Texts) Refusal
@@ -408,7 +409,7 @@ type_of text =
 unfoldable pub type_at : List ℕ → Data → Result EventType Refusal
 type_at path d = do
   text ← needed_text path (codes "type") d
-  or_refuse (type_of text) 6 (under path (codes "type"))
+  or_refuse (type_of text) OUT_OF_RANGE (under path (codes "type"))
 
 abbrev pub is_election : Key → Bool
 is_election key = key_eq key election
@@ -429,13 +430,13 @@ edits_election (deeds.Remove key) = is_election key
 -- the own rules of an event: it isn't before an earlier event nor after the end, and it leaves the election Lease alone
 abbrev pub if_event : ℕ → ℕ → List ℕ → ℕ → What → Texts → Result (Event × Texts) Refusal
 if_event end last path beat what names =
-    if nat_lt beat last || nat_lt end beat then refuse 9 path
-    else (if edits_election what then refuse 30 path else Ok (record { beat = record { 0 = beat }; what = what }, names))
+    if nat_lt beat last || nat_lt end beat then refuse EVENT_ORDER path
+    else (if edits_election what then refuse ELECTION_LEASE_EDIT path else Ok (record { beat = record { 0 = beat }; what = what }, names))
 
 -- an event, where the earlier ones are at most at the beat `last`
 unfoldable pub event_at : Cast → ℕ → Texts → ℕ → List ℕ → Data → Result (Event × Texts) Refusal
 event_at cast end names last path value = do
-  d ← object_at 5 path value
+  d ← object_at WRONG_TYPE path value
   beat ← needed_whole 0 604_800_000 path (codes "beat") d
   kind ← type_at path d
   known ← known_in (tables.Event kind) path d
@@ -460,11 +461,11 @@ events_in cast end names d = do
 abbrev pub version_of : ℕ → Result Version Refusal
 version_of n =
     if n == 1 then Ok versions.One
-    else (if n == 2 then Ok versions.Two else refuse 2 (codes "/version"))
+    else (if n == 2 then Ok versions.Two else refuse TOP_SHAPE (codes "/version"))
 
 abbrev pub version_unless : Option ℤ → Result Version Refusal
-version_unless None = refuse 5 (codes "/version")
-version_unless (Some n) = refuse 2 (codes "/version")
+version_unless None = refuse WRONG_TYPE (codes "/version")
+version_unless (Some n) = refuse TOP_SHAPE (codes "/version")
 
 abbrev pub version_or : Option ℕ → Option ℤ → Result Version Refusal
 version_or None signed = version_unless signed
@@ -487,7 +488,7 @@ no_objects = record { items = []; skipped = 0 }
 -- the value is an object with no unknown key
 unfoldable pub top_in : Data → Result Data Refusal
 top_in value = do
-  d ← object_at 2 (codes "/") value
+  d ← object_at TOP_SHAPE (codes "/") value
   known_in tables.Top (codes "/") d
 
 unfoldable pub document_at : Data → Result Document Refusal
@@ -506,7 +507,7 @@ abbrev pub json_of : List ℕ → Option Data
 json_of bytes = if is_utf8 bytes then read bytes else None
 
 unfoldable pub data_of : List ℕ → Result Data Refusal
-data_of bytes = or_refuse (json_of bytes) 1 (codes "/")
+data_of bytes = or_refuse (json_of bytes) BAD_JSON (codes "/")
 
 -- the document of these bytes, or the first refusal
 unfoldable pub document_walk : List ℕ → Result Document Refusal

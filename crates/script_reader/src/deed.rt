@@ -14,6 +14,7 @@ use crate::process::named_at;
 use crate::table::EventType;
 use kube_base::{Names, ProcId};
 use kube_objects::{Key, Kind, Object, What};
+use manifest_json::codes::{MISSING_KEY, OUT_OF_RANGE, UNKNOWN_PROCESS};
 use manifest_json::{Path, ReadFault, number, read_object};
 use serde_json::Value;
 use std::alloc::Global;
@@ -148,7 +149,7 @@ fn process_at(
     let text = needed_text(path, "process", value)?;
     match process_named(players, names, text) {
         Some(id) => Ok(id),
-        None => Err(fault_under(8, path, "process")),
+        None => Err(fault_under(UNKNOWN_PROCESS, path, "process")),
     }
 }
 
@@ -167,7 +168,7 @@ fn controller_at(
     let text = needed_text(path, "process", value)?;
     match controller_named(players, names, text) {
         Some(id) => Ok(id),
-        None => Err(fault_under(8, path, "process")),
+        None => Err(fault_under(UNKNOWN_PROCESS, path, "process")),
     }
 }
 
@@ -186,7 +187,7 @@ fn kubelet_at(
     let text = needed_text(path, "process", value)?;
     match kubelet_named(players, names, text) {
         Some(id) => Ok(id),
-        None => Err(fault_under(8, path, "process")),
+        None => Err(fault_under(UNKNOWN_PROCESS, path, "process")),
     }
 }
 
@@ -221,7 +222,7 @@ fn object_under(
 {
     match value.get("object") {
         Some(found) => object_in(alloc, players, names, path, found),
-        None => Err(fault_under(4, path, "object")),
+        None => Err(fault_under(MISSING_KEY, path, "object")),
     }
 }
 
@@ -261,7 +262,7 @@ fn kind_at(path: &Path, value: &Value) -> Result<Kind, ReadFault>
     let text = needed_text(path, "kind", value)?;
     match kind_of(text) {
         Some(kind) => Ok(kind),
-        None => Err(fault_under(6, path, "kind")),
+        None => Err(fault_under(OUT_OF_RANGE, path, "kind")),
     }
 }
 

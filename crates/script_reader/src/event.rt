@@ -12,8 +12,9 @@ use crate::field::{
     array_in, fault, fault_under, member_of, needed_text, needed_whole, object_at, path_of,
 };
 use crate::table::{EventType, Table, known_in};
-use kube_base::{Beat, Names};
+use kube_base::{Beat, KUBE_CONTROLLER_MANAGER, KUBE_SYSTEM, Names};
 use kube_objects::{Event, Events, Key, Kind, What};
+use manifest_json::codes::{ELECTION_LEASE_EDIT, EVENT_ORDER, OUT_OF_RANGE, WRONG_TYPE};
 use manifest_json::{Path, ReadFault};
 use serde_json::Value;
 use std::alloc::Global;
@@ -93,16 +94,16 @@ fn event_at(
     ensures { Gives (λ event. (event, names.new)) result
         (walk.event_at (seen players.now) end.0 names.old last path.now (view value.now)) }
 {
-    object_at(5, path, value)?;
+    object_at(WRONG_TYPE, path, value)?;
     let beat = needed_whole(0, 604_800_000, path, "beat", value)?;
     let kind = type_at(path, value)?;
     known_in(Table::Event(kind), path, value)?;
     let what = what_at(alloc, players, names, path, kind, value)?;
     if beat < last || end.0 < beat {
-        return Err(fault(9, path));
+        return Err(fault(EVENT_ORDER, path));
     }
     if edits_election(&what) {
-        return Err(fault(30, path));
+        return Err(fault(ELECTION_LEASE_EDIT, path));
     }
     Ok(Event {
         beat: Beat(beat),
@@ -117,7 +118,7 @@ fn type_at(path: &Path, value: &Value) -> Result<EventType, ReadFault>
     let text = needed_text(path, "type", value)?;
     match type_of(text) {
         Some(kind) => Ok(kind),
-        None => Err(fault_under(6, path, "type")),
+        None => Err(fault_under(OUT_OF_RANGE, path, "type")),
     }
 }
 
@@ -173,7 +174,7 @@ fn is_election(key: Key) -> bool
 {
     match key.kind {
         Kind::Node => false,
-        Kind::Lease => key.space == 7 && key.name == 8,
+        Kind::Lease => key.space == KUBE_SYSTEM && key.name == KUBE_CONTROLLER_MANAGER,
         Kind::Pod => false,
     }
 }

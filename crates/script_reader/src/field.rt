@@ -8,6 +8,7 @@ ghost use Rattle.script_reader.specs.Fields as spec;
 
 use kube_base::{NoMemory, Wall, read_time};
 use kube_objects::{RatePolicy, ReadyStatus};
+use manifest_json::codes::{MISSING_KEY, OUT_OF_RANGE, TOO_MANY, WRONG_TYPE};
 use manifest_json::{Path, ReadFault, Refusal, fault_below, is_name};
 use serde_json::Value;
 use std::alloc::Global;
@@ -84,7 +85,7 @@ pub(crate) fn needed_whole(
 {
     match object.get(key) {
         Some(found) => whole_in(least, most, path, key, found),
-        None => Err(fault_under(4, path, key)),
+        None => Err(fault_under(MISSING_KEY, path, key)),
     }
 }
 
@@ -97,11 +98,11 @@ fn whole_in(least: u32, most: u32, path: &Path, key: &str, found: &Value) -> Res
         Some(n) => if u64::from(least) <= n && n <= u64::from(most) {
             Ok(n as u32)
         } else {
-            Err(fault_under(6, path, key))
+            Err(fault_under(OUT_OF_RANGE, path, key))
         },
         None => match found.as_i64() {
-            Some(_) => Err(fault_under(6, path, key)),
-            None => Err(fault_under(5, path, key)),
+            Some(_) => Err(fault_under(OUT_OF_RANGE, path, key)),
+            None => Err(fault_under(WRONG_TYPE, path, key)),
         },
     }
 }
@@ -132,11 +133,11 @@ fn signed_in(least: i64, most: i64, path: &Path, key: &str, found: &Value) -> Re
         Some(n) => if least <= n && n <= most {
             Ok(n)
         } else {
-            Err(fault_under(6, path, key))
+            Err(fault_under(OUT_OF_RANGE, path, key))
         },
         None => match found.as_u64() {
-            Some(_) => Err(fault_under(6, path, key)),
-            None => Err(fault_under(5, path, key)),
+            Some(_) => Err(fault_under(OUT_OF_RANGE, path, key)),
+            None => Err(fault_under(WRONG_TYPE, path, key)),
         },
     }
 }
@@ -164,7 +165,7 @@ pub(crate) fn needed_flag(path: &Path, key: &str, object: &Value) -> Result<bool
 {
     match object.get(key) {
         Some(found) => flag_in(path, key, found),
-        None => Err(fault_under(4, path, key)),
+        None => Err(fault_under(MISSING_KEY, path, key)),
     }
 }
 
@@ -174,7 +175,7 @@ fn flag_in(path: &Path, key: &str, found: &Value) -> Result<bool, ReadFault>
 {
     match found.as_bool() {
         Some(flag) => Ok(flag),
-        None => Err(fault_under(5, path, key)),
+        None => Err(fault_under(WRONG_TYPE, path, key)),
     }
 }
 
@@ -205,7 +206,7 @@ pub(crate) fn needed_text<'v>(
 {
     match object.get(key) {
         Some(found) => text_in(path, key, found),
-        None => Err(fault_under(4, path, key)),
+        None => Err(fault_under(MISSING_KEY, path, key)),
     }
 }
 
@@ -215,7 +216,7 @@ fn text_in<'v>(path: &Path, key: &str, found: &'v Value) -> Result<&'v str, Read
 {
     match found.as_str() {
         Some(text) => Ok(text),
-        None => Err(fault_under(5, path, key)),
+        None => Err(fault_under(WRONG_TYPE, path, key)),
     }
 }
 
@@ -233,7 +234,7 @@ pub(crate) fn needed_name<'v>(
     if is_name(text) {
         Ok(text)
     } else {
-        Err(fault_under(6, path, key))
+        Err(fault_under(OUT_OF_RANGE, path, key))
     }
 }
 
@@ -252,7 +253,7 @@ pub(crate) fn name_at<'v>(
     if is_name(text) {
         Ok(text)
     } else {
-        Err(fault_under(6, path, key))
+        Err(fault_under(OUT_OF_RANGE, path, key))
     }
 }
 
@@ -265,7 +266,7 @@ pub(crate) fn posted_at(path: &Path, key: &str, object: &Value) -> Result<ReadyS
     let text = text_at("True", path, key, object)?;
     match posted_of(text) {
         Some(status) => Ok(status),
-        None => Err(fault_under(6, path, key)),
+        None => Err(fault_under(OUT_OF_RANGE, path, key)),
     }
 }
 
@@ -282,7 +283,7 @@ pub(crate) fn needed_posted(
     let text = needed_text(path, key, object)?;
     match posted_of(text) {
         Some(status) => Ok(status),
-        None => Err(fault_under(6, path, key)),
+        None => Err(fault_under(OUT_OF_RANGE, path, key)),
     }
 }
 
@@ -307,7 +308,7 @@ pub(crate) fn policy_at(path: &Path, key: &str, object: &Value) -> Result<RatePo
     let text = text_at("standard", path, key, object)?;
     match policy_of(text) {
         Some(policy) => Ok(policy),
-        None => Err(fault_under(6, path, key)),
+        None => Err(fault_under(OUT_OF_RANGE, path, key)),
     }
 }
 
@@ -342,9 +343,9 @@ fn if_epoch(path: &Path, key: &str, at: Option<Wall>) -> Result<Wall, ReadFault>
         Some(at) => if 946_684_800_000_000 <= at.0 && at.0 < 7_258_118_400_000_000 {
             Ok(at)
         } else {
-            Err(fault_under(6, path, key))
+            Err(fault_under(OUT_OF_RANGE, path, key))
         },
-        None => Err(fault_under(6, path, key)),
+        None => Err(fault_under(OUT_OF_RANGE, path, key)),
     }
 }
 
@@ -380,7 +381,7 @@ fn members<'v>(path: &Path, value: &'v Value) -> Result<&'v [Value], ReadFault>
 {
     match value.as_array() {
         Some(list) => Ok(list.as_slice()),
-        None => Err(fault(5, path)),
+        None => Err(fault(WRONG_TYPE, path)),
     }
 }
 
@@ -390,7 +391,7 @@ fn at_most<'v>(most: usize, path: &Path, list: &'v [Value]) -> Result<&'v [Value
     ensures few { IfOk result (λ few. length few.now ≤ most) }
 {
     if list.len() > most {
-        return Err(fault(32, path));
+        return Err(fault(TOO_MANY, path));
     }
     Ok(list)
 }

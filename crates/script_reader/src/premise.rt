@@ -113,6 +113,3 @@ pub fn lease_premise(document: &Document) -> bool
     }
     long
 }
-
-#[cfg(test)]
-mod tests;

@@ -16,6 +16,7 @@ use crate::settings::{is_sound, timings_at, timings_of};
 use crate::table::{Table, Version, object_in};
 use kube_base::Names;
 use kube_objects::{Proc, ReadyStatus, Settings};
+use manifest_json::codes::{BAD_SETTINGS, DUPLICATE, OUT_OF_RANGE};
 use manifest_json::{Path, ReadFault, number};
 use serde_json::Value;
 use std::alloc::Global;
@@ -82,7 +83,7 @@ fn not_empty<'v>(path: &Path, list: &'v [Value]) -> Result<&'v [Value], ReadFaul
 {
     match list.first() {
         Some(_) => Ok(list),
-        None => Err(fault(6, path)),
+        None => Err(fault(OUT_OF_RANGE, path)),
     }
 }
 
@@ -147,10 +148,10 @@ fn controller_at(
     let watch = flag_at(true, path, "watch", value)?;
     let timings = timings_at(timings_of(settings), path, value)?;
     if earlier.has(name) {
-        return Err(fault_under(31, path, "name"));
+        return Err(fault_under(DUPLICATE, path, "name"));
     }
     if !is_sound(timings) {
-        return Err(fault(7, path));
+        return Err(fault(BAD_SETTINGS, path));
     }
     Ok(controller_of(name, clock, watch, timings))
 }
@@ -246,7 +247,7 @@ fn kubelet_at(
     let clock = clock_at(path, value)?;
     let ready = posted_at(path, "ready", value)?;
     if earlier.has(name) {
-        return Err(fault_under(31, path, "node"));
+        return Err(fault_under(DUPLICATE, path, "node"));
     }
     Ok(kubelet_of(name, clock, ready, timings_of(settings)))
 }

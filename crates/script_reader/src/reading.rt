@@ -17,6 +17,7 @@ use crate::settings::settings_at;
 use crate::table::{Table, Version, known_in};
 use kube_base::{Beat, Names};
 use kube_objects::{Events, Items, Settings};
+use manifest_json::codes::{BAD_JSON, MISSING_KEY, TOP_SHAPE, WRONG_TYPE};
 use manifest_json::{Objects, ReadFault, read_list};
 use serde_json::Value;
 use std::alloc::Global;
@@ -40,7 +41,7 @@ pub fn read_value(alloc: Global, bytes: &[u8]) -> Result<Value, ReadFault>
             if error.is_memory() {
                 return Err(ReadFault::NoMemory);
             }
-            Err(fault_at(alloc, 1, "/"))
+            Err(fault_at(alloc, BAD_JSON, "/"))
         }
     }
 }
@@ -82,7 +83,7 @@ fn top_in(alloc: Global, value: &Value) -> Result<(), ReadFault>
     ensures { Gives (λ _. view value.now) result (walk.top_in (view value.now)) }
 {
     let path = path_of(alloc, "/")?;
-    object_at(2, &path, value)?;
+    object_at(TOP_SHAPE, &path, value)?;
     known_in(Table::Top, &path, value)
 }
 
@@ -92,7 +93,7 @@ fn version(alloc: Global, value: &Value) -> Result<Version, ReadFault>
 {
     match value.get("version") {
         Some(found) => version_in(alloc, found),
-        None => Err(fault_at(alloc, 4, "/version")),
+        None => Err(fault_at(alloc, MISSING_KEY, "/version")),
     }
 }
 
@@ -103,8 +104,8 @@ fn version_in(alloc: Global, found: &Value) -> Result<Version, ReadFault>
     match found.as_u64() {
         Some(n) => version_of(alloc, n),
         None => match found.as_i64() {
-            Some(_) => Err(fault_at(alloc, 2, "/version")),
-            None => Err(fault_at(alloc, 5, "/version")),
+            Some(_) => Err(fault_at(alloc, TOP_SHAPE, "/version")),
+            None => Err(fault_at(alloc, WRONG_TYPE, "/version")),
         },
     }
 }
@@ -117,7 +118,7 @@ fn version_of(alloc: Global, n: u64) -> Result<Version, ReadFault>
     } else if n == 2 {
         Ok(Version::Two)
     } else {
-        Err(fault_at(alloc, 2, "/version"))
+        Err(fault_at(alloc, TOP_SHAPE, "/version"))
     }
 }
 
@@ -127,7 +128,7 @@ fn settings(alloc: Global, version: Version, value: &Value) -> Result<Settings, 
 {
     match value.get("settings") {
         Some(found) => settings_in(alloc, version, found),
-        None => Err(fault_at(alloc, 4, "/settings")),
+        None => Err(fault_at(alloc, MISSING_KEY, "/settings")),
     }
 }
 
@@ -152,7 +153,7 @@ fn controllers(
 {
     match value.get("controllers") {
         Some(found) => controllers_in(alloc, version, settings, names, found),
-        None => Err(fault_at(alloc, 4, "/controllers")),
+        None => Err(fault_at(alloc, MISSING_KEY, "/controllers")),
     }
 }
 

@@ -10,6 +10,7 @@ use crate::parts::{Beats, Periods, Rates, Timings};
 use crate::table::{Table, Version, object_in};
 use kube_base::Beat;
 use kube_objects::{RatePolicy, Settings};
+use manifest_json::codes::{BAD_SETTINGS, OUT_OF_RANGE};
 use manifest_json::{Path, ReadFault};
 use serde_json::Value;
 
@@ -51,7 +52,7 @@ fn if_end(path: &Path, millis: u32, end: u32) -> Result<Beat, ReadFault>
         (walk.if_end (fields.under path.now (codes "endBeat")) millis end) }
 {
     if u64::from(end) * u64::from(millis) > 604_800_000 {
-        return Err(fault_under(6, path, "endBeat"));
+        return Err(fault_under(OUT_OF_RANGE, path, "endBeat"));
     }
     Ok(Beat(end))
 }
@@ -203,7 +204,7 @@ fn if_sound(
     if is_sound(timings) && rates.secondary <= rates.primary {
         Ok(settings)
     } else {
-        Err(fault(7, path))
+        Err(fault(BAD_SETTINGS, path))
     }
 }
 

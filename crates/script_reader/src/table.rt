@@ -7,6 +7,7 @@ ghost use Rattle.script_reader.specs.Tables as spec;
 ghost use Rattle.script_reader.specs.Walk as walk;
 
 use crate::field::{fault, object_at};
+use manifest_json::codes::{UNKNOWN_KEY, WRONG_TYPE};
 use manifest_json::{Path, ReadFault};
 use serde_json::{Map, Value};
 
@@ -47,7 +48,7 @@ pub(crate) enum Table {
 pub(crate) fn object_in(table: Table, path: &Path, value: &Value) -> Result<(), ReadFault>
     ensures { Gives (λ _. view value.now) result (walk.object_in table path.now (view value.now)) }
 {
-    object_at(5, path, value)?;
+    object_at(WRONG_TYPE, path, value)?;
     known_in(table, path, value)
 }
 
@@ -58,7 +59,7 @@ pub(crate) fn known_in(table: Table, path: &Path, value: &Value) -> Result<(), R
     if knows_members(table, value) {
         Ok(())
     } else {
-        Err(fault(3, path))
+        Err(fault(UNKNOWN_KEY, path))
     }
 }
 

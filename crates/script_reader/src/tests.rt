@@ -1,11 +1,9 @@
-// Documents, and the refusals of documents that aren't read.
-use crate::{document_of, read_document, read_value};
+// A document and what it says. More documents, with their refusals and premises, are in the tables of check_tables.
+use crate::{document_of, lease_premise, read_document, read_value};
 use kube_base::{Beat, ProcId, Wall};
 use kube_objects::{Event, Key, Kind, Proc, RatePolicy, ReadyStatus, What};
 use manifest_json::ReadFault;
 use serde_json::Value;
-use std::alloc::Global;
-use std::process::Abort;
 use std::test::Fail;
 
 const GOOD: &str =
@@ -61,6 +59,7 @@ fn reads_processes(rt: HostRuntime) -> Result<(), Fail> {
     assert_eq!(rt; document.kubelets.as_slice(), [kubelet].as_slice());
     assert_eq!(rt; document.objects.items.as_slice().len(), 1);
     assert_eq!(rt; document.objects.skipped, 1);
+    assert_eq!(rt; lease_premise(&document), false);
     Ok(())
 }
 
@@ -119,284 +118,16 @@ fn reads_events(rt: HostRuntime) -> Result<(), Fail> {
     Ok(())
 }
 
-/// The document is refused with this code at this path.
-fn check_refusal(rt: &impl Abort, alloc: Global, text: &str, code: u32, path: &str) {
-    match read_document(alloc, text.as_bytes()) {
+/// A document without an end is refused with the code and the path of what is missing.
+#[test]
+fn refuses_a_document(rt: HostRuntime) -> Result<(), Fail> {
+    let text = r#"{"version":1,"settings":{}}"#;
+    match read_document(rt.alloc(), text.as_bytes()) {
         Err(ReadFault::Refused(refusal)) => {
-            assert_eq!(rt; refusal.code, code, "{text}");
-            assert_eq!(rt; refusal.path.as_slice(), path.as_bytes(), "{text}");
+            assert_eq!(rt; refusal.code, 4);
+            assert_eq!(rt; refusal.path.as_slice(), b"/settings/endBeat".as_slice());
         }
-        _ => assert!(rt; false, "{text}"),
-    }
-}
-
-#[test]
-fn refuses_the_top(rt: HostRuntime) -> Result<(), Fail> {
-    for (text, code, path) in [
-        ("", 1, "/"),
-        (r#"{"version":1,"settings""#, 1, "/"),
-        ("[]", 2, "/"),
-        (r#"{"version":3}"#, 2, "/version"),
-        (r#"{"version":3,"extra":0}"#, 3, "/"),
-        (r#"{"version":1.0}"#, 5, "/version"),
-        (r#"{"version":null}"#, 5, "/version"),
-        (r#"{}"#, 4, "/version"),
-        (r#"{"version":1}"#, 4, "/settings"),
-        (
-            r#"{"version":1,"settings":{"endBeat":1}}"#,
-            4,
-            "/controllers",
-        ),
-        (
-            r#"{"version":1,"settings":{"endBeat":1},"controllers":[]}"#,
-            6,
-            "/controllers",
-        ),
-        (
-            r#"{"version":1,"settings":{"endBeat":1},"controllers":[0,0,0,0,0,0,0,0,0,0,0,0,0,0,0,0,0]}"#,
-            32,
-            "/controllers",
-        ),
-        (
-            r#"{"version":1,"settings":{"endBeat":1},"controllers":[0]}"#,
-            5,
-            "/controllers/0",
-        ),
-        (
-            r#"{"version":1,"settings":{"endBeat":1},"controllers":[{"name":"c1"}],"objects":null}"#,
-            10,
-            "/objects",
-        ),
-        (
-            r#"{"version":1,"settings":{"endBeat":1},"controllers":[{"name":"c1"}],"kubelets":null}"#,
-            5,
-            "/kubelets",
-        ),
-    ] {
-        check_refusal(&rt, rt.alloc(), text, code, path);
-    }
-    Ok(())
-}
-
-#[test]
-fn refuses_settings(rt: HostRuntime) -> Result<(), Fail> {
-    for (text, code, path) in [
-        (r#"{"version":1,"settings":{}}"#, 4, "/settings/endBeat"),
-        (
-            r#"{"version":1,"settings":{"endBeat":1.0}}"#,
-            5,
-            "/settings/endBeat",
-        ),
-        (
-            r#"{"version":1,"settings":{"endBeat":-1}}"#,
-            6,
-            "/settings/endBeat",
-        ),
-        (
-            r#"{"version":1,"settings":{"endBeat":6048001}}"#,
-            6,
-            "/settings/endBeat",
-        ),
-        (
-            r#"{"version":1,"settings":{"beatMillis":0}}"#,
-            6,
-            "/settings/beatMillis",
-        ),
-        (
-            r#"{"version":1,"settings":{"beatMillis":null}}"#,
-            5,
-            "/settings/beatMillis",
-        ),
-        (
-            r#"{"version":1,"settings":{"endBeat":1,"epoch":"2200-01-01T00:00:00Z"}}"#,
-            6,
-            "/settings/epoch",
-        ),
-        (
-            r#"{"version":1,"settings":{"endBeat":1,"fastRenew":1}}"#,
-            5,
-            "/settings/fastRenew",
-        ),
-    ] {
-        check_refusal(&rt, rt.alloc(), text, code, path);
-    }
-    Ok(())
-}
-
-/// Unknown keys, and the rules on all settings together.
-#[test]
-fn refuses_settings_as_a_whole(rt: HostRuntime) -> Result<(), Fail> {
-    for (text, code, path) in [
-        (
-            r#"{"version":1,"settings":{"endBeat":1,"renewDeadlineMillis":15000}}"#,
-            7,
-            "/settings",
-        ),
-        (
-            r#"{"version":1,"settings":{"endBeat":1,"renewDeadlineMillis":2400}}"#,
-            7,
-            "/settings",
-        ),
-        (
-            r#"{"version":1,"settings":{"endBeat":1,"secondaryRate":101}}"#,
-            7,
-            "/settings",
-        ),
-        (
-            r#"{"version":1,"settings":{"endBeat":1,"ratePolicy":"gentle"}}"#,
-            3,
-            "/settings",
-        ),
-        (
-            r#"{"version":2,"settings":{"endBeat":1,"ratePolicy":"soft"}}"#,
-            6,
-            "/settings/ratePolicy",
-        ),
-        (
-            r#"{"version":1,"settings":{"beatMillis":0,"x":1}}"#,
-            3,
-            "/settings",
-        ),
-    ] {
-        check_refusal(&rt, rt.alloc(), text, code, path);
-    }
-    Ok(())
-}
-
-#[test]
-fn refuses_processes(rt: HostRuntime) -> Result<(), Fail> {
-    for (text, code, path) in [
-        (
-            r#"{"version":1,"settings":{"endBeat":1},"controllers":[{"name":"c1"},{"name":"c1"}]}"#,
-            31,
-            "/controllers/1/name",
-        ),
-        (
-            r#"{"version":1,"settings":{"endBeat":1},"controllers":[{"name":"C"}]}"#,
-            6,
-            "/controllers/0/name",
-        ),
-        (
-            r#"{"version":1,"settings":{"endBeat":1},"controllers":[{"name":"c1","renewDeadlineMillis":9000}]}"#,
-            3,
-            "/controllers/0",
-        ),
-        (
-            r#"{"version":2,"settings":{"endBeat":1},"controllers":[{"name":"c1","renewDeadlineMillis":15000}]}"#,
-            7,
-            "/controllers/0",
-        ),
-        (
-            r#"{"version":1,"settings":{"endBeat":1},"controllers":[{"name":"c1","offsetMillis":-31536000001}]}"#,
-            6,
-            "/controllers/0/offsetMillis",
-        ),
-        (
-            r#"{"version":1,"settings":{"endBeat":1},"controllers":[{"name":"c1"}],"kubelets":[{"node":"n"},{"node":"n"}]}"#,
-            31,
-            "/kubelets/1/node",
-        ),
-        (
-            r#"{"version":1,"settings":{"endBeat":1},"controllers":[{"name":"c1"}],"kubelets":[{"node":"n","ready":"Unknown"}]}"#,
-            6,
-            "/kubelets/0/ready",
-        ),
-    ] {
-        check_refusal(&rt, rt.alloc(), text, code, path);
-    }
-    Ok(())
-}
-
-#[test]
-fn refuses_events(rt: HostRuntime) -> Result<(), Fail> {
-    for (text, code, path) in [
-        (
-            r#"{"version":1,"settings":{"endBeat":9},"controllers":[{"name":"c1"}],"events":[{"beat":1,"type":"crash","process":"c9"}]}"#,
-            8,
-            "/events/0/process",
-        ),
-        (
-            r#"{"version":1,"settings":{"endBeat":9},"controllers":[{"name":"c1"}],"kubelets":[{"node":"n"}],"events":[{"beat":1,"type":"stop","process":"kubelet/n"}]}"#,
-            8,
-            "/events/0/process",
-        ),
-        (
-            r#"{"version":1,"settings":{"endBeat":9},"controllers":[{"name":"c1"}],"events":[{"beat":5,"type":"crash","process":"c1"},{"beat":4,"type":"crash","process":"c1"}]}"#,
-            9,
-            "/events/1",
-        ),
-        (
-            r#"{"version":1,"settings":{"endBeat":9},"controllers":[{"name":"c1"}],"events":[{"beat":10,"type":"crash","process":"c1"}]}"#,
-            9,
-            "/events/0",
-        ),
-        (
-            r#"{"version":1,"settings":{"endBeat":9},"controllers":[{"name":"c1"}],"events":[{"beat":1,"type":"halt","x":1}]}"#,
-            6,
-            "/events/0/type",
-        ),
-        (
-            r#"{"version":1,"settings":{"endBeat":9},"controllers":[{"name":"c1"}],"events":[{"beat":1,"type":"crash","x":1}]}"#,
-            3,
-            "/events/0",
-        ),
-        (
-            r#"{"version":1,"settings":{"endBeat":9},"controllers":[{"name":"c1"}],"events":[{"beat":10,"type":"put","object":null}]}"#,
-            10,
-            "/events/0/object",
-        ),
-        (
-            r#"{"version":1,"settings":{"endBeat":9},"controllers":[{"name":"c1"}],"events":[{"beat":1,"type":"put"}]}"#,
-            4,
-            "/events/0/object",
-        ),
-        (
-            r#"{"version":1,"settings":{"endBeat":9},"controllers":[{"name":"c1"}],"events":[{"beat":1,"type":"remove","kind":"Lease","namespace":"kube-system","name":"kube-controller-manager"}]}"#,
-            30,
-            "/events/0",
-        ),
-        (
-            r#"{"version":1,"settings":{"endBeat":9},"controllers":[{"name":"c1"}],"events":[{"beat":1,"type":"remove","kind":"Node","namespace":"A","name":"n"}]}"#,
-            6,
-            "/events/0/namespace",
-        ),
-    ] {
-        check_refusal(&rt, rt.alloc(), text, code, path);
-    }
-    Ok(())
-}
-
-/// Events with the keys of their type, one of which has a value that it may not have.
-#[test]
-fn refuses_values_of_events(rt: HostRuntime) -> Result<(), Fail> {
-    for (text, code, path) in [
-        (
-            r#"{"version":1,"settings":{"endBeat":9},"controllers":[{"name":"c1"}],"kubelets":[{"node":"n"}],"events":[{"beat":1,"type":"watch","process":"kubelet/n","on":true}]}"#,
-            8,
-            "/events/0/process",
-        ),
-        (
-            r#"{"version":1,"settings":{"endBeat":9},"controllers":[{"name":"c1"}],"kubelets":[{"node":"n"}],"events":[{"beat":1,"type":"ready","process":"c1","status":"True"}]}"#,
-            8,
-            "/events/0/process",
-        ),
-        (
-            r#"{"version":1,"settings":{"endBeat":9},"controllers":[{"name":"c1"}],"kubelets":[{"node":"n"}],"events":[{"beat":1,"type":"delay","process":"c1","requestBeats":6001,"replyBeats":1}]}"#,
-            6,
-            "/events/0/requestBeats",
-        ),
-        (
-            r#"{"version":1,"settings":{"endBeat":9},"controllers":[{"name":"c1"}],"kubelets":[{"node":"n"}],"events":[{"beat":1,"type":"rate","process":"c1"}]}"#,
-            4,
-            "/events/0/ratePpm",
-        ),
-        (
-            r#"{"version":1,"settings":{"endBeat":9},"controllers":[{"name":"c1"}],"kubelets":[{"node":"n"}],"events":[{"beat":1,"type":"put","object":{"apiVersion":"v1","kind":"ConfigMap"}}]}"#,
-            11,
-            "/events/0/object",
-        ),
-    ] {
-        check_refusal(&rt, rt.alloc(), text, code, path);
+        _ => assert!(rt; false, "the end is missing"),
     }
     Ok(())
 }

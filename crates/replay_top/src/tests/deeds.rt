@@ -1,5 +1,5 @@
 // Traces by the deeds of whole documents, which need no source and no sink.
-use super::rows::Row;
+use super::rows::{self, Row};
 use crate::lines::{add_deeds, add_first};
 use crate::reading::read_bytes;
 use crate::texts::process_names;
@@ -9,7 +9,7 @@ use std::test::Fail;
 use world_core::{deeds_of, runs};
 
 /// The deeds of a document give the lines of its trace.
-pub(crate) fn expect_deeds(rt: &impl Abort, alloc: Global, row: &Row) -> Result<(), Fail> {
+fn expect_deeds(rt: &impl Abort, alloc: Global, row: &Row) -> Result<(), Fail> {
     let bytes = row.document.as_bytes();
     let (Ok((document, _)), Ok((named, _))) = (read_bytes(alloc, bytes), read_bytes(alloc, bytes))
     else {
@@ -30,5 +30,35 @@ pub(crate) fn expect_deeds(rt: &impl Abort, alloc: Global, row: &Row) -> Result<
         deeds.as_slice(),
     )?;
     assert_eq!(rt; text.as_slice(), row.text.as_bytes());
+    Ok(())
+}
+
+#[test]
+fn deeds_give_the_traces(rt: HostRuntime) -> Result<(), Fail> {
+    for row in [
+        rows::FIRST_ELECTION,
+        rows::ONE_BEAT,
+        rows::SECOND_CREATE,
+        rows::OLD_HOLDER,
+        rows::LOST_REPLY,
+        rows::LATE_RENEWAL,
+        rows::TAKEOVER,
+        rows::LATE_REPLY,
+        rows::FAST_CLOCK,
+        rows::DEADLINE,
+        rows::STORM,
+        rows::OLD_REPLY,
+        rows::OUTLIVING_CREATE,
+        rows::RELEASE,
+        rows::CONFLICTING_RELEASE,
+        rows::RELEASE_BEFORE_LOSS,
+        rows::RELEASE_AFTER_LOSS,
+        rows::FAST_RENEWAL,
+        rows::LOST_FAST_RENEWAL,
+        rows::OWN_DURATION,
+        rows::OTHER_LEASE,
+    ] {
+        expect_deeds(&rt, rt.alloc(), &row)?;
+    }
     Ok(())
 }

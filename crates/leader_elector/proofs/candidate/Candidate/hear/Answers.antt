@@ -1,5 +1,6 @@
+use Rattle.leader_elector.proofs.Taken.{answered-never, takes-ask, takes-silent}
 use Rattle.std.proofs.Common.{◌≡◌, ◌∙◌, ◌∷◌, true, sym, ap, subst, refl}
-use Rattle.kube_objects.specs.Elector.{leads}
+use Rattle.kube_objects.specs.Elector.{Fails, Succeeds, leads}
 use Rattle.kube_objects.specs.Entry.{Delivers, Leads, Plain, Sends, entry}
 use Rattle.kube_objects.specs.Turns.{lead_if, react}
 use Rattle.kube_objects.specs.Wire.{next_call, send}
@@ -29,7 +30,7 @@ returns-in-Asks-clause-counts c doc q h k call s now wall room is =
     let g = delivered k q call c.args.reply.now h in
     let t = c.in-Some.ensures.counts doc q h k call s.elector s.leads now wall is in
     let asks : reacted doc k q call c.args.reply.now h ≡ send k 3 q Plain c.in-Asks.request g = ap (λ f. react k q (leads q h) f g) (sym t.0 ∙ ap follow_of c.in-Asks.is) in
-    let a : Asked k 3 q g (reacted doc k q call c.args.reply.now h) (λ x. ElectorStands doc q x c.ask.new.self) c.ask.result = c.ask.ensures doc q g _ k 3 t.1 now room asks in
+    let a : Asked k 3 q g (reacted doc k q call c.args.reply.now h) (λ x. ElectorStands doc q x c.ask.new.self) c.ask.result = c.ask.ensures.history doc q g _ k 3 t.1 now room asks in
     record {
       kind = a.kind;
       sent = a.sent;
@@ -49,3 +50,17 @@ returns-in-Succeeds-clause-counts c doc q h k call s now wall room is =
     let next : reacted doc k q call c.args.reply.now h ≡ entry k 3 q (Leads version) ∷ g =
     ap (λ f. react k q (leads q h) f g) (sym t.0 ∙ ap follow_of c.in-Succeeds.is) ∙ ap (λ b. lead_if k q b version g) s.leads in
     (version, next, t.1)
+
+pub returns-in_default-clause-takes : goal.returns-in_default-clause-takes
+returns-in_default-clause-takes c w counts waits = absurd (answered-never c.receive.result c.in_default.is (c.receive.ensures.held w counts waits))
+
+pub returns-in-Fails-clause-takes : goal.returns-in-Fails-clause-takes
+returns-in-Fails-clause-takes c w counts waits = takes-silent c.in-Some.follow Fails (ap follow_of c.in-Fails.is) refl (c.in-Some.ensures.held w counts waits)
+
+pub returns-in-Asks-clause-takes : goal.returns-in-Asks-clause-takes
+returns-in-Asks-clause-takes c w counts waits =
+    takes-ask c.in-Some.follow c.in-Asks.request c.ask.result (ap follow_of c.in-Asks.is) (c.in-Some.ensures.held w counts waits) c.ask.ensures.same c.ask.ensures.asks
+
+pub returns-in-Succeeds-clause-takes : goal.returns-in-Succeeds-clause-takes
+returns-in-Succeeds-clause-takes c w counts waits =
+    takes-silent c.in-Some.follow (Succeeds c.in-Succeeds.field-0) (ap follow_of c.in-Succeeds.is) refl (c.in-Some.ensures.held w counts waits)

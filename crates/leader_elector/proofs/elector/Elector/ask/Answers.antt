@@ -3,8 +3,8 @@ use Rattle.leader_elector.specs.Stands.{kind_of, waiting_in}
 use Rattle.leader_elector.proofs.Own.{call_in-sent, waits-kind}
 use Rattle.leader_elector.proofs.elector.Elector.ask.Goals as goal
 
-pub returns : goal.returns
-returns c doc q h next k step s now room is =
+pub returns-clause-history : goal.returns-clause-history
+returns-clause-history c doc q h next k step s now room is =
     record {
       kind = kind_of c.args.fast;
       sent = is;

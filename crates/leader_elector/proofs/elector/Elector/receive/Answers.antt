@@ -36,7 +36,7 @@ returns-clause-counts c doc q h k call s led now wall is =
     ∙ sym (observed_at-delivered doc k q call reply h) in
     let timing_is : noted.timing ≡ self.timing = ap (λ x. x.timing) noted_is in
     let follow_is : follow_of c.follow-follow.result ≡ follow_on doc q k call.kind call.request reply g =
-    c.follow-follow.ensures doc q g k (ap (λ x. x.me.0) noted_is ∙ s.process) (ap (λ x. x.incarnation) noted_is ∙ s.incarnation) (subst (λ t. IsTimingOf doc q.process t) (sym timing_is) s.timing) now wall observed_is
+    c.follow-follow.ensures.history doc q g k (ap (λ x. x.me.0) noted_is ∙ s.process) (ap (λ x. x.incarnation) noted_is ∙ s.incarnation) (subst (λ t. IsTimingOf doc q.process t) (sym timing_is) s.timing) now wall observed_is
     ∙ (λ i. follow_on doc q k (kind i) (request i) reply g) in
     let retry : noted.timing.retry ≡ retry_period doc q.process = ap (λ t. t.retry) timing_is ∙ s.timing.retry in
     let timer_is = c.set_timer.ensures.timer ∙ (λ i. or_else noted.timer.0 (timer_follow (follow_is i) (sym led i) (now i + retry i))) in

@@ -3,8 +3,8 @@ use Rattle.leader_elector.specs.Stands.{waiting_in}
 use Rattle.leader_elector.proofs.Own.{timer-started}
 use Rattle.leader_elector.proofs.elector.Elector.start.Goals as goal
 
-pub returns : goal.returns
-returns c doc q h k step me incarnation timing now new =
+pub returns-clause-history : goal.returns-clause-history
+returns-clause-history c doc q h k step me incarnation timing now new =
     let slot = c.new.ensures.stands doc q h new.begun in
     record {
       process = me;

@@ -29,7 +29,7 @@ returns-in-Some-clause-turns c doc q h k s now wall room =
     let led : leads q e ≡ true = leads-expiry doc k q h (call_in q h) ∙ s.leads in
     let room_now : begun q e + 1 < 2 ^ 64 = subst (λ n. n + 1 < 2 ^ 64) (sym (begun-expiry doc k q h (call_in q h))) room in
     let a : Asked k 4 q e (try doc k q e) (λ x. ElectorStands doc q x c.attempt.new.self) c.in-Some.ask =
-    c.in-Some.ensures doc q e k (c.expire-expired.ensures.stands doc q h k s.elector now) led (c.expire-expired.ensures.fast doc q h k s.elector s.settled now) now wall room_now in (
+    c.in-Some.ensures.history doc q e k (c.expire-expired.ensures.stands doc q h k s.elector now) led (c.expire-expired.ensures.fast doc q h k s.elector s.settled now) now wall room_now in (
       ap (λ x. end_term doc k q x e) at ∙ ap (λ b. end_as k q b e) early,
       record {
         kind = a.kind;
@@ -51,7 +51,7 @@ returns-in-None-clause-turns c doc q h k s now wall room =
     let at : deadline doc q e ≡ Some c.args.self.deadline.0 = deadline-expiry doc k q h (call_in q h) ∙ sym s.deadline in
     let led : leads q e ≡ true = leads-expiry doc k q h (call_in q h) ∙ s.leads in
     let room_now : begun q e + 1 < 2 ^ 64 = subst (λ n. n + 1 < 2 ^ 64) (sym (begun-expiry doc k q h (call_in q h))) room in
-    let t = c.in-None.ensures doc q e k (c.expire-expired.ensures.stands doc q h k s.elector now) led (c.expire-expired.ensures.fast doc q h k s.elector s.settled now) now wall room_now in (
+    let t = c.in-None.ensures.history doc q e k (c.expire-expired.ensures.stands doc q h k s.elector now) led (c.expire-expired.ensures.fast doc q h k s.elector s.settled now) now wall room_now in (
       ap (λ x. end_term doc k q x e) at ∙ ap (λ b. end_as k q b e) early,
       t.1,
       record {

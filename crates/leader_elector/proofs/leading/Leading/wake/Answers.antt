@@ -11,7 +11,7 @@ pub returns-then-self-wake-clause-least : goal.returns-then-self-wake-clause-lea
 returns-then-self-wake-clause-least c doc q h k s =
     let at = c.args.self.now.deadline.0 in
     let wake = wake_from doc q (timer doc q h) (call_in q h) in
-    let sooner : nat_lt at wake ≡ true = ap (nat_lt at) (sym (c.wake-wake.ensures doc q h s.elector)) ∙ before at c.wake-wake.result.0 c.if-self-wake.true in
+    let sooner : nat_lt at wake ≡ true = ap (nat_lt at) (sym (c.wake-wake.ensures.history doc q h s.elector)) ∙ before at c.wake-wake.result.0 c.if-self-wake.true in
     subst (λ n. IsLeast n (local doc q.process k) h (leading_turn doc k q h))
     (ap (wake_before wake) (sym s.deadline) ∙ ap (λ b. cond b at wake) sooner)
     (leading-least doc k q h at s.settled s.deadline)
@@ -20,7 +20,7 @@ pub returns-else-self-wake-clause-least : goal.returns-else-self-wake-clause-lea
 returns-else-self-wake-clause-least c doc q h k s =
     let at = c.args.self.now.deadline.0 in
     let wake = wake_from doc q (timer doc q h) (call_in q h) in
-    let later : nat_lt at wake ≡ false = ap (nat_lt at) (sym (c.wake-wake.ensures doc q h s.elector)) ∙ reached at c.wake-wake.result.0 c.if-self-wake.false in
+    let later : nat_lt at wake ≡ false = ap (nat_lt at) (sym (c.wake-wake.ensures.history doc q h s.elector)) ∙ reached at c.wake-wake.result.0 c.if-self-wake.false in
     subst (λ n. IsLeast n (local doc q.process k) h (leading_turn doc k q h))
-    (ap (wake_before wake) (sym s.deadline) ∙ ap (λ b. cond b at wake) later ∙ sym (c.wake-wake.ensures doc q h s.elector))
+    (ap (wake_before wake) (sym s.deadline) ∙ ap (λ b. cond b at wake) later ∙ sym (c.wake-wake.ensures.history doc q h s.elector))
     (leading-least doc k q h at s.settled s.deadline)

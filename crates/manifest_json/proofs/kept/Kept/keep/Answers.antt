@@ -1,4 +1,5 @@
 use Rattle.std.proofs.Common.{◌≡◌, ◌∙◌, sym, ap, true, false, Ok}
+use Rattle.manifest_json.specs.declared.codes.TheConstants.{DUPLICATE, TOO_MANY}
 use Rattle.manifest_json.specs.Kept.{counts_of, with_one}
 use Rattle.manifest_json.specs.Walk.{has_key}
 use Rattle.manifest_json.proofs.KeptLemmas.{fails-by, with_found-there, with_found-full, with_found-new, counts_of-push, contains-is, contains-push}
@@ -7,12 +8,12 @@ use Rattle.manifest_json.proofs.kept.Kept.keep.Goals as goal
 pub returns-then-contains-clause-gives : goal.returns-then-contains-clause-gives
 returns-then-contains-clause-gives c =
     let there : has_key c.args.found.0 c.args.self.now.items ≡ true = sym (c.requires.keys c.args.found.0) ∙ sym (contains-is c.args.self.now.keys c.args.found.0) ∙ sym c.if-contains.ensures in
-    fails-by 31 c.args.path.now c.fault.result _ c.fault.ensures (with_found-there c.args.path.now c.args.self.now.items c.args.found there)
+    fails-by DUPLICATE c.args.path.now c.fault.result _ c.fault.ensures (with_found-there c.args.path.now c.args.self.now.items c.args.found there)
 
 pub returns-in_default-clause-gives : goal.returns-in_default-clause-gives
 returns-in_default-clause-gives c =
     let new : has_key c.args.found.0 c.args.self.now.items ≡ false = sym (c.requires.keys c.args.found.0) ∙ sym (contains-is c.args.self.now.keys c.args.found.0) ∙ sym c.if-contains.ensures in
-    fails-by 32 c.args.path.now c.fault-in_default.result _ c.fault-in_default.ensures (with_found-full c.args.path.now c.args.self.now.items c.args.found new (ap (λ n. with_one n c.args.found.0.kind) (sym c.requires.counts) ∙ sym c.one_more.ensures ∙ c.in_default.is))
+    fails-by TOO_MANY c.args.path.now c.fault-in_default.result _ c.fault-in_default.ensures (with_found-full c.args.path.now c.args.self.now.items c.args.found new (ap (λ n. with_one n c.args.found.0.kind) (sym c.requires.counts) ∙ sym c.one_more.ensures ∙ c.in_default.is))
 
 pub returns-in-Ok-push-clause-gives : goal.returns-in-Ok-push-clause-gives
 returns-in-Ok-push-clause-gives c =

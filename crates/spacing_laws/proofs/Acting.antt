@@ -1,0 +1,114 @@
+-- Whoever acts as its tick begins acted at its turn.
+use Rattle.std.proofs.Common.{◌≡◌, ◌∙◌, ℕ, ◌+◌, ◌&&◌, not, nat_lt, Bool, true, false, List, ◌∷◌, Option, Some, None, refl, sym, ap, subst, arith}
+use Rattle.std.proofs.lemmas.Bool.{eq-eqb}
+use Rattle.kube_objects.specs.Clocks.{local}
+use Rattle.kube_objects.specs.Document.{Doc}
+use Rattle.kube_objects.specs.Elector.{deadline, is_before, timer, acts}
+use Rattle.kube_objects.specs.Entry.{Entry, Identity, Call, Ends, entry}
+use Rattle.kube_objects.specs.Identities.{identity}
+use Rattle.kube_objects.specs.Newest.{when, join, has}
+use Rattle.kube_objects.specs.Process.{born, gone, life, alive, starts, is_present, call_in, is_late, ended, is_restart_due}
+use Rattle.kube_objects.specs.Turns.{expire_as, expire_call, end_as, end_term, just_expired, is_fast_call, attempt_if, try}
+use Rattle.history.specs.History.{at_turn}
+use Rattle.history.specs.Safe.{Acts}
+use Rattle.history.specs.Steps.{start, if_up, restart_as, restart_if, restart, expire, finish, attempts}
+use Rattle.history_laws.proofs.Plainly.{upper, some_is, none_is, false_is, and_right}
+use Rattle.history_laws.proofs.Walk.{to_tick, Ticking}
+use Rattle.spacing_laws.proofs.Born.{no_deadline}
+
+-- the incarnation is up and has this deadline
+record Leading (doc : Doc) (q : Identity) (at : ℕ) (h : List Entry) : Type 0 where
+  up : alive q.process h ≡ Some q.incarnation
+  until : deadline doc q h ≡ Some at
+
+module _ (doc : Doc) (q : Identity) (k at : ℕ) where
+  before_attempts : (h : List Entry) → Leading doc q at (attempts doc k q.process h) → Leading doc q at h
+  before_attempts h = by_up (alive q.process h) refl
+    where
+      by_test : (i : ℕ) (fast due : Bool) → Leading doc q at (attempt_if doc k (identity q.process i) fast due h) → Leading doc q at h
+      by_test i true due s = record { up = s.up; until = s.until }
+      by_test i false true s = record { up = s.up; until = s.until }
+      by_test i false false s = s
+
+      by_up : (o : Option ℕ) → alive q.process h ≡ o → Leading doc q at (if_up q.process (try doc k) o h) → Leading doc q at h
+      by_up None up s = s
+      by_up (Some i) up s =
+          let p = identity q.process i in
+          by_test i (is_fast_call (just_expired p k h)) (not (has (call_in p h)) && not (nat_lt (local doc q.process k) (timer doc p h))) s
+
+  before_finish : (h : List Entry) → Leading doc q at (finish doc k q.process h) → Leading doc q at h
+  before_finish h = by_up (alive q.process h)
+    where
+      gone_now : (i : ℕ) → alive q.process (entry k 4 (identity q.process i) Ends ∷ h) ≡ None
+      gone_now i = ap (λ b. join (upper (gone (when b i)) (life q.process h))) (eq-eqb q.process q.process refl)
+
+      by_test : (i : ℕ) (b : Bool) → Leading doc q at (end_as k (identity q.process i) b h) → Leading doc q at h
+      by_test i true s = s
+      by_test i false s = absurd (none_is q.incarnation (sym (gone_now i) ∙ s.up))
+
+      by_deadline : (i : ℕ) (o : Option ℕ) → Leading doc q at (end_term doc k (identity q.process i) o h) → Leading doc q at h
+      by_deadline i None s = s
+      by_deadline i (Some d) s = by_test i (nat_lt (local doc q.process k) d) s
+
+      by_up : (o : Option ℕ) → Leading doc q at (if_up q.process (λ q T. end_term doc k q (deadline doc q T) T) o h) → Leading doc q at h
+      by_up None s = s
+      by_up (Some i) s = by_deadline i (deadline doc (identity q.process i) h) s
+
+  before_expire : (h : List Entry) → Leading doc q at (expire doc k q.process h) → Leading doc q at h
+  before_expire h = by_up (alive q.process h)
+    where
+      by_late : (i : ℕ) (call : Call) (b : Bool) → Leading doc q at (expire_as k (identity q.process i) call b h) → Leading doc q at h
+      by_late i call true s = record { up = s.up; until = s.until }
+      by_late i call false s = s
+
+      by_call : (i : ℕ) (o : Option Call) → Leading doc q at (expire_call doc k (identity q.process i) o h) → Leading doc q at h
+      by_call i None s = s
+      by_call i (Some call) s = by_late i call (is_late doc (identity q.process i) k call) s
+
+      by_up : (o : Option ℕ) → Leading doc q at (if_up q.process (λ q T. expire_call doc k q (call_in q T) T) o h) → Leading doc q at h
+      by_up None s = s
+      by_up (Some i) s = by_call i (call_in (identity q.process i) h) s
+
+  -- a restart is of an incarnation that never led
+  before_restart : (p : ℕ) → Leading doc q at (restart doc k q.process (at_turn doc p k)) → Leading doc q at (at_turn doc p k)
+  before_restart p = by_up (alive q.process h)
+    where
+      h : List Entry
+      h = at_turn doc p k
+
+      started : alive q.process (start k 4 q.process h) ≡ Some (starts q.process h + 1)
+      started = ap (λ b. join (upper (born (when b (starts q.process h + 1))) (life q.process h))) (eq-eqb q.process q.process refl)
+
+      by_due : (b : Bool) → Leading doc q at (restart_as k q.process b h) → Leading doc q at h
+      by_due false s = s
+      by_due true s =
+          let new : starts q.process h + 1 ≡ q.incarnation = some_is _ _ (sym started ∙ s.up) in
+          absurd (none_is at (sym (no_deadline doc p k q (omega (arith, new))) ∙ s.until))
+
+      by_up : (o : Option ℕ) → Leading doc q at (restart_if doc k q.process o h) → Leading doc q at h
+      by_up None s = by_due (is_restart_due doc q.process k (ended q.process h)) s
+      by_up (Some i) s = s
+
+acts_from : (doc : Doc) (q : Identity) (k at : ℕ) (h : List Entry) → Leading doc q at h → nat_lt (local doc q.process k) at ≡ true → acts doc q k h ≡ true
+acts_from doc q k at h s before =
+    subst (λ o. (is_present o q.incarnation && is_before (local doc q.process k) (deadline doc q h)) ≡ true) (sym s.up)
+    (subst (λ b. (b && is_before (local doc q.process k) (deadline doc q h)) ≡ true) (sym (eq-eqb q.incarnation q.incarnation refl))
+    (subst (λ o. is_before (local doc q.process k) o ≡ true) (sym s.until) before))
+
+pub acts_at_turn : (doc : Doc) (q : Identity) (k : ℕ) → Ticking doc q k → Acts doc q k
+acts_at_turn doc q k ticking = (ticking.role, by_deadline (deadline doc q h) refl (and_right (is_present (alive q.process h) q.incarnation) (is_before (local doc q.process k) (deadline doc q h)) ticking.acting))
+  where
+    h0 : List Entry
+    h0 = at_turn doc q.process k
+
+    h : List Entry
+    h = to_tick doc k q.process h0
+
+    by_deadline : (o : Option ℕ) → deadline doc q h ≡ o → is_before (local doc q.process k) o ≡ true → acts doc q k h0 ≡ true
+    by_deadline None is before = absurd (false_is before)
+    by_deadline (Some at) is before =
+        let h1 = restart doc k q.process h0 in
+        let h2 = expire doc k q.process h1 in
+        let s : Leading doc q at h0 =
+        before_restart doc q k at q.process (before_expire doc q k at h1 (before_finish doc q k at h2 (before_attempts doc q k at (finish doc k q.process h2) (record { up = ticking.up; until = is })))) in
+        acts_from doc q k at h0 s before

@@ -1,0 +1,4 @@
+pub mod Born
+pub mod Acting
+pub mod Spaced
+pub mod Spacings
