@@ -13,7 +13,7 @@ use Rattle.kube_objects.specs.Newest.{when}
 use Rattle.kube_objects.specs.Process.{alive}
 use Rattle.kube_objects.specs.Wire.{Back}
 use Rattle.history.specs.Printed.{printed, deeds_of}
-use Rattle.history.specs.Steps.{happens, restart, expire, finish, delivered, turn}
+use Rattle.history.specs.Steps.{happens, restart, expire, finish, delivered, elector_turn}
 use Rattle.leader_elector.specs.Moves.{Asked}
 use Rattle.world_process.specs.declared.moves.Received.{Received}
 use Rattle.world_process.specs.declared.moves.Stopped.{Stopped}

@@ -6,7 +6,7 @@ use Rattle.world_process.proofs.controller.Controller.lead.Goals as goal
 
 pub returns-clause-leads : goal.returns-clause-leads
 returns-clause-leads c doc q h k version x is chosen now =
-    c.lead.ensures doc q h k 3 version (subst (λ y. IsChosen doc q h y) (same (sym is ∙ sym c.replace.ensures.value ∙ c.in-Candidate.is)) chosen) now
+    c.lead.ensures.stands doc q h k 3 version (subst (λ y. IsChosen doc q h y) (same (sym is ∙ sym c.replace.ensures.value ∙ c.in-Candidate.is)) chosen) now
   where
     same : {a b : Candidate} → role.Candidate a ≡ role.Candidate b → a ≡ b
     same e = cc

@@ -10,4 +10,4 @@ pub returns-clause-stands : goal.returns-clause-stands
 returns-clause-stands c doc n k step p h s at plain few =
     let i : c.saturating_add-incarnation.result ≡ starts p h + 1 = omega (arith, s.incarnation, few, c.saturating_add-incarnation.ensures) in
     stands-started doc k step p c.saturating_add-incarnation.result h c.args.self.now c.start.result s i
-    (c.start.ensures doc (identity p (starts p h + 1)) h k step s.me i s.timing (c.local-now.ensures.value ∙ reading-local doc p c.args.beat.0 c.args.self.now.clock s.clock ∙ ap (local doc p) at) (new-unheard doc (identity p (starts p h + 1)) h (plain.fresh p (starts p h + 1) (omega arith))))
+    (c.start.ensures.stands doc (identity p (starts p h + 1)) h k step s.me i s.timing (c.local-now.ensures.value ∙ reading-local doc p c.args.beat.0 c.args.self.now.clock s.clock ∙ ap (local doc p) at) (new-unheard doc (identity p (starts p h + 1)) h (plain.fresh p (starts p h + 1) (omega arith))))
