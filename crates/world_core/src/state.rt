@@ -29,10 +29,13 @@ ghost use Rattle.world_process.specs.Plain.{IsFew, IsKnown, SentByKnown, BackToK
 ghost use Rattle.history.specs.Due.{answer_all, deliver_all};
 ghost use Rattle.world_core.specs.States.{Skipped, AreSilent, EachStands, at_of, end_of, names_of, GoOnTo, AreMadeOf, SendsAsked, HasDelays, IsReady, IsPlaced, SameDocument, Keeps, StateStands, StateWithin, Running, Happens, Scripted};
 
-use crate::printing::{answer_act, crash_act, end_act, lead_act, remove_act, start_act, stop_act, tell};
+use crate::printing::{
+    answer_act, crash_act, end_act, lead_act, remove_act, start_act, stop_act, tell,
+};
 use kube_base::{Beat, Names, NoMemory, ProcId, Wall};
 use kube_objects::{
-    Act, Actor, Ask, Deeds, Event, Events, Items, Key, Object, Procs, Reply, Request, Settings, What,
+    Act, Actor, Ask, Deeds, Event, Events, Items, Key, Object, Procs, Reply, Request, Settings,
+    What,
 };
 use object_store::Store;
 use script_reader::Document;
@@ -494,9 +497,7 @@ impl State {
         let who = process.me();
         let incarnation = process.incarnation();
         tell(deeds, self.beat, actor, lead_act(received.lead))?;
-        send_asked(
-            &mut self.wire, who, incarnation, received.ask, self.beat,
-        )
+        send_asked(&mut self.wire, who, incarnation, received.ask, self.beat)
     }
 
     // Each process has its turn, in order.

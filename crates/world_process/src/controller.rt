@@ -20,9 +20,7 @@ ghost use Rattle.world_process.specs.Controllers.{ControllerStands, SameControll
 ghost use Rattle.world_process.specs.Plain.{IsPlain, IsFew};
 
 use crate::clocks::{clock_for, first_beat, picoseconds};
-use crate::moves::{
-    Received, Stopped, Turn, asks, final_turn, leads, stays, stop_with, turn_with,
-};
+use crate::moves::{Received, Stopped, Turn, asks, final_turn, leads, stays, stop_with, turn_with};
 use kube_base::{Beat, Local, NoMemory, ProcId, Wall};
 use kube_objects::{Event, Proc, Reply, Settings};
 use leader_elector::{Candidate, Heard, Leading, LeadingNext, Timing};
