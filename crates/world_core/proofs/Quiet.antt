@@ -146,13 +146,13 @@ down-at xs i x all is = subst (λ y. is_up_first_as y ≡ false) (get_or_from_sl
 
 starts-none : (doc : Doc) (g h : List Entry) (xs : List Process) (n : ℕ) → n ≤ length xs → EachStands doc g xs → All (λ y. is_up_first_as y ≡ false) xs → starts_below doc n h ≡ h
 starts-none doc g h xs zero within each all = refl
-starts-none doc g h xs (suc n) within each all = by_place (slice_get_cases xs n).1
+starts-none doc g h xs (suc n) within each all = by_place (starts-none doc g h xs n (omega (arith, within)) each all) (slice_get_cases xs n).1
   where
-    by_place : ((x : Process) × (n < length xs) × (slice_get xs n ≡ Some x) × (get_or xs n x ≡ x)) ⊎ ((length xs ≤ n) × (slice_get xs n ≡ None)) → starts_below doc (suc n) h ≡ h
-    by_place (inl t) =
+    by_place : starts_below doc n h ≡ h → ((x : Process) × (n < length xs) × (slice_get xs n ≡ Some x) × (get_or xs n x ≡ x)) ⊎ ((length xs ≤ n) × (slice_get xs n ≡ None)) → starts_below doc (suc n) h ≡ h
+    by_place before (inl t) =
         let down : is_up_first doc n ≡ false = sym (process-up_first doc n g t.0 (each n t.0 t.2)) ∙ down-at xs n t.0 all t.2 in
-        ap (λ b. start_first n b (starts_below doc n h)) down ∙ starts-none doc g h xs n (omega (arith, within)) each all
-    by_place (inr t) = let past = t.0 in absurd (omega (arith, past, within))
+        ap (λ b. start_first n b (starts_below doc n h)) down ∙ before
+    by_place before (inr t) = let past = t.0 in absurd (omega (arith, past, within))
 
 pub first-none : (doc : Doc) (j : ℕ) (g h : List Entry) (xs : List Process) → length xs ≡ processes doc → EachStands doc g xs → All (λ y. is_up_first_as y ≡ false) xs → first_starts doc j h ≡ h
 first-none doc zero g h xs count each all = starts-none doc g h xs (processes doc) (omega (arith, count)) each all

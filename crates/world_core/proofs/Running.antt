@@ -12,7 +12,6 @@ use Rattle.kube_objects.specs.Process.{starts}
 use Rattle.kube_objects.specs.Wire.{Sent, Back, send, next_call, request_arrival, reply_arrival}
 use Rattle.history.specs.Printed.{printed, deeds_of, answer_act}
 use Rattle.history.specs.Steps.{answered, delivered, turn, start_first, start}
-use Rattle.leader_elector.specs.Moves.{Asked}
 use Rattle.object_store.proofs.Keeps.{store-beside}
 use Rattle.wire_calls.specs.WireStands.{WireStands}
 use Rattle.world_process.specs.declared.process.Process.{Process}
@@ -82,7 +81,7 @@ within-moved doc k i arriving coming h c0 c1 w v m wire a own =
 
 -- a request was sent
 within-sent : (doc : Doc) (k step i : ℕ) (arriving : List Sent) (coming : List Back) (h next : List Entry) (c0 c1 : Process) (w v : State) (ask : Ask) → Moved i c0 c1 w v → SendsAsked k (identity i (incarnation_of c1)) (Some ask) w.wire v.wire →
-    Around doc k i arriving coming h w → i < processes doc → Asked k step (identity i (incarnation_of c1)) h next (λ x. ProcessStands doc i x c1) ask → StateWithin doc k arriving coming next v
+    Around doc k i arriving coming h w → i < processes doc → AsksOn doc k step i h next c1 (Some ask) → StateWithin doc k arriving coming next v
 within-sent doc k step i arriving coming h next c0 c1 w v ask m sends a within asked =
     let q = identity i (incarnation_of c1) in
     let call = next_call q k asked.kind ask.request h in

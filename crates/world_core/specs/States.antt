@@ -142,14 +142,17 @@ pub record Skipped (doc : Doc) (k : ℕ) (h : List Entry) (w : State) : Type 0 w
 -- the wire did what an identity asks at beat k, where it asks
 abbrev pub SendsAsked : ℕ → Identity → Option Ask → Wire → Wire → Type 0
 SendsAsked k q None old new = new ≡ old
-SendsAsked k q (Some ask) old new = (processes step : ℕ) (arriving : List Sent) (coming : List Back) (h : List Entry) (call : Call) → WireStands processes k arriving coming h old → call.number ≡ ask.number → call.request ≡ ask.request
+SendsAsked k q (Some ask) old new = (processes step : ℕ) (arriving : List Sent) (coming : List Back) (h : List Entry) (call : Call)
+    → WireStands processes k arriving coming h old → call.number ≡ ask.number → call.request ≡ ask.request
     → WireStands processes k arriving coming (entry k step q (Sends call (request_arrival q.process k h)) ∷ h) new
 
 -- ---- events
 
 -- an event has happened in a world within a beat, and what is printed of it was added
 abbrev pub Happens : State → List deed.Deed → State → List deed.Deed → What → Type 0
-Happens w deeds v new what = (doc : Doc) (k : ℕ) (before : List deed.Deed) (arriving : List Sent) (coming : List Back) (h : List Entry) → Running doc k before arriving coming h w deeds → IsLawfulWhat doc what → IsFew (happens doc k what h) → Running doc k before arriving coming (happens doc k what h) v new
+Happens w deeds v new what = (doc : Doc) (k : ℕ) (before : List deed.Deed) (arriving : List Sent) (coming : List Back) (h : List Entry)
+    → Running doc k before arriving coming h w deeds → IsLawfulWhat doc what → IsFew (happens doc k what h)
+    → Running doc k before arriving coming (happens doc k what h) v new
 
 -- all events of the beat have happened; what they sent arrives later
 pub record Scripted (doc : Doc) (k : ℕ) (before : List deed.Deed) (arriving : List Sent) (coming : List Back) (h : List Entry) (w : State) (deeds : List deed.Deed) : Type 0 where

@@ -1,5 +1,5 @@
 // What a world keeps, and how it does one beat.
-ghost use Rattle.std.specs.Prelude.{◌≡◌, ◌∷◌, ◌+◌, ◌*◌, ◌<◌, ◌≤◌, ◌++◌, ℕ, List, [], true, IfOk, OnOk, IsTrue, ◌↔◌, vec_len, length, slice_get, drop, All, Option, Some};
+ghost use Rattle.std.specs.Prelude.{◌≡◌, ◌∷◌, ◌+◌, ◌*◌, ◌<◌, ◌≤◌, ◌++◌, ℕ, List, [], true, false, IfOk, OnOk, IsTrue, ◌↔◌, vec_len, length, slice_get, drop, All, Option, Some};
 ghost use Rattle.std.specs.List.Sorted.{IsStrictlySortedBy};
 ghost use Rattle.std.specs.Map.{keys_of, lookup};
 ghost use Rattle.kube_objects.specs.declared.deed.Deed.{Deed};
@@ -29,10 +29,13 @@ ghost use Rattle.world_process.specs.Plain.{IsFew, IsKnown, SentByKnown, BackToK
 ghost use Rattle.history.specs.Due.{answer_all, deliver_all};
 ghost use Rattle.world_core.specs.States.{Skipped, AreSilent, EachStands, at_of, end_of, names_of, GoOnTo, AreMadeOf, SendsAsked, HasDelays, IsReady, IsPlaced, SameDocument, Keeps, StateStands, StateWithin, Running, Happens, Scripted};
 
-use crate::printing::{answer_act, crash_act, end_act, lead_act, remove_act, start_act, stop_act, tell};
+use crate::printing::{
+    answer_act, crash_act, end_act, lead_act, remove_act, start_act, stop_act, tell,
+};
 use kube_base::{Beat, Names, NoMemory, ProcId, Wall};
 use kube_objects::{
-    Act, Actor, Ask, Deeds, Event, Events, Items, Key, Object, Procs, Reply, Request, Settings, What,
+    Act, Actor, Ask, Deeds, Event, Events, Items, Key, Object, Procs, Reply, Request, Settings,
+    What,
 };
 use object_store::Store;
 use script_reader::Document;
@@ -101,7 +104,8 @@ impl State {
     /// The objects that are stored, each with its key, in the order of keys. Each is a copy.
     pub fn objects(&self) -> Result<Items, NoMemory>
         ensures ascend { IfOk result (λ items. IsStrictlySortedBy key_cmp (keys_of items)) }
-        ensures stored { (doc : Doc) (k : ℕ) (h : List Entry) (key : Key) → StateStands doc k h self.now → IfOk result (λ items. lookup (key_eq key) items ≡ object_of (stored key h)) }
+        ensures stored { (doc : Doc) (k : ℕ) (h : List Entry) (key : Key) → StateStands doc k h self.now
+            → IfOk result (λ items. lookup (key_eq key) items ≡ object_of (stored key h)) }
     {
         self.store.objects()
     }
@@ -124,7 +128,8 @@ impl State {
     pub fn beat(&mut self) -> Result<Deeds, NoMemory>
         requires ready { IsReady self.old }
         requires within { at_of self.old ≤ end_of self.old }
-        ensures kept { OnOk result (IsReady self.new × (at_of self.new ≡ at_of self.old + 1) × (end_of self.new ≡ end_of self.old) × (names_of self.new ≡ names_of self.old)) }
+        ensures kept { OnOk result (IsReady self.new × (at_of self.new ≡ at_of self.old + 1) × (end_of self.new ≡ end_of self.old)
+            × (names_of self.new ≡ names_of self.old)) }
         ensures stands { (doc : Doc) (k : ℕ) (h : List Entry) → IsFew (beat doc h k) → StateStands doc k h self.old
             → IfOk result (λ deeds. StateStands doc (k + 1) (beat doc h k) self.new × (printed h ++ deeds ≡ printed (beat doc h k))) }
     {
@@ -143,7 +148,8 @@ impl State {
     pub fn skip_quiet(&mut self)
         requires ready { IsReady self.old }
         requires within { at_of self.old ≤ end_of self.old + 1 }
-        ensures kept { IsReady self.new × (at_of self.old ≤ at_of self.new) × (at_of self.new ≤ end_of self.new + 1) × (end_of self.new ≡ end_of self.old) × (names_of self.new ≡ names_of self.old) }
+        ensures kept { IsReady self.new × (at_of self.old ≤ at_of self.new) × (at_of self.new ≤ end_of self.new + 1)
+            × (end_of self.new ≡ end_of self.old) × (names_of self.new ≡ names_of self.old) }
         ensures stands { (doc : Doc) (k : ℕ) (h : List Entry) → StateStands doc k h self.old → Skipped doc k h self.new }
     {
         let last = self.next_start(Beat(self.end.0 + 1));
@@ -174,7 +180,8 @@ impl State {
     // The beat of the next event, or the bound where that is earlier.
     fn next_event(&self, bound: Beat) -> Beat
         ensures bound { result.0 ≤ bound.0 }
-        ensures events { (doc : Doc) (k : ℕ) → self.now.events ≡ doc.events → IsPlaced doc k self.now.place → AreLawfulFrom doc result.0 (drop self.now.place doc.events) }
+        ensures events { (doc : Doc) (k : ℕ) → self.now.events ≡ doc.events → IsPlaced doc k self.now.place
+            → AreLawfulFrom doc result.0 (drop self.now.place doc.events) }
     {
         match self.events.as_slice().get(self.place) {
             Some(event) => earlier(event.beat, bound),
@@ -185,7 +192,8 @@ impl State {
     // The next beat at which something in flight arrives, or the bound where that is earlier.
     fn next_message(&self, bound: Beat) -> Beat
         ensures bound { result.0 ≤ bound.0 }
-        ensures silent { (processes k : ℕ) (h : List Entry) → WireStands processes k (requests_due k h) (replies_due k h) h self.now.wire → AreSilent k result.0 h }
+        ensures silent { (processes k : ℕ) (h : List Entry)
+            → WireStands processes k (requests_due k h) (replies_due k h) h self.now.wire → AreSilent k result.0 h }
     {
         match self.wire.next() {
             Some(arrives) => earlier(arrives, bound),
@@ -198,8 +206,10 @@ impl State {
         requires ready { IsReady self.old }
         ensures kept { Keeps self.old self.new }
         ensures bound { result.0 ≤ bound.0 }
-        ensures stands { (doc : Doc) (k : ℕ) (arriving : List Sent) (coming : List Back) (h : List Entry) → StateWithin doc k arriving coming h self.old → StateWithin doc k arriving coming h self.new }
-        ensures still { (doc : Doc) (k j : ℕ) (arriving : List Sent) (coming : List Back) (h : List Entry) → StateWithin doc k arriving coming h self.old → j ≤ end_of self.old → j < result.0 → turns doc j (processes doc) h ≡ h }
+        ensures stands { (doc : Doc) (k : ℕ) (arriving : List Sent) (coming : List Back) (h : List Entry)
+            → StateWithin doc k arriving coming h self.old → StateWithin doc k arriving coming h self.new }
+        ensures still { (doc : Doc) (k j : ℕ) (arriving : List Sent) (coming : List Back) (h : List Entry)
+            → StateWithin doc k arriving coming h self.old → j ≤ end_of self.old → j < result.0 → turns doc j (processes doc) h ≡ h }
     {
         let mut next = bound;
         for i in 0..self.processes.len() {
@@ -214,8 +224,10 @@ impl State {
         requires ready { IsReady self.old }
         ensures kept { Keeps self.old self.new }
         ensures bound { result.0 ≤ bound.0 }
-        ensures stands { (doc : Doc) (k : ℕ) (arriving : List Sent) (coming : List Back) (h : List Entry) → StateWithin doc k arriving coming h self.old → StateWithin doc k arriving coming h self.new }
-        ensures still { (doc : Doc) (k j : ℕ) (arriving : List Sent) (coming : List Back) (h : List Entry) → StateWithin doc k arriving coming h self.old → j ≤ end_of self.old → j < result.0 → turn doc j i h ≡ h }
+        ensures stands { (doc : Doc) (k : ℕ) (arriving : List Sent) (coming : List Back) (h : List Entry)
+            → StateWithin doc k arriving coming h self.old → StateWithin doc k arriving coming h self.new }
+        ensures still { (doc : Doc) (k j : ℕ) (arriving : List Sent) (coming : List Back) (h : List Entry)
+            → StateWithin doc k arriving coming h self.old → j ≤ end_of self.old → j < result.0 → turn doc j i h ≡ h }
     {
         let process = &mut self.processes[i];
         let wakes = process.wakes_from(self.beat);
@@ -228,7 +240,8 @@ impl State {
         requires ready { IsReady self.old }
         requires within { at_of self.old ≤ end_of self.old }
         ensures kept { OnOk result (Keeps self.old self.new) }
-        ensures stands { (doc : Doc) (k : ℕ) (before : List Deed) (arriving : List Sent) (coming : List Back) (h : List Entry) → Running doc k before arriving coming h self.old deeds.old → IsFew (first_starts doc k h)
+        ensures stands { (doc : Doc) (k : ℕ) (before : List Deed) (arriving : List Sent) (coming : List Back) (h : List Entry)
+            → Running doc k before arriving coming h self.old deeds.old → IsFew (first_starts doc k h)
             → OnOk result (Running doc k before arriving coming (first_starts doc k h) self.new deeds.new) }
     {
         if self.beat.0 != 0 {
@@ -245,7 +258,8 @@ impl State {
         requires ready { IsReady self.old }
         requires within { at_of self.old ≤ end_of self.old }
         ensures kept { OnOk result (Keeps self.old self.new) }
-        ensures stands { (doc : Doc) (before : List Deed) (arriving : List Sent) (coming : List Back) (h : List Entry) → Running doc 0 before arriving coming h self.old deeds.old → IsFew (start_first i (is_up_first doc i) h)
+        ensures stands { (doc : Doc) (before : List Deed) (arriving : List Sent) (coming : List Back) (h : List Entry)
+            → Running doc 0 before arriving coming h self.old deeds.old → IsFew (start_first i (is_up_first doc i) h)
             → OnOk result (Running doc 0 before arriving coming (start_first i (is_up_first doc i) h) self.new deeds.new) }
     {
         let process = &mut self.processes[i];
@@ -263,7 +277,9 @@ impl State {
         requires ready { IsReady self.old }
         requires within { at_of self.old ≤ end_of self.old }
         ensures kept { OnOk result (IsReady self.new × SameDocument self.old self.new) }
-        ensures stands { (doc : Doc) (k : ℕ) (before : List Deed) (arriving : List Sent) (coming : List Back) (h : List Entry) → Running doc k before arriving coming h self.old deeds.old → IsPlaced doc k self.old.place → IsFew (happen_all doc k doc.events h)
+        ensures stands { (doc : Doc) (k : ℕ) (before : List Deed) (arriving : List Sent) (coming : List Back) (h : List Entry)
+            → Running doc k before arriving coming h self.old deeds.old → IsPlaced doc k self.old.place
+            → IsFew (happen_all doc k doc.events h)
             → OnOk result (Scripted doc k before arriving coming h self.new deeds.new) }
     {
         let all = self.events.as_slice().len();
@@ -395,7 +411,8 @@ impl State {
         requires ready { IsReady self.old }
         requires within { at_of self.old ≤ end_of self.old }
         ensures kept { OnOk result (Keeps self.old self.new) }
-        ensures stands { (doc : Doc) (k : ℕ) (before : List Deed) (arriving : List Sent) (coming : List Back) (h : List Entry) → Running doc k before arriving coming h self.old deeds.old → SentByKnown (processes doc) h arriving
+        ensures stands { (doc : Doc) (k : ℕ) (before : List Deed) (arriving : List Sent) (coming : List Back) (h : List Entry)
+            → Running doc k before arriving coming h self.old deeds.old → SentByKnown (processes doc) h arriving
             → OnOk result (Running doc k before [] coming (answer_all k arriving h) self.new deeds.new) }
     {
         if !self.wire.has_request(self.beat) {
@@ -410,7 +427,8 @@ impl State {
         requires ready { IsReady self.old }
         requires within { at_of self.old ≤ end_of self.old }
         ensures kept { OnOk result (Keeps self.old self.new) }
-        ensures stands { (doc : Doc) (k : ℕ) (before : List Deed) (arriving : List Sent) (coming : List Back) (h : List Entry) → Running doc k before arriving coming h self.old deeds.old → SentByKnown (processes doc) h arriving
+        ensures stands { (doc : Doc) (k : ℕ) (before : List Deed) (arriving : List Sent) (coming : List Back) (h : List Entry)
+            → Running doc k before arriving coming h self.old deeds.old → SentByKnown (processes doc) h arriving
             → OnOk result (Running doc k before [] coming (answer_all k arriving h) self.new deeds.new) }
     {
         'arriving: while let Some(arrived) = self.wire.arrival(self.beat) {
@@ -432,7 +450,9 @@ impl State {
         requires ready { IsReady self.old }
         requires within { at_of self.old ≤ end_of self.old }
         ensures kept { OnOk result (Keeps self.old self.new) }
-        ensures stands { (doc : Doc) (k : ℕ) (before : List Deed) (arriving : List Sent) (coming : List Back) (h : List Entry) → Running doc k before arriving coming h self.old deeds.old → BackToKnown (processes doc) h coming → IsFew (deliver_all doc k coming h)
+        ensures stands { (doc : Doc) (k : ℕ) (before : List Deed) (arriving : List Sent) (coming : List Back) (h : List Entry)
+            → Running doc k before arriving coming h self.old deeds.old → BackToKnown (processes doc) h coming
+            → IsFew (deliver_all doc k coming h)
             → OnOk result (Running doc k before arriving [] (deliver_all doc k coming h) self.new deeds.new) }
     {
         if !self.wire.has_reply(self.beat) {
@@ -447,7 +467,9 @@ impl State {
         requires ready { IsReady self.old }
         requires within { at_of self.old ≤ end_of self.old }
         ensures kept { OnOk result (Keeps self.old self.new) }
-        ensures stands { (doc : Doc) (k : ℕ) (before : List Deed) (arriving : List Sent) (coming : List Back) (h : List Entry) → Running doc k before arriving coming h self.old deeds.old → BackToKnown (processes doc) h coming → IsFew (deliver_all doc k coming h)
+        ensures stands { (doc : Doc) (k : ℕ) (before : List Deed) (arriving : List Sent) (coming : List Back) (h : List Entry)
+            → Running doc k before arriving coming h self.old deeds.old → BackToKnown (processes doc) h coming
+            → IsFew (deliver_all doc k coming h)
             → OnOk result (Running doc k before arriving [] (deliver_all doc k coming h) self.new deeds.new) }
     {
         'coming: while let Some(back) = self.wire.delivery(self.beat) {
@@ -475,9 +497,7 @@ impl State {
         let who = process.me();
         let incarnation = process.incarnation();
         tell(deeds, self.beat, actor, lead_act(received.lead))?;
-        send_asked(
-            &mut self.wire, who, incarnation, received.ask, self.beat,
-        )
+        send_asked(&mut self.wire, who, incarnation, received.ask, self.beat)
     }
 
     // Each process has its turn, in order.
@@ -486,7 +506,8 @@ impl State {
         requires ready { IsReady self.old }
         requires within { at_of self.old ≤ end_of self.old }
         ensures kept { OnOk result (Keeps self.old self.new) }
-        ensures stands { (doc : Doc) (k : ℕ) (before : List Deed) (arriving : List Sent) (coming : List Back) (h : List Entry) → Running doc k before arriving coming h self.old deeds.old → IsFew (turns doc k (processes doc) h)
+        ensures stands { (doc : Doc) (k : ℕ) (before : List Deed) (arriving : List Sent) (coming : List Back) (h : List Entry)
+            → Running doc k before arriving coming h self.old deeds.old → IsFew (turns doc k (processes doc) h)
             → OnOk result (Running doc k before arriving coming (turns doc k (processes doc) h) self.new deeds.new) }
     {
         for i in 0..self.processes.len() {
@@ -500,7 +521,8 @@ impl State {
         requires ready { IsReady self.old }
         requires within { at_of self.old ≤ end_of self.old }
         ensures kept { OnOk result (Keeps self.old self.new) }
-        ensures stands { (doc : Doc) (k : ℕ) (before : List Deed) (arriving : List Sent) (coming : List Back) (h : List Entry) → Running doc k before arriving coming h self.old deeds.old → IsFew (turn doc k i h)
+        ensures stands { (doc : Doc) (k : ℕ) (before : List Deed) (arriving : List Sent) (coming : List Back) (h : List Entry)
+            → Running doc k before arriving coming h self.old deeds.old → IsFew (turn doc k i h)
             → OnOk result (Running doc k before arriving coming (turn doc k i h) self.new deeds.new) }
     {
         let wakes = self.next_turn(i, Beat(self.beat.0 + 1));
@@ -517,7 +539,8 @@ impl State {
         requires ready { IsReady self.old }
         requires within { at_of self.old ≤ end_of self.old }
         ensures kept { OnOk result (Keeps self.old self.new) }
-        ensures stands { (doc : Doc) (k : ℕ) (before : List Deed) (arriving : List Sent) (coming : List Back) (h : List Entry) → Running doc k before arriving coming h self.old deeds.old → IsFew (turn doc k i h)
+        ensures stands { (doc : Doc) (k : ℕ) (before : List Deed) (arriving : List Sent) (coming : List Back) (h : List Entry)
+            → Running doc k before arriving coming h self.old deeds.old → IsFew (turn doc k i h)
             → OnOk result (Running doc k before arriving coming (turn doc k i h) self.new deeds.new) }
     {
         let process = &mut self.processes[i];
@@ -535,7 +558,8 @@ impl State {
 #[inline(never)]
 fn answer(store: &mut Store, request: Request) -> Result<Reply, NoMemory>
     ensures answer { (h : List Entry) → StoreStands h store.old → IfOk result (λ reply. reply ≡ store_answer request h) }
-    ensures ok { (h : List Entry) (e : Entry) → StoreStands h store.old → write_of e.deed ≡ request_write request (written request h) → OnOk result (StoreStands (e ∷ h) store.new) }
+    ensures ok { (h : List Entry) (e : Entry) → StoreStands h store.old → write_of e.deed ≡ request_write request (written request h)
+        → OnOk result (StoreStands (e ∷ h) store.new) }
 {
     store.answer(request)
 }
@@ -632,7 +656,8 @@ fn processes_of(
     requires few { length controllers.now ≤ 16 }
     ensures count { IfOk result (λ xs. length xs.items ≡ length controllers.now) }
     ensures clocks { IfOk result (λ xs. GoOnTo settings.now.end_beat.0 xs.items) }
-    ensures stands { (doc : Doc) → AreMadeOf doc settings.now controllers.now events.now → IfOk result (λ xs. EachStands doc [] xs.items) }
+    ensures stands { (doc : Doc) → AreMadeOf doc settings.now controllers.now events.now
+        → IfOk result (λ xs. EachStands doc [] xs.items) }
 {
     let mut processes = Vec::new(alloc);
     for process in controllers.as_slice() {

@@ -53,7 +53,8 @@ impl World {
     /// The objects that are stored, each with its key, in the order of keys. Each is a copy.
     pub fn objects(&self) -> Result<Items, NoMemory>
         ensures ascend { IfOk result (λ items. IsStrictlySortedBy key_cmp (keys_of items)) }
-        ensures stored { (doc : Doc) (k : ℕ) (h : List Entry) (key : Key) → WorldStands doc k h self.now → IfOk result (λ items. lookup (key_eq key) items ≡ object_of (stored key h)) }
+        ensures stored { (doc : Doc) (k : ℕ) (h : List Entry) (key : Key) → WorldStands doc k h self.now
+            → IfOk result (λ items. lookup (key_eq key) items ≡ object_of (stored key h)) }
     {
         self.state.objects()
     }
@@ -76,7 +77,8 @@ impl World {
     pub fn beat(mut self) -> Result<(World, Deeds), NoMemory>
         requires ready { IsReady self }
         requires within { at_of self ≤ end_of self }
-        ensures kept { IfOk result (λ r. IsReady r.0 × (at_of r.0 ≡ at_of self + 1) × (end_of r.0 ≡ end_of self) × (names_of r.0 ≡ names_of self)) }
+        ensures kept { IfOk result (λ r. IsReady r.0 × (at_of r.0 ≡ at_of self + 1) × (end_of r.0 ≡ end_of self)
+            × (names_of r.0 ≡ names_of self)) }
         ensures stands { (doc : Doc) (k : ℕ) (h : List Entry) → IsFew (beat doc h k) → WorldStands doc k h self
             → IfOk result (λ r. WorldStands doc (k + 1) (beat doc h k) r.0 × (printed h ++ r.1 ≡ printed (beat doc h k))) }
     {
@@ -89,7 +91,8 @@ impl World {
     pub fn skip_quiet(&mut self)
         requires ready { IsReady self.old }
         requires within { at_of self.old ≤ end_of self.old + 1 }
-        ensures kept { IsReady self.new × (at_of self.old ≤ at_of self.new) × (at_of self.new ≤ end_of self.new + 1) × (end_of self.new ≡ end_of self.old) × (names_of self.new ≡ names_of self.old) }
+        ensures kept { IsReady self.new × (at_of self.old ≤ at_of self.new) × (at_of self.new ≤ end_of self.new + 1)
+            × (end_of self.new ≡ end_of self.old) × (names_of self.new ≡ names_of self.old) }
         ensures stands { (doc : Doc) (k : ℕ) (h : List Entry) → WorldStands doc k h self.old → Skipped doc k h self.new }
     {
         self.state.skip_quiet();

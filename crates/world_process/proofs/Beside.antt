@@ -27,7 +27,8 @@ controller-others doc p k step q d h c other own s =
     let e = entry k step q d in
     let apart = of_process-other q p other in
     record {
-      sort = s.sort; me = s.me;
+      sort = s.sort;
+      me = s.me;
       incarnation = s.incarnation ∙ sym (starts-others p e h apart);
       timing = s.timing;
       clock = s.clock;

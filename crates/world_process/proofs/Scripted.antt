@@ -144,7 +144,8 @@ pub down-event : (doc : Doc) (p k step : ℕ) (event : What) (version : Option V
     ControllerStands doc p (script_entry k step (Event event version) ∷ h) (record c { role = role.Down None })
 down-event doc p k step event version h c own down s =
     record {
-      sort = s.sort; me = s.me;
+      sort = s.sort;
+      me = s.me;
       incarnation = s.incarnation;
       timing = s.timing;
       clock = s.clock;

@@ -40,7 +40,8 @@ pub stands-started : (doc : Doc) (k step p i : ℕ) (h : List Entry) (c : Contro
     ControllerStands doc p (start k step p h) (record c { incarnation = i; role = role.Candidate x })
 stands-started doc k step p i h c x s is stands =
     record {
-      sort = s.sort; me = s.me;
+      sort = s.sort;
+      me = s.me;
       incarnation = is ∙ sym (starts-start k step (identity p (starts p h + 1)) h);
       timing = s.timing;
       clock = s.clock;

@@ -75,7 +75,8 @@ ended_deeds k q b = deeds_of k (actor_of q) (when b act.End)
 
 -- a controller has done its turn, but for its tick
 pub record Turned (doc : Doc) (k p : ℕ) (h : List Entry) (i : ℕ) (Stands : List Entry → Type 0) (t : Turn) : Type 0 where
-  pub told : printed (before_asking doc k p h) ≡ printed h ++ started_deeds k (identity p i) t.started ++ ended_deeds k (identity p i) t.ended
+  pub told : printed (before_asking doc k p h)
+      ≡ printed h ++ started_deeds k (identity p i) t.started ++ ended_deeds k (identity p i) t.ended
   pub asks : AsksOn k 4 (identity p i) (before_asking doc k p h) (elector_turn doc k p h) Stands t.ask
 
 -- ---- a reply
@@ -91,7 +92,8 @@ pub record StaysOn (doc : Doc) (k : ℕ) (b : Back) (h : List Entry) (Stands : L
   pub stands : Stands (delivered doc k b h)
 
 -- or it asks after the reply
-pub record AsksAfter (doc : Doc) (k : ℕ) (q : Identity) (b : Back) (h : List Entry) (Stands : List Entry → Type 0) (ask : Ask) : Type 0 where
+pub record AsksAfter (doc : Doc) (k : ℕ) (q : Identity) (b : Back) (h : List Entry) (Stands : List Entry → Type 0)
+    (ask : Ask) : Type 0 where
   pub call : Call
   pub who : b.who ≡ q
   pub asked : Asked k 3 q (entry k 3 q (Delivers call b.reply true) ∷ h) (delivered doc k b h) Stands ask
@@ -101,6 +103,7 @@ AsksOnReply doc k q b h Stands None = StaysOn doc k b h Stands
 AsksOnReply doc k q b h Stands (Some ask) = AsksAfter doc k q b h Stands ask
 
 -- q is the identity of the process after it
-pub record Replied (doc : Doc) (k : ℕ) (q : Identity) (b : Back) (h : List Entry) (Stands : List Entry → Type 0) (r : Received) : Type 0 where
+pub record Replied (doc : Doc) (k : ℕ) (q : Identity) (b : Back) (h : List Entry) (Stands : List Entry → Type 0)
+    (r : Received) : Type 0 where
   pub told : printed (delivered doc k b h) ≡ printed h ++ lead_deeds k q r.lead
   pub asks : AsksOnReply doc k q b h Stands r.ask

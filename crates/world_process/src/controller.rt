@@ -20,9 +20,7 @@ ghost use Rattle.world_process.specs.Controllers.{ControllerStands, SameControll
 ghost use Rattle.world_process.specs.Plain.{IsPlain, IsFew};
 
 use crate::clocks::{clock_for, first_beat, picoseconds};
-use crate::moves::{
-    Received, Stopped, Turn, asks, final_turn, leads, stays, stop_with, turn_with,
-};
+use crate::moves::{Received, Stopped, Turn, asks, final_turn, leads, stays, stop_with, turn_with};
 use kube_base::{Beat, Local, NoMemory, ProcId, Wall};
 use kube_objects::{Event, Proc, Reply, Settings};
 use leader_elector::{Candidate, Heard, Leading, LeadingNext, Timing};
@@ -92,7 +90,8 @@ impl Controller {
     pub fn start(&mut self, beat: Beat)
         requires { beat.0 ≤ self.old.clock.end }
         ensures same { SameController self.old self.new }
-        ensures stands { (doc : Doc) (n k step p : ℕ) (h : List Entry) → ControllerStands doc p h self.old → beat.0 ≡ k → IsPlain n h → starts p h + 1 < 2 ^ 32
+        ensures stands { (doc : Doc) (n k step p : ℕ) (h : List Entry) → ControllerStands doc p h self.old → beat.0 ≡ k → IsPlain n h
+            → starts p h + 1 < 2 ^ 32
             → ControllerStands doc p (start k step p h) self.new }
     {
         let incarnation = self.incarnation.saturating_add(1);
@@ -105,7 +104,8 @@ impl Controller {
     pub fn crash(&mut self) -> bool
         ensures same { SameController self.old self.new }
         ensures incarnation { self.new.incarnation ≡ self.old.incarnation }
-        ensures stands { (doc : Doc) (k : ℕ) (id : ProcId) (h : List Entry) → ControllerStands doc id.0 h self.old → Crashed doc k id h self.new result }
+        ensures stands { (doc : Doc) (k : ℕ) (id : ProcId) (h : List Entry) → ControllerStands doc id.0 h self.old
+            → Crashed doc k id h self.new result }
     {
         let up = self.is_up();
         self.role = Role::Down(None);
@@ -116,7 +116,8 @@ impl Controller {
     pub fn begin(&mut self, beat: Beat) -> bool
         requires { beat.0 ≤ self.old.clock.end }
         ensures same { SameController self.old self.new }
-        ensures stands { (doc : Doc) (n k : ℕ) (id : ProcId) (h : List Entry) → ControllerStands doc id.0 h self.old → beat.0 ≡ k → IsPlain n h → IsFew (happens doc k (what.Start id) h)
+        ensures stands { (doc : Doc) (n k : ℕ) (id : ProcId) (h : List Entry) → ControllerStands doc id.0 h self.old → beat.0 ≡ k
+            → IsPlain n h → IsFew (happens doc k (what.Start id) h)
             → Begun doc k id h self.new result }
     {
         if self.is_up() {
@@ -127,12 +128,14 @@ impl Controller {
         true
     }
 
-    /// Goes down in order where it is up, without a restart: a leader whose last shown holder is itself asks its release. A restart that waits is cancelled.
+    /// Goes down in order where it is up, without a restart: a leader whose last shown holder is itself asks its release. A
+    /// restart that waits is cancelled.
     pub fn stop(&mut self, beat: Beat) -> Stopped
         requires { beat.0 ≤ self.old.clock.end }
         ensures same { SameController self.old self.new }
         ensures incarnation { self.new.incarnation ≡ self.old.incarnation }
-        ensures stands { (doc : Doc) (k : ℕ) (id : ProcId) (h : List Entry) → ControllerStands doc id.0 h self.old → beat.0 ≡ k → IsFew h → StoppedAs doc k id h self.new result }
+        ensures stands { (doc : Doc) (k : ℕ) (id : ProcId) (h : List Entry) → ControllerStands doc id.0 h self.old → beat.0 ≡ k
+            → IsFew h → StoppedAs doc k id h self.new result }
     {
         match mem::replace(&mut self.role, Role::Down(None)) {
             Role::Down(_) => stop_with(false, None),
@@ -159,7 +162,8 @@ impl Controller {
         requires within { beat.0 ≤ self.old.clock.end }
         requires delay { delay ≤ 86400000000000000 }
         ensures same { SameController self.old self.new }
-        ensures stands { (doc : Doc) (n k p : ℕ) (h : List Entry) → ControllerStands doc p h self.old → beat.0 ≡ k → delay ≡ restart_delay doc → IsPlain n h → IsFew (restart doc k p h)
+        ensures stands { (doc : Doc) (n k p : ℕ) (h : List Entry) → ControllerStands doc p h self.old → beat.0 ≡ k
+            → delay ≡ restart_delay doc → IsPlain n h → IsFew (restart doc k p h)
             → Turned doc k p h self.new result }
     {
         let started = self.restart(beat);
@@ -171,7 +175,8 @@ impl Controller {
 
     // Whether it is known that its turn does nothing from this beat to before `until`.
     fn is_asleep(&self, beat: Beat) -> bool
-        ensures { (doc : Doc) (k p : ℕ) (h : List Entry) → ControllerStands doc p h self.now → result ≡ true → k ≤ self.now.clock.end → k < self.now.until.0 → IsStill doc k p h }
+        ensures { (doc : Doc) (k p : ℕ) (h : List Entry) → ControllerStands doc p h self.now → result ≡ true → k ≤ self.now.clock.end
+            → k < self.now.until.0 → IsStill doc k p h }
     {
         beat.0 < self.until.0 && self.sleeps(self.below)
     }
@@ -180,7 +185,8 @@ impl Controller {
     pub fn wakes_from(&mut self, beat: Beat) -> Beat
         ensures same { SameController self.old self.new }
         ensures stands { (doc : Doc) (p : ℕ) (h : List Entry) → ControllerStands doc p h self.old → ControllerStands doc p h self.new }
-        ensures still { (doc : Doc) (k p : ℕ) (h : List Entry) → ControllerStands doc p h self.old → k ≤ self.old.clock.end → k < result.0 → IsStill doc k p h }
+        ensures still { (doc : Doc) (k p : ℕ) (h : List Entry) → ControllerStands doc p h self.old → k ≤ self.old.clock.end
+            → k < result.0 → IsStill doc k p h }
     {
         if !self.is_asleep(beat) {
             self.doze();
@@ -192,7 +198,8 @@ impl Controller {
     fn restart(&mut self, beat: Beat) -> bool
         requires { beat.0 ≤ self.old.clock.end }
         ensures same { SameController self.old self.new }
-        ensures stands { (doc : Doc) (n k p : ℕ) (h : List Entry) → ControllerStands doc p h self.old → beat.0 ≡ k → IsPlain n h → IsFew (restart doc k p h)
+        ensures stands { (doc : Doc) (n k p : ℕ) (h : List Entry) → ControllerStands doc p h self.old → beat.0 ≡ k → IsPlain n h
+            → IsFew (restart doc k p h)
             → Restarted doc k p h self.new result }
     {
         let Some(at) = restart_of(&self.role) else {
@@ -207,7 +214,8 @@ impl Controller {
 
     // Whether its turn does nothing at each reading below this one.
     fn sleeps(&self, below: Local) -> bool
-        ensures { (doc : Doc) (k p : ℕ) (h : List Entry) → ControllerStands doc p h self.now → local doc p k < below.0 → result ≡ true → IsStill doc k p h }
+        ensures { (doc : Doc) (k p : ℕ) (h : List Entry) → ControllerStands doc p h self.now → local doc p k < below.0 → result ≡ true
+            → IsStill doc k p h }
     {
         match &self.role {
             Role::Down(None) => true,
@@ -224,7 +232,8 @@ impl Controller {
         ensures same { SameController self.old self.new }
         ensures incarnation { self.new.incarnation ≡ self.old.incarnation }
         ensures stands { (doc : Doc) (p : ℕ) (h : List Entry) → ControllerStands doc p h self.old → ControllerStands doc p h self.new }
-        ensures still { (doc : Doc) (k p : ℕ) (h : List Entry) → ControllerStands doc p h self.old → k ≤ self.old.clock.end → k < self.new.until.0 → IsStill doc k p h }
+        ensures still { (doc : Doc) (k p : ℕ) (h : List Entry) → ControllerStands doc p h self.old → k ≤ self.old.clock.end
+            → k < self.new.until.0 → IsStill doc k p h }
     {
         let wake = self.wake();
         self.until = first_beat(&self.clock, wake);
@@ -233,7 +242,8 @@ impl Controller {
 
     // The least reading at which its turn may do something.
     fn wake(&self) -> Local
-        ensures { (doc : Doc) (k p : ℕ) (h : List Entry) → ControllerStands doc p h self.now → local doc p k < result.0 → IsStill doc k p h }
+        ensures { (doc : Doc) (k p : ℕ) (h : List Entry) → ControllerStands doc p h self.now → local doc p k < result.0
+            → IsStill doc k p h }
     {
         match &self.role {
             Role::Down(None) => Local(u64::MAX),
@@ -249,7 +259,8 @@ impl Controller {
         requires delay { delay ≤ 86400000000000000 }
         ensures same { SameController self.old self.new }
         ensures incarnation { self.new.incarnation ≡ self.old.incarnation }
-        ensures stands { (doc : Doc) (k p : ℕ) (h : List Entry) → ControllerStands doc p h self.old → now.0 ≡ local doc p k → delay ≡ restart_delay doc → IsFew h
+        ensures stands { (doc : Doc) (k p : ℕ) (h : List Entry) → ControllerStands doc p h self.old → now.0 ≡ local doc p k
+            → delay ≡ restart_delay doc → IsFew h
             → Timed doc k p h self.new result.ended result.ask }
     {
         let wall = self.clock.wall_at(now);
@@ -266,7 +277,8 @@ impl Controller {
         requires delay { delay ≤ 86400000000000000 }
         ensures same { SameController self.old self.new }
         ensures incarnation { self.new.incarnation ≡ self.old.incarnation }
-        ensures stands { (doc : Doc) (k p : ℕ) (h : List Entry) (l : Leading) → ControllerStands doc p h self.old → self.old.role ≡ role.Leading l → now.0 ≡ local doc p k → wall.0 ≡ wall_in doc p k → delay ≡ restart_delay doc → IsFew h
+        ensures stands { (doc : Doc) (k p : ℕ) (h : List Entry) (l : Leading) → ControllerStands doc p h self.old
+            → self.old.role ≡ role.Leading l → now.0 ≡ local doc p k → wall.0 ≡ wall_in doc p k → delay ≡ restart_delay doc → IsFew h
             → Timed doc k p h self.new result.ended result.ask }
     {
         let Role::Leading(leading) = mem::replace(&mut self.role, Role::Down(None)) else {
@@ -293,7 +305,8 @@ impl Controller {
         requires { beat.0 ≤ self.old.clock.end }
         ensures same { SameController self.old self.new }
         ensures incarnation { self.new.incarnation ≡ self.old.incarnation }
-        ensures stands { (doc : Doc) (k p : ℕ) (b : Back) (h : List Entry) → ControllerStands doc p h self.old → beat.0 ≡ k → b.who ≡ identity p incarnation → b.call.number ≡ number → b.reply ≡ reply.now
+        ensures stands { (doc : Doc) (k p : ℕ) (b : Back) (h : List Entry) → ControllerStands doc p h self.old → beat.0 ≡ k
+            → b.who ≡ identity p incarnation → b.call.number ≡ number → b.reply ≡ reply.now
             → IsFew h → Replied doc k p b h self.new result }
     {
         if incarnation != self.incarnation {
@@ -319,7 +332,8 @@ impl Controller {
     fn lead(&mut self, now: Local)
         requires { now.0 ≤ 2 * 10 ^ 18 }
         ensures same { self.new ≡ record self.old { role = self.new.role } }
-        ensures leads { (doc : Doc) (q : Identity) (h : List Entry) (k : ℕ) (version : Version) (c : Candidate) → self.old.role ≡ role.Candidate c → IsChosen doc q h c → now.0 ≡ local doc q.process k
+        ensures leads { (doc : Doc) (q : Identity) (h : List Entry) (k : ℕ) (version : Version) (c : Candidate)
+            → self.old.role ≡ role.Candidate c → IsChosen doc q h c → now.0 ≡ local doc q.process k
             → IsLed doc q (entry k 3 q (Leads version) ∷ h) self.new.role }
     {
         let Role::Candidate(candidate) = mem::replace(&mut self.role, Role::Down(None)) else {
@@ -333,7 +347,8 @@ impl Controller {
         requires { now.0 ≤ 2 * 10 ^ 18 }
         ensures same { SameController self.old self.new }
         ensures incarnation { self.new.incarnation ≡ self.old.incarnation }
-        ensures stands { (doc : Doc) (k p : ℕ) (b : Back) (h : List Entry) (l : Leading) → ControllerStands doc p h self.old → self.old.role ≡ role.Leading l → now.0 ≡ local doc p k → wall.0 ≡ wall_in doc p k → b.who ≡ identity p self.old.incarnation
+        ensures stands { (doc : Doc) (k p : ℕ) (b : Back) (h : List Entry) (l : Leading) → ControllerStands doc p h self.old
+            → self.old.role ≡ role.Leading l → now.0 ≡ local doc p k → wall.0 ≡ wall_in doc p k → b.who ≡ identity p self.old.incarnation
             → b.call.number ≡ number → b.reply ≡ reply → IsFew h → Replied doc k p b h self.new result }
     {
         let Role::Leading(leading) = mem::replace(&mut self.role, Role::Down(None)) else {

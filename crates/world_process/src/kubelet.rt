@@ -66,7 +66,8 @@ impl Kubelet {
     /// Goes down where it is up. Tells whether it was up.
     pub fn crash(&mut self) -> bool
         ensures same { SameKubelet self.old self.new }
-        ensures stands { (doc : Doc) (k : ℕ) (id : ProcId) (h : List Entry) → KubeletStands doc id.0 h self.old → Crashed doc k id h self.new result }
+        ensures stands { (doc : Doc) (k : ℕ) (id : ProcId) (h : List Entry) → KubeletStands doc id.0 h self.old
+            → Crashed doc k id h self.new result }
     {
         let up = self.up;
         self.up = false;
@@ -76,7 +77,8 @@ impl Kubelet {
     /// Starts where it is down. Tells whether it was down.
     pub fn begin(&mut self) -> bool
         ensures same { SameKubelet self.old self.new }
-        ensures stands { (doc : Doc) (k : ℕ) (id : ProcId) (h : List Entry) → KubeletStands doc id.0 h self.old → IsFew (happens doc k (what.Start id) h)
+        ensures stands { (doc : Doc) (k : ℕ) (id : ProcId) (h : List Entry) → KubeletStands doc id.0 h self.old
+            → IsFew (happens doc k (what.Start id) h)
             → Begun doc k id h self.new result }
     {
         if self.up {

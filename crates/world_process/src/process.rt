@@ -67,7 +67,8 @@ impl Process {
     pub fn start(&mut self, beat: Beat)
         requires { beat.0 ≤ (clock_of self.old).end }
         ensures same { SameProcess self.old self.new }
-        ensures stands { (doc : Doc) (n k step p : ℕ) (h : List Entry) → ProcessStands doc p h self.old → beat.0 ≡ k → IsPlain n h → starts p h + 1 < 2 ^ 32
+        ensures stands { (doc : Doc) (n k step p : ℕ) (h : List Entry) → ProcessStands doc p h self.old → beat.0 ≡ k → IsPlain n h
+            → starts p h + 1 < 2 ^ 32
             → ProcessStands doc p (start k step p h) self.new }
     {
         match self {
@@ -79,7 +80,8 @@ impl Process {
     /// Goes down where it is up. Tells whether it was up.
     pub fn crash(&mut self) -> bool
         ensures same { SameProcess self.old self.new }
-        ensures stands { (doc : Doc) (k : ℕ) (id : ProcId) (h : List Entry) → ProcessStands doc id.0 h self.old → Crashed doc k id h self.new result }
+        ensures stands { (doc : Doc) (k : ℕ) (id : ProcId) (h : List Entry) → ProcessStands doc id.0 h self.old
+            → Crashed doc k id h self.new result }
     {
         match self {
             Process::Controller(controller) => controller.crash(),
@@ -91,7 +93,8 @@ impl Process {
     pub fn begin(&mut self, beat: Beat) -> bool
         requires { beat.0 ≤ (clock_of self.old).end }
         ensures same { SameProcess self.old self.new }
-        ensures stands { (doc : Doc) (n k : ℕ) (id : ProcId) (h : List Entry) → ProcessStands doc id.0 h self.old → beat.0 ≡ k → IsPlain n h
+        ensures stands { (doc : Doc) (n k : ℕ) (id : ProcId) (h : List Entry) → ProcessStands doc id.0 h self.old → beat.0 ≡ k
+            → IsPlain n h
             → IsFew (happens doc k (what.Start id) h) → Begun doc k id h self.new result }
     {
         match self {
@@ -104,7 +107,8 @@ impl Process {
     pub fn stop(&mut self, beat: Beat) -> Stopped
         requires { beat.0 ≤ (clock_of self.old).end }
         ensures same { SameProcess self.old self.new }
-        ensures stands { (doc : Doc) (k : ℕ) (id : ProcId) (h : List Entry) → ProcessStands doc id.0 h self.old → is_controller doc id.0 ≡ true
+        ensures stands { (doc : Doc) (k : ℕ) (id : ProcId) (h : List Entry) → ProcessStands doc id.0 h self.old
+            → is_controller doc id.0 ≡ true
             → beat.0 ≡ k → IsFew h → StoppedAs doc k id h self.new result }
     {
         match self {
@@ -147,7 +151,8 @@ impl Process {
         requires { beat.0 ≤ (clock_of self.old).end }
         ensures same { SameProcess self.old self.new }
         ensures stands { (doc : Doc) (k p : ℕ) (b : Back) (h : List Entry) → ProcessStands doc p h self.old → is_controller doc p ≡ true
-            → beat.0 ≡ k → b.who ≡ identity p incarnation → b.call.number ≡ number → b.reply ≡ reply.now → IsFew h → Replied doc k p b h self.new result }
+            → beat.0 ≡ k → b.who ≡ identity p incarnation → b.call.number ≡ number → b.reply ≡ reply.now → IsFew h
+            → Replied doc k p b h self.new result }
     {
         match self {
             Process::Controller(controller) => controller.receive(incarnation, number, reply, beat),

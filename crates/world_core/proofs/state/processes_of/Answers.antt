@@ -22,7 +22,8 @@ loop-process-preserved c =
           let within = c.loop-process-test.true in
           let count = inv.count in
           let length_is = ap (λ ys. length ys) made.controllers in
-          let controls : is_controller doc n ≡ true = le-leb _ _ (omega (arith, within, count, length_is)) in
+          let less : n < length doc.controllers = omega (arith, within, count, length_is) in
+          let controls : is_controller doc n ≡ true = le-leb _ _ less in
           let all : doc.controllers ++ doc.kubelets ≡ c.as_slice-process-items.result.now = ap (λ ys. doc.controllers ++ ys) made.kubelets ∙ append-nil doc.controllers ∙ made.controllers in
           let process = ap (λ ps. slice_get ps n) all ∙ ap (λ i. slice_get c.as_slice-process-items.result.now i) count ∙ slice_get-get_or c.as_slice-process-items.result.now c.loop-process.process-index _ within in
           subst (EachStands doc []) (sym c.in_ok-push.ensures.items)

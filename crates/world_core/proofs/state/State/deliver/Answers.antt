@@ -18,7 +18,7 @@ returns-clause-kept c =
     on-ok c.send_asked.result _ _ (λ sent. keeps-moved i c.index_mut-process.result.now c.receive-received.new.self w _ c.requires.ready (record { was = was; now = refl; same = (record { beat = refl; end = refl; restart = refl; epoch = refl; micros = refl; events = refl; names = refl }); place = refl; store = refl }) refl c.receive-received.ensures.same) c.send_asked.ensures.sends
 
 pub returns-clause-stands : goal.returns-clause-stands
-returns-clause-stands c =
+returns-clause-stands c doc k before arriving coming h b r is known few =
     let w = c.args.self.now in
     let back = c.args.back.now in
     let i = back.who.0 in
@@ -27,7 +27,6 @@ returns-clause-stands c =
     let index : i < vec_len w.processes = omega (arith, c.if-i-len.false, c.len.ensures) in
     let was = read-at w i c0 index c.index_mut-process.ensures.value in
     let done = option_map act.Lead c.receive-received.result.lead in
-    on-ok c.send_asked.result _ _ (λ sent doc k before arriving coming h b r is known few.
     let s = r.world.processes i c0 was in
     let within = within-processes doc k w i r.world.rest.document index in
     let at : w.beat.0 ≡ k = r.world.rest.document.at in
@@ -37,5 +36,6 @@ returns-clause-stands c =
     let me = ap (λ m. m.0) c.receive-received.ensures.same.me ∙ process-me doc i h c0 s in
     let who = actor-is i c1 c.actor-actor.result c.actor-actor.ensures me in
     let told = c.in_ok-tell.ensures ∙ ap (λ a. c.args.deeds.now ++ deeds_of w.beat.0 c.actor-actor.result a) c.lead_act.ensures ∙ ap (λ n. c.args.deeds.now ++ deeds_of n c.actor-actor.result done) at ∙ ap (λ x. c.args.deeds.now ++ deeds_of k x done) who in
+    on-ok c.send_asked.result _ _ (λ sent.
     let sends = sends-as k w.beat.0 i c.incarnation-incarnation.result c.me-who.result c1 c.receive-received.result.ask w.wire c.send_asked.new.wire at c.me-who.ensures c.incarnation-incarnation.ensures me sent in
     running-replied doc k i before c.args.deeds.now c.tell.new.deeds arriving coming b h c0 c1 w _ c.receive-received.result r process within known (record { was = was; now = refl; same = (record { beat = refl; end = refl; restart = refl; epoch = refl; micros = refl; events = refl; names = refl }); place = refl; store = refl }) sends replied told) c.send_asked.ensures.sends

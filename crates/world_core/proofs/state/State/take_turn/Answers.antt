@@ -15,7 +15,7 @@ returns-clause-kept c =
     on-ok c.send_asked.result _ _ (λ sent. keeps-moved c.args.i c.index_mut-process.result.now c.turn-turn.new.self w _ c.requires.ready (record { was = was; now = refl; same = (record { beat = refl; end = refl; restart = refl; epoch = refl; micros = refl; events = refl; names = refl }); place = refl; store = refl }) refl c.turn-turn.ensures.same) c.send_asked.ensures.sends
 
 pub returns-clause-stands : goal.returns-clause-stands
-returns-clause-stands c =
+returns-clause-stands c doc k before arriving coming h r few =
     let w = c.args.self.now in
     let i = c.args.i in
     let c0 = c.index_mut-process.result.now in
@@ -23,7 +23,6 @@ returns-clause-stands c =
     let t = c.turn-turn.result in
     let named = c.actor-actor.result in
     let was = read-at w i c0 c.requires.index c.index_mut-process.ensures.value in
-    on-ok c.send_asked.result _ _ (λ sent doc k before arriving coming h r few.
     let s = r.world.processes i c0 was in
     let at : w.beat.0 ≡ k = r.world.rest.document.at in
     let turned = c.turn-turn.ensures.stands doc (processes doc) k i h s at r.world.rest.document.restart r.world.rest.plain few in
@@ -35,5 +34,6 @@ returns-clause-stands c =
     ∙ ap (λ a. c.args.deeds.now ++ deeds_of w.beat.0 named (when t.started act.Start) ++ deeds_of w.beat.0 named a) c.end_act.ensures
     ∙ ap (λ n. c.args.deeds.now ++ deeds_of n named (when t.started act.Start) ++ deeds_of n named (when t.ended act.End)) at
     ∙ ap (λ x. c.args.deeds.now ++ deeds_of k x (when t.started act.Start) ++ deeds_of k x (when t.ended act.End)) who in
+    on-ok c.send_asked.result _ _ (λ sent.
     let sends = sends-as k w.beat.0 i c.incarnation-incarnation.result c.me-who.result c1 t.ask w.wire c.send_asked.new.wire at c.me-who.ensures c.incarnation-incarnation.ensures me sent in
     running-turned doc k i before c.args.deeds.now c.tell-2.new.deeds arriving coming h c0 c1 w _ t r (within-processes doc k w i r.world.rest.document c.requires.index) (record { was = was; now = refl; same = (record { beat = refl; end = refl; restart = refl; epoch = refl; micros = refl; events = refl; names = refl }); place = refl; store = refl }) sends turned told) c.send_asked.ensures.sends
