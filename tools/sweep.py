@@ -129,11 +129,11 @@ def write_plan(given):
         if {**old, 'ask': None} != {**plan, 'ask': None}:
             raise Wrong('%s holds another sweep' % given.folder)
     os.makedirs(os.path.join(given.folder, 'runs'), exist_ok=True)
+    write_whole(path, json.dumps(plan))
     for number, values in enumerate(plan['runs']):
         run = run_path(given.folder, number, '.json')
         if not os.path.exists(run):
             write_whole(run, json.dumps(changed(plan['document'], zip(plan['paths'], values))))
-    write_whole(path, json.dumps(plan))
 
 
 def read_plan(folder):

@@ -284,7 +284,8 @@ def test_refused_words(given, folder):
     """Words that can't be are answered by one line and status 1; another sweep's folder is left as it is."""
     cases = [('all', CRASHES, 'none', '--ask', 'leaderless'), ('all', CRASHES, 'none', '--vary', 'settings=1'),
              ('all', CRASHES, 'none', '--vary', '/controllers/cp-9/up=true'), ('all', CRASHES, 'none', '--vary', '/objects/0/kind=1'),
-             ('plan', CRASHES, 'none', '--vary', '/events/0/beat=1..3', '--ask', 'luck'), ('table', 'none'), ('replay', 'none'),
+             ('plan', CRASHES, 'none', '--vary', '/events/0/beat=1..3', '--ask', 'luck'),
+             ('table', 'none'), ('replay', 'none', '--program', 'true'),
              ('plan', CRASHES, 'crashes', '--vary', '/events/0/beat=1..3', '--ask', 'failover')]
     for words in cases:
         done = subprocess.run([sys.executable, SWEEP, *words], cwd=folder, stderr=subprocess.PIPE, stdout=subprocess.PIPE, text=True)

@@ -11,7 +11,7 @@ use Rattle.evict_queue.specs.Changed.{changed, is_time, names_key, sets_time}
 use Rattle.evict_queue.specs.Held.{due_of, has_entry, room_of}
 use Rattle.evict_queue.specs.declared.dues.Dues.{Dues}
 use Rattle.evict_queue.specs.declared.timed.Timed.{Timed}
-use Rattle.evict_queue.proofs.KeyOrder.{same_key}
+use Rattle.kube_objects.proofs.KeyOrder.{same_key}
 
 time_itself : (time : ℕ) → (time == time) ≡ true
 time_itself time = grind (arith, nat_tests)

@@ -62,11 +62,13 @@ is_success (Asks request) = false
 is_success (Succeeds version) = true
 
 -- a reply counted that answers what waited; success says whether an attempt has succeeded with it
-pub record TakesReply (led : Bool) (old : Elector) (m : Moment) (w : Wait) (reply : Reply) (new : Elector) (success : Bool) (ask : Option Ask) : Type 0 where
+pub record TakesReply (led : Bool) (old : Elector) (m : Moment) (w : Wait) (reply : Reply) (new : Elector) (success : Bool)
+    (ask : Option Ask) : Type 0 where
   pub same : IsSame old new
   pub succeeds : is_success (follow_in old m w reply (kept_of old)) ≡ success
   pub asks : asked_of ask ≡ numbered (after_reply old m led w reply (kept_of old)) (asked_next (follow_in old m w reply (kept_of old)))
-  pub kept : kept_of new ≡ with_call old.timing m.now (after_reply old m led w reply (kept_of old)) (asked_next (follow_in old m w reply (kept_of old)))
+  pub kept : kept_of new ≡ with_call old.timing m.now (after_reply old m led w reply (kept_of old))
+      (asked_next (follow_in old m w reply (kept_of old)))
 
 abbrev pub CandidateTakesReply : Elector → Moment → Wait → Reply → Elector → Heard → Type 0
 CandidateTakesReply old m w reply new heard.Stays = TakesReply false old m w reply new false None
@@ -83,7 +85,8 @@ pub record BeginsTerm (old : Elector) (now : ℕ) (l : Leading) : Type 0 where
 abbrev pub CandidateFollows : Elector → Moment → Wait → Reply → CandidateNext → Type 0
 CandidateFollows old m w reply (candidate.Stay c) = TakesReply false old m w reply c.elector false None
 CandidateFollows old m w reply (candidate.Ask c ask) = TakesReply false old m w reply c.elector false (Some ask)
-CandidateFollows old m w reply (candidate.Lead l) = (heard : Elector) × TakesReply false old m w reply heard true None × BeginsTerm heard m.now l
+CandidateFollows old m w reply (candidate.Lead l) =
+    (heard : Elector) × TakesReply false old m w reply heard true None × BeginsTerm heard m.now l
 
 -- a success moves the deadline
 abbrev pub deadline_after : Leading → ℕ → Bool → ℕ

@@ -72,13 +72,15 @@ delivered k q call reply h = entry k 3 q (Delivers call reply true) ∷ h
 
 -- the history with a counted reply and what the elector does at once; h is that before the reply
 abbrev pub reacted : Doc → ℕ → Identity → Call → Reply → List Entry → List Entry
-reacted doc k q call reply h = react k q (leads q h) (follow_on doc q k call.kind call.request reply (delivered k q call reply h)) (delivered k q call reply h)
+reacted doc k q call reply h =
+    react k q (leads q h) (follow_on doc q k call.kind call.request reply (delivered k q call reply h)) (delivered k q call reply h)
 
 -- next is the history with what follows the reply; h is the history with the reply
 abbrev pub CandidateReplies : Doc → ℕ → Identity → List Entry → List Entry → CandidateNext → Type 0
 CandidateReplies doc k q h next (candidate.Stay c) = (next ≡ h) × CandidateStands doc q h c
 CandidateReplies doc k q h next (candidate.Ask c ask) = Asked k 3 q h next (λ x. CandidateStands doc q x c) ask
-CandidateReplies doc k q h next (candidate.Lead l) = (version : Version) × (next ≡ entry k 3 q (Leads version) ∷ h) × LeadingStands doc q next l
+CandidateReplies doc k q h next (candidate.Lead l) =
+    (version : Version) × (next ≡ entry k 3 q (Leads version) ∷ h) × LeadingStands doc q next l
 
 -- the same, where the candidate is to become a leader
 abbrev pub CandidateHears : Doc → ℕ → Identity → List Entry → List Entry → Candidate → Heard → Type 0
@@ -151,7 +153,9 @@ Tried doc k q h next e expired (Some ask) = Asked k 4 q h next (λ x. ElectorSta
 -- what a counted reply is followed by
 abbrev pub Received : Doc → ℕ → Identity → Call → Reply → List Entry → Elector → Option code.Follow → Type 0
 Received doc k q call reply h e None = ⊥
-Received doc k q call reply h e (Some follow) = (follow_of follow ≡ follow_on doc q k call.kind call.request reply (delivered k q call reply h)) × ElectorStands doc q (delivered k q call reply h) e
+Received doc k q call reply h e (Some follow) =
+    (follow_of follow ≡ follow_on doc q k call.kind call.request reply (delivered k q call reply h))
+    × ElectorStands doc q (delivered k q call reply h) e
 
 -- ---- entries that an elector looks at, where they are its own
 

@@ -85,8 +85,8 @@ has_lost_update t now k = is_overdue now t.timeout k.held && is_fast_wait k.wait
 abbrev pub after_expiry : Timing → ℕ → Kept → Kept
 after_expiry t now k =
     cond (is_overdue now t.timeout k.held)
-      (record k { held = None; wait = None; timer = cond (is_fast_wait k.wait) k.timer (now + t.retry) })
-      k
+    (record k { held = None; wait = None; timer = cond (is_fast_wait k.wait) k.timer (now + t.retry) })
+    k
 
 -- what begins an attempt: a leader may renew without a Get
 abbrev pub begun_in : Elector → Moment → (led : Bool) → Kept → CallKind × Request
@@ -134,7 +134,8 @@ follow_keeps_kind (Asks request) = keeps_kind request
 follow_keeps_kind (Succeeds version) = true
 
 -- a reply counted that answers what waited
-pub record Receives (old : Elector) (m : Moment) (led : Bool) (w : Wait) (reply : Reply) (new : Elector) (answered : Option code.Follow) : Type 0 where
+pub record Receives (old : Elector) (m : Moment) (led : Bool) (w : Wait) (reply : Reply) (new : Elector)
+    (answered : Option code.Follow) : Type 0 where
   pub same : IsSame old new
   pub follow : option_map follow_of answered ≡ Some (follow_in old m w reply (kept_of old))
   pub kept : kept_of new ≡ after_reply old m led w reply (kept_of old)

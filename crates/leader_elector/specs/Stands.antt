@@ -43,7 +43,9 @@ abbrev pub waiting_of : Option Waiting → Option Wait
 waiting_of = option_map (λ w. record { request = w.request; kind = kind_of w.fast; late = w.late.0 })
 
 abbrev pub waiting_in : Doc → Identity → Option Call → Option Wait
-waiting_in doc q = option_map (λ call. record { request = call.request; kind = call.kind; late = local doc q.process call.sent + call_timeout doc q.process + 1 })
+waiting_in doc q =
+    option_map (λ call.
+    record { request = call.request; kind = call.kind; late = local doc q.process call.sent + call_timeout doc q.process + 1 })
 
 abbrev pub is_fast_wait : Option Wait → Bool
 is_fast_wait None = false

@@ -8,9 +8,9 @@ ghost use Rattle.kube_objects.specs.Elector.{timer};
 ghost use Rattle.kube_objects.specs.Entry.{Call, Delivers, Entry, Identity, Leads, Starts, entry};
 ghost use Rattle.kube_objects.specs.Process.{alive, begun, call_in, counted};
 ghost use Rattle.leader_elector.specs.declared.candidate.Heard.TheVariants as heard;
-ghost use Rattle.leader_elector.specs.Moves.{CandidateHears, CandidateReplies, CandidateStays, CandidateTurns, IsLeast, after_turn, becomes_leader, candidate_turn, delivered, expired, reacted, wake_from};
+ghost use Rattle.leader_elector.specs.Moves.{CandidateHears, CandidateReplies, CandidateStays, CandidateTurns, IsLeast, after_turn};
+ghost use Rattle.leader_elector.specs.Moves.{becomes_leader, candidate_turn, delivered, expired, reacted, wake_from};
 ghost use Rattle.leader_elector.specs.Stands.{CandidateStands, IsChosen, IsNew, IsTimingOf, LeadingStands};
-
 ghost use Rattle.leader_elector.specs.Calls.{BeginsTerm, CandidateFollows, CandidateTakesReply, CandidateTakesTurn, TakesTurn, counts_in};
 ghost use Rattle.leader_elector.specs.Plain.{identity_of, kept_of, moment_of, wake_in};
 ghost use Rattle.leader_elector.specs.Stands.{Wait, waiting_of};

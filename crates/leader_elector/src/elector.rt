@@ -6,7 +6,8 @@ ghost use Rattle.kube_objects.specs.Document.{Doc};
 ghost use Rattle.kube_objects.specs.CallSlots.{held_call, is_awaited};
 ghost use Rattle.kube_objects.specs.Elector.{attempt, attempt_from, created, follow_get, follow_on, given_up, is_blocked, is_valid, leads};
 ghost use Rattle.kube_objects.specs.Elector.{newly, observed_at, one_more, renewed, shown, taken, timer, timer_follow, updated};
-ghost use Rattle.kube_objects.specs.Elector.{attempt_at, created_at, follow_at, follow_get_at, given_up_at, renewed_at, taken_at, updated_at};
+ghost use Rattle.kube_objects.specs.Elector.{attempt_at, created_at, follow_at, follow_get_at, given_up_at, renewed_at, taken_at};
+ghost use Rattle.kube_objects.specs.Elector.{updated_at};
 ghost use Rattle.kube_objects.specs.Entry.{Call, Entry, Identity, Starts, entry};
 ghost use Rattle.kube_objects.specs.Identities.{holder_of, is_other, is_own};
 ghost use Rattle.kube_objects.specs.Kinds.{keeps_kind};
@@ -15,8 +16,8 @@ ghost use Rattle.kube_objects.specs.Process.{alive, begun, call_in, counted};
 ghost use Rattle.kube_objects.specs.Turns.{is_fast_call, just_expired, try};
 ghost use Rattle.kube_objects.specs.Wire.{send};
 ghost use Rattle.leader_elector.specs.Moves.{Asked, Received, Tried, delivered, expired, last_of, wake_from};
-ghost use Rattle.leader_elector.specs.Stands.{ElectorStands, IsNew, IsSettled, IsTimingOf, follow_of, is_fast_wait, kind_of, observed_of, shown_of, waiting_of};
-
+ghost use Rattle.leader_elector.specs.Stands.{ElectorStands, IsNew, IsSettled, IsTimingOf, follow_of, is_fast_wait, kind_of, observed_of};
+ghost use Rattle.leader_elector.specs.Stands.{shown_of, waiting_of};
 ghost use Rattle.leader_elector.specs.Plain.{IsSame, after_expiry, after_reply, asked_of, attempt_in, follow_in, follow_keeps_kind};
 ghost use Rattle.leader_elector.specs.Plain.{has_lost_update, identity_of, kept_of, moment_of, numbered, turn_in, wake_in, with_call};
 ghost use Rattle.leader_elector.specs.Plain.{BeginsCall, Receives, begun_in};
@@ -102,8 +103,10 @@ impl Elector {
     ) -> Option<Ask>
         requires now { now.0 ≤ most_local }
         ensures same { IsSame self.old self.new }
-        ensures asks { asked_of result ≡ numbered (kept_of self.old) (turn_in self.old (moment_of self.old now.0 wall.0) expired led (kept_of self.old)) }
-        ensures kept { kept_of self.new ≡ with_call self.old.timing now.0 (kept_of self.old) (turn_in self.old (moment_of self.old now.0 wall.0) expired led (kept_of self.old)) }
+        ensures asks { asked_of result ≡ numbered (kept_of self.old)
+            (turn_in self.old (moment_of self.old now.0 wall.0) expired led (kept_of self.old)) }
+        ensures kept { kept_of self.new ≡ with_call self.old.timing now.0 (kept_of self.old)
+            (turn_in self.old (moment_of self.old now.0 wall.0) expired led (kept_of self.old)) }
         ensures history { (doc : Doc) (q : Identity) (h : List Entry) (k : ℕ)
             → ElectorStands doc q h self.old → leads q h ≡ led
             → expired ≡ is_fast_call (just_expired q k h)
@@ -124,7 +127,8 @@ impl Elector {
     fn begin(&mut self, led: bool, now: Local, wall: Wall) -> Ask
         requires now { now.0 ≤ most_local }
         ensures same { IsSame self.old self.new }
-        ensures asks { BeginsCall self.old now.0 (begun_in self.old (moment_of self.old now.0 wall.0) led (kept_of self.old)) self.new result }
+        ensures asks { BeginsCall self.old now.0 (begun_in self.old (moment_of self.old now.0 wall.0) led
+            (kept_of self.old)) self.new result }
         ensures history { (doc : Doc) (q : Identity) (h : List Entry) (k : ℕ)
             → ElectorStands doc q h self.old → leads q h ≡ led
             → now.0 ≡ local doc q.process k → wall.0 ≡ wall_at doc q.process k
@@ -141,12 +145,14 @@ impl Elector {
     fn renew(&mut self, now: Local, wall: Wall) -> Ask
         requires now { now.0 ≤ most_local }
         ensures same { IsSame self.old self.new }
-        ensures asks { BeginsCall self.old now.0 (attempt_at (identity_of self.old) (moment_of self.old now.0 wall.0) (kept_of self.old).observed (kept_of self.old).shown) self.new result }
+        ensures asks { BeginsCall self.old now.0 (attempt_at (identity_of self.old) (moment_of self.old now.0 wall.0)
+            (kept_of self.old).observed (kept_of self.old).shown) self.new result }
         ensures history { (doc : Doc) (q : Identity) (h : List Entry) (k : ℕ)
             → ElectorStands doc q h self.old
             → now.0 ≡ local doc q.process k → wall.0 ≡ wall_at doc q.process k
             → begun q h + 1 < 2 ^ 64
-            → Asked k 4 q h (send k 4 q (attempt_from doc q k (observed_at doc q h) (shown q h)).0 (attempt_from doc q k (observed_at doc q h) (shown q h)).1 h) (λ x. ElectorStands doc q x self.new) result }
+            → Asked k 4 q h (send k 4 q (attempt_from doc q k (observed_at doc q h) (shown q h)).0
+            (attempt_from doc q k (observed_at doc q h) (shown q h)).1 h) (λ x. ElectorStands doc q x self.new) result }
     {
         let Some(seen) = self.seen else {
             return self.ask(Request::Get(Key::ELECTION), false, now);
@@ -155,7 +161,11 @@ impl Elector {
             return self.ask(Request::Get(Key::ELECTION), false, now);
         }
         let lease = self.renewed(&seen.lease, wall);
-        self.ask(Request::Update(Key::ELECTION, seen.version, lease), true, now)
+        self.ask(
+            Request::Update(Key::ELECTION, seen.version, lease),
+            true,
+            now,
+        )
     }
 
     /// BeginsCall a call.
@@ -191,8 +201,10 @@ impl Elector {
     ) -> Option<Follow>
         requires now { now.0 ≤ most_local }
         ensures kind { IfSome result (λ follow. follow_keeps_kind (follow_of follow) ≡ true) }
-        ensures unheld { is_awaited number now.0 self.old.timing.timeout (held_call self.old.slot) ≡ false → (result ≡ None) × (self.new ≡ self.old) }
-        ensures held { (w : Wait) → is_awaited number now.0 self.old.timing.timeout (held_call self.old.slot) ≡ true → waiting_of self.old.waiting ≡ Some w
+        ensures unheld { is_awaited number now.0 self.old.timing.timeout (held_call self.old.slot) ≡ false
+            → (result ≡ None) × (self.new ≡ self.old) }
+        ensures held { (w : Wait) → is_awaited number now.0 self.old.timing.timeout (held_call self.old.slot) ≡ true
+            → waiting_of self.old.waiting ≡ Some w
             → Receives self.old (moment_of self.old now.0 wall.0) led w reply.now self.new result }
         ensures uncounted { (doc : Doc) (q : Identity) (h : List Entry) (k : ℕ)
             → ElectorStands doc q h self.old → now.0 ≡ local doc q.process k
@@ -251,7 +263,8 @@ impl Elector {
     fn set_timer(&mut self, follow: &Follow, led: bool, now: Local)
         requires now { now.0 ≤ most_local }
         ensures changed { self.new ≡ record self.old { timer = self.new.timer } }
-        ensures timer { self.new.timer.0 ≡ or_else self.old.timer.0 (timer_follow (follow_of follow.now) led (now.0 + self.old.timing.retry)) }
+        ensures timer { self.new.timer.0 ≡ or_else self.old.timer.0
+            (timer_follow (follow_of follow.now) led (now.0 + self.old.timing.retry)) }
     {
         let moves = match *follow {
             Follow::Fails => true,
@@ -265,7 +278,8 @@ impl Elector {
 
     fn follow(&self, waiting: &Waiting, reply: &Reply, now: Local, wall: Wall) -> Follow
         ensures kind { follow_keeps_kind (follow_of result) ≡ true }
-        ensures moment { follow_of result ≡ follow_at (identity_of self.now) (moment_of self.now now.0 wall.0) (observed_of self.now.seen) (kind_of waiting.now.fast) waiting.now.request reply.now }
+        ensures moment { follow_of result ≡ follow_at (identity_of self.now) (moment_of self.now now.0 wall.0)
+            (observed_of self.now.seen) (kind_of waiting.now.fast) waiting.now.request reply.now }
         ensures history { (doc : Doc) (q : Identity) (h : List Entry) (k : ℕ) → self.now.me.0 ≡ q.process
             → self.now.incarnation ≡ q.incarnation → IsTimingOf doc q.process self.now.timing
             → now.0 ≡ local doc q.process k → wall.0 ≡ wall_at doc q.process k
@@ -282,7 +296,8 @@ impl Elector {
 
     fn follow_get(&self, reply: &Reply, now: Local, wall: Wall) -> Follow
         ensures kind { follow_keeps_kind (follow_of result) ≡ true }
-        ensures moment { follow_of result ≡ follow_get_at (identity_of self.now) (moment_of self.now now.0 wall.0) (observed_of self.now.seen) reply.now }
+        ensures moment { follow_of result ≡ follow_get_at (identity_of self.now) (moment_of self.now now.0 wall.0)
+            (observed_of self.now.seen) reply.now }
         ensures history { (doc : Doc) (q : Identity) (k : ℕ) → self.now.me.0 ≡ q.process
             → self.now.incarnation ≡ q.incarnation → IsTimingOf doc q.process self.now.timing
             → now.0 ≡ local doc q.process k → wall.0 ≡ wall_at doc q.process k

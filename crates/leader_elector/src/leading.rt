@@ -1,5 +1,6 @@
 // A leader renews the election Lease until its deadline.
-ghost use Rattle.std.specs.Prelude.{◌≡◌, ◌≤◌, ◌<◌, ◌+◌, ◌^◌, ℕ, not, nat_lt, is_some, option_map, true, false, List, ◌∷◌, Some, None, IfSome};
+ghost use Rattle.std.specs.Prelude.{◌≡◌, ◌≤◌, ◌<◌, ◌+◌, ◌^◌, ℕ, not, nat_lt, is_some, option_map, true, false, List, ◌∷◌, Some, None};
+ghost use Rattle.std.specs.Prelude.{IfSome};
 ghost use Rattle.kube_base.specs.declared.numbers.Version.{Version};
 ghost use Rattle.kube_base.specs.Bounds.{most_local};
 ghost use Rattle.kube_objects.specs.Clocks.{local, wall as wall_at};
@@ -7,9 +8,9 @@ ghost use Rattle.kube_objects.specs.Document.{Doc};
 ghost use Rattle.kube_objects.specs.Elector.{acts, deadline, release, timer};
 ghost use Rattle.kube_objects.specs.Entry.{Call, Delivers, Entry, Identity, Leads, entry};
 ghost use Rattle.kube_objects.specs.Process.{alive, begun, call_in, counted};
-ghost use Rattle.leader_elector.specs.Moves.{LeadingReplies, LeadingStays, LeadingTurns, IsLeast, Releases, delivered, ends, expired, leading_turn, reacted, wake_before, wake_from};
+ghost use Rattle.leader_elector.specs.Moves.{LeadingReplies, LeadingStays, LeadingTurns, IsLeast, Releases, delivered, ends, expired};
+ghost use Rattle.leader_elector.specs.Moves.{leading_turn, reacted, wake_before, wake_from};
 ghost use Rattle.leader_elector.specs.Stands.{ElectorStands, LeadingStands, acting_identity, deadline_of, ended_identity, leading_identity};
-
 ghost use Rattle.kube_objects.specs.CallSlots.{calls_of, next_number};
 ghost use Rattle.kube_objects.specs.Elector.{release_at};
 ghost use Rattle.leader_elector.specs.Calls.{BeginsTerm, LeadingFollows, LeadingTakesTurn, counts_in, leading_wake};
@@ -158,7 +159,8 @@ impl Leading {
     pub fn release(mut self, _now: Local, wall: Wall) -> Released
         ensures identity { ended_identity result.ended ≡ leading_identity self }
         ensures releases { asked_of result.ask
-            ≡ option_map (λ r. (next_number (calls_of self.elector.slot), r)) (release_at (leading_identity self) wall.0 (shown_of self.elector.seen)) }
+            ≡ option_map (λ r. (next_number (calls_of self.elector.slot), r))
+            (release_at (leading_identity self) wall.0 (shown_of self.elector.seen)) }
         ensures ask { (doc : Doc) (q : Identity) (h : List Entry) (k : ℕ)
             → LeadingStands doc q h self → wall.0 ≡ wall_at doc q.process k → begun q h + 1 < 2 ^ 64
             → Releases q h (release doc q k h) result.ask }

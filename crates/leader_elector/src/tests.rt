@@ -1,10 +1,11 @@
 // Whole runs of the elector, call by call. A beat is 100 ms, a message takes one beat where nothing else is said.
 // Durations are client-go's of kube-controller-manager: 15 s, 10 s and 2 s; a call's timeout is 2 s.
 ghost use Rattle.std.specs.Prelude.{◌≤◌};
+ghost use Rattle.kube_base.specs.Bounds.{most_local};
 
 use super::*;
 use kube_base::{Local, ProcId, Version, Wall};
-use kube_objects::{Ask, Holder, Key, Kind, Lease, Reply, Request};
+use kube_objects::{Ask, Holder, Key, Lease, Reply, Request};
 use std::process::Abort;
 
 const TIMING: Timing = Timing {
@@ -33,13 +34,7 @@ const FAST: Timing = Timing {
     fast: true,
 };
 
-const KEY: Key = Key {
-    kind: Kind::Lease,
-    space: 7,
-    name: 8,
-};
-
-const GET: Request = Request::Get(KEY);
+const GET: Request = Request::Get(Key::ELECTION);
 
 #[derive(Clone, Copy, Debug, PartialEq, Eq)]
 enum Call {
@@ -64,7 +59,7 @@ enum State {
 }
 
 fn at(beat: u8) -> Local
-    ensures { result.0 ≤ 2000000000000000000 }
+    ensures { result.0 ≤ most_local }
 {
     Local(beat as u64 * 100_000_000_000)
 }
@@ -95,11 +90,14 @@ fn released(beat: u8, transitions: u32) -> Lease {
 }
 
 fn create(number: u64, lease: Lease) -> Does {
-    Does::Asks(number, Request::Create(KEY, lease))
+    Does::Asks(number, Request::Create(Key::ELECTION, lease))
 }
 
 fn update(number: u64, version: u64, lease: Lease) -> Does {
-    Does::Asks(number, Request::Update(KEY, Version(version), lease))
+    Does::Asks(
+        number,
+        Request::Update(Key::ELECTION, Version(version), lease),
+    )
 }
 
 fn found(number: u64, version: u64, lease: Lease) -> Call {
@@ -466,7 +464,7 @@ fn falls_back_to_the_get(rt: HostRuntime) {
 
 /// Whether a create follows the absence that is told at a reading, to the call with that number.
 fn creates(number: u64, now: Local) -> bool
-    requires { now.0 ≤ 2000000000000000000 }
+    requires { now.0 ≤ most_local }
 {
     let candidate = Candidate::start(ProcId(0), 1, TIMING, Local(0));
     let CandidateNext::Ask(candidate, _) = candidate.on_timer(Local(0), wall(0)) else {

@@ -14,7 +14,8 @@ Objects = BTreeMap Key (Version × Object)
 
 -- each object is of its key's kind
 abbrev pub AreOfKinds : Objects → Type 0
-AreOfKinds objects = (key : Key) (version : Version) (object : Object) → get key_cmp objects key ≡ Some (version, object) → IsOfKind key object
+AreOfKinds objects =
+    (key : Key) (version : Version) (object : Object) → get key_cmp objects key ≡ Some (version, object) → IsOfKind key object
 
 -- each stored key stands among the changes
 abbrev pub AreAmong : List Key → Objects → Type 0

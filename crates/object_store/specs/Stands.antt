@@ -26,7 +26,8 @@ kept_as n (Some object) = Some (record { 0 = n }, object)
 
 -- the map and the list after one write
 pub record Writes (old new : Store) (key : Key) (content : Option Object) : Type 0 where
-  pub objects : (q : Key) → get key_cmp new.objects q ≡ cond (key_eq key q) (kept_as (vec_len old.changes + 1) content) (get key_cmp old.objects q)
+  pub objects : (q : Key) → get key_cmp new.objects q
+      ≡ cond (key_eq key q) (kept_as (vec_len old.changes + 1) content) (get key_cmp old.objects q)
   pub changes : new.changes.items ≡ old.changes.items ++ key ∷ []
   pub count : vec_len new.changes ≡ vec_len old.changes + 1
 

@@ -60,6 +60,7 @@ impl Changed for Since<'_> {
             None => None,
         }
     }
+
     ghost last = { λ since. refl };
 
     ghost total = { total_since };

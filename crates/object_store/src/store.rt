@@ -1,5 +1,6 @@
 // The store: a map from keys to objects with their versions, and the key of each accepted write.
-ghost use Rattle.std.specs.Prelude.{◌≡◌, ◌+◌, ◌≤◌, ◌∷◌, [], true, length, List, Option, Some, None, IfOk, OnOk, IfErr, OnErr, option_copied, vec_len, drop};
+ghost use Rattle.std.specs.Prelude.{◌≡◌, ◌+◌, ◌≤◌, ◌∷◌, [], true, length, List, Option, Some, None, IfOk, OnOk, IfErr, OnErr};
+ghost use Rattle.std.specs.Prelude.{option_copied, vec_len, drop};
 ghost use Rattle.std.specs.BTreeMap.{get};
 ghost use Rattle.std.specs.List.Sorted.{IsStrictlySortedBy};
 ghost use Rattle.std.specs.Map.{keys_of, lookup};
@@ -37,7 +38,8 @@ pub struct Store {
 
 impl Store {
     ghost use Rattle.object_store.specs.StoreAnswers.{Told, ToldPost, UnlessPosted, answer_remove, kept_of, object_of, changed_keys};
-    ghost use Rattle.object_store.specs.Stands.{StoreStands, Writes, SameStore, shown_in, version_in, node_in_pair, changed_in, start_since, keys_since, shown_since};
+    ghost use Rattle.object_store.specs.Stands.{StoreStands, Writes, SameStore, shown_in, version_in, node_in_pair, changed_in};
+    ghost use Rattle.object_store.specs.Stands.{start_since, keys_since, shown_since};
 
     /// Holds nothing; its version is 0.
     pub fn new(alloc: Global) -> Store
@@ -64,7 +66,8 @@ impl Store {
     pub fn create(&mut self, key: Key, object: Object) -> Result<Version, StoreFault>
         requires kind { IsOfKind key object }
         ensures answer { (h : List Entry) → StoreStands h self.old → Told result (answers.answer_create (next_version h) (stored key h)) }
-        ensures ok { (h : List Entry) (e : Entry) → StoreStands h self.old → write_of e.deed ≡ Some (key, Some object) → OnOk result (StoreStands (e ∷ h) self.new) }
+        ensures ok { (h : List Entry) (e : Entry) → StoreStands h self.old → write_of e.deed ≡ Some (key, Some object)
+            → OnOk result (StoreStands (e ∷ h) self.new) }
         ensures err { (h : List Entry) → StoreStands h self.old → OnErr result (StoreStands h self.new) }
     {
         match self.version_at(&key) {
@@ -83,8 +86,10 @@ impl Store {
         object: Object,
     ) -> Result<Version, StoreFault>
         requires kind { IsOfKind key object }
-        ensures answer { (h : List Entry) → StoreStands h self.old → Told result (answers.answer_update (next_version h) version (stored key h)) }
-        ensures ok { (h : List Entry) (e : Entry) → StoreStands h self.old → write_of e.deed ≡ Some (key, Some object) → OnOk result (StoreStands (e ∷ h) self.new) }
+        ensures answer { (h : List Entry) → StoreStands h self.old
+            → Told result (answers.answer_update (next_version h) version (stored key h)) }
+        ensures ok { (h : List Entry) (e : Entry) → StoreStands h self.old → write_of e.deed ≡ Some (key, Some object)
+            → OnOk result (StoreStands (e ∷ h) self.new) }
         ensures err { (h : List Entry) → StoreStands h self.old → OnErr result (StoreStands h self.new) }
     {
         match self.version_at(&key) {
@@ -108,7 +113,8 @@ impl Store {
         at: Wall,
     ) -> Result<Posted, StoreFault>
         ensures answer { (h : List Entry) → StoreStands h self.old → ToldPost result (answer (PostStatus node status at) h) }
-        ensures ok { (h : List Entry) (e : Entry) → StoreStands h self.old → write_of e.deed ≡ request_write (PostStatus node status at) (written (PostStatus node status at) h)
+        ensures ok { (h : List Entry) (e : Entry) → StoreStands h self.old
+            → write_of e.deed ≡ request_write (PostStatus node status at) (written (PostStatus node status at) h)
             → OnOk result (StoreStands (e ∷ h) self.new) }
         ensures same { (h : List Entry) → StoreStands h self.old → UnlessPosted result (StoreStands h self.new) }
     {
@@ -138,7 +144,8 @@ impl Store {
         node_version: Version,
     ) -> Result<Version, StoreFault>
         ensures answer { (h : List Entry) → StoreStands h self.old → Told result (answer_delete pod pod_version node node_version h) }
-        ensures ok { (h : List Entry) (e : Entry) → StoreStands h self.old → write_of e.deed ≡ Some (pod, None) → OnOk result (StoreStands (e ∷ h) self.new) }
+        ensures ok { (h : List Entry) (e : Entry) → StoreStands h self.old → write_of e.deed ≡ Some (pod, None)
+            → OnOk result (StoreStands (e ∷ h) self.new) }
         ensures err { (h : List Entry) → StoreStands h self.old → OnErr result (StoreStands h self.new) }
     {
         let Some(pod_held) = self.version_at(&pod) else {
@@ -163,7 +170,8 @@ impl Store {
     pub fn put(&mut self, key: Key, object: Object, now: Wall) -> Result<Version, NoMemory>
         requires kind { IsOfKind key object }
         ensures answer { (h : List Entry) → StoreStands h self.old → IfOk result (λ version. version ≡ next_version h) }
-        ensures ok { (h : List Entry) (e : Entry) → StoreStands h self.old → write_of e.deed ≡ Some (key, Some (stamped (whole_second now.0) object)) → OnOk result (StoreStands (e ∷ h) self.new) }
+        ensures ok { (h : List Entry) (e : Entry) → StoreStands h self.old
+            → write_of e.deed ≡ Some (key, Some (stamped (whole_second now.0) object)) → OnOk result (StoreStands (e ∷ h) self.new) }
         ensures err { (h : List Entry) → StoreStands h self.old → OnErr result (StoreStands h self.new) }
     {
         let stamped = stamp::stamped(object, whole_second(now))?;
@@ -173,7 +181,8 @@ impl Store {
     /// Removes what is under a key. None exactly where the key isn't stored, and nothing changes then.
     pub fn remove(&mut self, key: Key) -> Result<Option<Version>, NoMemory>
         ensures answer { (h : List Entry) → StoreStands h self.old → IfOk result (λ version. version ≡ answer_remove key h) }
-        ensures ok { (h : List Entry) (e : Entry) → StoreStands h self.old → IfOk result (λ version. write_of e.deed ≡ when (has version) (key, None) → StoreStands (e ∷ h) self.new) }
+        ensures ok { (h : List Entry) (e : Entry) → StoreStands h self.old
+            → IfOk result (λ version. write_of e.deed ≡ when (has version) (key, None) → StoreStands (e ∷ h) self.new) }
         ensures same { (h : List Entry) → StoreStands h self.old → IfOk result (λ version. version ≡ None → StoreStands h self.new) }
         ensures err { (h : List Entry) → StoreStands h self.old → OnErr result (StoreStands h self.new) }
     {
@@ -187,7 +196,8 @@ impl Store {
     pub fn answer(&mut self, request: Request) -> Result<Reply, NoMemory>
         requires kind { keeps_kind request ≡ true }
         ensures answer { (h : List Entry) → StoreStands h self.old → IfOk result (λ reply. reply ≡ answer request h) }
-        ensures ok { (h : List Entry) (e : Entry) → StoreStands h self.old → write_of e.deed ≡ request_write request (written request h) → OnOk result (StoreStands (e ∷ h) self.new) }
+        ensures ok { (h : List Entry) (e : Entry) → StoreStands h self.old → write_of e.deed ≡ request_write request (written request h)
+            → OnOk result (StoreStands (e ∷ h) self.new) }
         ensures err { (h : List Entry) → StoreStands h self.old → OnErr result (StoreStands h self.new) }
     {
         match request {
@@ -203,7 +213,8 @@ impl Store {
     /// All objects with their keys, in the order of keys. Each is a copy.
     pub fn objects(&self) -> Result<Items, NoMemory>
         ensures ascend { IfOk result (λ items. IsStrictlySortedBy key_cmp (keys_of items)) }
-        ensures stored { (h : List Entry) (key : Key) → StoreStands h self.now → IfOk result (λ items. lookup (key_eq key) items ≡ object_of (stored key h)) }
+        ensures stored { (h : List Entry) (key : Key) → StoreStands h self.now
+            → IfOk result (λ items. lookup (key_eq key) items ≡ object_of (stored key h)) }
     {
         let mut items = Items::new(*self.changes.allocator());
         for (key, kept) in self.objects.iter() {
@@ -311,6 +322,7 @@ impl Feed for Store {
             None => None,
         }
     }
+
     ghost listed = { listed_in };
 
     ghost kinds = { kinds_in };

@@ -49,7 +49,8 @@ impl Model for Clock {
 }
 
 impl Clock {
-    /// A clock that reads 0 at beat 0 and runs at `ppm` parts per million of the true rate. Times and the length of a beat are in microseconds.
+    /// A clock that reads 0 at beat 0 and runs at `ppm` parts per million of the true rate. Times and the length of a beat are in
+    /// microseconds.
     pub fn new(
         alloc: Global,
         epoch: Wall,
@@ -62,7 +63,8 @@ impl Clock {
         requires offset { IsOffset offset_micros }
         requires span { IsSpan beat_micros end.0 }
         requires rate { IsRate ppm }
-        ensures { IfOk result (λ clock. clock ≡ record { epoch = epoch.0; offset = offset_micros; beat_micros = beat_micros; end = end.0; sets = (0, ppm) ∷ [] }) }
+        ensures { IfOk result (λ clock. clock
+            ≡ record { epoch = epoch.0; offset = offset_micros; beat_micros = beat_micros; end = end.0; sets = (0, ppm) ∷ [] }) }
     {
         let mut segments = Vec::new(alloc);
         segments.push(Segment {

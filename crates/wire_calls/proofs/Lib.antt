@@ -3,4 +3,5 @@ pub mod Frames
 pub mod Links
 pub mod Nexts
 pub mod Orders
+pub mod Passing
 pub mod Sends

@@ -7,7 +7,8 @@ use Rattle.kube_objects.specs.InFlight.{requests_due, replies_due}
 use Rattle.kube_objects.specs.Wire.{Sent, Back}
 use Rattle.wire_calls.specs.declared.wire.Wire.{Wire}
 use Rattle.wire_calls.specs.InFlight.{pending, IsLeast}
-use Rattle.wire_calls.specs.WireStands.{WireStands, IsQuiet, NextIs, earlier_of, as_arrived, as_delivered}
+use Rattle.wire_calls.specs.WireStands.{WireStands, IsQuiet, NextIs, as_arrived, as_delivered}
+use Rattle.wire_calls.specs.InFlight.{earlier_of}
 use Rattle.wire_calls.proofs.Orders.{quiet-kept, kept-quiet}
 
 pub next-is : (processes k : ℕ) (arriving : List Sent) (coming : List Back) (h : List Entry) (w : Wire) (a b : Option Beat) → WireStands processes k arriving coming h w → IsLeast (pending w.requests) a → IsLeast (pending w.replies) b → NextIs k arriving coming h (earlier_of a b)

@@ -1,5 +1,5 @@
 -- A message is lost, or is in flight until its delay is over.
-use Rattle.std.proofs.Common.{◌≡◌, ℕ, ◌+◌, ◌<◌, ◌≤◌, ◌==◌, Bool, true, false, cond, List, [], ◌∷◌, ◌++◌, Option, Some, None, refl, sym, ap, ◌∙◌, subst, arith}
+use Rattle.std.proofs.Common.{length, ◌≡◌, ℕ, ◌+◌, ◌<◌, ◌≤◌, ◌==◌, Bool, true, false, cond, List, [], ◌∷◌, ◌++◌, Option, Some, None, refl, sym, ap, ◌∙◌, subst, arith}
 use Rattle.kube_base.specs.declared.numbers.Beat.{Beat}
 use Rattle.kube_objects.specs.declared.call.Reply.{Reply}
 use Rattle.kube_objects.specs.declared.object.Object.{Object}
@@ -16,7 +16,7 @@ use Rattle.wire_calls.specs.declared.message.Sent.TheVariants.{Lost, InFlight}
 use Rattle.wire_calls.specs.declared.wire.Wire.{Wire}
 use Rattle.wire_calls.specs.InFlight.{pending, IsLive}
 use Rattle.wire_calls.specs.Messages.{sent_as_told}
-use Rattle.wire_calls.specs.WireStands.{WireStands, as_arrived, as_delivered, link_at}
+use Rattle.wire_calls.specs.WireStands.{InOrder, WireStands, as_arrived, as_delivered, link_at}
 use Rattle.wire_calls.proofs.Orders.{in_order-push}
 
 -- ---- what is told
@@ -58,28 +58,28 @@ pub wire-lost-reply : (processes k step : ℕ) (arriving : List Sent) (coming : 
 wire-lost-reply processes k step arriving coming h q call reply written w s =
     record { count = s.count; links = s.links; requests = s.requests; replies = s.replies; live_requests = s.live_requests; live_replies = s.live_replies; delays = s.delays }
 
-pub wire-request : (processes k step j : ℕ) (arriving : List Sent) (coming : List Back) (h : List Entry) (q : Identity) (call : Call) (w : Wire) (f : Flight Arrived) (message : Arrived) → WireStands processes k arriving coming h w → k < j → message ≡ as_arrived (record { who = q; call = call; arrives = Some j }) → ((i : ℕ) → pending f i ≡ cond (j == i) (pending w.requests i ++ message ∷ []) (pending w.requests i)) → IsLive f → WireStands processes k arriving coming (entry k step q (Sends call (Some j)) ∷ h) (record { links = w.links; requests = f; replies = w.replies })
-wire-request processes k step j arriving coming h q call w f message s after is pushed live =
-    record {
-      count = s.count;
-      links = s.links;
-      requests = in_order-push as_arrived k j arriving (λ i. requests_due i h) (pending w.requests) (pending f) (record { who = q; call = call; arrives = Some j }) after s.requests
+pub wire-request : (processes k step j : ℕ) (arriving : List Sent) (coming : List Back) (h : List Entry) (q : Identity) (call : Call) (w v : Wire) (message : Arrived) (travels : Option ℕ) → travels ≡ Some j → WireStands processes k arriving coming h w → v.links.items ≡ w.links.items → v.replies ≡ w.replies → k < j → message ≡ as_arrived (record { who = q; call = call; arrives = Some j }) → ((i : ℕ) → pending v.requests i ≡ cond (j == i) (pending w.requests i ++ message ∷ []) (pending w.requests i)) → IsLive v.requests → WireStands processes k arriving coming (entry k step q (Sends call travels) ∷ h) v
+wire-request processes k step j arriving coming h q call w v message travels sent s links replies after is pushed live =
+    subst (λ o. WireStands processes k arriving coming (entry k step q (Sends call o) ∷ h) v) (sym sent) (record {
+      count = ap length links ∙ s.count;
+      links = λ p. ap (λ l. link_at l p) links ∙ s.links p;
+      requests = in_order-push as_arrived k j arriving (λ i. requests_due i h) (pending w.requests) (pending v.requests) (record { who = q; call = call; arrives = Some j }) after s.requests
           (λ i. pushed i ∙ ap (λ m. cond (j == i) (pending w.requests i ++ m ∷ []) (pending w.requests i)) is);
-      replies = s.replies;
+      replies = subst (λ (f : Flight Delivered). InOrder as_delivered k coming (λ j. replies_due j h) (pending f)) (sym replies) s.replies;
       live_requests = live;
-      live_replies = s.live_replies;
+      live_replies = subst IsLive (sym replies) s.live_replies;
       delays = s.delays;
-    }
+    })
 
-pub wire-reply : (processes k step j : ℕ) (arriving : List Sent) (coming : List Back) (h : List Entry) (q : Identity) (call : Call) (reply : Reply) (written : Option Object) (w : Wire) (f : Flight Delivered) (message : Delivered) → WireStands processes k arriving coming h w → k < j → message ≡ as_delivered (record { who = q; call = call; reply = reply; comes = Some j }) → ((i : ℕ) → pending f i ≡ cond (j == i) (pending w.replies i ++ message ∷ []) (pending w.replies i)) → IsLive f → WireStands processes k arriving coming (entry k step q (Answers call reply (Some j) written) ∷ h) (record { links = w.links; requests = w.requests; replies = f })
-wire-reply processes k step j arriving coming h q call reply written w f message s after is pushed live =
-    record {
-      count = s.count;
-      links = s.links;
-      requests = s.requests;
-      replies = in_order-push as_delivered k j coming (λ i. replies_due i h) (pending w.replies) (pending f) (record { who = q; call = call; reply = reply; comes = Some j }) after s.replies
+pub wire-reply : (processes k step j : ℕ) (arriving : List Sent) (coming : List Back) (h : List Entry) (q : Identity) (call : Call) (reply : Reply) (written : Option Object) (w v : Wire) (message : Delivered) (travels : Option ℕ) → travels ≡ Some j → WireStands processes k arriving coming h w → v.links.items ≡ w.links.items → v.requests ≡ w.requests → k < j → message ≡ as_delivered (record { who = q; call = call; reply = reply; comes = Some j }) → ((i : ℕ) → pending v.replies i ≡ cond (j == i) (pending w.replies i ++ message ∷ []) (pending w.replies i)) → IsLive v.replies → WireStands processes k arriving coming (entry k step q (Answers call reply travels written) ∷ h) v
+wire-reply processes k step j arriving coming h q call reply written w v message travels sent s links requests after is pushed live =
+    subst (λ o. WireStands processes k arriving coming (entry k step q (Answers call reply o written) ∷ h) v) (sym sent) (record {
+      count = ap length links ∙ s.count;
+      links = λ p. ap (λ l. link_at l p) links ∙ s.links p;
+      requests = subst (λ (f : Flight Arrived). InOrder as_arrived k arriving (λ j. requests_due j h) (pending f)) (sym requests) s.requests;
+      replies = in_order-push as_delivered k j coming (λ i. replies_due i h) (pending w.replies) (pending v.replies) (record { who = q; call = call; reply = reply; comes = Some j }) after s.replies
           (λ i. pushed i ∙ ap (λ m. cond (j == i) (pending w.replies i ++ m ∷ []) (pending w.replies i)) is);
-      live_requests = s.live_requests;
+      live_requests = subst IsLive (sym requests) s.live_requests;
       live_replies = live;
       delays = s.delays;
-    }
+    })

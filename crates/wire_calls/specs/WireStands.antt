@@ -14,7 +14,8 @@ use Rattle.wire_calls.specs.declared.wire.Wire.{Wire}
 -- ---- messages as the code keeps them
 
 abbrev pub as_arrived : Sent → Arrived
-as_arrived s = record { who = record { 0 = s.who.process }; incarnation = s.who.incarnation; number = s.call.number; request = s.call.request }
+as_arrived s =
+    record { who = record { 0 = s.who.process }; incarnation = s.who.incarnation; number = s.call.number; request = s.call.request }
 
 abbrev pub as_delivered : Back → Delivered
 as_delivered b = record { who = record { 0 = b.who.process }; incarnation = b.who.incarnation; number = b.call.number; reply = b.reply }
@@ -42,7 +43,13 @@ link_at links p = or_first (slice_get links p)
 
 -- the delays and losses in force
 abbrev pub link_in : ℕ → List Entry → Link
-link_in p h = record { request_delay = request_delay p h; reply_delay = reply_delay p h; loses_requests = loses_requests p h; loses_replies = loses_replies p h }
+link_in p h =
+    record {
+      request_delay = request_delay p h;
+      reply_delay = reply_delay p h;
+      loses_requests = loses_requests p h;
+      loses_replies = loses_replies p h;
+    }
 
 -- ---- the relation
 
@@ -80,12 +87,6 @@ IsQuiet k arriving coming h j = (at_beat k arriving (λ i. requests_due i h) j �
 abbrev pub NextIs : ℕ → List Sent → List Back → List Entry → Option Beat → Type 0
 NextIs k arriving coming h None = (j : ℕ) → IsQuiet k arriving coming h j
 NextIs k arriving coming h (Some beat) = (IsQuiet k arriving coming h beat.0 → ⊥) × ((j : ℕ) → j < beat.0 → IsQuiet k arriving coming h j)
-
--- the earlier of two beats, where there is one
-abbrev pub earlier_of : Option Beat → Option Beat → Option Beat
-earlier_of None b = b
-earlier_of (Some a) None = Some a
-earlier_of (Some a) (Some b) = cond (nat_lt b.0 a.0) (Some b) (Some a)
 
 -- ---- what the wire doesn't look at
 

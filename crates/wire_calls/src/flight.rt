@@ -1,6 +1,6 @@
 // Messages in flight one way, by the beats at which they arrive.
-ghost use Rattle.std.specs.Prelude.{◌≡◌, ◌==◌, ◌<◌, ◌∷◌, ◌++◌, [], ℕ, length, cond, OnOk, OnErr, IsSome};
-ghost use Rattle.wire_calls.specs.InFlight.{pending, IsLive, IsLeast, first_of, has_any, rest_of};
+ghost use Rattle.std.specs.Prelude.{◌≡◌, ◌==◌, ◌<◌, ◌∷◌, ◌++◌, [], ℕ, length, cond, OnOk, OnErr, IsSome, IfSome, Bool, true};
+ghost use Rattle.wire_calls.specs.InFlight.{AllPass, pending, IsLive, IsLeast, first_of, has_any, rest_of};
 
 use crate::queues::{Queues, take_first};
 use kube_base::{Beat, NoMemory};
@@ -31,7 +31,9 @@ impl<T: Copy + Drop> Flight<T> {
 
     /// Adds a message behind the others of its beat.
     pub(crate) fn push(&mut self, beat: Beat, message: T) -> Result<(), NoMemory>
-        ensures ok { IsLive self.old → OnOk result ((j : ℕ) → pending self.new j ≡ cond (beat.0 == j) (pending self.old j ++ message ∷ []) (pending self.old j)) }
+        ensures each { (test : T → Bool) → AllPass test (pending self.old) → test message ≡ true → AllPass test (pending self.new) }
+        ensures ok { IsLive self.old → OnOk result ((j : ℕ)
+            → pending self.new j ≡ cond (beat.0 == j) (pending self.old j ++ message ∷ []) (pending self.old j)) }
         ensures err { OnErr result ((j : ℕ) → pending self.new j ≡ pending self.old j) }
         ensures live { IsLive self.old → IsLive self.new }
     {
@@ -57,9 +59,12 @@ impl<T: Copy + Drop> Flight<T> {
 
     /// Takes out the first message of a beat.
     pub(crate) fn take(&mut self, beat: Beat) -> Option<T>
+        ensures each { (test : T → Bool) → AllPass test (pending self.old) → IfSome result (λ message. test message ≡ true) }
+        ensures others { (test : T → Bool) → AllPass test (pending self.old) → AllPass test (pending self.new) }
         ensures fewer { IsSome result → length (pending self.new beat.0) < length (pending self.old beat.0) }
         ensures first { IsLive self.old → result ≡ first_of (pending self.old beat.0) }
-        ensures rest { IsLive self.old → (j : ℕ) → pending self.new j ≡ cond (beat.0 == j) (rest_of (pending self.old j)) (pending self.old j) }
+        ensures rest { IsLive self.old → (j : ℕ) → pending self.new j
+            ≡ cond (beat.0 == j) (rest_of (pending self.old j)) (pending self.old j) }
         ensures live { IsLive self.old → IsLive self.new }
     {
         if self.beat.0 == beat.0 {

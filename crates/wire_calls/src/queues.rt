@@ -30,7 +30,8 @@ impl<T: Copy + Drop> Queues<T> {
 
     /// Adds a message behind the others of its beat.
     pub(crate) fn push(&mut self, beat: Beat, message: T) -> Result<(), NoMemory>
-        ensures ok { OnOk result ((j : ℕ) → queued self.new j ≡ cond (beat.0 == j) (queued self.old j ++ message ∷ []) (queued self.old j)) }
+        ensures ok { OnOk result ((j : ℕ) → queued self.new j
+            ≡ cond (beat.0 == j) (queued self.old j ++ message ∷ []) (queued self.old j)) }
         ensures err { OnErr result ((j : ℕ) → queued self.new j ≡ queued self.old j) }
         ensures live { HasNoEmpty self.old → HasNoEmpty self.new }
     {

@@ -1,5 +1,5 @@
 // The wire: delays and losses of each process, and what is in flight each way.
-ghost use Rattle.std.specs.Prelude.{◌≡◌, ◌+◌, ◌≤◌, ◌<◌, not, ℕ, List, [], ◌∷◌, Option, IfOk, OnOk, OnErr, IsSome};
+ghost use Rattle.std.specs.Prelude.{◌≡◌, ◌+◌, ◌≤◌, ◌<◌, not, ℕ, List, [], ◌∷◌, Option, IfOk, OnOk, OnErr, IsSome, IfSome, true};
 ghost use Rattle.kube_objects.specs.Entry as entries;
 ghost use Rattle.kube_objects.specs.Entry.{Entry, Identity, Call, entry, script_entry};
 ghost use Rattle.kube_objects.specs.Identities.{identity};
@@ -8,9 +8,9 @@ ghost use Rattle.kube_objects.specs.Wire.{request_arrival, reply_arrival, loses_
 ghost use Rattle.kube_objects.specs.declared.object.Object.{Object};
 ghost use Rattle.kube_objects.specs.declared.script.What.TheVariants.{Delay, Loss};
 ghost use Rattle.kube_base.specs.declared.numbers.Version.{Version};
-ghost use Rattle.wire_calls.specs.InFlight.{first_of, has_any, rest_of};
-ghost use Rattle.wire_calls.specs.Messages.{sent_as_told};
-ghost use Rattle.wire_calls.specs.WireStands.{WireStands, requests_at, replies_at, arrived_of, delivered_of, NextIs, earlier_of, link_at};
+ghost use Rattle.kube_objects.specs.Kinds.{keeps_kind};
+ghost use Rattle.wire_calls.specs.InFlight.{AllPass, earlier_of, first_of, has_any, pending, rest_of};
+ghost use Rattle.wire_calls.specs.Messages.{request_keeps_kind, sent_as_told};
 
 use crate::flight::Flight;
 use crate::link::{Link, travel};
@@ -25,9 +25,12 @@ pub struct Wire {
     links: Vec<Link>,
     requests: Flight<Arrived>,
     replies: Flight<Delivered>,
+    ghost kinds: { AllPass request_keeps_kind (pending requests) },
 }
 
 impl Wire {
+    ghost use Rattle.wire_calls.specs.WireStands.{WireStands, requests_at, replies_at, arrived_of, delivered_of, NextIs, link_at};
+
     /// All delays are one beat, nothing is lost and nothing is in flight.
     pub fn new(alloc: Global, processes: u32) -> Result<Wire, NoMemory>
         ensures { IfOk result (λ wire. (k : ℕ) → WireStands processes k [] [] [] wire) }
@@ -43,9 +46,11 @@ impl Wire {
     pub fn set_delay(&mut self, who: ProcId, request: u32, reply: u32)
         requires request { (1 ≤ request) × (request ≤ 6000) }
         requires reply { (1 ≤ reply) × (reply ≤ 6000) }
-        ensures { (processes k step beat : ℕ) (arriving : List flights.Sent) (coming : List flights.Back) (h : List Entry) (version : Option Version)
+        ensures { (processes k step beat : ℕ) (arriving : List flights.Sent) (coming : List flights.Back) (h : List Entry)
+            (version : Option Version)
             → WireStands processes k arriving coming h self.old → who.0 < processes
-            → WireStands processes k arriving coming (script_entry beat step (entries.Event (Delay who request reply) version) ∷ h) self.new }
+            → WireStands processes k arriving coming
+            (script_entry beat step (entries.Event (Delay who request reply) version) ∷ h) self.new }
     {
         if let Some(link) = self.links.get_mut(who.0 as usize) {
             link.request_delay = request;
@@ -55,9 +60,11 @@ impl Wire {
 
     /// Sets whether a process's requests, and replies to it, are lost from now on.
     pub fn set_loss(&mut self, who: ProcId, requests: bool, replies: bool)
-        ensures { (processes k step beat : ℕ) (arriving : List flights.Sent) (coming : List flights.Back) (h : List Entry) (version : Option Version)
+        ensures { (processes k step beat : ℕ) (arriving : List flights.Sent) (coming : List flights.Back) (h : List Entry)
+            (version : Option Version)
             → WireStands processes k arriving coming h self.old → who.0 < processes
-            → WireStands processes k arriving coming (script_entry beat step (entries.Event (Loss who requests replies) version) ∷ h) self.new }
+            → WireStands processes k arriving coming
+            (script_entry beat step (entries.Event (Loss who requests replies) version) ∷ h) self.new }
     {
         if let Some(link) = self.links.get_mut(who.0 as usize) {
             link.loses_requests = requests;
@@ -67,7 +74,8 @@ impl Wire {
 
     /// Whether requests of a process aren't being lost.
     pub fn passes(&self, who: ProcId) -> bool
-        ensures { (processes k : ℕ) (arriving : List flights.Sent) (coming : List flights.Back) (h : List Entry) → WireStands processes k arriving coming h self.now
+        ensures { (processes k : ℕ) (arriving : List flights.Sent) (coming : List flights.Back) (h : List Entry)
+            → WireStands processes k arriving coming h self.now
             → result ≡ not (loses_requests who.0 h) }
     {
         !self.link(who).loses_requests
@@ -83,12 +91,17 @@ impl Wire {
     ) -> Result<Sent, NoMemory>
         requires { now.0 ≤ 700000000 }
         ensures same { replies_at self.new now.0 ≡ replies_at self.old now.0 }
-        ensures answer { (processes : ℕ) (arriving : List flights.Sent) (coming : List flights.Back) (h : List Entry) → WireStands processes now.0 arriving coming h self.old
+        ensures answer { (processes : ℕ) (arriving : List flights.Sent) (coming : List flights.Back) (h : List Entry)
+            → WireStands processes now.0 arriving coming h self.old
             → IfOk result (λ sent. sent ≡ sent_as_told (request_arrival who.0 now.0 h)) }
-        ensures ok { (processes k step : ℕ) (arriving : List flights.Sent) (coming : List flights.Back) (h : List Entry) (q : Identity) (call : Call)
-            → WireStands processes k arriving coming h self.old → now.0 ≡ k → q ≡ identity who.0 incarnation → call.number ≡ ask.number → call.request ≡ ask.request
-            → OnOk result (WireStands processes k arriving coming (entry k step q (entries.Sends call (request_arrival q.process k h)) ∷ h) self.new) }
-        ensures err { (processes k : ℕ) (arriving : List flights.Sent) (coming : List flights.Back) (h : List Entry) → WireStands processes k arriving coming h self.old
+        ensures ok { (processes k step : ℕ) (arriving : List flights.Sent) (coming : List flights.Back) (h : List Entry) (q : Identity)
+            (call : Call)
+            → WireStands processes k arriving coming h self.old → now.0 ≡ k → q ≡ identity who.0 incarnation → call.number ≡ ask.number
+            → call.request ≡ ask.request
+            → OnOk result (WireStands processes k arriving coming
+            (entry k step q (entries.Sends call (request_arrival q.process k h)) ∷ h) self.new) }
+        ensures err { (processes k : ℕ) (arriving : List flights.Sent) (coming : List flights.Back) (h : List Entry)
+            → WireStands processes k arriving coming h self.old
             → OnErr result (WireStands processes k arriving coming h self.new) }
     {
         let link = self.link(who);
@@ -109,7 +122,8 @@ impl Wire {
 
     /// Whether a request arrives now.
     pub fn has_request(&self, now: Beat) -> bool
-        ensures { (processes k : ℕ) (arriving : List flights.Sent) (coming : List flights.Back) (h : List Entry) → WireStands processes k arriving coming h self.now → now.0 ≡ k
+        ensures { (processes k : ℕ) (arriving : List flights.Sent) (coming : List flights.Back) (h : List Entry)
+            → WireStands processes k arriving coming h self.now → now.0 ≡ k
             → result ≡ has_any arriving }
     {
         self.requests.has(now)
@@ -117,7 +131,8 @@ impl Wire {
 
     /// Whether a reply comes now.
     pub fn has_reply(&self, now: Beat) -> bool
-        ensures { (processes k : ℕ) (arriving : List flights.Sent) (coming : List flights.Back) (h : List Entry) → WireStands processes k arriving coming h self.now → now.0 ≡ k
+        ensures { (processes k : ℕ) (arriving : List flights.Sent) (coming : List flights.Back) (h : List Entry)
+            → WireStands processes k arriving coming h self.now → now.0 ≡ k
             → result ≡ has_any coming }
     {
         self.replies.has(now)
@@ -125,10 +140,13 @@ impl Wire {
 
     /// Takes out the first sent request that arrives now. None exactly where there is none.
     pub fn arrival(&mut self, now: Beat) -> Option<Arrived>
+        ensures kind { IfSome result (λ arrived. keeps_kind arrived.request ≡ true) }
         ensures fewer { IsSome result → requests_at self.new now.0 < requests_at self.old now.0 }
-        ensures answer { (processes k : ℕ) (arriving : List flights.Sent) (coming : List flights.Back) (h : List Entry) → WireStands processes k arriving coming h self.old → now.0 ≡ k
+        ensures answer { (processes k : ℕ) (arriving : List flights.Sent) (coming : List flights.Back) (h : List Entry)
+            → WireStands processes k arriving coming h self.old → now.0 ≡ k
             → result ≡ arrived_of (first_of arriving) }
-        ensures stands { (processes k : ℕ) (arriving : List flights.Sent) (coming : List flights.Back) (h : List Entry) → WireStands processes k arriving coming h self.old → now.0 ≡ k
+        ensures stands { (processes k : ℕ) (arriving : List flights.Sent) (coming : List flights.Back) (h : List Entry)
+            → WireStands processes k arriving coming h self.old → now.0 ≡ k
             → WireStands processes k (rest_of arriving) coming h self.new }
     {
         self.requests.take(now)
@@ -138,12 +156,17 @@ impl Wire {
     pub fn reply(&mut self, to: &Arrived, reply: Reply, now: Beat) -> Result<Sent, NoMemory>
         requires { now.0 ≤ 700000000 }
         ensures same { requests_at self.new now.0 ≡ requests_at self.old now.0 }
-        ensures answer { (processes : ℕ) (arriving : List flights.Sent) (coming : List flights.Back) (h : List Entry) → WireStands processes now.0 arriving coming h self.old
+        ensures answer { (processes : ℕ) (arriving : List flights.Sent) (coming : List flights.Back) (h : List Entry)
+            → WireStands processes now.0 arriving coming h self.old
             → IfOk result (λ sent. sent ≡ sent_as_told (reply_arrival to.now.who.0 now.0 h)) }
-        ensures ok { (processes k step : ℕ) (arriving : List flights.Sent) (coming : List flights.Back) (h : List Entry) (q : Identity) (call : Call) (written : Option Object)
-            → WireStands processes k arriving coming h self.old → now.0 ≡ k → q ≡ identity to.now.who.0 to.now.incarnation → call.number ≡ to.now.number
-            → OnOk result (WireStands processes k arriving coming (entry k step q (entries.Answers call reply (reply_arrival q.process k h) written) ∷ h) self.new) }
-        ensures err { (processes k : ℕ) (arriving : List flights.Sent) (coming : List flights.Back) (h : List Entry) → WireStands processes k arriving coming h self.old
+        ensures ok { (processes k step : ℕ) (arriving : List flights.Sent) (coming : List flights.Back) (h : List Entry) (q : Identity)
+            (call : Call) (written : Option Object)
+            → WireStands processes k arriving coming h self.old → now.0 ≡ k → q ≡ identity to.now.who.0 to.now.incarnation
+            → call.number ≡ to.now.number
+            → OnOk result (WireStands processes k arriving coming
+            (entry k step q (entries.Answers call reply (reply_arrival q.process k h) written) ∷ h) self.new) }
+        ensures err { (processes k : ℕ) (arriving : List flights.Sent) (coming : List flights.Back) (h : List Entry)
+            → WireStands processes k arriving coming h self.old
             → OnErr result (WireStands processes k arriving coming h self.new) }
     {
         let link = self.link(to.who);
@@ -165,9 +188,11 @@ impl Wire {
     /// Takes out the first answered reply that comes now. None exactly where there is none.
     pub fn delivery(&mut self, now: Beat) -> Option<Delivered>
         ensures fewer { IsSome result → replies_at self.new now.0 < replies_at self.old now.0 }
-        ensures answer { (processes k : ℕ) (arriving : List flights.Sent) (coming : List flights.Back) (h : List Entry) → WireStands processes k arriving coming h self.old → now.0 ≡ k
+        ensures answer { (processes k : ℕ) (arriving : List flights.Sent) (coming : List flights.Back) (h : List Entry)
+            → WireStands processes k arriving coming h self.old → now.0 ≡ k
             → result ≡ delivered_of (first_of coming) }
-        ensures stands { (processes k : ℕ) (arriving : List flights.Sent) (coming : List flights.Back) (h : List Entry) → WireStands processes k arriving coming h self.old → now.0 ≡ k
+        ensures stands { (processes k : ℕ) (arriving : List flights.Sent) (coming : List flights.Back) (h : List Entry)
+            → WireStands processes k arriving coming h self.old → now.0 ≡ k
             → WireStands processes k arriving (rest_of coming) h self.new }
     {
         self.replies.take(now)
@@ -175,7 +200,8 @@ impl Wire {
 
     /// The least beat at which anything in flight arrives. None exactly where nothing is in flight.
     pub fn next(&self) -> Option<Beat>
-        ensures { (processes k : ℕ) (arriving : List flights.Sent) (coming : List flights.Back) (h : List Entry) → WireStands processes k arriving coming h self.now
+        ensures { (processes k : ℕ) (arriving : List flights.Sent) (coming : List flights.Back) (h : List Entry)
+            → WireStands processes k arriving coming h self.now
             → NextIs k arriving coming h result }
     {
         earlier(self.requests.least(), self.replies.least())

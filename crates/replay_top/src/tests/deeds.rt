@@ -33,9 +33,17 @@ fn expect_deeds(rt: &impl Abort, alloc: Global, row: &Row) -> Result<(), Fail> {
     Ok(())
 }
 
+/// The deeds of each document give the lines of its trace.
+fn expect_all(rt: &impl Abort, alloc: Global, rows: &[Row]) -> Result<(), Fail> {
+    for row in rows {
+        expect_deeds(rt, alloc, row)?;
+    }
+    Ok(())
+}
+
 #[test]
 fn deeds_give_the_traces(rt: HostRuntime) -> Result<(), Fail> {
-    for row in [
+    let rows = [
         rows::FIRST_ELECTION,
         rows::ONE_BEAT,
         rows::SECOND_CREATE,
@@ -57,8 +65,6 @@ fn deeds_give_the_traces(rt: HostRuntime) -> Result<(), Fail> {
         rows::LOST_FAST_RENEWAL,
         rows::OWN_DURATION,
         rows::OTHER_LEASE,
-    ] {
-        expect_deeds(&rt, rt.alloc(), &row)?;
-    }
-    Ok(())
+    ];
+    expect_all(&rt, rt.alloc(), &rows)
 }

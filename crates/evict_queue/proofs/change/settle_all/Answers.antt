@@ -8,7 +8,7 @@ use Rattle.evict_queue.specs.Ahead.{Ahead, HasRoomsBut}
 use Rattle.evict_queue.specs.Changed.{changed, is_time, sets_time, KeysDiffer}
 use Rattle.evict_queue.specs.Held.{due_of, room_of}
 use Rattle.evict_queue.specs.declared.dues.Dues.{Dues}
-use Rattle.evict_queue.proofs.KeyOrder.{key_itself}
+use Rattle.kube_objects.proofs.KeyOrder.{key_itself}
 use Rattle.evict_queue.proofs.QueueLaws.{settled_ahead, settled_rooms, settled_same}
 use Rattle.evict_queue.proofs.change.settle_all.Goals as goal
 

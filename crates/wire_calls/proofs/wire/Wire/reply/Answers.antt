@@ -1,4 +1,4 @@
-use Rattle.std.proofs.Common.{◌∙◌, ◌∷◌, ℕ, sym, ap, subst}
+use Rattle.std.proofs.Common.{refl, ◌∙◌, ◌∷◌, ℕ, sym, ap, subst}
 use Rattle.kube_objects.specs.declared.call.Reply.{Reply}
 use Rattle.kube_objects.specs.Entry.{Identity, Answers, entry}
 use Rattle.kube_objects.specs.Wire.{reply_arrival}
@@ -30,5 +30,4 @@ returns-in_ok-push-in-InFlight-clause-ok c processes k step arriving coming h q 
     let here = ap (λ q. reply_arrival q.process k h) by ∙ ap (λ n. reply_arrival c.args.to.now.who.0 n h) (sym now) ∙ beat-from (reply_arrival c.args.to.now.who.0 c.args.now.0 h) c.in-InFlight.comes told in
     let after = arrival-after _ k _ c.in-InFlight.comes.0 (s.delays q.process).1.0 here in
     let message = ap (λ q. as_message q c.args.to.now.number c.args.reply) (sym by) ∙ ap (λ n. as_message q n c.args.reply) (sym number) in
-    subst (λ o. WireStands processes k arriving coming (entry k step q (Answers call c.args.reply o written) ∷ h) (record { links = c.args.self.now.links; requests = c.args.self.now.requests; replies = c.push.new.self })) (sym here)
-    (wire-reply processes k step c.in-InFlight.comes.0 arriving coming h q call c.args.reply written c.args.self.now c.push.new.self _ s after message (c.in_ok-push-in-InFlight.ensures.ok s.live_replies) (c.in_ok-push-in-InFlight.ensures.live s.live_replies))
+    wire-reply processes k step c.in-InFlight.comes.0 arriving coming h q call c.args.reply written c.args.self.now _ _ _ here s refl refl after message (c.in_ok-push-in-InFlight.ensures.ok s.live_replies) (c.in_ok-push-in-InFlight.ensures.live s.live_replies)

@@ -1,4 +1,4 @@
-use Rattle.std.proofs.Common.{◌∙◌, ◌∷◌, ℕ, sym, ap, subst}
+use Rattle.std.proofs.Common.{refl, ◌∙◌, ◌∷◌, ℕ, sym, ap, subst}
 use Rattle.kube_objects.specs.declared.call.Request.{Request}
 use Rattle.kube_objects.specs.Entry.{Identity, Sends, entry}
 use Rattle.kube_objects.specs.Wire.{request_arrival}
@@ -30,5 +30,4 @@ returns-in_ok-push-in-InFlight-clause-ok c processes k step arriving coming h q 
     let here = ap (λ q. request_arrival q.process k h) by ∙ ap (λ n. request_arrival c.args.who.0 n h) (sym now) ∙ beat-from (request_arrival c.args.who.0 c.args.now.0 h) c.in-InFlight.arrives told in
     let after = arrival-after _ k _ c.in-InFlight.arrives.0 (s.delays q.process).0.0 here in
     let message = ap (λ q. as_message q c.args.ask.number c.args.ask.request) (sym by) ∙ ap (λ n. as_message q n c.args.ask.request) (sym number) ∙ ap (λ r. as_message q call.number r) (sym request) in
-    subst (λ o. WireStands processes k arriving coming (entry k step q (Sends call o) ∷ h) (record { links = c.args.self.now.links; requests = c.push.new.self; replies = c.args.self.now.replies })) (sym here)
-    (wire-request processes k step c.in-InFlight.arrives.0 arriving coming h q call c.args.self.now c.push.new.self _ s after message (c.in_ok-push-in-InFlight.ensures.ok s.live_requests) (c.in_ok-push-in-InFlight.ensures.live s.live_requests))
+    wire-request processes k step c.in-InFlight.arrives.0 arriving coming h q call c.args.self.now _ _ _ here s refl refl after message (c.in_ok-push-in-InFlight.ensures.ok s.live_requests) (c.in_ok-push-in-InFlight.ensures.live s.live_requests)
