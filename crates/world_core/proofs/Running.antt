@@ -60,6 +60,8 @@ doc-same doc k w v same count s =
       epoch = same.epoch ∙ s.epoch;
       micros = same.micros ∙ s.micros;
       events = same.events ∙ s.events;
+      kubelets = s.kubelets;
+      leases = s.leases;
     }
 
 doc-moved : (doc : Doc) (k i : ℕ) (c0 c1 : Process) (w v : State) → Moved i c0 c1 w v → DocStands doc k w → DocStands doc k v
@@ -139,13 +141,13 @@ told-turn doc k i before deeds h c t told turned =
     sym (append_assoc before (deeds ++ s) e) ∙ ap (λ x. x ++ e) (sym (append_assoc before deeds s)) ∙ ap (λ x. x ++ s ++ e) told ∙ sym turned.told
 
 pub running-turned : (doc : Doc) (k i : ℕ) (before deeds new : List deed.Deed) (arriving : List Sent) (coming : List Back) (h : List Entry) (c0 c1 : Process) (w v : State) (t : Turn) → Running doc k before arriving coming h w deeds →
-    i < processes doc → Moved i c0 c1 w v → SendsAsked k (identity i (incarnation_of c1)) t.ask w.wire v.wire → Turned doc k i h c1 t → new ≡ turn_told k (identity i (incarnation_of c1)) t deeds → Running doc k before arriving coming (turn doc k i h) v new
+    i < processes doc → Moved i c0 c1 w v → SendsAsked k (identity i (incarnation_of c1)) t.ask w.wire v.wire → Turned doc k i h c1 t → new ≡ turn_told k (identity i (incarnation_of c1)) t deeds → Running doc k before arriving coming (elector_turn doc k i h) v new
 running-turned doc k i before deeds new arriving coming h c0 c1 w v t r within m sends turned new_is =
     let base = before_asking doc k i h in
     let around = around-before doc k i arriving coming h w within (around-world doc k i arriving coming h w r.world) in
     record {
-      world = within-asked doc k 4 i arriving coming base (turn doc k i h) c0 c1 w v t.ask m sends around within turned.asks;
-      told = ap (λ ds. before ++ ds) new_is ∙ told-turn doc k i before deeds h c1 t r.told turned ∙ sym (printed-asked doc k 4 i base (turn doc k i h) c1 t.ask turned.asks);
+      world = within-asked doc k 4 i arriving coming base (elector_turn doc k i h) c0 c1 w v t.ask m sends around within turned.asks;
+      told = ap (λ ds. before ++ ds) new_is ∙ told-turn doc k i before deeds h c1 t r.told turned ∙ sym (printed-asked doc k 4 i base (elector_turn doc k i h) c1 t.ask turned.asks);
     }
 
 -- ---- a reply

@@ -7,11 +7,6 @@ use Rattle.kube_objects.specs.declared.script.What.{What}
 use Rattle.kube_objects.specs.declared.script.What.TheVariants.{Watch, Ready, Put, Remove}
 use Rattle.kube_objects.specs.Document.{Doc}
 
-abbrev pub is_lease : Kind → Bool
-is_lease kind.Node = false
-is_lease kind.Lease = true
-is_lease kind.Pod = false
-
 -- no event on a watch or a kubelet's status, and none on a Node or Pod
 abbrev pub is_run_event : What → Bool
 is_run_event (Watch id on) = false

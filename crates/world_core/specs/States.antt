@@ -79,6 +79,8 @@ pub record DocStands (doc : Doc) (k : ℕ) (w : State) : Type 0 where
   pub epoch : w.epoch ≡ doc.settings.epoch
   pub micros : w.micros ≡ beat_micros doc
   pub events : w.events ≡ doc.events
+  pub kubelets : doc.kubelets ≡ []
+  pub leases : IsBareDocument doc
 
 -- the events before a place were of earlier beats, and those from it on are of this beat or later
 pub record IsPlaced (doc : Doc) (k place : ℕ) : Type 0 where
@@ -114,6 +116,7 @@ pub record StateWithin (doc : Doc) (k : ℕ) (arriving : List Sent) (coming : Li
 pub record StateStands (doc : Doc) (k : ℕ) (h : List Entry) (w : State) : Type 0 where
   pub within : StateWithin doc k (requests_due k h) (replies_due k h) h w
   pub placed : IsPlaced doc k w.place
+  pub bare : IsBare h
 
 -- within a beat, with what was printed before the beat and in it
 pub record Running (doc : Doc) (k : ℕ) (before : List deed.Deed) (arriving : List Sent) (coming : List Back) (h : List Entry) (w : State) (deeds : List deed.Deed) : Type 0 where
