@@ -16,4 +16,5 @@ pub mod Scripts
 pub mod Loops
 pub mod Beats
 pub mod Happening
+pub mod Ticking
 pub mod Quiet

@@ -1,18 +1,18 @@
 -- The loops of a beat: what has been taken so far, and what is left.
-use Rattle.std.proofs.Common.{◌≡◌, ℕ, zero, suc, ◌+◌, ◌-◌, ◌<◌, ◌++◌, List, [], ◌∷◌, Option, Some, None, length, refl, sym, ap, ◌∙◌, subst, arith}
+use Rattle.std.proofs.Common.{◌≡◌, ℕ, true, zero, suc, ◌+◌, ◌-◌, ◌<◌, ◌++◌, List, [], ◌∷◌, Option, Some, None, length, refl, sym, ap, ◌∙◌, subst, arith}
 use Rattle.kube_objects.specs.declared.call.Reply.{Reply}
 use Rattle.kube_objects.specs.declared.deed.Actor.TheVariants as actor
 use Rattle.kube_objects.specs.declared.deed.Deed as deed
 use Rattle.kube_objects.specs.declared.object.Object.{Object}
 use Rattle.kube_objects.specs.Answers.{answer, written}
-use Rattle.kube_objects.specs.Document.{Doc, processes}
+use Rattle.kube_objects.specs.Document.{Doc, is_controller, processes}
 use Rattle.kube_objects.specs.Entry.{Entry, Identity, Call, Answers, entry, actor_of}
 use Rattle.kube_objects.specs.Identities.{identity}
 use Rattle.kube_objects.specs.Stored.{write_of, request_write}
 use Rattle.kube_objects.specs.Wire.{Sent, Back, reply_arrival}
 use Rattle.history.specs.Due.{answer_all, deliver_all}
 use Rattle.history.specs.Printed.{deeds_of, answer_act}
-use Rattle.history.specs.Steps.{answered, delivered, starts_below, turns}
+use Rattle.history.specs.Steps.{answered, delivered, elector_turn, starts_below, ticks, turn, turn_as, turns}
 use Rattle.object_store.specs.Stands.{StoreStands}
 use Rattle.wire_calls.specs.declared.message.Arrived.{Arrived}
 use Rattle.wire_calls.specs.declared.message.Delivered.{Delivered}
@@ -21,7 +21,7 @@ use Rattle.wire_calls.specs.WireStands.{WireStands, arrived_of, as_arrived, deli
 use Rattle.world_core.specs.declared.state.State.{State}
 use Rattle.world_process.specs.Plain.{IsKnown, IsFew, SentByKnown, BackToKnown}
 use Rattle.world_core.specs.States.{IsReady, SameDocument, Keeps, EachStands, Running}
-use Rattle.world_process.proofs.Grows.{Grows, grows-on, grows-same, grows-entry, grows-delivered, grows-more_starts, grows-more_turns, few-before}
+use Rattle.world_process.proofs.Grows.{Grows, grows-on, grows-same, grows-entry, grows-delivered, grows-more_starts, grows-more_turns, grows-ticks, few-before}
 use Rattle.world_core.proofs.Known.{sent-later, back-later}
 use Rattle.world_core.proofs.Running.{doc-same, answered-running}
 
@@ -158,6 +158,11 @@ pub few-starts : (doc : Doc) (i n : ℕ) (h : List Entry) → i < n → IsFew (s
 few-starts doc i n h less few =
     let all : suc i + (n - suc i) ≡ n = omega (arith, less) in
     few-before (starts_below doc (suc i) h) (starts_below doc n h) (subst (λ m. Grows (starts_below doc (suc i) h) (starts_below doc m h)) all (grows-more_starts doc (suc i) (n - suc i) h)) few
+
+pub few-elector : (doc : Doc) (k p : ℕ) (h : List Entry) → is_controller doc p ≡ true → IsFew (turn doc k p h) → IsFew (elector_turn doc k p h)
+few-elector doc k p h is few =
+    let g = elector_turn doc k p h in
+    few-before g (ticks doc k p g) (grows-ticks doc k p g) (subst IsFew (ap (λ t. turn_as doc k p t h) is) few)
 
 pub few-turns : (doc : Doc) (k i n : ℕ) (h : List Entry) → i < n → IsFew (turns doc k n h) → IsFew (turns doc k (suc i) h)
 few-turns doc k i n h less few =

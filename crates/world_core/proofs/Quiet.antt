@@ -11,7 +11,8 @@ use Rattle.kube_objects.specs.InFlight.{requests_due, replies_due}
 use Rattle.history.specs.Due.{answer_all, deliver_all}
 use Rattle.history.specs.History.{beat, history}
 use Rattle.history.specs.Printed.{printed}
-use Rattle.history.specs.Steps.{first_starts, happen_all, start_first, starts_below, turns}
+use Rattle.history.specs.Steps.{elector_turn, first_starts, happen_all, start_first, starts_below, turns}
+use Rattle.history_laws.specs.Bare.{IsBare}
 use Rattle.script_reader.specs.Lawful.{AreLawfulFrom}
 use Rattle.wire_calls.specs.declared.wire.Wire.{Wire}
 use Rattle.wire_calls.specs.InFlight.{pending}
@@ -22,6 +23,7 @@ use Rattle.world_process.proofs.Processes.{process-up_first}
 use Rattle.world_core.specs.declared.state.State.{State}
 use Rattle.world_core.specs.States.{AreSilent, EachStands, IsPlaced, Skipped, StateStands, StateWithin, beats_from}
 use Rattle.world_core.proofs.Beats.{beat-is, one, two, three}
+use Rattle.world_core.proofs.Ticking.{Ticked, ticked-turns, unticked}
 use Rattle.world_core.proofs.Events.{drop-at, happen-earlier, happen-later}
 use Rattle.world_process.proofs.Names.{eq-is, lt-from}
 
@@ -116,28 +118,38 @@ placed-skips doc k m n place most bound placed lawful =
       later = lawful-both doc k m n (drop place doc.events) bound placed.later lawful;
     }
 
-events-skip : (doc : Doc) (k m j place : ℕ) (h : List Entry) → IsPlaced doc k place → AreLawfulFrom doc m (drop place doc.events) → k ≤ j → j < m → happen_all doc j doc.events h ≡ h
+pub events-skip : (doc : Doc) (k m j place : ℕ) (h : List Entry) → IsPlaced doc k place → AreLawfulFrom doc m (drop place doc.events) → k ≤ j → j < m → happen_all doc j doc.events h ≡ h
 events-skip doc k m j place h placed lawful from less =
     sym (happen-earlier doc j doc.events place h (λ i e within is. (let sooner = placed.earlier i e within is in omega (arith, sooner, from))))
     ∙ happen-later doc j m (drop place doc.events) h less lawful
 
 -- ---- a beat
 
--- the beats from k to before n add nothing to a history
-abbrev pub AddNothing : Doc → ℕ → ℕ → List Entry → Type 0
-AddNothing doc k n h = (j : ℕ) → k ≤ j → j < n → beat doc h j ≡ h
-
-quiet-beat : (doc : Doc) (j : ℕ) (h : List Entry) → first_starts doc j h ≡ h → happen_all doc j doc.events h ≡ h → requests_due j h ≡ [] → replies_due j h ≡ [] → turns doc j (processes doc) h ≡ h → beat doc h j ≡ h
-quiet-beat doc j h starts events requests replies still =
+three-quiet : (doc : Doc) (j : ℕ) (h : List Entry) → first_starts doc j h ≡ h → happen_all doc j doc.events h ≡ h → requests_due j h ≡ [] → replies_due j h ≡ [] → three doc j h ≡ h
+three-quiet doc j h starts events requests replies =
     let one_is : one doc j h ≡ h = ap (happen_all doc j doc.events) starts ∙ events in
     let two_is : two doc j h ≡ h = ap (λ g. answer_all j (requests_due j g) g) one_is ∙ ap (λ ss. answer_all j ss h) requests in
-    let three_is : three doc j h ≡ h = ap (λ g. deliver_all doc j (replies_due j g) g) two_is ∙ ap (λ bs. deliver_all doc j bs h) replies in
-    beat-is doc j h ∙ ap (turns doc j (processes doc)) three_is ∙ still
+    ap (λ g. deliver_all doc j (replies_due j g) g) two_is ∙ ap (λ bs. deliver_all doc j bs h) replies
 
-pub quiet-beats : (doc : Doc) (k m n place : ℕ) (h : List Entry) → ((j : ℕ) → k ≤ j → j < n → first_starts doc j h ≡ h) → IsPlaced doc k place → AreLawfulFrom doc m (drop place doc.events) → AreSilent k n h → ((j : ℕ) → k ≤ j → j < n → j < m) →
-    ((j : ℕ) → k ≤ j → j < n → turns doc j (processes doc) h ≡ h) → AddNothing doc k n h
-quiet-beats doc k m n place h starts placed lawful silent within still j from less =
-    quiet-beat doc j h (starts j from less) (events-skip doc k m j place h placed lawful from (within j from less)) (silent.requests j from less) (silent.replies j from less) (still j from less)
+-- what is known of the beats from k to before n: on each history for which the world stands nothing happens in them but ticks
+pub record OnlyTicks (doc : Doc) (k n : ℕ) (h : List Entry) (w : State) : Type 0 where
+  pub starts : (j : ℕ) (g : List Entry) → k ≤ j → j < n → EachStands doc g w.processes.items → first_starts doc j g ≡ g
+  pub events : (j : ℕ) (g : List Entry) → k ≤ j → j < n → happen_all doc j doc.events g ≡ g
+  pub silent : AreSilent k n h
+  pub turns : (j : ℕ) (g : List Entry) → k ≤ j → j < n → StateWithin doc k (requests_due k h) (replies_due k h) g w → (p : ℕ) → p < processes doc → elector_turn doc j p g ≡ g
+
+pub ticked-beats : (doc : Doc) (k n m : ℕ) (h : List Entry) (w : State) → k + m ≤ n → OnlyTicks doc k n h w → StateWithin doc k (requests_due k h) (replies_due k h) h w → IsBare h
+    → Ticked doc k (requests_due k h) (replies_due k h) w h (beats_from doc k m h)
+ticked-beats doc k n zero h w most only s bare = unticked doc k (requests_due k h) (replies_due k h) w h s bare
+ticked-beats doc k n (suc m) h w most only s bare =
+    let j = k + m in
+    let g = beats_from doc k m h in
+    let t = ticked-beats doc k n m h w (omega (arith, most)) only s bare in
+    let from : k ≤ j = omega arith in
+    let less : j < n = omega (arith, most) in
+    let quiet = three-quiet doc j g (only.starts j g from less t.world.processes) (only.events j g from less) (t.requests j ∙ only.silent.requests j from less) (t.replies j ∙ only.silent.replies j from less) in
+    subst (Ticked doc k (requests_due k h) (replies_due k h) w h) (sym (beat-is doc j g ∙ ap (turns doc j (processes doc)) quiet))
+    (ticked-turns doc k j (processes doc) (requests_due k h) (replies_due k h) w h g (omega arith) (λ p f within stands. only.turns j f from less stands p within) t)
 
 -- ---- nobody starts
 
@@ -168,13 +180,13 @@ pub silent-below : (k m n : ℕ) (h : List Entry) → ((j : ℕ) → k ≤ j →
 silent-below k m n h within s = record { requests = λ j from less. s.requests j from (within j from less); replies = λ j from less. s.replies j from (within j from less) }
 
 -- the world before a later beat
-pub world-skips : (doc : Doc) (k : ℕ) (at : Beat) (h : List Entry) (w : State) → k ≤ at.0 → AreSilent k at.0 h → StateWithin doc k (requests_due k h) (replies_due k h) h w → IsPlaced doc at.0 w.place → StateStands doc at.0 h (record w { beat = at })
-world-skips doc k at h w most silent s placed =
+pub world-skips : (doc : Doc) (k : ℕ) (at : Beat) (h : List Entry) (w : State) → k ≤ at.0 → AreSilent k at.0 h → StateWithin doc k (requests_due k h) (replies_due k h) h w → IsPlaced doc at.0 w.place → IsBare h → StateStands doc at.0 h (record w { beat = at })
+world-skips doc k at h w most silent s placed bare =
     let d = s.rest.document in
     record {
       within = record {
         rest = record {
-          document = record { at = refl; restart = d.restart; count = d.count; epoch = d.epoch; micros = d.micros; events = d.events };
+          document = record { at = refl; restart = d.restart; count = d.count; epoch = d.epoch; micros = d.micros; events = d.events; kubelets = d.kubelets; leases = d.leases };
           plain = s.rest.plain;
           store = s.rest.store;
           wire = wire-skips (processes doc) k at.0 h w.wire most silent s.rest.wire;
@@ -182,21 +194,33 @@ world-skips doc k at h w most silent s placed =
         processes = s.processes;
       };
       placed = placed;
+      bare = bare;
     }
 
 -- ---- the history
 
-beats-quiet : (doc : Doc) (k n : ℕ) (h : List Entry) → AddNothing doc k (k + n) h → beats_from doc k n h ≡ h
-beats-quiet doc k zero h quiet = refl
-beats-quiet doc k (suc n) h quiet =
-    ap (λ g. beat doc g (k + n)) (beats-quiet doc k n h (λ j from less. quiet j from (omega (arith, less)))) ∙ quiet (k + n) (omega arith) (omega arith)
+-- no beat was passed over
+pub skipped-none : (doc : Doc) (k : ℕ) (h : List Entry) (w : State) → w.beat.0 ≡ k → StateStands doc k h w → Skipped doc k h w
+skipped-none doc k h w at s =
+    let none : w.beat.0 - k ≡ 0 = omega (arith, at) in
+    let same : beats_from doc k (w.beat.0 - k) h ≡ h = ap (λ n. beats_from doc k n h) none in
+    record { stands = subst (λ g. StateStands doc w.beat.0 g w) (sym same) (subst (λ n. StateStands doc n h w) (sym at) s); silent = ap printed same }
 
--- the world is before a later beat, and those between add nothing
-pub skipped : (doc : Doc) (k : ℕ) (h : List Entry) (w : State) → k ≤ w.beat.0 → StateStands doc w.beat.0 h w → AddNothing doc k w.beat.0 h → Skipped doc k h w
-skipped doc k h w most s quiet =
-    let is : k + (w.beat.0 - k) ≡ w.beat.0 = omega (arith, most) in
-    let same : beats_from doc k (w.beat.0 - k) h ≡ h = beats-quiet doc k (w.beat.0 - k) h (subst (λ n. AddNothing doc k n h) (sym is) quiet) in
-    record { stands = subst (λ g. StateStands doc w.beat.0 g w) (sym same) s; silent = ap printed same }
+silent-ticked : (k n : ℕ) (h g : List Entry) → ((j : ℕ) → requests_due j g ≡ requests_due j h) → ((j : ℕ) → replies_due j g ≡ replies_due j h) → AreSilent k n h → AreSilent k n g
+silent-ticked k n h g requests replies s = record { requests = λ j from less. requests j ∙ s.requests j from less; replies = λ j from less. replies j ∙ s.replies j from less }
+
+-- the world is before a later beat, and in those between nothing happened but ticks; v is the world after its processes dozed
+pub skipped : (doc : Doc) (k : ℕ) (at : Beat) (h : List Entry) (w v : State) → k ≤ at.0 → OnlyTicks doc k at.0 h w → StateStands doc k h w
+    → ((g : List Entry) → StateWithin doc k (requests_due k h) (replies_due k h) g w → StateWithin doc k (requests_due k h) (replies_due k h) g v) → IsPlaced doc at.0 v.place
+    → Skipped doc k h (record v { beat = at })
+skipped doc k at h w v most only s dozes placed =
+    let n = at.0 - k in
+    let g = beats_from doc k n h in
+    let most_n : k + n ≤ at.0 = omega (arith, most) in
+    let t = ticked-beats doc k at.0 n h w most_n only s.within s.bare in
+    let within : StateWithin doc k (requests_due k g) (replies_due k g) g v =
+    subst (λ ss. StateWithin doc k ss (replies_due k g) g v) (sym (t.requests k)) (subst (λ bs. StateWithin doc k (requests_due k h) bs g v) (sym (t.replies k)) (dozes g t.world)) in
+    record { stands = world-skips doc k at g v most (silent-ticked k at.0 h g t.requests t.replies only.silent) within placed t.bare; silent = t.same }
 
 history-more : (doc : Doc) (k n : ℕ) → history doc (k + n) ≡ beats_from doc k n (history doc k)
 history-more doc k zero = let is : k + 0 ≡ k = omega arith in ap (history doc) is

@@ -5,13 +5,13 @@ use Rattle.kube_objects.specs.declared.call.Ask.{Ask}
 use Rattle.kube_objects.specs.declared.deed.Deed as deed
 use Rattle.kube_objects.specs.Answers.{answer, written}
 use Rattle.kube_objects.specs.declared.deed.Act.TheVariants as act
-use Rattle.kube_objects.specs.Document.{Doc, processes, is_controller, is_up_first}
+use Rattle.kube_objects.specs.Document.{Doc, processes, is_up_first}
 use Rattle.kube_objects.specs.Entry.{Entry, Identity, Call, CallKind, Sends, Answers, Delivers, entry, actor_of}
 use Rattle.kube_objects.specs.Identities.{identity}
 use Rattle.kube_objects.specs.Process.{starts}
 use Rattle.kube_objects.specs.Wire.{Sent, Back, send, next_call, request_arrival, reply_arrival}
 use Rattle.history.specs.Printed.{printed, deeds_of, answer_act}
-use Rattle.history.specs.Steps.{answered, delivered, turn, start_first, start}
+use Rattle.history.specs.Steps.{answered, delivered, elector_turn, start_first, start}
 use Rattle.object_store.proofs.Keeps.{store-beside}
 use Rattle.wire_calls.specs.WireStands.{WireStands}
 use Rattle.world_process.specs.declared.process.Process.{Process}
@@ -19,7 +19,7 @@ use Rattle.world_process.specs.declared.moves.Received.{Received}
 use Rattle.world_process.specs.declared.moves.Turn.{Turn}
 use Rattle.world_core.specs.declared.state.State.{State}
 use Rattle.world_process.specs.Processes.{ProcessStands, SameProcess, AsksOn, Turned, Replied, incarnation_of, clock_of, is_up_first_as}
-use Rattle.world_process.specs.Moves.{AsksOnReply, before_asking, settled_as, started_deeds, ended_deeds, lead_deeds}
+use Rattle.world_process.specs.Moves.{AsksOnReply, before_asking, started_deeds, ended_deeds, lead_deeds}
 use Rattle.world_process.specs.Plain.{IsKnown, IsPlain, with_deeds}
 use Rattle.world_core.specs.States.{HasDelays, IsReady, SameDocument, Keeps, DocStands, EachStands, OthersStand, StateWithin, Running, SendsAsked, GoOnTo}
 use Rattle.world_core.proofs.Around.{Around, around-world, around-own, around-deeds, around-settled, around-started}
@@ -124,11 +124,7 @@ told-more before deeds new more h next told new_is is = ap (λ ds. before ++ ds)
 -- ---- a turn
 
 around-before : (doc : Doc) (k i : ℕ) (arriving : List Sent) (coming : List Back) (h : List Entry) (w : State) → i < processes doc → Around doc k i arriving coming h w → Around doc k i arriving coming (before_asking doc k i h) w
-around-before doc k i arriving coming h w within a = by_sort (is_controller doc i)
-  where
-    by_sort : (b : Bool) → Around doc k i arriving coming (settled_as doc k i b h) w
-    by_sort true = around-settled doc k i arriving coming h w within a
-    by_sort false = a
+around-before doc k i arriving coming h w within a = around-settled doc k i arriving coming h w within a
 
 abbrev pub turn_told : ℕ → Identity → Turn → List deed.Deed → List deed.Deed
 turn_told k q t deeds = deeds ++ started_deeds k q t.started ++ ended_deeds k q t.ended

@@ -1,5 +1,7 @@
 -- Ticks beside the world: where Leases alone were written a tick only syncs and passes, and the world stands as before.
-use Rattle.std.proofs.Common.{◌≡◌, ℕ, zero, suc, ◌<◌, ◌≤◌, Bool, true, false, List, [], ◌∷◌, ◌++◌, Option, Some, None, length, refl, sym, ap, ◌∙◌, subst, arith}
+use Rattle.std.proofs.Common.{◌≡◌, ℕ, zero, suc, ◌+◌, ◌<◌, ◌≤◌, ◌==◌, Bool, true, false, List, [], ◌∷◌, ◌++◌, Option, Some, None, length, refl, sym, ap, ◌∙◌, subst, arith}
+use Rattle.std.proofs.lemmas.Bool.{le-leb}
+use Rattle.std.proofs.lemmas.Bool.Decides.{nat_tests}
 use Rattle.std.proofs.lemmas.List.{append-nil}
 use Rattle.kube_objects.specs.declared.deed.Deed as deed
 use Rattle.kube_objects.specs.Document.{Doc, is_controller, processes}
@@ -18,6 +20,7 @@ use Rattle.history_laws.proofs.Bare.{bare_elector, tick_keeps}
 use Rattle.object_store.proofs.Keeps.{store-beside}
 use Rattle.wire_calls.proofs.Frames.{wire-beside}
 use Rattle.world_process.specs.Plain.{IsKnown}
+use Rattle.world_process.proofs.Names.{eq-is}
 use Rattle.world_process.proofs.Plainly.{known-later, plain-entry}
 use Rattle.world_process.proofs.Processes.{process-ticked}
 use Rattle.world_core.specs.declared.state.State.{State}
@@ -31,6 +34,14 @@ controls doc p none within =
     let count : processes doc ≡ length doc.controllers = ap (λ ks. length (doc.controllers ++ ks)) none ∙ ap (λ ps. length ps) (append-nil doc.controllers) in
     let less : p < length doc.controllers = omega (arith, within, count) in
     le-leb _ _ less
+
+-- what holds below a place and at it holds of all up to it
+pub last-too : (P : ℕ → Type 0) (i p : ℕ) → p < i + 1 → ((p : ℕ) → p < i → P p) → P i → P p
+last-too P i p below earlier last = by_place (p == i) refl
+  where
+    by_place : (b : Bool) → (p == i) ≡ b → P p
+    by_place true same = subst P (sym (eq-is p i same)) last
+    by_place false other = earlier p (grind (arith, nat_tests))
 
 -- ---- an entry of a tick
 

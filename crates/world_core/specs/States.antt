@@ -14,6 +14,7 @@ use Rattle.kube_objects.specs.Wire.{Sent, Back, request_arrival}
 use Rattle.history.specs.History.{beat}
 use Rattle.history.specs.Printed.{printed}
 use Rattle.history.specs.Steps.{happens, happen_all}
+use Rattle.history_laws.specs.Bare.{IsBare, IsBareDocument}
 use Rattle.object_store.specs.Stands.{StoreStands}
 use Rattle.script_reader.specs.Lawful.{IsLawfulWhat, AreLawfulFrom}
 use Rattle.wire_calls.specs.declared.wire.Wire.{Wire}

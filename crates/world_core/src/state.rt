@@ -17,7 +17,8 @@ ghost use Rattle.kube_objects.specs.InFlight.{requests_due, replies_due};
 ghost use Rattle.kube_objects.specs.Wire.{Sent, Back, reply_arrival};
 ghost use Rattle.history.specs.History.{history, beat, put_all};
 ghost use Rattle.history.specs.Printed.{printed};
-ghost use Rattle.history.specs.Steps.{first_starts, start_first, happen_all, delivered, turn, turns};
+ghost use Rattle.history.specs.Steps.{first_starts, start_first, happen_all, delivered, elector_turn, turn, turns};
+ghost use Rattle.history_laws.specs.Bare.{IsBare};
 ghost use Rattle.kube_objects.specs.Document.{is_up_first, processes};
 ghost use Rattle.wire_calls.specs.WireStands.{WireStands, as_delivered, replies_at, requests_at};
 ghost use Rattle.script_reader.specs.Documents.{doc_of};
@@ -201,7 +202,7 @@ impl State {
         }
     }
 
-    // The next beat at which a turn may do something, or the bound where that is earlier.
+    // The next beat at which a turn may do something but for its tick, or the bound where that is earlier.
     fn next_turns(&mut self, bound: Beat) -> Beat
         requires ready { IsReady self.old }
         ensures kept { Keeps self.old self.new }
@@ -209,7 +210,8 @@ impl State {
         ensures stands { (doc : Doc) (k : ℕ) (arriving : List Sent) (coming : List Back) (h : List Entry)
             → StateWithin doc k arriving coming h self.old → StateWithin doc k arriving coming h self.new }
         ensures still { (doc : Doc) (k j : ℕ) (arriving : List Sent) (coming : List Back) (h : List Entry)
-            → StateWithin doc k arriving coming h self.old → j ≤ end_of self.old → j < result.0 → turns doc j (processes doc) h ≡ h }
+            → StateWithin doc k arriving coming h self.old → j ≤ end_of self.old → j < result.0 → (p : ℕ) → p < processes doc
+            → elector_turn doc j p h ≡ h }
     {
         let mut next = bound;
         for i in 0..self.processes.len() {
@@ -218,7 +220,7 @@ impl State {
         next
     }
 
-    // The next beat at which a process's turn may do something, or the bound where that is earlier.
+    // The next beat at which a process's turn may do something but for its tick, or the bound where that is earlier.
     fn next_turn(&mut self, i: usize, bound: Beat) -> Beat
         requires index { i < vec_len self.old.processes }
         requires ready { IsReady self.old }
@@ -227,7 +229,7 @@ impl State {
         ensures stands { (doc : Doc) (k : ℕ) (arriving : List Sent) (coming : List Back) (h : List Entry)
             → StateWithin doc k arriving coming h self.old → StateWithin doc k arriving coming h self.new }
         ensures still { (doc : Doc) (k j : ℕ) (arriving : List Sent) (coming : List Back) (h : List Entry)
-            → StateWithin doc k arriving coming h self.old → j ≤ end_of self.old → j < result.0 → turn doc j i h ≡ h }
+            → StateWithin doc k arriving coming h self.old → j ≤ end_of self.old → j < result.0 → elector_turn doc j i h ≡ h }
     {
         let process = &mut self.processes[i];
         let wakes = process.wakes_from(self.beat);
@@ -507,7 +509,7 @@ impl State {
         requires within { at_of self.old ≤ end_of self.old }
         ensures kept { OnOk result (Keeps self.old self.new) }
         ensures stands { (doc : Doc) (k : ℕ) (before : List Deed) (arriving : List Sent) (coming : List Back) (h : List Entry)
-            → Running doc k before arriving coming h self.old deeds.old → IsFew (turns doc k (processes doc) h)
+            → Running doc k before arriving coming h self.old deeds.old → IsBare h → IsFew (turns doc k (processes doc) h)
             → OnOk result (Running doc k before arriving coming (turns doc k (processes doc) h) self.new deeds.new) }
     {
         for i in 0..self.processes.len() {
@@ -522,7 +524,7 @@ impl State {
         requires within { at_of self.old ≤ end_of self.old }
         ensures kept { OnOk result (Keeps self.old self.new) }
         ensures stands { (doc : Doc) (k : ℕ) (before : List Deed) (arriving : List Sent) (coming : List Back) (h : List Entry)
-            → Running doc k before arriving coming h self.old deeds.old → IsFew (turn doc k i h)
+            → Running doc k before arriving coming h self.old deeds.old → IsBare h → IsFew (turn doc k i h)
             → OnOk result (Running doc k before arriving coming (turn doc k i h) self.new deeds.new) }
     {
         let wakes = self.next_turn(i, Beat(self.beat.0 + 1));
@@ -532,7 +534,8 @@ impl State {
         self.take_turn(i, deeds)
     }
 
-    // A turn of a process that may do something.
+    // A turn of a process that may do something, but for its tick: on documents without Nodes and Pods a tick prints nothing
+    // and changes nothing of the world.
     #[inline(never)]
     fn take_turn(&mut self, i: usize, deeds: &mut Deeds) -> Result<(), NoMemory>
         requires index { i < vec_len self.old.processes }
@@ -540,8 +543,8 @@ impl State {
         requires within { at_of self.old ≤ end_of self.old }
         ensures kept { OnOk result (Keeps self.old self.new) }
         ensures stands { (doc : Doc) (k : ℕ) (before : List Deed) (arriving : List Sent) (coming : List Back) (h : List Entry)
-            → Running doc k before arriving coming h self.old deeds.old → IsFew (turn doc k i h)
-            → OnOk result (Running doc k before arriving coming (turn doc k i h) self.new deeds.new) }
+            → Running doc k before arriving coming h self.old deeds.old → IsFew (elector_turn doc k i h)
+            → OnOk result (Running doc k before arriving coming (elector_turn doc k i h) self.new deeds.new) }
     {
         let process = &mut self.processes[i];
         let turn = process.turn(self.beat, self.restart);

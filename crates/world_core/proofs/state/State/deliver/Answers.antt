@@ -7,6 +7,7 @@ use Rattle.world_process.proofs.Grows.{few-before, grows-delivered}
 use Rattle.world_process.proofs.Processes.{process-me}
 use Rattle.world_core.proofs.Moving.{read-at, within-processes, actor-is, on-ok, sends-as}
 use Rattle.world_core.proofs.Running.{keeps-moved, running-replied}
+use Rattle.world_core.proofs.Ticking.{controls}
 use Rattle.world_core.proofs.state.State.deliver.Goals as goal
 
 pub returns-clause-kept : goal.returns-clause-kept
@@ -32,7 +33,7 @@ returns-clause-stands c doc k before arriving coming h b r is known few =
     let at : w.beat.0 ≡ k = r.world.rest.document.at in
     let process : b.who.process ≡ i = ap (λ d. d.who.0) (sym is) in
     let whose : b.who ≡ identity i back.incarnation = ap (λ n. identity n b.who.incarnation) process ∙ ap (λ n. identity i n) (ap (λ d. d.incarnation) (sym is)) in
-    let replied = c.receive-received.ensures.stands doc k i b h s at whose (ap (λ d. d.number) (sym is)) (ap (λ d. d.reply) (sym is)) (few-before h (delivered doc k b h) (grows-delivered doc k b h) few) in
+    let replied = c.receive-received.ensures.stands doc k i b h s (controls doc i r.world.rest.document.kubelets within) at whose (ap (λ d. d.number) (sym is)) (ap (λ d. d.reply) (sym is)) (few-before h (delivered doc k b h) (grows-delivered doc k b h) few) in
     let me = ap (λ m. m.0) c.receive-received.ensures.same.me ∙ process-me doc i h c0 s in
     let who = actor-is i c1 c.actor-actor.result c.actor-actor.ensures me in
     let told = c.in_ok-tell.ensures ∙ ap (λ a. c.args.deeds.now ++ deeds_of w.beat.0 c.actor-actor.result a) c.lead_act.ensures ∙ ap (λ n. c.args.deeds.now ++ deeds_of n c.actor-actor.result done) at ∙ ap (λ x. c.args.deeds.now ++ deeds_of k x done) who in

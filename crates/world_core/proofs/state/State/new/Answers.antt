@@ -2,11 +2,12 @@ use Rattle.std.proofs.Common.{◌≡◌, ◌<◌, ◌++◌, [], length, refl, sy
 use Rattle.kube_objects.specs.Document.{Doc, processes}
 use Rattle.kube_objects.specs.InFlight.{replies_due}
 use Rattle.history.specs.History.{history}
+use Rattle.history_laws.proofs.Bare.{bare_history}
 use Rattle.script_reader.specs.Documents.{doc_of}
 use Rattle.script_reader.specs.Lawful.{AreLawfulFrom}
 use Rattle.wire_calls.specs.WireStands.{WireStands}
 use Rattle.world_core.proofs.Ranges.{end-most, all-delays}
-use Rattle.world_core.proofs.RunForms.{no-kubelets, processes-are}
+use Rattle.world_core.proofs.RunForms.{leases-alone, no-kubelets, processes-are}
 use Rattle.world_core.proofs.Puts.{put-plain, put-wire, put-each, put-requests, put-replies}
 use Rattle.world_core.proofs.state.State.new.Goals as goal
 
@@ -40,6 +41,8 @@ returns-clause-stands c = record {
         epoch = refl;
         micros = refl;
         events = refl;
+        kubelets = no-kubelets doc c.requires.form;
+        leases = leases-alone doc c.requires.form;
       };
       plain = put-plain doc (processes doc) doc.objects [] (record { fresh = λ p i less. tt; all = tt });
       store = c.in_ok-store.ensures doc refl;
@@ -50,6 +53,7 @@ returns-clause-stands c = record {
     processes = put-each doc doc.objects [] c.in_ok-processes.processes.items (c.in_ok-processes.ensures.stands doc (record { settings = refl; controllers = refl; kubelets = no-kubelets doc c.requires.form; events = sym c.as_slice.ensures }));
   };
   placed = record { earlier = λ i e less is. absurd (omega (arith, less)); later = c.requires.lawful.events };
+  bare = bare_history doc (leases-alone doc c.requires.form) 0;
 }
   where
     doc : Doc

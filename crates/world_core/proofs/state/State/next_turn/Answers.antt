@@ -1,8 +1,9 @@
 use Rattle.std.proofs.Common.{◌<◌, ◌≤◌, refl, ◌∙◌, arith}
 use Rattle.world_process.specs.Processes.{clock_of}
 use Rattle.world_core.proofs.Around.{around-world}
-use Rattle.world_core.proofs.Moving.{read-at}
+use Rattle.world_core.proofs.Moving.{read-at, within-processes}
 use Rattle.world_core.proofs.Running.{keeps-moved, within-moved}
+use Rattle.world_core.proofs.Ticking.{controls}
 use Rattle.world_core.proofs.state.State.next_turn.Goals as goal
 
 pub returns-clause-kept : goal.returns-clause-kept
@@ -31,4 +32,5 @@ returns-clause-still c doc k j arriving coming h s within less =
     let inside : j ≤ (clock_of c0).end = omega (arith, within, end) in
     let sooner = c.earlier.ensures.0 in
     let before : j < c.wakes_from-wakes.result.0 = omega (arith, less, sooner) in
-    c.wakes_from-wakes.ensures.still doc j i h (s.processes i c0 was) inside before
+    let is = controls doc i s.rest.document.kubelets (within-processes doc k w i s.rest.document c.requires.index) in
+    c.wakes_from-wakes.ensures.still doc j i h (s.processes i c0 was) is inside before

@@ -6,6 +6,7 @@ use Rattle.history.specs.Printed.{deeds_of}
 use Rattle.world_process.proofs.Processes.{process-me}
 use Rattle.world_core.proofs.Moving.{read-at, within-processes, actor-is, on-ok, sends-as}
 use Rattle.world_core.proofs.Running.{keeps-moved, running-turned}
+use Rattle.world_core.proofs.Ticking.{controls}
 use Rattle.world_core.proofs.state.State.take_turn.Goals as goal
 
 pub returns-clause-kept : goal.returns-clause-kept
@@ -25,7 +26,8 @@ returns-clause-stands c doc k before arriving coming h r few =
     let was = read-at w i c0 c.requires.index c.index_mut-process.ensures.value in
     let s = r.world.processes i c0 was in
     let at : w.beat.0 ≡ k = r.world.rest.document.at in
-    let turned = c.turn-turn.ensures.stands doc (processes doc) k i h s at r.world.rest.document.restart r.world.rest.plain few in
+    let is = controls doc i r.world.rest.document.kubelets (within-processes doc k w i r.world.rest.document c.requires.index) in
+    let turned = c.turn-turn.ensures.stands doc (processes doc) k i h s is at r.world.rest.document.restart r.world.rest.plain few in
     let me = ap (λ m. m.0) c.turn-turn.ensures.same.me ∙ process-me doc i h c0 s in
     let who = actor-is i c1 named c.actor-actor.ensures me in
     let told = c.in_ok-tell-2.ensures
