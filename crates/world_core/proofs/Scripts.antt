@@ -11,7 +11,7 @@ use Rattle.kube_objects.specs.declared.script.What.TheVariants as what
 use Rattle.kube_objects.specs.Document.{Doc, processes, is_controller}
 use Rattle.kube_objects.specs.Entry.{Entry, Event, Crashes, Stops, entry, script_entry}
 use Rattle.kube_objects.specs.Identities.{identity}
-use Rattle.kube_objects.specs.Process.{alive, starts, cancels}
+use Rattle.kube_objects.specs.Process.{alive, cancels}
 use Rattle.kube_objects.specs.Stored.{write_of}
 use Rattle.kube_objects.specs.Wire.{Sent, Back}
 use Rattle.history.specs.Printed.{printed, deeds_of, event_act}
@@ -24,7 +24,6 @@ use Rattle.world_process.specs.declared.process.Process.{Process}
 use Rattle.world_core.specs.declared.state.State.{State}
 use Rattle.world_process.specs.Processes.{ProcessStands, AsksOn, incarnation_of}
 use Rattle.world_process.specs.Moves.{stop_in, stopped}
-use Rattle.world_process.specs.Plain.{IsKnown}
 use Rattle.world_core.specs.States.{SameDocument, EachStands, Running, SendsAsked}
 use Rattle.world_core.proofs.Around.{Around, around-own, around-started, alive-known}
 use Rattle.world_process.proofs.Names.{lt-from, eq-isnt}

@@ -1,5 +1,5 @@
 // What a world keeps, and how it does one beat.
-ghost use Rattle.std.specs.Prelude.{◌≡◌, ◌∷◌, ◌+◌, ◌*◌, ◌<◌, ◌≤◌, ◌++◌, ℕ, List, [], true, false, IfOk, OnOk, IsTrue, ◌↔◌, vec_len, length, slice_get, drop, All, Option, Some};
+ghost use Rattle.std.specs.Prelude.{◌≡◌, ◌∷◌, ◌+◌, ◌*◌, ◌<◌, ◌≤◌, ◌++◌, ℕ, List, [], true, false, IfOk, OnOk, IsTrue, ◌↔◌, vec_len, length, drop, All, Option, Some};
 ghost use Rattle.std.specs.List.Sorted.{IsStrictlySortedBy};
 ghost use Rattle.std.specs.Map.{keys_of, lookup};
 ghost use Rattle.kube_objects.specs.declared.deed.Deed.{Deed};

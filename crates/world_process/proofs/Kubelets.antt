@@ -13,19 +13,19 @@ use Rattle.kube_objects.specs.Clocks.{store_wall, whole_second}
 use Rattle.kube_objects.specs.Document.{Doc, is_controller}
 use Rattle.kube_objects.specs.Entry.{Entry, Identity, Call, Deed, First, Event, Starts, Crashes, Answers, Tick, Ticks, entry, script_entry, actor_of}
 use Rattle.kube_objects.specs.Identities.{identity}
-use Rattle.kube_objects.specs.Newest.{when, join}
-use Rattle.kube_objects.specs.Process.{alive, life, gone, starts, counted}
+use Rattle.kube_objects.specs.Newest.{when}
+use Rattle.kube_objects.specs.Process.{alive, life, starts, counted}
 use Rattle.kube_objects.specs.Stamps.{stamped}
 use Rattle.kube_objects.specs.Wire.{Back}
 use Rattle.history.specs.History.{put_all}
 use Rattle.history.specs.Printed.{printed, deeds_of}
 use Rattle.history.specs.Steps.{crash, happens, start, start_if_down}
 use Rattle.world_process.specs.declared.kubelet.Kubelet.{Kubelet}
-use Rattle.world_process.specs.Kubelets.{Begun, Crashed, KubeletStands}
+use Rattle.world_process.specs.Kubelets.{Begun, KubeletStands}
 use Rattle.world_process.specs.Moves as moves
 use Rattle.world_process.specs.Plain.{IsFew}
-use Rattle.world_process.proofs.Lives.{alive-others, alive-start, starts-others}
-use Rattle.world_process.proofs.Names.{of_process-other, of_process-own}
+use Rattle.world_process.proofs.Lives.{alive-others, starts-others}
+use Rattle.world_process.proofs.Names.{of_process-other}
 use Rattle.world_process.proofs.Plainly.{starts-start}
 use Rattle.world_process.proofs.Restarts.{starts-few}
 use Rattle.world_process.proofs.Scripted.{starts-script}

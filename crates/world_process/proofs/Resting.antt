@@ -1,5 +1,5 @@
 -- A turn before the reading at which its controller wakes does nothing.
-use Rattle.std.proofs.Common.{nat_le, ◌<◌, ◌≡◌, ℕ, Bool, true, false, nat_lt, List, [], ◌∷◌, ◌++◌, length, Option, Some, None, refl, sym, ap, ◌∙◌, subst, arith}
+use Rattle.std.proofs.Common.{nat_le, ◌<◌, ◌≡◌, ℕ, Bool, true, false, nat_lt, List, ◌∷◌, length, Option, Some, None, refl, sym, ap, ◌∙◌, subst, arith}
 use Rattle.std.proofs.lemmas.Bool.Decides.{nat_tests}
 use Rattle.std.proofs.lemmas.List.{append-nil}
 use Rattle.kube_base.specs.declared.numbers.Local.{Local}
@@ -19,7 +19,7 @@ use Rattle.leader_elector.specs.Stands.{LeadingStands}
 use Rattle.leader_elector.proofs.Expiry.{deadline-expiry}
 use Rattle.world_process.specs.declared.controller.Controller.{Controller}
 use Rattle.world_process.specs.declared.controller.Role.TheVariants as role
-use Rattle.world_process.specs.Controllers.{AsksOn, ControllerStands, IsStill, Timed, Turned, waiting_of}
+use Rattle.world_process.specs.Controllers.{AsksOn, ControllerStands, IsStill, Timed, waiting_of}
 use Rattle.world_process.specs.Moves.{settled}
 use Rattle.world_process.proofs.Standing.{role-at}
 use Rattle.world_process.proofs.Restarts.{restart-never, restart-waits}

@@ -1,8 +1,8 @@
-use Rattle.std.proofs.Common.{◌≡◌, ◌+◌, ◌<◌, ◌++◌, ℕ, true, [], Some, length, slice_get, sym, ap, ◌∙◌, subst, arith}
+use Rattle.std.proofs.Common.{◌≡◌, ◌+◌, ◌<◌, ◌++◌, true, [], length, slice_get, sym, ap, ◌∙◌, subst, arith}
 use Rattle.std.proofs.lemmas.Bool.{le-leb}
 use Rattle.std.proofs.lemmas.List.{append-nil}
 use Rattle.std.proofs.lemmas.Option.{slice_get-get_or}
-use Rattle.kube_objects.specs.Document.{is_controller, process_at}
+use Rattle.kube_objects.specs.Document.{is_controller}
 use Rattle.world_process.specs.declared.process.Process.TheVariants as variant
 use Rattle.world_process.specs.Processes.{ProcessStands, clock_of}
 use Rattle.world_core.specs.States.{EachStands, GoOnTo}

@@ -10,7 +10,7 @@ use Rattle.world_process.specs.Moves.{started_deeds}
 use Rattle.world_process.specs.Processes.{incarnation_of}
 use Rattle.world_process.proofs.Processes.{process-me}
 use Rattle.world_core.proofs.Around.{around-world}
-use Rattle.world_core.proofs.Moving.{read-at, within-end, actor-is, on-ok}
+use Rattle.world_core.proofs.Moving.{read-at, actor-is, on-ok}
 use Rattle.world_core.proofs.Scripts.{around-begin, running-moved}
 use Rattle.world_core.proofs.state.State.start.Goals as goal
 
