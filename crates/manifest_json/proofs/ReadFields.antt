@@ -1,18 +1,16 @@
 -- What fields of a manifest give: numbers in their ranges, times that can be written, and numbers of texts that the names hold.
-use Rattle.std.proofs.Common.{◌≡◌, ℕ, ℤ, pos, negsuc, ◌+◌, ◌-◌, ◌*◌, ◌/◌, ◌%◌, ◌^◌, ◌<◌, ◌≤◌, ◌==◌, ◌&&◌, nat_le, nat_lt, Bool, true, false, cond, List, codes, ◌++◌, length, Option, Some, None, unwrap_or, option_and_then, refl, ap, ◌∙◌, arith, leb-true, ltb-true}
+use Rattle.std.proofs.Common.{◌≡◌, ℕ, ℤ, pos, negsuc, ◌+◌, ◌-◌, ◌^◌, ◌≤◌, nat_le, nat_lt, Bool, true, false, cond, List, Option, Some, None, unwrap_or, option_and_then, refl, ap, ◌∙◌, arith, leb-true, ltb-true}
 use Rattle.std.specs.Char.{is_ascii_digit}
 use Rattle.std.specs.Prelude.{slice_index, Result}
 use Rattle.std.proofs.lemmas.Bool.{and_parts}
-use Rattle.serde_json.specs.Data.{Data, Num, unsigned, negative, float}
+use Rattle.serde_json.specs.Data.{Data}
 use Rattle.serde_json.specs.Find.{as_str, as_number, as_u64, as_i64}
-use Rattle.kube_base.specs.Names.{number_in, with_name}
-use Rattle.kube_base.specs.Times as times
 use Rattle.kube_base.specs.Times.{◌>>=◌, digit_at, fraction_digit, micros_of, wall_of, instant, day_at, second_at, fraction_digits, offset_at, zone_place, time_of, last_wall}
 use Rattle.kube_base.specs.declared.numbers.Wall.{Wall}
 use Rattle.manifest_json.specs.declared.codes.TheConstants.{BAD_NUMBER, BAD_TIME}
 use Rattle.manifest_json.specs.declared.fault.Refusal.{Refusal}
-use Rattle.manifest_json.specs.Fields.{Texts, is_name, is_label, some_or_refuse, time_at, small, count_at, fits, signed_at, numbered, named}
-use Rattle.manifest_json.specs.Readable.{IsHeld, IsFilled, IsNameNumber, IsLabelNumber, IsTime, IsWholeSecond, IsCount, IsSigned}
+use Rattle.manifest_json.specs.Fields.{Texts, is_name, some_or_refuse, time_at, small, count_at, fits, signed_at, numbered, named}
+use Rattle.manifest_json.specs.Readable.{IsHeld, IsNameNumber, IsTime, IsWholeSecond, IsCount, IsSigned}
 use Rattle.manifest_json.specs.Walk.{whole_second}
 use Rattle.manifest_json.specs.Written.{text_of}
 use Rattle.manifest_json.proofs.Getting.{Gets, Has, done, refused, weaker, by_test}

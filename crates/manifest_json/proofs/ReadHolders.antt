@@ -1,8 +1,7 @@
 -- A holder that is read is readable: nobody, the identity of a controller, or a text that is no identity.
-use Rattle.std.proofs.Common.{◌≡◌, ℕ, zero, suc, ◌+◌, ◌-◌, ◌*◌, ◌<◌, ◌≤◌, ◌==◌, ◌&&◌, nat_le, nat_lt, Bool, true, false, cond, List, [], ◌∷◌, length, reverse, take, drop, position, slice_get, Option, Some, None, unwrap_or, option_and_then, Ok, refl, sym, ap, ◌∙◌, arith, leb-true, ltb-true, eqb-true}
+use Rattle.std.proofs.Common.{◌≡◌, ℕ, zero, suc, ◌+◌, ◌-◌, ◌*◌, ◌<◌, ◌≤◌, ◌==◌, ◌&&◌, nat_le, nat_lt, Bool, true, false, cond, List, [], ◌∷◌, length, reverse, take, drop, position, slice_get, Option, Some, None, unwrap_or, option_and_then, refl, sym, ap, ◌∙◌, arith, leb-true, ltb-true, eqb-true}
 use Rattle.std.specs.Char.{is_ascii_digit}
 use Rattle.std.specs.List.{position_or_len}
-use Rattle.std.specs.Prelude.{Result}
 use Rattle.std.proofs.lemmas.Bool.{and_parts}
 use Rattle.std.proofs.lemmas.Bool.Decides.{nat_tests}
 use Rattle.kube_base.specs.Names.{number_of}
@@ -12,9 +11,8 @@ use Rattle.manifest_json.specs.Faults.{◌>>=◌}
 use Rattle.manifest_json.specs.Fields.{Texts}
 use Rattle.manifest_json.specs.Readable.{AreHeld, IsHeld, IsReadableHolder}
 use Rattle.manifest_json.specs.Walk.{number_onto, incarnation_of, process_of, identity_from, identity_behind, identity_of, holder_or, holder_of}
-use Rattle.manifest_json.specs.Written.{text_of}
-use Rattle.manifest_json.proofs.Getting.{Gets, Has, done, and_then, by_test}
-use Rattle.manifest_json.proofs.Growing.{Grows, Grows-none, hit, identity_of-grows}
+use Rattle.manifest_json.proofs.Getting.{Has, done, and_then, by_test}
+use Rattle.manifest_json.proofs.Growing.{Grows-none, hit, identity_of-grows}
 use Rattle.manifest_json.proofs.ReadFields.{Reads, numbered-reads}
 
 -- ---- incarnations

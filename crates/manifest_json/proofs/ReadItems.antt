@@ -1,13 +1,11 @@
 -- What a manifest gives is readable, so it is written and read back as it is.
-use Rattle.std.proofs.Common.{◌≡◌, ℕ, ◌+◌, ◌<◌, ◌≤◌, ◌==◌, ◌&&◌, ◌||◌, not, nat_lt, nat_le, Bool, true, false, cond, List, [], ◌∷◌, ◌++◌, length, map, codes, Option, Some, None, Ok, refl, sym, ap, subst, ◌∙◌, arith, append_assoc, length-append, leb-true, ltb-true, ltb-false, count_by}
-use Rattle.std.specs.List.{AllByRecursion, list_all, list_any, IsDistinct}
-use Rattle.std.specs.Prelude.{Result, All}
+use Rattle.std.proofs.Common.{◌≡◌, ℕ, ◌+◌, ◌≤◌, ◌==◌, ◌&&◌, not, nat_lt, Bool, true, false, List, [], ◌∷◌, ◌++◌, length, codes, Option, Some, None, Ok, refl, sym, ap, ◌∙◌, arith, append_assoc, length-append, ltb-false}
+use Rattle.std.specs.List.{AllByRecursion, list_all, list_any}
 use Rattle.std.proofs.lemmas.Bool.{and_parts, le-leb}
 use Rattle.std.proofs.lemmas.List.{append-nil}
 use Rattle.serde_json.specs.Data.{Data, Items, no_items, item}
 use Rattle.kube_base.specs.Times.{last_wall}
 use Rattle.kube_base.specs.declared.numbers.Wall.{Wall}
-use Rattle.kube_objects.specs.Keys.{key_eq, kind_rank}
 use Rattle.kube_objects.specs.declared.key.Key.{Key}
 use Rattle.kube_objects.specs.declared.key.Kind.{Kind}
 use Rattle.kube_objects.specs.declared.key.Kind.TheVariants as kinds
@@ -18,14 +16,13 @@ use Rattle.kube_objects.specs.declared.object.Object.{Object}
 use Rattle.kube_objects.specs.declared.object.Object.TheVariants as objects
 use Rattle.kube_objects.specs.declared.pod.Toleration.{Toleration}
 use Rattle.manifest_json.specs.declared.codes.TheConstants.{WRONG_JSON}
-use Rattle.manifest_json.specs.declared.fault.Refusal.{Refusal}
 use Rattle.manifest_json.specs.Fields.{Texts, is_label, field, field_in, object_at, parent_at, text_at, items_at}
-use Rattle.manifest_json.specs.Readable.{AreHeld, IsHeld, IsFilled, IsNameNumber, IsLabelNumber, IsTime, IsWholeSecond, IsReadableTaint, taints_differ, IsReadableReady, IsReadableNode, IsReadableLease, IsReadableToleration, IsNodeNumber, IsReadablePod, IsReadableItem, items_fit, IsReadable}
-use Rattle.manifest_json.specs.Walk.{name_text_at, space_text_at, name_at, space_at, spaced_key_at, label_from, label_at, effect_at, same_taint, taint_text_at, taint_key_at, text_number_at, unless_earlier, taint_at, whole_second, member_path, taints_from, items_len, hundred, taints_at, status_at, ready_at, is_ready_type, condition_at, conditions_from, conditions_at, labels_at, node_at, lease_spec_at, lease_at, operator_at, any_effect_at, is_lawful, if_lawful, toleration_at, tolerations_from, tolerations_at, node_name_from, node_name_at, pod_at, kind_at, of_kind_at, if_kind, item_at, object_walk, kind_limit, kind_count, has_key, with_found, with_item, list_step, list_from, list_walk}
+use Rattle.manifest_json.specs.Readable.{AreHeld, IsHeld, IsFilled, IsNameNumber, IsLabelNumber, IsTime, IsWholeSecond, IsReadableTaint, taints_differ, IsReadableReady, IsReadableLease, IsReadableToleration, IsNodeNumber, IsReadableItem, items_fit, IsReadable}
+use Rattle.manifest_json.specs.Walk.{name_text_at, space_text_at, name_at, space_at, spaced_key_at, label_at, effect_at, same_taint, taint_text_at, taint_key_at, text_number_at, taint_at, whole_second, member_path, taints_from, items_len, hundred, taints_at, status_at, ready_at, is_ready_type, condition_at, conditions_from, conditions_at, labels_at, node_at, lease_spec_at, lease_at, operator_at, any_effect_at, is_lawful, toleration_at, tolerations_from, tolerations_at, node_name_at, pod_at, of_kind_at, if_kind, item_at, object_walk, kind_limit, kind_count, has_key, with_found, with_item, list_step, list_from, list_walk}
 use Rattle.manifest_json.specs.Written.{is_writable, is_writable_taint, is_writable_condition, is_writable_item}
 use Rattle.manifest_json.proofs.Getting.{Gets, done, refused, weaker, by_test, and_then, skip}
 use Rattle.manifest_json.proofs.Growing.{Grows, Grows-none, Grows-then, IsHeld-grows}
-use Rattle.manifest_json.proofs.ReadableGrows.{all-weaker, all-push, AreHeld-grows, IsFilled-grows, IsNameNumber-grows, IsLabelNumber-grows, IsNodeNumber-grows, IsReadableTaint-grows, IsReadableReady-grows, IsReadableToleration-grows, IsReadableItem-grows}
+use Rattle.manifest_json.proofs.ReadableGrows.{all-weaker, all-push, AreHeld-grows, IsFilled-grows, IsNameNumber-grows, IsLabelNumber-grows, IsNodeNumber-grows, IsReadableTaint-grows, IsReadableToleration-grows, IsReadableItem-grows}
 use Rattle.manifest_json.proofs.ReadFields.{Reads, time-in, whole-in, count-in, signed-in, numbered-reads, named-reads}
 use Rattle.manifest_json.proofs.ReadHolders.{holder-reads}
 

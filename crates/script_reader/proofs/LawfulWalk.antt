@@ -1,5 +1,5 @@
 -- Each document that the walk gives is lawful, and its names hold its numbers.
-use Rattle.std.proofs.Common.{◌≡◌, ℕ, ◌≤◌, List, [], ◌∷◌, length, codes, refl, arith}
+use Rattle.std.proofs.Common.{ℕ, ◌≤◌, List, [], ◌∷◌, length, codes, refl, arith}
 use Rattle.std.specs.List.{AllByRecursion}
 use Rattle.std.specs.Prelude.{All}
 use Rattle.std.proofs.lemmas.List.{length-map}
@@ -13,7 +13,7 @@ use Rattle.kube_objects.specs.declared.key.Key.{Key}
 use Rattle.kube_objects.specs.declared.object.Object.{Object}
 use Rattle.kube_objects.specs.declared.script.Proc.{Proc}
 use Rattle.manifest_json.proofs.FittingItems.{keys-apart, kinds-few}
-use Rattle.manifest_json.proofs.Getting.{Gets, done, weaker, and_then, skip}
+use Rattle.manifest_json.proofs.Getting.{Gets, done, and_then, skip}
 use Rattle.manifest_json.proofs.Growing.{Grows, Grows-none, Grows-then}
 use Rattle.manifest_json.proofs.ReadFields.{Reads}
 use Rattle.manifest_json.proofs.ReadItems.{list-reads, IsReadable-grows}

@@ -25,7 +25,7 @@ use Rattle.script_reader.specs.declared.parts.Rates.{Rates}
 use Rattle.script_reader.specs.declared.parts.Timings.{Timings}
 use Rattle.script_reader.specs.declared.table.Table.TheVariants as tables
 use Rattle.script_reader.specs.declared.table.Version.{Version}
-use Rattle.script_reader.specs.Fields.{under, text_at, needed_text, if_name, needed_name, name_at, needed_whole, whole_at, flag_at, policy_at, posted_of, posted_at, if_epoch, epoch_at}
+use Rattle.script_reader.specs.Fields.{under, text_at, needed_text, if_name, needed_name, name_at, needed_whole, whole_at, flag_at, policy_at, if_epoch, epoch_at}
 use Rattle.script_reader.specs.Lawful.{AreLawful, IsPosted, IsLawful, AreNamedApart}
 use Rattle.script_reader.specs.Walk.{object_in, if_end, beats_at, timings_at, standard, periods_at, rates_at, is_sound, settings_of, settings_at, named_at, clock_at, timings_of, has_name, numbers_of, controller_of, controller_at, controllers_from, not_empty, controllers_in, kubelet_of, kubelet_at, kubelets_from, kubelets_in}
 use Rattle.script_reader.proofs.FieldRanges.{IsIn, whole_at-in, IsSignedIn, signed_at-in, posted_at-in, array-few}
