@@ -21,7 +21,7 @@ use Rattle.world_core.specs.declared.state.State.{State}
 use Rattle.world_process.specs.Processes.{ProcessStands, SameProcess, AsksOn, Turned, Replied, incarnation_of, clock_of, is_up_first_as}
 use Rattle.world_process.specs.Moves.{AsksOnReply, before_asking, started_deeds, ended_deeds, lead_deeds}
 use Rattle.world_process.specs.Plain.{IsKnown, IsPlain, with_deeds}
-use Rattle.world_core.specs.States.{HasDelays, IsReady, SameDocument, Keeps, DocStands, EachStands, OthersStand, StateWithin, Running, SendsAsked}
+use Rattle.world_core.specs.States.{IsFit, IsReady, SameDocument, Keeps, DocStands, EachStands, OthersStand, StateWithin, Running, SendsAsked}
 use Rattle.world_core.proofs.Around.{Around, around-world, around-own, around-deeds, around-settled, around-started}
 use Rattle.world_process.proofs.Processes.{process-incarnation, process-others, process-answered, process-up_first}
 use Rattle.world_core.proofs.Lists.{slice_get-set_same, slice_get-set_other, length-set}
@@ -185,7 +185,7 @@ ready-same w v same clocks ready =
       restart = subst (λ n. n ≤ 86400000000000000) (sym same.restart) ready.restart;
       epoch = subst (λ e. e.0 < 7258118400000000) (sym same.epoch) ready.epoch;
       micros = subst (λ n. n ≤ 1000000) (sym same.micros) ready.micros;
-      events = subst (All (λ e. HasDelays e.what)) (sym same.events) ready.events;
+      events = subst (All (λ e. IsFit e.what)) (sym same.events) ready.events;
       clocks = λ i c is. clocks i c is ∙ ap (λ e. e.0) (sym same.end);
     }
 

@@ -5,11 +5,12 @@ use Rattle.kube_objects.specs.declared.deed.Deed as deed
 use Rattle.kube_objects.specs.declared.script.Event.{Event}
 use Rattle.kube_objects.specs.declared.script.Proc.{Proc}
 use Rattle.kube_objects.specs.declared.script.What.{What}
-use Rattle.kube_objects.specs.declared.script.What.TheVariants.{Delay}
+use Rattle.kube_objects.specs.declared.script.What.TheVariants.{Delay, Put}
 use Rattle.kube_objects.specs.declared.settings.Settings.{Settings}
 use Rattle.kube_objects.specs.Document.{Doc, processes, restart_delay, beat_micros}
 use Rattle.kube_objects.specs.Entry.{Entry, Identity, Call, Sends, entry}
 use Rattle.kube_objects.specs.InFlight.{requests_due, replies_due}
+use Rattle.kube_objects.specs.Kinds.{IsOfKind}
 use Rattle.kube_objects.specs.Wire.{Sent, Back, request_arrival}
 use Rattle.history.specs.History.{beat}
 use Rattle.history.specs.Printed.{printed}
@@ -35,10 +36,11 @@ end_of w = w.end.0
 abbrev pub names_of : State → List (List ℕ)
 names_of w = w.names
 
--- the ranges of an event's delays, in beats
-abbrev pub HasDelays : What → Type 0
-HasDelays (Delay id requests replies) = ((1 ≤ requests) × (requests ≤ 6000)) × ((1 ≤ replies) × (replies ≤ 6000))
-HasDelays _ = Unit {0}
+-- the ranges of an event's delays, in beats; an object that it puts is of its key's kind
+abbrev pub IsFit : What → Type 0
+IsFit (Delay id requests replies) = ((1 ≤ requests) × (requests ≤ 6000)) × ((1 ≤ replies) × (replies ≤ 6000))
+IsFit (Put key object) = IsOfKind key object
+IsFit _ = Unit {0}
 
 -- the processes' clocks go on to this beat
 abbrev pub GoOnTo : ℕ → List Process → Type 0
@@ -50,7 +52,7 @@ pub record IsReady (w : State) : Type 0 where
   pub restart : w.restart ≤ 86400000000000000
   pub epoch : w.epoch.0 < 7258118400000000
   pub micros : w.micros ≤ 1000000
-  pub events : All (λ e. HasDelays e.what) w.events
+  pub events : All (λ e. IsFit e.what) w.events
   pub clocks : GoOnTo w.end.0 w.processes.items
 
 -- the beat and what was read of the document, but for the place among the events

@@ -3,17 +3,11 @@ ghost use Rattle.std.specs.Prelude.{◌≡◌, ◌++◌, OnOk, option_map};
 ghost use Rattle.kube_objects.specs.declared.deed.Act.TheVariants as Act;
 ghost use Rattle.kube_objects.specs.Newest.{when};
 ghost use Rattle.kube_objects.specs.declared.script.What.TheVariants as What;
-ghost use Rattle.history.specs.Printed.{answer_act as act_of_answer, as_answer as answer_of, if_told as told_of, deeds_of, event_act};
+ghost use Rattle.history.specs.Printed.{answer_act as act_of_answer, if_told as told_of, deeds_of, event_act};
+ghost use Rattle.kube_objects.specs.Tries.{as_answer as answer_of};
 
 use kube_base::{Beat, NoMemory, Version};
-use kube_objects::{Act, Actor, Answer, Deed, Deeds, Key, Kind, Reply, Request};
-
-/// The election Lease kube-system/kube-controller-manager, by the numbers of its fixed names.
-const ELECTION: Key = Key {
-    kind: Kind::Lease,
-    space: 7,
-    name: 8,
-};
+use kube_objects::{Act, Actor, Answer, Deed, Deeds, Key, Reply, Request};
 
 /// Adds the deed of an entry, where it has one.
 pub fn tell(deeds: &mut Deeds, beat: Beat, actor: Actor, act: Option<Act>) -> Result<(), NoMemory>
@@ -64,7 +58,7 @@ fn if_told(key: &Key, answer: Answer) -> Option<Answer>
     ensures { result ≡ told_of key.now answer }
 {
     match answer {
-        Answer::Done(version) => if *key == ELECTION {
+        Answer::Done(version) => if *key == Key::ELECTION {
             Some(Answer::Done(version))
         } else {
             None

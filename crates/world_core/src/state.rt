@@ -10,6 +10,7 @@ ghost use Rattle.kube_objects.specs.declared.object.Object as Objects;
 ghost use Rattle.kube_objects.specs.Entry.{Entry, Identity, Call, Answers, entry};
 ghost use Rattle.kube_objects.specs.Identities.{identity};
 ghost use Rattle.kube_objects.specs.Keys.{key_cmp, key_eq};
+ghost use Rattle.kube_objects.specs.Kinds.{IsOfKind, keeps_kind};
 ghost use Rattle.kube_objects.specs.Stored.{request_write, stored, write_of};
 ghost use Rattle.object_store.specs.StoreAnswers.{object_of};
 ghost use Rattle.object_store.specs.Stands.{StoreStands};
@@ -28,7 +29,7 @@ ghost use Rattle.world_process.specs.Processes.{is_up_first_as};
 ghost use Rattle.world_core.specs.Forms.{is_run};
 ghost use Rattle.world_process.specs.Plain.{IsFew, IsKnown, SentByKnown, BackToKnown};
 ghost use Rattle.history.specs.Due.{answer_all, deliver_all};
-ghost use Rattle.world_core.specs.States.{Skipped, AreSilent, EachStands, at_of, end_of, names_of, GoOnTo, AreMadeOf, SendsAsked, HasDelays, IsReady, IsPlaced, SameDocument, Keeps, StateStands, StateWithin, Running, Happens, Scripted};
+ghost use Rattle.world_core.specs.States.{Skipped, AreSilent, EachStands, at_of, end_of, names_of, GoOnTo, AreMadeOf, SendsAsked, IsFit, IsReady, IsPlaced, SameDocument, Keeps, StateStands, StateWithin, Running, Happens, Scripted};
 
 use crate::printing::{
     answer_act, crash_act, end_act, lead_act, remove_act, start_act, stop_act, tell,
@@ -301,7 +302,7 @@ impl State {
     fn happen(&mut self, what: What, deeds: &mut Deeds) -> Result<(), NoMemory>
         requires ready { IsReady self.old }
         requires within { at_of self.old ≤ end_of self.old }
-        requires delays { HasDelays what }
+        requires fit { IsFit what }
         ensures kept { OnOk result (Keeps self.old self.new) }
         ensures stands { OnOk result (Happens self.old deeds.old self.new deeds.new what) }
     {
@@ -379,6 +380,7 @@ impl State {
 
     fn put(&mut self, key: Key, object: Object, deeds: &mut Deeds) -> Result<(), NoMemory>
         requires ready { IsReady self.old }
+        requires kind { IsOfKind key object }
         requires within { at_of self.old ≤ end_of self.old }
         ensures kept { OnOk result (Keeps self.old self.new) }
         ensures stands { OnOk result (Happens self.old deeds.old self.new deeds.new (What.Put key object)) }
@@ -560,6 +562,7 @@ impl State {
 // The store's answer. It stays out of line, so that a beat at which nothing arrives costs no more than to see that.
 #[inline(never)]
 fn answer(store: &mut Store, request: Request) -> Result<Reply, NoMemory>
+    requires { keeps_kind request ≡ true }
     ensures answer { (h : List Entry) → StoreStands h store.old → IfOk result (λ reply. reply ≡ store_answer request h) }
     ensures ok { (h : List Entry) (e : Entry) → StoreStands h store.old → write_of e.deed ≡ request_write request (written request h)
         → OnOk result (StoreStands (e ∷ h) store.new) }
@@ -637,6 +640,7 @@ fn copy_of(what: &What) -> Result<What, NoMemory>
 
 // The store with a document's objects, put in order.
 fn store_of(alloc: Global, items: &Items, epoch: Wall) -> Result<Store, NoMemory>
+    requires { All (λ item. IsOfKind item.0 item.1) items.now }
     ensures { (doc : Doc) → doc.settings.epoch ≡ epoch → IfOk result (StoreStands (put_all doc items.now [])) }
 {
     let mut store = Store::new(alloc);

@@ -1,13 +1,27 @@
-use Rattle.std.proofs.Common.{◌≡◌, ◌+◌, ◌*◌, ◌++◌, ℕ, [], ◌∷◌, Some, take, sym, ap, ◌∙◌, subst, arith}
+use Rattle.std.proofs.Common.{All, ◌≡◌, ◌+◌, ◌*◌, ◌++◌, ℕ, [], ◌∷◌, Some, take, sym, ap, ◌∙◌, subst, arith}
 use Rattle.std.proofs.lemmas.List.{take_more}
+use Rattle.std.proofs.lemmas.List.Elements.{All-get_or}
+use Rattle.kube_objects.specs.declared.key.Key.{Key}
 use Rattle.kube_objects.specs.declared.object.Object.{Object}
 use Rattle.kube_objects.specs.Clocks.{whole_second}
+use Rattle.kube_objects.specs.Kinds.{IsOfKind, kind_of}
 use Rattle.kube_objects.specs.Stamps.{stamped}
 use Rattle.kube_objects.specs.Stored.{Write}
 use Rattle.history.specs.History.{put_all}
 use Rattle.object_store.specs.Stands.{StoreStands}
 use Rattle.world_core.proofs.Puts.{put_first, put-more}
 use Rattle.world_core.proofs.state.store_of.Goals as goal
+
+abbrev IsItemOfKind : Key × Object → Type 0
+IsItemOfKind item = IsOfKind item.0 item.1
+
+pub put-requires : goal.put-requires
+put-requires c =
+    let x = c.item-item.result in
+    let xs = c.as_slice-item-items.result.now in
+    let all = subst (All IsItemOfKind) (sym c.as_slice-item-items.ensures) c.requires in
+    let own : IsItemOfKind x = subst IsItemOfKind (sym c.item-item.is) (All-get_or IsItemOfKind xs c.loop-item.item-index x c.loop-item-test.true all) in
+    record { kind = own ∙ ap kind_of (sym c.in_ok-copy.ensures) }
 
 pub loop-item-preserved : goal.loop-item-preserved
 loop-item-preserved c = λ doc epoch. (

@@ -6,7 +6,7 @@ use Rattle.history_laws.proofs.Bare.{bare_history}
 use Rattle.script_reader.specs.Documents.{doc_of}
 use Rattle.script_reader.specs.Lawful.{AreLawfulFrom}
 use Rattle.wire_calls.specs.WireStands.{WireStands}
-use Rattle.world_core.proofs.Ranges.{end-most, all-delays}
+use Rattle.world_core.proofs.Ranges.{end-most, all-fit}
 use Rattle.world_core.proofs.RunForms.{leases-alone, no-kubelets, processes-are}
 use Rattle.world_core.proofs.Puts.{put-plain, put-wire, put-each, put-requests, put-replies}
 use Rattle.world_core.proofs.state.State.new.Goals as goal
@@ -23,7 +23,7 @@ returns-clause-ready c =
         restart = (let most = s.restart in omega (arith, c.picoseconds.ensures.plain, most));
         epoch = s.epoch_most;
         micros = (let most = s.beat_most in omega (arith, most));
-        events = all-delays (doc_of c.args.document) 0 c.args.document.events lawful.events;
+        events = all-fit (doc_of c.args.document) 0 c.args.document.events lawful.events;
         clocks = c.in_ok-processes.ensures.clocks;
       },
       refl,
