@@ -26,4 +26,5 @@ pub mod Tolerations
 pub mod Tries
 pub mod Turns
 pub mod Wire
+pub mod Writable
 pub mod Zones
