@@ -85,22 +85,24 @@ module _ (doc : Doc) (k : ℕ) (arriving : List Sent) (coming : List Back) (w : 
   ticked-more at q t g is s =
       let e = entry at 4 q (Ticks t) in
       let rest = s.0.world.rest in
-      let known = known-later (processes doc) e g q s.1 in
-      (record {
-        world = record {
-          rest = record {
-            document = rest.document;
-            plain = plain-entry (processes doc) at 4 q (Ticks t) g known rest.plain;
-            store = store-beside g e w.store rest.store (silent-write t is);
-            wire = wire-beside (processes doc) k arriving coming g e w.wire refl rest.wire;
+      let known = known-later (processes doc) e g q s.1 in (
+        record {
+          world = record {
+            rest = record {
+              document = rest.document;
+              plain = plain-entry (processes doc) at 4 q (Ticks t) g known rest.plain;
+              store = store-beside g e w.store rest.store (silent-write t is);
+              wire = wire-beside (processes doc) k arriving coming g e w.wire refl rest.wire;
+            };
+            processes = λ p x place. process-ticked doc p at 4 q t g x (s.0.world.processes p x place);
           };
-          processes = λ p x place. process-ticked doc p at 4 q t g x (s.0.world.processes p x place);
-        };
-        bare = (is, s.0.bare);
-        same = silent-prints at q t g is ∙ s.0.same;
-        requests = s.0.requests;
-        replies = s.0.replies;
-      }, known)
+          bare = (is, s.0.bare);
+          same = silent-prints at q t g is ∙ s.0.same;
+          requests = s.0.requests;
+          replies = s.0.replies;
+        },
+        known,
+      )
 
   -- a whole tick, where one acts
   pub ticked-ticks : (at p : ℕ) (g : List Entry) → p < processes doc → Ticked doc k arriving coming w h g → Ticked doc k arriving coming w h (ticks doc at p g)
