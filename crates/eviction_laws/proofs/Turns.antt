@@ -15,10 +15,10 @@ use Rattle.kube_objects.specs.Turns.{expire_as, expire_call, end_as, end_term, j
 use Rattle.kube_objects.specs.Wire.{loses_requests}
 use Rattle.history.specs.Evictions.{pod_due, IsDue, PromptAt}
 use Rattle.history.specs.History.{put_all, at_turn}
-use Rattle.history.specs.Steps.{if_up, restart_if, restart, expire, finish, attempts, tick_as, turn_as}
+use Rattle.history.specs.Steps.{if_up, restart_if, restart, expire, finish, attempts, tick_as, turn_as, elector_turn}
 use Rattle.history_laws.proofs.Counting.{present_is}
 use Rattle.history_laws.proofs.Plainly.{and_left, and_right, false_is}
-use Rattle.history_laws.proofs.Walk.{to_tick, Ticking, Keeps, all_made, walk_to_tick, walk_at_turn}
+use Rattle.history_laws.proofs.Walk.{Ticking, Keeps, all_made, walk_to_tick, walk_at_turn}
 use Rattle.eviction_laws.proofs.Current.{Unstale, unstale_more, current}
 
 -- up, before the deadline, watching and heard
@@ -94,7 +94,7 @@ prompt doc q k (role, acting) watching passing pod kind =
     let h1 = restart doc k q.process h0 in
     let h2 = expire doc k q.process h1 in
     let h3 = finish doc k q.process h2 in
-    let h = to_tick doc k q.process h0 in
+    let h = elector_turn doc k q.process h0 in
     let s : Ready doc q k h = ready_attempts doc q k h3 (ready_finish doc q k h2 (ready_expire doc q k h1 (ready_restart doc q k h0 (ready_at doc q k h0 acting watching passing)))) in
     let first : Unstale q h0 = walk_at_turn doc (λ k step. Unstale q) (unstale_keeps doc q) (put_unstale doc q doc.objects [] (λ is key. absurd (false_is is))) q.process k in
     let p : Unstale q h = walk_to_tick doc (Ticking doc) (λ k. Unstale q) (unstale_keeps doc q).turns k q.process role h0 first in

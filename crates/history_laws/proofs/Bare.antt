@@ -16,7 +16,7 @@ use Rattle.kube_objects.specs.declared.script.What.{What}
 use Rattle.kube_objects.specs.declared.script.What.TheVariants as what
 use Rattle.kube_objects.specs.Answers.{as_kind, node_in, posted_node, node_object, written}
 use Rattle.kube_objects.specs.Clocks.{local, store_wall, whole_second}
-use Rattle.kube_objects.specs.Document.{Doc, processes}
+use Rattle.kube_objects.specs.Document.{Doc, is_controller, processes}
 use Rattle.kube_objects.specs.Elector.{Shown, Follow, Fails, Asks, follow_on, not_done, is_blocked, updated, attempt, attempt_from, is_valid, renewed, observed_at, shown, leads, release, release_from, given_up}
 use Rattle.kube_objects.specs.Entry.{Entry, Identity, Call, CallKind, Plain, Fast, Release, Deed, First, Event as Happens, Starts, Crashes, Stops, Ends, Sends, Answers, Delivers, Expires, Leads, Ticks, Tick, Sync, Pass, Mark, Mode, Zone, Untaint, Swap, Head, Delete, script_entry}
 use Rattle.kube_objects.specs.Health.{is_pass_due}
@@ -25,6 +25,7 @@ use Rattle.kube_objects.specs.InForce.{watches}
 use Rattle.kube_objects.specs.Keys.{key_cmp, key_eq}
 use Rattle.kube_objects.specs.Kubelet.{next_request}
 use Rattle.kube_objects.specs.Modes.{nodes_among, nodes, places, all_full, mode_says, mode}
+use Rattle.kube_objects.specs.Kinds.{is_lease}
 use Rattle.kube_objects.specs.Newest.{newest, when, has, join, or_else}
 use Rattle.kube_objects.specs.Process.{open_as, call_says, last_call, call_in, counted}
 use Rattle.kube_objects.specs.Seen.{is_fresh, is_synced, pod_key, node_name, insert_named, named, node_names, pod_keys}
@@ -34,12 +35,12 @@ use Rattle.kube_objects.specs.Tick.{add, for_each, sync_if, sync, mark, marks, m
 use Rattle.kube_objects.specs.Wire.{Sent, sent_as, sent_of}
 use Rattle.history.specs.History.{put_all, three_steps, beat, history}
 use Rattle.history.specs.Printed.{printed}
-use Rattle.history.specs.Steps.{step_one, step_two, step_three, turn, turns, stamp, event_version}
-use Rattle.history_laws.specs.Bare.{is_lease, is_lease_event, IsBareDocument, is_lease_request, is_lease_write, is_silent, is_bare, IsBare, pass_alone_if, bare_tick}
+use Rattle.history.specs.Steps.{step_one, step_two, step_three, elector_turn, turn, turns, stamp, event_version}
+use Rattle.history_laws.specs.Bare.{is_lease_event, IsBareDocument, is_lease_request, is_lease_write, is_silent, is_bare, IsBare, pass_alone_if, bare_tick}
 use Rattle.history_laws.specs.Tails.{In}
 use Rattle.history_laws.proofs.Plainly.{upper, none_is, some_is, false_is, and_left, and_right}
 use Rattle.history_laws.proofs.Counting.{counted_is, when_value, only_value}
-use Rattle.history_laws.proofs.Walk.{InScript, Scripted, after_reply, Ticking, Anyone, KeepsTurn, Keeps, walk_one, walk_two, walk_three, walk_steps, walk_any_turn, walk_any_turns}
+use Rattle.history_laws.proofs.Walk.{InScript, Scripted, after_reply, Ticking, Anyone, KeepsTurn, Keeps, walk_one, walk_two, walk_three, walk_steps, walk_to_tick, walk_any_turn, walk_any_turns}
 
 -- ---- no Node and no Pod was ever written
 
@@ -447,6 +448,9 @@ module _ (doc : Doc) (leases : IsBareDocument doc) where
   bare_history (suc k) = bare_beat k (history doc k) (bare_history k)
 
 -- whatever the document
+pub bare_elector : (doc : Doc) (k p : ℕ) → is_controller doc p ≡ true → (h : List Entry) → IsBare h → IsBare (elector_turn doc k p h)
+bare_elector doc k p role h bare = walk_to_tick doc Anyone (λ k. IsBare) (turn_keeps doc Anyone) k p role h bare
+
 pub bare_turn : (doc : Doc) (k p : ℕ) (h : List Entry) → IsBare h → IsBare (turn doc k p h)
 bare_turn doc k p h bare = walk_any_turn doc (λ k. IsBare) (turn_keeps doc Anyone) k p h bare
 

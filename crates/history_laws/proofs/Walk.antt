@@ -21,7 +21,7 @@ use Rattle.kube_objects.specs.Tick.{tick}
 use Rattle.kube_objects.specs.Turns.{lead_if, react, expire_as, expire_call, end_as, end_term, just_expired, is_fast_call, attempt_if, try}
 use Rattle.kube_objects.specs.Wire.{send, Sent, Back, sent_of, back_of}
 use Rattle.history.specs.History.{three_steps, history, at_turn}
-use Rattle.history.specs.Steps.{start, start_first, starts_below, first_starts, start_if_down, crash, released, stop, effect, stamp, event_version, happens_if, happen_all, step_one, each, comes_at, answered, answer_if, answer_due, step_two, react_as, deliver_as, deliver_if, deliver_due, step_three, if_up, restart_as, restart_if, restart, expire, finish, attempts, tick_as, ticks, controller_turn, kubelet_turn, turn_as, turn, turns}
+use Rattle.history.specs.Steps.{start, start_first, starts_below, first_starts, start_if_down, crash, released, stop, effect, stamp, event_version, happens_if, happen_all, step_one, each, comes_at, answered, answer_if, answer_due, step_two, react_as, deliver_as, deliver_if, deliver_due, step_three, if_up, restart_as, restart_if, restart, expire, finish, attempts, tick_as, ticks, controller_turn, kubelet_turn, turn_as, turn, turns, elector_turn}
 use Rattle.history_laws.specs.Tails.{In}
 use Rattle.history_laws.proofs.Counting.{counted_is}
 use Rattle.history_laws.proofs.Expired.{expired_none}
@@ -58,15 +58,11 @@ stopped_at k id i before = entry k 1 (identity id.0 i) Stops ∷ script_entry k 
 abbrev pub after_reply : ℕ → Back → Call → List Entry → List Entry
 after_reply k b waiting h = entry k 3 b.who (Delivers waiting b.reply true) ∷ h
 
--- the history as the tick of a turn begins; h is that at the turn
-abbrev pub to_tick : Doc → ℕ → ℕ → List Entry → List Entry
-to_tick doc k p h = attempts doc k p (finish doc k p (expire doc k p (restart doc k p h)))
-
 -- an identity acts as its tick begins in its turn of beat k
 pub record Ticking (doc : Doc) (q : Identity) (k : ℕ) : Type 0 where
   pub role : is_controller doc q.process ≡ true
-  pub up : alive q.process (to_tick doc k q.process (at_turn doc q.process k)) ≡ Some q.incarnation
-  pub acting : acts doc q k (to_tick doc k q.process (at_turn doc q.process k)) ≡ true
+  pub up : alive q.process (elector_turn doc k q.process (at_turn doc q.process k)) ≡ Some q.incarnation
+  pub acting : acts doc q k (elector_turn doc k q.process (at_turn doc q.process k)) ≡ true
 
 -- somebody, of whom nothing is known
 abbrev pub Anyone : Identity → ℕ → Type 0
@@ -74,7 +70,7 @@ Anyone q k = Unit {0}
 
 -- whoever acts as the tick begins of a turn on this history is one of these
 abbrev pub Begins : Doc → (Identity → ℕ → Type 0) → ℕ → ℕ → List Entry → Type 0
-Begins doc A k p h = (i : ℕ) → is_controller doc p ≡ true → alive p (to_tick doc k p h) ≡ Some i → acts doc (identity p i) k (to_tick doc k p h) ≡ true → A (identity p i) k
+Begins doc A k p h = (i : ℕ) → is_controller doc p ≡ true → alive p (elector_turn doc k p h) ≡ Some i → acts doc (identity p i) k (elector_turn doc k p h) ≡ true → A (identity p i) k
 
 -- a property at a beat that each kind of entry of a turn keeps; A says who ticks
 pub record KeepsTurn (doc : Doc) (A : Identity → ℕ → Type 0) (P : ℕ → List Entry → Type 0) : Type 0 where
@@ -272,7 +268,7 @@ module _ (doc : Doc) (A : Identity → ℕ → Type 0) (P : ℕ → List Entry �
   walk_attempts k p role h s = walk_if_up k p (try doc k) (λ i T up s. walk_try k p i role T up s) (alive p h) h refl s
 
   -- up to the tick
-  pub walk_to_tick : (k p : ℕ) → is_controller doc p ≡ true → (h : List Entry) → P k h → P k (to_tick doc k p h)
+  pub walk_to_tick : (k p : ℕ) → is_controller doc p ≡ true → (h : List Entry) → P k h → P k (elector_turn doc k p h)
   walk_to_tick k p role h s =
       let h1 = restart doc k p h in
       let s1 : P k h1 = walk_restart k p (alive p h) h s in
@@ -288,7 +284,7 @@ module _ (doc : Doc) (A : Identity → ℕ → Type 0) (P : ℕ → List Entry �
       by_up (Some i) up = walk_tick_as k (identity p i) (acts doc (identity p i) k h) (acting i up) h s
 
   walk_controller : (k p : ℕ) → is_controller doc p ≡ true → (h : List Entry) → Begins doc A k p h → P k h → P k (controller_turn doc k p h)
-  walk_controller k p role h begins s = walk_ticks k p (to_tick doc k p h) (λ i up acting. begins i role up acting) (walk_to_tick k p role h s)
+  walk_controller k p role h begins s = walk_ticks k p (elector_turn doc k p h) (λ i up acting. begins i role up acting) (walk_to_tick k p role h s)
 
   walk_round_if : (k p i : ℕ) → is_controller doc p ≡ false → (h : List Entry) → alive p h ≡ Some i → (o : Option Call) → just_expired (identity p i) k h ≡ o → (late due : Bool) → is_post_call o ≡ late → (due ≡ true → has_round (identity p i) h ≡ false)
       → P k h → P k (round_if doc k (identity p i) late due h)

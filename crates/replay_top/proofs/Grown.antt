@@ -1,6 +1,5 @@
 -- The trace grows with the beats.
-use Rattle.std.proofs.Common.{◌≡◌, ℕ, suc, ◌+◌, ◌≤◌, List, [], ◌∷◌, ◌++◌, Option, Bool, true, false, nat_lt, IsTrue, ◌↔◌, ◌<◌, length, refl, inl, inr, sym, ap, ◌∙◌, subst, append_assoc, add-one, arith}
-use Rattle.std.proofs.lemmas.Bool.{ltb-true, ltb-false}
+use Rattle.std.proofs.Common.{◌≡◌, ℕ, suc, ◌+◌, ◌≤◌, List, [], ◌∷◌, ◌++◌, Option, length, refl, inl, inr, sym, ap, ◌∙◌, subst, append_assoc, add-one, arith}
 use Rattle.std.proofs.lemmas.List.{append-nil}
 use Rattle.std.proofs.lemmas.Grind.{flat_map-append}
 use Rattle.kube_objects.specs.declared.deed.Deed.{Deed}
@@ -15,7 +14,7 @@ use Rattle.history.specs.Printed.{printed, deeds_of, act_of}
 use Rattle.history_laws.specs.Tails.{IsTail}
 use Rattle.history_laws.proofs.Once.{calls_are_few}
 use Rattle.history_laws.proofs.Starts.{starts_are_few}
-use Rattle.world_core.specs.Plain.{IsFew}
+use Rattle.world_process.specs.Plain.{IsFew}
 use Rattle.history_laws.proofs.Order.{histories_are_positions}
 use Rattle.kube_objects.specs.Entry.{Entry, First, script_entry}
 use Rattle.world_core.specs.declared.world.World.{World}
@@ -72,19 +71,6 @@ trace-next doc names processes k n deeds is told =
     ∙ ap (λ x. first_line doc ++ lines_of names processes x) told
     ∙ ap (trace_before doc names processes) (sym (is ∙ add-one k))
 
-never : false ≡ true → ⊥
-never h = cc
-
-pub not-over : (end at : ℕ) (b : Bool) → (IsTrue b ↔ (end < at)) → b ≡ false → at ≤ end
-not-over end at b tells answer = by_test (nat_lt end at) refl
-  where
-    by_test : (t : Bool) → nat_lt end at ≡ t → at ≤ end
-    by_test false is = ltb-false end at is
-    by_test true is = absurd (never (sym answer ∙ tells.1 (ltb-true end at is)))
-
-pub over : (end at : ℕ) (b : Bool) → (IsTrue b ↔ (end < at)) → b ≡ true → at ≤ end + 1 → at ≡ end + 1
-over end at b tells answer within = omega (arith, tells.0 answer, within)
-
 -- what the world counts stays within its types
 pub few : (doc : Doc) (k : ℕ) → length doc.events ≤ 100000 → k ≤ 604800000 → IsFew (history doc (suc k))
 few doc k events within =
@@ -115,7 +101,7 @@ pub trace-named : (d : Document) (names processes : List (List ℕ)) → names �
 unfolding trace
 trace-named d names processes named ordered = ap (λ n. trace_of (doc_of d) n processes) named ∙ ap (trace_of (doc_of d) d.names) ordered
 
--- the same history has the same trace
-pub trace-same : (doc : Doc) (names processes : List (List ℕ)) (j k : ℕ) → history doc j ≡ history doc k → trace_before doc names processes j ≡ trace_before doc names processes k
+-- beats of which nothing is printed leave the trace as it is
+pub trace-same : (doc : Doc) (names processes : List (List ℕ)) (j k : ℕ) → printed (history doc j) ≡ printed (history doc k) → trace_before doc names processes j ≡ trace_before doc names processes k
 unfolding trace_before
-trace-same doc names processes j k same = ap (λ h. first_line doc ++ lines_of names processes (printed h)) same
+trace-same doc names processes j k same = ap (λ ds. first_line doc ++ lines_of names processes ds) same

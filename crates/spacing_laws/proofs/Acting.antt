@@ -11,9 +11,9 @@ use Rattle.kube_objects.specs.Process.{born, gone, life, alive, starts, is_prese
 use Rattle.kube_objects.specs.Turns.{expire_as, expire_call, end_as, end_term, just_expired, is_fast_call, attempt_if, try}
 use Rattle.history.specs.History.{at_turn}
 use Rattle.history.specs.Safe.{Acts}
-use Rattle.history.specs.Steps.{start, if_up, restart_as, restart_if, restart, expire, finish, attempts}
+use Rattle.history.specs.Steps.{start, if_up, restart_as, restart_if, restart, expire, finish, attempts, elector_turn}
 use Rattle.history_laws.proofs.Plainly.{upper, some_is, none_is, false_is, and_right}
-use Rattle.history_laws.proofs.Walk.{to_tick, Ticking}
+use Rattle.history_laws.proofs.Walk.{Ticking}
 use Rattle.spacing_laws.proofs.Born.{no_deadline}
 
 -- the incarnation is up and has this deadline
@@ -102,7 +102,7 @@ acts_at_turn doc q k ticking = (ticking.role, by_deadline (deadline doc q h) ref
     h0 = at_turn doc q.process k
 
     h : List Entry
-    h = to_tick doc k q.process h0
+    h = elector_turn doc k q.process h0
 
     by_deadline : (o : Option ℕ) → deadline doc q h ≡ o → is_before (local doc q.process k) o ≡ true → acts doc q k h0 ≡ true
     by_deadline None is before = absurd (false_is before)

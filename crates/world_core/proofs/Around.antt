@@ -1,4 +1,4 @@
--- All but one controller stand through the quiet entries of that one.
+-- All but one process stand through the quiet entries of that one.
 use Rattle.std.proofs.Common.{◌≡◌, ℕ, ◌+◌, ◌<◌, ◌≤◌, ◌==◌, ◌&&◌, nat_lt, Bool, true, false, List, [], ◌∷◌, Option, Some, None, refl, sym, ap, ◌∙◌, arith}
 use Rattle.kube_objects.specs.declared.deed.Actor.{Actor}
 use Rattle.kube_objects.specs.declared.deed.Actor.TheVariants as actor
@@ -17,13 +17,13 @@ use Rattle.object_store.proofs.Keeps.{store-beside}
 use Rattle.wire_calls.specs.WireStands.{is_of_wire}
 use Rattle.wire_calls.proofs.Frames.{wire-beside}
 use Rattle.world_core.specs.declared.state.State.{State}
-use Rattle.world_core.specs.Controllers.{settled}
-use Rattle.world_core.specs.Plain.{IsUnheard, IsKnown, IsPlain, is_quiet, AreQuiet, with_deeds}
+use Rattle.world_process.specs.Moves.{settled}
+use Rattle.world_process.specs.Plain.{IsUnheard, IsKnown, IsPlain, is_quiet, AreQuiet, with_deeds}
 use Rattle.world_core.specs.States.{RestStands, OthersStand, StateWithin}
-use Rattle.world_core.proofs.Beside.{controller-others}
-use Rattle.world_core.proofs.Lives.{is_event}
-use Rattle.world_core.proofs.Names.{lt-from, le-from, eq-self}
-use Rattle.world_core.proofs.Plainly.{plain-entry, known-later, starts-start}
+use Rattle.world_process.proofs.Processes.{process-others}
+use Rattle.world_process.proofs.Lives.{is_event}
+use Rattle.world_process.proofs.Names.{lt-from, le-from, eq-self}
+use Rattle.world_process.proofs.Plainly.{plain-entry, known-later, starts-start}
 
 quiet-write : (d : Deed) → is_quiet d ≡ true → write_of d ≡ None
 quiet-write (First key object) is = cc
@@ -67,13 +67,13 @@ quiet-event (Expires call) is = refl
 quiet-event (Leads version) is = refl
 quiet-event (Ticks tick) is = refl
 
--- all but controller i
+-- all but process i
 pub record Around (doc : Doc) (k i : ℕ) (arriving : List Sent) (coming : List Back) (h : List Entry) (w : State) : Type 0 where
   pub rest : RestStands doc k arriving coming h w
-  pub others : OthersStand doc i h w.controllers.items
+  pub others : OthersStand doc i h w.processes.items
 
 pub around-world : (doc : Doc) (k i : ℕ) (arriving : List Sent) (coming : List Back) (h : List Entry) (w : State) → StateWithin doc k arriving coming h w → Around doc k i arriving coming h w
-around-world doc k i arriving coming h w s = record { rest = s.rest; others = λ p c other is. s.controllers p c is }
+around-world doc k i arriving coming h w s = record { rest = s.rest; others = λ p c other is. s.processes p c is }
 
 pub rest-own : (doc : Doc) (k j step : ℕ) (arriving : List Sent) (coming : List Back) (q : Identity) (d : Deed) (h : List Entry) (w : State) → is_quiet d ≡ true → IsKnown (processes doc) (entry j step q d ∷ h) q →
     RestStands doc k arriving coming h w → RestStands doc k arriving coming (entry j step q d ∷ h) w
@@ -90,7 +90,7 @@ pub around-own : (doc : Doc) (k i j step : ℕ) (arriving : List Sent) (coming :
 around-own doc k i j step arriving coming q d h w process quiet known s =
     record {
       rest = rest-own doc k j step arriving coming q d h w quiet known s.rest;
-      others = λ p c other is. controller-others doc p j step q d h c (λ e. other (sym e ∙ process)) (quiet-event d quiet) (s.others p c other is);
+      others = λ p c other is. process-others doc p j step q d h c (λ e. other (sym e ∙ process)) (quiet-event d quiet) (s.others p c other is);
     }
 
 pub known-deeds : (n k step : ℕ) (q : Identity) (ds : List Deed) (h : List Entry) → IsKnown n h q → IsKnown n (with_deeds k step q ds h) q

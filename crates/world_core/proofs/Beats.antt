@@ -7,14 +7,15 @@ use Rattle.kube_objects.specs.Entry.{Entry}
 use Rattle.kube_objects.specs.InFlight.{requests_due, replies_due, is_due}
 use Rattle.kube_objects.specs.Wire.{Sent, reply_delay, loses_replies, arrival, reply_arrival}
 use Rattle.history.specs.Due.{answer_all, deliver_all}
-use Rattle.history.specs.History.{beat}
+use Rattle.history.specs.History.{beat, three_steps}
 use Rattle.history.specs.Steps.{start_first, starts_below, first_starts, step_one, answered, step_three, turns}
 use Rattle.history.proofs.Due.{step_two-due, step_three-due}
+use Rattle.history_laws.specs.Bare.{IsBare}
 use Rattle.wire_calls.proofs.Frames.{wire-next-beat}
 use Rattle.world_core.specs.declared.state.State.{State}
-use Rattle.world_core.specs.Plain.{IsFew}
+use Rattle.world_process.specs.Plain.{IsFew}
 use Rattle.world_core.specs.States.{StateWithin, IsPlaced, StateStands}
-use Rattle.world_core.proofs.Grows.{Grows, grows-on, grows-same, grows-entry, grows-happen_all, grows-turns, few-before}
+use Rattle.world_process.proofs.Grows.{Grows, grows-on, grows-same, grows-entry, grows-happen_all, grows-turns, few-before}
 use Rattle.world_core.proofs.Loops.{grows-deliver_all}
 
 -- ---- starts send nothing
@@ -79,6 +80,9 @@ beat-is doc k h =
     ap (λ g. turns doc k (processes doc) (step_three doc k g)) (step_two-due k (one doc k h))
     ∙ ap (turns doc k (processes doc)) (step_three-due doc k (two doc k h))
 
+pub three-is : (doc : Doc) (k : ℕ) (h : List Entry) → three_steps doc k h ≡ three doc k h
+three-is doc k h = ap (step_three doc k) (step_two-due k (one doc k h)) ∙ step_three-due doc k (two doc k h)
+
 pub few-three : (doc : Doc) (k : ℕ) (h : List Entry) → IsFew (turns doc k (processes doc) (three doc k h)) → IsFew (three doc k h)
 few-three doc k h few = few-before (three doc k h) (turns doc k (processes doc) (three doc k h)) (grows-turns doc k (processes doc) (three doc k h)) few
 
@@ -90,18 +94,19 @@ pub few-starts : (doc : Doc) (k : ℕ) (h : List Entry) → IsFew (one doc k h) 
 few-starts doc k h few = few-before (first_starts doc k h) (one doc k h) (grows-happen_all doc k doc.events (first_starts doc k h)) few
 
 -- the next beat begins
-pub world-next : (doc : Doc) (k : ℕ) (h : List Entry) (w : State) → StateWithin doc k [] [] h w → IsPlaced doc (k + 1) w.place → StateStands doc (k + 1) h (record w { beat = record { 0 = w.beat.0 + 1 } })
-world-next doc k h w s placed =
+pub world-next : (doc : Doc) (k : ℕ) (h : List Entry) (w : State) → StateWithin doc k [] [] h w → IsPlaced doc (k + 1) w.place → IsBare h → StateStands doc (k + 1) h (record w { beat = record { 0 = w.beat.0 + 1 } })
+world-next doc k h w s placed bare =
     let d = s.rest.document in
     record {
       within = record {
         rest = record {
-          document = record { at = ap (λ n. n + 1) d.at; restart = d.restart; count = d.count; controllers = d.controllers; epoch = d.epoch; micros = d.micros; events = d.events };
+          document = record { at = ap (λ n. n + 1) d.at; restart = d.restart; count = d.count; epoch = d.epoch; micros = d.micros; events = d.events; kubelets = d.kubelets; leases = d.leases };
           plain = s.rest.plain;
           store = s.rest.store;
           wire = wire-next-beat (processes doc) k h w.wire s.rest.wire;
         };
-        controllers = s.controllers;
+        processes = s.processes;
       };
       placed = placed;
+      bare = bare;
     }

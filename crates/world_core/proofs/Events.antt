@@ -7,7 +7,7 @@ use Rattle.kube_objects.specs.Document.{Doc}
 use Rattle.kube_objects.specs.Entry.{Entry}
 use Rattle.history.specs.Steps.{happens, happens_if, happen_all}
 use Rattle.script_reader.specs.Lawful.{IsLawfulWhat, AreLawfulFrom}
-use Rattle.world_core.proofs.Names.{eq-self, eq-is, eq-isnt}
+use Rattle.world_process.proofs.Names.{eq-self, eq-is, eq-isnt}
 
 -- ---- the place in a list
 

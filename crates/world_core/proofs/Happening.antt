@@ -16,11 +16,11 @@ use Rattle.kube_objects.specs.Wire.{Sent, Back, request_delay, loses_requests, n
 use Rattle.history.specs.Steps.{start_if_down, crash, released, stop, happens, happen_all}
 use Rattle.script_reader.specs.Lawful.{IsLawfulWhat, AreLawfulFrom}
 use Rattle.world_core.specs.declared.state.State.{State}
-use Rattle.world_core.specs.Plain.{IsFew}
+use Rattle.world_process.specs.Plain.{IsFew}
 use Rattle.world_core.specs.States.{DocStands, IsPlaced, Running, Scripted}
 use Rattle.world_core.proofs.Beats.{not_due}
 use Rattle.world_core.proofs.Events.{drop-at, drop-past, happens-now, happen-earlier, happen-later, lawful-later, lawful-rest, lawful-what, earlier-more}
-use Rattle.world_core.proofs.Grows.{grows-happen_all, few-before}
+use Rattle.world_process.proofs.Grows.{grows-happen_all, few-before}
 
 -- ---- what an event sends arrives later
 

@@ -8,8 +8,8 @@ use Rattle.kube_objects.specs.Identities.{identity, identity_of, is_same, is_by}
 use Rattle.kube_objects.specs.InFlight.{is_due, and_request, requests_due, and_reply, replies_due}
 use Rattle.kube_objects.specs.Process.{starts}
 use Rattle.kube_objects.specs.Wire.{Sent, Back, sent_of, sent_as, back_of, back_as}
-use Rattle.world_core.specs.Plain.{IsUnheard, IsOf, IsPlain, SentByKnown, BackToKnown}
-use Rattle.world_core.proofs.Names.{lt-from, le-from, is_same-self}
+use Rattle.world_process.specs.Plain.{IsUnheard, IsOf, IsPlain, SentByKnown, BackToKnown}
+use Rattle.world_process.proofs.Names.{lt-from, le-from, is_same-self}
 
 -- ---- who sent it
 

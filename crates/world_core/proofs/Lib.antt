@@ -1,32 +1,20 @@
-pub mod Answering
-pub mod Around
-pub mod Beats
-pub mod Beside
-pub mod Events
-pub mod Fewness
-pub mod Firsts
-pub mod Grows
-pub mod Happening
-pub mod Known
+-- ---- lists, ranges and places
 pub mod Lists
-pub mod Lives
-pub mod Loops
-pub mod Moving
-pub mod Names
-pub mod Plainly
-pub mod Puts
-pub mod Quiet
 pub mod Ranges
-pub mod Rates
-pub mod Readings
-pub mod Restarts
-pub mod Resting
 pub mod RunForms
+pub mod Moving
+-- ---- what a history keeps
+pub mod Known
+pub mod Fewness
+pub mod Puts
+pub mod Events
+-- ---- the world beside one process, and with it moved
+pub mod Around
 pub mod Running
-pub mod Scripted
 pub mod Scripts
-pub mod Standing
-pub mod Terms
-pub mod Timers
-pub mod Turning
-pub mod Unheard
+-- ---- the steps of a beat, and beats that are passed over
+pub mod Loops
+pub mod Beats
+pub mod Happening
+pub mod Ticking
+pub mod Quiet

@@ -13,10 +13,11 @@ use Rattle.history.specs.Printed.{printed}
 use Rattle.wire_calls.specs.declared.wire.Wire.{Wire}
 use Rattle.wire_calls.specs.WireStands.{WireStands}
 use Rattle.wire_calls.proofs.Frames.{wire-beside}
-use Rattle.world_core.specs.declared.controller.Controller.{Controller}
-use Rattle.world_core.specs.Plain.{IsPlain}
+use Rattle.world_process.specs.declared.process.Process.{Process}
+use Rattle.world_process.specs.Plain.{IsPlain}
 use Rattle.world_core.specs.States.{EachStands}
-use Rattle.world_core.proofs.Scripted.{plain-script, controller-put_all}
+use Rattle.world_process.proofs.Processes.{process-put_all}
+use Rattle.world_process.proofs.Scripted.{plain-script}
 
 -- the entry of an object
 abbrev pub put_first : Doc → Key × Object → Entry
@@ -30,8 +31,8 @@ pub put-wire : (doc : Doc) (n : ℕ) (xs : List (Key × Object)) (h : List Entry
 put-wire doc n [] h w s = s
 put-wire doc n (x ∷ xs) h w s = put-wire doc n xs (put_first doc x ∷ h) w (wire-beside n 0 [] [] h (put_first doc x) w refl s)
 
-pub put-each : (doc : Doc) (xs : List (Key × Object)) (h : List Entry) (cs : List Controller) → EachStands doc h cs → EachStands doc (put_all doc xs h) cs
-put-each doc xs h cs s p c is = controller-put_all doc p xs h c (s p c is)
+pub put-each : (doc : Doc) (xs : List (Key × Object)) (h : List Entry) (cs : List Process) → EachStands doc h cs → EachStands doc (put_all doc xs h) cs
+put-each doc xs h cs s p c is = process-put_all doc p xs h c (s p c is)
 
 pub put-requests : (doc : Doc) (j : ℕ) (xs : List (Key × Object)) (h : List Entry) → requests_due j (put_all doc xs h) ≡ requests_due j h
 put-requests doc j [] h = refl

@@ -7,27 +7,27 @@ use Rattle.kube_objects.specs.declared.script.What.{What}
 use Rattle.kube_objects.specs.declared.script.What.TheVariants as what
 use Rattle.kube_objects.specs.Document.{Doc}
 use Rattle.script_reader.specs.Lawful.{IsLawfulWhat, AreLawfulFrom}
-use Rattle.world_core.specs.States.{HasDelays}
-use Rattle.world_core.proofs.Names.{le-from, lt-from}
+use Rattle.world_core.specs.States.{IsFit}
+use Rattle.world_process.proofs.Names.{le-from, lt-from}
 
 pub end-most : (e b : ℕ) → 1 ≤ b → e * b ≤ 604800000 → e ≤ 604800000
 end-most e b least most = let more : e ≤ e * b = le-mul_of_pos_right e (omega (arith, least)) in omega (arith, more, most)
 
-has-delays : (doc : Doc) (event : What) → IsLawfulWhat doc event → HasDelays event
-has-delays doc (what.Rate id ppm) lawful = tt
-has-delays doc (what.Delay id requests replies) lawful = (lawful.1, lawful.2)
-has-delays doc (what.Loss id requests replies) lawful = tt
-has-delays doc (what.Crash id) lawful = tt
-has-delays doc (what.Start id) lawful = tt
-has-delays doc (what.Stop id) lawful = tt
-has-delays doc (what.Watch id on) lawful = tt
-has-delays doc (what.Ready id status) lawful = tt
-has-delays doc (what.Put key object) lawful = tt
-has-delays doc (what.Remove key) lawful = tt
+fit : (doc : Doc) (event : What) → IsLawfulWhat doc event → IsFit event
+fit doc (what.Rate id ppm) lawful = tt
+fit doc (what.Delay id requests replies) lawful = (lawful.1, lawful.2)
+fit doc (what.Loss id requests replies) lawful = tt
+fit doc (what.Crash id) lawful = tt
+fit doc (what.Start id) lawful = tt
+fit doc (what.Stop id) lawful = tt
+fit doc (what.Watch id on) lawful = tt
+fit doc (what.Ready id status) lawful = tt
+fit doc (what.Put key object) lawful = lawful.1
+fit doc (what.Remove key) lawful = tt
 
-pub all-delays : (doc : Doc) (from : ℕ) (es : List Event) → AreLawfulFrom doc from es → All (λ e. HasDelays e.what) es
-all-delays doc from [] lawful = λ k d less. absurd (omega (arith, less))
-all-delays doc from (e ∷ es) lawful = All-cons (λ x. HasDelays x.what) e es (has-delays doc e.what lawful.2) (all-delays doc e.beat.0 es lawful.3)
+pub all-fit : (doc : Doc) (from : ℕ) (es : List Event) → AreLawfulFrom doc from es → All (λ e. IsFit e.what) es
+all-fit doc from [] lawful = λ k d less. absurd (omega (arith, less))
+all-fit doc from (e ∷ es) lawful = All-cons (λ x. IsFit x.what) e es (fit doc e.what lawful.2) (all-fit doc e.beat.0 es lawful.3)
 
 -- ---- whether the end is passed
 

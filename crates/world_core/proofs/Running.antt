@@ -1,73 +1,74 @@
--- One controller has moved, and the world stands again.
-use Rattle.std.proofs.Common.{All, ◌≡◌, ℕ, ◌+◌, ◌<◌, ◌≤◌, ◌==◌, ◌++◌, Bool, true, false, List, ◌∷◌, Some, None, slice_get, slice_set, length, refl, sym, ap, ◌∙◌, subst, append_assoc, vec_len, arith}
+-- One process has moved, and the world stands again.
+use Rattle.std.proofs.Common.{All, ◌≡◌, ℕ, ◌+◌, ◌<◌, ◌≤◌, ◌==◌, ◌++◌, Bool, true, false, List, ◌∷◌, Option, Some, None, slice_get, slice_set, length, refl, sym, ap, ◌∙◌, subst, append_assoc, vec_len, arith}
 use Rattle.std.proofs.lemmas.List.{append-nil}
 use Rattle.kube_objects.specs.declared.call.Ask.{Ask}
 use Rattle.kube_objects.specs.declared.deed.Deed as deed
 use Rattle.kube_objects.specs.Answers.{answer, written}
 use Rattle.kube_objects.specs.declared.deed.Act.TheVariants as act
-use Rattle.kube_objects.specs.Document.{Doc, processes, is_controller, is_up_first}
+use Rattle.kube_objects.specs.Document.{Doc, processes, is_up_first}
 use Rattle.kube_objects.specs.Entry.{Entry, Identity, Call, CallKind, Sends, Answers, Delivers, entry, actor_of}
 use Rattle.kube_objects.specs.Identities.{identity}
 use Rattle.kube_objects.specs.Process.{starts}
 use Rattle.kube_objects.specs.Wire.{Sent, Back, send, next_call, request_arrival, reply_arrival}
 use Rattle.history.specs.Printed.{printed, deeds_of, answer_act}
-use Rattle.history.specs.Steps.{answered, delivered, restart, controller_turn, turn_as, turn, start_first, start}
-use Rattle.leader_elector.specs.Moves.{Asked}
+use Rattle.history.specs.Steps.{answered, delivered, elector_turn, start_first, start}
 use Rattle.object_store.proofs.Keeps.{store-beside}
 use Rattle.wire_calls.specs.WireStands.{WireStands}
-use Rattle.world_core.specs.declared.controller.Controller.{Controller}
-use Rattle.world_core.specs.declared.controller.Received.{Received}
-use Rattle.world_core.specs.declared.controller.Turn.{Turn}
+use Rattle.world_process.specs.declared.process.Process.{Process}
+use Rattle.world_process.specs.declared.moves.Received.{Received}
+use Rattle.world_process.specs.declared.moves.Turn.{Turn}
 use Rattle.world_core.specs.declared.state.State.{State}
-use Rattle.world_core.specs.Controllers.{ControllerStands, SameController, AsksOn, AsksOnReply, StaysOn, AsksAfter, Turned, Replied, settled, started_deeds, ended_deeds, lead_deeds}
-use Rattle.world_core.specs.Plain.{IsKnown, IsPlain, with_deeds}
-use Rattle.world_core.specs.States.{HasDelays, IsReady, SameDocument, Keeps, DocStands, EachStands, OthersStand, StateWithin, Running}
+use Rattle.world_process.specs.Processes.{ProcessStands, SameProcess, AsksOn, Turned, Replied, incarnation_of, clock_of, is_up_first_as}
+use Rattle.world_process.specs.Moves.{AsksOnReply, before_asking, started_deeds, ended_deeds, lead_deeds}
+use Rattle.world_process.specs.Plain.{IsKnown, IsPlain, with_deeds}
+use Rattle.world_core.specs.States.{IsFit, IsReady, SameDocument, Keeps, DocStands, EachStands, OthersStand, StateWithin, Running, SendsAsked}
 use Rattle.world_core.proofs.Around.{Around, around-world, around-own, around-deeds, around-settled, around-started}
-use Rattle.world_core.proofs.Beside.{controller-others, controller-answered}
+use Rattle.world_process.proofs.Processes.{process-incarnation, process-others, process-answered, process-up_first}
 use Rattle.world_core.proofs.Lists.{slice_get-set_same, slice_get-set_other, length-set}
 use Rattle.object_store.specs.Stands.{StoreStands}
-use Rattle.world_core.proofs.Names.{eq-is, eq-self}
-use Rattle.world_core.proofs.Plainly.{plain-entry, known-later, starts-start}
+use Rattle.world_process.proofs.Names.{eq-is, eq-self}
+use Rattle.world_process.proofs.Plainly.{plain-entry, known-later, starts-start}
 
--- the world with controller i moved; its wire may have changed too
-pub record Moved (i : ℕ) (c0 c1 : Controller) (w v : State) : Type 0 where
-  pub was : slice_get w.controllers.items i ≡ Some c0
-  pub now : v.controllers.items ≡ slice_set w.controllers.items i c1
+-- the world with process i moved; its wire may have changed too
+pub record Moved (i : ℕ) (c0 c1 : Process) (w v : State) : Type 0 where
+  pub was : slice_get w.processes.items i ≡ Some c0
+  pub now : v.processes.items ≡ slice_set w.processes.items i c1
   pub same : SameDocument w v
   pub place : v.place ≡ w.place
   pub store : v.store ≡ w.store
 
-each-set : (doc : Doc) (i : ℕ) (h : List Entry) (cs : List Controller) (c0 c1 : Controller) → slice_get cs i ≡ Some c0 → OthersStand doc i h cs → ControllerStands doc i h c1 → EachStands doc h (slice_set cs i c1)
+each-set : (doc : Doc) (i : ℕ) (h : List Entry) (cs : List Process) (c0 c1 : Process) → slice_get cs i ≡ Some c0 → OthersStand doc i h cs → ProcessStands doc i h c1 → EachStands doc h (slice_set cs i c1)
 each-set doc i h cs c0 c1 was others own p c is = by_place (p == i) refl
   where
-    by_place : (b : Bool) → (p == i) ≡ b → ControllerStands doc p h c
+    by_place : (b : Bool) → (p == i) ≡ b → ProcessStands doc p h c
     by_place true same =
         let place : p ≡ i = eq-is p i same in
         let there : Some c ≡ Some c1 = sym is ∙ ap (slice_get (slice_set cs i c1)) place ∙ slice_get-set_same cs i c1 c0 was in
         let own_c : c1 ≡ c = cc in
-        subst (λ x. ControllerStands doc x h c) (sym place) (subst (ControllerStands doc i h) own_c own)
+        subst (λ x. ProcessStands doc x h c) (sym place) (subst (ProcessStands doc i h) own_c own)
     by_place false other =
         let apart : ¬ (p ≡ i) = λ e. (let now : (p == i) ≡ true = ap (λ x. p == x) (sym e) ∙ eq-self p in cc) in
         others p c apart (sym (slice_get-set_other cs i p c1 apart) ∙ is)
 
 -- what was read of the document stands as before
-pub doc-same : (doc : Doc) (k : ℕ) (w v : State) → SameDocument w v → length v.controllers.items ≡ length w.controllers.items → DocStands doc k w → DocStands doc k v
+pub doc-same : (doc : Doc) (k : ℕ) (w v : State) → SameDocument w v → length v.processes.items ≡ length w.processes.items → DocStands doc k w → DocStands doc k v
 doc-same doc k w v same count s =
     record {
       at = ap (λ b. b.0) same.beat ∙ s.at;
       restart = same.restart ∙ s.restart;
       count = count ∙ s.count;
-      controllers = s.controllers;
       epoch = same.epoch ∙ s.epoch;
       micros = same.micros ∙ s.micros;
       events = same.events ∙ s.events;
+      kubelets = s.kubelets;
+      leases = s.leases;
     }
 
-doc-moved : (doc : Doc) (k i : ℕ) (c0 c1 : Controller) (w v : State) → Moved i c0 c1 w v → DocStands doc k w → DocStands doc k v
-doc-moved doc k i c0 c1 w v m s = doc-same doc k w v m.same (ap length m.now ∙ length-set w.controllers.items i c1) s
+doc-moved : (doc : Doc) (k i : ℕ) (c0 c1 : Process) (w v : State) → Moved i c0 c1 w v → DocStands doc k w → DocStands doc k v
+doc-moved doc k i c0 c1 w v m s = doc-same doc k w v m.same (ap length m.now ∙ length-set w.processes.items i c1) s
 
 -- nothing was sent
-pub within-moved : (doc : Doc) (k i : ℕ) (arriving : List Sent) (coming : List Back) (h : List Entry) (c0 c1 : Controller) (w v : State) → Moved i c0 c1 w v → v.wire ≡ w.wire → Around doc k i arriving coming h w → ControllerStands doc i h c1 →
+pub within-moved : (doc : Doc) (k i : ℕ) (arriving : List Sent) (coming : List Back) (h : List Entry) (c0 c1 : Process) (w v : State) → Moved i c0 c1 w v → v.wire ≡ w.wire → Around doc k i arriving coming h w → ProcessStands doc i h c1 →
     StateWithin doc k arriving coming h v
 within-moved doc k i arriving coming h c0 c1 w v m wire a own =
     record {
@@ -77,76 +78,72 @@ within-moved doc k i arriving coming h c0 c1 w v m wire a own =
         store = subst (λ s. StoreStands h s) (sym m.store) a.rest.store;
         wire = subst (λ x. WireStands (processes doc) k arriving coming h x) (sym wire) a.rest.wire;
       };
-      controllers = subst (EachStands doc h) (sym m.now) (each-set doc i h w.controllers.items c0 c1 m.was a.others own);
+      processes = subst (EachStands doc h) (sym m.now) (each-set doc i h w.processes.items c0 c1 m.was a.others own);
     }
 
--- what the wire does with a request of an identity that is sent at beat k
-abbrev pub SendsOn : Doc → ℕ → List Sent → List Back → Identity → Ask → State → State → Type 0
-SendsOn doc k arriving coming q ask w v = (step : ℕ) (h : List Entry) (call : Call) → WireStands (processes doc) k arriving coming h w.wire → call.number ≡ ask.number → call.request ≡ ask.request →
-    WireStands (processes doc) k arriving coming (entry k step q (Sends call (request_arrival q.process k h)) ∷ h) v.wire
-
 -- a request was sent
-pub within-sent : (doc : Doc) (k step i : ℕ) (arriving : List Sent) (coming : List Back) (h next : List Entry) (c0 c1 : Controller) (w v : State) (ask : Ask) → Moved i c0 c1 w v → SendsOn doc k arriving coming (identity i c1.incarnation) ask w v →
-    Around doc k i arriving coming h w → IsKnown (processes doc) h (identity i c1.incarnation) → Asked k step (identity i c1.incarnation) h next (λ x. ControllerStands doc i x c1) ask → StateWithin doc k arriving coming next v
-within-sent doc k step i arriving coming h next c0 c1 w v ask m sends a known asked =
-    let q = identity i c1.incarnation in
+within-sent : (doc : Doc) (k step i : ℕ) (arriving : List Sent) (coming : List Back) (h next : List Entry) (c0 c1 : Process) (w v : State) (ask : Ask) → Moved i c0 c1 w v → SendsAsked k (identity i (incarnation_of c1)) (Some ask) w.wire v.wire →
+    Around doc k i arriving coming h w → i < processes doc → AsksOn doc k step i h next c1 (Some ask) → StateWithin doc k arriving coming next v
+within-sent doc k step i arriving coming h next c0 c1 w v ask m sends a within asked =
+    let q = identity i (incarnation_of c1) in
     let call = next_call q k asked.kind ask.request h in
-    let e = entry k step q (Sends call (request_arrival i k h)) in
+    let d = Sends call (request_arrival i k h) in
+    let e = entry k step q d in
+    let last : incarnation_of c1 ≡ starts i h = process-incarnation doc i (entry k step q (Sends call None) ∷ h) c1 (asked.stands None) in
+    let known : IsKnown (processes doc) h q = record { within = within; started = omega (arith, last) } in
     subst (λ x. StateWithin doc k arriving coming x v) (sym asked.sent)
     (record {
       rest = record {
         document = doc-moved doc k i c0 c1 w v m a.rest.document;
-        plain = plain-entry (processes doc) k step q (Sends call (request_arrival i k h)) h (known-later (processes doc) e h q known) a.rest.plain;
+        plain = plain-entry (processes doc) k step q d h (known-later (processes doc) e h q known) a.rest.plain;
         store = subst (λ s. StoreStands (e ∷ h) s) (sym m.store) (store-beside h e w.store a.rest.store refl);
-        wire = sends step h call a.rest.wire (sym asked.number) refl;
+        wire = sends (processes doc) step arriving coming h call a.rest.wire (sym asked.number) refl;
       };
-      controllers = subst (EachStands doc (e ∷ h)) (sym m.now)
-          (each-set doc i (e ∷ h) w.controllers.items c0 c1 m.was (λ p c other is. controller-others doc p k step q (Sends call (request_arrival i k h)) h c (λ same. other (sym same)) refl (a.others p c other is)) (asked.stands (request_arrival i k h)));
+      processes = subst (EachStands doc (e ∷ h)) (sym m.now)
+          (each-set doc i (e ∷ h) w.processes.items c0 c1 m.was (λ p c other is. process-others doc p k step q d h c (λ same. other (sym same)) refl (a.others p c other is)) (asked.stands (request_arrival i k h)));
     })
+
+-- what a process asks was sent, where it asks
+pub within-asked : (doc : Doc) (k step i : ℕ) (arriving : List Sent) (coming : List Back) (h next : List Entry) (c0 c1 : Process) (w v : State) (ask : Option Ask) → Moved i c0 c1 w v → SendsAsked k (identity i (incarnation_of c1)) ask w.wire v.wire →
+    Around doc k i arriving coming h w → i < processes doc → AsksOn doc k step i h next c1 ask → StateWithin doc k arriving coming next v
+within-asked doc k step i arriving coming h next c0 c1 w v None m same a within asks =
+    subst (λ g. StateWithin doc k arriving coming g v) (sym asks.0) (within-moved doc k i arriving coming h c0 c1 w v m same a asks.1)
+within-asked doc k step i arriving coming h next c0 c1 w v (Some ask) m sends a within asked = within-sent doc k step i arriving coming h next c0 c1 w v ask m sends a within asked
+
+printed-sent : (k step : ℕ) (q : Identity) (kind : CallKind) (ask : Ask) (h next : List Entry) → next ≡ send k step q kind ask.request h → printed next ≡ printed h
+printed-sent k step q kind ask h next is = ap printed is ∙ append-nil (printed h)
+
+-- what is asked isn't printed
+pub printed-asked : (doc : Doc) (k step i : ℕ) (h next : List Entry) (c : Process) (ask : Option Ask) → AsksOn doc k step i h next c ask → printed next ≡ printed h
+printed-asked doc k step i h next c None asks = ap printed asks.0
+printed-asked doc k step i h next c (Some ask) asked = printed-sent k step (identity i (incarnation_of c)) asked.kind ask h next asked.sent
+
+pub told-more : (before deeds new more : List deed.Deed) (h next : List Entry) → before ++ deeds ≡ printed h → new ≡ deeds ++ more → printed next ≡ printed h ++ more → before ++ new ≡ printed next
+told-more before deeds new more h next told new_is is = ap (λ ds. before ++ ds) new_is ∙ sym (append_assoc before deeds more) ∙ ap (λ ds. ds ++ more) told ∙ sym is
 
 -- ---- a turn
 
-pub turn-is : (doc : Doc) (k i : ℕ) (h : List Entry) → is_controller doc i ≡ true → turn doc k i h ≡ controller_turn doc k i h
-turn-is doc k i h is = ap (λ b. turn_as doc k i b h) is
+around-before : (doc : Doc) (k i : ℕ) (arriving : List Sent) (coming : List Back) (h : List Entry) (w : State) → i < processes doc → Around doc k i arriving coming h w → Around doc k i arriving coming (before_asking doc k i h) w
+around-before doc k i arriving coming h w within a = around-settled doc k i arriving coming h w within a
 
 abbrev pub turn_told : ℕ → Identity → Turn → List deed.Deed → List deed.Deed
 turn_told k q t deeds = deeds ++ started_deeds k q t.started ++ ended_deeds k q t.ended
 
-told-turn : (doc : Doc) (k i : ℕ) (before deeds : List deed.Deed) (h : List Entry) (c : Controller) (t : Turn) → before ++ deeds ≡ printed h → Turned doc k i h c t →
-    before ++ turn_told k (identity i c.incarnation) t deeds ≡ printed (settled doc k i (restart doc k i h))
+told-turn : (doc : Doc) (k i : ℕ) (before deeds : List deed.Deed) (h : List Entry) (c : Process) (t : Turn) → before ++ deeds ≡ printed h → Turned doc k i h c t →
+    before ++ turn_told k (identity i (incarnation_of c)) t deeds ≡ printed (before_asking doc k i h)
 told-turn doc k i before deeds h c t told turned =
-    let s = started_deeds k (identity i c.incarnation) t.started in
-    let e = ended_deeds k (identity i c.incarnation) t.ended in
+    let s = started_deeds k (identity i (incarnation_of c)) t.started in
+    let e = ended_deeds k (identity i (incarnation_of c)) t.ended in
     sym (append_assoc before (deeds ++ s) e) ∙ ap (λ x. x ++ e) (sym (append_assoc before deeds s)) ∙ ap (λ x. x ++ s ++ e) told ∙ sym turned.told
 
-pub turned-quiet : (doc : Doc) (k i : ℕ) (before deeds new : List deed.Deed) (arriving : List Sent) (coming : List Back) (h : List Entry) (c0 c1 : Controller) (w v : State) (t : Turn) → Running doc k before arriving coming h w deeds →
-    i < processes doc → Moved i c0 c1 w v → v.wire ≡ w.wire → Turned doc k i h c1 t → t.ask ≡ None → new ≡ turn_told k (identity i c1.incarnation) t deeds → Running doc k before arriving coming (turn doc k i h) v new
-turned-quiet doc k i before deeds new arriving coming h c0 c1 w v t r within m wire turned quiet new_is =
-    let base = settled doc k i (restart doc k i h) in
-    let asks = subst (AsksOn doc k 4 i base (controller_turn doc k i h) c1) quiet turned.asks in
-    let next_is : turn doc k i h ≡ base = turn-is doc k i h (r.world.rest.document.controllers i within) ∙ asks.0 in
+pub running-turned : (doc : Doc) (k i : ℕ) (before deeds new : List deed.Deed) (arriving : List Sent) (coming : List Back) (h : List Entry) (c0 c1 : Process) (w v : State) (t : Turn) → Running doc k before arriving coming h w deeds →
+    i < processes doc → Moved i c0 c1 w v → SendsAsked k (identity i (incarnation_of c1)) t.ask w.wire v.wire → Turned doc k i h c1 t → new ≡ turn_told k (identity i (incarnation_of c1)) t deeds → Running doc k before arriving coming (elector_turn doc k i h) v new
+running-turned doc k i before deeds new arriving coming h c0 c1 w v t r within m sends turned new_is =
+    let base = before_asking doc k i h in
+    let around = around-before doc k i arriving coming h w within (around-world doc k i arriving coming h w r.world) in
     record {
-      world = subst (λ x. StateWithin doc k arriving coming x v) (sym next_is) (within-moved doc k i arriving coming base c0 c1 w v m wire (around-settled doc k i arriving coming h w within (around-world doc k i arriving coming h w r.world)) asks.1);
-      told = ap (λ ds. before ++ ds) new_is ∙ told-turn doc k i before deeds h c1 t r.told turned ∙ ap printed (sym next_is);
-    }
-
-pub printed-sent : (k step : ℕ) (q : Identity) (kind : CallKind) (ask : Ask) (h next : List Entry) → next ≡ send k step q kind ask.request h → printed next ≡ printed h
-printed-sent k step q kind ask h next is = ap printed is ∙ append-nil (printed h)
-
-pub turned-asks : (doc : Doc) (k i : ℕ) (before deeds new : List deed.Deed) (arriving : List Sent) (coming : List Back) (h : List Entry) (c0 c1 : Controller) (w v : State) (t : Turn) (ask : Ask) → Running doc k before arriving coming h w deeds →
-    i < processes doc → Moved i c0 c1 w v → SendsOn doc k arriving coming (identity i c1.incarnation) ask w v → Turned doc k i h c1 t → t.ask ≡ Some ask →
-    new ≡ turn_told k (identity i c1.incarnation) t deeds → Running doc k before arriving coming (turn doc k i h) v new
-turned-asks doc k i before deeds new arriving coming h c0 c1 w v t ask r within m sends turned some new_is =
-    let base = settled doc k i (restart doc k i h) in
-    let asked : Asked k 4 (identity i c1.incarnation) base (controller_turn doc k i h) (λ x. ControllerStands doc i x c1) ask = subst (AsksOn doc k 4 i base (controller_turn doc k i h) c1) some turned.asks in
-    let turn_is = turn-is doc k i h (r.world.rest.document.controllers i within) in
-    let last : c1.incarnation ≡ starts i base = (asked.stands None).incarnation in
-    let known : IsKnown (processes doc) base (identity i c1.incarnation) = record { within = within; started = omega (arith, last) } in
-    record {
-      world = subst (λ x. StateWithin doc k arriving coming x v) (sym turn_is)
-          (within-sent doc k 4 i arriving coming base (controller_turn doc k i h) c0 c1 w v ask m sends (around-settled doc k i arriving coming h w within (around-world doc k i arriving coming h w r.world)) known asked);
-      told = ap (λ ds. before ++ ds) new_is ∙ told-turn doc k i before deeds h c1 t r.told turned
-          ∙ sym (printed-sent k 4 (identity i c1.incarnation) asked.kind ask base (controller_turn doc k i h) asked.sent) ∙ ap printed (sym turn_is);
+      world = within-asked doc k 4 i arriving coming base (elector_turn doc k i h) c0 c1 w v t.ask m sends around within turned.asks;
+      told = ap (λ ds. before ++ ds) new_is ∙ told-turn doc k i before deeds h c1 t r.told turned ∙ sym (printed-asked doc k 4 i base (elector_turn doc k i h) c1 t.ask turned.asks);
     }
 
 -- ---- a reply
@@ -154,52 +151,45 @@ turned-asks doc k i before deeds new arriving coming h c0 c1 w v t ask r within 
 abbrev pub reply_told : ℕ → Identity → Received → List deed.Deed → List deed.Deed
 reply_told k q r deeds = deeds ++ lead_deeds k q r.lead
 
-told-reply : (doc : Doc) (k i : ℕ) (before deeds : List deed.Deed) (b : Back) (h : List Entry) (c : Controller) (x : Received) → before ++ deeds ≡ printed h → Replied doc k i b h c x → before ++ reply_told k (identity i c.incarnation) x deeds ≡ printed (delivered doc k b h)
-told-reply doc k i before deeds b h c x told replied =
-    let l = lead_deeds k (identity i c.incarnation) x.lead in
-    sym (append_assoc before deeds l) ∙ ap (λ y. y ++ l) told ∙ sym replied.told
-
-pub replied-quiet : (doc : Doc) (k i : ℕ) (before deeds new : List deed.Deed) (arriving : List Sent) (coming : List Back) (b : Back) (h : List Entry) (c0 c1 : Controller) (w v : State) (x : Received) → Running doc k before arriving coming h w deeds →
-    b.who.process ≡ i → IsKnown (processes doc) h b.who → Moved i c0 c1 w v → v.wire ≡ w.wire → Replied doc k i b h c1 x → x.ask ≡ None → new ≡ reply_told k (identity i c1.incarnation) x deeds → Running doc k before arriving coming (delivered doc k b h) v new
-replied-quiet doc k i before deeds new arriving coming b h c0 c1 w v x r process known m wire replied quiet new_is =
-    let on : StaysOn doc k i b h c1 = subst (AsksOnReply doc k i b h c1) quiet replied.asks in
+within-replied : (doc : Doc) (k i : ℕ) (arriving : List Sent) (coming : List Back) (b : Back) (h : List Entry) (c0 c1 : Process) (w v : State) (ask : Option Ask) → b.who.process ≡ i → i < processes doc → IsKnown (processes doc) h b.who →
+    Moved i c0 c1 w v → SendsAsked k (identity i (incarnation_of c1)) ask w.wire v.wire → Around doc k i arriving coming h w → AsksOnReply doc k (identity i (incarnation_of c1)) b h (λ g. ProcessStands doc i g c1) ask →
+    StateWithin doc k arriving coming (delivered doc k b h) v
+within-replied doc k i arriving coming b h c0 c1 w v None process within known m same a on =
     let next = with_deeds k 3 b.who on.deeds h in
-    record {
-      world = subst (λ g. StateWithin doc k arriving coming g v) (sym on.adds)
-          (within-moved doc k i arriving coming next c0 c1 w v m wire (around-deeds doc k i k 3 arriving coming b.who on.deeds h w process on.quiet known (around-world doc k i arriving coming h w r.world)) (subst (λ g. ControllerStands doc i g c1) on.adds on.stands));
-      told = ap (λ ds. before ++ ds) new_is ∙ told-reply doc k i before deeds b h c1 x r.told replied;
-    }
-
-pub replied-sent : (doc : Doc) (k i : ℕ) (before deeds new : List deed.Deed) (arriving : List Sent) (coming : List Back) (b : Back) (h : List Entry) (c0 c1 : Controller) (w v : State) (x : Received) (ask : Ask) → Running doc k before arriving coming h w deeds →
-    b.who.process ≡ i → IsKnown (processes doc) h b.who → Moved i c0 c1 w v → SendsOn doc k arriving coming (identity i c1.incarnation) ask w v → Replied doc k i b h c1 x → x.ask ≡ Some ask → new ≡ reply_told k (identity i c1.incarnation) x deeds →
-    Running doc k before arriving coming (delivered doc k b h) v new
-replied-sent doc k i before deeds new arriving coming b h c0 c1 w v x ask r process known m sends replied some new_is =
-    let on : AsksAfter doc k i b h c1 ask = subst (AsksOnReply doc k i b h c1) some replied.asks in
-    let q = identity i c1.incarnation in
+    subst (λ g. StateWithin doc k arriving coming g v) (sym on.adds)
+    (within-moved doc k i arriving coming next c0 c1 w v m same (around-deeds doc k i k 3 arriving coming b.who on.deeds h w process on.quiet known a) (subst (λ g. ProcessStands doc i g c1) on.adds on.stands))
+within-replied doc k i arriving coming b h c0 c1 w v (Some ask) process within known m sends a on =
+    let q = identity i (incarnation_of c1) in
     let d = Delivers on.call b.reply true in
     let g = entry k 3 q d ∷ h in
     let known_q : IsKnown (processes doc) h q = subst (IsKnown (processes doc) h) on.who known in
     let known_g : IsKnown (processes doc) g q = known-later (processes doc) (entry k 3 q d) h q known_q in
+    within-sent doc k 3 i arriving coming g (delivered doc k b h) c0 c1 w v ask m sends (around-own doc k i k 3 arriving coming q d h w refl refl known_g a) within on.asked
+
+pub running-replied : (doc : Doc) (k i : ℕ) (before deeds new : List deed.Deed) (arriving : List Sent) (coming : List Back) (b : Back) (h : List Entry) (c0 c1 : Process) (w v : State) (x : Received) → Running doc k before arriving coming h w deeds →
+    b.who.process ≡ i → i < processes doc → IsKnown (processes doc) h b.who → Moved i c0 c1 w v → SendsAsked k (identity i (incarnation_of c1)) x.ask w.wire v.wire → Replied doc k i b h c1 x → new ≡ reply_told k (identity i (incarnation_of c1)) x deeds →
+    Running doc k before arriving coming (delivered doc k b h) v new
+running-replied doc k i before deeds new arriving coming b h c0 c1 w v x r process within known m sends replied new_is =
     record {
-      world = within-sent doc k 3 i arriving coming g (delivered doc k b h) c0 c1 w v ask m sends (around-own doc k i k 3 arriving coming q d h w refl refl known_g (around-world doc k i arriving coming h w r.world)) known_g on.asked;
-      told = ap (λ ds. before ++ ds) new_is ∙ told-reply doc k i before deeds b h c1 x r.told replied;
+      world = within-replied doc k i arriving coming b h c0 c1 w v x.ask process within known m sends (around-world doc k i arriving coming h w r.world) replied.asks;
+      told = told-more before deeds new (lead_deeds k (identity i (incarnation_of c1)) x.lead) h (delivered doc k b h) r.told new_is replied.told;
     }
 
 -- ---- what stays plain
 
 -- the ranges stand as before
-pub ready-same : (w v : State) → SameDocument w v → ((i : ℕ) (c : Controller) → slice_get v.controllers.items i ≡ Some c → c.clock.end ≡ w.end.0) → IsReady w → IsReady v
+pub ready-same : (w v : State) → SameDocument w v → ((i : ℕ) (c : Process) → slice_get v.processes.items i ≡ Some c → (clock_of c).end ≡ w.end.0) → IsReady w → IsReady v
 ready-same w v same clocks ready =
     record {
       end = subst (λ e. e.0 ≤ 604800000) (sym same.end) ready.end;
       restart = subst (λ n. n ≤ 86400000000000000) (sym same.restart) ready.restart;
       epoch = subst (λ e. e.0 < 7258118400000000) (sym same.epoch) ready.epoch;
       micros = subst (λ n. n ≤ 1000000) (sym same.micros) ready.micros;
-      events = subst (All (λ e. HasDelays e.what)) (sym same.events) ready.events;
+      events = subst (All (λ e. IsFit e.what)) (sym same.events) ready.events;
       clocks = λ i c is. clocks i c is ∙ ap (λ e. e.0) (sym same.end);
     }
 
-pub keeps-moved : (i : ℕ) (c0 c1 : Controller) (w v : State) → IsReady w → Moved i c0 c1 w v → vec_len v.controllers ≡ vec_len w.controllers → SameController c0 c1 → Keeps w v
+pub keeps-moved : (i : ℕ) (c0 c1 : Process) (w v : State) → IsReady w → Moved i c0 c1 w v → vec_len v.processes ≡ vec_len w.processes → SameProcess c0 c1 → Keeps w v
 keeps-moved i c0 c1 w v ready m count same =
     record {
       ready = ready-same w v m.same (λ j c is. by_place j c is (j == i) refl) ready;
@@ -208,44 +198,44 @@ keeps-moved i c0 c1 w v ready m count same =
       count = count;
     }
   where
-    by_place : (j : ℕ) (c : Controller) → slice_get v.controllers.items j ≡ Some c → (b : Bool) → (j == i) ≡ b → c.clock.end ≡ w.end.0
+    by_place : (j : ℕ) (c : Process) → slice_get v.processes.items j ≡ Some c → (b : Bool) → (j == i) ≡ b → (clock_of c).end ≡ w.end.0
     by_place j c is true here =
         let place : j ≡ i = eq-is j i here in
-        let there : Some c ≡ Some c1 = sym is ∙ ap (λ cs. slice_get cs j) m.now ∙ ap (slice_get (slice_set w.controllers.items i c1)) place ∙ slice_get-set_same w.controllers.items i c1 c0 m.was in
+        let there : Some c ≡ Some c1 = sym is ∙ ap (λ cs. slice_get cs j) m.now ∙ ap (slice_get (slice_set w.processes.items i c1)) place ∙ slice_get-set_same w.processes.items i c1 c0 m.was in
         let own : c1 ≡ c = cc in
-        ap (λ x. x.clock.end) (sym own) ∙ ap (λ x. x.end) same.clock ∙ ready.clocks i c0 m.was
+        ap (λ x. (clock_of x).end) (sym own) ∙ ap (λ x. x.end) same.clock ∙ ready.clocks i c0 m.was
     by_place j c is false other =
         let apart : ¬ (j ≡ i) = λ e. (let now : (j == i) ≡ true = ap (λ x. j == x) (sym e) ∙ eq-self j in cc) in
-        ready.clocks j c (sym (slice_get-set_other w.controllers.items i j c1 apart) ∙ ap (λ cs. slice_get cs j) (sym m.now) ∙ is)
+        ready.clocks j c (sym (slice_get-set_other w.processes.items i j c1 apart) ∙ ap (λ cs. slice_get cs j) (sym m.now) ∙ is)
 
 -- ---- a first start
 
-pub first-not : (doc : Doc) (i : ℕ) (before deeds : List deed.Deed) (arriving : List Sent) (coming : List Back) (h : List Entry) (c0 : Controller) (w v : State) → Running doc 0 before arriving coming h w deeds → Moved i c0 c0 w v → v.wire ≡ w.wire → c0.up_first ≡ false →
+pub first-not : (doc : Doc) (i : ℕ) (before deeds : List deed.Deed) (arriving : List Sent) (coming : List Back) (h : List Entry) (c0 : Process) (w v : State) → Running doc 0 before arriving coming h w deeds → Moved i c0 c0 w v → v.wire ≡ w.wire → is_up_first_as c0 ≡ false →
     Running doc 0 before arriving coming (start_first i (is_up_first doc i) h) v deeds
 first-not doc i before deeds arriving coming h c0 w v r m wire down =
-    let s = r.world.controllers i c0 m.was in
-    let same : h ≡ start_first i (is_up_first doc i) h = ap (λ b. start_first i b h) (sym down ∙ s.up_first) in
+    let s = r.world.processes i c0 m.was in
+    let same : h ≡ start_first i (is_up_first doc i) h = ap (λ b. start_first i b h) (sym down ∙ process-up_first doc i h c0 s) in
     subst (λ g. Running doc 0 before arriving coming g v deeds) same
     (record { world = within-moved doc 0 i arriving coming h c0 c0 w v m wire (around-world doc 0 i arriving coming h w r.world) s; told = r.told })
 
-pub first-started : (doc : Doc) (i : ℕ) (before deeds new : List deed.Deed) (arriving : List Sent) (coming : List Back) (h : List Entry) (c0 c1 : Controller) (w v : State) → Running doc 0 before arriving coming h w deeds → i < processes doc → Moved i c0 c1 w v → v.wire ≡ w.wire → c0.up_first ≡ true →
-    ControllerStands doc i (start 0 1 i h) c1 → new ≡ deeds ++ deeds_of 0 (actor_of (identity i c1.incarnation)) (Some act.Start) → Running doc 0 before arriving coming (start_first i (is_up_first doc i) h) v new
+pub first-started : (doc : Doc) (i : ℕ) (before deeds new : List deed.Deed) (arriving : List Sent) (coming : List Back) (h : List Entry) (c0 c1 : Process) (w v : State) → Running doc 0 before arriving coming h w deeds → i < processes doc → Moved i c0 c1 w v → v.wire ≡ w.wire → is_up_first_as c0 ≡ true →
+    ProcessStands doc i (start 0 1 i h) c1 → new ≡ deeds ++ deeds_of 0 (actor_of (identity i (incarnation_of c1))) (Some act.Start) → Running doc 0 before arriving coming (start_first i (is_up_first doc i) h) v new
 first-started doc i before deeds new arriving coming h c0 c1 w v r within m wire up stands new_is =
-    let s = r.world.controllers i c0 m.was in
-    let same : start 0 1 i h ≡ start_first i (is_up_first doc i) h = ap (λ b. start_first i b h) (sym up ∙ s.up_first) in
-    let last : c1.incarnation ≡ starts i h + 1 = stands.incarnation ∙ starts-start 0 1 (identity i (starts i h + 1)) h in
+    let s = r.world.processes i c0 m.was in
+    let same : start 0 1 i h ≡ start_first i (is_up_first doc i) h = ap (λ b. start_first i b h) (sym up ∙ process-up_first doc i h c0 s) in
+    let last : (incarnation_of c1) ≡ starts i h + 1 = process-incarnation doc i (start 0 1 i h) c1 stands ∙ starts-start 0 1 (identity i (starts i h + 1)) h in
     subst (λ g. Running doc 0 before arriving coming g v new) same
     (record {
       world = within-moved doc 0 i arriving coming (start 0 1 i h) c0 c1 w v m wire (around-started doc 0 i 0 1 arriving coming h w within (around-world doc 0 i arriving coming h w r.world)) stands;
-      told = ap (λ ds. before ++ ds) new_is ∙ sym (append_assoc before deeds (deeds_of 0 (actor_of (identity i c1.incarnation)) (Some act.Start)))
-          ∙ ap (λ ds. ds ++ deeds_of 0 (actor_of (identity i c1.incarnation)) (Some act.Start)) r.told
+      told = ap (λ ds. before ++ ds) new_is ∙ sym (append_assoc before deeds (deeds_of 0 (actor_of (identity i (incarnation_of c1))) (Some act.Start)))
+          ∙ ap (λ ds. ds ++ deeds_of 0 (actor_of (identity i (incarnation_of c1))) (Some act.Start)) r.told
           ∙ ap (λ n. printed h ++ deeds_of 0 (actor_of (identity i n)) (Some act.Start)) last;
     })
 
 -- ---- an answer of the store
 
-pub answered-running : (doc : Doc) (k : ℕ) (before deeds new : List deed.Deed) (rest : List Sent) (coming : List Back) (s : Sent) (h : List Entry) (w v : State) → DocStands doc k w → IsPlain (processes doc) h → EachStands doc h w.controllers.items → before ++ deeds ≡ printed h →
-    IsKnown (processes doc) h s.who → SameDocument w v → v.controllers ≡ w.controllers → StoreStands (answered k s h) v.store → WireStands (processes doc) k rest coming (answered k s h) v.wire →
+pub answered-running : (doc : Doc) (k : ℕ) (before deeds new : List deed.Deed) (rest : List Sent) (coming : List Back) (s : Sent) (h : List Entry) (w v : State) → DocStands doc k w → IsPlain (processes doc) h → EachStands doc h w.processes.items → before ++ deeds ≡ printed h →
+    IsKnown (processes doc) h s.who → SameDocument w v → v.processes ≡ w.processes → StoreStands (answered k s h) v.store → WireStands (processes doc) k rest coming (answered k s h) v.wire →
     new ≡ deeds ++ deeds_of k (actor_of s.who) (answer_act s.call.request (answer s.call.request h)) → Running doc k before rest coming (answered k s h) v new
 answered-running doc k before deeds new rest coming s h w v ds plain each told known same controllers store wire new_is =
     let d = Answers s.call (answer s.call.request h) (reply_arrival s.who.process k h) (written s.call.request h) in
@@ -258,7 +248,7 @@ answered-running doc k before deeds new rest coming s h w v ds plain each told k
           store = store;
           wire = wire;
         };
-        controllers = subst (λ cs. EachStands doc (e ∷ h) cs.items) (sym controllers) (λ p c is. controller-answered doc p k 2 s.who s.call (answer s.call.request h) (reply_arrival s.who.process k h) (written s.call.request h) h c (each p c is));
+        processes = subst (λ cs. EachStands doc (e ∷ h) cs.items) (sym controllers) (λ p c is. process-answered doc p k 2 s.who s.call (answer s.call.request h) (reply_arrival s.who.process k h) (written s.call.request h) h c (each p c is));
       };
       told = ap (λ ds. before ++ ds) new_is ∙ sym (append_assoc before deeds _) ∙ ap (λ ds. ds ++ deeds_of k (actor_of s.who) (answer_act s.call.request (answer s.call.request h))) told;
     }

@@ -11,26 +11,26 @@ use Rattle.kube_objects.specs.declared.script.What.TheVariants as what
 use Rattle.kube_objects.specs.Document.{Doc, processes, is_controller}
 use Rattle.kube_objects.specs.Entry.{Entry, Event, Crashes, Stops, entry, script_entry}
 use Rattle.kube_objects.specs.Identities.{identity}
-use Rattle.kube_objects.specs.Process.{alive, starts, cancels}
+use Rattle.kube_objects.specs.Process.{alive, cancels}
 use Rattle.kube_objects.specs.Stored.{write_of}
 use Rattle.kube_objects.specs.Wire.{Sent, Back}
 use Rattle.history.specs.Printed.{printed, deeds_of, event_act}
 use Rattle.history.specs.Steps.{start_if_down, crash, happens}
-use Rattle.leader_elector.specs.Moves.{Asked}
 use Rattle.object_store.proofs.Keeps.{store-beside}
 use Rattle.object_store.specs.Stands.{StoreStands}
 use Rattle.wire_calls.specs.WireStands.{WireStands, is_of_wire}
 use Rattle.wire_calls.proofs.Frames.{wire-beside}
-use Rattle.world_core.specs.declared.controller.Controller.{Controller}
+use Rattle.world_process.specs.declared.process.Process.{Process}
 use Rattle.world_core.specs.declared.state.State.{State}
-use Rattle.world_core.specs.Controllers.{ControllerStands, AsksOn, stop_in, stopped}
-use Rattle.world_core.specs.Plain.{IsKnown}
-use Rattle.world_core.specs.States.{SameDocument, EachStands, Running}
+use Rattle.world_process.specs.Processes.{ProcessStands, AsksOn, incarnation_of}
+use Rattle.world_process.specs.Moves.{stop_in, stopped}
+use Rattle.world_core.specs.States.{SameDocument, EachStands, Running, SendsAsked}
 use Rattle.world_core.proofs.Around.{Around, around-own, around-started, alive-known}
-use Rattle.world_core.proofs.Names.{lt-from, eq-isnt}
-use Rattle.world_core.proofs.Plainly.{known-later}
-use Rattle.world_core.proofs.Scripted.{plain-script, controller-event}
-use Rattle.world_core.proofs.Running.{Moved, SendsOn, doc-same, within-moved, within-sent, printed-sent}
+use Rattle.world_process.proofs.Names.{lt-from, eq-isnt}
+use Rattle.world_process.proofs.Plainly.{known-later}
+use Rattle.world_process.proofs.Processes.{process-event}
+use Rattle.world_process.proofs.Scripted.{plain-script}
+use Rattle.world_core.proofs.Running.{Moved, doc-same, within-asked, within-moved, printed-asked, told-more}
 
 pub controller-within : (doc : Doc) (p : ℕ) → is_controller doc p ≡ true → p < processes doc
 controller-within doc p is = let less = lt-from p (length doc.controllers) is in omega (arith, less, length-append doc.controllers doc.kubelets)
@@ -42,7 +42,7 @@ abbrev pub scripted : ℕ → What → Option Version → List Entry → List En
 scripted k event version h = script_entry k 1 (Event event version) ∷ h
 
 pub running-event : (doc : Doc) (k : ℕ) (before deeds new : List deed.Deed) (arriving : List Sent) (coming : List Back) (h : List Entry) (w v : State) (event : What) (version : Option Version) → Running doc k before arriving coming h w deeds →
-    ((p : ℕ) → cancels p event ≡ false) → SameDocument w v → v.controllers ≡ w.controllers → StoreStands (scripted k event version h) v.store → WireStands (processes doc) k arriving coming (scripted k event version h) v.wire →
+    ((p : ℕ) → cancels p event ≡ false) → SameDocument w v → v.processes ≡ w.processes → StoreStands (scripted k event version h) v.store → WireStands (processes doc) k arriving coming (scripted k event version h) v.wire →
     new ≡ deeds ++ deeds_of k actor.Script (event_act event version) → Running doc k before arriving coming (scripted k event version h) v new
 running-event doc k before deeds new arriving coming h w v event version r beside same controllers store wire new_is =
     record {
@@ -53,7 +53,7 @@ running-event doc k before deeds new arriving coming h w v event version r besid
           store = store;
           wire = wire;
         };
-        controllers = subst (λ cs. EachStands doc (scripted k event version h) cs.items) (sym controllers) (λ p c is. controller-event doc p k 1 event version h c (beside p) (r.world.controllers p c is));
+        processes = subst (λ cs. EachStands doc (scripted k event version h) cs.items) (sym controllers) (λ p c is. process-event doc p k 1 event version h c (beside p) (r.world.processes p c is));
       };
       told = ap (λ ds. before ++ ds) new_is ∙ sym (append_assoc before deeds (deeds_of k actor.Script (event_act event version))) ∙ ap (λ ds. ds ++ deeds_of k actor.Script (event_act event version)) r.told;
     }
@@ -78,7 +78,7 @@ around-event doc k i arriving coming event h w wire write beside a =
         store = store-beside h (script_entry k 1 (Event event None)) w.store a.rest.store write;
         wire = wire-beside (processes doc) k arriving coming h (script_entry k 1 (Event event None)) w.wire wire a.rest.wire;
       };
-      others = λ p c other is. controller-event doc p k 1 event None h c (beside p other) (a.others p c other is);
+      others = λ p c other is. process-event doc p k 1 event None h c (beside p other) (a.others p c other is);
     }
 
 apart : (i p : ℕ) → ¬ (p ≡ i) → ¬ (i ≡ p)
@@ -127,30 +127,18 @@ around-stop doc k id arriving coming h w within a = by_life (alive id.0 h) refl
         let known = known-later (processes doc) (script_entry k 1 (Event (what.Stop id) None)) h (identity id.0 i) (alive-known (processes doc) id.0 i h a.rest.plain within is) in
         around-own doc k id.0 k 1 arriving coming (identity id.0 i) Stops g w refl refl (known-later (processes doc) (entry k 1 (identity id.0 i) Stops) g (identity id.0 i) known) base
 
-told-more : (before deeds new more : List deed.Deed) (h next : List Entry) → before ++ deeds ≡ printed h → new ≡ deeds ++ more → printed next ≡ printed h ++ more → before ++ new ≡ printed next
-told-more before deeds new more h next told new_is is = ap (λ ds. before ++ ds) new_is ∙ sym (append_assoc before deeds more) ∙ ap (λ ds. ds ++ more) told ∙ sym is
-
--- the controller stands for the history with the event, and sends nothing
-pub running-moved : (doc : Doc) (k i : ℕ) (before deeds new more : List deed.Deed) (arriving : List Sent) (coming : List Back) (h next : List Entry) (c0 c1 : Controller) (w v : State) → Running doc k before arriving coming h w deeds → Moved i c0 c1 w v → v.wire ≡ w.wire →
-    Around doc k i arriving coming next w → ControllerStands doc i next c1 → printed next ≡ printed h ++ more → new ≡ deeds ++ more → Running doc k before arriving coming next v new
+-- the process stands for the history with the event, and sends nothing
+pub running-moved : (doc : Doc) (k i : ℕ) (before deeds new more : List deed.Deed) (arriving : List Sent) (coming : List Back) (h next : List Entry) (c0 c1 : Process) (w v : State) → Running doc k before arriving coming h w deeds → Moved i c0 c1 w v → v.wire ≡ w.wire →
+    Around doc k i arriving coming next w → ProcessStands doc i next c1 → printed next ≡ printed h ++ more → new ≡ deeds ++ more → Running doc k before arriving coming next v new
 running-moved doc k i before deeds new more arriving coming h next c0 c1 w v r m wire around stands printed_is new_is =
     record { world = within-moved doc k i arriving coming next c0 c1 w v m wire around stands; told = told-more before deeds new more h next r.told new_is printed_is }
 
--- it stands for it where it asks nothing
-pub running-quiet : (doc : Doc) (k i : ℕ) (before deeds new more : List deed.Deed) (arriving : List Sent) (coming : List Back) (h base next : List Entry) (c0 c1 : Controller) (w v : State) (ask : Option Ask) → Running doc k before arriving coming h w deeds → Moved i c0 c1 w v → v.wire ≡ w.wire →
-    Around doc k i arriving coming base w → AsksOn doc k 1 i base next c1 ask → ask ≡ None → printed base ≡ printed h ++ more → new ≡ deeds ++ more → Running doc k before arriving coming next v new
-running-quiet doc k i before deeds new more arriving coming h base next c0 c1 w v ask r m wire around asks quiet printed_is new_is =
-    let on = subst (AsksOn doc k 1 i base next c1) quiet asks in
-    subst (λ g. Running doc k before arriving coming g v new) (sym on.0) (running-moved doc k i before deeds new more arriving coming h base c0 c1 w v r m wire around on.1 printed_is new_is)
-
--- what it asks is sent
-pub running-asks : (doc : Doc) (k i : ℕ) (before deeds new more : List deed.Deed) (arriving : List Sent) (coming : List Back) (h base next : List Entry) (c0 c1 : Controller) (w v : State) (given : Option Ask) (ask : Ask) → Running doc k before arriving coming h w deeds → i < processes doc → Moved i c0 c1 w v →
-    SendsOn doc k arriving coming (identity i c1.incarnation) ask w v → Around doc k i arriving coming base w → AsksOn doc k 1 i base next c1 given → given ≡ Some ask → printed base ≡ printed h ++ more → new ≡ deeds ++ more → Running doc k before arriving coming next v new
-running-asks doc k i before deeds new more arriving coming h base next c0 c1 w v given ask r within m sends around asks some printed_is new_is =
-    let asked : Asked k 1 (identity i c1.incarnation) base next (λ x. ControllerStands doc i x c1) ask = subst (AsksOn doc k 1 i base next c1) some asks in
-    let last : c1.incarnation ≡ starts i base = (asked.stands None).incarnation in
-    let known : IsKnown (processes doc) base (identity i c1.incarnation) = record { within = within; started = omega (arith, last) } in
+-- what it asks was sent, where it asks
+pub running-asked : (doc : Doc) (k i : ℕ) (before deeds new more : List deed.Deed) (arriving : List Sent) (coming : List Back) (h base next : List Entry) (c0 c1 : Process) (w v : State) (ask : Option Ask) → Running doc k before arriving coming h w deeds →
+    i < processes doc → Moved i c0 c1 w v → SendsAsked k (identity i (incarnation_of c1)) ask w.wire v.wire → Around doc k i arriving coming base w → AsksOn doc k 1 i base next c1 ask → printed base ≡ printed h ++ more → new ≡ deeds ++ more →
+    Running doc k before arriving coming next v new
+running-asked doc k i before deeds new more arriving coming h base next c0 c1 w v ask r within m sends around asks printed_is new_is =
     record {
-      world = within-sent doc k 1 i arriving coming base next c0 c1 w v ask m sends around known asked;
-      told = told-more before deeds new more h base r.told new_is printed_is ∙ sym (printed-sent k 1 (identity i c1.incarnation) asked.kind ask base next asked.sent);
+      world = within-asked doc k 1 i arriving coming base next c0 c1 w v ask m sends around within asks;
+      told = told-more before deeds new more h base r.told new_is printed_is ∙ sym (printed-asked doc k 1 i base next c1 ask asks);
     }

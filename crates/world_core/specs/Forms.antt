@@ -1,16 +1,10 @@
 -- The documents that the world runs.
 use Rattle.std.specs.Prelude.{◌&&◌, Bool, true, false, List, [], ◌∷◌}
 use Rattle.std.specs.List.{list_all}
-use Rattle.kube_objects.specs.declared.key.Kind.{Kind}
-use Rattle.kube_objects.specs.declared.key.Kind.TheVariants as kind
 use Rattle.kube_objects.specs.declared.script.What.{What}
 use Rattle.kube_objects.specs.declared.script.What.TheVariants.{Watch, Ready, Put, Remove}
 use Rattle.kube_objects.specs.Document.{Doc}
-
-abbrev pub is_lease : Kind → Bool
-is_lease kind.Node = false
-is_lease kind.Lease = true
-is_lease kind.Pod = false
+use Rattle.kube_objects.specs.Kinds.{is_lease}
 
 -- no event on a watch or a kubelet's status, and none on a Node or Pod
 abbrev pub is_run_event : What → Bool

@@ -1,5 +1,3 @@
-pub mod Controllers
 pub mod Forms
-pub mod Plain
 pub mod States
 pub mod Worlds

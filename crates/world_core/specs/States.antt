@@ -1,23 +1,29 @@
 -- The world stands for a document before a beat, or within one.
-use Rattle.std.specs.Prelude.{◌≡◌, ℕ, ◌+◌, ◌<◌, ◌≤◌, ◌++◌, true, List, [], Some, slice_get, length, vec_len, drop, All}
+use Rattle.std.specs.Prelude.{◌≡◌, ℕ, zero, suc, ◌+◌, ◌-◌, ◌<◌, ◌≤◌, ◌++◌, List, [], ◌∷◌, Option, Some, None, slice_get, length, vec_len, drop, All}
+use Rattle.kube_objects.specs.declared.call.Ask.{Ask}
 use Rattle.kube_objects.specs.declared.deed.Deed as deed
 use Rattle.kube_objects.specs.declared.script.Event.{Event}
+use Rattle.kube_objects.specs.declared.script.Proc.{Proc}
 use Rattle.kube_objects.specs.declared.script.What.{What}
-use Rattle.kube_objects.specs.declared.script.What.TheVariants.{Delay}
-use Rattle.kube_objects.specs.Document.{Doc, processes, is_controller, restart_delay, beat_micros}
-use Rattle.kube_objects.specs.Entry.{Entry}
+use Rattle.kube_objects.specs.declared.script.What.TheVariants.{Delay, Put}
+use Rattle.kube_objects.specs.declared.settings.Settings.{Settings}
+use Rattle.kube_objects.specs.Document.{Doc, processes, restart_delay, beat_micros}
+use Rattle.kube_objects.specs.Entry.{Entry, Identity, Call, Sends, entry}
 use Rattle.kube_objects.specs.InFlight.{requests_due, replies_due}
-use Rattle.kube_objects.specs.Wire.{Sent, Back}
+use Rattle.kube_objects.specs.Kinds.{IsOfKind}
+use Rattle.kube_objects.specs.Wire.{Sent, Back, request_arrival}
 use Rattle.history.specs.History.{beat}
 use Rattle.history.specs.Printed.{printed}
 use Rattle.history.specs.Steps.{happens, happen_all}
+use Rattle.history_laws.specs.Bare.{IsBare, IsBareDocument}
 use Rattle.object_store.specs.Stands.{StoreStands}
 use Rattle.script_reader.specs.Lawful.{IsLawfulWhat, AreLawfulFrom}
+use Rattle.wire_calls.specs.declared.wire.Wire.{Wire}
 use Rattle.wire_calls.specs.WireStands.{WireStands}
-use Rattle.world_core.specs.declared.controller.Controller.{Controller}
+use Rattle.world_process.specs.declared.process.Process.{Process}
 use Rattle.world_core.specs.declared.state.State.{State}
-use Rattle.world_core.specs.Controllers.{ControllerStands}
-use Rattle.world_core.specs.Plain.{IsFew, IsPlain}
+use Rattle.world_process.specs.Processes.{ProcessStands, clock_of}
+use Rattle.world_process.specs.Plain.{IsFew, IsPlain}
 
 -- ---- plain facts, that callers see
 
@@ -30,10 +36,15 @@ end_of w = w.end.0
 abbrev pub names_of : State → List (List ℕ)
 names_of w = w.names
 
--- the ranges of an event's delays, in beats
-abbrev pub HasDelays : What → Type 0
-HasDelays (Delay id requests replies) = ((1 ≤ requests) × (requests ≤ 6000)) × ((1 ≤ replies) × (replies ≤ 6000))
-HasDelays _ = Unit {0}
+-- the ranges of an event's delays, in beats; an object that it puts is of its key's kind
+abbrev pub IsFit : What → Type 0
+IsFit (Delay id requests replies) = ((1 ≤ requests) × (requests ≤ 6000)) × ((1 ≤ replies) × (replies ≤ 6000))
+IsFit (Put key object) = IsOfKind key object
+IsFit _ = Unit {0}
+
+-- the processes' clocks go on to this beat
+abbrev pub GoOnTo : ℕ → List Process → Type 0
+GoOnTo end xs = (i : ℕ) (x : Process) → slice_get xs i ≡ Some x → (clock_of x).end ≡ end
 
 -- the ranges of a world that was made of a document
 pub record IsReady (w : State) : Type 0 where
@@ -41,8 +52,8 @@ pub record IsReady (w : State) : Type 0 where
   pub restart : w.restart ≤ 86400000000000000
   pub epoch : w.epoch.0 < 7258118400000000
   pub micros : w.micros ≤ 1000000
-  pub events : All (λ e. HasDelays e.what) w.events
-  pub clocks : (i : ℕ) (c : Controller) → slice_get w.controllers.items i ≡ Some c → c.clock.end ≡ w.end.0
+  pub events : All (λ e. IsFit e.what) w.events
+  pub clocks : GoOnTo w.end.0 w.processes.items
 
 -- the beat and what was read of the document, but for the place among the events
 pub record SameDocument (old new : State) : Type 0 where
@@ -59,7 +70,7 @@ pub record Keeps (old new : State) : Type 0 where
   pub ready : IsReady new
   pub same : SameDocument old new
   pub place : new.place ≡ old.place
-  pub count : vec_len new.controllers ≡ vec_len old.controllers
+  pub count : vec_len new.processes ≡ vec_len old.processes
 
 -- ---- the relation
 
@@ -67,39 +78,48 @@ pub record Keeps (old new : State) : Type 0 where
 pub record DocStands (doc : Doc) (k : ℕ) (w : State) : Type 0 where
   pub at : w.beat.0 ≡ k
   pub restart : w.restart ≡ restart_delay doc
-  pub count : length w.controllers.items ≡ processes doc
-  pub controllers : (p : ℕ) → p < processes doc → is_controller doc p ≡ true
+  pub count : length w.processes.items ≡ processes doc
   pub epoch : w.epoch ≡ doc.settings.epoch
   pub micros : w.micros ≡ beat_micros doc
   pub events : w.events ≡ doc.events
+  pub kubelets : doc.kubelets ≡ []
+  pub leases : IsBareDocument doc
 
 -- the events before a place were of earlier beats, and those from it on are of this beat or later
 pub record IsPlaced (doc : Doc) (k place : ℕ) : Type 0 where
   pub earlier : (i : ℕ) (e : Event) → i < place → slice_get doc.events i ≡ Some e → e.beat.0 < k
   pub later : AreLawfulFrom doc k (drop place doc.events)
 
--- all but the controllers; these requests and replies have still to be taken at the beat
+-- all but the processes; these requests and replies have still to be taken at the beat
 pub record RestStands (doc : Doc) (k : ℕ) (arriving : List Sent) (coming : List Back) (h : List Entry) (w : State) : Type 0 where
   pub document : DocStands doc k w
   pub plain : IsPlain (processes doc) h
   pub store : StoreStands h w.store
   pub wire : WireStands (processes doc) k arriving coming h w.wire
 
-abbrev pub EachStands : Doc → List Entry → List Controller → Type 0
-EachStands doc h cs = (p : ℕ) (c : Controller) → slice_get cs p ≡ Some c → ControllerStands doc p h c
+abbrev pub EachStands : Doc → List Entry → List Process → Type 0
+EachStands doc h xs = (p : ℕ) (x : Process) → slice_get xs p ≡ Some x → ProcessStands doc p h x
 
--- all controllers but one
-abbrev pub OthersStand : Doc → ℕ → List Entry → List Controller → Type 0
-OthersStand doc q h cs = (p : ℕ) (c : Controller) → ¬ (p ≡ q) → slice_get cs p ≡ Some c → ControllerStands doc p h c
+-- all processes but one
+abbrev pub OthersStand : Doc → ℕ → List Entry → List Process → Type 0
+OthersStand doc q h xs = (p : ℕ) (x : Process) → ¬ (p ≡ q) → slice_get xs p ≡ Some x → ProcessStands doc p h x
+
+-- what processes are made of is what the document has, which has controllers alone
+pub record AreMadeOf (doc : Doc) (s : Settings) (ps : List Proc) (es : List Event) : Type 0 where
+  pub settings : doc.settings ≡ s
+  pub controllers : doc.controllers ≡ ps
+  pub kubelets : doc.kubelets ≡ []
+  pub events : doc.events ≡ es
 
 pub record StateWithin (doc : Doc) (k : ℕ) (arriving : List Sent) (coming : List Back) (h : List Entry) (w : State) : Type 0 where
   pub rest : RestStands doc k arriving coming h w
-  pub controllers : EachStands doc h w.controllers.items
+  pub processes : EachStands doc h w.processes.items
 
 -- the world before beat k, whose history is h
 pub record StateStands (doc : Doc) (k : ℕ) (h : List Entry) (w : State) : Type 0 where
   pub within : StateWithin doc k (requests_due k h) (replies_due k h) h w
   pub placed : IsPlaced doc k w.place
+  pub bare : IsBare h
 
 -- within a beat, with what was printed before the beat and in it
 pub record Running (doc : Doc) (k : ℕ) (before : List deed.Deed) (arriving : List Sent) (coming : List Back) (h : List Entry) (w : State) (deeds : List deed.Deed) : Type 0 where
@@ -113,15 +133,32 @@ pub record AreSilent (k n : ℕ) (h : List Entry) : Type 0 where
   pub requests : (j : ℕ) → k ≤ j → j < n → requests_due j h ≡ []
   pub replies : (j : ℕ) → k ≤ j → j < n → replies_due j h ≡ []
 
--- the beats from k to before n add nothing to a history
-abbrev pub AddNothing : Doc → ℕ → ℕ → List Entry → Type 0
-AddNothing doc k n h = (j : ℕ) → k ≤ j → j < n → beat doc h j ≡ h
+-- the history with n beats from k on
+abbrev pub beats_from : Doc → ℕ → ℕ → List Entry → List Entry
+beats_from doc k zero h = h
+beats_from doc k (suc n) h = beat doc (beats_from doc k n h) (k + n)
+
+-- the world went on to a later beat: those between are done, and nothing of them is printed
+pub record Skipped (doc : Doc) (k : ℕ) (h : List Entry) (w : State) : Type 0 where
+  pub stands : StateStands doc w.beat.0 (beats_from doc k (w.beat.0 - k) h) w
+  pub silent : printed (beats_from doc k (w.beat.0 - k) h) ≡ printed h
+
+-- ---- what is asked
+
+-- the wire did what an identity asks at beat k, where it asks
+abbrev pub SendsAsked : ℕ → Identity → Option Ask → Wire → Wire → Type 0
+SendsAsked k q None old new = new ≡ old
+SendsAsked k q (Some ask) old new = (processes step : ℕ) (arriving : List Sent) (coming : List Back) (h : List Entry) (call : Call)
+    → WireStands processes k arriving coming h old → call.number ≡ ask.number → call.request ≡ ask.request
+    → WireStands processes k arriving coming (entry k step q (Sends call (request_arrival q.process k h)) ∷ h) new
 
 -- ---- events
 
 -- an event has happened in a world within a beat, and what is printed of it was added
 abbrev pub Happens : State → List deed.Deed → State → List deed.Deed → What → Type 0
-Happens w deeds v new what = (doc : Doc) (k : ℕ) (before : List deed.Deed) (arriving : List Sent) (coming : List Back) (h : List Entry) → Running doc k before arriving coming h w deeds → IsLawfulWhat doc what → IsFew (happens doc k what h) → Running doc k before arriving coming (happens doc k what h) v new
+Happens w deeds v new what = (doc : Doc) (k : ℕ) (before : List deed.Deed) (arriving : List Sent) (coming : List Back) (h : List Entry)
+    → Running doc k before arriving coming h w deeds → IsLawfulWhat doc what → IsFew (happens doc k what h)
+    → Running doc k before arriving coming (happens doc k what h) v new
 
 -- all events of the beat have happened; what they sent arrives later
 pub record Scripted (doc : Doc) (k : ℕ) (before : List deed.Deed) (arriving : List Sent) (coming : List Back) (h : List Entry) (w : State) (deeds : List deed.Deed) : Type 0 where

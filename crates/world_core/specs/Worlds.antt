@@ -21,3 +21,7 @@ IsReady w = state.IsReady w.state.value
 -- the world before beat k, whose history is h
 abbrev pub WorldStands : Doc → ℕ → List Entry → World → Type 0
 WorldStands doc k h w = state.StateStands doc k h w.state.value
+
+-- the world went on to a later beat: those between are done, and nothing of them is printed
+abbrev pub Skipped : Doc → ℕ → List Entry → World → Type 0
+Skipped doc k h w = state.Skipped doc k h w.state.value

@@ -1,6 +1,7 @@
 // The documents that the world runs.
 ghost use Rattle.std.specs.Prelude.{◌≡◌};
 ghost use Rattle.std.specs.List.{list_all};
+ghost use Rattle.kube_objects.specs.Kinds.{is_lease};
 ghost use Rattle.script_reader.specs.Documents.{doc_of};
 ghost use Rattle.world_core.specs.Forms as forms;
 
@@ -30,7 +31,7 @@ fn watches_all(document: &Document) -> bool
 }
 
 fn has_leases_alone(document: &Document) -> bool
-    ensures { result ≡ list_all (λ item. forms.is_lease item.0.kind) document.now.objects.items }
+    ensures { result ≡ list_all (λ item. is_lease item.0.kind) document.now.objects.items }
 {
     document
         .objects
@@ -51,7 +52,7 @@ fn has_run_events(document: &Document) -> bool
 }
 
 fn is_lease(kind: Kind) -> bool
-    ensures { result ≡ forms.is_lease kind }
+    ensures { result ≡ is_lease kind }
 {
     match kind {
         Kind::Node | Kind::Pod => false,

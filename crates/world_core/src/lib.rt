@@ -1,7 +1,6 @@
 //! The world of a document, which does one beat at a time.
 #![tactic(auto)]
 
-mod controller;
 mod forms;
 mod printing;
 mod replay;

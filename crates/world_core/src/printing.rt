@@ -3,17 +3,11 @@ ghost use Rattle.std.specs.Prelude.{◌≡◌, ◌++◌, OnOk, option_map};
 ghost use Rattle.kube_objects.specs.declared.deed.Act.TheVariants as Act;
 ghost use Rattle.kube_objects.specs.Newest.{when};
 ghost use Rattle.kube_objects.specs.declared.script.What.TheVariants as What;
-ghost use Rattle.history.specs.Printed.{answer_act as act_of_answer, as_answer as answer_of, if_told as told_of, deeds_of, event_act};
+ghost use Rattle.history.specs.Printed.{answer_act as act_of_answer, if_told as told_of, deeds_of, event_act};
+ghost use Rattle.kube_objects.specs.Tries.{as_answer as answer_of};
 
 use kube_base::{Beat, NoMemory, Version};
-use kube_objects::{Act, Actor, Answer, Deed, Deeds, Key, Kind, Reply, Request};
-
-/// The election Lease kube-system/kube-controller-manager, by the numbers of its fixed names.
-const ELECTION: Key = Key {
-    kind: Kind::Lease,
-    space: 7,
-    name: 8,
-};
+use kube_objects::{Act, Actor, Answer, Deed, Deeds, Key, Reply, Request};
 
 /// Adds the deed of an entry, where it has one.
 pub fn tell(deeds: &mut Deeds, beat: Beat, actor: Actor, act: Option<Act>) -> Result<(), NoMemory>
@@ -64,7 +58,7 @@ fn if_told(key: &Key, answer: Answer) -> Option<Answer>
     ensures { result ≡ told_of key.now answer }
 {
     match answer {
-        Answer::Done(version) => if *key == ELECTION {
+        Answer::Done(version) => if *key == Key::ELECTION {
             Some(Answer::Done(version))
         } else {
             None
@@ -74,35 +68,35 @@ fn if_told(key: &Key, answer: Answer) -> Option<Answer>
 }
 
 /// What is printed of a start.
-pub fn starting(started: bool) -> Option<Act>
+pub fn start_act(started: bool) -> Option<Act>
     ensures { result ≡ when started Act.Start }
 {
     if started { Some(Act::Start) } else { None }
 }
 
 /// What is printed of a crash.
-pub fn crashing(crashed: bool) -> Option<Act>
+pub fn crash_act(crashed: bool) -> Option<Act>
     ensures { result ≡ when crashed Act.Crash }
 {
     if crashed { Some(Act::Crash) } else { None }
 }
 
 /// What is printed of a stop.
-pub fn stopping(stopped: bool) -> Option<Act>
+pub fn stop_act(stopped: bool) -> Option<Act>
     ensures { result ≡ when stopped Act.Stop }
 {
     if stopped { Some(Act::Stop) } else { None }
 }
 
 /// What is printed of an end.
-pub fn ending(ended: bool) -> Option<Act>
+pub fn end_act(ended: bool) -> Option<Act>
     ensures { result ≡ when ended Act.End }
 {
     if ended { Some(Act::End) } else { None }
 }
 
 /// What is printed of a lead.
-pub fn leading(lead: Option<Version>) -> Option<Act>
+pub fn lead_act(lead: Option<Version>) -> Option<Act>
     ensures { result ≡ option_map Act.Lead lead }
 {
     match lead {
@@ -112,7 +106,7 @@ pub fn leading(lead: Option<Version>) -> Option<Act>
 }
 
 /// What is printed of a removal, where something was removed.
-pub fn removing(key: Key, version: Option<Version>) -> Option<Act>
+pub fn remove_act(key: Key, version: Option<Version>) -> Option<Act>
     ensures { result ≡ event_act (What.Remove key) version }
 {
     match version {

@@ -26,7 +26,6 @@ pub fn deeds_of(alloc: Global, document: Document) -> Result<Deeds, NoMemory>
     'beats: while !world.finished() {
         let (next, printed) = world.beat()?;
         world = next;
-        world.skip_quiet();
         deeds.append(&printed)?;
     }
     Ok(deeds)

@@ -13,9 +13,8 @@ ghost use Rattle.object_store.specs.StoreAnswers.{object_of};
 ghost use Rattle.script_reader.specs.Documents.{doc_of};
 ghost use Rattle.script_reader.specs.Lawful.{IsLawfulDoc};
 ghost use Rattle.world_core.specs.Forms.{is_run};
-ghost use Rattle.world_core.specs.Plain.{IsFew};
-ghost use Rattle.world_core.specs.States.{AddNothing};
-ghost use Rattle.world_core.specs.Worlds.{IsReady, WorldStands, at_of, end_of, names_of};
+ghost use Rattle.world_process.specs.Plain.{IsFew};
+ghost use Rattle.world_core.specs.Worlds.{IsReady, Skipped, WorldStands, at_of, end_of, names_of};
 
 use crate::state::State;
 use kube_base::{Beat, Names, NoMemory};
@@ -23,7 +22,7 @@ use kube_objects::{Deeds, Items};
 use script_reader::Document;
 use std::alloc::Global;
 
-/// Controllers, the store and the wire between them, before a beat. It is boxed, so that a beat doesn't move it.
+/// Processes, the store and the wire between them, before a beat. It is boxed, so that a beat doesn't move it.
 #[derive(Drop)]
 pub struct World {
     state: Box<State>,
@@ -54,7 +53,8 @@ impl World {
     /// The objects that are stored, each with its key, in the order of keys. Each is a copy.
     pub fn objects(&self) -> Result<Items, NoMemory>
         ensures ascend { IfOk result (λ items. IsStrictlySortedBy key_cmp (keys_of items)) }
-        ensures stored { (doc : Doc) (k : ℕ) (h : List Entry) (key : Key) → WorldStands doc k h self.now → IfOk result (λ items. lookup (key_eq key) items ≡ object_of (stored key h)) }
+        ensures stored { (doc : Doc) (k : ℕ) (h : List Entry) (key : Key) → WorldStands doc k h self.now
+            → IfOk result (λ items. lookup (key_eq key) items ≡ object_of (stored key h)) }
     {
         self.state.objects()
     }
@@ -77,7 +77,8 @@ impl World {
     pub fn beat(mut self) -> Result<(World, Deeds), NoMemory>
         requires ready { IsReady self }
         requires within { at_of self ≤ end_of self }
-        ensures kept { IfOk result (λ r. IsReady r.0 × (at_of r.0 ≡ at_of self + 1) × (end_of r.0 ≡ end_of self) × (names_of r.0 ≡ names_of self)) }
+        ensures kept { IfOk result (λ r. IsReady r.0 × (at_of r.0 ≡ at_of self + 1) × (end_of r.0 ≡ end_of self)
+            × (names_of r.0 ≡ names_of self)) }
         ensures stands { (doc : Doc) (k : ℕ) (h : List Entry) → IsFew (beat doc h k) → WorldStands doc k h self
             → IfOk result (λ r. WorldStands doc (k + 1) (beat doc h k) r.0 × (printed h ++ r.1 ≡ printed (beat doc h k))) }
     {
@@ -85,15 +86,14 @@ impl World {
         Ok((self, deeds))
     }
 
-    /// Goes on to the next beat at which something may happen, at most to the one after the end. Nothing happens in the
+    /// Goes on to the next beat at which something may happen, at most to the one after the end. Nothing is printed of the
     /// beats between.
     pub fn skip_quiet(&mut self)
         requires ready { IsReady self.old }
-        requires begun { 0 < at_of self.old }
         requires within { at_of self.old ≤ end_of self.old + 1 }
-        ensures kept { IsReady self.new × (at_of self.old ≤ at_of self.new) × (at_of self.new ≤ end_of self.new + 1) × (end_of self.new ≡ end_of self.old) × (names_of self.new ≡ names_of self.old) }
-        ensures stands { (doc : Doc) (k : ℕ) (h : List Entry) → WorldStands doc k h self.old
-            → WorldStands doc (at_of self.new) h self.new × AddNothing doc k (at_of self.new) h }
+        ensures kept { IsReady self.new × (at_of self.old ≤ at_of self.new) × (at_of self.new ≤ end_of self.new + 1)
+            × (end_of self.new ≡ end_of self.old) × (names_of self.new ≡ names_of self.old) }
+        ensures stands { (doc : Doc) (k : ℕ) (h : List Entry) → WorldStands doc k h self.old → Skipped doc k h self.new }
     {
         self.state.skip_quiet();
     }

@@ -2,12 +2,14 @@ use Rattle.std.proofs.Common.{◌≡◌, suc, ◌+◌, ◌≤◌, ◌++◌, sym,
 use Rattle.kube_objects.specs.Document.{end_beat}
 use Rattle.byte_edge.specs.Bytes.{Gives, Gave}
 use Rattle.history.specs.History.{history}
+use Rattle.history.specs.Printed.{printed}
 use Rattle.world_core.specs.Worlds.{WorldStands, at_of, end_of, names_of}
-use Rattle.world_core.proofs.Quiet.{history-skips}
+use Rattle.world_core.proofs.Quiet.{history-from}
+use Rattle.world_core.proofs.Ranges.{not-over, over}
 use Rattle.replay_top.specs.Lines.{trace_before, lines_of}
 use Rattle.replay_top.specs.Spoken.{Spoken}
 use Rattle.replay_top.proofs.Said.{spoken-given, spoken-front, spoken-so_far, spoken-more}
-use Rattle.replay_top.proofs.Grown.{gave-whole, next-stands, trace-next, trace-same, not-over, over, few, trace-end}
+use Rattle.replay_top.proofs.Grown.{gave-whole, next-stands, trace-next, trace-same, few, trace-end}
 use Rattle.replay_top.proofs.trace.write_beats.Goals as goal
 
 pub returns-in-Err-clause-written : goal.returns-in-Err-clause-written
@@ -65,9 +67,10 @@ beats-preserved g c =
           let now = c.beats.invariant.stands doc before events first is s in
           let beat = c.in-Ok-beat.ensures.stands doc k (history doc k) (few doc k events (omega (arith, inside, c.beats.invariant.ready.end))) now.0 in
           let skipped = skips.stands doc (at_of done) (history doc (at_of done)) (next-stands doc k (at_of done) done kept.1 beat.0) in
-          let quiet : history doc (at_of next) ≡ history doc (at_of done) = history-skips doc (at_of done) (at_of next) skips.kept.1 skipped.1 in (
-            subst (λ h. WorldStands doc (at_of next) h next) (sym quiet) skipped.0,
-            subst (Spoken before after c.add_deeds.new.text.items) (trace-same doc names processes (at_of done) (at_of next) (sym quiet))
+          let passed = history-from doc (at_of done) (at_of next) skips.kept.1 in
+          let silent : printed (history doc (at_of next)) ≡ printed (history doc (at_of done)) = ap printed passed ∙ skipped.silent in (
+            subst (λ h. WorldStands doc (at_of next) h next) (sym passed) skipped.stands,
+            subst (Spoken before after c.add_deeds.new.text.items) (trace-same doc names processes (at_of done) (at_of next) (sym silent))
                 (spoken-more before after buffer (lines_of names processes c.in-Ok-beat.deeds) c.add_deeds.new.text.items (trace_before doc names processes k) (trace_before doc names processes (at_of done))
                 (c.in-Ok.ensures.spoken before (trace_before doc names processes k) now.1) lines (trace-next doc names processes k (at_of done) c.in-Ok-beat.deeds kept.1 beat.1)),
           );

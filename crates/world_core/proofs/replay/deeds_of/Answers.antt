@@ -6,7 +6,6 @@ use Rattle.script_reader.specs.Documents.{doc_of}
 use Rattle.world_core.specs.Worlds.{at_of, end_of, WorldStands}
 use Rattle.world_core.proofs.Fewness.{few-beat}
 use Rattle.world_core.proofs.Puts.{put-printed}
-use Rattle.world_core.proofs.Quiet.{history-skips}
 use Rattle.world_core.proofs.Ranges.{not-over, over}
 use Rattle.world_core.proofs.replay.deeds_of.Goals as goal
 
@@ -28,23 +27,18 @@ beats-preserved c =
     let doc = doc_of c.args.document in
     let now = c.beats.invariant in
     let k = at_of c.beats.world in
-    let done_world = c.in_ok-next.next in
-    let next = c.skip_quiet.new.self in
-    let skips = c.skip_quiet.ensures in
+    let next = c.in_ok-next.next in
     let kept = c.in_ok-next.ensures.kept in
     let inside = not-over (end_of c.beats.world) k c.finished.result c.finished.ensures c.beats-test.true in
     let few = few-beat doc k c.calls_are_numbered.ensures.few c.starts_are_few.ensures (omega (arith, inside, now.ready.end)) c.requires.lawful.few_events in
     let done = c.in_ok-next.ensures.stands doc k (history doc k) few now.stands in
-    let later : suc k ≡ at_of done_world = sym (kept.1 ∙ add-one k) in
-    let stands : WorldStands doc (at_of done_world) (history doc (at_of done_world)) done_world = subst (λ n. WorldStands doc n (history doc n) done_world) later (subst (λ n. WorldStands doc n (history doc (suc k)) done_world) (add-one k) done.0) in
-    let skipped = skips.stands doc (at_of done_world) (history doc (at_of done_world)) stands in
-    let same : history doc (at_of next) ≡ history doc (at_of done_world) = history-skips doc (at_of done_world) (at_of next) skips.kept.1 skipped.1 in
+    let later : suc k ≡ at_of next = sym (kept.1 ∙ add-one k) in
     record {
-      ready = skips.kept.0;
-      end = skips.kept.3 ∙ kept.2 ∙ now.end;
-      within = skips.kept.2;
-      stands = subst (λ h. WorldStands doc (at_of next) h next) (sym same) skipped.0;
-      told = c.in_ok-append.ensures.ok ∙ ap (λ ds. ds ++ c.in_ok-next.printed) now.told ∙ done.1 ∙ ap (λ n. printed (history doc n)) later ∙ ap printed (sym same);
+      ready = kept.0;
+      end = kept.2 ∙ now.end;
+      within = omega (arith, inside, kept.1, kept.2);
+      stands = subst (λ n. WorldStands doc n (history doc n) next) later (subst (λ n. WorldStands doc n (history doc (suc k)) next) (add-one k) done.0);
+      told = c.in_ok-append.ensures.ok ∙ ap (λ ds. ds ++ c.in_ok-next.printed) now.told ∙ done.1 ∙ ap (λ n. printed (history doc n)) later;
     }
 
 pub returns : goal.returns

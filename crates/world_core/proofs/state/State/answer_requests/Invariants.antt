@@ -4,7 +4,7 @@ use Rattle.kube_objects.specs.Document.{Doc, processes}
 use Rattle.kube_objects.specs.Entry.{Entry}
 use Rattle.kube_objects.specs.Wire.{Sent, Back}
 use Rattle.wire_calls.specs.WireStands.{requests_at}
-use Rattle.world_core.specs.Plain.{SentByKnown}
+use Rattle.world_process.specs.Plain.{SentByKnown}
 use Rattle.world_core.specs.States.{Keeps, Running}
 use Rattle.world_core.proofs.Loops.{Answering}
 use Rattle.world_core.proofs.state.State.answer_requests.Given as goal

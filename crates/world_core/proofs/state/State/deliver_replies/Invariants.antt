@@ -5,7 +5,7 @@ use Rattle.kube_objects.specs.Entry.{Entry}
 use Rattle.kube_objects.specs.Wire.{Sent, Back}
 use Rattle.history.specs.Due.{deliver_all}
 use Rattle.wire_calls.specs.WireStands.{replies_at}
-use Rattle.world_core.specs.Plain.{BackToKnown, IsFew}
+use Rattle.world_process.specs.Plain.{BackToKnown, IsFew}
 use Rattle.world_core.specs.States.{Keeps, Running}
 use Rattle.world_core.proofs.Loops.{Delivering}
 use Rattle.world_core.proofs.state.State.deliver_replies.Given as goal

@@ -4,7 +4,7 @@ use Rattle.kube_objects.specs.Document.{Doc, processes}
 use Rattle.kube_objects.specs.Entry.{Entry}
 use Rattle.kube_objects.specs.Wire.{Sent, Back}
 use Rattle.history.specs.Steps.{starts_below}
-use Rattle.world_core.specs.Plain.{IsFew}
+use Rattle.world_process.specs.Plain.{IsFew}
 use Rattle.world_core.specs.States.{Keeps, Running}
 use Rattle.world_core.proofs.state.State.first_starts.Given as goal
 

@@ -1,8 +1,9 @@
-use Rattle.std.proofs.Common.{◌≡◌, ◌<◌, ◌≤◌, ap, ◌∙◌, subst, add-one, arith}
+use Rattle.std.proofs.Common.{◌≡◌, ◌<◌, ◌≤◌, ap, arith}
 use Rattle.kube_objects.specs.Document.{processes}
-use Rattle.history.specs.Steps.{turn, turns}
+use Rattle.history.specs.Steps.{elector_turn}
 use Rattle.world_core.specs.States.{end_of}
 use Rattle.world_core.proofs.Loops.{keeps-on}
+use Rattle.world_core.proofs.Ticking.{last-too}
 use Rattle.world_core.proofs.state.State.next_turns.Goals as goal
 
 pub loop-i-preserved : goal.loop-i-preserved
@@ -14,18 +15,18 @@ loop-i-preserved c =
       kept = keeps-on c.args.self.now c.loop-i.self next.new.self inv.kept next.ensures.kept;
       bound = (let a = next.ensures.bound in let b = inv.bound in omega (arith, a, b));
       stands = λ doc k arriving coming h s. next.ensures.stands doc k arriving coming h (inv.stands doc k arriving coming h s);
-      still = λ doc k j arriving coming h s within less.
+      still = λ doc k j arriving coming h s within less p below.
           let a = next.ensures.bound in
           let before : j < c.loop-i.next.0 = omega (arith, a, less) in
           let end : end_of c.loop-i.self ≡ end_of c.args.self.now = ap (λ b. b.0) inv.kept.same.end in
           let inside : j ≤ end_of c.loop-i.self = omega (arith, within, end) in
-          ap (λ n. turns doc j n h) (add-one i) ∙ ap (turn doc j i) (inv.still doc k j arriving coming h s within before)
-          ∙ next.ensures.still doc k j arriving coming h (inv.stands doc k arriving coming h s) inside less;
+          last-too (λ p. elector_turn doc j p h ≡ h) i p below (inv.still doc k j arriving coming h s within before)
+          (next.ensures.still doc k j arriving coming h (inv.stands doc k arriving coming h s) inside less);
     }
 
 pub returns-clause-still : goal.returns-clause-still
-returns-clause-still c doc k j arriving coming h s within less =
+returns-clause-still c doc k j arriving coming h s within less p below =
     let count = s.rest.document.count in
-    let len = c.args.self.now.controllers.ok.0 in
+    let len = c.args.self.now.processes.ok.0 in
     let last : c.loop-i.i ≡ processes doc = omega (arith, c.loop-i-test.false, c.loop-i.auto.i-end, c.len-i-end.ensures, count, len) in
-    subst (λ n. turns doc j n h ≡ h) last (c.loop-i.invariant.still doc k j arriving coming h s within less)
+    c.loop-i.invariant.still doc k j arriving coming h s within less p (omega (arith, last, below))

@@ -1,7 +1,7 @@
 use Rattle.std.proofs.Common.{◌≡◌, ◌≤◌, length, refl, sym, ap, ◌∙◌, subst, arith}
 use Rattle.history.specs.Steps.{happens}
 use Rattle.script_reader.specs.Lawful.{IsLawfulWhat}
-use Rattle.world_core.specs.Plain.{IsFew}
+use Rattle.world_process.specs.Plain.{IsFew}
 use Rattle.world_core.specs.States.{Running}
 use Rattle.world_core.proofs.Happening.{event-at, happening-first, happening-more, happening-before, happening-done}
 use Rattle.world_core.proofs.Loops.{same-on, rewired}

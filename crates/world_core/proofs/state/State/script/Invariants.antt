@@ -4,7 +4,7 @@ use Rattle.kube_objects.specs.Document.{Doc}
 use Rattle.kube_objects.specs.Entry.{Entry}
 use Rattle.kube_objects.specs.Wire.{Sent, Back}
 use Rattle.history.specs.Steps.{happen_all}
-use Rattle.world_core.specs.Plain.{IsFew}
+use Rattle.world_process.specs.Plain.{IsFew}
 use Rattle.world_core.specs.States.{IsReady, IsPlaced, SameDocument, Running}
 use Rattle.world_core.proofs.Happening.{Happening}
 use Rattle.world_core.proofs.state.State.script.Given as goal

@@ -1,13 +1,14 @@
 use Rattle.std.proofs.Common.{◌<◌, ◌++◌, vec_len, refl, ap, ◌∙◌, arith}
 use Rattle.kube_objects.specs.declared.deed.Act.TheVariants as act
-use Rattle.kube_objects.specs.declared.deed.Actor.TheVariants as actor
 use Rattle.kube_objects.specs.declared.script.What.TheVariants as what
 use Rattle.kube_objects.specs.Document.{processes}
 use Rattle.kube_objects.specs.Identities.{identity}
 use Rattle.kube_objects.specs.Newest.{when}
 use Rattle.history.specs.Printed.{deeds_of}
 use Rattle.history.specs.Steps.{happens}
-use Rattle.world_core.specs.Controllers.{started_deeds}
+use Rattle.world_process.specs.Moves.{started_deeds}
+use Rattle.world_process.specs.Processes.{incarnation_of}
+use Rattle.world_process.proofs.Processes.{process-me}
 use Rattle.world_core.proofs.Around.{around-world}
 use Rattle.world_core.proofs.Moving.{read-at, actor-is, on-ok}
 use Rattle.world_core.proofs.Scripts.{around-begin, running-moved}
@@ -17,15 +18,15 @@ pub returns-clause-stands : goal.returns-clause-stands
 returns-clause-stands c =
     let w = c.args.self.now in
     let i = c.args.who.0 in
-    let c0 = c.index_mut-controller.result.now in
+    let c0 = c.index_mut-process.result.now in
     let c1 = c.begin-started.new.self in
-    let index : i < vec_len w.controllers = omega (arith, c.if-i-len.false, c.len.ensures) in
-    let was = read-at w i c0 index c.index_mut-controller.ensures.value in
+    let index : i < vec_len w.processes = omega (arith, c.if-i-len.false, c.len.ensures) in
+    let was = read-at w i c0 index c.index_mut-process.ensures.value in
+    let done = when c.begin-started.result act.Start in
     on-ok c.tell.result _ _ (λ told doc k before arriving coming h r lawful few.
-    let s = r.world.controllers i c0 was in
+    let s = r.world.processes i c0 was in
     let begun = c.begin-started.ensures.stands doc (processes doc) k c.args.who h s r.world.rest.document.at r.world.rest.plain few in
-    let new_is = told ∙ ap (λ a. c.args.deeds.now ++ deeds_of w.beat.0 (actor.Proc c1.me c1.incarnation) a) c.starting.ensures
-    ∙ ap (λ n. c.args.deeds.now ++ deeds_of n (actor.Proc c1.me c1.incarnation) (when c.begin-started.result act.Start)) r.world.rest.document.at
-    ∙ ap (λ x. c.args.deeds.now ++ deeds_of k x (when c.begin-started.result act.Start)) (actor-is i c1.incarnation c1.me (ap (λ m. m.0) c.begin-started.ensures.same.me ∙ s.me)) in
-    running-moved doc k i before c.args.deeds.now c.tell.new.deeds (started_deeds k (identity i c1.incarnation) c.begin-started.result) arriving coming h (happens doc k (what.Start c.args.who) h) c0 c1 w _ r (record { was = was; now = refl; same = (record { beat = refl; end = refl; restart = refl; epoch = refl; micros = refl; events = refl; names = refl }); place = refl; store = refl }) refl
+    let who = actor-is i c1 c.actor-actor.result c.actor-actor.ensures (ap (λ m. m.0) c.begin-started.ensures.same.me ∙ process-me doc i h c0 s) in
+    let new_is = told ∙ ap (λ a. c.args.deeds.now ++ deeds_of w.beat.0 c.actor-actor.result a) c.start_act.ensures ∙ ap (λ n. c.args.deeds.now ++ deeds_of n c.actor-actor.result done) r.world.rest.document.at ∙ ap (λ x. c.args.deeds.now ++ deeds_of k x done) who in
+    running-moved doc k i before c.args.deeds.now c.tell.new.deeds (started_deeds k (identity i (incarnation_of c1)) c.begin-started.result) arriving coming h (happens doc k (what.Start c.args.who) h) c0 c1 w _ r (record { was = was; now = refl; same = (record { beat = refl; end = refl; restart = refl; epoch = refl; micros = refl; events = refl; names = refl }); place = refl; store = refl }) refl
     (around-begin doc k c.args.who arriving coming h w lawful (around-world doc k i arriving coming h w r.world)) begun.stands begun.told new_is) c.tell.ensures

@@ -1,0 +1,12 @@
+use Rattle.std.proofs.Common.{◌≡◌, [], length}
+use Rattle.kube_objects.specs.Document.{Doc}
+use Rattle.world_core.specs.States.{AreMadeOf, EachStands, GoOnTo}
+use Rattle.world_core.proofs.state.processes_of.Given as goal
+
+abbrev pub invariant-loop-process : goal.invariant-loop-process
+invariant-loop-process l =
+    record {
+      count : length l.processes.items ≡ l.process-index;
+      clocks : GoOnTo l.settings.end_beat.0 l.processes.items;
+      stands : (doc : Doc) → AreMadeOf doc l.settings l.process-items l.events → EachStands doc [] l.processes.items;
+    }

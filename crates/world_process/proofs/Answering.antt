@@ -1,0 +1,284 @@
+-- A reply to a controller, by what it is and what its elector answers.
+use Rattle.std.proofs.Common.{◌≡◌, ℕ, ◌++◌, Bool, true, false, List, [], ◌∷◌, Option, Some, None, refl, sym, ap, ◌∙◌, subst, cond, length, arith}
+use Rattle.std.proofs.lemmas.List.{append-nil}
+use Rattle.kube_base.specs.declared.numbers.Version.{Version}
+use Rattle.kube_objects.specs.declared.call.Ask.{Ask}
+use Rattle.kube_objects.specs.declared.call.Reply.{Reply}
+use Rattle.kube_objects.specs.declared.call.Reply.TheVariants.{Found, Done, Absent, Exists, Conflict, Unchanged}
+use Rattle.kube_objects.specs.declared.call.Request.{Request}
+use Rattle.kube_objects.specs.declared.call.Request.TheVariants.{Get, Create, Update, PostStatus}
+use Rattle.kube_objects.specs.declared.deed.Act.TheVariants as act
+use Rattle.kube_objects.specs.Document.{Doc, is_controller}
+use Rattle.kube_objects.specs.Clocks.{local}
+use Rattle.kube_objects.specs.Elector.{Follow, Fails, Asks, Succeeds, leads, observed_at, is_blocked, updated, follow_get, follow_write, not_done, follow_on}
+use Rattle.kube_objects.specs.Stored.{election}
+use Rattle.kube_objects.specs.Turns.{react}
+use Rattle.kube_objects.specs.Entry.{Entry, Identity, Call, CallKind, Plain, Fast, Release, Deed, Delivers, Leads, Sends, entry, actor_of}
+use Rattle.kube_objects.specs.Identities.{identity}
+use Rattle.kube_objects.specs.Newest.{only_if}
+use Rattle.kube_objects.specs.Process.{alive, counted, call_in, answered_call, is_present}
+use Rattle.kube_objects.specs.Wire.{Back, next_call}
+use Rattle.history.specs.Printed.{printed, deeds_of}
+use Rattle.history.specs.Steps.{deliver_as, react_as, delivered}
+use Rattle.leader_elector.specs.Moves.{Asked, delivered as with_reply, reacted}
+use Rattle.world_process.specs.declared.controller.Controller.{Controller}
+use Rattle.world_process.specs.declared.controller.Role.{Role}
+use Rattle.world_process.specs.Controllers.{RoleStands, ControllerStands, IsLed, Replied}
+use Rattle.world_process.specs.Plain.{AreQuiet, with_deeds}
+use Rattle.world_process.proofs.Names.{eq-isnt}
+use Rattle.kube_base.specs.declared.numbers.Local.{Local}
+use Rattle.world_process.specs.declared.controller.Role.TheVariants as role
+use Rattle.world_process.proofs.Beside.{role-stranger}
+use Rattle.world_process.proofs.Standing.{stands-role, role-at}
+
+-- the reply is this one
+pub record IsBack (b : Back) (q : Identity) (n : ℕ) (r : Reply) : Type 0 where
+  pub who : b.who ≡ q
+  pub number : b.call.number ≡ n
+  pub reply : b.reply ≡ r
+
+delivered-is : (doc : Doc) (k : ℕ) (b : Back) (q : Identity) (number : ℕ) (reply : Reply) (h : List Entry) → IsBack b q number reply → delivered doc k b h ≡ deliver_as doc k q b.call reply (counted doc q k number h) h
+delivered-is doc k b q number reply h is =
+    ap (λ w. deliver_as doc k w b.call b.reply (counted doc w k b.call.number h) h) is.who
+    ∙ ap (λ n. deliver_as doc k q b.call b.reply (counted doc q k n h) h) is.number
+    ∙ ap (λ r. deliver_as doc k q b.call r (counted doc q k number h) h) is.reply
+
+-- a reply that doesn't count
+pub uncounted-is : (doc : Doc) (k : ℕ) (b : Back) (q : Identity) (number : ℕ) (reply : Reply) (h : List Entry) → IsBack b q number reply → counted doc q k number h ≡ None → delivered doc k b h ≡ entry k 3 q (Delivers b.call reply false) ∷ h
+uncounted-is doc k b q number reply h is none = delivered-is doc k b q number reply h is ∙ ap (λ w. deliver_as doc k q b.call reply w h) none
+
+-- a reply that counts
+pub counted-is : (doc : Doc) (k : ℕ) (b : Back) (q : Identity) (number : ℕ) (reply : Reply) (waiting : Call) (h : List Entry) → IsBack b q number reply → is_controller doc q.process ≡ true → counted doc q k number h ≡ Some waiting →
+    delivered doc k b h ≡ reacted doc k q waiting reply h
+counted-is doc k b q number reply waiting h is controls some =
+    delivered-is doc k b q number reply h is
+    ∙ ap (λ w. deliver_as doc k q b.call reply w h) some
+    ∙ ap (λ t. react_as doc k q waiting reply t (entry k 3 q (Delivers waiting reply true) ∷ h)) controls
+
+-- nothing counts for another incarnation, or where the process is down
+pub absent-uncounted : (doc : Doc) (k : ℕ) (q : Identity) (number : ℕ) (h : List Entry) → is_present (alive q.process h) q.incarnation ≡ false → counted doc q k number h ≡ None
+absent-uncounted doc k q number h absent = ap (λ b. only_if b (answered_call doc q k number (call_in q h))) absent
+
+pub down-absent : (p i : ℕ) (h : List Entry) → alive p h ≡ None → is_present (alive p h) i ≡ false
+down-absent p i h down = ap (λ o. is_present o i) down
+
+pub other-absent : (p i j : ℕ) (h : List Entry) → alive p h ≡ Some j → ¬ (j ≡ i) → is_present (alive p h) i ≡ false
+other-absent p i j h up other = ap (λ o. is_present o i) up ∙ eq-isnt j i other
+
+replied-none : (doc : Doc) (k p : ℕ) (b : Back) (h : List Entry) (deeds : List Deed) (c : Controller) → AreQuiet deeds → delivered doc k b h ≡ with_deeds k 3 b.who deeds h → printed (with_deeds k 3 b.who deeds h) ≡ printed h → ControllerStands doc p (with_deeds k 3 b.who deeds h) c →
+    Replied doc k p b h c (record { lead = None; ask = None })
+replied-none doc k p b h deeds c quiet is told stands =
+    record {
+      told = ap printed is ∙ told ∙ sym (append-nil (printed h));
+      asks = record { deeds = deeds; quiet = quiet; adds = is; stands = subst (λ g. ControllerStands doc p g c) (sym is) stands };
+    }
+
+-- it changes nothing but the history
+pub replied-uncounted : (doc : Doc) (k p i : ℕ) (b : Back) (number : ℕ) (reply : Reply) (h : List Entry) (c : Controller) (r : Role) → ControllerStands doc p h c → IsBack b (identity p i) number reply → counted doc (identity p i) k number h ≡ None →
+    RoleStands doc p c.incarnation (entry k 3 (identity p i) (Delivers b.call reply false) ∷ h) r → Replied doc k p b h (record c { role = r }) (record { lead = None; ask = None })
+replied-uncounted doc k p i b number reply h c r s is none stands =
+    let q = identity p i in
+    let next = entry k 3 q (Delivers b.call reply false) ∷ h in
+    let same = ap (λ w. entry k 3 w (Delivers b.call reply false) ∷ h) (sym is.who) in
+    replied-none doc k p b h (Delivers b.call reply false ∷ []) (record c { role = r }) (refl, tt) (uncounted-is doc k b q number reply h is none ∙ same) (append-nil (printed h))
+    (subst (λ g. ControllerStands doc p g (record c { role = r })) same (stands-role doc p h next c r s refl stands))
+
+-- it counts, and nothing follows
+pub replied-stays : (doc : Doc) (k p : ℕ) (b : Back) (number : ℕ) (reply : Reply) (waiting : Call) (h : List Entry) (c : Controller) (r : Role) → ControllerStands doc p h c → IsBack b (identity p c.incarnation) number reply →
+    counted doc (identity p c.incarnation) k number h ≡ Some waiting → reacted doc k (identity p c.incarnation) waiting reply h ≡ with_reply k (identity p c.incarnation) waiting reply h →
+    RoleStands doc p c.incarnation (with_reply k (identity p c.incarnation) waiting reply h) r → Replied doc k p b h (record c { role = r }) (record { lead = None; ask = None })
+replied-stays doc k p b number reply waiting h c r s is some stays stands =
+    let q = identity p c.incarnation in
+    let next = with_reply k q waiting reply h in
+    let same = ap (λ w. entry k 3 w (Delivers waiting reply true) ∷ h) (sym is.who) in
+    replied-none doc k p b h (Delivers waiting reply true ∷ []) (record c { role = r }) (refl, tt) (counted-is doc k b q number reply waiting h is s.sort some ∙ stays ∙ same) (append-nil (printed h))
+    (subst (λ g. ControllerStands doc p g (record c { role = r })) same (stands-role doc p h next c r s refl stands))
+
+-- it counts, and a request follows
+pub replied-asks : (doc : Doc) (k p : ℕ) (b : Back) (number : ℕ) (reply : Reply) (waiting : Call) (h : List Entry) (c : Controller) (r : Role) (ask : Ask) (Stands : List Entry → Type 0) → ControllerStands doc p h c →
+    IsBack b (identity p c.incarnation) number reply → counted doc (identity p c.incarnation) k number h ≡ Some waiting → alive p h ≡ Some c.incarnation →
+    Asked k 3 (identity p c.incarnation) (with_reply k (identity p c.incarnation) waiting reply h) (reacted doc k (identity p c.incarnation) waiting reply h) Stands ask →
+    ((g : List Entry) → alive p g ≡ Some c.incarnation → Stands g → RoleStands doc p c.incarnation g r) → Replied doc k p b h (record c { role = r }) (record { lead = None; ask = Some ask })
+replied-asks doc k p b number reply waiting h c r ask Stands s is some up a stands =
+    let q = identity p c.incarnation in
+    let g = with_reply k q waiting reply h in
+    let next_is : delivered doc k b h ≡ reacted doc k q waiting reply h = counted-is doc k b q number reply waiting h is s.sort some in
+    let same : with_reply k q waiting reply h ≡ with_reply k q waiting b.reply h = ap (λ x. with_reply k q waiting x h) (sym is.reply) in
+    record {
+      told = ap printed (next_is ∙ a.sent) ∙ append-nil (printed g);
+      asks = record {
+        call = waiting;
+        who = is.who;
+        asked = subst (λ x. Asked k 3 q (with_reply k q waiting x h) (delivered doc k b h) (λ y. ControllerStands doc p y (record c { role = r })) ask) (sym is.reply)
+            (record {
+              kind = a.kind;
+              sent = next_is ∙ a.sent;
+              number = a.number;
+              stands = λ arrives.
+                  let f = entry k 3 q (Sends (next_call q k a.kind ask.request g) arrives) ∷ g in
+                  stands-role doc p h f c r s refl (stands f up (a.stands arrives));
+            });
+      };
+    }
+
+-- it counts, and the controller leads
+pub replied-leads : (doc : Doc) (k p : ℕ) (b : Back) (number : ℕ) (reply : Reply) (waiting : Call) (h : List Entry) (c : Controller) (r : Role) (version : Version) → ControllerStands doc p h c →
+    IsBack b (identity p c.incarnation) number reply → counted doc (identity p c.incarnation) k number h ≡ Some waiting →
+    reacted doc k (identity p c.incarnation) waiting reply h ≡ entry k 3 (identity p c.incarnation) (Leads version) ∷ with_reply k (identity p c.incarnation) waiting reply h →
+    RoleStands doc p c.incarnation (entry k 3 (identity p c.incarnation) (Leads version) ∷ with_reply k (identity p c.incarnation) waiting reply h) r →
+    Replied doc k p b h (record c { role = r }) (record { lead = Some version; ask = None })
+replied-leads doc k p b number reply waiting h c r version s is some next_leads stands =
+    let q = identity p c.incarnation in
+    let g = with_reply k q waiting reply h in
+    let next = entry k 3 q (Leads version) ∷ g in
+    let next_is : delivered doc k b h ≡ next = counted-is doc k b q number reply waiting h is s.sort some ∙ next_leads in
+    record {
+      told = ap printed next_is ∙ ap (λ ds. ds ++ deeds_of k (actor_of q) (Some (act.Lead version))) (append-nil (printed h));
+      asks = record {
+        deeds = Leads version ∷ Delivers waiting reply true ∷ [];
+        quiet = (refl, (refl, tt));
+        adds = next_is ∙ ap (λ w. entry k 3 w (Leads version) ∷ entry k 3 w (Delivers waiting reply true) ∷ h) (sym is.who);
+        stands = subst (λ x. ControllerStands doc p x (record c { role = r })) (sym next_is) (stands-role doc p h next c r s refl stands);
+      };
+    }
+
+-- ---- a lead follows on Done alone
+
+abbrev deed_at_top : List Entry → Option Deed
+deed_at_top [] = None
+deed_at_top (e ∷ h) = Some e.deed
+
+abbrev version_at_top : Version → Option Deed → Version
+version_at_top other (Some (Leads version)) = version
+version_at_top other _ = other
+
+never-longer : (e : Entry) (h : List Entry) → h ≡ e ∷ h → ⊥
+never-longer e h is = let len = ap length is in omega (arith, len)
+
+abbrev Succeeded : Follow → Version → Type 0
+Succeeded Fails version = ⊥
+Succeeded (Asks request) version = ⊥
+Succeeded (Succeeds done) version = done ≡ version
+
+lead-succeeds : (k : ℕ) (q : Identity) (led : Bool) (wanted : Follow) (version : Version) (g : List Entry) → react k q led wanted g ≡ entry k 3 q (Leads version) ∷ g → Succeeded wanted version
+lead-succeeds k q led Fails version g is = never-longer (entry k 3 q (Leads version)) g is
+lead-succeeds k q led (Asks request) version g is = let top = ap deed_at_top is in cc
+lead-succeeds k q true (Succeeds done) version g is = absurd (never-longer (entry k 3 q (Leads version)) g is)
+lead-succeeds k q false (Succeeds done) version g is = ap (λ h. version_at_top version (deed_at_top h)) is
+
+succeeded-get : (doc : Doc) (q : Identity) (k seen : ℕ) (reply : Reply) (version : Version) → Succeeded (follow_get doc q k seen reply) version → ⊥
+succeeded-get doc q k seen Absent version is = is
+succeeded-get doc q k seen (Found v lease) version is = by_block (is_blocked q (local doc q.process k) seen lease) is
+  where
+    by_block : (b : Bool) → Succeeded (cond b Fails (Asks (Update election v (updated doc q k lease)))) version → ⊥
+    by_block true is = is
+    by_block false is = is
+succeeded-get doc q k seen (Done v) version is = is
+succeeded-get doc q k seen Exists version is = is
+succeeded-get doc q k seen (Conflict v) version is = is
+succeeded-get doc q k seen Unchanged version is = is
+
+succeeded-not_done : (kind : CallKind) (version : Version) → Succeeded (not_done kind) version → ⊥
+succeeded-not_done Plain version is = is
+succeeded-not_done Fast version is = is
+succeeded-not_done Release version is = is
+
+succeeded-write : (kind : CallKind) (reply : Reply) (version : Version) → Succeeded (follow_write kind reply) version → reply ≡ Done version
+succeeded-write kind (Done v) version is = ap (λ (x : Version). Done x) is
+succeeded-write kind Absent version is = absurd (succeeded-not_done kind version is)
+succeeded-write kind (Found v lease) version is = absurd (succeeded-not_done kind version is)
+succeeded-write kind Exists version is = absurd (succeeded-not_done kind version is)
+succeeded-write kind (Conflict v) version is = absurd (succeeded-not_done kind version is)
+succeeded-write kind Unchanged version is = absurd (succeeded-not_done kind version is)
+
+succeeded-done : (doc : Doc) (q : Identity) (k : ℕ) (kind : CallKind) (request : Request) (reply : Reply) (g : List Entry) (version : Version) → Succeeded (follow_on doc q k kind request reply g) version → reply ≡ Done version
+succeeded-done doc q k kind (Get key) reply g version is = absurd (succeeded-get doc q k (observed_at doc q g) reply version is)
+succeeded-done doc q k kind (Create key lease) reply g version is = succeeded-write kind reply version is
+succeeded-done doc q k kind (Update key given lease) reply g version is = succeeded-write kind reply version is
+succeeded-done doc q k kind (PostStatus name status at) reply g version is = absurd is
+
+pub lead-done : (doc : Doc) (k : ℕ) (q : Identity) (waiting : Call) (reply : Reply) (h : List Entry) (version : Version) → reacted doc k q waiting reply h ≡ entry k 3 q (Leads version) ∷ with_reply k q waiting reply h → reply ≡ Done version
+lead-done doc k q waiting reply h version is =
+    let g = with_reply k q waiting reply h in
+    succeeded-done doc q k waiting.kind waiting.request reply g version (lead-succeeds k q (leads q h) (follow_on doc q k waiting.kind waiting.request reply g) version g is)
+
+-- ---- what the elector answers, whether the reply counts or not
+
+-- a state's relation makes a role's, where the process is up
+abbrev pub Makes : Doc → ℕ → ℕ → (List Entry → Type 0) → Role → Type 0
+Makes doc p i Stands r = (g : List Entry) → alive p g ≡ Some i → Stands g → RoleStands doc p i g r
+
+pub answers-stays : (doc : Doc) (k p : ℕ) (b : Back) (n : ℕ) (reply : Reply) (h : List Entry) (c : Controller) (r : Role) (Stands : List Entry → Type 0) → ControllerStands doc p h c →
+    IsBack b (identity p c.incarnation) n reply → alive p h ≡ Some c.incarnation → Makes doc p c.incarnation Stands r →
+    (counted doc (identity p c.incarnation) k n h ≡ None → (call : Call) → Stands (entry k 3 (identity p c.incarnation) (Delivers call reply false) ∷ h)) →
+    ((call : Call) → counted doc (identity p c.incarnation) k n h ≡ Some call →
+    (reacted doc k (identity p c.incarnation) call reply h ≡ with_reply k (identity p c.incarnation) call reply h) × Stands (with_reply k (identity p c.incarnation) call reply h)) →
+    Replied doc k p b h (record c { role = r }) (record { lead = None; ask = None })
+answers-stays doc k p b n reply h c r Stands s is up makes uncounted counts = by_counted (counted doc (identity p c.incarnation) k n h) refl
+  where
+    by_counted : (w : Option Call) → counted doc (identity p c.incarnation) k n h ≡ w → Replied doc k p b h (record c { role = r }) (record { lead = None; ask = None })
+    by_counted None none = replied-uncounted doc k p c.incarnation b n reply h c r s is none (makes (entry k 3 (identity p c.incarnation) (Delivers b.call reply false) ∷ h) up (uncounted none b.call))
+    by_counted (Some w) some =
+        let t = counts w some in
+        replied-stays doc k p b n reply w h c r s is some t.0 (makes (with_reply k (identity p c.incarnation) w reply h) up t.1)
+
+pub answers-asks : (doc : Doc) (k p : ℕ) (b : Back) (n : ℕ) (reply : Reply) (h : List Entry) (c : Controller) (r : Role) (ask : Ask) (Stands : List Entry → Type 0) → ControllerStands doc p h c →
+    IsBack b (identity p c.incarnation) n reply → alive p h ≡ Some c.incarnation → Makes doc p c.incarnation Stands r →
+    (counted doc (identity p c.incarnation) k n h ≡ None → ⊥) →
+    ((call : Call) → counted doc (identity p c.incarnation) k n h ≡ Some call →
+    Asked k 3 (identity p c.incarnation) (with_reply k (identity p c.incarnation) call reply h) (reacted doc k (identity p c.incarnation) call reply h) Stands ask) →
+    Replied doc k p b h (record c { role = r }) (record { lead = None; ask = Some ask })
+answers-asks doc k p b n reply h c r ask Stands s is up makes uncounted counts = by_counted (counted doc (identity p c.incarnation) k n h) refl
+  where
+    by_counted : (w : Option Call) → counted doc (identity p c.incarnation) k n h ≡ w → Replied doc k p b h (record c { role = r }) (record { lead = None; ask = Some ask })
+    by_counted None none = absurd (uncounted none)
+    by_counted (Some w) some = replied-asks doc k p b n reply w h c r ask Stands s is some up (counts w some) makes
+
+pub answers-leads : (doc : Doc) (k p : ℕ) (b : Back) (n : ℕ) (reply : Reply) (h : List Entry) (c : Controller) (r : Role) (lead : Option Version) (Stands : List Entry → Type 0) → ControllerStands doc p h c →
+    IsBack b (identity p c.incarnation) n reply → alive p h ≡ Some c.incarnation → Makes doc p c.incarnation Stands r →
+    ((version : Version) → reply ≡ Done version → lead ≡ Some version) →
+    (counted doc (identity p c.incarnation) k n h ≡ None → ⊥) →
+    ((call : Call) → counted doc (identity p c.incarnation) k n h ≡ Some call →
+    (version : Version) × (reacted doc k (identity p c.incarnation) call reply h ≡ entry k 3 (identity p c.incarnation) (Leads version) ∷ with_reply k (identity p c.incarnation) call reply h)
+    × Stands (reacted doc k (identity p c.incarnation) call reply h)) →
+    Replied doc k p b h (record c { role = r }) (record { lead = lead; ask = None })
+answers-leads doc k p b n reply h c r lead Stands s is up makes told uncounted counts = by_counted (counted doc (identity p c.incarnation) k n h) refl
+  where
+    by_counted : (w : Option Call) → counted doc (identity p c.incarnation) k n h ≡ w → Replied doc k p b h (record c { role = r }) (record { lead = lead; ask = None })
+    by_counted None none = absurd (uncounted none)
+    by_counted (Some w) some =
+        let t = counts w some in
+        let g = entry k 3 (identity p c.incarnation) (Leads t.0) ∷ with_reply k (identity p c.incarnation) w reply h in
+        subst (λ x. Replied doc k p b h (record c { role = r }) (record { lead = x; ask = None })) (sym (told t.0 (lead-done doc k (identity p c.incarnation) w reply h t.0 t.1)))
+        (replied-leads doc k p b n reply w h c r t.0 s is some t.1 (makes g up (subst Stands t.1 t.2)))
+
+-- a reply counts or doesn't
+pub counted-or : (doc : Doc) (k : ℕ) (q : Identity) (n : ℕ) (h : List Entry) → (counted doc q k n h ≡ None → ⊥) → ((call : Call) → counted doc q k n h ≡ Some call → ⊥) → ⊥
+counted-or doc k q n h uncounted counts = by_counted (counted doc q k n h) refl
+  where
+    by_counted : (w : Option Call) → counted doc q k n h ≡ w → ⊥
+    by_counted None none = uncounted none
+    by_counted (Some w) some = counts w some
+
+-- ---- a reply that can't count
+
+pub replied-other : (doc : Doc) (k p i : ℕ) (b : Back) (n : ℕ) (reply : Reply) (h : List Entry) (c : Controller) → ControllerStands doc p h c → IsBack b (identity p i) n reply → ¬ (i ≡ c.incarnation) → Replied doc k p b h c (record { lead = None; ask = None })
+replied-other doc k p i b n reply h c s is other =
+    replied-uncounted doc k p i b n reply h c c.role s is (absent-uncounted doc k (identity p i) n h (absent c.role s.role))
+    (role-stranger doc p c.incarnation i k 3 (Delivers b.call reply false) h c.role other refl (λ g. refl) (λ g. refl) s.role)
+  where
+    absent : (r : Role) → RoleStands doc p c.incarnation h r → is_present (alive p h) i ≡ false
+    absent (role.Down at) stands = down-absent p i h stands.0
+    absent (role.Candidate x) stands = other-absent p i c.incarnation h stands.0 (λ e. other (sym e))
+    absent (role.Leading x) stands = other-absent p i c.incarnation h stands.0 (λ e. other (sym e))
+
+pub replied-down : (doc : Doc) (k p : ℕ) (b : Back) (n : ℕ) (reply : Reply) (h : List Entry) (c : Controller) (at : Option Local) → ControllerStands doc p h c → c.role ≡ role.Down at → IsBack b (identity p c.incarnation) n reply →
+    Replied doc k p b h (record c { role = role.Down at }) (record { lead = None; ask = None })
+replied-down doc k p b n reply h c at s is back =
+    let down = role-at doc p h c (role.Down at) s is in
+    replied-uncounted doc k p c.incarnation b n reply h c (role.Down at) s back (absent-uncounted doc k (identity p c.incarnation) n h (down-absent p c.incarnation h down.0)) down
+
+pub led-role : (doc : Doc) (p i : ℕ) (r : Role) → Makes doc p i (λ g. IsLed doc (identity p i) g r) r
+led-role doc p i (role.Down at) g up led = absurd led
+led-role doc p i (role.Candidate x) g up led = absurd led
+led-role doc p i (role.Leading x) g up led = (up, led)

@@ -1,0 +1,24 @@
+-- ---- numbers, names and single entries
+pub mod Names
+pub mod Unheard
+pub mod Lives
+pub mod Plainly
+pub mod Grows
+-- ---- the clock
+pub mod Firsts
+pub mod Rates
+pub mod Readings
+-- ---- a controller beside entries of others, and through its own
+pub mod Standing
+pub mod Beside
+pub mod Turning
+pub mod Restarts
+pub mod Scripted
+pub mod Terms
+pub mod Timers
+pub mod Resting
+pub mod Answering
+-- ---- a kubelet
+pub mod Kubelets
+-- ---- every process
+pub mod Processes

@@ -1,0 +1,63 @@
+-- Every process through entries of others, and what is known of each.
+use Rattle.std.proofs.Common.{◌≡◌, ℕ, true, false, List, ◌∷◌, Option, ap, ◌∙◌}
+use Rattle.kube_base.specs.declared.numbers.Version.{Version}
+use Rattle.kube_objects.specs.declared.call.Reply.{Reply}
+use Rattle.kube_objects.specs.declared.key.Key.{Key}
+use Rattle.kube_objects.specs.declared.object.Object.{Object}
+use Rattle.kube_objects.specs.declared.script.What.{What}
+use Rattle.kube_objects.specs.Document.{Doc, is_controller, is_up_first}
+use Rattle.kube_objects.specs.Entry.{Entry, Identity, Call, Deed, Event, Answers, Tick, Ticks, entry, script_entry}
+use Rattle.kube_objects.specs.Process.{cancels, starts}
+use Rattle.history.specs.History.{put_all}
+use Rattle.history.specs.Steps.{elector_turn}
+use Rattle.world_process.specs.declared.process.Process.{Process}
+use Rattle.world_process.specs.declared.process.Process.TheVariants.{Controller, Kubelet}
+use Rattle.world_process.specs.Controllers.{IsStill}
+use Rattle.world_process.specs.Processes.{ProcessStands, me_of, incarnation_of, is_up_first_as}
+use Rattle.world_process.proofs.Beside.{controller-others, controller-answered, controller-ticked}
+use Rattle.world_process.proofs.Kubelets.{kubelet-others, kubelet-answered, kubelet-ticked, kubelet-put_all, kubelet-event}
+use Rattle.world_process.proofs.Lives.{is_event}
+use Rattle.world_process.proofs.Resting.{turn-still}
+use Rattle.world_process.proofs.Scripted.{controller-put_all, controller-event}
+
+-- ---- what is known of each
+
+pub process-me : (doc : Doc) (p : ℕ) (h : List Entry) (x : Process) → ProcessStands doc p h x → (me_of x).0 ≡ p
+process-me doc p h (Controller c) s = s.me
+process-me doc p h (Kubelet b) s = s.me
+
+pub process-incarnation : (doc : Doc) (p : ℕ) (h : List Entry) (x : Process) → ProcessStands doc p h x → incarnation_of x ≡ starts p h
+process-incarnation doc p h (Controller c) s = s.incarnation
+process-incarnation doc p h (Kubelet b) s = s.incarnation
+
+pub process-up_first : (doc : Doc) (p : ℕ) (h : List Entry) (x : Process) → ProcessStands doc p h x → is_up_first_as x ≡ is_up_first doc p
+process-up_first doc p h (Controller c) s = s.up_first
+process-up_first doc p h (Kubelet b) s = s.up_first
+
+-- ---- entries of others
+
+pub process-others : (doc : Doc) (p k step : ℕ) (q : Identity) (d : Deed) (h : List Entry) (x : Process) → ¬ (q.process ≡ p) → is_event d ≡ false → ProcessStands doc p h x → ProcessStands doc p (entry k step q d ∷ h) x
+process-others doc p k step q d h (Controller c) other own s = controller-others doc p k step q d h c other own s
+process-others doc p k step q d h (Kubelet b) other own s = kubelet-others doc p k step q d h b other s
+
+pub process-answered : (doc : Doc) (p k step : ℕ) (q : Identity) (call : Call) (reply : Reply) (comes : Option ℕ) (written : Option Object) (h : List Entry) (x : Process) → ProcessStands doc p h x →
+    ProcessStands doc p (entry k step q (Answers call reply comes written) ∷ h) x
+process-answered doc p k step q call reply comes written h (Controller c) s = controller-answered doc p k step q call reply comes written h c s
+process-answered doc p k step q call reply comes written h (Kubelet b) s = kubelet-answered doc p k step q call reply comes written h b s
+
+pub process-ticked : (doc : Doc) (p k step : ℕ) (q : Identity) (tick : Tick) (h : List Entry) (x : Process) → ProcessStands doc p h x → ProcessStands doc p (entry k step q (Ticks tick) ∷ h) x
+process-ticked doc p k step q tick h (Controller c) s = controller-ticked doc p k step q tick h c s
+process-ticked doc p k step q tick h (Kubelet b) s = kubelet-ticked doc p k step q tick h b s
+
+pub process-put_all : (doc : Doc) (p : ℕ) (items : List (Key × Object)) (h : List Entry) (x : Process) → ProcessStands doc p h x → ProcessStands doc p (put_all doc items h) x
+process-put_all doc p items h (Controller c) s = controller-put_all doc p items h c s
+process-put_all doc p items h (Kubelet b) s = kubelet-put_all doc p items h b s
+
+pub process-event : (doc : Doc) (p k step : ℕ) (event : What) (version : Option Version) (h : List Entry) (x : Process) → cancels p event ≡ false → ProcessStands doc p h x → ProcessStands doc p (script_entry k step (Event event version) ∷ h) x
+process-event doc p k step event version h (Controller c) other s = controller-event doc p k step event version h c other s
+process-event doc p k step event version h (Kubelet b) other s = kubelet-event doc p k step event version h b s
+
+-- ---- turns
+
+pub controller-still : (doc : Doc) (k p : ℕ) (h : List Entry) → IsStill doc k p h → elector_turn doc k p h ≡ h
+controller-still doc k p h still = turn-still doc k p h still

@@ -1,0 +1,20 @@
+-- A controller's clock reads what the definitions say.
+use Rattle.std.proofs.Common.{◌≡◌, ℕ, zero, suc, ◌+◌, ◌*◌, ◌/◌, refl, ap, ◌∙◌}
+use Rattle.kube_objects.specs.Clocks.{local, wall, moved}
+use Rattle.kube_objects.specs.Document.{Doc, beat_micros, offset_millis}
+use Rattle.skew_clock.specs.Clocking.{Clocking, rate_at, reading, wall_when}
+use Rattle.world_process.specs.Clocked.{ClockStands}
+
+pub reading-local : (doc : Doc) (p k : ℕ) (c : Clocking) → ClockStands doc p c → reading c k ≡ local doc p k
+unfolding reading
+reading-local doc p zero c s = refl
+reading-local doc p (suc k) c s =
+    ap (λ n. n + c.beat_micros * rate_at c.sets k) (reading-local doc p k c s)
+    ∙ ap (λ n. local doc p k + n * rate_at c.sets k) s.micros
+    ∙ ap (λ n. local doc p k + beat_micros doc * n) (s.rates k)
+
+pub wall-when : (doc : Doc) (p k shown : ℕ) (c : Clocking) → ClockStands doc p c → shown ≡ local doc p k → wall_when c shown ≡ wall doc p k
+wall-when doc p k shown c s is =
+    s.offset (c.epoch + shown / 1000000)
+    ∙ ap (λ n. moved (offset_millis doc p) (n + shown / 1000000)) s.epoch
+    ∙ ap (λ n. moved (offset_millis doc p) (doc.settings.epoch.0 + n / 1000000)) is

@@ -1,0 +1,51 @@
+-- A controller that changed its role stands for a history that started nothing since.
+use Rattle.std.proofs.Common.{◌≡◌, ℕ, ◌+◌, List, Some, sym, ap, ◌∙◌, subst}
+use Rattle.kube_objects.specs.Clocks.{local}
+use Rattle.kube_objects.specs.Document.{Doc}
+use Rattle.kube_objects.specs.Entry.{Entry, Identity}
+use Rattle.kube_objects.specs.Identities.{identity}
+use Rattle.kube_objects.specs.Newest.{or_zero}
+use Rattle.kube_objects.specs.Process.{starts}
+use Rattle.history.specs.Steps.{start}
+use Rattle.leader_elector.specs.declared.candidate.Candidate.{Candidate}
+use Rattle.leader_elector.specs.Stands.{CandidateStands, IsNew}
+use Rattle.world_process.specs.declared.controller.Controller.{Controller}
+use Rattle.world_process.specs.declared.controller.Role.{Role}
+use Rattle.world_process.specs.declared.controller.Role.TheVariants as role
+use Rattle.world_process.specs.Controllers.{RoleStands, ControllerStands}
+use Rattle.world_process.specs.Plain.{IsUnheard}
+use Rattle.world_process.proofs.Lives.{alive-start}
+use Rattle.world_process.proofs.Plainly.{starts-start}
+use Rattle.world_process.proofs.Unheard.{begun-unheard, call-unheard, shown-unheard, observed-unheard, leads-unheard}
+
+pub stands-role : (doc : Doc) (p : ℕ) (h g : List Entry) (c : Controller) (r : Role) → ControllerStands doc p h c → starts p g ≡ starts p h → RoleStands doc p c.incarnation g r → ControllerStands doc p g (record c { role = r })
+stands-role doc p h g c r s same stands =
+    record { sort = s.sort; me = s.me; incarnation = s.incarnation ∙ sym same; timing = s.timing; clock = s.clock; up_first = s.up_first; asleep = s.asleep; role = stands }
+
+pub role-at : (doc : Doc) (p : ℕ) (h : List Entry) (c : Controller) (r : Role) → ControllerStands doc p h c → c.role ≡ r → RoleStands doc p c.incarnation h r
+role-at doc p h c r s is = subst (λ x. RoleStands doc p c.incarnation h x) is s.role
+
+pub new-unheard : (doc : Doc) (q : Identity) (h : List Entry) → IsUnheard q h → IsNew doc q h
+new-unheard doc q h u =
+    record {
+      begun = begun-unheard q h u;
+      call = call-unheard q h u;
+      shown = shown-unheard q h u;
+      observed = ap (λ x. local doc q.process (or_zero x)) (observed-unheard q h u);
+      leads = leads-unheard q h u;
+    }
+
+-- a controller that has started
+pub stands-started : (doc : Doc) (k step p i : ℕ) (h : List Entry) (c : Controller) (x : Candidate) → ControllerStands doc p h c → i ≡ starts p h + 1 → CandidateStands doc (identity p (starts p h + 1)) (start k step p h) x →
+    ControllerStands doc p (start k step p h) (record c { incarnation = i; role = role.Candidate x })
+stands-started doc k step p i h c x s is stands =
+    record {
+      sort = s.sort;
+      me = s.me;
+      incarnation = is ∙ sym (starts-start k step (identity p (starts p h + 1)) h);
+      timing = s.timing;
+      clock = s.clock;
+      up_first = s.up_first;
+      asleep = s.asleep;
+      role = (alive-start k step (identity p (starts p h + 1)) h ∙ ap (λ (n : ℕ). Some n) (sym is), subst (λ n. CandidateStands doc (identity p n) (start k step p h) x) (sym is) stands);
+    }

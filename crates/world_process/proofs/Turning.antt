@@ -1,0 +1,82 @@
+-- A controller's turn by parts, where it is up or down.
+use Rattle.std.proofs.Common.{◌≡◌, ℕ, Bool, true, false, List, Option, Some, None, refl, ap, ◌∙◌}
+use Rattle.std.proofs.lemmas.List.{append-nil}
+use Rattle.kube_objects.specs.Document.{Doc}
+use Rattle.kube_objects.specs.Elector.{deadline}
+use Rattle.kube_objects.specs.Entry.{Entry, Identity, Call}
+use Rattle.kube_objects.specs.Identities.{identity}
+use Rattle.kube_objects.specs.Process.{alive, starts, call_in, is_late, ended, is_restart_due}
+use Rattle.kube_objects.specs.Turns.{expire_as, expire_call, end_term, try}
+use Rattle.history.specs.Printed.{printed}
+use Rattle.history.specs.Steps.{restart_as, restart_if, restart, if_up, expire, finish, attempts}
+use Rattle.leader_elector.specs.Moves.{expired, tested}
+
+pub restart-up : (doc : Doc) (k p i : ℕ) (h : List Entry) → alive p h ≡ Some i → restart doc k p h ≡ h
+restart-up doc k p i h up = ap (λ x. restart_if doc k p x h) up
+
+pub restart-down : (doc : Doc) (k p : ℕ) (h : List Entry) (b : Bool) → alive p h ≡ None → is_restart_due doc p k (ended p h) ≡ b → restart doc k p h ≡ restart_as k p b h
+restart-down doc k p h b down due = ap (λ x. restart_if doc k p x h) down ∙ ap (λ x. restart_as k p x h) due
+
+pub expire-up : (doc : Doc) (k p i : ℕ) (h : List Entry) → alive p h ≡ Some i → expire doc k p h ≡ expired doc k (identity p i) h
+expire-up doc k p i h up = ap (λ x. if_up p (λ q T. expire_call doc k q (call_in q T) T) x h) up
+
+pub finish-up : (doc : Doc) (k p i : ℕ) (h : List Entry) → alive p h ≡ Some i → finish doc k p h ≡ tested doc k (identity p i) h
+finish-up doc k p i h up = ap (λ x. if_up p (λ q T. end_term doc k q (deadline doc q T) T) x h) up
+
+pub attempts-up : (doc : Doc) (k p i : ℕ) (h : List Entry) → alive p h ≡ Some i → attempts doc k p h ≡ try doc k (identity p i) h
+attempts-up doc k p i h up = ap (λ x. if_up p (try doc k) x h) up
+
+pub expire-down : (doc : Doc) (k p : ℕ) (h : List Entry) → alive p h ≡ None → expire doc k p h ≡ h
+expire-down doc k p h down = ap (λ x. if_up p (λ q T. expire_call doc k q (call_in q T) T) x h) down
+
+pub finish-down : (doc : Doc) (k p : ℕ) (h : List Entry) → alive p h ≡ None → finish doc k p h ≡ h
+finish-down doc k p h down = ap (λ x. if_up p (λ q T. end_term doc k q (deadline doc q T) T) x h) down
+
+pub attempts-down : (doc : Doc) (k p : ℕ) (h : List Entry) → alive p h ≡ None → attempts doc k p h ≡ h
+attempts-down doc k p h down = ap (λ x. if_up p (try doc k) x h) down
+
+-- an expiry leaves the life as it is
+pub alive-expired : (doc : Doc) (k p : ℕ) (q : Identity) (h : List Entry) → alive p (expired doc k q h) ≡ alive p h
+alive-expired doc k p q h = by_call (call_in q h)
+  where
+    by_late : (call : Call) (b : Bool) → alive p (expire_as k q call b h) ≡ alive p h
+    by_late call true = refl
+    by_late call false = refl
+
+    by_call : (call : Option Call) → alive p (expire_call doc k q call h) ≡ alive p h
+    by_call None = refl
+    by_call (Some call) = by_late call (is_late doc q k call)
+
+pub printed-expired : (doc : Doc) (k : ℕ) (q : Identity) (h : List Entry) → printed (expired doc k q h) ≡ printed h
+printed-expired doc k q h = by_call (call_in q h)
+  where
+    by_late : (call : Call) (b : Bool) → printed (expire_as k q call b h) ≡ printed h
+    by_late call true = append-nil (printed h)
+    by_late call false = refl
+
+    by_call : (call : Option Call) → printed (expire_call doc k q call h) ≡ printed h
+    by_call None = refl
+    by_call (Some call) = by_late call (is_late doc q k call)
+
+-- an expiry starts nothing
+pub starts-expired : (doc : Doc) (k p : ℕ) (q : Identity) (h : List Entry) → starts p (expired doc k q h) ≡ starts p h
+starts-expired doc k p q h = by_call (call_in q h)
+  where
+    by_late : (call : Call) (b : Bool) → starts p (expire_as k q call b h) ≡ starts p h
+    by_late call true = refl
+    by_late call false = refl
+
+    by_call : (call : Option Call) → starts p (expire_call doc k q call h) ≡ starts p h
+    by_call None = refl
+    by_call (Some call) = by_late call (is_late doc q k call)
+
+pub ended-expired : (doc : Doc) (k p : ℕ) (q : Identity) (h : List Entry) → ended p (expired doc k q h) ≡ ended p h
+ended-expired doc k p q h = by_call (call_in q h)
+  where
+    by_late : (call : Call) (b : Bool) → ended p (expire_as k q call b h) ≡ ended p h
+    by_late call true = refl
+    by_late call false = refl
+
+    by_call : (call : Option Call) → ended p (expire_call doc k q call h) ≡ ended p h
+    by_call None = refl
+    by_call (Some call) = by_late call (is_late doc q k call)

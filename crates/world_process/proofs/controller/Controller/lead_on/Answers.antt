@@ -1,0 +1,34 @@
+use Rattle.std.proofs.Common.{◌+◌, Some, sym, ap, ◌∙◌, subst}
+use Rattle.kube_base.specs.declared.numbers.Local.{Local}
+use Rattle.kube_objects.specs.Clocks.{local}
+use Rattle.kube_objects.specs.Identities.{identity}
+use Rattle.world_process.specs.declared.controller.Role.TheVariants as role
+use Rattle.world_process.specs.Controllers.{Timed}
+use Rattle.world_process.proofs.Standing.{role-at}
+use Rattle.world_process.proofs.Timers.{leading-stays, leading-asks, leading-ends}
+use Rattle.world_process.proofs.controller.Controller.lead_on.Goals as goal
+
+pub returns-in-Stay-clause-stands : goal.returns-in-Stay-clause-stands
+returns-in-Stay-clause-stands c doc k p h l s leads now wall delay few =
+    let self = c.args.self.now in
+    let q = identity p self.incarnation in
+    let was = role-at doc p h self (role.Leading c.in-Leading.leading) s (sym c.replace.ensures.value ∙ c.in-Leading.is) in
+    let t = c.in-Stay.ensures.turns doc q h k was.1 now wall (few.calls q) in
+    subst (λ r. Timed doc k p h (record self { role = role.Leading c.in-Stay.leading }) r.ended r.ask) (sym c.turn_with-in-Stay.ensures) (leading-stays doc k p h self c.in-Stay.leading s was.0 t.0 t.1 t.2)
+
+pub returns-in-Ask-clause-stands : goal.returns-in-Ask-clause-stands
+returns-in-Ask-clause-stands c doc k p h l s leads now wall delay few =
+    let self = c.args.self.now in
+    let q = identity p self.incarnation in
+    let was = role-at doc p h self (role.Leading c.in-Leading.leading) s (sym c.replace.ensures.value ∙ c.in-Leading.is) in
+    let t = c.in-Ask.ensures.turns doc q h k was.1 now wall (few.calls q) in
+    subst (λ r. Timed doc k p h (record self { role = role.Leading c.in-Ask.leading }) r.ended r.ask) (sym c.turn_with-in-Ask.ensures) (leading-asks doc k p h self c.in-Ask.leading c.in-Ask.ask s was.0 t.0 t.1)
+
+pub returns-in-End-clause-stands : goal.returns-in-End-clause-stands
+returns-in-End-clause-stands c doc k p h l s leads now wall delay few =
+    let self = c.args.self.now in
+    let q = identity p self.incarnation in
+    let was = role-at doc p h self (role.Leading c.in-Leading.leading) s (sym c.replace.ensures.value ∙ c.in-Leading.is) in
+    let t = c.in-End.ensures.turns doc q h k was.1 now wall (few.calls q) in
+    let back : Local = record { 0 = c.args.now.0 + c.args.delay } in
+    subst (λ r. Timed doc k p h (record self { role = role.Down (Some back) }) r.ended r.ask) (sym c.final_turn.ensures) (leading-ends doc k p h self back s was.0 t.0 (ap (λ n. n + c.args.delay) now ∙ ap (λ n. local doc p k + n) delay))

@@ -1,0 +1,23 @@
+use Rattle.std.proofs.Common.{false, refl, sym, ap, ◌∙◌, arith}
+use Rattle.kube_objects.specs.Document.{field, of_millis}
+use Rattle.world_process.proofs.controller.Controller.new.Goals as goal
+
+pub returns-clause-stands : goal.returns-clause-stands
+returns-clause-stands c doc p made sort =
+    let process = made.process in
+    record {
+      sort = sort;
+      me = made.me;
+      incarnation = refl;
+      timing = record {
+        lease = ap (λ y. field (λ x. x.lease_seconds) 0 y) (sym process);
+        renew = c.picoseconds.ensures.value ∙ ap (λ y. of_millis (field (λ x. x.renew_millis) 0 y)) (sym process);
+        retry = c.picoseconds-2.ensures.value ∙ ap (λ y. of_millis (field (λ x. x.retry_millis) 0 y)) (sym process);
+        timeout = c.picoseconds-3.ensures.value ∙ ap (λ y. of_millis (field (λ x. x.timeout_millis) 0 y)) (sym process);
+        fast = ap (λ y. y.fast_renew) (sym made.settings);
+      };
+      clock = c.in_ok-clock.ensures.stands doc p made;
+      up_first = ap (λ y. field (λ x. x.up) false y) (sym process);
+      role = (refl, refl);
+      asleep = λ j within before. absurd (omega (arith, before));
+    }

@@ -1,0 +1,109 @@
+-- What a process did, against the history: i is its incarnation after it, and Stands is what it stands for.
+use Rattle.std.specs.Prelude.{◌≡◌, ℕ, ◌++◌, Bool, true, false, List, ◌∷◌, Option, Some, None, option_map}
+use Rattle.kube_base.specs.declared.numbers.ProcId.{ProcId}
+use Rattle.kube_base.specs.declared.numbers.Version.{Version}
+use Rattle.kube_objects.specs.declared.call.Ask.{Ask}
+use Rattle.kube_objects.specs.declared.deed.Act.TheVariants as act
+use Rattle.kube_objects.specs.declared.deed.Deed as deed
+use Rattle.kube_objects.specs.declared.script.What.TheVariants as what
+use Rattle.kube_objects.specs.Document.{Doc, is_controller}
+use Rattle.kube_objects.specs.Entry.{Entry, Identity, Call, Deed, Event as Happens, Stops, Delivers, entry, script_entry, actor_of}
+use Rattle.kube_objects.specs.Identities.{identity}
+use Rattle.kube_objects.specs.Newest.{when}
+use Rattle.kube_objects.specs.Process.{alive}
+use Rattle.kube_objects.specs.Wire.{Back}
+use Rattle.history.specs.Printed.{printed, deeds_of}
+use Rattle.history.specs.Steps.{happens, restart, expire, finish, delivered, elector_turn}
+use Rattle.leader_elector.specs.Moves.{Asked}
+use Rattle.world_process.specs.declared.moves.Received.{Received}
+use Rattle.world_process.specs.declared.moves.Stopped.{Stopped}
+use Rattle.world_process.specs.declared.moves.Turn.{Turn}
+use Rattle.world_process.specs.Plain.{AreQuiet, with_deeds}
+
+-- next is the history with what is asked; h is that before
+abbrev pub AsksOn : ℕ → ℕ → Identity → List Entry → List Entry → (List Entry → Type 0) → Option Ask → Type 0
+AsksOn k step q h next Stands None = (next ≡ h) × Stands h
+AsksOn k step q h next Stands (Some ask) = Asked k step q h next Stands ask
+
+-- ---- the script's events on a process
+
+abbrev pub started_deeds : ℕ → Identity → Bool → List deed.Deed
+started_deeds k q b = deeds_of k (actor_of q) (when b act.Start)
+
+abbrev pub crashed_deeds : ℕ → Identity → Bool → List deed.Deed
+crashed_deeds k q b = deeds_of k (actor_of q) (when b act.Crash)
+
+abbrev pub stopped_deeds : ℕ → Identity → Bool → List deed.Deed
+stopped_deeds k q b = deeds_of k (actor_of q) (when b act.Stop)
+
+-- a process was crashed, where it was up
+pub record Crashed (doc : Doc) (k : ℕ) (id : ProcId) (h : List Entry) (i : ℕ) (Stands : List Entry → Type 0) (crashed : Bool) : Type 0 where
+  pub stands : Stands (happens doc k (what.Crash id) h)
+  pub told : printed (happens doc k (what.Crash id) h) ≡ printed h ++ crashed_deeds k (identity id.0 i) crashed
+
+-- a process was started, where it was down
+pub record Begun (doc : Doc) (k : ℕ) (id : ProcId) (h : List Entry) (i : ℕ) (Stands : List Entry → Type 0) (started : Bool) : Type 0 where
+  pub stands : Stands (happens doc k (what.Start id) h)
+  pub told : printed (happens doc k (what.Start id) h) ≡ printed h ++ started_deeds k (identity id.0 i) started
+
+-- up says in which incarnation the process is up before
+abbrev pub stop_in : ℕ → ℕ → Option ℕ → List Entry → List Entry
+stop_in k p None h = h
+stop_in k p (Some i) h = entry k 1 (identity p i) Stops ∷ h
+
+-- the history with a stop's event and the stop, before the release
+abbrev pub stopped : ℕ → ProcId → List Entry → List Entry
+stopped k id h = stop_in k id.0 (alive id.0 h) (script_entry k 1 (Happens (what.Stop id) None) ∷ h)
+
+-- a process was stopped, where it was up, and asks its release
+pub record StoppedAs (doc : Doc) (k : ℕ) (id : ProcId) (h : List Entry) (i : ℕ) (Stands : List Entry → Type 0) (s : Stopped) : Type 0 where
+  pub told : printed (stopped k id h) ≡ printed h ++ stopped_deeds k (identity id.0 i) s.stopped
+  pub asks : AsksOn k 1 (identity id.0 i) (stopped k id h) (happens doc k (what.Stop id) h) Stands s.ask
+
+-- ---- a turn
+
+-- the history after the expiry and the end of a controller's turn
+abbrev pub settled : Doc → ℕ → ℕ → List Entry → List Entry
+settled doc k p h = finish doc k p (expire doc k p h)
+
+-- the history after all of a controller's turn that asks nothing
+abbrev pub before_asking : Doc → ℕ → ℕ → List Entry → List Entry
+before_asking doc k p h = settled doc k p (restart doc k p h)
+
+abbrev pub ended_deeds : ℕ → Identity → Bool → List deed.Deed
+ended_deeds k q b = deeds_of k (actor_of q) (when b act.End)
+
+-- a controller has done its turn, but for its tick
+pub record Turned (doc : Doc) (k p : ℕ) (h : List Entry) (i : ℕ) (Stands : List Entry → Type 0) (t : Turn) : Type 0 where
+  pub told : printed (before_asking doc k p h)
+      ≡ printed h ++ started_deeds k (identity p i) t.started ++ ended_deeds k (identity p i) t.ended
+  pub asks : AsksOn k 4 (identity p i) (before_asking doc k p h) (elector_turn doc k p h) Stands t.ask
+
+-- ---- a reply
+
+abbrev pub lead_deeds : ℕ → Identity → Option Version → List deed.Deed
+lead_deeds k q lead = deeds_of k (actor_of q) (option_map act.Lead lead)
+
+-- a reply came to the process and it asks nothing: the history has some quiet entries more
+pub record StaysOn (doc : Doc) (k : ℕ) (b : Back) (h : List Entry) (Stands : List Entry → Type 0) : Type 0 where
+  pub deeds : List Deed
+  pub quiet : AreQuiet deeds
+  pub adds : delivered doc k b h ≡ with_deeds k 3 b.who deeds h
+  pub stands : Stands (delivered doc k b h)
+
+-- or it asks after the reply
+pub record AsksAfter (doc : Doc) (k : ℕ) (q : Identity) (b : Back) (h : List Entry) (Stands : List Entry → Type 0)
+    (ask : Ask) : Type 0 where
+  pub call : Call
+  pub who : b.who ≡ q
+  pub asked : Asked k 3 q (entry k 3 q (Delivers call b.reply true) ∷ h) (delivered doc k b h) Stands ask
+
+abbrev pub AsksOnReply : Doc → ℕ → Identity → Back → List Entry → (List Entry → Type 0) → Option Ask → Type 0
+AsksOnReply doc k q b h Stands None = StaysOn doc k b h Stands
+AsksOnReply doc k q b h Stands (Some ask) = AsksAfter doc k q b h Stands ask
+
+-- q is the identity of the process after it
+pub record Replied (doc : Doc) (k : ℕ) (q : Identity) (b : Back) (h : List Entry) (Stands : List Entry → Type 0)
+    (r : Received) : Type 0 where
+  pub told : printed (delivered doc k b h) ≡ printed h ++ lead_deeds k q r.lead
+  pub asks : AsksOnReply doc k q b h Stands r.ask

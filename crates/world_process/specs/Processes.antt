@@ -1,0 +1,65 @@
+-- A process of the world stands for one of the document in a history.
+use Rattle.std.specs.Prelude.{◌≡◌, ℕ, Bool, List, Option}
+use Rattle.kube_base.specs.declared.numbers.ProcId.{ProcId}
+use Rattle.kube_objects.specs.declared.call.Ask.{Ask}
+use Rattle.kube_objects.specs.Document.{Doc}
+use Rattle.kube_objects.specs.Entry.{Entry}
+use Rattle.kube_objects.specs.Identities.{identity}
+use Rattle.kube_objects.specs.Wire.{Back}
+use Rattle.skew_clock.specs.Clocking.{Clocking}
+use Rattle.world_process.specs.declared.moves.Received.{Received}
+use Rattle.world_process.specs.declared.moves.Stopped.{Stopped}
+use Rattle.world_process.specs.declared.moves.Turn.{Turn}
+use Rattle.world_process.specs.declared.process.Process.{Process}
+use Rattle.world_process.specs.declared.process.Process.TheVariants.{Controller, Kubelet}
+use Rattle.world_process.specs.Controllers.{ControllerStands}
+use Rattle.world_process.specs.Kubelets.{KubeletStands}
+use Rattle.world_process.specs.Moves as moves
+
+abbrev pub ProcessStands : Doc → ℕ → List Entry → Process → Type 0
+ProcessStands doc p h (Controller c) = ControllerStands doc p h c
+ProcessStands doc p h (Kubelet b) = KubeletStands doc p h b
+
+-- ---- plain facts
+
+abbrev pub me_of : Process → ProcId
+me_of (Controller c) = c.me
+me_of (Kubelet b) = b.me
+
+abbrev pub incarnation_of : Process → ℕ
+incarnation_of (Controller c) = c.incarnation
+incarnation_of (Kubelet b) = b.incarnation
+
+abbrev pub clock_of : Process → Clocking
+clock_of (Controller c) = c.clock
+clock_of (Kubelet b) = b.clock
+
+abbrev pub is_up_first_as : Process → Bool
+is_up_first_as (Controller c) = c.up_first
+is_up_first_as (Kubelet b) = b.up_first
+
+-- the plain facts that a process keeps
+pub record SameProcess (old new : Process) : Type 0 where
+  pub me : me_of new ≡ me_of old
+  pub clock : clock_of new ≡ clock_of old
+
+-- ---- what it did
+
+abbrev pub Crashed : Doc → ℕ → ProcId → List Entry → Process → Bool → Type 0
+Crashed doc k id h x crashed = moves.Crashed doc k id h (incarnation_of x) (λ g. ProcessStands doc id.0 g x) crashed
+
+abbrev pub Begun : Doc → ℕ → ProcId → List Entry → Process → Bool → Type 0
+Begun doc k id h x started = moves.Begun doc k id h (incarnation_of x) (λ g. ProcessStands doc id.0 g x) started
+
+abbrev pub StoppedAs : Doc → ℕ → ProcId → List Entry → Process → Stopped → Type 0
+StoppedAs doc k id h x s = moves.StoppedAs doc k id h (incarnation_of x) (λ g. ProcessStands doc id.0 g x) s
+
+abbrev pub Turned : Doc → ℕ → ℕ → List Entry → Process → Turn → Type 0
+Turned doc k p h x t = moves.Turned doc k p h (incarnation_of x) (λ g. ProcessStands doc p g x) t
+
+abbrev pub Replied : Doc → ℕ → ℕ → Back → List Entry → Process → Received → Type 0
+Replied doc k p b h x r = moves.Replied doc k (identity p (incarnation_of x)) b h (λ g. ProcessStands doc p g x) r
+
+-- next is the history with what is asked; h is that before
+abbrev pub AsksOn : Doc → ℕ → ℕ → ℕ → List Entry → List Entry → Process → Option Ask → Type 0
+AsksOn doc k step p h next x ask = moves.AsksOn k step (identity p (incarnation_of x)) h next (λ g. ProcessStands doc p g x) ask

@@ -1,0 +1,91 @@
+// The clock of a process, with the rates of all its events from the start.
+ghost use Rattle.std.specs.Prelude.{◌≡◌, ◌*◌, ◌*ℤ◌, ◌≤ℤ◌, pos, negsuc, ◌<◌, ◌≤◌, ℕ, IfOk, OnOk};
+ghost use Rattle.kube_objects.specs.Clocks.{rate_of as ppm_of, last_rate};
+ghost use Rattle.kube_objects.specs.Document.{Doc, of_millis};
+ghost use Rattle.kube_objects.specs.Newest.{or_else};
+ghost use Rattle.script_reader.specs.Lawful.{AreLawful, IsLawful};
+ghost use Rattle.skew_clock.specs.Clocking.{rate_at, last_set, reading};
+ghost use Rattle.world_process.specs.Clocked.{AreEventsFrom, ClockStands, IsMadeOf, SameSpan};
+
+use kube_base::{Beat, Local, NoMemory, ProcId};
+use kube_objects::{Event, Proc, Settings, What};
+use skew_clock::Clock;
+use std::alloc::Global;
+
+/// The clock of a process.
+pub fn clock_for(
+    alloc: Global,
+    me: ProcId,
+    settings: &Settings,
+    process: &Proc,
+    events: &[Event],
+) -> Result<Clock, NoMemory>
+    requires settings { AreLawful settings.now }
+    requires process { IsLawful process.now }
+    requires events { AreEventsFrom settings.now.end_beat.0 0 events.now }
+    ensures end { IfOk result (λ clock. clock.end ≡ settings.now.end_beat.0) }
+    ensures stands { (doc : Doc) (p : ℕ) → IsMadeOf doc p me.0 settings.now process.now events.now → IfOk result (ClockStands doc p) }
+{
+    let mut clock = Clock::new(
+        alloc,
+        settings.epoch,
+        microseconds(process.offset_millis),
+        settings.beat_millis * 1000,
+        settings.end_beat,
+        process.rate_ppm,
+    )?;
+    set_rates(&mut clock, me, events)?;
+    Ok(clock)
+}
+
+/// Milliseconds in units of 10^-12 s.
+#[tactic(auto, unfolding(kube_objects::specs::Document::of_millis))]
+pub fn picoseconds(millis: u32) -> u64
+    ensures value { result ≡ of_millis millis }
+    ensures plain { result ≡ millis * 1000000000 }
+{
+    u64::from(millis) * 1_000_000_000
+}
+
+// Milliseconds in microseconds.
+fn microseconds(millis: i64) -> i64
+    requires least { negsuc 31535999999 ≤ℤ millis }
+    requires most { millis ≤ℤ pos 31536000000 }
+    ensures { result ≡ millis *ℤ pos 1000 }
+{
+    millis * 1000
+}
+
+// Sets the rates of a process's events on its clock.
+fn set_rates(clock: &mut Clock, me: ProcId, events: &[Event]) -> Result<(), NoMemory>
+    requires { AreEventsFrom clock.old.end (last_set clock.old.sets) events.now }
+    ensures same { OnOk result (SameSpan clock.old clock.new) }
+    ensures rates { OnOk result ((j : ℕ) → rate_at clock.new.sets j ≡ or_else (rate_at clock.old.sets j) (last_rate me.0 j events.now)) }
+{
+    for event in events {
+        if let Some(ppm) = rate_of(&event.what, me) {
+            clock.set_rate(event.beat, ppm)?;
+        }
+    }
+    Ok(())
+}
+
+// The rate that an event sets for a process.
+fn rate_of(what: &What, me: ProcId) -> Option<u32>
+    ensures { result ≡ ppm_of me.0 what.now }
+{
+    match what {
+        What::Rate(id, ppm) if id.0 == me.0 => Some(*ppm),
+        _ => None,
+    }
+}
+
+/// The first beat at which a clock reads this, or one after all beats.
+pub fn first_beat(clock: &Clock, at: Local) -> Beat
+    ensures { (j : ℕ) → j ≤ clock.now.end → j < result.0 → reading clock.now j < at.0 }
+{
+    match clock.first_beat(at) {
+        Some(beat) => beat,
+        None => Beat(u32::MAX),
+    }
+}

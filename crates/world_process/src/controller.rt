@@ -1,0 +1,379 @@
+// A controller of the world: its clock and its part in the election.
+ghost use Rattle.std.specs.Prelude.{◌≡◌, ◌*◌, ◌+◌, ◌<◌, ◌≤◌, ◌^◌, ◌∷◌, ℕ, true, false, List, [], Some, None, IfOk};
+ghost use Rattle.kube_base.specs.declared.numbers.ProcId.{ProcId};
+ghost use Rattle.kube_base.specs.declared.numbers.Version.{Version};
+ghost use Rattle.kube_objects.specs.declared.script.What.TheVariants as what;
+ghost use Rattle.kube_objects.specs.Clocks.{local, wall as wall_in};
+ghost use Rattle.kube_objects.specs.Document.{Doc, is_controller, restart_delay};
+ghost use Rattle.kube_objects.specs.Entry.{Entry, Identity, Leads, entry};
+ghost use Rattle.kube_objects.specs.Identities.{identity};
+ghost use Rattle.kube_objects.specs.Process.{starts};
+ghost use Rattle.kube_objects.specs.Wire.{Back};
+ghost use Rattle.history.specs.Steps.{happens, start, restart};
+ghost use Rattle.leader_elector.specs.declared.candidate.Candidate.{Candidate};
+ghost use Rattle.leader_elector.specs.declared.leading.Leading.{Leading};
+ghost use Rattle.leader_elector.specs.Stands.{IsChosen};
+ghost use Rattle.script_reader.specs.Lawful.{AreLawful, IsLawful};
+ghost use Rattle.world_process.specs.declared.controller.Role.TheVariants as role;
+ghost use Rattle.world_process.specs.Clocked.{AreEventsFrom, IsMadeOf};
+ghost use Rattle.world_process.specs.Controllers.{ControllerStands, SameController, Crashed, Begun, StoppedAs, Restarted, Timed, Turned, Replied, IsLed, IsStill, is_up_as, waiting_of};
+ghost use Rattle.world_process.specs.Plain.{IsPlain, IsFew};
+
+use crate::clocks::{clock_for, first_beat, picoseconds};
+use crate::moves::{Received, Stopped, Turn, asks, final_turn, leads, stays, stop_with, turn_with};
+use kube_base::{Beat, Local, NoMemory, ProcId, Wall};
+use kube_objects::{Event, Proc, Reply, Settings};
+use leader_elector::{Candidate, Heard, Leading, LeadingNext, Timing};
+use skew_clock::Clock;
+use std::alloc::Global;
+use std::mem;
+
+/// What a controller is. Where it is down it may have a reading at which it starts again.
+#[derive(Drop)]
+pub enum Role {
+    Down(Option<Local>),
+    Candidate(Candidate),
+    Leading(Leading),
+}
+
+/// A controller with its clock. The incarnation counts its starts.
+#[derive(Drop)]
+pub struct Controller {
+    pub me: ProcId,
+    pub incarnation: u32,
+    pub timing: Timing,
+    pub clock: Clock,
+    pub up_first: bool,
+    pub role: Role,
+    /// At each beat before `until` its clock reads less than `below`.
+    pub until: Beat,
+    pub below: Local,
+}
+
+impl Controller {
+    /// A controller that has never been up. Its clock has the rates of all its events.
+    pub fn new(
+        alloc: Global,
+        me: ProcId,
+        settings: &Settings,
+        process: &Proc,
+        events: &[Event],
+    ) -> Result<Controller, NoMemory>
+        requires settings { AreLawful settings.now }
+        requires process { IsLawful process.now }
+        requires events { AreEventsFrom settings.now.end_beat.0 0 events.now }
+        ensures end { IfOk result (λ c. c.clock.end ≡ settings.now.end_beat.0) }
+        ensures stands { (doc : Doc) (p : ℕ) → IsMadeOf doc p me.0 settings.now process.now events.now → is_controller doc p ≡ true
+            → IfOk result (ControllerStands doc p []) }
+    {
+        let timing = Timing {
+            lease_seconds: process.lease_seconds,
+            renew: picoseconds(process.renew_millis),
+            retry: picoseconds(process.retry_millis),
+            timeout: picoseconds(process.timeout_millis),
+            fast: settings.fast_renew,
+        };
+        let clock = clock_for(alloc, me, settings, process, events)?;
+        Ok(Controller {
+            me,
+            incarnation: 0,
+            timing,
+            clock,
+            up_first: process.up,
+            role: Role::Down(None),
+            until: Beat(0),
+            below: Local(0),
+        })
+    }
+
+    /// Starts in the next incarnation.
+    pub fn start(&mut self, beat: Beat)
+        requires { beat.0 ≤ self.old.clock.end }
+        ensures same { SameController self.old self.new }
+        ensures stands { (doc : Doc) (n k step p : ℕ) (h : List Entry) → ControllerStands doc p h self.old → beat.0 ≡ k → IsPlain n h
+            → starts p h + 1 < 2 ^ 32
+            → ControllerStands doc p (start k step p h) self.new }
+    {
+        let incarnation = self.incarnation.saturating_add(1);
+        let now = self.clock.local(beat);
+        self.incarnation = incarnation;
+        self.role = Role::Candidate(Candidate::start(self.me, incarnation, self.timing, now));
+    }
+
+    /// Goes down where it is up, and its call is forgotten; a restart that waits is cancelled. Tells whether it was up.
+    pub fn crash(&mut self) -> bool
+        ensures same { SameController self.old self.new }
+        ensures incarnation { self.new.incarnation ≡ self.old.incarnation }
+        ensures stands { (doc : Doc) (k : ℕ) (id : ProcId) (h : List Entry) → ControllerStands doc id.0 h self.old
+            → Crashed doc k id h self.new result }
+    {
+        let up = self.is_up();
+        self.role = Role::Down(None);
+        up
+    }
+
+    /// Starts where it is down; a restart that waits is cancelled. Tells whether it was down.
+    pub fn begin(&mut self, beat: Beat) -> bool
+        requires { beat.0 ≤ self.old.clock.end }
+        ensures same { SameController self.old self.new }
+        ensures stands { (doc : Doc) (n k : ℕ) (id : ProcId) (h : List Entry) → ControllerStands doc id.0 h self.old → beat.0 ≡ k
+            → IsPlain n h → IsFew (happens doc k (what.Start id) h)
+            → Begun doc k id h self.new result }
+    {
+        if self.is_up() {
+            return false;
+        }
+        self.role = Role::Down(None);
+        self.start(beat);
+        true
+    }
+
+    /// Goes down in order where it is up, without a restart: a leader whose last shown holder is itself asks its release. A
+    /// restart that waits is cancelled.
+    pub fn stop(&mut self, beat: Beat) -> Stopped
+        requires { beat.0 ≤ self.old.clock.end }
+        ensures same { SameController self.old self.new }
+        ensures incarnation { self.new.incarnation ≡ self.old.incarnation }
+        ensures stands { (doc : Doc) (k : ℕ) (id : ProcId) (h : List Entry) → ControllerStands doc id.0 h self.old → beat.0 ≡ k
+            → IsFew h → StoppedAs doc k id h self.new result }
+    {
+        match mem::replace(&mut self.role, Role::Down(None)) {
+            Role::Down(_) => stop_with(false, None),
+            Role::Candidate(_) => stop_with(true, None),
+            Role::Leading(leading) => {
+                let now = self.clock.local(beat);
+                let wall = self.clock.wall_at(now);
+                stop_with(true, leading.release(now, wall).ask)
+            }
+        }
+    }
+
+    fn is_up(&self) -> bool
+        ensures { result ≡ is_up_as self.now.role }
+    {
+        match &self.role {
+            Role::Down(_) => false,
+            Role::Candidate(_) | Role::Leading(_) => true,
+        }
+    }
+
+    /// Its turn: it may start again, end, or send a request. The delay of a restart is in units of 10^-12 s.
+    pub fn turn(&mut self, beat: Beat, delay: u64) -> Turn
+        requires within { beat.0 ≤ self.old.clock.end }
+        requires delay { delay ≤ 86400000000000000 }
+        ensures same { SameController self.old self.new }
+        ensures stands { (doc : Doc) (n k p : ℕ) (h : List Entry) → ControllerStands doc p h self.old → beat.0 ≡ k
+            → delay ≡ restart_delay doc → IsPlain n h → IsFew (restart doc k p h)
+            → Turned doc k p h self.new result }
+    {
+        let started = self.restart(beat);
+        let now = self.clock.local(beat);
+        let mut turn = self.on_timer(now, delay);
+        turn.started = started;
+        turn
+    }
+
+    // Whether it is known that its turn does nothing from this beat to before `until`.
+    fn is_asleep(&self, beat: Beat) -> bool
+        ensures { (doc : Doc) (k p : ℕ) (h : List Entry) → ControllerStands doc p h self.now → result ≡ true → k ≤ self.now.clock.end
+            → k < self.now.until.0 → IsStill doc k p h }
+    {
+        beat.0 < self.until.0 && self.sleeps(self.below)
+    }
+
+    /// The first beat at which its turn may do something: in each beat before, up to the end, it does nothing.
+    pub fn wakes_from(&mut self, beat: Beat) -> Beat
+        ensures same { SameController self.old self.new }
+        ensures stands { (doc : Doc) (p : ℕ) (h : List Entry) → ControllerStands doc p h self.old → ControllerStands doc p h self.new }
+        ensures still { (doc : Doc) (k p : ℕ) (h : List Entry) → ControllerStands doc p h self.old → k ≤ self.old.clock.end
+            → k < result.0 → IsStill doc k p h }
+    {
+        if !self.is_asleep(beat) {
+            self.doze();
+        }
+        self.until
+    }
+
+    /// Starts again, where it is down and its clock has reached its restart.
+    fn restart(&mut self, beat: Beat) -> bool
+        requires { beat.0 ≤ self.old.clock.end }
+        ensures same { SameController self.old self.new }
+        ensures stands { (doc : Doc) (n k p : ℕ) (h : List Entry) → ControllerStands doc p h self.old → beat.0 ≡ k → IsPlain n h
+            → IsFew (restart doc k p h)
+            → Restarted doc k p h self.new result }
+    {
+        let Some(at) = restart_of(&self.role) else {
+            return false;
+        };
+        if self.clock.local(beat).0 < at.0 {
+            return false;
+        }
+        self.start(beat);
+        true
+    }
+
+    // Whether its turn does nothing at each reading below this one.
+    fn sleeps(&self, below: Local) -> bool
+        ensures { (doc : Doc) (k p : ℕ) (h : List Entry) → ControllerStands doc p h self.now → local doc p k < below.0 → result ≡ true
+            → IsStill doc k p h }
+    {
+        match &self.role {
+            Role::Down(None) => true,
+            Role::Down(Some(at)) => below.0 <= at.0,
+            Role::Candidate(candidate) => below.0 <= candidate.wake().0,
+            Role::Leading(leading) => below.0 <= leading.wake().0,
+        }
+    }
+
+    // Looks for the beat up to which it sleeps, so that its next turns needn't read the clock. It stays out of line, so that a
+    // controller that sleeps costs two comparisons.
+    #[inline(never)]
+    fn doze(&mut self)
+        ensures same { SameController self.old self.new }
+        ensures incarnation { self.new.incarnation ≡ self.old.incarnation }
+        ensures stands { (doc : Doc) (p : ℕ) (h : List Entry) → ControllerStands doc p h self.old → ControllerStands doc p h self.new }
+        ensures still { (doc : Doc) (k p : ℕ) (h : List Entry) → ControllerStands doc p h self.old → k ≤ self.old.clock.end
+            → k < self.new.until.0 → IsStill doc k p h }
+    {
+        let wake = self.wake();
+        self.until = first_beat(&self.clock, wake);
+        self.below = wake;
+    }
+
+    // The least reading at which its turn may do something.
+    fn wake(&self) -> Local
+        ensures { (doc : Doc) (k p : ℕ) (h : List Entry) → ControllerStands doc p h self.now → local doc p k < result.0
+            → IsStill doc k p h }
+    {
+        match &self.role {
+            Role::Down(None) => Local(u64::MAX),
+            Role::Down(Some(at)) => *at,
+            Role::Candidate(candidate) => candidate.wake(),
+            Role::Leading(leading) => leading.wake(),
+        }
+    }
+
+    // The rest of its turn, after the restart.
+    fn on_timer(&mut self, now: Local, delay: u64) -> Turn
+        requires now { now.0 ≤ 2 * 10 ^ 18 }
+        requires delay { delay ≤ 86400000000000000 }
+        ensures same { SameController self.old self.new }
+        ensures incarnation { self.new.incarnation ≡ self.old.incarnation }
+        ensures stands { (doc : Doc) (k p : ℕ) (h : List Entry) → ControllerStands doc p h self.old → now.0 ≡ local doc p k
+            → delay ≡ restart_delay doc → IsFew h
+            → Timed doc k p h self.new result.ended result.ask }
+    {
+        let wall = self.clock.wall_at(now);
+        match &mut self.role {
+            Role::Down(_) => turn_with(None),
+            Role::Candidate(candidate) => turn_with(candidate.turn(now, wall)),
+            Role::Leading(_) => self.lead_on(now, wall, delay),
+        }
+    }
+
+    // The same for a leader.
+    fn lead_on(&mut self, now: Local, wall: Wall, delay: u64) -> Turn
+        requires now { now.0 ≤ 2 * 10 ^ 18 }
+        requires delay { delay ≤ 86400000000000000 }
+        ensures same { SameController self.old self.new }
+        ensures incarnation { self.new.incarnation ≡ self.old.incarnation }
+        ensures stands { (doc : Doc) (k p : ℕ) (h : List Entry) (l : Leading) → ControllerStands doc p h self.old
+            → self.old.role ≡ role.Leading l → now.0 ≡ local doc p k → wall.0 ≡ wall_in doc p k → delay ≡ restart_delay doc → IsFew h
+            → Timed doc k p h self.new result.ended result.ask }
+    {
+        let Role::Leading(leading) = mem::replace(&mut self.role, Role::Down(None)) else {
+            return turn_with(None);
+        };
+        match leading.on_timer(now, wall) {
+            LeadingNext::Stay(leading) => {
+                self.role = Role::Leading(leading);
+                turn_with(None)
+            }
+            LeadingNext::Ask(leading, ask) => {
+                self.role = Role::Leading(leading);
+                turn_with(Some(ask))
+            }
+            LeadingNext::End(_) => {
+                self.role = Role::Down(Some(Local(now.0 + delay)));
+                final_turn()
+            }
+        }
+    }
+
+    /// A reply that comes to an incarnation of the controller.
+    pub fn receive(&mut self, incarnation: u32, number: u64, reply: &Reply, beat: Beat) -> Received
+        requires { beat.0 ≤ self.old.clock.end }
+        ensures same { SameController self.old self.new }
+        ensures incarnation { self.new.incarnation ≡ self.old.incarnation }
+        ensures stands { (doc : Doc) (k p : ℕ) (b : Back) (h : List Entry) → ControllerStands doc p h self.old → beat.0 ≡ k
+            → b.who ≡ identity p incarnation → b.call.number ≡ number → b.reply ≡ reply.now
+            → IsFew h → Replied doc k p b h self.new result }
+    {
+        if incarnation != self.incarnation {
+            return stays();
+        }
+        let now = self.clock.local(beat);
+        let wall = self.clock.wall_at(now);
+        match &mut self.role {
+            Role::Down(_) => stays(),
+            Role::Candidate(candidate) => match candidate.hear(number, reply, now, wall) {
+                Heard::Stays => stays(),
+                Heard::Asks(ask) => asks(ask),
+                Heard::Leads => {
+                    self.lead(now);
+                    leads(reply)
+                }
+            },
+            Role::Leading(_) => self.hear(number, *reply, now, wall),
+        }
+    }
+
+    // A candidate that is to lead leads from this reading on.
+    fn lead(&mut self, now: Local)
+        requires { now.0 ≤ 2 * 10 ^ 18 }
+        ensures same { self.new ≡ record self.old { role = self.new.role } }
+        ensures leads { (doc : Doc) (q : Identity) (h : List Entry) (k : ℕ) (version : Version) (c : Candidate)
+            → self.old.role ≡ role.Candidate c → IsChosen doc q h c → now.0 ≡ local doc q.process k
+            → IsLed doc q (entry k 3 q (Leads version) ∷ h) self.new.role }
+    {
+        let Role::Candidate(candidate) = mem::replace(&mut self.role, Role::Down(None)) else {
+            return;
+        };
+        self.role = Role::Leading(candidate.lead(now));
+    }
+
+    // A reply that comes to a leader.
+    fn hear(&mut self, number: u64, reply: Reply, now: Local, wall: Wall) -> Received
+        requires { now.0 ≤ 2 * 10 ^ 18 }
+        ensures same { SameController self.old self.new }
+        ensures incarnation { self.new.incarnation ≡ self.old.incarnation }
+        ensures stands { (doc : Doc) (k p : ℕ) (b : Back) (h : List Entry) (l : Leading) → ControllerStands doc p h self.old
+            → self.old.role ≡ role.Leading l → now.0 ≡ local doc p k → wall.0 ≡ wall_in doc p k → b.who ≡ identity p self.old.incarnation
+            → b.call.number ≡ number → b.reply ≡ reply → IsFew h → Replied doc k p b h self.new result }
+    {
+        let Role::Leading(leading) = mem::replace(&mut self.role, Role::Down(None)) else {
+            return stays();
+        };
+        match leading.on_reply(number, reply, now, wall) {
+            LeadingNext::Stay(leading) => {
+                self.role = Role::Leading(leading);
+                stays()
+            }
+            LeadingNext::Ask(leading, ask) => {
+                self.role = Role::Leading(leading);
+                asks(ask)
+            }
+            LeadingNext::End(_) => stays(),
+        }
+    }
+}
+
+// The reading at which a process that is down starts again.
+fn restart_of(role: &Role) -> Option<Local>
+    ensures { result ≡ waiting_of role.now }
+{
+    match role {
+        Role::Down(at) => *at,
+        _ => None,
+    }
+}

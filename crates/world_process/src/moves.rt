@@ -1,0 +1,98 @@
+// What a process did.
+ghost use Rattle.std.specs.Prelude.{◌≡◌, true, false, Some, None};
+ghost use Rattle.kube_base.specs.declared.numbers.Version.{Version};
+ghost use Rattle.kube_objects.specs.declared.call.Reply.TheVariants as Reply;
+
+use kube_base::Version;
+use kube_objects::{Ask, Reply};
+
+/// What a process did in its turn.
+#[derive(Clone, Copy, Debug)]
+pub struct Turn {
+    pub started: bool,
+    pub ended: bool,
+    pub ask: Option<Ask>,
+}
+
+/// What a stop did: whether the process was up, and the release that it asks.
+#[derive(Clone, Copy, Debug)]
+pub struct Stopped {
+    pub stopped: bool,
+    pub ask: Option<Ask>,
+}
+
+/// What a reply to a process caused.
+#[derive(Clone, Copy, Debug)]
+pub struct Received {
+    pub lead: Option<Version>,
+    pub ask: Option<Ask>,
+}
+
+/// A stop of this kind.
+pub fn stop_with(stopped: bool, ask: Option<Ask>) -> Stopped
+    ensures { result ≡ record { stopped = stopped; ask = ask } }
+{
+    Stopped { stopped, ask }
+}
+
+/// A turn that asks this and does no more.
+pub fn turn_with(ask: Option<Ask>) -> Turn
+    ensures { result ≡ record { started = false; ended = false; ask = ask } }
+{
+    Turn {
+        started: false,
+        ended: false,
+        ask,
+    }
+}
+
+/// A turn that ends a term.
+pub fn final_turn() -> Turn
+    ensures { result ≡ record { started = false; ended = true; ask = None } }
+{
+    Turn {
+        started: false,
+        ended: true,
+        ask: None,
+    }
+}
+
+/// A reply that causes nothing.
+pub fn stays() -> Received
+    ensures { result ≡ record { lead = None; ask = None } }
+{
+    Received {
+        lead: None,
+        ask: None,
+    }
+}
+
+/// A reply that causes a request.
+pub fn asks(ask: Ask) -> Received
+    ensures { result ≡ record { lead = None; ask = Some ask } }
+{
+    Received {
+        lead: None,
+        ask: Some(ask),
+    }
+}
+
+/// A reply after which a controller leads.
+pub fn leads(reply: &Reply) -> Received
+    ensures none { result.ask ≡ None }
+    ensures lead { (version : Version) → reply.now ≡ Reply.Done version → result.lead ≡ Some version }
+{
+    Received {
+        lead: done(reply),
+        ask: None,
+    }
+}
+
+fn done(reply: &Reply) -> Option<Version>
+    ensures { (version : Version) → reply.now ≡ Reply.Done version → result ≡ Some version }
+{
+    match *reply {
+        Reply::Done(version) => Some(version),
+        _ => None,
+    }
+}
