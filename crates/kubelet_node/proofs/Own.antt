@@ -38,22 +38,25 @@ last_expired q n h = newest (λ e T. when (is_by q e.actor) (expired_in n e.beat
 -- an identity that has sent nothing runs no round
 pub round-unbegun : (q : Identity) (h : List Entry) → begun q h ≡ 0 → has_round q h ≡ false
 round-unbegun q [] none = refl
-round-unbegun q (e ∷ h) none = by_deed e.deed e.actor none
+round-unbegun q (e ∷ h) none = by_deed e.deed e.actor none (λ n. round-unbegun q h n)
   where
-    sent : (post own : Bool) → added own (begun q h) ≡ 0 → or_else false (said (when (post && own) true) (last_round q h)) ≡ false
-    sent post true n = absurd (omega (arith, n))
-    sent true false n = round-unbegun q h n
-    sent false false n = round-unbegun q h n
+    Rest : Type 0
+    Rest = begun q h ≡ 0 → or_else false (last_round q h) ≡ false
 
-    ended : (b : Bool) → begun q h ≡ 0 → or_else false (said (when b false) (last_round q h)) ≡ false
-    ended true n = refl
-    ended false n = round-unbegun q h n
+    sent : (post own : Bool) → added own (begun q h) ≡ 0 → Rest → or_else false (said (when (post && own) true) (last_round q h)) ≡ false
+    sent post true n rest = absurd (omega (arith, n))
+    sent true false n rest = rest n
+    sent false false n rest = rest n
 
-    by_deed : (d : Deed) (who : Actor) → added (is_send d && is_by q who) (begun q h) ≡ 0 → or_else false (said (round_says q who d) (last_round q h)) ≡ false
-    by_deed (Sends call arrives) who n = sent (is_post call.request) (is_by q who) n
-    by_deed (Delivers call reply counted) who n = ended (ends_round call.request reply && (counted && is_by q who)) n
-    by_deed (Expires call) who n = ended (not (is_post call.request) && is_by q who) n
-    by_deed _ who n = round-unbegun q h n
+    ended : (b : Bool) → begun q h ≡ 0 → Rest → or_else false (said (when b false) (last_round q h)) ≡ false
+    ended true n rest = refl
+    ended false n rest = rest n
+
+    by_deed : (d : Deed) (who : Actor) → added (is_send d && is_by q who) (begun q h) ≡ 0 → Rest → or_else false (said (round_says q who d) (last_round q h)) ≡ false
+    by_deed (Sends call arrives) who n rest = sent (is_post call.request) (is_by q who) n rest
+    by_deed (Delivers call reply counted) who n rest = ended (ends_round call.request reply && (counted && is_by q who)) n rest
+    by_deed (Expires call) who n rest = ended (not (is_post call.request) && is_by q who) n rest
+    by_deed _ who n rest = rest n
 
 -- ---- a call is sent
 
@@ -104,11 +107,11 @@ pub post_expired : (q : Identity) (h : List Entry) (k step : ℕ) (call : Call) 
 post_expired q h k step call = ap is_post_call (just_expired-own q h k step k (Expires call)) ∙ ap (λ b. is_post_call (when b call)) (same_beat k)
 
 no_post_when : (call : Call) (b : Bool) → is_post call.request ≡ false → is_post_call (when b call) ≡ false
-no_post_when call true no = no
-no_post_when call false no = refl
+no_post_when call true is = is
+no_post_when call false is = refl
 
 pub settled-no_post : (q : Identity) (h : List Entry) (k step : ℕ) (call : Call) → is_post call.request ≡ false → IsSettled q (entry k step q (Expires call) ∷ h)
-settled-no_post q h k step call no n = ap is_post_call (just_expired-own q h k step n (Expires call)) ∙ no_post_when call (k == n) no
+settled-no_post q h k step call is n = ap is_post_call (just_expired-own q h k step n (Expires call)) ∙ no_post_when call (k == n) is
 
 -- ---- a reply is delivered
 

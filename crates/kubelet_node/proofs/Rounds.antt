@@ -10,7 +10,7 @@ use Rattle.kube_objects.specs.declared.call_slot.CallSlot.{CallSlot}
 use Rattle.kube_objects.specs.CallSlots.{CallSlotStands, is_late_call}
 use Rattle.kube_objects.specs.Clocks.{local}
 use Rattle.kube_objects.specs.Document.{Doc, call_timeout}
-use Rattle.kube_objects.specs.Entry.{Call, Entry, Expires, Identity, Plain, Sends, entry}
+use Rattle.kube_objects.specs.Entry.{Call, Delivers, Entry, Expires, Identity, Plain, Sends, entry}
 use Rattle.kube_objects.specs.InForce.{posted_status}
 use Rattle.kube_objects.specs.Kubelet.{ends_round, has_round, is_post, is_post_call, is_round_due, next_request, node_of, post, round, round_if, round_period, round_timer}
 use Rattle.kube_objects.specs.Newest.{has, only_if, when}
@@ -90,7 +90,7 @@ module _ (doc : Doc) (k : ℕ) (q : Identity) (h : List Entry) where
         timer = s.timer;
         runs = round-expired q h k 4 call ∙ (λ i. is_post call.request && (s.runs ∙ ap has is) i) ∙ runs_on (is_post call.request) ∙ sym (λ i. post_is i || has (gone i));
         posts = post_expired q h k 4 call ∙ sym post_is;
-        settled = λ no. settled-no_post q h k 4 call (sym post_is ∙ no);
+        settled = λ none. settled-no_post q h k 4 call (sym post_is ∙ none);
       }
 
   pub expired-late : (c : Option Call) (x : Kubelet) (slot : CallSlot) (posted : Bool) → KubeletStands doc q h x → call_in q h ≡ c → is_late_call doc q k c ≡ true
@@ -125,10 +125,10 @@ module _ (doc : Doc) (k : ℕ) (q : Identity) (h : List Entry) where
   round-lost is = ap (λ b. round_if doc k q b (is_round_due doc k q h) h) is
 
   pub round-due : is_post_call (just_expired q k h) ≡ false → is_round_due doc k q h ≡ true → round doc k q h ≡ send k 4 q Plain (post doc q k h) h
-  round-due no due = λ i. round_if doc k q (no i) (due i) h
+  round-due none due = λ i. round_if doc k q (none i) (due i) h
 
   pub round-none : is_post_call (just_expired q k h) ≡ false → is_round_due doc k q h ≡ false → round doc k q h ≡ h
-  round-none no due = λ i. round_if doc k q (no i) (due i) h
+  round-none none due = λ i. round_if doc k q (none i) (due i) h
 
 -- whether it is time, by what is kept
 pub due_as : (runs : Bool) (now timer : ℕ) (idle early : Bool) → idle ≡ not runs → nat_lt now timer ≡ early → (not runs && not (nat_lt now timer)) ≡ (idle && not early)
@@ -179,7 +179,7 @@ module _ (doc : Doc) (k : ℕ) (q : Identity) (call : Call) (answered : Reply) (
         call = call-delivered x slot s.call free;
         timer = s.timer;
         runs = round-delivered q h k call answered ∙ ap (λ b. not b && has_round q h) (over doc q k call.request answered none) ∙ sym (ap has (call_in-delivered q h k call answered));
-        settled = settled-own q h k 3 _ (λ n. refl);
+        settled = settled-own q h k 3 (Delivers call answered true) (λ n. refl);
       }
 
   -- the round goes on
@@ -215,10 +215,10 @@ module _ (doc : Doc) (k : ℕ) (q : Identity) (h : List Entry) where
 
   busy-least : (call : Call) → IsSettled q h → has_round q h ≡ has (call_in q h) → call_in q h ≡ Some call → (b : Bool) → is_late doc q k call ≡ b →
       (b ≡ false → round doc k q (expire_as k q call b h) ≡ h) × (b ≡ true → round doc k q (expire_as k q call b h) ≡ h → ⊥)
-  busy-least call settled runs is true late = ((λ no. absurd (cc)), (λ yes same. round-longer (entry k 4 q (Expires call)) _ _ same))
+  busy-least call settled runs is true late = ((λ none. absurd (cc)), (λ yes same. round-longer (entry k 4 q (Expires call)) _ _ same))
   busy-least call settled runs is false late =
       let busy : has_round q h ≡ true = runs ∙ ap has is in
-      ((λ no. round-none doc k q h (settled k) (λ i. not (busy i) && not (nat_lt (local doc q.process k) (round_timer doc q h)))), (λ yes same. absurd (cc)))
+      ((λ none. round-none doc k q h (settled k) (λ i. not (busy i) && not (nat_lt (local doc q.process k) (round_timer doc q h)))), (λ yes same. absurd (cc)))
 
   pub turn-least : (c : Option Call) → IsSettled q h → has_round q h ≡ has (call_in q h) → call_in q h ≡ c
       → IsLeast (wake_from doc q (round_timer doc q h) c) (local doc q.process k) h (round doc k q (expire_call doc k q c h))

@@ -55,10 +55,10 @@ with_call timeout now k (Some request) = record k {
 }
 
 -- this call has begun
-pub record BeginsCall (old : Kubelet) (now : ℕ) (request : Request) (new : Kubelet) (ask : Ask) : Type 0 where
+pub record BeginsCall (old : Kubelet) (now : ℕ) (wanted : Request) (new : Kubelet) (ask : Ask) : Type 0 where
   pub number : ask.number ≡ next_number (calls_of old.slot)
-  pub request : ask.request ≡ request
-  pub kept : kept_of new ≡ with_call old.timing.timeout now (kept_of old) (Some request)
+  pub request : ask.request ≡ wanted
+  pub kept : kept_of new ≡ with_call old.timing.timeout now (kept_of old) (Some wanted)
 
 -- the Lease of the node at a time of day; what a found one has besides stays
 abbrev pub heartbeat_at : Kubelet → (wall : ℕ) → Option Lease → Lease
