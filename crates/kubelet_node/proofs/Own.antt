@@ -1,5 +1,5 @@
 -- What an identity's own entries say.
-use Rattle.std.proofs.Common.{◌≡◌, ◌∙◌, ℕ, ◌+◌, ◌==◌, ◌&&◌, ◌||◌, not, Bool, true, false, cond, List, [], ◌∷◌, Option, Some, None, refl, sym, ap, arith}
+use Rattle.std.proofs.Common.{◌≡◌, ◌∙◌, ℕ, ◌+◌, ◌==◌, ◌&&◌, ◌||◌, not, Bool, true, false, cond, List, [], ◌∷◌, Option, Some, None, refl, ap, arith}
 use Rattle.std.proofs.lemmas.Bool.Decides.{nat_tests}
 use Rattle.kube_objects.specs.declared.call.Reply.{Reply}
 use Rattle.kube_objects.specs.declared.call.Request.{Request}
@@ -126,10 +126,3 @@ pub round-delivered : (q : Identity) (h : List Entry) (k : ℕ) (call : Call) (a
 round-delivered q h k call answered =
     ap (λ b. or_else false (said (when (ends_round call.request answered && (true && b)) false) (last_round q h))) (mine q)
     ∙ ends (ends_round call.request answered) (last_round q h)
-
-stays : (over : Bool) (before : Option Bool) → or_else false (said (when (over && false) false) before) ≡ or_else false before
-stays true before = refl
-stays false before = refl
-
-pub round-uncounted : (q : Identity) (h : List Entry) (k : ℕ) (call : Call) (answered : Reply) → has_round q (entry k 3 q (Delivers call answered false) ∷ h) ≡ has_round q h
-round-uncounted q h k call answered = stays (ends_round call.request answered) (last_round q h)

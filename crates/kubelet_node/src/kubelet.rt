@@ -86,13 +86,7 @@ impl Kubelet {
     /// A reply, and what follows it. Only one to the call that waits, with its number and within its timeout, counts. A post is
     /// followed by the Get of the Lease, whatever the reply; the Get by a Create where the Lease is absent and by an Update of the
     /// version found. None where nothing is sent.
-    pub fn on_reply(
-        &mut self,
-        number: u64,
-        reply: Reply,
-        now: Local,
-        wall: Wall,
-    ) -> Option<Ask>
+    pub fn on_reply(&mut self, number: u64, reply: Reply, now: Local, wall: Wall) -> Option<Ask>
         requires now { now.0 ≤ most_local }
         ensures stays { counts_in self.old number now.0 ≡ false → (result ≡ None) × (self.new ≡ self.old) }
         ensures takes { (w : Wait) → counts_in self.old number now.0 ≡ true → waiting_of self.old.waiting ≡ Some w

@@ -8,6 +8,7 @@ use kube_objects::{Ask, Holder, Key, Kind, Lease, ReadyStatus, Reply, Request};
 use std::process::Abort;
 
 const NODE: u32 = 20;
+
 const TIMEOUT: u64 = 2_000_000_000_000;
 
 const LEASE: Key = Key {

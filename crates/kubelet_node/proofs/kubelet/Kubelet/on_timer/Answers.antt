@@ -1,4 +1,4 @@
-use Rattle.std.proofs.Common.{◌≡◌, ◌∙◌, ◌+◌, ◌<◌, ◌^◌, sym, subst}
+use Rattle.std.proofs.Common.{◌∙◌, ◌+◌, ◌<◌, ◌^◌, sym, subst}
 use Rattle.kube_objects.specs.Process.{begun, call_in}
 use Rattle.kubelet_node.specs.Moves.{expired}
 use Rattle.kubelet_node.proofs.Rounds.{begun-expiry, status-expiry}
