@@ -1,0 +1,163 @@
+-- A kubelet after each step of a round.
+use Rattle.std.proofs.Common.{◌≡◌, ◌∙◌, ℕ, ◌+◌, ◌&&◌, ◌||◌, not, Bool, true, false, cond, List, ◌∷◌, Option, Some, None, refl, sym, ap, subst}
+use Rattle.kube_objects.specs.declared.call.Ask.{Ask}
+use Rattle.kube_objects.specs.declared.call.Reply.{Reply}
+use Rattle.kube_objects.specs.declared.call.Reply.TheVariants as reply
+use Rattle.kube_objects.specs.declared.call.Request.{Request}
+use Rattle.kube_objects.specs.declared.call.Request.TheVariants.{Get, Create, Update, PostStatus}
+use Rattle.kube_objects.specs.declared.call_slot.CallSlot.{CallSlot}
+use Rattle.kube_objects.specs.CallSlots.{CallSlotStands, is_late_call}
+use Rattle.kube_objects.specs.Clocks.{local}
+use Rattle.kube_objects.specs.Document.{Doc}
+use Rattle.kube_objects.specs.Entry.{Call, Entry, Expires, Identity, Plain, Sends, entry}
+use Rattle.kube_objects.specs.InForce.{posted_status}
+use Rattle.kube_objects.specs.Kubelet.{ends_round, has_round, is_post, next_request, round_period, round_timer}
+use Rattle.kube_objects.specs.Newest.{has, only_if, when}
+use Rattle.kube_objects.specs.Process.{answered_call, begun, call_in, counted, is_late}
+use Rattle.kube_objects.specs.Turns.{expire_as, expire_call}
+use Rattle.kube_objects.specs.Wire.{next_call}
+use Rattle.kubelet_node.specs.declared.kubelet.Kubelet.{Kubelet}
+use Rattle.kubelet_node.specs.declared.waiting.Waiting.{Waiting}
+use Rattle.kubelet_node.specs.Moves.{Asked, Expired, delivered, expired}
+use Rattle.kubelet_node.specs.Plain.{is_post_wait}
+use Rattle.kubelet_node.specs.Stands.{CallStands, KubeletStands, Wait, waiting_in, waiting_of}
+use Rattle.kubelet_node.proofs.Own.{call_in-delivered, call_in-expired, call_in-sent, post_expired, round-delivered, round-expired, round-sent, settled-no_post, settled-own, timer-sent}
+
+-- a reply that counts, counts for the call that waits
+pub counted-call : (doc : Doc) (q : Identity) (k number : ℕ) (h : List Entry) (call : Call) → counted doc q k number h ≡ Some call → call_in q h ≡ Some call
+counted-call doc q k number h call is = by_life _ (call_in q h) is
+  where
+    by_test : (b : Bool) (x : Call) → when b x ≡ Some call → Some x ≡ Some call
+    by_test true x is = is
+    by_test false x is = cc
+
+    by_call : (c : Option Call) → answered_call doc q k number c ≡ Some call → c ≡ Some call
+    by_call None is = cc
+    by_call (Some x) is = by_test _ x is
+
+    by_life : (b : Bool) (c : Option Call) → only_if b (answered_call doc q k number c) ≡ Some call → c ≡ Some call
+    by_life true c is = by_call c is
+    by_life false c is = cc
+
+pub counted-accepts : (doc : Doc) (q : Identity) (k number : ℕ) (h : List Entry) (call : Call) → counted doc q k number h ≡ Some call → has (answered_call doc q k number (call_in q h)) ≡ true
+counted-accepts doc q k number h call is = by_life _ (answered_call doc q k number (call_in q h)) is
+  where
+    by_life : (b : Bool) (c : Option Call) → only_if b c ≡ Some call → has c ≡ true
+    by_life true c is = ap has is
+    by_life false c is = absurd (cc)
+
+abbrev request_in : Request → Option Wait → Request
+request_in request None = request
+request_in request (Some w) = w.request
+
+-- what waits in the kubelet is what the call that waits asked
+pub request-waiting : (doc : Doc) (q : Identity) (w : Waiting) (call : Call) → waiting_of (Some w) ≡ waiting_in doc q (Some call) → w.request ≡ call.request
+request-waiting doc q w call is = ap (request_in call.request) is
+
+-- ---- the expiry of a turn
+
+module _ (doc : Doc) (k : ℕ) (q : Identity) (h : List Entry) where
+  -- without a late call nothing happens
+  pub none_late : (c : Option Call) → is_late_call doc q k c ≡ false → expire_call doc k q c h ≡ h
+  none_late None is = refl
+  none_late (Some call) is = ap (λ b. expire_as k q call b h) is
+
+  begun_as : (call : Call) (b : Bool) → begun q (expire_as k q call b h) ≡ begun q h
+  begun_as call true = refl
+  begun_as call false = refl
+
+  pub begun-expiry : (c : Option Call) → begun q (expire_call doc k q c h) ≡ begun q h
+  begun-expiry None = refl
+  begun-expiry (Some call) = begun_as call (is_late doc q k call)
+
+  status_as : (call : Call) (b : Bool) → posted_status doc q.process (expire_as k q call b h) ≡ posted_status doc q.process h
+  status_as call true = refl
+  status_as call false = refl
+
+  pub status-expiry : (c : Option Call) → posted_status doc q.process (expire_call doc k q c h) ≡ posted_status doc q.process h
+  status-expiry None = refl
+  status-expiry (Some call) = status_as call (is_late doc q k call)
+
+  pub expired-none : (x : Kubelet) → KubeletStands doc q h x → is_late_call doc q k (call_in q h) ≡ false → Expired doc k q (expired doc k q h) x false
+  expired-none x s late =
+      subst (λ T. Expired doc k q T x false) (sym (none_late (call_in q h) late))
+      (record { call = s.call; timer = s.timer; runs = s.runs; posts = s.settled k; settled = λ is. s.settled })
+
+  runs_on : (post : Bool) → (post && true) ≡ (post || false)
+  runs_on true = refl
+  runs_on false = refl
+
+  expiry_of : (call : Call) (x : Kubelet) (slot : CallSlot) (posted : Bool) → KubeletStands doc q h x → call_in q h ≡ Some call → CallSlotStands doc q (entry k 4 q (Expires call) ∷ h) slot
+      → posted ≡ is_post_wait (waiting_of x.waiting) → Expired doc k q (entry k 4 q (Expires call) ∷ h) (record x { slot = slot; waiting = None }) posted
+  expiry_of call x slot posted s is free posted_is =
+      let post_is : posted ≡ is_post call.request = posted_is ∙ ap is_post_wait (s.call.waiting ∙ ap (waiting_in doc q) is) in
+      let gone = call_in-expired q h k 4 call in
+      record {
+        call = record {
+          node = s.call.node;
+          incarnation = s.call.incarnation;
+          lease = s.call.lease;
+          timeout = s.call.timeout;
+          slot = free;
+          waiting = sym (ap (waiting_in doc q) gone);
+        };
+        timer = s.timer;
+        runs = round-expired q h k 4 call ∙ (λ i. is_post call.request && (s.runs ∙ ap has is) i) ∙ runs_on (is_post call.request) ∙ sym (λ i. post_is i || has (gone i));
+        posts = post_expired q h k 4 call ∙ sym post_is;
+        settled = λ none. settled-no_post q h k 4 call (sym post_is ∙ none);
+      }
+
+  pub expired-late : (c : Option Call) (x : Kubelet) (slot : CallSlot) (posted : Bool) → KubeletStands doc q h x → call_in q h ≡ c → is_late_call doc q k c ≡ true
+      → ((call : Call) → CallSlotStands doc q (entry k 4 q (Expires call) ∷ h) slot) → posted ≡ is_post_wait (waiting_of x.waiting)
+      → Expired doc k q (expire_call doc k q c h) (record x { slot = slot; waiting = None }) posted
+  expired-late None x slot posted s is late free posted_is = absurd (cc)
+  expired-late (Some call) x slot posted s is late free posted_is =
+      subst (λ T. Expired doc k q T (record x { slot = slot; waiting = None }) posted) (sym (ap (λ b. expire_as k q call b h) late)) (expiry_of call x slot posted s is (free call) posted_is)
+
+-- ---- a call begins
+
+-- a request of a round, whose timer moves where it is a post
+pub asked-stands : (doc : Doc) (k step : ℕ) (q : Identity) (h next : List Entry) (x : Kubelet) (ask : Ask) → Asked k step q h next (λ T. CallStands doc q T x) ask
+    → x.timer.0 ≡ cond (is_post ask.request) (local doc q.process k + round_period doc) (round_timer doc q h) → (is_post ask.request || has_round q h) ≡ true
+    → Asked k step q h next (λ T. KubeletStands doc q T x) ask
+asked-stands doc k step q h next x ask a timer runs =
+    record {
+      sent = a.sent;
+      number = a.number;
+      stands = λ arrives. record {
+        call = a.stands arrives;
+        timer = timer ∙ sym (timer-sent q h k step ask.request arrives doc);
+        runs = round-sent q h k step ask.request arrives ∙ runs ∙ sym (ap has (call_in-sent q h k step ask.request arrives));
+        settled = settled-own q h k step (Sends (next_call q k Plain ask.request h) arrives) (λ n. refl);
+      };
+    }
+
+-- ---- a reply
+
+-- where something follows the round goes on
+pub not_over : (doc : Doc) (q : Identity) (k : ℕ) (request next : Request) (answered : Reply) → next_request doc q k request answered ≡ Some next → ends_round request answered ≡ false
+not_over doc q k (PostStatus name status at) next answered is = refl
+not_over doc q k (Get key) next (reply.Found version lease) is = refl
+not_over doc q k (Get key) next reply.Absent is = refl
+not_over doc q k (Get key) next (reply.Done version) is = absurd (cc)
+not_over doc q k (Get key) next reply.Exists is = absurd (cc)
+not_over doc q k (Get key) next (reply.Conflict version) is = absurd (cc)
+not_over doc q k (Get key) next reply.Unchanged is = absurd (cc)
+not_over doc q k (Create key lease) next answered is = absurd (cc)
+not_over doc q k (Update key given lease) next answered is = absurd (cc)
+
+module _ (doc : Doc) (k : ℕ) (q : Identity) (call : Call) (answered : Reply) (h : List Entry) where
+  pub call-delivered : (x : Kubelet) (slot : CallSlot) → CallStands doc q h x → CallSlotStands doc q (delivered k q call answered h) slot → CallStands doc q (delivered k q call answered h) (record x { slot = slot; waiting = None })
+  call-delivered x slot s free =
+      record {
+        node = s.node;
+        incarnation = s.incarnation;
+        lease = s.lease;
+        timeout = s.timeout;
+        slot = free;
+        waiting = sym (ap (waiting_in doc q) (call_in-delivered q h k call answered));
+      }
+
+  -- the round goes on
+  pub runs-delivered : (next : Request) → has_round q h ≡ has (call_in q h) → call_in q h ≡ Some call → next_request doc q k call.request answered ≡ Some next → has_round q (delivered k q call answered h) ≡ true
+  runs-delivered next runs waits some = round-delivered q h k call answered ∙ (λ i. not (not_over doc q k call.request next answered some i) && (runs ∙ ap has waits) i)

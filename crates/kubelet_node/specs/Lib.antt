@@ -1,0 +1,4 @@
+pub mod Moves
+pub mod Plain
+pub mod Requests
+pub mod Stands
