@@ -1,0 +1,4 @@
+pub mod Frames
+pub mod Looks
+pub mod Nodes
+pub mod Searches
