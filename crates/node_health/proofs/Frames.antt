@@ -11,7 +11,7 @@ use Rattle.kube_objects.specs.Newest.{join, only_if, or_else, or_zero, when}
 use Rattle.node_health.specs.declared.health.Health.{Health}
 use Rattle.node_health.specs.declared.known.Known.{Known}
 use Rattle.node_health.specs.Kept.{kept}
-use Rattle.node_health.specs.Stands.{HealthStands, NodeStands, is_of_health}
+use Rattle.node_health.specs.Stands.{HealthStands, NodeStands, PassStands, is_of_health, passed}
 use Rattle.node_health.proofs.Looks.{finds, heartbeats, probes, renewals, said}
 
 -- an entry after which each node is known as before
@@ -80,3 +80,9 @@ unheard-foreign q h e other = quiet q h e (λ A f. by_deed f e.deed) (λ name. u
     unprobed name (Ticks Pass) = ap (λ b. b && hears q name h) other
     unprobed name (Ticks (Mode false)) = other
     unprobed name _ = refl
+
+-- ---- nodes that a pass has looked at, by another test
+
+pub pass-same : (doc : Doc) (k : ℕ) (q : Identity) (h : List Entry) (looked other : ℕ → Bool) (x : Health) → ((name : ℕ) → looked name ≡ other name)
+    → PassStands doc k q h looked x → PassStands doc k q h other x
+pass-same doc k q h looked other x same s name = subst (λ b. NodeStands doc q (passed k q b h) name (kept x name)) (same name) (s name)

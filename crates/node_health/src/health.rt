@@ -71,10 +71,7 @@ impl Health {
             → OnOk result (PassStands doc k q h (and_looked node looked) self.new) }
     {
         let probe = self.hear(node, heartbeat_of(seen.ready), renewed, now)?;
-        Ok(judge(
-            seen.ready,
-            is_silent(probe, grace.of(seen.ready), now),
-        ))
+        Ok(judge(seen.ready, is_silent(probe, grace.of(seen.ready), now)))
     }
 
     /// Forgets each known node that isn't in the list, which ascends. Takes no memory.
