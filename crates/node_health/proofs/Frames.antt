@@ -1,0 +1,88 @@
+-- Entries through which the health of nodes stands: those of another actor, and those of a kind that it doesn't look at.
+use Rattle.std.proofs.Common.{rules, ◌≡◌, ◌∙◌, ◌&&◌, ◌+◌, ℕ, not, Bool, true, false, nat_lt, List, ◌∷◌, Option, Some, None, refl, sym, ap, subst}
+use Rattle.kube_base.specs.declared.numbers.Wall.{Wall}
+use Rattle.kube_objects.specs.declared.node.Node.{Node}
+use Rattle.kube_objects.specs.Clocks.{local, wall, whole_second}
+use Rattle.kube_objects.specs.Document.{Doc}
+use Rattle.kube_objects.specs.Entry.{Deed, Entry, Identity, Mode, Pass, Ticks}
+use Rattle.kube_objects.specs.Health.{at_pass, grace_of, hears, heartbeat, is_found, is_known, is_probe, is_unknown, keeps, kept_heartbeat, kept_renewal, mark_of, probe, renewal, with_mark}
+use Rattle.kube_objects.specs.Identities.{is_by}
+use Rattle.kube_objects.specs.Newest.{join, only_if, or_else, or_zero, when}
+use Rattle.node_health.specs.declared.health.Health.{Health}
+use Rattle.node_health.specs.declared.known.Known.{Known}
+use Rattle.node_health.specs.Kept.{kept}
+use Rattle.node_health.specs.Stands.{HealthStands, NodeStands, PassStands, is_of_health, passed}
+use Rattle.node_health.proofs.Looks.{finds, heartbeats, probes, renewals, said}
+
+-- an entry after which each node is known as before
+pub record IsUnheard (q : Identity) (h : List Entry) (e : Entry) : Type 0 where
+  pub known : (name : ℕ) → is_known q name (e ∷ h) ≡ is_known q name h
+  pub heartbeat : (name : ℕ) → kept_heartbeat q name (e ∷ h) ≡ kept_heartbeat q name h
+  pub renewal : (name : ℕ) → kept_renewal q name (e ∷ h) ≡ kept_renewal q name h
+  pub probe : (name : ℕ) → probe q name (e ∷ h) ≡ probe q name h
+
+-- ---- what stands through such an entry
+
+node-beside : (doc : Doc) (q : Identity) (h : List Entry) (e : Entry) (name : ℕ) (x : Option Known) → IsUnheard q h e → NodeStands doc q h name x → NodeStands doc q (e ∷ h) name x
+node-beside doc q h e name None u s =
+    record { known = s.known ∙ sym (u.known name); heartbeat = s.heartbeat ∙ sym (u.heartbeat name); renewal = s.renewal ∙ sym (u.renewal name); probe = tt }
+node-beside doc q h e name (Some known) u s =
+    record {
+      known = s.known ∙ sym (u.known name);
+      heartbeat = s.heartbeat ∙ sym (u.heartbeat name);
+      renewal = s.renewal ∙ sym (u.renewal name);
+      probe = s.probe ∙ ap (local doc q.process) (sym (u.probe name));
+    }
+
+pub health-beside : (doc : Doc) (q : Identity) (h : List Entry) (e : Entry) (x : Health) → IsUnheard q h e → HealthStands doc q h x → HealthStands doc q (e ∷ h) x
+health-beside doc q h e x u s name = node-beside doc q h e name (kept x name) u (s name)
+
+-- a node is to be marked as before
+pub mark-beside : (doc : Doc) (q : Identity) (h : List Entry) (e : Entry) (k name : ℕ) (node : Node) → IsUnheard q h e → mark_of doc q k name node (e ∷ h) ≡ mark_of doc q k name node h
+mark-beside doc q h e k name node u =
+    ap (λ at. when (not (is_unknown node.ready) && nat_lt (local doc q.process at + grace_of doc node.ready) (local doc q.process k)) (with_mark (whole_second (wall doc q.process k)) node))
+    (u.probe name)
+
+-- ---- such entries
+
+quiet : (q : Identity) (h : List Entry) (e : Entry) → ((A : Type 0) (f : List Entry → Option A) → at_pass q f e.actor e.deed h ≡ None)
+    → ((name : ℕ) → is_probe q name e.actor e.deed h ≡ false) → IsUnheard q h e
+quiet q h e unpassed unprobed =
+    record {
+      known = λ name. ap (λ o. or_else false (said o (finds q name h))) (unpassed Bool (λ T. Some (is_found q name T)));
+      heartbeat = λ name. ap (λ o. join (said o (heartbeats q name h))) (unpassed (Option Wall) (λ T. keeps (is_found q name T) (heartbeat q name T)));
+      renewal = λ name. ap (λ o. join (said o (renewals q name h))) (unpassed (Option Wall) (λ T. keeps (is_found q name T) (renewal q name T)));
+      probe = λ name. ap (λ b. or_zero (said (when b e.beat) (probes q name h))) (unprobed name);
+    }
+
+-- an entry of a kind that isn't looked at
+pub unheard-kind : (q : Identity) (h : List Entry) (e : Entry) → is_of_health e.deed ≡ false → IsUnheard q h e
+unheard-kind q h e other = quiet q h e (λ A f. by_deed f e.deed other) (λ name. unprobed name e.deed other)
+  where
+    by_deed : {A : Type 0} (f : List Entry → Option A) (d : Deed) → is_of_health d ≡ false → at_pass q f e.actor d h ≡ None
+    by_deed f (Ticks Pass) other = absurd (search (rules, other))
+    by_deed f _ other = refl
+
+    unprobed : (name : ℕ) (d : Deed) → is_of_health d ≡ false → is_probe q name e.actor d h ≡ false
+    unprobed name (Ticks Pass) other = absurd (search (rules, other))
+    unprobed name (Ticks (Mode false)) other = absurd (search (rules, other))
+    unprobed name _ other = refl
+
+-- an entry of another actor
+pub unheard-foreign : (q : Identity) (h : List Entry) (e : Entry) → is_by q e.actor ≡ false → IsUnheard q h e
+unheard-foreign q h e other = quiet q h e (λ A f. by_deed f e.deed) (λ name. unprobed name e.deed)
+  where
+    by_deed : {A : Type 0} (f : List Entry → Option A) (d : Deed) → at_pass q f e.actor d h ≡ None
+    by_deed f (Ticks Pass) = ap (λ b. only_if b (f h)) other
+    by_deed f _ = refl
+
+    unprobed : (name : ℕ) (d : Deed) → is_probe q name e.actor d h ≡ false
+    unprobed name (Ticks Pass) = ap (λ b. b && hears q name h) other
+    unprobed name (Ticks (Mode false)) = other
+    unprobed name _ = refl
+
+-- ---- nodes that a pass has looked at, by another test
+
+pub pass-same : (doc : Doc) (k : ℕ) (q : Identity) (h : List Entry) (looked other : ℕ → Bool) (x : Health) → ((name : ℕ) → looked name ≡ other name)
+    → PassStands doc k q h looked x → PassStands doc k q h other x
+pass-same doc k q h looked other x same s name = subst (λ b. NodeStands doc q (passed k q b h) name (kept x name)) (same name) (s name)

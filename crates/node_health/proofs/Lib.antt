@@ -1,0 +1,5 @@
+pub mod Frames
+pub mod Looks
+pub mod Nodes
+pub mod Searches
+pub mod Verdicts

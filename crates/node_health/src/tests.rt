@@ -1,0 +1,95 @@
+use super::*;
+use kube_base::{Local, NODE_STATUS_NEVER_UPDATED, NODE_STATUS_UNKNOWN, Wall};
+use kube_objects::{Node, NumberList, Ready, ReadyStatus, Taints};
+use std::alloc::Global;
+use std::test::Fail;
+
+const GRACE: Grace = Grace {
+    grace: 40,
+    startup: 60,
+};
+
+fn ready(status: ReadyStatus, heartbeat: u64) -> Option<Ready> {
+    Some(Ready {
+        status,
+        reason: 0,
+        heartbeat: at(heartbeat),
+        transition: None,
+    })
+}
+
+// 0 stands for a time that is missing
+fn at(time: u64) -> Option<Wall> {
+    match time {
+        0 => None,
+        _ => Some(Wall(time)),
+    }
+}
+
+fn node(alloc: Global, ready: Option<Ready>) -> Node {
+    Node {
+        region: 0,
+        zone: 0,
+        taints: Taints::new(alloc),
+        ready,
+    }
+}
+
+#[test]
+fn a_node_is_heard_of_by_its_times_and_marked_after_its_grace(rt: HostRuntime) -> Result<(), Fail> {
+    let mut health = Health::new(rt.alloc());
+    assert_eq!(rt; health.probe(10), None);
+    let (yes, unknown) = (ReadyStatus::True, ReadyStatus::Unknown);
+    let mark = Verdict::MarkUnknown(NODE_STATUS_UNKNOWN);
+    // Ready, the renew time of the Lease, the reading, the verdict, and the probe
+    let table = [
+        (ready(yes, 100), 0, 7, Verdict::Keep, 7),
+        (ready(yes, 100), 0, 47, Verdict::Keep, 7),
+        (ready(yes, 100), 0, 48, mark, 7),
+        (ready(unknown, 100), 0, 49, Verdict::Keep, 7),
+        (ready(yes, 90), 0, 50, Verdict::Keep, 50),
+        (ready(yes, 0), 0, 51, Verdict::Keep, 50),
+        (ready(yes, 90), 0, 52, Verdict::Keep, 50),
+        (ready(yes, 90), 5, 60, Verdict::Keep, 60),
+        (ready(yes, 90), 0, 61, Verdict::Keep, 60),
+        (ready(yes, 90), 4, 62, Verdict::Keep, 60),
+        (ready(yes, 90), 5, 63, Verdict::Keep, 63),
+        (None, 5, 123, Verdict::Keep, 63),
+        (
+            None,
+            5,
+            124,
+            Verdict::MarkUnknown(NODE_STATUS_NEVER_UPDATED),
+            63,
+        ),
+    ];
+    for (ready, renewed, now, verdict, probe) in table {
+        let seen = node(rt.alloc(), ready);
+        let told = health.look(10, &seen, at(renewed), Local(now), &GRACE)?;
+        assert_eq!(rt; told, verdict);
+        assert_eq!(rt; health.probe(10), Some(Local(probe)));
+    }
+    Ok(())
+}
+
+#[test]
+fn nodes_are_forgotten_and_heard_of_again(rt: HostRuntime) -> Result<(), Fail> {
+    let mut health = Health::new(rt.alloc());
+    let seen = node(rt.alloc(), ready(ReadyStatus::True, 100));
+    for name in [10, 11, 12] {
+        assert_eq!(rt;
+            health.look(name, &seen, None, Local(7), &GRACE)?,
+            Verdict::Keep
+        );
+    }
+    let mut found = NumberList::new(rt.alloc());
+    found.push(11)?;
+    health.forget_others(&found);
+    health.reset_probes(Local(9));
+    // the name, and the probe
+    let table = [(10, None), (11, Some(Local(9))), (12, None)];
+    for (name, probe) in table {
+        assert_eq!(rt; health.probe(name), probe);
+    }
+    Ok(())
+}
