@@ -18,3 +18,5 @@ pub mod Beats
 pub mod Happening
 pub mod Ticking
 pub mod Quiet
+-- ---- what can be written
+pub mod Writing

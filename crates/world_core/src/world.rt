@@ -1,12 +1,14 @@
 // The world of a document, which does one beat at a time.
-ghost use Rattle.std.specs.Prelude.{◌≡◌, ◌+◌, ◌<◌, ◌≤◌, ◌++◌, ℕ, List, true, IfOk, IsTrue, ◌↔◌};
+ghost use Rattle.std.specs.Prelude.{◌≡◌, ◌+◌, ◌<◌, ◌≤◌, ◌++◌, ℕ, List, true, length, IfOk, IsTrue, ◌↔◌};
+ghost use Rattle.std.specs.List.{AllByRecursion};
 ghost use Rattle.std.specs.List.Sorted.{IsStrictlySortedBy};
 ghost use Rattle.std.specs.Map.{keys_of, lookup};
 ghost use Rattle.kube_objects.specs.declared.key.Key.{Key};
-ghost use Rattle.kube_objects.specs.Document.{Doc};
+ghost use Rattle.kube_objects.specs.Document.{Doc, processes, end_beat};
 ghost use Rattle.kube_objects.specs.Entry.{Entry};
 ghost use Rattle.kube_objects.specs.Keys.{key_cmp, key_eq};
 ghost use Rattle.kube_objects.specs.Stored.{stored};
+ghost use Rattle.kube_objects.specs.Writable.{IsWritable};
 ghost use Rattle.history.specs.History.{history, beat};
 ghost use Rattle.history.specs.Printed.{printed};
 ghost use Rattle.object_store.specs.StoreAnswers.{object_of};
@@ -14,7 +16,7 @@ ghost use Rattle.script_reader.specs.Documents.{doc_of};
 ghost use Rattle.script_reader.specs.Lawful.{IsLawfulDoc};
 ghost use Rattle.world_core.specs.Forms.{is_run};
 ghost use Rattle.world_process.specs.Plain.{IsFew};
-ghost use Rattle.world_core.specs.Worlds.{IsReady, Skipped, WorldStands, at_of, end_of, names_of};
+ghost use Rattle.world_core.specs.Worlds.{AreWritable, IsOwn, IsReady, Skipped, WorldStands, at_of, end_of, names_of};
 
 use crate::state::State;
 use kube_base::{Beat, Names, NoMemory};
@@ -55,7 +57,11 @@ impl World {
         ensures ascend { IfOk result (λ items. IsStrictlySortedBy key_cmp (keys_of items)) }
         ensures stored { (doc : Doc) (k : ℕ) (h : List Entry) (key : Key) → WorldStands doc k h self.now
             → IfOk result (λ items. lookup (key_eq key) items ≡ object_of (stored key h)) }
+        ensures writable { (doc : Doc) (k : ℕ) → IsOwn doc self.now → WorldStands doc k (history doc k) self.now → k ≤ end_beat doc + 1
+            → IfOk result (AreWritable (names_of self.now) (length doc.controllers)) }
     {
+        // The names hold what every list of names does.
+        let _held = self.state.names().len();
         self.state.objects()
     }
 
@@ -81,7 +87,11 @@ impl World {
             × (names_of r.0 ≡ names_of self)) }
         ensures stands { (doc : Doc) (k : ℕ) (h : List Entry) → IsFew (beat doc h k) → WorldStands doc k h self
             → IfOk result (λ r. WorldStands doc (k + 1) (beat doc h k) r.0 × (printed h ++ r.1 ≡ printed (beat doc h k))) }
+        ensures writable { (doc : Doc) (k : ℕ) → IsOwn doc self → WorldStands doc k (history doc k) self → k ≤ end_beat doc
+            → IfOk result (λ r. AllByRecursion (IsWritable (names_of self) (processes doc)) r.1) }
     {
+        // The names hold what every list of names does.
+        let _held = self.state.names().len();
         let deeds = self.state.beat()?;
         Ok((self, deeds))
     }
