@@ -18,5 +18,7 @@ pub mod Beats
 pub mod Happening
 pub mod Ticking
 pub mod Quiet
+-- ---- tests
+pub mod Apart
 -- ---- what can be written
 pub mod Writing

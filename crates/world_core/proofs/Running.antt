@@ -6,7 +6,7 @@ use Rattle.kube_objects.specs.declared.deed.Deed as deed
 use Rattle.kube_objects.specs.Answers.{answer, written}
 use Rattle.kube_objects.specs.declared.deed.Act.TheVariants as act
 use Rattle.kube_objects.specs.Document.{Doc, processes, is_up_first}
-use Rattle.kube_objects.specs.Entry.{Entry, Identity, Call, CallKind, Sends, Answers, Delivers, entry, actor_of}
+use Rattle.kube_objects.specs.Entry.{Entry, Identity, CallKind, Sends, Answers, Delivers, entry, actor_of}
 use Rattle.kube_objects.specs.Identities.{identity}
 use Rattle.kube_objects.specs.Process.{starts}
 use Rattle.kube_objects.specs.Wire.{Sent, Back, send, next_call, request_arrival, reply_arrival}

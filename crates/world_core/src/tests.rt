@@ -1,7 +1,7 @@
 // Documents of one or two controllers, by what they print. A beat is 100 ms, and durations are the defaults.
 ghost use Rattle.std.specs.Prelude.{◌≤◌, ◌≡◌, IfOk, All, length};
 ghost use Rattle.script_reader.specs.Documents.{doc_of};
-ghost use Rattle.script_reader.specs.Lawful.{AreLawful, IsLawful, IsLawfulDoc};
+ghost use Rattle.script_reader.specs.Lawful.{AreLawful, AreNamedApart, IsLawful, IsLawfulDoc};
 ghost use Rattle.world_core.specs.Worlds.{IsReady, at_of, end_of};
 
 use super::*;
@@ -50,7 +50,8 @@ fn settings(end: u8, fast_renew: bool) -> Settings
 fn controller(name: u32, rate_ppm: u32, up: bool) -> Proc
     requires least { 500000 ≤ rate_ppm }
     requires most { rate_ppm ≤ 2000000 }
-    ensures { IsLawful result }
+    ensures lawful { IsLawful result }
+    ensures name { result.name ≡ name }
 {
     Proc {
         name,
@@ -72,6 +73,7 @@ fn document(alloc: Global, settings: Settings, controllers: Procs) -> Result<Doc
     requires controllers { All IsLawful controllers }
     requires some { 1 ≤ length controllers }
     requires few { length controllers ≤ 16 }
+    requires apart { AreNamedApart controllers }
     ensures { IfOk result (λ d. IsLawfulDoc (doc_of d)) }
 {
     Ok(Document {

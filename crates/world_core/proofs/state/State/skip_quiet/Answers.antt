@@ -1,7 +1,7 @@
 use Rattle.std.proofs.Common.{◌≡◌, ℕ, ◌<◌, ◌≤◌, drop, sym, ap, ◌∙◌, subst, arith}
 use Rattle.kube_objects.specs.InFlight.{requests_due, replies_due}
 use Rattle.script_reader.specs.Lawful.{AreLawfulFrom}
-use Rattle.world_core.specs.States.{AreSilent, IsPlaced}
+use Rattle.world_core.specs.States.{IsPlaced}
 use Rattle.world_core.proofs.Quiet.{OnlyTicks, events-skip, lawful-below, placed-skips, silent-below, skipped, skipped-none}
 use Rattle.world_core.proofs.state.State.skip_quiet.Goals as goal
 

@@ -1,6 +1,5 @@
 use Rattle.std.proofs.Common.{sym, ap, ◌∙◌, subst}
 use Rattle.kube_base.specs.Names.{AreNames}
-use Rattle.kube_objects.specs.Document.{Doc}
 use Rattle.history.specs.History.{history}
 use Rattle.world_core.proofs.Writing.{lawful-few, beat-writable}
 use Rattle.world_core.specs.States.{StateStands}
