@@ -6,14 +6,15 @@ ghost use Rattle.kube_objects.specs.Document.{Doc, call_timeout};
 ghost use Rattle.kube_objects.specs.Entry.{Call, Delivers, Entry, Identity, Plain, Starts, entry};
 ghost use Rattle.kube_objects.specs.InForce.{posted_status};
 ghost use Rattle.kube_objects.specs.Kinds.{keeps_kind};
-ghost use Rattle.kube_objects.specs.Kubelet.{heartbeat_lease, is_post, next_request, node_of, round, round_timer};
+ghost use Rattle.kube_objects.specs.Kubelet.{is_post, next_request, node_of, round, round_timer};
 ghost use Rattle.kube_objects.specs.Process.{alive, begun, call_in, counted};
 ghost use Rattle.kube_objects.specs.Stored.{node_lease};
 ghost use Rattle.kube_objects.specs.Wire.{send};
 ghost use Rattle.kubelet_node.specs.Moves.{Asked, Expired, IsLeast, Moved, delivered, expired, followed, turned, wake_from};
 ghost use Rattle.kubelet_node.specs.Plain.{BeginsCall, IsSame, TakesReply, after_expiry, after_round, asked_of, counts_in};
+ghost use Rattle.kubelet_node.specs.Plain.{found_at, has_lost_post, heartbeat_at, is_post_wait, kept_of, next_at};
+ghost use Rattle.kubelet_node.specs.Plain.{numbered, round_in, wake_in};
 ghost use Rattle.kubelet_node.specs.Requests.{gets_lease};
-ghost use Rattle.kubelet_node.specs.Plain.{found_at, has_lost_post, heartbeat_at, is_post_wait, kept_of, next_at, numbered, round_in, wake_in};
 ghost use Rattle.kubelet_node.specs.Stands.{CallStands, KubeletStands, Wait, waiting_of};
 
 use crate::timing::Timing;
