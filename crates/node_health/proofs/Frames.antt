@@ -14,39 +14,52 @@ use Rattle.node_health.specs.Kept.{kept}
 use Rattle.node_health.specs.Stands.{HealthStands, NodeStands, PassStands, is_of_health, passed}
 use Rattle.node_health.proofs.Looks.{finds, heartbeats, probes, renewals, said}
 
--- an entry after which each node is known as before
-pub record IsUnheard (q : Identity) (h : List Entry) (e : Entry) : Type 0 where
-  pub known : (name : ℕ) → is_known q name (e ∷ h) ≡ is_known q name h
-  pub heartbeat : (name : ℕ) → kept_heartbeat q name (e ∷ h) ≡ kept_heartbeat q name h
-  pub renewal : (name : ℕ) → kept_renewal q name (e ∷ h) ≡ kept_renewal q name h
-  pub probe : (name : ℕ) → probe q name (e ∷ h) ≡ probe q name h
+-- two histories that say the same of each node, the first of them the earlier one
+pub record SaysSame (q : Identity) (h g : List Entry) : Type 0 where
+  pub known : (name : ℕ) → is_known q name g ≡ is_known q name h
+  pub heartbeat : (name : ℕ) → kept_heartbeat q name g ≡ kept_heartbeat q name h
+  pub renewal : (name : ℕ) → kept_renewal q name g ≡ kept_renewal q name h
+  pub probe : (name : ℕ) → probe q name g ≡ probe q name h
 
--- ---- what stands through such an entry
+pub says-same : (q : Identity) (h : List Entry) → SaysSame q h h
+says-same q h = record { known = λ name. refl; heartbeat = λ name. refl; renewal = λ name. refl; probe = λ name. refl }
 
-node-beside : (doc : Doc) (q : Identity) (h : List Entry) (e : Entry) (name : ℕ) (x : Option Known) → IsUnheard q h e → NodeStands doc q h name x → NodeStands doc q (e ∷ h) name x
-node-beside doc q h e name None u s =
-    record { known = s.known ∙ sym (u.known name); heartbeat = s.heartbeat ∙ sym (u.heartbeat name); renewal = s.renewal ∙ sym (u.renewal name); probe = tt }
-node-beside doc q h e name (Some known) u s =
+-- one after the other
+pub says-then : (q : Identity) (h g i : List Entry) → SaysSame q h g → SaysSame q g i → SaysSame q h i
+says-then q h g i s t =
     record {
-      known = s.known ∙ sym (u.known name);
-      heartbeat = s.heartbeat ∙ sym (u.heartbeat name);
-      renewal = s.renewal ∙ sym (u.renewal name);
-      probe = s.probe ∙ ap (local doc q.process) (sym (u.probe name));
+      known = λ name. t.known name ∙ s.known name;
+      heartbeat = λ name. t.heartbeat name ∙ s.heartbeat name;
+      renewal = λ name. t.renewal name ∙ s.renewal name;
+      probe = λ name. t.probe name ∙ s.probe name;
     }
 
-pub health-beside : (doc : Doc) (q : Identity) (h : List Entry) (e : Entry) (x : Health) → IsUnheard q h e → HealthStands doc q h x → HealthStands doc q (e ∷ h) x
-health-beside doc q h e x u s name = node-beside doc q h e name (kept x name) u (s name)
+-- ---- what stands for both
+
+node-same : (doc : Doc) (q : Identity) (h g : List Entry) (name : ℕ) (x : Option Known) → SaysSame q h g → NodeStands doc q h name x → NodeStands doc q g name x
+node-same doc q h g name None same s =
+    record { known = s.known ∙ sym (same.known name); heartbeat = s.heartbeat ∙ sym (same.heartbeat name); renewal = s.renewal ∙ sym (same.renewal name); probe = tt }
+node-same doc q h g name (Some known) same s =
+    record {
+      known = s.known ∙ sym (same.known name);
+      heartbeat = s.heartbeat ∙ sym (same.heartbeat name);
+      renewal = s.renewal ∙ sym (same.renewal name);
+      probe = s.probe ∙ ap (local doc q.process) (sym (same.probe name));
+    }
+
+pub health-same : (doc : Doc) (q : Identity) (h g : List Entry) (x : Health) → SaysSame q h g → HealthStands doc q h x → HealthStands doc q g x
+health-same doc q h g x same s name = node-same doc q h g name (kept x name) same (s name)
 
 -- a node is to be marked as before
-pub mark-beside : (doc : Doc) (q : Identity) (h : List Entry) (e : Entry) (k name : ℕ) (node : Node) → IsUnheard q h e → mark_of doc q k name node (e ∷ h) ≡ mark_of doc q k name node h
-mark-beside doc q h e k name node u =
+pub mark-same : (doc : Doc) (q : Identity) (h g : List Entry) (k name : ℕ) (node : Node) → SaysSame q h g → mark_of doc q k name node g ≡ mark_of doc q k name node h
+mark-same doc q h g k name node same =
     ap (λ at. when (not (is_unknown node.ready) && nat_lt (local doc q.process at + grace_of doc node.ready) (local doc q.process k)) (with_mark (whole_second (wall doc q.process k)) node))
-    (u.probe name)
+    (same.probe name)
 
--- ---- such entries
+-- ---- entries after which each node is known as before
 
 quiet : (q : Identity) (h : List Entry) (e : Entry) → ((A : Type 0) (f : List Entry → Option A) → at_pass q f e.actor e.deed h ≡ None)
-    → ((name : ℕ) → is_probe q name e.actor e.deed h ≡ false) → IsUnheard q h e
+    → ((name : ℕ) → is_probe q name e.actor e.deed h ≡ false) → SaysSame q h (e ∷ h)
 quiet q h e unpassed unprobed =
     record {
       known = λ name. ap (λ o. or_else false (said o (finds q name h))) (unpassed Bool (λ T. Some (is_found q name T)));
@@ -56,7 +69,7 @@ quiet q h e unpassed unprobed =
     }
 
 -- an entry of a kind that isn't looked at
-pub unheard-kind : (q : Identity) (h : List Entry) (e : Entry) → is_of_health e.deed ≡ false → IsUnheard q h e
+pub unheard-kind : (q : Identity) (h : List Entry) (e : Entry) → is_of_health e.deed ≡ false → SaysSame q h (e ∷ h)
 unheard-kind q h e other = quiet q h e (λ A f. by_deed f e.deed other) (λ name. unprobed name e.deed other)
   where
     by_deed : {A : Type 0} (f : List Entry → Option A) (d : Deed) → is_of_health d ≡ false → at_pass q f e.actor d h ≡ None
@@ -69,7 +82,7 @@ unheard-kind q h e other = quiet q h e (λ A f. by_deed f e.deed other) (λ name
     unprobed name _ other = refl
 
 -- an entry of another actor
-pub unheard-foreign : (q : Identity) (h : List Entry) (e : Entry) → is_by q e.actor ≡ false → IsUnheard q h e
+pub unheard-foreign : (q : Identity) (h : List Entry) (e : Entry) → is_by q e.actor ≡ false → SaysSame q h (e ∷ h)
 unheard-foreign q h e other = quiet q h e (λ A f. by_deed f e.deed) (λ name. unprobed name e.deed)
   where
     by_deed : {A : Type 0} (f : List Entry → Option A) (d : Deed) → at_pass q f e.actor d h ≡ None
