@@ -29,7 +29,7 @@ lists_node (Pod m k) n = false
 abbrev pub lists_pod : Listing → ℕ → Key → Bool
 lists_pod Nowhere n key = false
 lists_pod (Node m) n key = false
-lists_pod (Pod m k) n key = key_eq k key && (m == n)
+lists_pod (Pod m k) n key = (m == n) && key_eq k key
 
 -- whether a number stands among these
 abbrev pub is_named : List ℕ → ℕ → Bool

@@ -76,9 +76,9 @@ written_keys [] = []
 written_keys (e ∷ h) = and_key (write_of e.deed) (written_keys h)
 
 -- these are the changes so far, and this is what is stored now
-pub record AreStored (h : List Entry) (changed : List Key) (shown : Key → Option (Version × Object)) : Type 0 where
-  pub changed : changed ≡ written_keys h
-  pub shown : (key : Key) → shown key ≡ kept (stored key h)
+pub record AreStored (h : List Entry) (keys : List Key) (shows : Key → Option (Version × Object)) : Type 0 where
+  pub changed : keys ≡ written_keys h
+  pub shown : (key : Key) → shows key ≡ kept (stored key h)
 
 -- what a write leaves, without its version
 abbrev pub object_of : Option (Version × Object) → Option Object

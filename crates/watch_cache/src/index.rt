@@ -98,6 +98,8 @@ impl Index {
         ensures listed { IfOk result (λ keys. (k : Key) → is_among keys k ≡ has_pod self.now node k) }
         ensures counted { IfOk result (λ keys. steps.new ≡ counted steps.old (length keys)) }
     {
+        // It is read, so that it is known to be a u64.
+        let _ = steps.count();
         let mut keys = ListOf::new(self.alloc);
         for pod in self.pods.range((node, FIRST)..) {
             let (on, key) = *pod;

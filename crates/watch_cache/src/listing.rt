@@ -19,7 +19,7 @@ pub(crate) enum Listing {
 /// Where an object under this key is listed.
 pub(crate) fn listed_as(key: Key, object: &Object) -> Listing
     ensures nodes { (n : ℕ) → lists_node result n ≡ (key_eq key (node_key n) && is_node object.now) }
-    ensures pods { (n : ℕ) (k : Key) → lists_pod result n k ≡ (key_eq key k && is_pod_on n object.now) }
+    ensures pods { (n : ℕ) (k : Key) → lists_pod result n k ≡ (is_pod_on n object.now && key_eq key k) }
 {
     match object {
         Object::Node(_) => node_listing(key),

@@ -1,9 +1,15 @@
 // Objects with their versions, and the index of them.
-ghost use Rattle.std.specs.Prelude.{◌≡◌, ℕ, None, IfOk, OnOk, length, if◌then◌else◌};
+ghost use Rattle.std.specs.Prelude.{◌≡◌, ℕ, ◌&&◌, not, Some, None, IfOk, OnOk, length, if◌then◌else◌};
 ghost use Rattle.std.specs.List.Sorted.{IsStrictlySortedBy};
 ghost use Rattle.std.specs.Ordering.{nat_cmp};
 ghost use Rattle.kube_objects.specs.Feeds.{shown_pair};
+ghost use Rattle.std.specs.BTreeMap.{get};
+ghost use Rattle.kube_objects.specs.Keys.{key_cmp, key_eq};
+ghost use Rattle.kube_objects.specs.Stored.{node_key};
+ghost use Rattle.kube_objects.specs.declared.key.Key.{Key};
 ghost use Rattle.watch_cache.specs.Indexed.{IsIndexed};
+ghost use Rattle.watch_cache.specs.Kept.{is_node_in, is_pod_in};
+ghost use Rattle.watch_cache.specs.Listed.{has_node, has_pod};
 
 use crate::index::Index;
 use crate::listing::listed_as;
@@ -17,7 +23,7 @@ use std::collections::BTreeMap;
 pub(crate) struct Objects {
     map: BTreeMap<Key, (Version, Object)>,
     index: Index,
-    ghost indexed: { IsIndexed map index },
+    ghost indexed: { IsIndexed (get key_cmp map) index },
 }
 
 // A copy of what is shown.
@@ -30,13 +36,19 @@ fn copied(shown: Option<(Version, &Object)>) -> Result<Option<(Version, Object)>
     }
 }
 
+// The index lists the old object no longer.
+fn unlist(index: &mut Index, key: Key, old: Option<(Version, Object)>)
+    ensures nodes { (n : ℕ) → has_node index.new n ≡ (not (key_eq key (node_key n) && is_node_in old) && has_node index.old n) }
+    ensures pods { (n : ℕ) (k : Key) → has_pod index.new n k ≡ (not (is_pod_in n old && key_eq key k) && has_pod index.old n k) }
+{
+    if let Some(old) = old {
+        index.leave(listed_as(key, &old.1));
+    }
+}
+
 impl Objects {
     ghost use Rattle.kube_base.specs.Steps.{counted};
-    ghost use Rattle.kube_objects.specs.Feeds.{is_among, shown_pair};
-    ghost use Rattle.kube_objects.specs.Keys.{key_cmp, key_eq};
-    ghost use Rattle.kube_objects.specs.Stored.{node_key};
-    ghost use Rattle.kube_objects.specs.declared.key.Key.{Key};
-    ghost use Rattle.watch_cache.specs.Kept.{is_node_in, is_pod_in};
+    ghost use Rattle.kube_objects.specs.Feeds.{is_among};
     ghost use Rattle.watch_cache.specs.Listed.{is_named};
     ghost use Rattle.watch_cache.specs.Objects.{object_at};
 
@@ -76,9 +88,8 @@ impl Objects {
     fn take_out(&mut self, key: Key)
         ensures { (k : Key) → object_at self.new k ≡ (if key_eq key k then None else object_at self.old k) }
     {
-        if let Some(old) = self.map.remove(&key) {
-            self.index.leave(listed_as(key, &old.1));
-        }
+        let old = self.map.remove(&key);
+        unlist(&mut self.index, key, old);
     }
 
     // Where the index has no room for the object, nothing is left under the key.
@@ -86,14 +97,15 @@ impl Objects {
         ensures { OnOk result ((k : Key) → object_at self.new k ≡ (if key_eq key k then Some (version, object) else object_at self.old k)) }
     {
         let entered = listed_as(key, &object);
-        if let Some(old) = self.map.insert(key, (version, object))? {
-            self.index.leave(listed_as(key, &old.1));
+        let old = self.map.insert(key, (version, object))?;
+        unlist(&mut self.index, key, old);
+        match self.index.enter(entered) {
+            Ok(()) => Ok(()),
+            Err(NoMemory) => {
+                let _ = self.map.remove(&key);
+                Err(NoMemory)
+            }
         }
-        if self.index.enter(entered).is_err() {
-            let _ = self.map.remove(&key);
-            return Err(NoMemory);
-        }
-        Ok(())
     }
 
     /// Takes over what changed. Each change counts a step.
@@ -101,13 +113,18 @@ impl Objects {
         ensures taken { OnOk result ((k : Key) → object_at self.new k ≡ (if is_among (C.keys changed.now) k then C.shown changed.now k else object_at self.old k)) }
         ensures counted { OnOk result (steps.new ≡ counted steps.old (length (C.keys changed.now))) }
     {
-        for place in 0..changed.count() {
+        // It is read, so that it is known to be a u64.
+        let _ = steps.count();
+        let count = changed.count();
+        let mut place = 0;
+        while place < count {
             let Some(key) = changed.key(place) else {
                 unreachable!()
             };
             steps.tick();
             let written = copied(changed.object(place))?;
             self.write(key, written)?;
+            place += 1;
         }
         Ok(())
     }
