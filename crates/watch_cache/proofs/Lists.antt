@@ -9,7 +9,7 @@ use Rattle.std.specs.List.{AllByRecursion, list_any}
 use Rattle.std.specs.List.Sorted.{IsStrictlySortedBy}
 use Rattle.std.specs.Ordering.{nat_cmp, ordering_then, is_eq, is_gt, is_le}
 use Rattle.std.specs.declared.cmp.Ordering.{Ordering}
-use Rattle.std.specs.declared.ops.bounds.Bound.TheVariants.{Included, Unbounded}
+use Rattle.std.specs.declared.ops.Bound.TheVariants.{Included, Unbounded}
 use Rattle.kube_objects.specs.declared.key.Key.{Key}
 use Rattle.kube_objects.specs.declared.key.Kind.{Kind}
 use Rattle.kube_objects.specs.declared.key.Kind.TheVariants as kind
@@ -173,7 +173,6 @@ front_ascends n [] s = tt
 front_ascends n (p ∷ ps) s = by_test (p.0 == n) refl
   where
     by_test : (b : Bool) → (p.0 == n) ≡ b → IsStrictlySortedBy key_cmp (cond b (p.1 ∷ front_of n ps) [])
-    unfolding IsStrictlySortedBy
     by_test true same = (front_above n p ps (is_same_number p.0 n same) s.0, front_ascends n ps s.1)
     by_test false other = tt
 

@@ -74,40 +74,41 @@ untouched q key h k who (Some w) n le is =
     let parts = other_write (written_keys h) n key w le is in
     (parts.0, ap (λ b. holds h k who (when b w.1)) parts.1)
 
+abbrev Unlisted : Identity → Key → List Entry → Type 0
+Unlisted q key h = is_among (drop (synced_writes q h) (written_keys h)) key ≡ false → seen q key h ≡ stored key h
+
 pub unlisted : (q : Identity) (key : Key) (h : List Entry) → is_among (drop (synced_writes q h) (written_keys h)) key ≡ false → seen q key h ≡ stored key h
 unlisted q key [] is = refl
-unlisted q key (e ∷ h) is = cases e.actor e.deed is
+unlisted q key (e ∷ h) is = cases (unlisted q key h) e.actor e.deed is
   where
     few : synced_writes q h ≤ length (written_keys h)
     few = subst (λ n. synced_writes q h ≤ n) (sym (written-count h)) (synced-few q h)
 
     -- an entry that isn't a sync
-    no_sync : (who : Actor) (o : Option Write) (says : Option (Option Held)) → (holds h e.beat who (at_key key o) ≡ None → says ≡ None)
+    no_sync : Unlisted q key h → (who : Actor) (o : Option Write) (says : Option (Option Held)) → (holds h e.beat who (at_key key o) ≡ None → says ≡ None)
         → is_among (drop (synced_writes q h) (and_key o (written_keys h))) key ≡ false → join (upper says (last_seen q key h)) ≡ join (upper (holds h e.beat who (at_key key o)) (last_write key h))
-    no_sync who o says quiet is =
+    no_sync rest who o says quiet is =
         let parts = untouched q key h e.beat who o (synced_writes q h) few is in
-        ap (λ x. join (upper x (last_seen q key h))) (quiet parts.1)
-        ∙ unlisted q key h parts.0
-        ∙ ap (λ x. join (upper x (last_write key h))) (sym parts.1)
+        ap (λ x. join (upper x (last_seen q key h))) (quiet parts.1) ∙ rest parts.0 ∙ ap (λ x. join (upper x (last_write key h))) (sym parts.1)
 
     quietly : (b : Bool) (x : Option (Option Held)) → x ≡ None → only_if b x ≡ None
     quietly true x none = none
     quietly false x none = refl
 
-    by_own : (who : Actor) (b : Bool) → is_among (drop (or_zero (upper (when b (writes h)) (last_sync q h))) (written_keys h)) key ≡ false
+    by_own : Unlisted q key h → (b : Bool) → is_among (drop (or_zero (upper (when b (writes h)) (last_sync q h))) (written_keys h)) key ≡ false
         → join (upper (only_if b (Some (stored key h))) (last_seen q key h)) ≡ stored key h
-    by_own who true is = refl
-    by_own who false is = unlisted q key h is
+    by_own rest true is = refl
+    by_own rest false is = rest is
 
-    of_tick : (who : Actor) (t : Tick) → is_among (drop (or_zero (upper (sync_says q who (Ticks t) h) (last_sync q h))) (and_key (tick_write t) (written_keys h))) key ≡ false
+    of_tick : Unlisted q key h → (who : Actor) (t : Tick) → is_among (drop (or_zero (upper (sync_says q who (Ticks t) h) (last_sync q h))) (and_key (tick_write t) (written_keys h))) key ≡ false
         → join (upper (only_if (is_by q who) (tick_shows key e.beat who t h)) (last_seen q key h)) ≡ join (upper (holds h e.beat who (at_key key (tick_write t))) (last_write key h))
-    of_tick who Sync is = by_own who (is_by q who) is
-    of_tick who t is = no_sync who (tick_write t) (only_if (is_by q who) (holds h e.beat who (at_key key (tick_write t)))) (quietly (is_by q who) (holds h e.beat who (at_key key (tick_write t)))) is
+    of_tick rest who Sync is = by_own rest (is_by q who) is
+    of_tick rest who t is = no_sync rest who (tick_write t) (only_if (is_by q who) (holds h e.beat who (at_key key (tick_write t)))) (quietly (is_by q who) (holds h e.beat who (at_key key (tick_write t)))) is
 
-    cases : (who : Actor) (d : Deed) → is_among (drop (or_zero (upper (sync_says q who d h) (last_sync q h))) (and_key (write_of d) (written_keys h))) key ≡ false
+    cases : Unlisted q key h → (who : Actor) (d : Deed) → is_among (drop (or_zero (upper (sync_says q who d h) (last_sync q h))) (and_key (write_of d) (written_keys h))) key ≡ false
         → join (upper (seen_says q key e.beat who d h) (last_seen q key h)) ≡ join (upper (holds h e.beat who (at_key key (write_of d))) (last_write key h))
-    cases who (Ticks t) is = of_tick who t is
-    cases who d is = no_sync who (write_of d) None (λ none. refl) is
+    cases rest who (Ticks t) is = of_tick rest who t is
+    cases rest who d is = no_sync rest who (write_of d) None (λ none. refl) is
 
 -- ---- a sync
 
