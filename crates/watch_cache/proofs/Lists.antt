@@ -2,6 +2,7 @@
 use Rattle.std.proofs.Common.{◌≡◌, ℕ, ◌<◌, ◌≤◌, ◌==◌, ◌&&◌, ◌||◌, not, nat_le, Bool, true, false, cond, List, [], ◌∷◌, ◌++◌, filter, refl, sym, ap, ◌∙◌, subst, arith, Less, Equal, Greater, ◌⊎◌, inl, inr}
 use Rattle.std.proofs.lemmas.Bool.{cases_order}
 use Rattle.std.proofs.lemmas.Bool.Decides.{nat_tests}
+use Rattle.std.proofs.lemmas.List.{append-nil}
 use Rattle.std.proofs.lemmas.List.Kept.{IsStrictlySortedBy-filter}
 use Rattle.std.specs.BTreeSet as set
 use Rattle.std.specs.BTreeMap.Range.{range_contains}
@@ -15,9 +16,11 @@ use Rattle.kube_objects.specs.declared.key.Kind.{Kind}
 use Rattle.kube_objects.specs.declared.key.Kind.TheVariants as kind
 use Rattle.kube_objects.specs.Feeds.{is_among}
 use Rattle.kube_objects.specs.Keys.{key_cmp, key_eq, kind_rank}
-use Rattle.kube_objects.proofs.KeyOrder.{same_key, key_itself}
+use Rattle.kube_objects.specs.contracts.key.KeyOrd.TheImpl as key_ord
+use Rattle.kube_objects.proofs.KeyOrder.{key_order, same_key, key_itself}
 use Rattle.watch_cache.specs.Listed.{is_named, placed_cmp}
-use Rattle.watch_cache.proofs.Orders.{pair_eq}
+use Rattle.watch_cache.specs.Told.{AreListed}
+use Rattle.watch_cache.proofs.Orders.{pair_eq, pairs_by}
 
 abbrev pub Pair : Type 0
 Pair = ℕ × Key
@@ -42,7 +45,7 @@ front_of n (p ∷ ps) = cond (p.0 == n) (p.1 ∷ front_of n ps) []
 abbrev pub is_from : (Key → Key → Ordering) → Key → ℕ → Pair → Bool
 is_from cmp first n p = range_contains (λ a b. ordering_then (nat_cmp a.0 b.0) (cmp a.1 b.1)) (Included (n, first)) Unbounded p
 
-pub first_key : Key
+abbrev pub first_key : Key
 first_key = record { kind = kind.Node; space = 0; name = 0 }
 
 none_below : (m : ℕ) → is_le (nat_cmp 0 m) ≡ true
@@ -161,21 +164,41 @@ is_same_number m n is = grind (arith, nat_tests)
 
 front_above : (n : ℕ) (p : Pair) (ps : List Pair) → p.0 ≡ n → AllByRecursion (λ y. placed_cmp p y ≡ Less) ps → AllByRecursion (λ k. key_cmp p.1 k ≡ Less) (front_of n ps)
 front_above n p [] is all = tt
-front_above n p (y ∷ ys) is all = by_test (y.0 == n) refl
+front_above n p (y ∷ ys) is all = by_test (y.0 == n) refl (front_above n p ys is all.1)
   where
-    by_test : (b : Bool) → (y.0 == n) ≡ b → AllByRecursion (λ k. key_cmp p.1 k ≡ Less) (cond b (y.1 ∷ front_of n ys) [])
-    by_test true same = (sym (equal_then p.0 y.0 (key_cmp p.1 y.1) (is ∙ sym (is_same_number y.0 n same))) ∙ all.0, front_above n p ys is all.1)
-    by_test false other = tt
+    by_test : (b : Bool) → (y.0 == n) ≡ b → AllByRecursion (λ k. key_cmp p.1 k ≡ Less) (front_of n ys) → AllByRecursion (λ k. key_cmp p.1 k ≡ Less) (cond b (y.1 ∷ front_of n ys) [])
+    by_test true same rest = (sym (equal_then p.0 y.0 (key_cmp p.1 y.1) (is ∙ sym (is_same_number y.0 n same))) ∙ all.0, rest)
+    by_test false other rest = tt
 
 pub front_ascends : (n : ℕ) (ps : List Pair) → IsStrictlySortedBy placed_cmp ps → IsStrictlySortedBy key_cmp (front_of n ps)
 unfolding IsStrictlySortedBy
 front_ascends n [] s = tt
-front_ascends n (p ∷ ps) s = by_test (p.0 == n) refl
+front_ascends n (p ∷ ps) s = by_test (p.0 == n) refl (front_ascends n ps s.1)
   where
-    by_test : (b : Bool) → (p.0 == n) ≡ b → IsStrictlySortedBy key_cmp (cond b (p.1 ∷ front_of n ps) [])
-    by_test true same = (front_above n p ps (is_same_number p.0 n same) s.0, front_ascends n ps s.1)
-    by_test false other = tt
+    by_test : (b : Bool) → (p.0 == n) ≡ b → IsStrictlySortedBy key_cmp (front_of n ps) → IsStrictlySortedBy key_cmp (cond b (p.1 ∷ front_of n ps) [])
+    by_test true same rest = (front_above n p ps (is_same_number p.0 n same) s.0, rest)
+    by_test false other rest = tt
 
 -- the pairs from the node's first on
 abbrev pub ranged : ℕ → List Pair → List Pair
 ranged n ps = filter (λ p. nat_le n p.0) ps
+
+-- they are those of the range that starts there, by the derived order
+pub ranged_is : (n : ℕ) (ps : List Pair) → filter (is_from (key_ord.cmp-value).it first_key n) ps ≡ ranged n ps
+ranged_is n ps = ap (λ cmp. filter (is_from cmp first_key n) ps) key_order ∙ ap (λ (test : Pair → Bool). filter test ps) (λ i p. from_is n p i)
+
+-- a pair of another node ends the list
+pub front_ends : (n : ℕ) (p : Pair) (ps whole : List Pair) → whole ≡ p ∷ ps → (p.0 == n) ≡ false → front_of n whole ≡ []
+front_ends n p ps whole is other = ap (front_of n) is ∙ ap (λ b. cond b (p.1 ∷ front_of n ps) []) other
+
+-- the list is whole where nothing is left to be listed
+pub whole_is : (keys rest all : List Key) → rest ≡ [] → keys ++ rest ≡ all → keys ≡ all
+whole_is keys rest all none so_far = sym (append-nil keys) ∙ ap (λ ks. keys ++ ks) (sym none) ∙ so_far
+
+pub pods_listed : (n : ℕ) (s : set.BTreeSet Pair) (keys : List Key) → set.IsOrdered (pairs_by (key_ord.cmp-value).it) s → keys ≡ front_of n (ranged n s.keys) → AreListed (λ k. set.contains placed_cmp s (n, k)) keys
+pods_listed n s keys ordered is =
+    let sorted : IsStrictlySortedBy placed_cmp s.keys = subst (λ cmp. IsStrictlySortedBy (pairs_by cmp) s.keys) key_order ordered in
+    record {
+      ascend = subst (IsStrictlySortedBy key_cmp) (sym is) (front_ascends n (ranged n s.keys) (IsStrictlySortedBy-filter placed_cmp (λ p. nat_le n p.0) s.keys sorted));
+      listed = λ k. ap (λ ks. is_among ks k) is ∙ front_lists n k s.keys sorted;
+    }

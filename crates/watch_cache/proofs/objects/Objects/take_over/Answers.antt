@@ -10,7 +10,7 @@ pub loop-place-init : goal.loop-place-init
 loop-place-init g c =
     record {
       taken = λ k. refl;
-      counted = counted_none c.args.steps.now (omega (arith, c.count.ensures, c.count.auto));
+      counted = counted_none c.args.steps.now (omega (arith, c.count.ensures));
       within = omega arith;
     }
 
