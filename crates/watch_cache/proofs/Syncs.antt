@@ -61,7 +61,7 @@ or_parts false b is = (refl, is)
 other_write : (keys : List Key) (n : ℕ) (key : Key) (w : Write) → n ≤ length keys → is_among (drop n (keys ++ w.0 ∷ [])) key ≡ false → (is_among (drop n keys) key ≡ false) × (key_eq w.0 key ≡ false)
 other_write keys n key w le is =
     let whole : (is_among (drop n keys) key || (key_eq w.0 key || false)) ≡ false =
-      sym (list_any-append (λ k. key_eq k key) (drop n keys) (w.0 ∷ [])) ∙ ap (λ ks. is_among ks key) (sym (drop-append-le n keys (w.0 ∷ []) le)) ∙ is
+    sym (list_any-append (λ k. key_eq k key) (drop n keys) (w.0 ∷ [])) ∙ ap (λ ks. is_among ks key) (sym (drop-append-le n keys (w.0 ∷ []) le)) ∙ is
     in
     let parts = or_parts (is_among (drop n keys) key) (key_eq w.0 key || false) whole in
     (parts.0, (or_parts (key_eq w.0 key) false parts.1).0)

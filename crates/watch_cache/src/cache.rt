@@ -34,7 +34,8 @@ impl Cache {
     ghost use Rattle.kube_objects.specs.Seen.{pod_in, seen_node, seen_pod, seen};
     ghost use Rattle.kube_objects.specs.Tick.{add};
     ghost use Rattle.watch_cache.specs.Kept.{of_kind, is_node_in, is_pod_in, is_on};
-    ghost use Rattle.watch_cache.specs.Stands.{AreStored, CacheStands, IsNext, kept_in, object_of, position_in, refused_key, stale_in, synced_in, synced_writes, ticks};
+    ghost use Rattle.watch_cache.specs.Stands.{AreStored, CacheStands, IsNext, object_of, refused_key, synced_writes, ticks};
+    ghost use Rattle.watch_cache.specs.Stands.{kept_in, position_in, stale_in, synced_in};
     ghost use Rattle.watch_cache.specs.Told.{AreListed, AreNamed, Lists, found, if_synced};
 
     /// The cache of a term that begins. It has had no sync. Takes no memory.
@@ -63,15 +64,20 @@ impl Cache {
 
     /// Takes over what changed since the last sync; no key is stale after it. The changes are those from `position` on.
     /// Each of them counts a step.
-    pub fn sync_since<C: Changed, L>(&mut self, changed: &C, steps: &mut Steps<L>) -> Result<(), NoMemory>
+    pub fn sync_since<C: Changed, L>(
+        &mut self,
+        changed: &C,
+        steps: &mut Steps<L>,
+    ) -> Result<(), NoMemory>
         requires start { C.from changed.now ≡ position_in self.old }
-        ensures kept { OnOk result ((k : Key) → kept_in self.new k ≡ (if is_among (C.keys changed.now) k then C.shown changed.now k else kept_in self.old k)) }
+        ensures kept { OnOk result ((k : Key)
+            → kept_in self.new k ≡ (if is_among (C.keys changed.now) k then C.shown changed.now k else kept_in self.old k)) }
         ensures stale { OnOk result ((k : Key) → stale_in self.new k ≡ false) }
         ensures synced { OnOk result (synced_in self.new ≡ true) }
         ensures position { OnOk result (position_in self.new ≡ length (C.changed changed.now)) }
         ensures counted { OnOk result (steps.new ≡ counted steps.old (length (C.keys changed.now))) }
-        ensures stands { (q : Identity) (h : List Entry) (k : ℕ) → CacheStands q h self.old → AreStored h (C.changed changed.now) (C.shown changed.now)
-            → OnOk result (CacheStands q (add k q Sync h) self.new) }
+        ensures stands { (q : Identity) (h : List Entry) (k : ℕ) → CacheStands q h self.old
+            → AreStored h (C.changed changed.now) (C.shown changed.now) → OnOk result (CacheStands q (add k q Sync h) self.new) }
     {
         self.objects.take_over(changed, steps)?;
         self.stale.clear();
@@ -124,7 +130,11 @@ impl Cache {
 
     /// The pod under a key. None where the last seen write removed it, or there is none. `NotSynced` before the first sync.
     /// It counts a step.
-    pub fn pod<L>(&self, key: &Key, steps: &mut Steps<L>) -> Result<Option<(Version, &Pod)>, NotSynced>
+    pub fn pod<L>(
+        &self,
+        key: &Key,
+        steps: &mut Steps<L>,
+    ) -> Result<Option<(Version, &Pod)>, NotSynced>
         ensures kept { found result ≡ if_synced (synced_in self.now) (of_kind pod_in (kept_in self.now key.now)) }
         ensures counted { steps.new ≡ counted steps.old 1 }
         ensures answer { (q : Identity) (h : List Entry) → CacheStands q h self.now

@@ -73,7 +73,11 @@ impl Objects {
     }
 
     /// Puts an object under a key in the place of what is there, or takes that out.
-    pub(crate) fn write(&mut self, key: Key, written: Option<(Version, Object)>) -> Result<(), NoMemory>
+    pub(crate) fn write(
+        &mut self,
+        key: Key,
+        written: Option<(Version, Object)>,
+    ) -> Result<(), NoMemory>
         ensures { OnOk result ((k : Key) → object_at self.new k ≡ (if key_eq key k then written else object_at self.old k)) }
     {
         match written {
@@ -94,7 +98,8 @@ impl Objects {
 
     // Where the index has no room for the object, nothing is left under the key.
     fn put(&mut self, key: Key, version: Version, object: Object) -> Result<(), NoMemory>
-        ensures { OnOk result ((k : Key) → object_at self.new k ≡ (if key_eq key k then Some (version, object) else object_at self.old k)) }
+        ensures { OnOk result ((k : Key)
+            → object_at self.new k ≡ (if key_eq key k then Some (version, object) else object_at self.old k)) }
     {
         let entered = listed_as(key, &object);
         let old = self.map.insert(key, (version, object))?;
@@ -109,8 +114,13 @@ impl Objects {
     }
 
     /// Takes over what changed. Each change counts a step.
-    pub(crate) fn take_over<C: Changed, L>(&mut self, changed: &C, steps: &mut Steps<L>) -> Result<(), NoMemory>
-        ensures taken { OnOk result ((k : Key) → object_at self.new k ≡ (if is_among (C.keys changed.now) k then C.shown changed.now k else object_at self.old k)) }
+    pub(crate) fn take_over<C: Changed, L>(
+        &mut self,
+        changed: &C,
+        steps: &mut Steps<L>,
+    ) -> Result<(), NoMemory>
+        ensures taken { OnOk result ((k : Key)
+            → object_at self.new k ≡ (if is_among (C.keys changed.now) k then C.shown changed.now k else object_at self.old k)) }
         ensures counted { OnOk result (steps.new ≡ counted steps.old (length (C.keys changed.now))) }
     {
         // It is read, so that it is known to be a u64.

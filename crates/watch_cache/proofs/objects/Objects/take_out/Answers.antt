@@ -16,10 +16,10 @@ invariant_of-self c =
     let was : c.remove-old.result ≡ objects key = c.remove-old.ensures.value ∙ got old.map key in
     record {
       indexed = indexed_as (with key None objects) (get key_cmp c.remove-old.new.self) c.unlist.new.index
-        (indexed_out objects old.index c.unlist.new.index key old.indexed
+          (indexed_out objects old.index c.unlist.new.index key old.indexed
           (λ n. c.unlist.ensures.nodes n ∙ ap (λ o. not (key_eq key (node_key n) && is_node_in o) && has_node old.index n) was)
           (λ n k. c.unlist.ensures.pods n k ∙ ap (λ o. not (is_pod_in n o && key_eq key k) && has_pod old.index n k) was))
-        (updated old.map c.remove-old.new.self key None c.remove-old.ensures.updates);
+          (updated old.map c.remove-old.new.self key None c.remove-old.ensures.updates);
     }
 
 pub returns : goal.returns
