@@ -1,0 +1,7 @@
+pub mod Indexed
+pub mod Kept
+pub mod Listed
+pub mod NoFeed
+pub mod Objects
+pub mod Stands
+pub mod Told

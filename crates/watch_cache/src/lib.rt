@@ -1,0 +1,14 @@
+//! What a term of a leader has seen of the store. A sync takes over what changed since the last one.
+#![tactic(auto)]
+
+mod cache;
+mod faults;
+mod index;
+mod listing;
+mod objects;
+
+pub use cache::Cache;
+pub use faults::{NotSynced, NotSynced2};
+
+#[cfg(test)]
+mod tests;
