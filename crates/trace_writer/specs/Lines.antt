@@ -1,7 +1,8 @@
--- The text of a trace.
-use Rattle.std.specs.Prelude.{ℕ, List, [], ◌++◌, ◌==◌, codes, decimal, flat_map, nat_le, Bool, true, false, if◌then◌else◌}
+-- The lines of a trace. Source: the trace's format (profile).
+use Rattle.std.specs.Prelude.{ℕ, List, [], ◌++◌, ◌==◌, codes, decimal, flat_map, Bool, true, false, if◌then◌else◌}
+use Rattle.kube_base.specs.declared.fixed.TheConstants.{NOT_READY}
 use Rattle.kube_base.specs.declared.numbers.Wall.{Wall}
-use Rattle.kube_base.specs.Times.{last_wall, seconds_text}
+use Rattle.kube_base.specs.Times.{seconds_text}
 use Rattle.kube_objects.specs.declared.call.Answer.{Answer}
 use Rattle.kube_objects.specs.declared.call.Answer.TheVariants as answer
 use Rattle.kube_objects.specs.declared.deed.Act.{Act}
@@ -16,15 +17,10 @@ use Rattle.kube_objects.specs.declared.node.ReadyStatus.{ReadyStatus}
 use Rattle.kube_objects.specs.declared.node.ReadyStatus.TheVariants as ready
 use Rattle.kube_objects.specs.declared.node.ZoneState.{ZoneState}
 use Rattle.kube_objects.specs.declared.node.ZoneState.TheVariants as state
-use Rattle.kube_objects.specs.Document.{Doc, end_beat}
 use Rattle.kube_objects.specs.Keys.{key_eq}
 use Rattle.kube_objects.specs.Stored.{election}
-use Rattle.history.specs.History.{history, whole_history}
-use Rattle.history.specs.Premise.{lease_premise}
-use Rattle.history.specs.Printed.{printed}
-use Rattle.script_reader.specs.declared.document.Document.{Document}
-use Rattle.script_reader.specs.Documents.{doc_of}
-use Rattle.replay_top.specs.Names.{text_of, process_names}
+use Rattle.trace_writer.specs.declared.writing.Settings1.{Settings1}
+use Rattle.trace_writer.specs.Names.{text_of}
 
 -- the script, or an identity: the process's name with its incarnation
 abbrev pub actor_text : List (List ℕ) → Actor → List ℕ
@@ -75,13 +71,9 @@ state_text state.Normal = codes "Normal"
 state_text state.Partial = codes "PartialDisruption"
 state_text state.Full = codes "FullDisruption"
 
--- a condition taint by the number of its key: 5 is `node.kubernetes.io/not-ready`, 6 is `node.kubernetes.io/unreachable`
+-- a condition taint by the number of its key: `node.kubernetes.io/not-ready`, else `node.kubernetes.io/unreachable`
 abbrev pub taint_text : ℕ → List ℕ
-taint_text key = if key == 5 then codes "not-ready" else (if key == 6 then codes "unreachable" else [])
-
--- a time in the seconds form, up to the last that has one
-unfoldable pub time_text : Wall → List ℕ
-time_text at = if nat_le at.0 last_wall then seconds_text at else []
+taint_text key = if key == NOT_READY then codes "not-ready" else codes "unreachable"
 
 abbrev pub mode_text : Bool → List ℕ
 mode_text true = codes "mode on"
@@ -95,7 +87,7 @@ abbrev pub zone_text : List (List ℕ) → ℕ → ℕ → ZoneState → ℕ →
 zone_text names region zone s rate = text_of names region ++ codes "/" ++ text_of names zone ++ codes " " ++ state_text s ++ codes " rate=" ++ decimal rate
 
 abbrev pub eviction_text : List (List ℕ) → Key → Wall → Answer → List ℕ
-eviction_text names key due a = spaced_name names key ++ codes " due=" ++ time_text due ++ codes " " ++ answer_text a
+eviction_text names key due a = spaced_name names key ++ codes " due=" ++ seconds_text due ++ codes " " ++ answer_text a
 
 -- what was done, with the texts of its numbers
 unfoldable pub act_text : List (List ℕ) → Act → List ℕ
@@ -124,24 +116,10 @@ line_of names processes d = decimal d.beat.0 ++ codes " " ++ actor_text processe
 abbrev pub lines_of : List (List ℕ) → List (List ℕ) → List Deed → List ℕ
 lines_of names processes = flat_map (line_of names processes)
 
-abbrev pub yes_or_no : Bool → List ℕ
-yes_or_no true = codes "yes"
-yes_or_no false = codes "no"
-
 -- whether the lease premise holds, at the end of a line
-unfoldable pub premise_text : Doc → List ℕ
-premise_text doc = codes " premise=" ++ yes_or_no (lease_premise doc) ++ codes "\n"
+abbrev pub premise_text : Bool → List ℕ
+premise_text true = codes " premise=yes\n"
+premise_text false = codes " premise=no\n"
 
-unfoldable pub first_line : Doc → List ℕ
-first_line doc = codes "trace 1 beat=" ++ decimal doc.settings.beat_millis ++ codes " end=" ++ decimal (end_beat doc) ++ premise_text doc
-
--- the first line, then the line of each printed entry before beat k
-unfoldable pub trace_before : Doc → List (List ℕ) → List (List ℕ) → ℕ → List ℕ
-trace_before doc names processes k = first_line doc ++ lines_of names processes (printed (history doc k))
-
--- the first line, then the line of each printed entry in order
-unfoldable pub trace_of : Doc → List (List ℕ) → List (List ℕ) → List ℕ
-trace_of doc names processes = first_line doc ++ lines_of names processes (printed (whole_history doc))
-
-unfoldable pub trace : Document → List ℕ
-trace d = trace_of (doc_of d) d.names (process_names d.names (doc_of d))
+unfoldable pub first_line : Settings1 → Bool → List ℕ
+first_line s premise = codes "trace 1 beat=" ++ decimal s.beat_millis ++ codes " end=" ++ decimal s.end.0 ++ premise_text premise

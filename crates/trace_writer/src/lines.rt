@@ -1,79 +1,52 @@
-// The lines of a trace.
-ghost use Rattle.std.specs.Prelude.{◌≡◌, ◌++◌, OnOk, codes, decimal};
-ghost use Rattle.script_reader.specs.Documents.{doc_of};
-ghost use Rattle.replay_top.specs.Names.{text_of};
-ghost use Rattle.replay_top.specs.Lines as spec;
+// The lines of a trace, each at the end of a text.
+ghost use Rattle.std.specs.Prelude.{◌≡◌, ◌<◌, ◌≤◌, ◌++◌, OnOk, codes, decimal, length};
+ghost use Rattle.kube_base.specs.Times.{last_wall};
+ghost use Rattle.kube_objects.specs.Writable.{IsOneOf, IsWritable, IsWritableAct};
+ghost use Rattle.trace_writer.specs.Names.{text_of};
+ghost use Rattle.trace_writer.specs.Lines as spec;
 
 use crate::texts::{add, add_number, add_time, name_of, process_of};
-use kube_base::{Name, Names, NoMemory, Version, Wall};
+use crate::writing::Settings1;
+use kube_base::{NOT_READY, Name, Names, NoMemory, Version, Wall};
 use kube_objects::{Act, Actor, Answer, Deed, Key, Kind, ReadyStatus, ZoneState};
-use script_reader::{Document, lease_premise};
 use std::alloc::Global;
 
-/// The election Lease kube-system/kube-controller-manager, by the numbers of its fixed names.
-const ELECTION: Key = Key {
-    kind: Kind::Lease,
-    space: 7,
-    name: 8,
-};
-
-/// The number of the name `node.kubernetes.io/not-ready`.
-const NOT_READY: u32 = 5;
-
-/// The number of the name `node.kubernetes.io/unreachable`.
-const UNREACHABLE: u32 = 6;
-
-/// Adds the first line of a document's trace.
+/// Adds the first line of a trace.
 #[tactic(auto, unfolding(crate::specs::Lines::first_line))]
-pub(crate) fn add_first(text: &mut Vec<u8>, document: &Document) -> Result<(), NoMemory>
-    ensures { OnOk result (text.new.items ≡ text.old.items ++ spec.first_line (doc_of document.now)) }
+pub(crate) fn add_first(
+    text: &mut Vec<u8>,
+    settings: &Settings1,
+    premise: bool,
+) -> Result<(), NoMemory>
+    ensures { OnOk result (text.new.items ≡ text.old.items ++ spec.first_line settings.now premise) }
 {
     add(text, b"trace 1 beat=")?;
-    add_number(text, u64::from(document.settings.beat_millis))?;
+    add_number(text, u64::from(settings.beat_millis))?;
     add(text, b" end=")?;
-    add_number(text, u64::from(document.settings.end_beat.0))?;
-    add_premise(text, document)
+    add_number(text, u64::from(settings.end.0))?;
+    add(text, premise_end(premise))
 }
 
-/// Adds whether the lease premise holds, and ends the line.
-#[tactic(auto, unfolding(crate::specs::Lines::premise_text))]
-pub(crate) fn add_premise(text: &mut Vec<u8>, document: &Document) -> Result<(), NoMemory>
-    ensures { OnOk result (text.new.items ≡ text.old.items ++ spec.premise_text (doc_of document.now)) }
+/// The end of a line: whether the lease premise holds.
+pub fn premise_end(holds: bool) -> &'static [u8]
+    ensures { result.now ≡ spec.premise_text holds }
 {
-    add(text, b" premise=")?;
-    add(text, yes_or_no(lease_premise(document)))?;
-    add(text, b"\n")
-}
-
-fn yes_or_no(holds: bool) -> &'static [u8]
-    ensures { result.now ≡ spec.yes_or_no holds }
-{
-    if holds { b"yes" } else { b"no" }
-}
-
-/// Adds the lines of deeds. The names are those of the document, and the processes the names of its processes in order.
-pub(crate) fn add_deeds(
-    alloc: Global,
-    text: &mut Vec<u8>,
-    names: &Names,
-    processes: &[Name],
-    deeds: &[Deed],
-) -> Result<(), NoMemory>
-    ensures { OnOk result (text.new.items ≡ text.old.items ++ spec.lines_of names.now processes.now deeds.now) }
-{
-    for deed in deeds {
-        add_deed(alloc, text, names, processes, deed)?;
+    if holds {
+        b" premise=yes\n"
+    } else {
+        b" premise=no\n"
     }
-    Ok(())
 }
 
-fn add_deed(
+/// Adds the line of a deed. The names are those of its document, and the processes the names of its processes in order.
+pub(crate) fn add_deed(
     alloc: Global,
     text: &mut Vec<u8>,
     names: &Names,
     processes: &[Name],
     deed: &Deed,
 ) -> Result<(), NoMemory>
+    requires { IsWritable names.now (length processes.now) deed.now }
     ensures { OnOk result (text.new.items ≡ text.old.items ++ spec.line_of names.now processes.now deed.now) }
 {
     add_number(text, u64::from(deed.beat.0))?;
@@ -85,6 +58,7 @@ fn add_deed(
 }
 
 fn add_actor(text: &mut Vec<u8>, processes: &[Name], actor: Actor) -> Result<(), NoMemory>
+    requires { IsOneOf (length processes.now) actor }
     ensures { OnOk result (text.new.items ≡ text.old.items ++ spec.actor_text processes.now actor) }
 {
     match actor {
@@ -99,6 +73,7 @@ fn add_actor(text: &mut Vec<u8>, processes: &[Name], actor: Actor) -> Result<(),
 
 #[tactic(auto, unfolding(crate::specs::Lines::act_text))]
 fn add_act(alloc: Global, text: &mut Vec<u8>, names: &Names, act: Act) -> Result<(), NoMemory>
+    requires { IsWritableAct names.now act }
     ensures { OnOk result (text.new.items ≡ text.old.items ++ spec.act_text names.now act) }
 {
     match act {
@@ -121,7 +96,7 @@ fn add_act(alloc: Global, text: &mut Vec<u8>, names: &Names, act: Act) -> Result
         Act::Zone(region, zone, state, rate) => add_zone(text, names, region, zone, state, rate),
         Act::Tainted(node, key, answer) => add_taint(text, b"taint ", names, node, key, answer),
         Act::Swapped(node, key, answer) => add_taint(text, b"swap ", names, node, key, answer),
-        Act::Untainted(node, answer) => add_untaint(text, name_of(names, node), answer),
+        Act::Untainted(node, answer) => add_untaint(text, names, node, answer),
         Act::Evicted(key, due, answer) => add_eviction(alloc, text, names, &key, due, answer),
     }
 }
@@ -154,10 +129,11 @@ fn add_lease(
     answer: Answer,
     transitions: u32,
 ) -> Result<(), NoMemory>
+    requires { key.now.name < length names.now }
     ensures { OnOk result (text.new.items ≡ text.old.items ++ (word.now ++ spec.lease_text names.now key.now answer transitions)) }
 {
     add(text, word)?;
-    if *key == ELECTION {
+    if *key == Key::ELECTION {
         add_election(text, answer, transitions)
     } else {
         add_node_lease(text, name_of(names, key.name), answer)
@@ -213,6 +189,8 @@ fn add_key(
     key: &Key,
     version: Version,
 ) -> Result<(), NoMemory>
+    requires space { key.now.space < length names.now }
+    requires name { key.now.name < length names.now }
     ensures { OnOk result (text.new.items ≡ text.old.items ++ (word.now ++ spec.key_text names.now key.now ++ codes " v=" ++ decimal version.0)) }
 {
     add(text, word)?;
@@ -235,6 +213,8 @@ fn add_key(
 
 /// Adds a namespace and a name.
 fn add_spaced(text: &mut Vec<u8>, names: &Names, key: &Key) -> Result<(), NoMemory>
+    requires space { key.now.space < length names.now }
+    requires name { key.now.name < length names.now }
     ensures { OnOk result (text.new.items ≡ text.old.items ++ spec.spaced_name names.now key.now) }
 {
     add(text, name_of(names, key.space))?;
@@ -249,6 +229,7 @@ fn add_status(
     status: ReadyStatus,
     answer: Answer,
 ) -> Result<(), NoMemory>
+    requires { node < length names.now }
     ensures { OnOk result (text.new.items ≡ text.old.items ++ (codes "status " ++ spec.node_text names.now node (spec.status_text status) answer)) }
 {
     add_node(
@@ -267,6 +248,8 @@ fn add_mark(
     reason: u32,
     answer: Answer,
 ) -> Result<(), NoMemory>
+    requires node { node < length names.now }
+    requires reason { reason < length names.now }
     ensures { OnOk result (text.new.items ≡ text.old.items ++ (codes "unknown " ++ spec.node_text names.now node (text_of names.now reason) answer)) }
 {
     add_node(
@@ -287,6 +270,7 @@ fn add_taint(
     key: u32,
     answer: Answer,
 ) -> Result<(), NoMemory>
+    requires { node < length names.now }
     ensures { OnOk result (text.new.items ≡ text.old.items ++ (act.now ++ spec.node_text names.now node (spec.taint_text key) answer)) }
 {
     add_node(text, act, name_of(names, node), taint_text(key), answer)
@@ -300,6 +284,8 @@ fn add_zone(
     state: ZoneState,
     rate: u32,
 ) -> Result<(), NoMemory>
+    requires region { region < length names.now }
+    requires zone { zone < length names.now }
     ensures { OnOk result (text.new.items ≡ text.old.items ++ (codes "zone " ++ spec.zone_text names.now region zone state rate)) }
 {
     add(text, b"zone ")?;
@@ -312,11 +298,12 @@ fn add_zone(
     add_number(text, u64::from(rate))
 }
 
-fn add_untaint(text: &mut Vec<u8>, node: &[u8], answer: Answer) -> Result<(), NoMemory>
-    ensures { OnOk result (text.new.items ≡ text.old.items ++ (codes "untaint " ++ node.now ++ codes " " ++ spec.answer_text answer)) }
+fn add_untaint(text: &mut Vec<u8>, names: &Names, node: u32, answer: Answer) -> Result<(), NoMemory>
+    requires { node < length names.now }
+    ensures { OnOk result (text.new.items ≡ text.old.items ++ (codes "untaint " ++ text_of names.now node ++ codes " " ++ spec.answer_text answer)) }
 {
     add(text, b"untaint ")?;
-    add(text, node)?;
+    add(text, name_of(names, node))?;
     add(text, b" ")?;
     add_answer(text, answer)
 }
@@ -329,6 +316,9 @@ fn add_eviction(
     due: Wall,
     answer: Answer,
 ) -> Result<(), NoMemory>
+    requires space { pod.now.space < length names.now }
+    requires name { pod.now.name < length names.now }
+    requires due { due.0 ≤ last_wall }
     ensures { OnOk result (text.new.items ≡ text.old.items ++ (codes "evict " ++ spec.eviction_text names.now pod.now due answer)) }
 {
     add(text, b"evict ")?;
@@ -369,9 +359,9 @@ fn mode_text(on: bool) -> &'static [u8]
 fn taint_text(key: u32) -> &'static [u8]
     ensures { result.now ≡ spec.taint_text key }
 {
-    match key {
-        NOT_READY => b"not-ready",
-        UNREACHABLE => b"unreachable",
-        _ => b"",
+    if key == NOT_READY {
+        b"not-ready"
+    } else {
+        b"unreachable"
     }
 }
