@@ -1,5 +1,5 @@
 pub mod Said
 pub mod Grown
 pub mod Readings
-pub mod Running
+pub mod Writables
 pub mod Endings

@@ -12,7 +12,7 @@ use Rattle.replay_top.specs.Traces.{trace_before}
 use Rattle.replay_top.specs.Spoken.{Spoken}
 use Rattle.replay_top.proofs.Said.{spoken-given, spoken-front, spoken-so_far, spoken-more}
 use Rattle.replay_top.proofs.Grown.{gave-whole, next-stands, trace-next, trace-same, few, trace-end}
-use Rattle.replay_top.proofs.Running.{writable-shown}
+use Rattle.replay_top.proofs.Writables.{writable-shown}
 use Rattle.replay_top.proofs.trace.write_beats.Goals as goal
 
 pub returns-in-Err-clause-written : goal.returns-in-Err-clause-written

@@ -8,7 +8,7 @@ use Rattle.replay_top.specs.Traces.{trace_before, trace_of, trace}
 use Rattle.replay_top.specs.Spoken.{Written}
 use Rattle.replay_top.proofs.Said.{spoken-first, written-all, written-front}
 use Rattle.replay_top.proofs.Grown.{trace-first, trace-named}
-use Rattle.replay_top.proofs.Running.{process_names-count}
+use Rattle.replay_top.proofs.Writables.{process_names-count}
 use Rattle.replay_top.proofs.trace.write_trace.Goals as goal
 
 pub write_beats-requires-runs : goal.write_beats-requires-runs
