@@ -20,9 +20,10 @@ use crate::summary::add_summary;
 use crate::texts::{add, add_number};
 use crate::trace::{WriteFault, write_trace};
 use byte_edge::{Failed, Sink, Source, give_all};
+use document_laws::{documents_are_lawful, lawful_documents_are_sound};
 use kube_base::NoMemory;
 use lease_laws::lease_is_safe;
-use script_reader::{Document, documents_are_lawful, lawful_documents_are_sound};
+use script_reader::Document;
 use std::alloc::Global;
 use world_core::runs;
 
