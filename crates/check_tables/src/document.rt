@@ -22,9 +22,9 @@ fn document_text(alloc: Global, document: &Document) -> Result<String, NoMemory>
     let events = document.events.as_slice().len();
     let names = document.names.len();
     let premise = lease_premise(document);
-    Ok(
-        format!(in alloc; "end={end} controllers={controllers} kubelets={kubelets} objects={objects} events={events} names={names} premise={premise}")?,
-    )
+    Ok(format!(in alloc;
+        "end={end} controllers={controllers} kubelets={kubelets} objects={objects} events={events} names={names} premise={premise}"
+    )?)
 }
 
 fn refusal_text(alloc: Global, refusal: &Refusal) -> Result<String, NoMemory> {

@@ -4,4 +4,5 @@ pub mod KeptLemmas
 pub mod ListsBack
 pub mod Loops
 pub mod PartsBack
+pub mod Places
 pub mod WriteLoops
