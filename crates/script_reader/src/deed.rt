@@ -9,9 +9,7 @@ ghost use Rattle.manifest_json.specs.Walk as manifests;
 ghost use Rattle.script_reader.specs.Walk as walk;
 
 use crate::cast::{Players, controller_named, kubelet_named, process_named};
-use crate::field::{
-    fault_under, found_or, name_at, needed_flag, needed_posted, needed_text, needed_whole,
-};
+use crate::field::{fault_under, name_at, needed_flag, needed_posted, needed_text, needed_whole};
 use crate::process::named_at;
 use crate::table::EventType;
 use kube_base::{Names, ProcId};
@@ -149,8 +147,10 @@ fn process_at(
         (walk.process_at (walk.process_named (seen players.now) names.now) path.now (view value.now)) }
 {
     let text = needed_text(path, "process", value)?;
-    let id = process_named(players, names, text);
-    found_or(id, UNKNOWN_PROCESS, path, "process")
+    match process_named(players, names, text) {
+        Some(id) => Ok(id),
+        None => Err(fault_under(UNKNOWN_PROCESS, path, "process")),
+    }
 }
 
 /// A controller.
@@ -166,8 +166,10 @@ fn controller_at(
         (walk.process_at (walk.controller_named (seen players.now) names.now) path.now (view value.now)) }
 {
     let text = needed_text(path, "process", value)?;
-    let id = controller_named(players, names, text);
-    found_or(id, UNKNOWN_PROCESS, path, "process")
+    match controller_named(players, names, text) {
+        Some(id) => Ok(id),
+        None => Err(fault_under(UNKNOWN_PROCESS, path, "process")),
+    }
 }
 
 /// A kubelet.
@@ -183,8 +185,10 @@ fn kubelet_at(
         (walk.process_at (walk.kubelet_named (seen players.now) names.now) path.now (view value.now)) }
 {
     let text = needed_text(path, "process", value)?;
-    let id = kubelet_named(players, names, text);
-    found_or(id, UNKNOWN_PROCESS, path, "process")
+    match kubelet_named(players, names, text) {
+        Some(id) => Ok(id),
+        None => Err(fault_under(UNKNOWN_PROCESS, path, "process")),
+    }
 }
 
 /// Puts an object.
@@ -256,7 +260,10 @@ fn kind_at(path: &Path, value: &Value) -> Result<Kind, ReadFault>
     ensures { Gives (λ kind. kind) result (walk.kind_at path.now (view value.now)) }
 {
     let text = needed_text(path, "kind", value)?;
-    found_or(kind_of(text), OUT_OF_RANGE, path, "kind")
+    match kind_of(text) {
+        Some(kind) => Ok(kind),
+        None => Err(fault_under(OUT_OF_RANGE, path, "kind")),
+    }
 }
 
 fn kind_of(text: &str) -> Option<Kind>

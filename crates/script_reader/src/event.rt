@@ -9,7 +9,7 @@ ghost use Rattle.script_reader.specs.Walk as walk;
 use crate::cast::Players;
 use crate::deed::what_at;
 use crate::field::{
-    array_in, fault, found_or, member_of, needed_text, needed_whole, object_at, path_of,
+    array_in, fault, fault_under, member_of, needed_text, needed_whole, object_at, path_of,
 };
 use crate::table::{EventType, Table, known_in};
 use kube_base::{Beat, KUBE_CONTROLLER_MANAGER, KUBE_SYSTEM, Names};
@@ -116,7 +116,10 @@ fn type_at(path: &Path, value: &Value) -> Result<EventType, ReadFault>
     ensures { Gives (λ kind. kind) result (walk.type_at path.now (view value.now)) }
 {
     let text = needed_text(path, "type", value)?;
-    found_or(type_of(text), OUT_OF_RANGE, path, "type")
+    match type_of(text) {
+        Some(kind) => Ok(kind),
+        None => Err(fault_under(OUT_OF_RANGE, path, "type")),
+    }
 }
 
 fn type_of(text: &str) -> Option<EventType>

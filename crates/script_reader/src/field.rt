@@ -3,7 +3,6 @@ ghost use Rattle.std.specs.Prelude.{◌≡◌, ◌≤◌, ◌++◌, codes, [], l
 ghost use Rattle.serde_json.specs.View.{view, items_view};
 ghost use Rattle.kube_base.specs.Times.{time_of};
 ghost use Rattle.manifest_json.specs.Faults.{Gives, IsFault};
-ghost use Rattle.manifest_json.specs.Fields.{or_refuse};
 ghost use Rattle.manifest_json.specs.Walk.{member_path};
 ghost use Rattle.script_reader.specs.Fields as spec;
 
@@ -52,21 +51,6 @@ pub(crate) fn fault_under(code: u32, path: &Path, key: &str) -> ReadFault
     match path.below("/") {
         Ok(path) => fault_below(code, &path, key),
         Err(_) => ReadFault::NoMemory,
-    }
-}
-
-/// What is found, or the fault with this code at a key of the object at the path, unless memory runs out.
-pub(crate) fn found_or<T: Copy + Drop>(
-    found: Option<T>,
-    code: u32,
-    path: &Path,
-    key: &str,
-) -> Result<T, ReadFault>
-    ensures { Gives (λ x. x) result (or_refuse found code (spec.under path.now key.now)) }
-{
-    match found {
-        Some(value) => Ok(value),
-        None => Err(fault_under(code, path, key)),
     }
 }
 
@@ -189,7 +173,10 @@ fn flag_in(path: &Path, key: &str, found: &Value) -> Result<bool, ReadFault>
     ensures { Gives (λ flag. flag) result
         (spec.flag_in (spec.under path.now key.now) (view found.now)) }
 {
-    found_or(found.as_bool(), WRONG_TYPE, path, key)
+    match found.as_bool() {
+        Some(flag) => Ok(flag),
+        None => Err(fault_under(WRONG_TYPE, path, key)),
+    }
 }
 
 /// A text under a key, or the default.
@@ -277,7 +264,10 @@ pub(crate) fn posted_at(path: &Path, key: &str, object: &Value) -> Result<ReadyS
         (spec.posted_at path.now key.now (view object.now)) }
 {
     let text = text_at("True", path, key, object)?;
-    found_or(posted_of(text), OUT_OF_RANGE, path, key)
+    match posted_of(text) {
+        Some(status) => Ok(status),
+        None => Err(fault_under(OUT_OF_RANGE, path, key)),
+    }
 }
 
 /// The status that a kubelet posts, which is required.
@@ -291,7 +281,10 @@ pub(crate) fn needed_posted(
         (spec.needed_posted path.now key.now (view object.now)) }
 {
     let text = needed_text(path, key, object)?;
-    found_or(posted_of(text), OUT_OF_RANGE, path, key)
+    match posted_of(text) {
+        Some(status) => Ok(status),
+        None => Err(fault_under(OUT_OF_RANGE, path, key)),
+    }
 }
 
 fn posted_of(text: &str) -> Option<ReadyStatus>
@@ -313,7 +306,10 @@ pub(crate) fn policy_at(path: &Path, key: &str, object: &Value) -> Result<RatePo
         (spec.policy_at path.now key.now (view object.now)) }
 {
     let text = text_at("standard", path, key, object)?;
-    found_or(policy_of(text), OUT_OF_RANGE, path, key)
+    match policy_of(text) {
+        Some(policy) => Ok(policy),
+        None => Err(fault_under(OUT_OF_RANGE, path, key)),
+    }
 }
 
 fn policy_of(text: &str) -> Option<RatePolicy>
