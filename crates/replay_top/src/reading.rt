@@ -8,8 +8,9 @@ ghost use Rattle.script_reader.specs.Walk.{document_walk};
 ghost use Rattle.replay_top.specs.Readings.{Reads, IsLawfulReading};
 
 use byte_edge::{Source, TakeFault, take_all};
+use document_laws::documents_are_lawful;
 use manifest_json::{ReadFault, Refusal};
-use script_reader::{Document, document_of, documents_are_lawful, read_value};
+use script_reader::{Document, document_of, read_value};
 use serde_json::Value;
 use std::alloc::Global;
 

@@ -1,5 +1,7 @@
-// What holds of every document that is read. These functions do nothing: each carries a law on its contract.
-ghost use Rattle.script_reader.specs.Laws.{DocumentsAreLawful, DocumentsAreWellNamed, LawfulIsSound};
+//! What holds of every document that is read. The functions do nothing: each carries a law on its contract.
+#![tactic(auto)]
+
+ghost use Rattle.document_laws.specs.Laws.{DocumentsAreLawful, DocumentsAreWellNamed, LawfulIsSound};
 
 /// Every document that the walk gives keeps its ranges, own rules and limits, the order of its events, and what they name. Its names hold its
 /// numbers, and its objects are those that a manifest can give.

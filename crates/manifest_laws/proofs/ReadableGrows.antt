@@ -16,7 +16,7 @@ use Rattle.manifest_json.specs.Fields.{Texts, is_name, is_label}
 use Rattle.manifest_json.specs.Readable.{AreHeld, IsHeld, IsFilled, IsNameNumber, IsLabelNumber, IsReadableTaint, IsReadableReady, IsReadableNode, IsReadableHolder, IsReadableLease, IsReadableToleration, IsNodeNumber, IsReadablePod, IsReadableItem}
 use Rattle.manifest_json.specs.Walk.{identity_of}
 use Rattle.manifest_json.specs.Written.{text_of}
-use Rattle.manifest_json.proofs.Growing.{Grows, IsHeld-grows, text_of-grows, identity_of-grows}
+use Rattle.manifest_laws.proofs.Growing.{Grows, IsHeld-grows, text_of-grows, identity_of-grows}
 
 module _ {A : Type 0} (P : A → Type 0) where
   pub all-weaker : (Q : A → Type 0) (xs : List A) → ((x : A) → P x → Q x) → AllByRecursion P xs → AllByRecursion Q xs

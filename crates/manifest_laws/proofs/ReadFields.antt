@@ -13,8 +13,8 @@ use Rattle.manifest_json.specs.Fields.{Texts, is_name, some_or_refuse, time_at, 
 use Rattle.manifest_json.specs.Readable.{IsHeld, IsNameNumber, IsTime, IsWholeSecond, IsCount, IsSigned}
 use Rattle.manifest_json.specs.Walk.{whole_second}
 use Rattle.manifest_json.specs.Written.{text_of}
-use Rattle.manifest_json.proofs.Getting.{Gets, Has, done, refused, weaker, by_test}
-use Rattle.manifest_json.proofs.Growing.{Grows, Grows-with, number_in-held}
+use Rattle.manifest_laws.proofs.Getting.{Gets, Has, done, refused, weaker, by_test}
+use Rattle.manifest_laws.proofs.Growing.{Grows, Grows-with, number_in-held}
 
 -- the value that is kept under an option, if the walk gives one
 module _ {A : Type 0} (P : Option A → Type 0) where

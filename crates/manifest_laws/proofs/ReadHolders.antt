@@ -11,9 +11,10 @@ use Rattle.manifest_json.specs.Faults.{◌>>=◌}
 use Rattle.manifest_json.specs.Fields.{Texts}
 use Rattle.manifest_json.specs.Readable.{AreHeld, IsHeld, IsReadableHolder}
 use Rattle.manifest_json.specs.Walk.{number_onto, incarnation_of, process_of, identity_from, identity_behind, identity_of, holder_or, holder_of}
-use Rattle.manifest_json.proofs.Getting.{Has, done, and_then, by_test}
-use Rattle.manifest_json.proofs.Growing.{Grows-none, hit, identity_of-grows}
-use Rattle.manifest_json.proofs.ReadFields.{Reads, numbered-reads}
+use Rattle.manifest_laws.proofs.Getting.{Has, done, and_then, by_test}
+use Rattle.manifest_json.proofs.Places.{hit}
+use Rattle.manifest_laws.proofs.Growing.{Grows-none, identity_of-grows}
+use Rattle.manifest_laws.proofs.ReadFields.{Reads, numbered-reads}
 
 -- ---- incarnations
 

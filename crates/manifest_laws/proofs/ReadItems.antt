@@ -20,11 +20,11 @@ use Rattle.manifest_json.specs.Fields.{Texts, is_label, field, field_in, object_
 use Rattle.manifest_json.specs.Readable.{AreHeld, IsHeld, IsFilled, IsNameNumber, IsLabelNumber, IsTime, IsWholeSecond, IsReadableTaint, taints_differ, IsReadableReady, IsReadableLease, IsReadableToleration, IsNodeNumber, IsReadableItem, items_fit, IsReadable}
 use Rattle.manifest_json.specs.Walk.{name_text_at, space_text_at, name_at, space_at, spaced_key_at, label_at, effect_at, same_taint, taint_text_at, taint_key_at, text_number_at, taint_at, whole_second, member_path, taints_from, items_len, hundred, taints_at, status_at, ready_at, is_ready_type, condition_at, conditions_from, conditions_at, labels_at, node_at, lease_spec_at, lease_at, operator_at, any_effect_at, is_lawful, toleration_at, tolerations_from, tolerations_at, node_name_at, pod_at, of_kind_at, if_kind, item_at, object_walk, kind_limit, kind_count, has_key, with_found, with_item, list_step, list_from, list_walk}
 use Rattle.manifest_json.specs.Written.{is_writable, is_writable_taint, is_writable_condition, is_writable_item}
-use Rattle.manifest_json.proofs.Getting.{Gets, done, refused, weaker, by_test, and_then, skip}
-use Rattle.manifest_json.proofs.Growing.{Grows, Grows-none, Grows-then, IsHeld-grows}
-use Rattle.manifest_json.proofs.ReadableGrows.{all-weaker, all-push, AreHeld-grows, IsFilled-grows, IsNameNumber-grows, IsLabelNumber-grows, IsNodeNumber-grows, IsReadableTaint-grows, IsReadableToleration-grows, IsReadableItem-grows}
-use Rattle.manifest_json.proofs.ReadFields.{Reads, time-in, whole-in, count-in, signed-in, numbered-reads, named-reads}
-use Rattle.manifest_json.proofs.ReadHolders.{holder-reads}
+use Rattle.manifest_laws.proofs.Getting.{Gets, done, refused, weaker, by_test, and_then, skip}
+use Rattle.manifest_laws.proofs.Growing.{Grows, Grows-none, Grows-then, IsHeld-grows}
+use Rattle.manifest_laws.proofs.ReadableGrows.{all-weaker, all-push, AreHeld-grows, IsFilled-grows, IsNameNumber-grows, IsLabelNumber-grows, IsNodeNumber-grows, IsReadableTaint-grows, IsReadableToleration-grows, IsReadableItem-grows}
+use Rattle.manifest_laws.proofs.ReadFields.{Reads, time-in, whole-in, count-in, signed-in, numbered-reads, named-reads}
+use Rattle.manifest_laws.proofs.ReadHolders.{holder-reads}
 
 -- ---- metadata
 

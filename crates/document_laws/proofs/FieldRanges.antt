@@ -14,7 +14,7 @@ use Rattle.manifest_json.specs.Walk.{items_len}
 use Rattle.kube_objects.specs.declared.node.ReadyStatus.TheVariants as statuses
 use Rattle.script_reader.specs.Lawful.{IsPosted}
 use Rattle.script_reader.specs.Fields.{under, default_of, required, whole_or, whole_in, whole_at, needed_whole, signed_or, signed_in, signed_at, array_in, text_at, needed_text, posted_of, posted_at, needed_posted}
-use Rattle.manifest_json.proofs.Getting.{Gets, Has, done, refused, by_test, skip, of_option}
+use Rattle.manifest_laws.proofs.Getting.{Gets, Has, done, refused, by_test, skip, of_option}
 
 -- a key that may be missing
 module _ {A : Type 0} {P : A → Type 0} (read : Data → Result A Refusal) where

@@ -1,6 +1,6 @@
-use Rattle.manifest_json.proofs.FittingItems.{keys-apart, kinds-few}
-use Rattle.manifest_json.proofs.ReadItems.{list-reads, object-reads, writable-items}
-use Rattle.manifest_json.proofs.laws.objects_are_readable.Goals as goal
+use Rattle.manifest_laws.proofs.FittingItems.{keys-apart, kinds-few}
+use Rattle.manifest_laws.proofs.ReadItems.{list-reads, object-reads, writable-items}
+use Rattle.manifest_laws.proofs.objects_are_readable.Goals as goal
 
 pub returns-clause-lists : goal.returns-clause-lists
 returns-clause-lists c = λ names new known path value items skipped held is. ((list-reads names known path value held).at ((items, skipped), new) is).1

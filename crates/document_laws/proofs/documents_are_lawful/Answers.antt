@@ -1,5 +1,5 @@
-use Rattle.script_reader.proofs.LawfulWalk.{documents-lawful, documents-well_named}
-use Rattle.script_reader.proofs.laws.documents_are_lawful.Goals as goal
+use Rattle.document_laws.proofs.LawfulWalk.{documents-lawful, documents-well_named}
+use Rattle.document_laws.proofs.documents_are_lawful.Goals as goal
 
 pub returns-clause-lawful : goal.returns-clause-lawful
 returns-clause-lawful c = documents-lawful

@@ -11,10 +11,10 @@ use Rattle.kube_base.specs.Times.{time_of}
 use Rattle.kube_base.specs.declared.numbers.Wall.{Wall}
 use Rattle.kube_objects.specs.declared.script.Proc.{Proc}
 use Rattle.kube_objects.specs.declared.settings.Settings.{Settings}
-use Rattle.manifest_json.proofs.Getting.{Gets, done, refused, weaker, by_test, and_then, skip}
-use Rattle.manifest_json.proofs.Growing.{Grows, Grows-none, Grows-then}
-use Rattle.manifest_json.proofs.ReadFields.{Reads, numbered-reads}
-use Rattle.manifest_json.proofs.ReadableGrows.{all-push, IsNameNumber-grows}
+use Rattle.manifest_laws.proofs.Getting.{Gets, done, refused, weaker, by_test, and_then, skip}
+use Rattle.manifest_laws.proofs.Growing.{Grows, Grows-none, Grows-then}
+use Rattle.manifest_laws.proofs.ReadFields.{Reads, numbered-reads}
+use Rattle.manifest_laws.proofs.ReadableGrows.{all-push, IsNameNumber-grows}
 use Rattle.manifest_json.specs.Fields.{Texts, is_name, numbered}
 use Rattle.manifest_json.specs.Readable.{IsNameNumber}
 use Rattle.manifest_json.specs.Walk.{items_len, member_path}
@@ -28,7 +28,7 @@ use Rattle.script_reader.specs.declared.table.Version.{Version}
 use Rattle.script_reader.specs.Fields.{under, text_at, needed_text, if_name, needed_name, name_at, needed_whole, whole_at, flag_at, policy_at, if_epoch, epoch_at}
 use Rattle.script_reader.specs.Lawful.{AreLawful, IsPosted, IsLawful, AreNamedApart}
 use Rattle.script_reader.specs.Walk.{object_in, if_end, beats_at, timings_at, standard, periods_at, rates_at, is_sound, settings_of, settings_at, named_at, clock_at, timings_of, has_name, numbers_of, controller_of, controller_at, controllers_from, not_empty, controllers_in, kubelet_of, kubelet_at, kubelets_from, kubelets_in}
-use Rattle.script_reader.proofs.FieldRanges.{IsIn, whole_at-in, IsSignedIn, signed_at-in, posted_at-in, array-few}
+use Rattle.document_laws.proofs.FieldRanges.{IsIn, whole_at-in, IsSignedIn, signed_at-in, posted_at-in, array-few}
 use Rattle.script_reader.proofs.Named.{any_map, numbers-push}
 
 -- ---- settings

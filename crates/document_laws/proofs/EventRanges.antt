@@ -21,11 +21,11 @@ use Rattle.kube_objects.specs.declared.script.Event.{Event}
 use Rattle.kube_objects.specs.declared.script.What.{What}
 use Rattle.kube_objects.specs.declared.script.What.TheVariants as deeds
 use Rattle.manifest_json.specs.declared.codes.TheConstants.{UNKNOWN_PROCESS, WRONG_TYPE}
-use Rattle.manifest_json.proofs.Getting.{Gets, Has, done, refused, weaker, by_test, of_option, and_then, skip}
-use Rattle.manifest_json.proofs.Growing.{Grows, Grows-none, Grows-then}
-use Rattle.manifest_json.proofs.ReadFields.{Reads}
-use Rattle.manifest_json.proofs.ReadItems.{object-reads}
-use Rattle.manifest_json.proofs.ReadableGrows.{AreHeld-grows, IsNameNumber-grows, IsReadableItem-grows}
+use Rattle.manifest_laws.proofs.Getting.{Gets, Has, done, refused, weaker, by_test, of_option, and_then, skip}
+use Rattle.manifest_laws.proofs.Growing.{Grows, Grows-none, Grows-then}
+use Rattle.manifest_laws.proofs.ReadFields.{Reads}
+use Rattle.manifest_laws.proofs.ReadItems.{object-reads}
+use Rattle.manifest_laws.proofs.ReadableGrows.{AreHeld-grows, IsNameNumber-grows, IsReadableItem-grows}
 use Rattle.manifest_json.specs.declared.fault.Refusal.{Refusal}
 use Rattle.manifest_json.specs.Fields.{Texts, is_name}
 use Rattle.manifest_json.specs.Readable.{AreHeld, IsReadableItem}
@@ -38,8 +38,8 @@ use Rattle.kube_objects.specs.Kinds.{IsOfKind}
 use Rattle.script_reader.specs.Lawful.{IsPosted, IsSpaceNumber, IsReadableWhat, IsLawfulWhat, AreLawfulFrom}
 use Rattle.script_reader.specs.Tables.{known_in}
 use Rattle.script_reader.specs.Walk.{Cast, controller_named, kubelet_named, process_named, proc_id, behind, or_else, process_at, rate_at, delay_at, loss_at, crash_at, start_at, stop_at, watch_at, ready_at, put_at, kind_at, space_of, remove_at, beside, what_at, type_at, edits_election, if_event, event_at, events_from, events_in}
-use Rattle.script_reader.proofs.FieldRanges.{IsIn, of_required, needed_whole-in, needed_posted-in, array-few}
-use Rattle.script_reader.proofs.ProcessRanges.{name_at-in, named-number, named_at-reads}
+use Rattle.document_laws.proofs.FieldRanges.{IsIn, of_required, needed_whole-in, needed_posted-in, array-few}
+use Rattle.document_laws.proofs.ProcessRanges.{name_at-in, named-number, named_at-reads}
 
 -- ---- the processes that events name
 

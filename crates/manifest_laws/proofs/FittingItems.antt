@@ -12,7 +12,7 @@ use Rattle.kube_objects.specs.declared.key.Kind.TheVariants as kinds
 use Rattle.kube_objects.specs.declared.object.Object.{Object}
 use Rattle.manifest_json.specs.Readable.{items_fit}
 use Rattle.manifest_json.specs.Walk.{has_key, kind_count, kind_limit}
-use Rattle.manifest_json.proofs.ReadItems.{three}
+use Rattle.manifest_laws.proofs.ReadItems.{three}
 
 abbrev pub keys_of : List (Key × Object) → List Key
 keys_of items = map (λ item. item.0) items

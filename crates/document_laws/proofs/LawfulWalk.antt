@@ -12,12 +12,12 @@ use Rattle.kube_objects.specs.Document.{Doc}
 use Rattle.kube_objects.specs.declared.key.Key.{Key}
 use Rattle.kube_objects.specs.declared.object.Object.{Object}
 use Rattle.kube_objects.specs.declared.script.Proc.{Proc}
-use Rattle.manifest_json.proofs.FittingItems.{keys-apart, kinds-few}
-use Rattle.manifest_json.proofs.Getting.{Gets, done, and_then, skip}
-use Rattle.manifest_json.proofs.Growing.{Grows, Grows-none, Grows-then}
-use Rattle.manifest_json.proofs.ReadFields.{Reads}
-use Rattle.manifest_json.proofs.ReadItems.{list-reads, IsReadable-grows}
-use Rattle.manifest_json.proofs.ReadableGrows.{all-weaker, AreHeld-grows}
+use Rattle.manifest_laws.proofs.FittingItems.{keys-apart, kinds-few}
+use Rattle.manifest_laws.proofs.Getting.{Gets, done, and_then, skip}
+use Rattle.manifest_laws.proofs.Growing.{Grows, Grows-none, Grows-then}
+use Rattle.manifest_laws.proofs.ReadFields.{Reads}
+use Rattle.manifest_laws.proofs.ReadItems.{list-reads, IsReadable-grows}
+use Rattle.manifest_laws.proofs.ReadableGrows.{all-weaker, AreHeld-grows}
 use Rattle.manifest_json.specs.Fields.{Texts}
 use Rattle.manifest_json.specs.Readable.{AreHeld, IsNameNumber, IsReadableItem, IsReadable}
 use Rattle.script_reader.specs.Documents.{doc_of}
@@ -25,11 +25,11 @@ use Rattle.script_reader.specs.declared.document.Document.{Document}
 use Rattle.script_reader.specs.Fields.{required}
 use Rattle.kube_objects.specs.Kinds.{IsOfKind}
 use Rattle.script_reader.specs.Lawful.{IsLawfulDoc, IsWellNamed}
-use Rattle.script_reader.specs.Laws.{DocumentsAreLawful, DocumentsAreWellNamed}
+use Rattle.document_laws.specs.Laws.{DocumentsAreLawful, DocumentsAreWellNamed}
 use Rattle.script_reader.specs.Walk.{version_in, settings_at, controllers_in, kubelets_in, objects_in, no_objects, numbers_of, cast_of, events_in, top_in, document_at, data_of, document_walk}
-use Rattle.script_reader.proofs.EventRanges.{of-kind, IsOf, AreAll, AreAll-none, events-reads}
-use Rattle.script_reader.proofs.FieldRanges.{of_default, of_required}
-use Rattle.script_reader.proofs.ProcessRanges.{AreProcs, AreProcs-none, named-grow, settings-in, controllers-in, kubelets-in}
+use Rattle.document_laws.proofs.EventRanges.{of-kind, IsOf, AreAll, AreAll-none, events-reads}
+use Rattle.document_laws.proofs.FieldRanges.{of_default, of_required}
+use Rattle.document_laws.proofs.ProcessRanges.{AreProcs, AreProcs-none, named-grow, settings-in, controllers-in, kubelets-in}
 
 -- ---- objects
 
