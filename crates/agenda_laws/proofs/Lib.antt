@@ -1,0 +1,4 @@
+pub mod Between
+pub mod Standing
+pub mod Parts
+pub mod Times
