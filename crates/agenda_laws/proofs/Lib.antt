@@ -2,3 +2,5 @@ pub mod Between
 pub mod Standing
 pub mod Parts
 pub mod Times
+pub mod Ticking
+pub mod Waking

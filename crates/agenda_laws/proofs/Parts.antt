@@ -1,27 +1,21 @@
 -- A step, a turn and a tick add nothing exactly where each of their parts, done on the history by itself, adds nothing.
-use Rattle.std.proofs.Common.{◌≡◌, ◌↔◌, ◌⊎◌, ◌==◌, ◌&&◌, not, nat_lt, Bool, true, false, ℕ, zero, suc, ◌<◌, ◌≤◌, Option, Some, None, List, [], ◌∷◌, refl, sym, ap, ◌∙◌, subst, inl, inr, arith}
+use Rattle.std.proofs.Common.{◌≡◌, ◌==◌, Bool, true, false, ℕ, zero, suc, ◌<◌, Option, Some, None, List, [], ◌∷◌, refl, sym, ap, ◌∙◌, subst, inl, inr, arith}
 use Rattle.std.proofs.lemmas.Bool.{cases_lt}
 use Rattle.kube_objects.specs.declared.call.Request.{Request}
-use Rattle.kube_objects.specs.declared.key.Key.{Key}
 use Rattle.kube_objects.specs.declared.script.Event.{Event}
 use Rattle.kube_objects.specs.declared.script.What.{What}
 use Rattle.kube_objects.specs.declared.script.What.TheVariants as what
-use Rattle.kube_objects.specs.Document.{Doc, processes, is_up_first, is_controller}
-use Rattle.kube_objects.specs.Elector.{deadline, acts, timer, release}
+use Rattle.kube_objects.specs.Document.{Doc, processes, is_up_first}
+use Rattle.kube_objects.specs.Elector.{deadline, acts, release}
 use Rattle.kube_objects.specs.Entry.{Entry, Identity, Call, Event as Happens, Stops, script_entry, entry}
-use Rattle.kube_objects.specs.Health.{is_pass_due}
 use Rattle.kube_objects.specs.Identities.{identity}
-use Rattle.kube_objects.specs.InForce.{watches}
-use Rattle.kube_objects.specs.Kubelet.{round_if, round, is_round_due, is_post_call}
-use Rattle.kube_objects.specs.Modes.{nodes, places}
-use Rattle.kube_objects.specs.Newest.{has}
+use Rattle.kube_objects.specs.Kubelet.{round_if, round}
 use Rattle.kube_objects.specs.Process.{alive, call_in, is_late, ended, is_restart_due}
-use Rattle.kube_objects.specs.Seen.{is_fresh, is_synced}
-use Rattle.kube_objects.specs.Tick.{sync_if, sync, pass, cleaned, tainted, evicted, tick_if, tick}
-use Rattle.kube_objects.specs.Turns.{expire_as, expire_call, end_as, end_term, just_expired, is_fast_call, attempt_if, try}
-use Rattle.history.specs.Steps.{start_first, starts_below, first_starts, start_if_down, crash, released, stop, effect, stamp, event_version, happens_if, happen_all, step_one, restart_as, restart_if, restart, expire, finish, attempts, tick_as, ticks, controller_turn, rounds, kubelet_turn, turn_as, turn}
+use Rattle.kube_objects.specs.Seen.{is_synced}
+use Rattle.kube_objects.specs.Tick.{sync, pass, cleaned, tainted, evicted, tick_if, tick}
+use Rattle.kube_objects.specs.Turns.{expire_as, expire_call, end_as, end_term, attempt_if, try}
+use Rattle.history.specs.Steps.{start_first, starts_below, first_starts, start_if_down, crash, released, stop, effect, stamp, event_version, happens_if, happen_all, step_one, restart_as, restart_if, restart, expire, finish, attempts, tick_as, ticks, controller_turn, rounds, kubelet_turn}
 use Rattle.history_laws.specs.Tails.{IsTail}
-use Rattle.history_laws.proofs.Plainly.{true_is}
 use Rattle.history_laws.proofs.Tailed.{tail_all, tail_trans}
 use Rattle.history_laws.proofs.Ticks.{walk_sync, walk_pass, walk_cleaned, walk_tainted, walk_evicted, walk_tick}
 use Rattle.agenda_laws.specs.Parts.{IsUneventful, EventsAddByParts, IsStillController, ControllersAddByParts, IsStillKubelet, KubeletsAddByParts, IsStillSynced, IsStillTick, TicksAddByParts}
@@ -49,7 +43,7 @@ below_none : (doc : Doc) (n : ℕ) (h : List Entry) → starts_below doc n h ≡
 below_none doc zero h is p less = absurd (omega (arith, less))
 below_none doc (suc n) h is p less =
     elim (cases_lt p n) [
-        inl before ↦ below_none doc n h (below_same doc n h is) p before
+      | inl before ↦ below_none doc n h (below_same doc n h is) p before
       | inr after ↦
           let same : n ≡ p = omega (arith, less, after) in
           subst (λ x. is_up_first doc x ≡ false) same (first_none n (is_up_first doc n) h (ap (start_first n (is_up_first doc n)) (sym (below_same doc n h is)) ∙ is))

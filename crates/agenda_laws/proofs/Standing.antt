@@ -1,5 +1,5 @@
 -- A beat adds entries of its own steps alone, and nothing exactly where each of its parts by itself adds nothing.
-use Rattle.std.proofs.Common.{◌≡◌, ◌↔◌, ◌⊎◌, ◌==◌, ◌&&◌, ◌||◌, nat_lt, Bool, true, false, ℕ, zero, suc, ◌+◌, ◌-◌, ◌<◌, ◌≤◌, ◌++◌, Option, Some, None, List, [], ◌∷◌, length, refl, sym, ap, ◌∙◌, subst, inl, inr, arith}
+use Rattle.std.proofs.Common.{◌≡◌, ◌⊎◌, ◌==◌, ◌&&◌, ◌||◌, nat_lt, Bool, true, false, ℕ, zero, suc, ◌+◌, ◌-◌, ◌<◌, ◌≤◌, ◌++◌, Option, Some, None, List, [], ◌∷◌, refl, sym, ap, ◌∙◌, subst, inl, inr, arith}
 use Rattle.std.proofs.lemmas.Bool.Decides.{nat_tests}
 use Rattle.kube_objects.specs.declared.call.Reply.{Reply}
 use Rattle.kube_objects.specs.declared.call.Request.{Request}
@@ -10,7 +10,7 @@ use Rattle.kube_objects.specs.InFlight.{requests_due, replies_due}
 use Rattle.kube_objects.specs.Kubelet.{next_request, send_next}
 use Rattle.kube_objects.specs.Newest.{added}
 use Rattle.kube_objects.specs.Process.{counted}
-use Rattle.kube_objects.specs.Turns.{lead_if, react}
+use Rattle.kube_objects.specs.Turns.{react}
 use Rattle.kube_objects.specs.Wire.{Sent, Back}
 use Rattle.history.specs.Due.{answer_all, deliver_all}
 use Rattle.history.specs.History.{beat, history, three_steps, whole_history}
@@ -18,7 +18,7 @@ use Rattle.history.specs.Steps.{answered, delivered, step_one, step_two, step_th
 use Rattle.history.proofs.Due.{step_two-due, step_three-due}
 use Rattle.history_laws.specs.Tails.{In, IsTail}
 use Rattle.history_laws.proofs.Order.{entries_are_earlier}
-use Rattle.history_laws.proofs.Plainly.{true_is, false_is, and_left, and_right, added_more}
+use Rattle.history_laws.proofs.Plainly.{false_is, and_left, and_right, added_more}
 use Rattle.history_laws.proofs.Tailed.{tail_all, tail_trans, one_adds, two_adds, three_adds, turns_add}
 use Rattle.history_laws.proofs.Walk.{Anyone, Keeps, KeepsTurn, all_kinds, all_turns, walk_any_turn, walk_any_turns, walk_steps}
 use Rattle.agenda_laws.specs.Standing.{StandsAt, IsQuiet, IsFrom, AreFrom, Added, BeatsAddByParts, BeatsAddTheirs, EntriesStandWhereAdded, is_of, stands_in, standing_below, StandingIsTested}
@@ -201,8 +201,8 @@ above_keeps doc k g =
 turns_above : (doc : Doc) (k : ℕ) (g : List Entry) → KeepsTurn doc Anyone (λ j h. Above k g j 4 h)
 turns_above doc k g =
     all_turns doc Anyone (λ j h. Above k g j 4 h) (λ j x h beat step next s.
-        subst (λ i. Above k g i 4 (x ∷ h)) beat (subst (λ n. Above k g x.beat n (x ∷ h)) step
-        (above_more k g x h (subst (λ i. Above k g i x.step h) (sym beat) (subst (λ n. Above k g j n h) (sym step) s)))))
+    subst (λ i. Above k g i 4 (x ∷ h)) beat (subst (λ n. Above k g x.beat n (x ∷ h)) step
+    (above_more k g x h (subst (λ i. Above k g i x.step h) (sym beat) (subst (λ n. Above k g j n h) (sym step) s)))))
 
 above_beat : (doc : Doc) (k : ℕ) (g : List Entry) (j : ℕ) (h : List Entry) → Above k g j 1 h → Above k g j 4 (beat doc h j)
 above_beat doc k g j h s =

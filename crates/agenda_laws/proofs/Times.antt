@@ -1,18 +1,18 @@
 -- Each part of a turn but for the tick adds something exactly from a reading on.
-use Rattle.std.proofs.Common.{◌≡◌, ◌↔◌, ℕ, ◌+◌, ◌<◌, ◌≤◌, ◌&&◌, not, nat_lt, Bool, true, false, List, ◌∷◌, Option, Some, None, refl, sym, ap, ◌∙◌, arith}
+use Rattle.std.proofs.Common.{◌≡◌, ◌↔◌, ℕ, ◌+◌, ◌&&◌, not, nat_lt, Bool, true, false, List, ◌∷◌, Option, Some, None, refl, ap, arith}
 use Rattle.std.proofs.lemmas.Bool.Decides.{nat_tests}
 use Rattle.kube_objects.specs.Clocks.{local}
 use Rattle.kube_objects.specs.Document.{Doc, call_timeout, restart_delay}
 use Rattle.kube_objects.specs.Elector.{deadline, timer}
 use Rattle.kube_objects.specs.Entry.{Entry, Identity, Call}
 use Rattle.kube_objects.specs.Identities.{identity}
-use Rattle.kube_objects.specs.Kubelet.{has_round, round_timer, round_if, round, is_round_due, is_post_call}
+use Rattle.kube_objects.specs.Kubelet.{has_round, round_timer, round_if, round, is_post_call}
 use Rattle.kube_objects.specs.Newest.{has}
 use Rattle.kube_objects.specs.Process.{alive, call_in, is_late, ended, is_restart_due}
 use Rattle.kube_objects.specs.Turns.{expire_as, expire_call, end_as, end_term, just_expired, is_fast_call, attempt_if, try}
-use Rattle.history.specs.Steps.{if_up as steps_if_up, restart_as, restart_if, restart, expire, finish, attempts, rounds}
+use Rattle.history.specs.Steps.{if_up as steps_if_up, restart_as, restart_if}
 use Rattle.history_laws.proofs.Plainly.{true_is, false_is}
-use Rattle.agenda_laws.specs.Times.{is_early, if_up, restart_after, restart_if_down, restart_at, RestartsWake, late_at, expiry_at, ExpiriesWake, deadline_at, DeadlinesWake, IsRested, unless_waiting, attempt_at, AttemptsWake, unless_running, round_at, RoundsWake}
+use Rattle.agenda_laws.specs.Times.{is_early, if_up, restart_after, restart_if_down, RestartsWake, late_at, ExpiriesWake, DeadlinesWake, IsRested, unless_waiting, AttemptsWake, unless_running, RoundsWake}
 use Rattle.agenda_laws.proofs.Between.{grew}
 
 -- what adds nothing exactly before a time

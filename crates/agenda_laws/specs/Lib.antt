@@ -1,3 +1,5 @@
 pub mod Standing
 pub mod Parts
 pub mod Times
+pub mod Ticking
+pub mod Waking

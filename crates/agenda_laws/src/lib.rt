@@ -4,7 +4,9 @@
 
 ghost use Rattle.agenda_laws.specs.Parts.{EventsAddByParts, ControllersAddByParts, KubeletsAddByParts, TicksAddByParts};
 ghost use Rattle.agenda_laws.specs.Standing.{BeatsAddByParts, BeatsAddTheirs, EntriesStandWhereAdded, StandingIsTested};
+ghost use Rattle.agenda_laws.specs.Ticking.{SyncsWake, PassesWake, CleansWake, HeadsWake, DeletesWake, TicksWake};
 ghost use Rattle.agenda_laws.specs.Times.{RestartsWake, ExpiriesWake, DeadlinesWake, AttemptsWake, RoundsWake};
+ghost use Rattle.agenda_laws.specs.Waking.{TurnsWake, BeatsWake, HistoriesAreRested, QuietBeatsAreSlept, NextBeatsWake};
 
 /// A beat adds entries of its own steps alone, and an entry stands at a beat exactly where the beat adds one.
 pub fn entries_stand_where_added()
@@ -30,4 +32,25 @@ pub fn turns_wake_by_readings()
     ensures deadlines { DeadlinesWake }
     ensures attempts { AttemptsWake }
     ensures rounds { RoundsWake }
+{}
+
+/// Each part of a tick adds something at once, or exactly from a reading on, or exactly from a time of day on; nothing else of a tick
+/// depends on the beat.
+pub fn ticks_wake_by_times()
+    ensures syncs { SyncsWake }
+    ensures passes { PassesWake }
+    ensures cleans { CleansWake }
+    ensures heads { HeadsWake }
+    ensures deletes { DeletesWake }
+    ensures ticks { TicksWake }
+{}
+
+/// A turn, and a beat, adds something exactly where something is there that a process waits for; and the next beat with an entry is found on
+/// one history alone.
+pub fn beats_wake_by_causes()
+    ensures turns { TurnsWake }
+    ensures beats { BeatsWake }
+    ensures rested { HistoriesAreRested }
+    ensures quiet { QuietBeatsAreSlept }
+    ensures next { NextBeatsWake }
 {}
