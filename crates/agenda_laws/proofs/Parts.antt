@@ -14,11 +14,11 @@ use Rattle.kube_objects.specs.Process.{alive, call_in, is_late, ended, is_restar
 use Rattle.kube_objects.specs.Seen.{is_synced}
 use Rattle.kube_objects.specs.Tick.{sync, pass, cleaned, tainted, evicted, tick_if, tick}
 use Rattle.kube_objects.specs.Turns.{expire_as, expire_call, end_as, end_term, attempt_if, try}
-use Rattle.history.specs.Steps.{start_first, starts_below, first_starts, start_if_down, crash, released, stop, effect, stamp, event_version, happens_if, happen_all, step_one, restart_as, restart_if, restart, expire, finish, attempts, tick_as, ticks, controller_turn, rounds, kubelet_turn}
+use Rattle.history.specs.Steps.{start_first, starts_below, first_starts, start_if_down, crash, released, stop, effect, stamp, event_version, happens_if, happen_all, step_one, restart_as, restart_if, restart, expire, finish, attempts, tick_as, ticks, elector_turn, controller_turn, rounds, kubelet_turn}
 use Rattle.history_laws.specs.Tails.{IsTail}
 use Rattle.history_laws.proofs.Tailed.{tail_all, tail_trans}
 use Rattle.history_laws.proofs.Ticks.{walk_sync, walk_pass, walk_cleaned, walk_tainted, walk_evicted, walk_tick}
-use Rattle.agenda_laws.specs.Parts.{IsUneventful, EventsAddByParts, IsStillController, ControllersAddByParts, IsStillKubelet, KubeletsAddByParts, IsStillSynced, IsStillTick, TicksAddByParts}
+use Rattle.agenda_laws.specs.Parts.{IsUneventful, EventsAddByParts, IsStillElector, ElectorsAddByParts, IsStillController, ControllersAddByParts, IsStillKubelet, KubeletsAddByParts, IsStillSynced, IsStillTick, TicksAddByParts}
 use Rattle.agenda_laws.specs.Standing.{Among}
 use Rattle.agenda_laws.proofs.Between.{between, longer, grew, up_adds}
 
@@ -271,40 +271,51 @@ module _ (doc : Doc) (k p : ℕ) where
   ticks_add : (h : List Entry) → IsTail h (ticks doc k p h)
   ticks_add h = up_adds p (λ q T. tick_as doc k q (acts doc q k T) T) (λ q g. tick_as_adds q (acts doc q k g) g) (alive p h) h
 
-  controller_still : (h : List Entry) → controller_turn doc k p h ≡ h → IsStillController doc k p h
-  controller_still h is =
+  elector_adds : (h : List Entry) → IsTail h (elector_turn doc k p h)
+  elector_adds h =
       let r = restart doc k p h in
       let e = expire doc k p r in
       let f = finish doc k p e in
       let a = attempts doc k p f in
-      let t = ticks doc k p a in
-      let a_high = ticks_add a in
-      let f_high = tail_trans f a t (attempts_add f) a_high in
-      let e_high = tail_trans e f t (finish_adds e) f_high in
-      let r_high = tail_trans r e t (expire_adds r) e_high in
+      tail_trans h r a (restart_adds h) (tail_trans r e a (expire_adds r) (tail_trans e f a (finish_adds e) (attempts_add f)))
+
+  elector_still : (h : List Entry) → elector_turn doc k p h ≡ h → IsStillElector doc k p h
+  elector_still h is =
+      let r = restart doc k p h in
+      let e = expire doc k p r in
+      let f = finish doc k p e in
+      let a = attempts doc k p f in
+      let f_high = attempts_add f in
+      let e_high = tail_trans e f a (finish_adds e) f_high in
+      let r_high = tail_trans r e a (expire_adds r) e_high in
       let r_low = restart_adds h in
       let e_low = tail_trans h r e r_low (expire_adds r) in
       let f_low = tail_trans h e f e_low (finish_adds e) in
-      let a_low = tail_trans h f a f_low (attempts_add f) in
-      let r_is : r ≡ h = between h r t r_low r_high is in
-      let e_is : e ≡ h = between h e t e_low e_high is in
-      let f_is : f ≡ h = between h f t f_low f_high is in
-      let a_is : a ≡ h = between h a t a_low a_high is in
+      let r_is : r ≡ h = between h r a r_low r_high is in
+      let e_is : e ≡ h = between h e a e_low e_high is in
+      let f_is : f ≡ h = between h f a f_low f_high is in
       record {
         restarts = r_is;
         expires = ap (expire doc k p) (sym r_is) ∙ e_is;
         finishes = ap (finish doc k p) (sym e_is) ∙ f_is;
-        tries = ap (attempts doc k p) (sym f_is) ∙ a_is;
-        ticks = ap (ticks doc k p) (sym a_is) ∙ is;
+        tries = ap (attempts doc k p) (sym f_is) ∙ is;
       }
 
+  still_elector : (h : List Entry) → IsStillElector doc k p h → elector_turn doc k p h ≡ h
+  still_elector h s =
+      ap (λ g. attempts doc k p (finish doc k p (expire doc k p g))) s.restarts
+      ∙ ap (λ g. attempts doc k p (finish doc k p g)) s.expires
+      ∙ ap (attempts doc k p) s.finishes
+      ∙ s.tries
+
+  controller_still : (h : List Entry) → controller_turn doc k p h ≡ h → IsStillController doc k p h
+  controller_still h is =
+      let a = elector_turn doc k p h in
+      let same : a ≡ h = between h a (controller_turn doc k p h) (elector_adds h) (ticks_add a) is in
+      record { elector = same; ticks = ap (ticks doc k p) (sym same) ∙ is }
+
   still_controller : (h : List Entry) → IsStillController doc k p h → controller_turn doc k p h ≡ h
-  still_controller h s =
-      ap (λ g. ticks doc k p (attempts doc k p (finish doc k p (expire doc k p g)))) s.restarts
-      ∙ ap (λ g. ticks doc k p (attempts doc k p (finish doc k p g))) s.expires
-      ∙ ap (λ g. ticks doc k p (attempts doc k p g)) s.finishes
-      ∙ ap (ticks doc k p) s.tries
-      ∙ s.ticks
+  still_controller h s = ap (ticks doc k p) s.elector ∙ s.ticks
 
   round_adds : (q : Identity) (late due : Bool) (h : List Entry) → IsTail h (round_if doc k q late due h)
   round_adds q true due h = inr (tail_all h)
@@ -322,6 +333,9 @@ module _ (doc : Doc) (k p : ℕ) where
 
   still_kubelet : (h : List Entry) → IsStillKubelet doc k p h → kubelet_turn doc k p h ≡ h
   still_kubelet h s = ap (rounds doc k p) s.expires ∙ s.rounds
+
+pub electors_add_by_parts : ElectorsAddByParts
+electors_add_by_parts doc k p h = (elector_still doc k p h, still_elector doc k p h)
 
 pub controllers_add_by_parts : ControllersAddByParts
 controllers_add_by_parts doc k p h = (controller_still doc k p h, still_controller doc k p h)

@@ -10,10 +10,11 @@ use Rattle.kube_objects.specs.Kubelet.{has_round, round_timer, round_if, round, 
 use Rattle.kube_objects.specs.Newest.{has}
 use Rattle.kube_objects.specs.Process.{alive, call_in, is_late, ended, is_restart_due}
 use Rattle.kube_objects.specs.Turns.{expire_as, expire_call, end_as, end_term, just_expired, is_fast_call, attempt_if, try}
-use Rattle.history.specs.Steps.{if_up as steps_if_up, restart_as, restart_if}
+use Rattle.history.specs.Steps.{if_up as steps_if_up, restart_as, restart_if, restart, expire, finish, attempts, elector_turn, rounds, kubelet_turn}
 use Rattle.history_laws.proofs.Plainly.{true_is, false_is}
-use Rattle.agenda_laws.specs.Times.{is_early, if_up, restart_after, restart_if_down, RestartsWake, late_at, ExpiriesWake, DeadlinesWake, IsRested, unless_waiting, AttemptsWake, unless_running, RoundsWake}
-use Rattle.agenda_laws.proofs.Between.{grew}
+use Rattle.agenda_laws.specs.Times.{is_early, sooner, if_up, restart_at, round_at, deadline_at, expiry_at, attempt_at, restart_after, restart_if_down, RestartsWake, late_at, ExpiriesWake, DeadlinesWake, unless_waiting, AttemptsWake, LostNoUpdate, LostNoPost, elector_reading, ElectorsWake, kubelet_reading, KubeletsWake, unless_running, RoundsWake}
+use Rattle.agenda_laws.proofs.Between.{grew, sooner_both, both_sooner}
+use Rattle.agenda_laws.proofs.Parts.{electors_add_by_parts, kubelets_add_by_parts}
 
 -- what adds nothing exactly before a time
 abbrev pub Waits : List Entry → List Entry → Bool → Type 0
@@ -26,9 +27,9 @@ pub now : (x : Entry) (h : List Entry) → Waits (x ∷ h) h false
 now x h = (λ is. absurd (grew x h is), λ is. absurd (false_is is))
 
 -- where a process is up
-up_waits : (p : ℕ) (f : Identity → List Entry → List Entry) (g : Identity → Option ℕ) (at : ℕ) (h : List Entry) → ((i : ℕ) → Waits (f (identity p i) h) h (is_early at (g (identity p i)))) → (o : Option ℕ) → Waits (steps_if_up p f o h) h (is_early at (if_up p g o))
-up_waits p f g at h one None = never h
-up_waits p f g at h one (Some i) = one i
+up_waits : (p : ℕ) (f : Identity → List Entry → List Entry) (g : Identity → Option ℕ) (at : ℕ) (h : List Entry) → (o : Option ℕ) → ((i : ℕ) → o ≡ Some i → Waits (f (identity p i) h) h (is_early at (g (identity p i)))) → Waits (steps_if_up p f o h) h (is_early at (if_up p g o))
+up_waits p f g at h None one = never h
+up_waits p f g at h (Some i) one = one i refl
 
 module _ (doc : Doc) (k p : ℕ) (h : List Entry) where
   -- ---- a restart
@@ -83,8 +84,8 @@ module _ (doc : Doc) (k p : ℕ) (h : List Entry) where
   attempt_waits q fast None at none = attempt_waits_if q fast (nat_lt (local doc q.process k) at) none
   attempt_waits q fast (Some call) at none = attempt_waits_if q fast true none
 
-  try_waits : IsRested k h → (q : Identity) → Waits (try doc k q h) h (is_early (local doc q.process k) (unless_waiting (call_in q h) (timer doc q h)))
-  try_waits rested q = attempt_waits q (is_fast_call (just_expired q k h)) (call_in q h) (timer doc q h) (ap is_fast_call (rested q))
+  try_waits : (q : Identity) → is_fast_call (just_expired q k h) ≡ false → Waits (try doc k q h) h (is_early (local doc q.process k) (unless_waiting (call_in q h) (timer doc q h)))
+  try_waits q rested = attempt_waits q (is_fast_call (just_expired q k h)) (call_in q h) (timer doc q h) rested
 
   -- ---- a round
 
@@ -98,24 +99,78 @@ module _ (doc : Doc) (k p : ℕ) (h : List Entry) where
   round_waits_as q late true at none = round_waits_if q late true none
   round_waits_as q late false at none = round_waits_if q late (nat_lt (local doc q.process k) at) none
 
-  round_waits : IsRested k h → (q : Identity) → Waits (round doc k q h) h (is_early (local doc q.process k) (unless_running (has_round q h) (round_timer doc q h)))
-  round_waits rested q = round_waits_as q (is_post_call (just_expired q k h)) (has_round q h) (round_timer doc q h) (ap is_post_call (rested q))
+  round_waits : (q : Identity) → is_post_call (just_expired q k h) ≡ false → Waits (round doc k q h) h (is_early (local doc q.process k) (unless_running (has_round q h) (round_timer doc q h)))
+  round_waits q rested = round_waits_as q (is_post_call (just_expired q k h)) (has_round q h) (round_timer doc q h) rested
 
 pub restarts_wake : RestartsWake
 restarts_wake doc k p h = restart_waits doc k p h (alive p h)
 
 pub expiries_wake : ExpiriesWake
 expiries_wake doc k p h =
-    up_waits p (λ q T. expire_call doc k q (call_in q T) T) (λ q. late_at doc q (call_in q h)) (local doc p k) h (λ i. expire_waits doc k p h (identity p i) (call_in (identity p i) h)) (alive p h)
+    up_waits p (λ q T. expire_call doc k q (call_in q T) T) (λ q. late_at doc q (call_in q h)) (local doc p k) h (alive p h) (λ i up. expire_waits doc k p h (identity p i) (call_in (identity p i) h))
 
 pub deadlines_wake : DeadlinesWake
 deadlines_wake doc k p h =
-    up_waits p (λ q T. end_term doc k q (deadline doc q T) T) (λ q. deadline doc q h) (local doc p k) h (λ i. end_waits doc k p h (identity p i) (deadline doc (identity p i) h)) (alive p h)
+    up_waits p (λ q T. end_term doc k q (deadline doc q T) T) (λ q. deadline doc q h) (local doc p k) h (alive p h) (λ i up. end_waits doc k p h (identity p i) (deadline doc (identity p i) h))
 
 pub attempts_wake : AttemptsWake
 attempts_wake doc k p h rested =
-    up_waits p (try doc k) (λ q. unless_waiting (call_in q h) (timer doc q h)) (local doc p k) h (λ i. try_waits doc k p h rested (identity p i)) (alive p h)
+    up_waits p (try doc k) (λ q. unless_waiting (call_in q h) (timer doc q h)) (local doc p k) h (alive p h) (λ i up. try_waits doc k p h (identity p i) (rested i up))
 
 pub rounds_wake : RoundsWake
 rounds_wake doc k p h rested =
-    up_waits p (round doc k) (λ q. unless_running (has_round q h) (round_timer doc q h)) (local doc p k) h (λ i. round_waits doc k p h rested (identity p i)) (alive p h)
+    up_waits p (round doc k) (λ q. unless_running (has_round q h) (round_timer doc q h)) (local doc p k) h (alive p h) (λ i up. round_waits doc k p h (identity p i) (rested i up))
+
+-- ---- a whole turn
+
+module _ (doc : Doc) (k p : ℕ) (h : List Entry) where
+  abbrev reads : ℕ
+  reads = local doc p k
+
+  abbrev last_two : Option ℕ
+  last_two = sooner (deadline_at doc p h) (attempt_at doc p h)
+
+  abbrev last_three : Option ℕ
+  last_three = sooner (expiry_at doc p h) last_two
+
+  elector_early : LostNoUpdate k p h → elector_turn doc k p h ≡ h → is_early reads (elector_reading doc p h) ≡ true
+  elector_early rested is =
+      let s = (electors_add_by_parts doc k p h).0 is in
+      let two = both_sooner reads (deadline_at doc p h) (attempt_at doc p h) ((deadlines_wake doc k p h).0 s.finishes) ((attempts_wake doc k p h rested).0 s.tries) in
+      let three = both_sooner reads (expiry_at doc p h) last_two ((expiries_wake doc k p h).0 s.expires) two in
+      both_sooner reads (restart_at doc p h) last_three ((restarts_wake doc k p h).0 s.restarts) three
+
+  early_elector : LostNoUpdate k p h → is_early reads (elector_reading doc p h) ≡ true → elector_turn doc k p h ≡ h
+  early_elector rested early =
+      let one = sooner_both reads (restart_at doc p h) last_three early in
+      let two = sooner_both reads (expiry_at doc p h) last_two one.1 in
+      let three = sooner_both reads (deadline_at doc p h) (attempt_at doc p h) two.1 in
+      (electors_add_by_parts doc k p h).1 (record {
+        restarts = (restarts_wake doc k p h).1 one.0;
+        expires = (expiries_wake doc k p h).1 two.0;
+        finishes = (deadlines_wake doc k p h).1 three.0;
+        tries = (attempts_wake doc k p h rested).1 three.1;
+      })
+
+  kubelet_early : LostNoPost k p h → kubelet_turn doc k p h ≡ h → is_early reads (kubelet_reading doc p h) ≡ true
+  kubelet_early rested is =
+      let s = (kubelets_add_by_parts doc k p h).0 is in
+      both_sooner reads (expiry_at doc p h) (round_at doc p h) ((expiries_wake doc k p h).0 s.expires) ((rounds_wake doc k p h rested).0 s.rounds)
+
+  early_kubelet : LostNoPost k p h → is_early reads (kubelet_reading doc p h) ≡ true → kubelet_turn doc k p h ≡ h
+  early_kubelet rested early =
+      let both = sooner_both reads (expiry_at doc p h) (round_at doc p h) early in
+      (kubelets_add_by_parts doc k p h).1 (record { expires = (expiries_wake doc k p h).1 both.0; rounds = (rounds_wake doc k p h rested).1 both.1 })
+
+pub electors_wake : ElectorsWake
+electors_wake doc k p h rested = (elector_early doc k p h rested, early_elector doc k p h rested)
+
+pub kubelets_wake : KubeletsWake
+kubelets_wake doc k p h rested = (kubelet_early doc k p h rested, early_kubelet doc k p h rested)
+
+-- before the soonest the deadline isn't reached
+pub before_deadline : (doc : Doc) (k p : ℕ) (h : List Entry) → is_early (local doc p k) (elector_reading doc p h) ≡ true → is_early (local doc p k) (deadline_at doc p h) ≡ true
+before_deadline doc k p h early =
+    let one = sooner_both (local doc p k) (restart_at doc p h) (last_three doc k p h) early in
+    let two = sooner_both (local doc p k) (expiry_at doc p h) (last_two doc k p h) one.1 in
+    (sooner_both (local doc p k) (deadline_at doc p h) (attempt_at doc p h) two.1).0

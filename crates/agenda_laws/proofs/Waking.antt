@@ -13,7 +13,8 @@ use Rattle.kube_objects.specs.Newest.{newest, when, only_if, join, has}
 use Rattle.kube_objects.specs.Process.{alive, is_present}
 use Rattle.kube_objects.specs.Stamps.{stamped}
 use Rattle.kube_objects.specs.Tick.{tick}
-use Rattle.kube_objects.specs.Turns.{expired_in, just_expired}
+use Rattle.kube_objects.specs.Kubelet.{is_post_call}
+use Rattle.kube_objects.specs.Turns.{expired_in, just_expired, is_fast_call}
 use Rattle.history.specs.History.{put_all, beat, history}
 use Rattle.history.specs.Steps.{if_up as steps_if_up, tick_as, controller_turn, kubelet_turn, turn_as}
 use Rattle.history_laws.specs.Tails.{In}
@@ -21,13 +22,13 @@ use Rattle.history_laws.proofs.Order.{entries_are_earlier}
 use Rattle.history_laws.proofs.Plainly.{false_is, none_is, upper}
 use Rattle.agenda_laws.specs.Standing.{StandsAt}
 use Rattle.agenda_laws.specs.Ticking.{is_due_at_once, term_reading, term_time}
-use Rattle.agenda_laws.specs.Times.{is_early, sooner, if_up, restart_at, expiry_at, deadline_at, attempt_at, round_at, IsRested}
-use Rattle.agenda_laws.specs.Waking.{leads_at_once, lead_reading, controller_wakes, kubelet_wakes, wakes_as, IsAsleep, TurnsWake, AreAsleep, BeatsWake, HistoriesAreRested, SleepUntil, NoneStandsUntil, QuietBeatsAreSlept, NextBeatsWake}
+use Rattle.agenda_laws.specs.Times.{is_early, sooner, if_up, deadline_at, LostNoUpdate, LostNoPost, elector_reading, kubelet_reading}
+use Rattle.agenda_laws.specs.Waking.{leads_at_once, lead_reading, controller_wakes, kubelet_wakes, wakes_as, IsAsleep, rested_as, TurnsWake, acts_at_once, acts_as, wakes_at, EndsWakeToo, AreAsleep, BeatsWake, HistoriesAreRested, SleepUntil, NoneStandsUntil, QuietBeatsAreSlept, NextBeatsWake}
 use Rattle.agenda_laws.proofs.Between.{sooner_both, both_sooner}
-use Rattle.agenda_laws.proofs.Parts.{events_add_by_parts, controllers_add_by_parts, kubelets_add_by_parts}
+use Rattle.agenda_laws.proofs.Parts.{events_add_by_parts, controllers_add_by_parts}
 use Rattle.agenda_laws.proofs.Standing.{beats_add_by_parts, entries_stand_where_added, same_or_stands}
 use Rattle.agenda_laws.proofs.Ticking.{ticks_wake}
-use Rattle.agenda_laws.proofs.Times.{restarts_wake, expiries_wake, deadlines_wake, attempts_wake, rounds_wake}
+use Rattle.agenda_laws.proofs.Times.{electors_wake, kubelets_wake, before_deadline}
 
 -- ---- a leader's tick in its turn
 
@@ -72,66 +73,61 @@ module _ (doc : Doc) (k : ℕ) (h : List Entry) where
       let s = subst (EarlyTerm p i) (before_leads (local doc p k) (deadline doc q h) early) (term_early p i (is_present (alive p h) i) (is_before (local doc p k) (deadline doc q h)) present is) in
       record { at_once = s.at_once; reading = s.reading; time = s.time }
 
-  early_ticks : (p : ℕ) (o : Option ℕ) → is_early (local doc p k) (if_up p (λ q. deadline doc q h) o) ≡ true
+  early_ticks : (p : ℕ) (o : Option ℕ) → alive p h ≡ o → is_early (local doc p k) (if_up p (λ q. deadline doc q h) o) ≡ true
       → EarlyLead p o → steps_if_up p (λ q T. tick_as doc k q (acts doc q k T) T) o h ≡ h
-  early_ticks p None early s = refl
-  early_ticks p (Some i) early s =
+  early_ticks p None up early s = refl
+  early_ticks p (Some i) up early s =
       let q = identity p i in
       let t : EarlyTerm p i (has (deadline doc q h)) = record { at_once = s.at_once; reading = s.reading; time = s.time } in
       early_term p i (is_present (alive p h) i) (is_before (local doc p k) (deadline doc q h)) (subst (EarlyTerm p i) (sym (before_leads (local doc p k) (deadline doc q h) early)) t)
 
   -- ---- a turn
 
-  controller_asleep : (p : ℕ) → IsRested k h → controller_turn doc k p h ≡ h → IsAsleep doc k p (controller_wakes doc p h)
+  controller_asleep : (p : ℕ) → LostNoUpdate k p h → controller_turn doc k p h ≡ h → IsAsleep doc k p (controller_wakes doc p h)
   controller_asleep p rested is =
-      let now = local doc p k in
       let s = (controllers_add_by_parts doc k p h).0 is in
-      let ends = (deadlines_wake doc k p h).0 s.finishes in
-      let t = ticks_early p (alive p h) refl ends s.ticks in
-      let four = both_sooner now (attempt_at doc p h) (lead_reading doc p h) ((attempts_wake doc k p h rested).0 s.tries) t.reading in
-      let three = both_sooner now (deadline_at doc p h) (sooner (attempt_at doc p h) (lead_reading doc p h)) ends four in
-      let two = both_sooner now (expiry_at doc p h) (sooner (deadline_at doc p h) (sooner (attempt_at doc p h) (lead_reading doc p h))) ((expiries_wake doc k p h).0 s.expires) three in
-      record {
-        at_once = t.at_once;
-        local = both_sooner now (restart_at doc p h) (sooner (expiry_at doc p h) (sooner (deadline_at doc p h) (sooner (attempt_at doc p h) (lead_reading doc p h)))) ((restarts_wake doc k p h).0 s.restarts) two;
-        wall = t.time;
-      }
+      let elector = (electors_wake doc k p h rested).0 s.elector in
+      let t = ticks_early p (alive p h) refl (before_deadline doc k p h elector) s.ticks in
+      record { at_once = t.at_once; local = both_sooner (local doc p k) (elector_reading doc p h) (lead_reading doc p h) elector t.reading; wall = t.time }
 
-  asleep_controller : (p : ℕ) → IsRested k h → IsAsleep doc k p (controller_wakes doc p h) → controller_turn doc k p h ≡ h
+  asleep_controller : (p : ℕ) → LostNoUpdate k p h → IsAsleep doc k p (controller_wakes doc p h) → controller_turn doc k p h ≡ h
   asleep_controller p rested w =
-      let now = local doc p k in
-      let one = sooner_both now (restart_at doc p h) (sooner (expiry_at doc p h) (sooner (deadline_at doc p h) (sooner (attempt_at doc p h) (lead_reading doc p h)))) w.local in
-      let two = sooner_both now (expiry_at doc p h) (sooner (deadline_at doc p h) (sooner (attempt_at doc p h) (lead_reading doc p h))) one.1 in
-      let three = sooner_both now (deadline_at doc p h) (sooner (attempt_at doc p h) (lead_reading doc p h)) two.1 in
-      let four = sooner_both now (attempt_at doc p h) (lead_reading doc p h) three.1 in
+      let both = sooner_both (local doc p k) (elector_reading doc p h) (lead_reading doc p h) w.local in
       (controllers_add_by_parts doc k p h).1 (record {
-        restarts = (restarts_wake doc k p h).1 one.0;
-        expires = (expiries_wake doc k p h).1 two.0;
-        finishes = (deadlines_wake doc k p h).1 three.0;
-        tries = (attempts_wake doc k p h rested).1 four.0;
-        ticks = early_ticks p (alive p h) three.0 (record { at_once = w.at_once; reading = four.1; time = w.wall });
+        elector = (electors_wake doc k p h rested).1 both.0;
+        ticks = early_ticks p (alive p h) refl (before_deadline doc k p h both.0) (record { at_once = w.at_once; reading = both.1; time = w.wall });
       })
 
-  kubelet_asleep : (p : ℕ) → IsRested k h → kubelet_turn doc k p h ≡ h → IsAsleep doc k p (kubelet_wakes doc p h)
-  kubelet_asleep p rested is =
-      let s = (kubelets_add_by_parts doc k p h).0 is in
-      record {
-        at_once = refl;
-        local = both_sooner (local doc p k) (expiry_at doc p h) (round_at doc p h) ((expiries_wake doc k p h).0 s.expires) ((rounds_wake doc k p h rested).0 s.rounds);
-        wall = refl;
-      }
+  kubelet_asleep : (p : ℕ) → LostNoPost k p h → kubelet_turn doc k p h ≡ h → IsAsleep doc k p (kubelet_wakes doc p h)
+  kubelet_asleep p rested is = record { at_once = refl; local = (kubelets_wake doc k p h rested).0 is; wall = refl }
 
-  asleep_kubelet : (p : ℕ) → IsRested k h → IsAsleep doc k p (kubelet_wakes doc p h) → kubelet_turn doc k p h ≡ h
-  asleep_kubelet p rested w =
-      let both = sooner_both (local doc p k) (expiry_at doc p h) (round_at doc p h) w.local in
-      (kubelets_add_by_parts doc k p h).1 (record { expires = (expiries_wake doc k p h).1 both.0; rounds = (rounds_wake doc k p h rested).1 both.1 })
+  turn_asleep : (p : ℕ) (b : Bool) → rested_as k p b h → turn_as doc k p b h ≡ h ↔ IsAsleep doc k p (wakes_as doc p b h)
+  turn_asleep p true rested = (controller_asleep p rested, asleep_controller p rested)
+  turn_asleep p false rested = (kubelet_asleep p rested, λ w. (kubelets_wake doc k p h rested).1 w.local)
 
-  turn_asleep : (p : ℕ) → IsRested k h → (b : Bool) → turn_as doc k p b h ≡ h ↔ IsAsleep doc k p (wakes_as doc p b h)
-  turn_asleep p rested true = (controller_asleep p rested, asleep_controller p rested)
-  turn_asleep p rested false = (kubelet_asleep p rested, asleep_kubelet p rested)
+  -- before its deadline whoever leads acts
+  acting_is : (p : ℕ) (o : Option ℕ) → alive p h ≡ o → is_early (local doc p k) (if_up p (λ q. deadline doc q h) o) ≡ true → acts_at_once doc k p o h ≡ leads_at_once doc p o h
+  acting_is p None up early = refl
+  acting_is p (Some i) up early =
+      let q = identity p i in
+      let present : is_present (alive p h) i ≡ true = ap (λ x. is_present x i) up ∙ present_self i in
+      ap (λ b. (b && is_before (local doc p k) (deadline doc q h)) && is_due_at_once doc q h) present
+      ∙ ap (λ b. b && is_due_at_once doc q h) (before_leads (local doc p k) (deadline doc q h) early)
+
+  acting_same : (p : ℕ) (b : Bool) → is_early (local doc p k) (wakes_as doc p b h).local ≡ true → acts_as doc k p b h ≡ (wakes_as doc p b h).at_once
+  acting_same p true early =
+      let both = sooner_both (local doc p k) (elector_reading doc p h) (lead_reading doc p h) early in
+      acting_is p (alive p h) refl (before_deadline doc k p h both.0)
+  acting_same p false early = refl
 
 pub turns_wake : TurnsWake
-turns_wake doc k p h rested = turn_asleep doc k h p rested (is_controller doc p)
+turns_wake doc k p h rested = turn_asleep doc k h p (is_controller doc p) rested
+
+pub ends_wake_too : EndsWakeToo
+ends_wake_too doc k p h = (
+    λ w. record { at_once = acting_same doc k h p (is_controller doc p) w.local ∙ w.at_once; local = w.local; wall = w.wall },
+    λ w. record { at_once = sym (acting_same doc k h p (is_controller doc p) w.local) ∙ w.at_once; local = w.local; wall = w.wall },
+  )
 
 -- ---- a beat
 
@@ -143,14 +139,14 @@ beats_wake doc k h rested = (
         events = (events_add_by_parts doc k h).0 s.events;
         requests = s.requests;
         replies = s.replies;
-        turns = λ p less. (turns_wake doc k p h rested).0 (s.turns p less);
+        turns = λ p less. (turns_wake doc k p h (rested p)).0 (s.turns p less);
       },
   λ s.
       (beats_add_by_parts doc k h).1 (record {
         events = (events_add_by_parts doc k h).1 s.events;
         requests = s.requests;
         replies = s.replies;
-        turns = λ p less. (turns_wake doc k p h rested).1 (s.turns p less);
+        turns = λ p less. (turns_wake doc k p h (rested p)).1 (s.turns p less);
       }),
 )
 
@@ -211,7 +207,14 @@ history_other doc (suc k) j later = by_beat
     by_beat e stands call is = by_earlier e.beat e.step (entries_are_earlier doc (suc k) e stands) (expiry_beat j e.beat e.deed call is)
 
 pub histories_are_rested : HistoriesAreRested
-histories_are_rested doc k j later q = rested_all j q (history doc k) (history_other doc k j later)
+histories_are_rested doc k j p later = by_role (is_controller doc p)
+  where
+    none : (q : Identity) → just_expired q j (history doc k) ≡ None
+    none q = rested_all j q (history doc k) (history_other doc k j later)
+
+    by_role : (b : Bool) → rested_as j p b (history doc k)
+    by_role true = λ i up. ap is_fast_call (none (identity p i))
+    by_role false = λ i up. ap is_post_call (none (identity p i))
 
 -- ---- the next beat
 
@@ -222,7 +225,7 @@ module _ (doc : Doc) (k : ℕ) where
   slept (suc n) asleep =
       let e : suc (k + n) ≡ k + suc n = omega arith in
       let before : history doc (k + n) ≡ history doc k = slept n (λ j from less. asleep j from (omega (arith, less))) in
-      let quiet : beat doc (history doc k) (k + n) ≡ history doc k = (beats_wake doc (k + n) (history doc k) (histories_are_rested doc k (k + n) (omega arith))).1 (asleep (k + n) (omega arith) (omega arith)) in
+      let quiet : beat doc (history doc k) (k + n) ≡ history doc k = (beats_wake doc (k + n) (history doc k) (λ p. histories_are_rested doc k (k + n) p (omega arith))).1 (asleep (k + n) (omega arith) (omega arith)) in
       ap (history doc) (sym e) ∙ ap (λ h. beat doc h (k + n)) before ∙ quiet
 
   slept_to : (n : ℕ) → k ≤ n → SleepUntil doc k n → history doc n ≡ history doc k
@@ -234,7 +237,7 @@ module _ (doc : Doc) (k : ℕ) where
   beat_wakes : (n : ℕ) → k ≤ n → SleepUntil doc k n → beat doc (history doc n) n ≡ history doc n ↔ AreAsleep doc n (history doc k)
   beat_wakes n from asleep =
       let same = slept_to n from asleep in
-      let tells = beats_wake doc n (history doc k) (histories_are_rested doc k n from) in
+      let tells = beats_wake doc n (history doc k) (λ p. histories_are_rested doc k n p from) in
       subst (λ h. beat doc h n ≡ h ↔ AreAsleep doc n (history doc k)) (sym same) tells
 
   next_wakes : (n : ℕ) → k ≤ n → n ≤ end_beat doc → SleepUntil doc k n → StandsAt doc n ↔ ¬ AreAsleep doc n (history doc k)

@@ -5,7 +5,7 @@ use Rattle.kube_objects.specs.Document.{Doc, processes, is_up_first}
 use Rattle.kube_objects.specs.Entry.{Entry, Identity}
 use Rattle.kube_objects.specs.Seen.{is_synced}
 use Rattle.kube_objects.specs.Tick.{sync, pass, cleaned, tainted, evicted, tick}
-use Rattle.history.specs.Steps.{step_one, restart, expire, finish, attempts, ticks, controller_turn, rounds, kubelet_turn}
+use Rattle.history.specs.Steps.{step_one, restart, expire, finish, attempts, elector_turn, ticks, controller_turn, rounds, kubelet_turn}
 use Rattle.agenda_laws.specs.Standing.{Among}
 
 -- nobody starts at first, and the script has no event at this beat
@@ -16,12 +16,19 @@ pub record IsUneventful (doc : Doc) (k : ℕ) : Type 0 where
 abbrev pub EventsAddByParts : Type 0
 EventsAddByParts = (doc : Doc) (k : ℕ) (h : List Entry) → step_one doc k h ≡ h ↔ IsUneventful doc k
 
--- each part of a controller's turn adds nothing
-pub record IsStillController (doc : Doc) (k p : ℕ) (h : List Entry) : Type 0 where
+-- each part of an elector's turn adds nothing
+pub record IsStillElector (doc : Doc) (k p : ℕ) (h : List Entry) : Type 0 where
   pub restarts : restart doc k p h ≡ h
   pub expires : expire doc k p h ≡ h
   pub finishes : finish doc k p h ≡ h
   pub tries : attempts doc k p h ≡ h
+
+abbrev pub ElectorsAddByParts : Type 0
+ElectorsAddByParts = (doc : Doc) (k p : ℕ) (h : List Entry) → elector_turn doc k p h ≡ h ↔ IsStillElector doc k p h
+
+-- neither the elector's part of a controller's turn nor the tick adds something
+pub record IsStillController (doc : Doc) (k p : ℕ) (h : List Entry) : Type 0 where
+  pub elector : elector_turn doc k p h ≡ h
   pub ticks : ticks doc k p h ≡ h
 
 abbrev pub ControllersAddByParts : Type 0

@@ -6,10 +6,10 @@ use Rattle.kube_objects.specs.Document.{Doc, call_timeout, restart_delay}
 use Rattle.kube_objects.specs.Elector.{deadline, timer}
 use Rattle.kube_objects.specs.Entry.{Entry, Identity, Call}
 use Rattle.kube_objects.specs.Identities.{identity}
-use Rattle.kube_objects.specs.Kubelet.{has_round, round_timer}
+use Rattle.kube_objects.specs.Kubelet.{has_round, round_timer, is_post_call}
 use Rattle.kube_objects.specs.Process.{alive, call_in, ended}
-use Rattle.kube_objects.specs.Turns.{just_expired}
-use Rattle.history.specs.Steps.{restart, expire, finish, attempts, rounds}
+use Rattle.kube_objects.specs.Turns.{just_expired, is_fast_call}
+use Rattle.history.specs.Steps.{restart, expire, finish, attempts, elector_turn, rounds, kubelet_turn}
 
 -- whether a reading, a time of day or a beat is before another; None is never reached
 abbrev pub is_early : ℕ → Option ℕ → Bool
@@ -67,9 +67,9 @@ DeadlinesWake = (doc : Doc) (k p : ℕ) (h : List Entry) → finish doc k p h �
 
 -- ---- an attempt
 
--- no call has expired at this beat, as before the beat is done
-abbrev pub IsRested : ℕ → List Entry → Type 0
-IsRested k h = (q : Identity) → just_expired q k h ≡ None
+-- no update without a Get of the process has expired at this beat, as before the beat is done
+abbrev pub LostNoUpdate : ℕ → ℕ → List Entry → Type 0
+LostNoUpdate k p h = (i : ℕ) → alive p h ≡ Some i → is_fast_call (just_expired (identity p i) k h) ≡ false
 
 -- no attempt starts while a call waits
 abbrev pub unless_waiting : Option Call → ℕ → Option ℕ
@@ -80,9 +80,22 @@ abbrev pub attempt_at : Doc → ℕ → List Entry → Option ℕ
 attempt_at doc p h = if_up p (λ q. unless_waiting (call_in q h) (timer doc q h)) (alive p h)
 
 abbrev pub AttemptsWake : Type 0
-AttemptsWake = (doc : Doc) (k p : ℕ) (h : List Entry) → IsRested k h → attempts doc k p h ≡ h ↔ is_early (local doc p k) (attempt_at doc p h) ≡ true
+AttemptsWake = (doc : Doc) (k p : ℕ) (h : List Entry) → LostNoUpdate k p h → attempts doc k p h ≡ h ↔ is_early (local doc p k) (attempt_at doc p h) ≡ true
+
+-- ---- an elector's whole turn
+
+-- the soonest of all, whatever the process is
+abbrev pub elector_reading : Doc → ℕ → List Entry → Option ℕ
+elector_reading doc p h = sooner (restart_at doc p h) (sooner (expiry_at doc p h) (sooner (deadline_at doc p h) (attempt_at doc p h)))
+
+abbrev pub ElectorsWake : Type 0
+ElectorsWake = (doc : Doc) (k p : ℕ) (h : List Entry) → LostNoUpdate k p h → elector_turn doc k p h ≡ h ↔ is_early (local doc p k) (elector_reading doc p h) ≡ true
 
 -- ---- a kubelet's round
+
+-- no status post of the process has expired at this beat, as before the beat is done
+abbrev pub LostNoPost : ℕ → ℕ → List Entry → Type 0
+LostNoPost k p h = (i : ℕ) → alive p h ≡ Some i → is_post_call (just_expired (identity p i) k h) ≡ false
 
 -- none begins while one runs
 abbrev pub unless_running : Bool → ℕ → Option ℕ
@@ -93,4 +106,12 @@ abbrev pub round_at : Doc → ℕ → List Entry → Option ℕ
 round_at doc p h = if_up p (λ q. unless_running (has_round q h) (round_timer doc q h)) (alive p h)
 
 abbrev pub RoundsWake : Type 0
-RoundsWake = (doc : Doc) (k p : ℕ) (h : List Entry) → IsRested k h → rounds doc k p h ≡ h ↔ is_early (local doc p k) (round_at doc p h) ≡ true
+RoundsWake = (doc : Doc) (k p : ℕ) (h : List Entry) → LostNoPost k p h → rounds doc k p h ≡ h ↔ is_early (local doc p k) (round_at doc p h) ≡ true
+
+-- ---- a kubelet's whole turn
+
+abbrev pub kubelet_reading : Doc → ℕ → List Entry → Option ℕ
+kubelet_reading doc p h = sooner (expiry_at doc p h) (round_at doc p h)
+
+abbrev pub KubeletsWake : Type 0
+KubeletsWake = (doc : Doc) (k p : ℕ) (h : List Entry) → LostNoPost k p h → kubelet_turn doc k p h ≡ h ↔ is_early (local doc p k) (kubelet_reading doc p h) ≡ true

@@ -2,11 +2,11 @@
 //! function with an empty body.
 #![tactic(auto)]
 
-ghost use Rattle.agenda_laws.specs.Parts.{EventsAddByParts, ControllersAddByParts, KubeletsAddByParts, TicksAddByParts};
+ghost use Rattle.agenda_laws.specs.Parts.{EventsAddByParts, ElectorsAddByParts, ControllersAddByParts, KubeletsAddByParts, TicksAddByParts};
 ghost use Rattle.agenda_laws.specs.Standing.{BeatsAddByParts, BeatsAddTheirs, EntriesStandWhereAdded, StandingIsTested};
 ghost use Rattle.agenda_laws.specs.Ticking.{SyncsWake, PassesWake, CleansWake, HeadsWake, DeletesWake, TicksWake};
-ghost use Rattle.agenda_laws.specs.Times.{RestartsWake, ExpiriesWake, DeadlinesWake, AttemptsWake, RoundsWake};
-ghost use Rattle.agenda_laws.specs.Waking.{TurnsWake, BeatsWake, HistoriesAreRested, QuietBeatsAreSlept, NextBeatsWake};
+ghost use Rattle.agenda_laws.specs.Times.{RestartsWake, ExpiriesWake, DeadlinesWake, AttemptsWake, ElectorsWake, RoundsWake, KubeletsWake};
+ghost use Rattle.agenda_laws.specs.Waking.{TurnsWake, EndsWakeToo, BeatsWake, HistoriesAreRested, QuietBeatsAreSlept, NextBeatsWake};
 
 /// A beat adds entries of its own steps alone, and an entry stands at a beat exactly where the beat adds one.
 pub fn entries_stand_where_added()
@@ -20,18 +20,21 @@ pub fn entries_stand_where_added()
 pub fn beats_add_by_parts()
     ensures beats { BeatsAddByParts }
     ensures events { EventsAddByParts }
+    ensures electors { ElectorsAddByParts }
     ensures controllers { ControllersAddByParts }
     ensures kubelets { KubeletsAddByParts }
     ensures ticks { TicksAddByParts }
 {}
 
-/// Each part of a turn but for the tick adds something exactly from a reading of the process's clock on.
+/// Each part of a turn but for the tick, and all of them together, adds something exactly from a reading of the process's clock on.
 pub fn turns_wake_by_readings()
     ensures restarts { RestartsWake }
     ensures expiries { ExpiriesWake }
     ensures deadlines { DeadlinesWake }
     ensures attempts { AttemptsWake }
+    ensures electors { ElectorsWake }
     ensures rounds { RoundsWake }
+    ensures kubelets { KubeletsWake }
 {}
 
 /// Each part of a tick adds something at once, or exactly from a reading on, or exactly from a time of day on; nothing else of a tick
@@ -49,6 +52,7 @@ pub fn ticks_wake_by_times()
 /// one history alone.
 pub fn beats_wake_by_causes()
     ensures turns { TurnsWake }
+    ensures ends { EndsWakeToo }
     ensures beats { BeatsWake }
     ensures rested { HistoriesAreRested }
     ensures quiet { QuietBeatsAreSlept }

@@ -16,3 +16,6 @@ returns-clause-kubelets c = parts.kubelets_add_by_parts
 
 pub returns-clause-ticks : goal.returns-clause-ticks
 returns-clause-ticks c = parts.ticks_add_by_parts
+
+pub returns-clause-electors : goal.returns-clause-electors
+returns-clause-electors c = parts.electors_add_by_parts

@@ -15,3 +15,6 @@ returns-clause-quiet c = waking.quiet_beats_are_slept
 
 pub returns-clause-next : goal.returns-clause-next
 returns-clause-next c = waking.next_beats_wake
+
+pub returns-clause-ends : goal.returns-clause-ends
+returns-clause-ends c = waking.ends_wake_too

@@ -15,3 +15,9 @@ returns-clause-attempts c = times.attempts_wake
 
 pub returns-clause-rounds : goal.returns-clause-rounds
 returns-clause-rounds c = times.rounds_wake
+
+pub returns-clause-electors : goal.returns-clause-electors
+returns-clause-electors c = times.electors_wake
+
+pub returns-clause-kubelets : goal.returns-clause-kubelets
+returns-clause-kubelets c = times.kubelets_wake
