@@ -16,7 +16,7 @@ pub mod Restarts
 pub mod Scripted
 pub mod Terms
 pub mod Timers
-pub mod Resting
+pub mod Waking
 pub mod Answering
 -- ---- a kubelet
 pub mod Kubelets
