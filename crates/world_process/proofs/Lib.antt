@@ -16,7 +16,7 @@ pub mod Restarts
 pub mod Scripted
 pub mod Terms
 pub mod Timers
-pub mod Waking
+pub mod Resting
 pub mod Answering
 -- ---- a kubelet
 pub mod Kubelets

@@ -1,6 +1,5 @@
 -- A controller of the world stands for a process in a history.
-use Rattle.std.specs.Prelude.{◌≡◌, ℕ, ◌≤◌, ◌+◌, ◌++◌, Bool, true, false, List, Option, Some, None, IfSome}
-use Rattle.kube_base.specs.declared.numbers.Beat.{Beat}
+use Rattle.std.specs.Prelude.{◌≡◌, ℕ, ◌<◌, ◌≤◌, ◌+◌, ◌++◌, Bool, true, false, List, Option, Some, None}
 use Rattle.kube_base.specs.declared.numbers.Local.{Local}
 use Rattle.kube_base.specs.declared.numbers.ProcId.{ProcId}
 use Rattle.kube_objects.specs.declared.call.Ask.{Ask}
@@ -13,8 +12,7 @@ use Rattle.kube_objects.specs.Wire.{Back}
 use Rattle.history.specs.Printed.{printed}
 use Rattle.history.specs.Steps.{restart, attempts}
 use Rattle.leader_elector.specs.Stands.{IsTimingOf, CandidateStands, LeadingStands}
-use Rattle.agenda_laws.specs.Times.{is_early}
-use Rattle.skew_clock.specs.Clocking.{Clocking, reading}
+use Rattle.skew_clock.specs.Clocking.{reading}
 use Rattle.world_process.specs.declared.controller.Controller.{Controller}
 use Rattle.world_process.specs.declared.controller.Role.{Role}
 use Rattle.world_process.specs.declared.controller.Role.TheVariants.{Down, Candidate, Leading}
@@ -45,15 +43,6 @@ is_up_as (Down at) = false
 is_up_as (Candidate c) = true
 is_up_as (Leading l) = true
 
-abbrev pub beat_in : Option Beat → Option ℕ
-beat_in None = None
-beat_in (Some beat) = Some beat.0
-
--- the first beat, up to its end, at which a clock reads something; None where it reads that at none, or nothing is asked for
-pub record IsBeatOf (clock : Clocking) (beat : Option Beat) (at : Option Local) : Type 0 where
-  pub tells : (j : ℕ) → j ≤ clock.end → is_early j (beat_in beat) ≡ is_early (reading clock j) (reading_of at)
-  pub within : IfSome beat (λ b. b.0 ≤ clock.end)
-
 -- the role is that of a process in an incarnation
 abbrev pub RoleStands : Doc → ℕ → ℕ → List Entry → Role → Type 0
 RoleStands doc p i h (Down at) = (alive p h ≡ None) × (reading_of at ≡ restart_reading doc p (ended p h))
@@ -68,7 +57,7 @@ pub record ControllerStands (doc : Doc) (p : ℕ) (h : List Entry) (c : Controll
   pub clock : ClockStands doc p c.clock
   pub up_first : c.up_first ≡ is_up_first doc p
   pub role : RoleStands doc p c.incarnation h c.role
-  pub asleep : IsBeatOf c.clock c.until c.below
+  pub asleep : (j : ℕ) → j ≤ c.clock.end → j < c.until.0 → reading c.clock j < c.below.0
 
 -- the plain facts that a controller keeps
 pub record SameController (old new : Controller) : Type 0 where
@@ -101,6 +90,12 @@ abbrev pub Replied : Doc → ℕ → ℕ → Back → List Entry → Controller 
 Replied doc k p b h c r = moves.Replied doc k (identity p c.incarnation) b h (λ x. ControllerStands doc p x c) r
 
 -- ---- a turn
+
+-- a turn of the controller does nothing
+pub record IsStill (doc : Doc) (k p : ℕ) (h : List Entry) : Type 0 where
+  pub restarts : restart doc k p h ≡ h
+  pub settles : settled doc k p h ≡ h
+  pub tries : attempts doc k p h ≡ h
 
 -- a controller has started again where it was time
 pub record Restarted (doc : Doc) (k p : ℕ) (h : List Entry) (c : Controller) (started : Bool) : Type 0 where

@@ -1,5 +1,5 @@
 // A controller of the world: its clock and its part in the election.
-ghost use Rattle.std.specs.Prelude.{◌≡◌, ◌↔◌, ◌*◌, ◌+◌, ◌<◌, ◌≤◌, ◌^◌, ◌∷◌, ℕ, true, false, List, [], Some, None, IfOk, IfSome};
+ghost use Rattle.std.specs.Prelude.{◌≡◌, ◌*◌, ◌+◌, ◌<◌, ◌≤◌, ◌^◌, ◌∷◌, ℕ, true, false, List, [], Some, None, IfOk};
 ghost use Rattle.kube_base.specs.declared.numbers.ProcId.{ProcId};
 ghost use Rattle.kube_base.specs.declared.numbers.Version.{Version};
 ghost use Rattle.kube_objects.specs.declared.script.What.TheVariants as what;
@@ -9,15 +9,14 @@ ghost use Rattle.kube_objects.specs.Entry.{Entry, Identity, Leads, entry};
 ghost use Rattle.kube_objects.specs.Identities.{identity};
 ghost use Rattle.kube_objects.specs.Process.{starts};
 ghost use Rattle.kube_objects.specs.Wire.{Back};
-ghost use Rattle.history.specs.Steps.{happens, start, restart, elector_turn};
-ghost use Rattle.agenda_laws.specs.Times.{is_early, elector_reading};
+ghost use Rattle.history.specs.Steps.{happens, start, restart};
 ghost use Rattle.leader_elector.specs.declared.candidate.Candidate.{Candidate};
 ghost use Rattle.leader_elector.specs.declared.leading.Leading.{Leading};
 ghost use Rattle.leader_elector.specs.Stands.{IsChosen};
 ghost use Rattle.script_reader.specs.Lawful.{AreLawful, IsLawful};
 ghost use Rattle.world_process.specs.declared.controller.Role.TheVariants as role;
 ghost use Rattle.world_process.specs.Clocked.{AreEventsFrom, IsMadeOf};
-ghost use Rattle.world_process.specs.Controllers.{ControllerStands, SameController, Crashed, Begun, StoppedAs, Restarted, Timed, Turned, Replied, IsLed, IsBeatOf, beat_in, is_up_as, reading_of, waiting_of};
+ghost use Rattle.world_process.specs.Controllers.{ControllerStands, SameController, Crashed, Begun, StoppedAs, Restarted, Timed, Turned, Replied, IsLed, IsStill, is_up_as, waiting_of};
 ghost use Rattle.world_process.specs.Plain.{IsPlain, IsFew};
 
 use crate::clocks::{clock_for, first_beat, picoseconds};
@@ -46,9 +45,9 @@ pub struct Controller {
     pub clock: Clock,
     pub up_first: bool,
     pub role: Role,
-    /// The first beat at which its clock reads `below`, kept so that it needn't be found at each look.
-    pub until: Option<Beat>,
-    pub below: Option<Local>,
+    /// At each beat before `until` its clock reads less than `below`.
+    pub until: Beat,
+    pub below: Local,
 }
 
 impl Controller {
@@ -82,8 +81,8 @@ impl Controller {
             clock,
             up_first: process.up,
             role: Role::Down(None),
-            until: None,
-            below: None,
+            until: Beat(0),
+            below: Local(0),
         })
     }
 
@@ -174,64 +173,25 @@ impl Controller {
         turn
     }
 
-    /// The least reading at which its turn, a tick aside, adds an entry to the history. None where there is none.
-    pub fn wake(&self) -> Option<Local>
-        ensures { (doc : Doc) (p : ℕ) (h : List Entry) → ControllerStands doc p h self.now → reading_of result ≡ elector_reading doc p h }
+    // Whether it is known that its turn does nothing from this beat to before `until`.
+    fn is_asleep(&self, beat: Beat) -> bool
+        ensures { (doc : Doc) (k p : ℕ) (h : List Entry) → ControllerStands doc p h self.now → result ≡ true → k ≤ self.now.clock.end
+            → k < self.now.until.0 → IsStill doc k p h }
     {
-        match &self.role {
-            Role::Down(at) => *at,
-            Role::Candidate(candidate) => Some(candidate.wake()),
-            Role::Leading(leading) => Some(leading.wake()),
-        }
+        beat.0 < self.until.0 && self.sleeps(self.below)
     }
 
-    /// The first beat up to the end at which its turn, a tick aside, adds an entry to the history; so it does at each later one.
-    /// None where there is none. The kept beat is the answer where it was found for the same reading.
-    pub fn turn_beat(&self) -> Option<Beat>
-        ensures woken { (doc : Doc) (k p : ℕ) (h : List Entry) → ControllerStands doc p h self.now → k ≤ self.now.clock.end
-            → elector_turn doc k p h ≡ h ↔ is_early k (beat_in result) ≡ true }
-        ensures within { (doc : Doc) (p : ℕ) (h : List Entry) → ControllerStands doc p h self.now
-            → IfSome result (λ beat. beat.0 ≤ self.now.clock.end) }
-    {
-        let wake = self.wake();
-        if is_same(wake, self.below) {
-            return self.until;
-        }
-        first_beat(&self.clock, wake)
-    }
-
-    /// Finds `turn_beat` and keeps it, so that its next turns needn't read the clock.
-    pub fn keep_turn_beat(&mut self)
-        ensures same { SameController self.old self.new }
-        ensures stands { (doc : Doc) (p : ℕ) (h : List Entry) → ControllerStands doc p h self.old → ControllerStands doc p h self.new }
-        ensures kept { (doc : Doc) (k p : ℕ) (h : List Entry) → ControllerStands doc p h self.old → k ≤ self.old.clock.end
-            → elector_turn doc k p h ≡ h ↔ is_early k (beat_in self.new.until) ≡ true }
-    {
-        let wake = self.wake();
-        if !is_same(wake, self.below) {
-            self.doze(wake);
-        }
-    }
-
-    /// The first beat at which its turn, a tick aside, may add something: in each beat before, up to the end, it doesn't.
-    pub fn wakes_from(&mut self, _beat: Beat) -> Beat
+    /// The first beat at which its turn may do something: in each beat before, up to the end, it does nothing.
+    pub fn wakes_from(&mut self, beat: Beat) -> Beat
         ensures same { SameController self.old self.new }
         ensures stands { (doc : Doc) (p : ℕ) (h : List Entry) → ControllerStands doc p h self.old → ControllerStands doc p h self.new }
         ensures still { (doc : Doc) (k p : ℕ) (h : List Entry) → ControllerStands doc p h self.old → k ≤ self.old.clock.end
-            → k < result.0 → elector_turn doc k p h ≡ h }
+            → k < result.0 → IsStill doc k p h }
     {
-        self.keep_turn_beat();
-        or_never(self.until)
-    }
-
-    // Keeps the beat of a reading. It stays out of line, so that a controller that sleeps costs two comparisons.
-    #[inline(never)]
-    fn doze(&mut self, wake: Option<Local>)
-        ensures same { self.new ≡ record self.old { until = self.new.until; below = wake } }
-        ensures kept { IsBeatOf self.old.clock self.new.until wake }
-    {
-        self.until = first_beat(&self.clock, wake);
-        self.below = wake;
+        if !self.is_asleep(beat) {
+            self.doze();
+        }
+        self.until
     }
 
     /// Starts again, where it is down and its clock has reached its restart.
@@ -250,6 +210,47 @@ impl Controller {
         }
         self.start(beat);
         true
+    }
+
+    // Whether its turn does nothing at each reading below this one.
+    fn sleeps(&self, below: Local) -> bool
+        ensures { (doc : Doc) (k p : ℕ) (h : List Entry) → ControllerStands doc p h self.now → local doc p k < below.0 → result ≡ true
+            → IsStill doc k p h }
+    {
+        match &self.role {
+            Role::Down(None) => true,
+            Role::Down(Some(at)) => below.0 <= at.0,
+            Role::Candidate(candidate) => below.0 <= candidate.wake().0,
+            Role::Leading(leading) => below.0 <= leading.wake().0,
+        }
+    }
+
+    // Looks for the beat up to which it sleeps, so that its next turns needn't read the clock. It stays out of line, so that a
+    // controller that sleeps costs two comparisons.
+    #[inline(never)]
+    fn doze(&mut self)
+        ensures same { SameController self.old self.new }
+        ensures incarnation { self.new.incarnation ≡ self.old.incarnation }
+        ensures stands { (doc : Doc) (p : ℕ) (h : List Entry) → ControllerStands doc p h self.old → ControllerStands doc p h self.new }
+        ensures still { (doc : Doc) (k p : ℕ) (h : List Entry) → ControllerStands doc p h self.old → k ≤ self.old.clock.end
+            → k < self.new.until.0 → IsStill doc k p h }
+    {
+        let wake = self.wake();
+        self.until = first_beat(&self.clock, wake);
+        self.below = wake;
+    }
+
+    // The least reading at which its turn may do something.
+    fn wake(&self) -> Local
+        ensures { (doc : Doc) (k p : ℕ) (h : List Entry) → ControllerStands doc p h self.now → local doc p k < result.0
+            → IsStill doc k p h }
+    {
+        match &self.role {
+            Role::Down(None) => Local(u64::MAX),
+            Role::Down(Some(at)) => *at,
+            Role::Candidate(candidate) => candidate.wake(),
+            Role::Leading(leading) => leading.wake(),
+        }
     }
 
     // The rest of its turn, after the restart.
@@ -374,25 +375,5 @@ fn restart_of(role: &Role) -> Option<Local>
     match role {
         Role::Down(at) => *at,
         _ => None,
-    }
-}
-
-fn is_same(a: Option<Local>, b: Option<Local>) -> bool
-    ensures { result ≡ true → a ≡ b }
-{
-    match (a, b) {
-        (Some(a), Some(b)) => a.0 == b.0,
-        (None, None) => true,
-        _ => false,
-    }
-}
-
-// A beat, or one after all beats.
-fn or_never(beat: Option<Beat>) -> Beat
-    ensures { (k : ℕ) → k < result.0 → is_early k (beat_in beat) ≡ true }
-{
-    match beat {
-        Some(beat) => beat,
-        None => Beat(u32::MAX),
     }
 }

@@ -1,5 +1,5 @@
 // A process of the world, and what the world asks of each.
-ghost use Rattle.std.specs.Prelude.{◌≡◌, ◌↔◌, ◌+◌, ◌<◌, ◌≤◌, ◌^◌, ℕ, true, List, IfSome};
+ghost use Rattle.std.specs.Prelude.{◌≡◌, ◌+◌, ◌<◌, ◌≤◌, ◌^◌, ℕ, true, List};
 ghost use Rattle.kube_base.specs.declared.numbers.ProcId.{ProcId};
 ghost use Rattle.kube_objects.specs.declared.deed.Actor.TheVariants as actor;
 ghost use Rattle.kube_objects.specs.declared.script.What.TheVariants as what;
@@ -9,17 +9,14 @@ ghost use Rattle.kube_objects.specs.Identities.{identity};
 ghost use Rattle.kube_objects.specs.Process.{starts};
 ghost use Rattle.kube_objects.specs.Wire.{Back};
 ghost use Rattle.history.specs.Steps.{happens, start, elector_turn};
-ghost use Rattle.agenda_laws.specs.Times.{is_early, elector_reading};
-ghost use Rattle.world_process.specs.Controllers.{beat_in, reading_of};
 ghost use Rattle.world_process.specs.Plain.{IsPlain, IsFew};
 ghost use Rattle.world_process.specs.Processes.{ProcessStands, SameProcess, Crashed, Begun, StoppedAs, Turned, Replied, me_of, incarnation_of, clock_of, is_up_first_as};
 
 use crate::controller::Controller;
 use crate::kubelet::Kubelet;
 use crate::moves::{Received, Stopped, Turn, stays, stop_with, turn_with};
-use kube_base::{Beat, Local, ProcId};
+use kube_base::{Beat, ProcId};
 use kube_objects::{Actor, Reply};
-use skew_clock::Clock;
 
 /// A process of the world.
 #[derive(Drop)]
@@ -132,42 +129,6 @@ impl Process {
         match self {
             Process::Controller(controller) => controller.turn(beat, delay),
             Process::Kubelet(_) => turn_with(None),
-        }
-    }
-
-    /// Its clock.
-    pub fn clock(&self) -> &Clock
-        ensures { result.now ≡ clock_of self.now }
-    {
-        match self {
-            Process::Controller(controller) => &controller.clock,
-            Process::Kubelet(kubelet) => &kubelet.clock,
-        }
-    }
-
-    /// The least reading at which a controller's turn, its tick aside, adds an entry to the history. None where there is none.
-    /// A kubelet does nothing so far.
-    pub fn wake(&self) -> Option<Local>
-        ensures { (doc : Doc) (p : ℕ) (h : List Entry) → ProcessStands doc p h self.now → is_controller doc p ≡ true
-            → reading_of result ≡ elector_reading doc p h }
-    {
-        match self {
-            Process::Controller(controller) => controller.wake(),
-            Process::Kubelet(_) => None,
-        }
-    }
-
-    /// The first beat up to the end at which a controller's turn, its tick aside, adds an entry to the history; so it does at each
-    /// later one. None where there is none.
-    pub fn turn_beat(&self) -> Option<Beat>
-        ensures woken { (doc : Doc) (k p : ℕ) (h : List Entry) → ProcessStands doc p h self.now → is_controller doc p ≡ true
-            → k ≤ (clock_of self.now).end → elector_turn doc k p h ≡ h ↔ is_early k (beat_in result) ≡ true }
-        ensures within { (doc : Doc) (p : ℕ) (h : List Entry) → ProcessStands doc p h self.now
-            → IfSome result (λ beat. beat.0 ≤ (clock_of self.now).end) }
-    {
-        match self {
-            Process::Controller(controller) => controller.turn_beat(),
-            Process::Kubelet(_) => None,
         }
     }
 
