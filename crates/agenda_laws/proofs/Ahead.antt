@@ -1,15 +1,12 @@
 -- The next beat with an entry is the soonest of what each part of a beat waits for.
-use Rattle.std.proofs.Common.{◌≡◌, ◌⊎◌, ℕ, zero, suc, ◌+◌, ◌<◌, ◌≤◌, ◌==◌, nat_lt, min, Bool, true, false, List, [], Option, Some, None, refl, sym, ap, ◌∙◌, subst, inl, inr, arith}
-use Rattle.std.proofs.lemmas.Bool.{cases_lt, eqb-true, ltb-true, ltb-false, lt-ltb}
+use Rattle.std.proofs.Common.{◌≡◌, ◌⊎◌, ℕ, suc, ◌+◌, ◌<◌, ◌≤◌, ◌==◌, min, Bool, true, false, List, Option, Some, None, refl, sym, ap, ◌∙◌, subst, inl, inr, arith}
+use Rattle.std.proofs.lemmas.Bool.{cases_lt, eqb-true, ltb-true, lt-ltb}
 use Rattle.std.proofs.lemmas.Bool.Decides.{nat_tests}
-use Rattle.kube_objects.specs.declared.script.Event.{Event}
-use Rattle.kube_objects.specs.Document.{Doc, processes, end_beat, is_up_first}
+use Rattle.kube_objects.specs.Document.{Doc, processes}
 use Rattle.kube_objects.specs.Entry.{Entry}
 use Rattle.history.specs.History.{history}
-use Rattle.history_laws.proofs.Plainly.{true_is, none_is, some_is}
-use Rattle.agenda_laws.specs.Ahead.{IsAhead, IsNextStart, IsNextEvent, IsSilent, IsNextMessage, IsNextTurn, SleepBelow, IsNextBelow, IsNextBeat, NoTurnsAreFirst, TurnsAreAdded, TheSoonestIsNext}
-use Rattle.agenda_laws.specs.Parts.{IsUneventful}
-use Rattle.agenda_laws.specs.Standing.{Among, StandsAt}
+use Rattle.history_laws.proofs.Plainly.{true_is, some_is}
+use Rattle.agenda_laws.specs.Ahead.{IsAhead, SleepBelow, NoTurnsAreFirst, TurnsAreAdded, TheSoonestIsNext}
 use Rattle.agenda_laws.specs.Times.{is_early, sooner}
 use Rattle.agenda_laws.specs.Waking.{IsAsleep, AreAsleep, wakes_of, SleepUntil}
 use Rattle.agenda_laws.proofs.Between.{sooner_both}

@@ -1,5 +1,5 @@
 -- Each part of a turn but for the tick adds something exactly from a reading on.
-use Rattle.std.proofs.Common.{◌≡◌, ◌↔◌, ℕ, ◌+◌, ◌&&◌, not, nat_lt, Bool, true, false, List, ◌∷◌, Option, Some, None, refl, ap, arith}
+use Rattle.std.proofs.Common.{◌≡◌, ◌↔◌, ℕ, ◌+◌, ◌&&◌, not, nat_lt, Bool, true, false, List, ◌∷◌, Option, Some, None, refl, arith}
 use Rattle.std.proofs.lemmas.Bool.Decides.{nat_tests}
 use Rattle.kube_objects.specs.Clocks.{local}
 use Rattle.kube_objects.specs.Document.{Doc, call_timeout, restart_delay}
@@ -10,7 +10,7 @@ use Rattle.kube_objects.specs.Kubelet.{has_round, round_timer, round_if, round, 
 use Rattle.kube_objects.specs.Newest.{has}
 use Rattle.kube_objects.specs.Process.{alive, call_in, is_late, ended, is_restart_due}
 use Rattle.kube_objects.specs.Turns.{expire_as, expire_call, end_as, end_term, just_expired, is_fast_call, attempt_if, try}
-use Rattle.history.specs.Steps.{if_up as steps_if_up, restart_as, restart_if, restart, expire, finish, attempts, elector_turn, rounds, kubelet_turn}
+use Rattle.history.specs.Steps.{if_up as steps_if_up, restart_as, restart_if, elector_turn, kubelet_turn}
 use Rattle.history_laws.proofs.Plainly.{true_is, false_is}
 use Rattle.agenda_laws.specs.Times.{is_early, sooner, if_up, restart_at, round_at, deadline_at, expiry_at, attempt_at, restart_after, restart_if_down, RestartsWake, late_at, ExpiriesWake, DeadlinesWake, unless_waiting, AttemptsWake, LostNoUpdate, LostNoPost, elector_reading, ElectorsWake, kubelet_reading, KubeletsWake, unless_running, RoundsWake}
 use Rattle.agenda_laws.proofs.Between.{grew, sooner_both, both_sooner}

@@ -22,8 +22,8 @@ use Rattle.history_laws.proofs.Order.{entries_are_earlier}
 use Rattle.history_laws.proofs.Plainly.{false_is, none_is, upper}
 use Rattle.agenda_laws.specs.Standing.{StandsAt}
 use Rattle.agenda_laws.specs.Ticking.{is_due_at_once, term_reading, term_time}
-use Rattle.agenda_laws.specs.Times.{is_early, sooner, if_up, deadline_at, LostNoUpdate, LostNoPost, elector_reading, kubelet_reading}
-use Rattle.agenda_laws.specs.Waking.{leads_at_once, lead_reading, controller_wakes, kubelet_wakes, wakes_as, IsAsleep, rested_as, TurnsWake, acts_at_once, acts_as, wakes_at, EndsWakeToo, AreAsleep, BeatsWake, HistoriesAreRested, SleepUntil, NoneStandsUntil, QuietBeatsAreSlept, NextBeatsWake}
+use Rattle.agenda_laws.specs.Times.{is_early, if_up, LostNoUpdate, LostNoPost, elector_reading}
+use Rattle.agenda_laws.specs.Waking.{leads_at_once, lead_reading, controller_wakes, kubelet_wakes, wakes_as, IsAsleep, rested_as, TurnsWake, acts_at_once, acts_as, EndsWakeToo, AreAsleep, BeatsWake, HistoriesAreRested, SleepUntil, NoneStandsUntil, QuietBeatsAreSlept, NextBeatsWake}
 use Rattle.agenda_laws.proofs.Between.{sooner_both, both_sooner}
 use Rattle.agenda_laws.proofs.Parts.{events_add_by_parts, controllers_add_by_parts}
 use Rattle.agenda_laws.proofs.Standing.{beats_add_by_parts, entries_stand_where_added, same_or_stands}
@@ -125,9 +125,9 @@ turns_wake doc k p h rested = turn_asleep doc k h p (is_controller doc p) rested
 
 pub ends_wake_too : EndsWakeToo
 ends_wake_too doc k p h = (
-    λ w. record { at_once = acting_same doc k h p (is_controller doc p) w.local ∙ w.at_once; local = w.local; wall = w.wall },
-    λ w. record { at_once = sym (acting_same doc k h p (is_controller doc p) w.local) ∙ w.at_once; local = w.local; wall = w.wall },
-  )
+  λ w. record { at_once = acting_same doc k h p (is_controller doc p) w.local ∙ w.at_once; local = w.local; wall = w.wall },
+  λ w. record { at_once = sym (acting_same doc k h p (is_controller doc p) w.local) ∙ w.at_once; local = w.local; wall = w.wall },
+)
 
 -- ---- a beat
 

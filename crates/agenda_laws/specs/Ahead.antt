@@ -1,5 +1,5 @@
 -- The next beat with an entry is the soonest of what each part of a beat waits for. Source: profile.
-use Rattle.std.specs.Prelude.{◌≡◌, ℕ, suc, ◌<◌, ◌≤◌, true, false, List, [], Option, Some, None}
+use Rattle.std.specs.Prelude.{◌≡◌, ℕ, suc, ◌<◌, ◌≤◌, true, false, List, [], Option, Some}
 use Rattle.kube_objects.specs.declared.script.Event.{Event}
 use Rattle.kube_objects.specs.Document.{Doc, processes, end_beat, is_up_first}
 use Rattle.kube_objects.specs.Entry.{Entry}
