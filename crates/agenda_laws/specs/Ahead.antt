@@ -57,12 +57,18 @@ pub record IsNextBeat (doc : Doc) (k : ℕ) (next : Option ℕ) : Type 0 where
   pub there : (n : ℕ) → next ≡ Some n → IsAhead doc k n × StandsAt doc n
 
 abbrev pub NoTurnsAreFirst : Type 0
-NoTurnsAreFirst = (doc : Doc) (k : ℕ) (h : List Entry) (starts event message : Option ℕ) → IsNextStart doc k starts → IsNextEvent doc k event → IsNextMessage doc k h message
+NoTurnsAreFirst =
+    (doc : Doc) (k : ℕ) (h : List Entry) (starts event message : Option ℕ) → IsNextStart doc k starts → IsNextEvent doc k event
+    → IsNextMessage doc k h message
     → IsNextBelow doc k 0 h (sooner starts (sooner event message))
 
 abbrev pub TurnsAreAdded : Type 0
-TurnsAreAdded = (doc : Doc) (k p : ℕ) (h : List Entry) (next turn : Option ℕ) → p < processes doc → IsNextBelow doc k p h next → IsNextTurn doc k p h turn
+TurnsAreAdded =
+    (doc : Doc) (k p : ℕ) (h : List Entry) (next turn : Option ℕ) → p < processes doc → IsNextBelow doc k p h next
+    → IsNextTurn doc k p h turn
     → IsNextBelow doc k (suc p) h (sooner next turn)
 
 abbrev pub TheSoonestIsNext : Type 0
-TheSoonestIsNext = (doc : Doc) (k : ℕ) (next : Option ℕ) → k ≤ end_beat doc → IsNextBelow doc k (processes doc) (history doc k) next → IsNextBeat doc k next
+TheSoonestIsNext =
+    (doc : Doc) (k : ℕ) (next : Option ℕ) → k ≤ end_beat doc → IsNextBelow doc k (processes doc) (history doc k) next
+    → IsNextBeat doc k next

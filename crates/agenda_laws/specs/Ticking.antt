@@ -67,7 +67,9 @@ abbrev pub pass_at : Doc → Identity → List Entry → Option ℕ
 pass_at doc q h = Some (pass_after doc q (last_pass q h))
 
 abbrev pub PassesWake : Type 0
-PassesWake = (doc : Doc) (k : ℕ) (q : Identity) (h : List Entry) → pass doc k q h ≡ h ↔ is_early (local doc q.process k) (pass_at doc q h) ≡ true
+PassesWake =
+    (doc : Doc) (k : ℕ) (q : Identity) (h : List Entry)
+    → pass doc k q h ≡ h ↔ is_early (local doc q.process k) (pass_at doc q h) ≡ true
 
 -- at a rate of 0 there is never one; else the span in which it grows, rounded up
 abbrev pub token_after : ℕ → Option Rated → Option ℕ
@@ -83,7 +85,9 @@ abbrev pub head_at : Doc → Identity → Place → List Entry → Option ℕ
 head_at doc q place h = only_if (has (head_of q place (node_names h) h)) (token_at doc q place h)
 
 abbrev pub HeadsWake : Type 0
-HeadsWake = (doc : Doc) (k : ℕ) (q : Identity) (place : Place) (h : List Entry) → taint doc k q place h ≡ h ↔ is_early (local doc q.process k) (head_at doc q place h) ≡ true
+HeadsWake =
+    (doc : Doc) (k : ℕ) (q : Identity) (place : Place) (h : List Entry)
+    → taint doc k q place h ≡ h ↔ is_early (local doc q.process k) (head_at doc q place h) ≡ true
 
 abbrev pub heads_at : Doc → Identity → List Place → List Entry → Option ℕ
 heads_at doc q [] h = None
@@ -110,7 +114,9 @@ abbrev pub due_at : Identity → Key → List Entry → Option ℕ
 due_at q pod h = due_seen q (is_stale q pod h) (seen_pod q pod h) h
 
 abbrev pub DeletesWake : Type 0
-DeletesWake = (doc : Doc) (k : ℕ) (q : Identity) (pod : Key) (h : List Entry) → evict doc k q pod h ≡ h ↔ is_early (wall doc q.process k) (due_at q pod h) ≡ true
+DeletesWake =
+    (doc : Doc) (k : ℕ) (q : Identity) (pod : Key) (h : List Entry)
+    → evict doc k q pod h ≡ h ↔ is_early (wall doc q.process k) (due_at q pod h) ≡ true
 
 abbrev pub dues_at : Identity → List Key → List Entry → Option ℕ
 dues_at q [] h = None

@@ -80,7 +80,9 @@ abbrev pub attempt_at : Doc → ℕ → List Entry → Option ℕ
 attempt_at doc p h = if_up p (λ q. unless_waiting (call_in q h) (timer doc q h)) (alive p h)
 
 abbrev pub AttemptsWake : Type 0
-AttemptsWake = (doc : Doc) (k p : ℕ) (h : List Entry) → LostNoUpdate k p h → attempts doc k p h ≡ h ↔ is_early (local doc p k) (attempt_at doc p h) ≡ true
+AttemptsWake =
+    (doc : Doc) (k p : ℕ) (h : List Entry) → LostNoUpdate k p h
+    → attempts doc k p h ≡ h ↔ is_early (local doc p k) (attempt_at doc p h) ≡ true
 
 -- ---- an elector's whole turn
 
@@ -89,7 +91,9 @@ abbrev pub elector_reading : Doc → ℕ → List Entry → Option ℕ
 elector_reading doc p h = sooner (restart_at doc p h) (sooner (expiry_at doc p h) (sooner (deadline_at doc p h) (attempt_at doc p h)))
 
 abbrev pub ElectorsWake : Type 0
-ElectorsWake = (doc : Doc) (k p : ℕ) (h : List Entry) → LostNoUpdate k p h → elector_turn doc k p h ≡ h ↔ is_early (local doc p k) (elector_reading doc p h) ≡ true
+ElectorsWake =
+    (doc : Doc) (k p : ℕ) (h : List Entry) → LostNoUpdate k p h
+    → elector_turn doc k p h ≡ h ↔ is_early (local doc p k) (elector_reading doc p h) ≡ true
 
 -- ---- a kubelet's round
 
@@ -106,7 +110,9 @@ abbrev pub round_at : Doc → ℕ → List Entry → Option ℕ
 round_at doc p h = if_up p (λ q. unless_running (has_round q h) (round_timer doc q h)) (alive p h)
 
 abbrev pub RoundsWake : Type 0
-RoundsWake = (doc : Doc) (k p : ℕ) (h : List Entry) → LostNoPost k p h → rounds doc k p h ≡ h ↔ is_early (local doc p k) (round_at doc p h) ≡ true
+RoundsWake =
+    (doc : Doc) (k p : ℕ) (h : List Entry) → LostNoPost k p h
+    → rounds doc k p h ≡ h ↔ is_early (local doc p k) (round_at doc p h) ≡ true
 
 -- ---- a kubelet's whole turn
 
@@ -114,4 +120,6 @@ abbrev pub kubelet_reading : Doc → ℕ → List Entry → Option ℕ
 kubelet_reading doc p h = sooner (expiry_at doc p h) (round_at doc p h)
 
 abbrev pub KubeletsWake : Type 0
-KubeletsWake = (doc : Doc) (k p : ℕ) (h : List Entry) → LostNoPost k p h → kubelet_turn doc k p h ≡ h ↔ is_early (local doc p k) (kubelet_reading doc p h) ≡ true
+KubeletsWake =
+    (doc : Doc) (k p : ℕ) (h : List Entry) → LostNoPost k p h
+    → kubelet_turn doc k p h ≡ h ↔ is_early (local doc p k) (kubelet_reading doc p h) ≡ true

@@ -120,4 +120,6 @@ QuietBeatsAreSlept = (doc : Doc) (k n : ℕ) → k ≤ n → n ≤ end_beat doc 
 
 -- the first entry after such beats stands where somebody is woken on this same history
 abbrev pub NextBeatsWake : Type 0
-NextBeatsWake = (doc : Doc) (k n : ℕ) → k ≤ n → n ≤ end_beat doc → SleepUntil doc k n → (history doc n ≡ history doc k) × (StandsAt doc n ↔ ¬ AreAsleep doc n (history doc k))
+NextBeatsWake =
+    (doc : Doc) (k n : ℕ) → k ≤ n → n ≤ end_beat doc → SleepUntil doc k n
+    → (history doc n ≡ history doc k) × (StandsAt doc n ↔ ¬ AreAsleep doc n (history doc k))

@@ -49,7 +49,7 @@ pub fn ticks_wake_by_times()
     ensures ticks { TicksWake }
 {}
 
-/// A turn, and a beat, adds something exactly where something is there that a process waits for; and the next beat with an entry is found on
+/// A turn, and a beat, adds something exactly where something is there that a process waits for. The next beat with an entry is found on
 /// one history alone.
 pub fn beats_wake_by_causes()
     ensures turns { TurnsWake }
