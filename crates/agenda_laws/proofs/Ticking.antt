@@ -1,0 +1,442 @@
+-- What a tick adds something for.
+use Rattle.std.proofs.Common.{◌≡◌, ◌↔◌, ◌⊎◌, ℕ, zero, suc, ◌+◌, ◌-◌, ◌*◌, ◌<◌, ◌≤◌, ◌==◌, ◌&&◌, nat_lt, nat_le, Bool, true, false, cond, List, [], ◌∷◌, Option, Some, None, refl, sym, ap, ◌∙◌, subst, inl, inr, arith}
+use Rattle.std.specs.Int.{div_ceil}
+use Rattle.std.specs.List.{list_any}
+use Rattle.std.proofs.Math.Nat.{mul-le-mul_right}
+use Rattle.std.proofs.lemmas.Bool.{cases_lt, eqb-true, leb-false, ltb-true, lt-ltb, lt-leb}
+use Rattle.std.proofs.lemmas.Bool.Decides.{nat_tests}
+use Rattle.std.proofs.lemmas.Grind.{div_ceil_times}
+use Rattle.kube_base.specs.declared.numbers.Version.{Version}
+use Rattle.kube_objects.specs.declared.key.Key.{Key}
+use Rattle.kube_objects.specs.declared.node.Node.{Node}
+use Rattle.kube_objects.specs.declared.node.ZoneState.{ZoneState}
+use Rattle.kube_objects.specs.declared.pod.Due.{Due}
+use Rattle.kube_objects.specs.declared.pod.Due.TheVariants.{Never, At}
+use Rattle.kube_objects.specs.declared.pod.Pod.{Pod}
+use Rattle.kube_objects.specs.Clocks.{local, wall}
+use Rattle.kube_objects.specs.Document.{Doc}
+use Rattle.kube_objects.specs.Entry.{Entry, Identity, Place, Pass}
+use Rattle.kube_objects.specs.Health.{mark_of, last_pass, is_after_pass, is_pass_due}
+use Rattle.kube_objects.specs.Modes.{nodes, places, mode, state_in, rate_in, all_full}
+use Rattle.kube_objects.specs.Newest.{only_if, has}
+use Rattle.kube_objects.specs.Seen.{seen_node, seen_pod, is_synced, is_stale, node_names, pod_keys}
+use Rattle.kube_objects.specs.Stored.{node_key}
+use Rattle.kube_objects.specs.Tainting.{Wants, Nothing, Wanted, Whatever, wants, has_condition, is_opposite, lacks_in, waits, Queued, queued, queued_as, first, head_of}
+use Rattle.kube_objects.specs.Tick.{add, sync_if, mark_as, mark_seen, mark, marks, mode_if, is_same_mode, set_mode, zone_if, zone, set_zones, pass_if, pass, untaint_if, swap_if, clean_as, clean_seen, clean, taint_as, taint_head, taint_if, taint, delete_if, evict_due, evict_on, evict_seen, evict, tick}
+use Rattle.kube_objects.specs.Tokens.{Rated, rated, is_rated, base, token_size, is_grown, has_token}
+use Rattle.kube_objects.specs.Tolerations.{due}
+use Rattle.history_laws.specs.Tails.{IsTail}
+use Rattle.history_laws.proofs.Plainly.{true_is, false_is, some_is, none_is}
+use Rattle.history_laws.proofs.Tailed.{tail_all, tail_trans}
+use Rattle.agenda_laws.specs.Parts.{IsStillSynced}
+use Rattle.agenda_laws.specs.Standing.{Among}
+use Rattle.agenda_laws.specs.Ticking.{is_sync_due, SyncsWake, is_unclean, is_unclean_seen, is_clean_due, CleansWake, pass_after, pass_at, PassesWake, token_after, token_at, head_at, HeadsWake, heads_at, time_of, due_on, due_seen, due_at, DeletesWake, dues_at, IsEarlyTick, TicksWake}
+use Rattle.agenda_laws.specs.Times.{is_early, sooner}
+use Rattle.agenda_laws.proofs.Between.{longer, grew, each_adds, each_still, still_each, or_none, none_or, and_none, none_and, sooner_both, both_sooner}
+use Rattle.agenda_laws.proofs.Parts.{ticks_add_by_parts}
+use Rattle.agenda_laws.proofs.Times.{Waits, never}
+
+-- what adds nothing exactly where a test fails
+abbrev Needs : List Entry → List Entry → Bool → Type 0
+Needs next h test = next ≡ h ↔ test ≡ false
+
+idle : (h : List Entry) → Needs h h false
+idle h = (λ is. refl, λ is. refl)
+
+busy : (x : Entry) (h : List Entry) → Needs (x ∷ h) h true
+busy x h = (λ is. absurd (grew x h is), λ is. absurd (true_is is))
+
+-- ---- some of many
+
+any_none : {A : Type 0} (f : A → Bool) (xs : List A) → list_any f xs ≡ false → (x : A) → Among x xs → f x ≡ false
+any_none f [] is x at = absurd at
+any_none f (y ∷ ys) is x (inl same) = subst (λ z. f z ≡ false) (sym same) (or_none (f y) (list_any f ys) is).0
+any_none f (y ∷ ys) is x (inr at) = any_none f ys (or_none (f y) (list_any f ys) is).1 x at
+
+none_any : {A : Type 0} (f : A → Bool) (xs : List A) → ((x : A) → Among x xs → f x ≡ false) → list_any f xs ≡ false
+none_any f [] none = refl
+none_any f (y ∷ ys) none = none_or (f y) (list_any f ys) (none y (inl refl)) (none_any f ys (λ x at. none x (inr at)))
+
+-- ---- the token
+
+token_some : 0 < token_size
+unfolding token_size
+token_some = omega arith
+
+-- a span at a rate makes up a size exactly from the size, divided by the rate and rounded up, on
+span_is : (size span rate : ℕ) → 0 < rate → (size ≤ span * rate → div_ceil size rate ≤ span) × (div_ceil size rate ≤ span → size ≤ span * rate)
+span_is size span rate some =
+    let times = div_ceil_times size rate some in (
+      λ full. by_less full times (cases_lt span (div_ceil size rate)),
+      λ long. let more : div_ceil size rate * rate ≤ span * rate = mul-le-mul_right rate long in omega (arith, times.0, more),
+    )
+  where
+    by_less : size ≤ span * rate → (size ≤ div_ceil size rate * rate) × (div_ceil size rate * rate < size + rate) → (span < div_ceil size rate) ⊎ (div_ceil size rate ≤ span) → div_ceil size rate ≤ span
+    by_less full times (inr long) = long
+    by_less full times (inl short) = let more : suc span * rate ≤ div_ceil size rate * rate = mul-le-mul_right rate short in absurd (omega (arith, full, times.1, more))
+
+span_some : (size rate span : ℕ) → 0 < size → size ≤ span * rate → 0 < span
+span_some size rate zero some is = absurd (omega (arith, some, is))
+span_some size rate (suc span) some is = omega arith
+
+module _ (size reads from rate : ℕ) (some : 0 < size) where
+  abbrev ready : ℕ
+  ready = from + div_ceil size rate
+
+  grown_early : 0 < rate → nat_le size ((reads - from) * rate) ≡ false → nat_lt reads ready ≡ true
+  grown_early runs is = lt-ltb reads ready (by_less (cases_lt reads ready))
+    where
+      by_less : (reads < ready) ⊎ (ready ≤ reads) → reads < ready
+      by_less (inl before) = before
+      by_less (inr after) =
+          let full = (span_is size (reads - from) rate runs).1 (omega (arith, after)) in
+          absurd (omega (arith, full, leb-false size ((reads - from) * rate) is))
+
+  early_grown : 0 < rate → nat_lt reads ready ≡ true → nat_le size ((reads - from) * rate) ≡ false
+  early_grown runs is = lt-leb size ((reads - from) * rate) (by_less (cases_lt ((reads - from) * rate) size))
+    where
+      by_less : ((reads - from) * rate < size) ⊎ (size ≤ (reads - from) * rate) → (reads - from) * rate < size
+      by_less (inl short) = short
+      by_less (inr full) =
+          let long = (span_is size (reads - from) rate runs).0 full in
+          let more = span_some size rate (div_ceil size rate) some (div_ceil_times size rate runs).0 in
+          absurd (omega (arith, long, more, ltb-true reads ready is))
+
+  grown_none : rate ≡ 0 → nat_le size ((reads - from) * rate) ≡ false
+  grown_none none = rw none (lt-leb size ((reads - from) * 0) (omega (arith, some)))
+
+  grown_by : (b : Bool) → (rate == 0) ≡ b → nat_le size ((reads - from) * rate) ≡ false ↔ is_early reads (cond b None (Some ready)) ≡ true
+  grown_by true is = (λ x. refl, λ x. grown_none (eqb-true rate 0 is))
+  grown_by false is =
+      let runs : 0 < rate = grind (arith, nat_tests) in
+      (grown_early runs, early_grown runs)
+
+grown_waits : (reads from : ℕ) (o : Option Rated) → is_grown (reads - from) o ≡ false ↔ is_early reads (token_after from o) ≡ true
+grown_waits reads from None = (λ is. refl, λ is. refl)
+grown_waits reads from (Some x) = grown_by token_size reads from x.1 token_some (x.1 == 0) refl
+
+-- ---- the parts
+
+module _ (doc : Doc) (k : ℕ) (q : Identity) where
+  -- the sync
+
+  sync_needs : (b : Bool) (h : List Entry) → Needs (sync_if k q b h) h b
+  sync_needs true h = busy _ h
+  sync_needs false h = idle h
+
+  -- the pass
+
+  mark_as_adds : (name : ℕ) (given : Version) (o : Option Node) (h : List Entry) → IsTail h (mark_as k q name given o h)
+  mark_as_adds name given None h = tail_all h
+  mark_as_adds name given (Some node) h = inr (tail_all h)
+
+  mark_seen_adds : (name : ℕ) (o : Option (Version × Node)) (h : List Entry) → IsTail h (mark_seen doc k q name o h)
+  mark_seen_adds name None h = tail_all h
+  mark_seen_adds name (Some x) h = mark_as_adds name x.0 (mark_of doc q k name x.1 h) h
+
+  mark_adds : (name : ℕ) (h : List Entry) → IsTail h (mark doc k q name h)
+  mark_adds name h = mark_seen_adds name (seen_node q name h) h
+
+  mode_if_adds : (on b : Bool) (h : List Entry) → IsTail h (mode_if k q on b h)
+  mode_if_adds on true h = tail_all h
+  mode_if_adds on false h = inr (tail_all h)
+
+  mode_adds : (h : List Entry) → IsTail h (set_mode doc k q h)
+  mode_adds h = mode_if_adds (all_full doc (nodes q h)) (is_same_mode (all_full doc (nodes q h)) (mode q h)) h
+
+  zone_if_adds : (place : Place) (state : ZoneState) (rate : ℕ) (b : Bool) (h : List Entry) → IsTail h (zone_if k q place state rate b h)
+  zone_if_adds place state rate true h = tail_all h
+  zone_if_adds place state rate false h = inr (tail_all h)
+
+  zone_adds : (seen : List Node) (place : Place) (h : List Entry) → IsTail h (zone doc k q seen place h)
+  zone_adds seen place h =
+      zone_if_adds place (state_in doc seen place) (rate_in doc (mode q h) seen place) (is_rated (state_in doc seen place) (rate_in doc (mode q h) seen place) (rated q place h)) h
+
+  pass_on : (h : List Entry) → IsTail (add k q Pass h) (pass_if doc k q true h)
+  pass_on h =
+      let p = add k q Pass h in
+      let m = marks doc k q p in
+      let o = set_mode doc k q m in
+      tail_trans p m (set_zones doc k q o) (each_adds (mark doc k q) mark_adds (node_names p) p)
+      (tail_trans m o (set_zones doc k q o) (mode_adds m) (each_adds (zone doc k q (nodes q o)) (zone_adds (nodes q o)) (places (nodes q o)) o))
+
+  pass_needs : (b : Bool) (h : List Entry) → Needs (pass_if doc k q b h) h b
+  pass_needs true h = (λ is. absurd (longer _ h (pass_if doc k q true h) (pass_on h) is), λ is. absurd (true_is is))
+  pass_needs false h = idle h
+
+  pass_is : (o : Option ℕ) → is_after_pass doc k q o ≡ false ↔ nat_lt (local doc q.process k) (pass_after doc q o) ≡ true
+  pass_is None = (λ is. absurd (true_is is), λ is. grind (arith, nat_tests))
+  pass_is (Some last) = (λ is. grind (arith, nat_tests), λ is. grind (arith, nat_tests))
+
+  pass_waits : (h : List Entry) → Waits (pass doc k q h) h (is_early (local doc q.process k) (pass_at doc q h))
+  pass_waits h =
+      let needs = pass_needs (is_pass_due doc k q h) h in
+      let tells = pass_is (last_pass q h) in
+      (λ is. tells.0 (needs.0 is), λ is. needs.1 (tells.1 is))
+
+  -- untaints and swaps
+
+  untaint_needs : (name : ℕ) (given : Version) (node : Node) (b : Bool) (h : List Entry) → Needs (untaint_if k q name given node b h) h b
+  untaint_needs name given node true h = busy _ h
+  untaint_needs name given node false h = idle h
+
+  swap_needs : (name : ℕ) (given : Version) (node : Node) (wanted : ℕ) (b : Bool) (h : List Entry) → Needs (swap_if doc k q name given node wanted b h) h b
+  swap_needs name given node wanted true h = busy _ h
+  swap_needs name given node wanted false h = idle h
+
+  clean_as_needs : (name : ℕ) (given : Version) (node : Node) (w : Wants) (h : List Entry) → Needs (clean_as doc k q name given node w h) h (is_unclean node w)
+  clean_as_needs name given node Nothing h = untaint_needs name given node (has_condition node) h
+  clean_as_needs name given node (Wanted wanted) h = swap_needs name given node wanted (list_any (is_opposite wanted) node.taints) h
+  clean_as_needs name given node Whatever h = idle h
+
+  clean_seen_needs : (name : ℕ) (stale : Bool) (o : Option (Version × Node)) (h : List Entry) → Needs (clean_seen doc k q name stale o h) h (is_unclean_seen (mode q h) stale o)
+  clean_seen_needs name true o h = idle h
+  clean_seen_needs name false None h = idle h
+  clean_seen_needs name false (Some x) h = clean_as_needs name x.0 x.1 (wants (mode q h) x.1) h
+
+  clean_needs : (name : ℕ) (h : List Entry) → Needs (clean doc k q name h) h (is_clean_due q h name)
+  clean_needs name h = clean_seen_needs name (is_stale q (node_key name) h) (seen_node q name h) h
+
+  untaint_adds : (name : ℕ) (given : Version) (node : Node) (b : Bool) (h : List Entry) → IsTail h (untaint_if k q name given node b h)
+  untaint_adds name given node true h = inr (tail_all h)
+  untaint_adds name given node false h = tail_all h
+
+  swap_adds : (name : ℕ) (given : Version) (node : Node) (wanted : ℕ) (b : Bool) (h : List Entry) → IsTail h (swap_if doc k q name given node wanted b h)
+  swap_adds name given node wanted true h = inr (tail_all h)
+  swap_adds name given node wanted false h = tail_all h
+
+  clean_as_adds : (name : ℕ) (given : Version) (node : Node) (w : Wants) (h : List Entry) → IsTail h (clean_as doc k q name given node w h)
+  clean_as_adds name given node Nothing h = untaint_adds name given node (has_condition node) h
+  clean_as_adds name given node (Wanted wanted) h = swap_adds name given node wanted (list_any (is_opposite wanted) node.taints) h
+  clean_as_adds name given node Whatever h = tail_all h
+
+  clean_seen_adds : (name : ℕ) (stale : Bool) (o : Option (Version × Node)) (h : List Entry) → IsTail h (clean_seen doc k q name stale o h)
+  clean_seen_adds name true o h = tail_all h
+  clean_seen_adds name false None h = tail_all h
+  clean_seen_adds name false (Some x) h = clean_as_adds name x.0 x.1 (wants (mode q h) x.1) h
+
+  clean_adds : (name : ℕ) (h : List Entry) → IsTail h (clean doc k q name h)
+  clean_adds name h = clean_seen_adds name (is_stale q (node_key name) h) (seen_node q name h) h
+
+  -- heads
+
+  taint_as_adds : (place : Place) (name : ℕ) (w : Option ℕ) (o : Option (Version × Node)) (h : List Entry) → IsTail h (taint_as doc k q place name w o h)
+  taint_as_adds place name None o h = tail_all h
+  taint_as_adds place name (Some wanted) None h = tail_all h
+  taint_as_adds place name (Some wanted) (Some x) h = inr (tail_all h)
+
+  taint_head_adds : (place : Place) (o : Option Queued) (h : List Entry) → IsTail h (taint_head doc k q place o h)
+  taint_head_adds place None h = tail_all h
+  taint_head_adds place (Some x) h = taint_as_adds place x.1 (waits q place x.1 h) (seen_node q x.1 h) h
+
+  taint_if_adds : (place : Place) (b : Bool) (h : List Entry) → IsTail h (taint_if doc k q place b h)
+  taint_if_adds place true h = taint_head_adds place (head_of q place (node_names h) h) h
+  taint_if_adds place false h = tail_all h
+
+  taint_adds : (place : Place) (h : List Entry) → IsTail h (taint doc k q place h)
+  taint_adds place h = taint_if_adds place (has_token doc q k place h) h
+
+  -- the first of two is one of them
+  first_or : (a b : Option Queued) (x : Queued) → first a b ≡ Some x → (a ≡ Some x) ⊎ (b ≡ Some x)
+  first_or None b x is = inr is
+  first_or (Some a) None x is = inl is
+  first_or (Some a) (Some b) x is = by_test (nat_lt b.0 a.0) is
+    where
+      by_test : (t : Bool) → Some (cond t b a) ≡ Some x → (Some a ≡ Some x) ⊎ (Some b ≡ Some x)
+      by_test true is = inr is
+      by_test false is = inl is
+
+  -- who is queued waits
+  queued_waits : (place : Place) (at name : ℕ) (w : Option ℕ) (x : Queued) → queued_as at name w ≡ Some x → (x.1 ≡ name) × ((wanted : ℕ) × (w ≡ Some wanted))
+  queued_waits place at name None x is = absurd (none_is x is)
+  queued_waits place at name (Some wanted) x is = (ap (λ (y : Queued). y.1) (sym (some_is (at, name) x is)), (wanted, refl))
+
+  abbrev Waiting : Place → List Entry → Queued → Type 0
+  Waiting place h x = (wanted : ℕ) × (waits q place x.1 h ≡ Some wanted)
+
+  head_waits : (place : Place) (names : List ℕ) (h : List Entry) (x : Queued) → head_of q place names h ≡ Some x → Waiting place h x
+  head_waits place [] h x is = absurd (none_is x is)
+  head_waits place (name ∷ names) h x is =
+      by_one (head_waits place names h x) (first_or (queued_as (queued q place name h) name (waits q place name h)) (head_of q place names h) x is)
+    where
+      by_one : (head_of q place names h ≡ Some x → Waiting place h x) → (queued_as (queued q place name h) name (waits q place name h) ≡ Some x) ⊎ (head_of q place names h ≡ Some x) → Waiting place h x
+      by_one rest (inl this) = let w = queued_waits place (queued q place name h) name (waits q place name h) x this in (w.1.0, ap (λ n. waits q place n h) w.0 ∙ w.1.1)
+      by_one rest (inr later) = rest later
+
+  waits_seen : (on : Bool) (place : Place) (o : Option (Version × Node)) (wanted : ℕ) → lacks_in on place o ≡ Some wanted → (y : Version × Node) × (o ≡ Some y)
+  waits_seen on place None wanted is = absurd (none_is wanted is)
+  waits_seen on place (Some y) wanted is = (y, refl)
+
+  as_longer : (place : Place) (name wanted : ℕ) (y : Version × Node) (w : Option ℕ) (o : Option (Version × Node)) (h : List Entry) → w ≡ Some wanted → o ≡ Some y → taint_as doc k q place name w o h ≡ h → ⊥
+  as_longer place name wanted y None o h waits seen is = none_is wanted waits
+  as_longer place name wanted y (Some v) None h waits seen is = none_is y seen
+  as_longer place name wanted y (Some v) (Some z) h waits seen is = grew _ h is
+
+  head_needs : (place : Place) (o : Option Queued) (h : List Entry) → head_of q place (node_names h) h ≡ o → Needs (taint_head doc k q place o h) h (has o)
+  head_needs place None h found = idle h
+  head_needs place (Some x) h found = (λ is. by_wait (head_waits place (node_names h) h x found) is, λ is. absurd (true_is is))
+    where
+      by_wait : Waiting place h x → taint_head doc k q place (Some x) h ≡ h → true ≡ false
+      by_wait w is =
+          let y = waits_seen (mode q h) place (seen_node q x.1 h) w.0 w.1 in
+          absurd (as_longer place x.1 w.0 y.0 (waits q place x.1 h) (seen_node q x.1 h) h w.1 y.1 is)
+
+  taint_needs : (place : Place) (b : Bool) (h : List Entry) → Needs (taint_if doc k q place b h) h (b && has (head_of q place (node_names h) h))
+  taint_needs place true h = head_needs place (head_of q place (node_names h) h) h refl
+  taint_needs place false h = idle h
+
+  -- both, or not: the token is early, or nobody waits
+  both_wait : (token head : Bool) (reads : ℕ) (o : Option ℕ) → (token ≡ false ↔ is_early reads o ≡ true) → (token && head) ≡ false ↔ is_early reads (only_if head o) ≡ true
+  both_wait token false reads o tells = (λ is. refl, λ is. none_and token false (λ x. refl))
+  both_wait true true reads o tells = (λ is. absurd (true_is is), tells.1)
+  both_wait false true reads o tells = (λ is. tells.0 refl, λ is. refl)
+
+  taint_waits : (place : Place) (h : List Entry) → Waits (taint doc k q place h) h (is_early (local doc q.process k) (head_at doc q place h))
+  taint_waits place h =
+      let needs = taint_needs place (has_token doc q k place h) h in
+      let grown = grown_waits (local doc q.process k) (local doc q.process (base q place h)) (rated q place h) in
+      let tells = both_wait (has_token doc q k place h) (has (head_of q place (node_names h) h)) (local doc q.process k) (token_at doc q place h) grown in
+      (λ is. tells.0 (needs.0 is), λ is. needs.1 (tells.1 is))
+
+  -- deletes
+
+  delete_none : (pod : Key) (given : Version) (node : ℕ) (node_given : Version) (at : ℕ) (b : Bool) (h : List Entry) → Needs (delete_if k q pod given node node_given at b h) h b
+  delete_none pod given node node_given at true h = busy _ h
+  delete_none pod given node node_given at false h = idle h
+
+  due_is : (at reads : ℕ) → nat_le at reads ≡ false ↔ nat_lt reads at ≡ true
+  due_is at reads = (λ late. grind (arith, nat_tests), λ early. grind (arith, nat_tests))
+
+  evict_due_waits : (pod : Key) (given : Version) (node : ℕ) (node_given : Version) (o : Due) (h : List Entry) → Waits (evict_due doc k q pod given node node_given o h) h (is_early (wall doc q.process k) (time_of o))
+  evict_due_waits pod given node node_given Never h = never h
+  evict_due_waits pod given node node_given (At at) h =
+      let needs = delete_none pod given node node_given at (nat_le at (wall doc q.process k)) h in
+      let tells = due_is at (wall doc q.process k) in
+      (λ is. tells.0 (needs.0 is), λ is. needs.1 (tells.1 is))
+
+  evict_on_waits : (pod : Key) (x : Version × Pod) (o : Option (Version × Node)) (h : List Entry) → Waits (evict_on doc k q pod x o h) h (is_early (wall doc q.process k) (due_on x.1 o))
+  evict_on_waits pod x None h = never h
+  evict_on_waits pod x (Some y) h = evict_due_waits pod x.0 x.1.node y.0 (due x.1 y.1) h
+
+  evict_seen_waits : (pod : Key) (stale : Bool) (o : Option (Version × Pod)) (h : List Entry) → Waits (evict_seen doc k q pod stale o h) h (is_early (wall doc q.process k) (due_seen q stale o h))
+  evict_seen_waits pod true o h = never h
+  evict_seen_waits pod false None h = never h
+  evict_seen_waits pod false (Some x) h = evict_on_waits pod x (seen_node q x.1.node h) h
+
+  evict_waits : (pod : Key) (h : List Entry) → Waits (evict doc k q pod h) h (is_early (wall doc q.process k) (due_at q pod h))
+  evict_waits pod h = evict_seen_waits pod (is_stale q pod h) (seen_pod q pod h) h
+
+  delete_adds : (pod : Key) (given : Version) (node : ℕ) (node_given : Version) (at : ℕ) (b : Bool) (h : List Entry) → IsTail h (delete_if k q pod given node node_given at b h)
+  delete_adds pod given node node_given at true h = inr (tail_all h)
+  delete_adds pod given node node_given at false h = tail_all h
+
+  evict_due_adds : (pod : Key) (given : Version) (node : ℕ) (node_given : Version) (o : Due) (h : List Entry) → IsTail h (evict_due doc k q pod given node node_given o h)
+  evict_due_adds pod given node node_given Never h = tail_all h
+  evict_due_adds pod given node node_given (At at) h = delete_adds pod given node node_given at (nat_le at (wall doc q.process k)) h
+
+  evict_on_adds : (pod : Key) (x : Version × Pod) (o : Option (Version × Node)) (h : List Entry) → IsTail h (evict_on doc k q pod x o h)
+  evict_on_adds pod x None h = tail_all h
+  evict_on_adds pod x (Some y) h = evict_due_adds pod x.0 x.1.node y.0 (due x.1 y.1) h
+
+  evict_seen_adds : (pod : Key) (stale : Bool) (o : Option (Version × Pod)) (h : List Entry) → IsTail h (evict_seen doc k q pod stale o h)
+  evict_seen_adds pod true o h = tail_all h
+  evict_seen_adds pod false None h = tail_all h
+  evict_seen_adds pod false (Some x) h = evict_on_adds pod x (seen_node q x.1.node h) h
+
+  evict_adds : (pod : Key) (h : List Entry) → IsTail h (evict doc k q pod h)
+  evict_adds pod h = evict_seen_adds pod (is_stale q pod h) (seen_pod q pod h) h
+
+  -- ---- the tick
+
+  -- before the soonest is before each
+  heads_early : (reads : ℕ) (xs : List Place) (h : List Entry) → is_early reads (heads_at doc q xs h) ≡ true → (place : Place) → Among place xs → is_early reads (head_at doc q place h) ≡ true
+  heads_early reads [] h is place at = absurd at
+  heads_early reads (x ∷ xs) h is place (inl same) = subst (λ z. is_early reads (head_at doc q z h) ≡ true) (sym same) (sooner_both reads (head_at doc q x h) (heads_at doc q xs h) is).0
+  heads_early reads (x ∷ xs) h is place (inr at) = heads_early reads xs h (sooner_both reads (head_at doc q x h) (heads_at doc q xs h) is).1 place at
+
+  early_heads : (reads : ℕ) (xs : List Place) (h : List Entry) → ((place : Place) → Among place xs → is_early reads (head_at doc q place h) ≡ true) → is_early reads (heads_at doc q xs h) ≡ true
+  early_heads reads [] h each = refl
+  early_heads reads (x ∷ xs) h each = both_sooner reads (head_at doc q x h) (heads_at doc q xs h) (each x (inl refl)) (early_heads reads xs h (λ place at. each place (inr at)))
+
+  dues_early : (reads : ℕ) (xs : List Key) (h : List Entry) → is_early reads (dues_at q xs h) ≡ true → (pod : Key) → Among pod xs → is_early reads (due_at q pod h) ≡ true
+  dues_early reads [] h is pod at = absurd at
+  dues_early reads (x ∷ xs) h is pod (inl same) = subst (λ z. is_early reads (due_at q z h) ≡ true) (sym same) (sooner_both reads (due_at q x h) (dues_at q xs h) is).0
+  dues_early reads (x ∷ xs) h is pod (inr at) = dues_early reads xs h (sooner_both reads (due_at q x h) (dues_at q xs h) is).1 pod at
+
+  early_dues : (reads : ℕ) (xs : List Key) (h : List Entry) → ((pod : Key) → Among pod xs → is_early reads (due_at q pod h) ≡ true) → is_early reads (dues_at q xs h) ≡ true
+  early_dues reads [] h each = refl
+  early_dues reads (x ∷ xs) h each = both_sooner reads (due_at q x h) (dues_at q xs h) (each x (inl refl)) (early_dues reads xs h (λ pod at. each pod (inr at)))
+
+  -- of a synced tick
+  record Early (h : List Entry) : Type 0 where
+    clean : list_any (is_clean_due q h) (node_names h) ≡ false
+    reading : is_early (local doc q.process k) (sooner (pass_at doc q h) (heads_at doc q (places (nodes q h)) h)) ≡ true
+    time : is_early (wall doc q.process k) (dues_at q (pod_keys h) h) ≡ true
+
+  still_early : (h : List Entry) → IsStillSynced doc k q h → Early h
+  still_early h s =
+      record {
+        clean = none_any (is_clean_due q h) (node_names h) (λ name at. (clean_needs name h).0 (each_still (clean doc k q) clean_adds (node_names h) h s.cleans name at));
+        reading = both_sooner (local doc q.process k) (pass_at doc q h) (heads_at doc q (places (nodes q h)) h) ((pass_waits h).0 s.passes)
+            (early_heads (local doc q.process k) (places (nodes q h)) h (λ place at. (taint_waits place h).0 (each_still (taint doc k q) taint_adds (places (nodes q h)) h s.taints place at)));
+        time = early_dues (wall doc q.process k) (pod_keys h) h (λ pod at. (evict_waits pod h).0 (each_still (evict doc k q) evict_adds (pod_keys h) h s.evicts pod at));
+      }
+
+  early_still : (h : List Entry) → Early h → IsStillSynced doc k q h
+  early_still h s =
+      let both = sooner_both (local doc q.process k) (pass_at doc q h) (heads_at doc q (places (nodes q h)) h) s.reading in
+      record {
+        passes = (pass_waits h).1 both.0;
+        cleans = still_each (clean doc k q) (node_names h) h (λ name at. (clean_needs name h).1 (any_none (is_clean_due q h) (node_names h) s.clean name at));
+        taints = still_each (taint doc k q) (places (nodes q h)) h (λ place at. (taint_waits place h).1 (heads_early (local doc q.process k) (places (nodes q h)) h both.1 place at));
+        evicts = still_each (evict doc k q) (pod_keys h) h (λ pod at. (evict_waits pod h).1 (dues_early (wall doc q.process k) (pod_keys h) h s.time pod at));
+      }
+
+  only_early : (reads : ℕ) (b : Bool) (o : Option ℕ) → (b ≡ true → is_early reads o ≡ true) → is_early reads (only_if b o) ≡ true
+  only_early reads true o is = is refl
+  only_early reads false o is = refl
+
+  early_only : (reads : ℕ) (b : Bool) (o : Option ℕ) → is_early reads (only_if b o) ≡ true → b ≡ true → is_early reads o ≡ true
+  early_only reads true o is yet = is
+  early_only reads false o is yet = absurd (false_is yet)
+
+  tick_early : (h : List Entry) → tick doc k q h ≡ h → IsEarlyTick doc k q h
+  tick_early h is =
+      let s = (ticks_add_by_parts doc k q h).0 is in
+      let early : is_synced q h ≡ true → Early h = λ yet. still_early h (s.synced yet) in
+      record {
+        at_once = none_or (is_sync_due doc q h) (is_synced q h && list_any (is_clean_due q h) (node_names h)) ((sync_needs (is_sync_due doc q h) h).0 s.syncs)
+            (none_and (is_synced q h) (list_any (is_clean_due q h) (node_names h)) (λ yet. (early yet).clean));
+        reading = only_early (local doc q.process k) (is_synced q h) (sooner (pass_at doc q h) (heads_at doc q (places (nodes q h)) h)) (λ yet. (early yet).reading);
+        time = only_early (wall doc q.process k) (is_synced q h) (dues_at q (pod_keys h) h) (λ yet. (early yet).time);
+      }
+
+  early_tick : (h : List Entry) → IsEarlyTick doc k q h → tick doc k q h ≡ h
+  early_tick h s =
+      let parts = or_none (is_sync_due doc q h) (is_synced q h && list_any (is_clean_due q h) (node_names h)) s.at_once in
+      (ticks_add_by_parts doc k q h).1 (record {
+        syncs = (sync_needs (is_sync_due doc q h) h).1 parts.0;
+        synced = λ yet. early_still h (record {
+          clean = and_none (is_synced q h) (list_any (is_clean_due q h) (node_names h)) parts.1 yet;
+          reading = early_only (local doc q.process k) (is_synced q h) (sooner (pass_at doc q h) (heads_at doc q (places (nodes q h)) h)) s.reading yet;
+          time = early_only (wall doc q.process k) (is_synced q h) (dues_at q (pod_keys h) h) s.time yet;
+        });
+      })
+
+pub syncs_wake : SyncsWake
+syncs_wake doc k q h = sync_needs doc k q (is_sync_due doc q h) h
+
+pub passes_wake : PassesWake
+passes_wake doc k q h = pass_waits doc k q h
+
+pub cleans_wake : CleansWake
+cleans_wake doc k q name h = clean_needs doc k q name h
+
+pub heads_wake : HeadsWake
+heads_wake doc k q place h = taint_waits doc k q place h
+
+pub deletes_wake : DeletesWake
+deletes_wake doc k q pod h = evict_waits doc k q pod h
+
+pub ticks_wake : TicksWake
+ticks_wake doc k q h = (tick_early doc k q h, early_tick doc k q h)

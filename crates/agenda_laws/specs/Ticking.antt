@@ -1,0 +1,141 @@
+-- What a leader's tick adds something for: at once, from a reading, or from a time of day; it is read from the history alone.
+-- Source: the node lifecycle controller of Kubernetes and its taint eviction controller; the profile.
+use Rattle.std.specs.Prelude.{◌≡◌, ◌↔◌, ℕ, ◌+◌, ◌==◌, ◌&&◌, ◌||◌, not, Bool, true, false, cond, List, [], ◌∷◌, Option, Some, None}
+use Rattle.std.specs.Int.{div_ceil}
+use Rattle.std.specs.List.{list_any}
+use Rattle.kube_base.specs.declared.numbers.Version.{Version}
+use Rattle.kube_objects.specs.declared.key.Key.{Key}
+use Rattle.kube_objects.specs.declared.node.Node.{Node}
+use Rattle.kube_objects.specs.declared.pod.Due.{Due}
+use Rattle.kube_objects.specs.declared.pod.Due.TheVariants.{Never, At}
+use Rattle.kube_objects.specs.declared.pod.Pod.{Pod}
+use Rattle.kube_objects.specs.Clocks.{local, wall}
+use Rattle.kube_objects.specs.Document.{Doc, of_millis}
+use Rattle.kube_objects.specs.Entry.{Entry, Identity, Place}
+use Rattle.kube_objects.specs.Health.{last_pass}
+use Rattle.kube_objects.specs.InForce.{watches}
+use Rattle.kube_objects.specs.Modes.{nodes, places, mode}
+use Rattle.kube_objects.specs.Newest.{only_if, has}
+use Rattle.kube_objects.specs.Seen.{seen_node, seen_pod, is_fresh, is_synced, is_stale, node_names, pod_keys}
+use Rattle.kube_objects.specs.Stored.{node_key}
+use Rattle.kube_objects.specs.Tainting.{Wants, Nothing, Wanted, Whatever, wants, has_condition, is_opposite, head_of}
+use Rattle.kube_objects.specs.Tick.{sync, pass, clean, taint, evict, tick}
+use Rattle.kube_objects.specs.Tokens.{Rated, rated, base, token_size}
+use Rattle.kube_objects.specs.Tolerations.{due}
+use Rattle.agenda_laws.specs.Times.{is_early, sooner}
+
+-- ---- at once: a sync, an untaint, a swap
+
+-- the watch is on and the cache isn't up to date
+abbrev pub is_sync_due : Doc → Identity → List Entry → Bool
+is_sync_due doc q h = watches doc q.process h && not (is_fresh q h)
+
+abbrev pub SyncsWake : Type 0
+SyncsWake = (doc : Doc) (k : ℕ) (q : Identity) (h : List Entry) → sync doc k q h ≡ h ↔ is_sync_due doc q h ≡ false
+
+-- a condition taint that isn't wanted, or the opposite of the one that is
+abbrev pub is_unclean : Node → Wants → Bool
+is_unclean node Nothing = has_condition node
+is_unclean node (Wanted wanted) = list_any (is_opposite wanted) node.taints
+is_unclean node Whatever = false
+
+-- stale says whether the node's key is, and on whether the all-Full mode is
+abbrev pub is_unclean_seen : (on stale : Bool) → Option (Version × Node) → Bool
+is_unclean_seen on true x = false
+is_unclean_seen on false None = false
+is_unclean_seen on false (Some x) = is_unclean x.1 (wants on x.1)
+
+-- an untaint or a swap of a node is due
+abbrev pub is_clean_due : Identity → List Entry → ℕ → Bool
+is_clean_due q h name = is_unclean_seen (mode q h) (is_stale q (node_key name) h) (seen_node q name h)
+
+abbrev pub CleansWake : Type 0
+CleansWake = (doc : Doc) (k : ℕ) (q : Identity) (name : ℕ) (h : List Entry) → clean doc k q name h ≡ h ↔ is_clean_due q h name ≡ false
+
+-- a tick, were it to have no pass, has a sync, an untaint or a swap
+abbrev pub is_due_at_once : Doc → Identity → List Entry → Bool
+is_due_at_once doc q h = is_sync_due doc q h || (is_synced q h && list_any (is_clean_due q h) (node_names h))
+
+-- ---- from a reading: the pass, and a token of a zone in which a node waits
+
+-- the first pass is due at once
+abbrev pub pass_after : Doc → Identity → Option ℕ → ℕ
+pass_after doc q None = 0
+pass_after doc q (Some last) = local doc q.process last + of_millis doc.settings.monitor_period_millis
+
+abbrev pub pass_at : Doc → Identity → List Entry → Option ℕ
+pass_at doc q h = Some (pass_after doc q (last_pass q h))
+
+abbrev pub PassesWake : Type 0
+PassesWake =
+    (doc : Doc) (k : ℕ) (q : Identity) (h : List Entry)
+    → pass doc k q h ≡ h ↔ is_early (local doc q.process k) (pass_at doc q h) ≡ true
+
+-- at a rate of 0 there is never one; else the span in which it grows, rounded up
+abbrev pub token_after : ℕ → Option Rated → Option ℕ
+token_after from None = None
+token_after from (Some x) = cond (x.1 == 0) None (Some (from + div_ceil token_size x.1))
+
+-- the least reading at which a zone's token is there
+abbrev pub token_at : Doc → Identity → Place → List Entry → Option ℕ
+token_at doc q place h = token_after (local doc q.process (base q place h)) (rated q place h)
+
+-- where a node waits in the zone
+abbrev pub head_at : Doc → Identity → Place → List Entry → Option ℕ
+head_at doc q place h = only_if (has (head_of q place (node_names h) h)) (token_at doc q place h)
+
+abbrev pub HeadsWake : Type 0
+HeadsWake =
+    (doc : Doc) (k : ℕ) (q : Identity) (place : Place) (h : List Entry)
+    → taint doc k q place h ≡ h ↔ is_early (local doc q.process k) (head_at doc q place h) ≡ true
+
+abbrev pub heads_at : Doc → Identity → List Place → List Entry → Option ℕ
+heads_at doc q [] h = None
+heads_at doc q (place ∷ places) h = sooner (head_at doc q place h) (heads_at doc q places h)
+
+-- ---- from a time of day: the least due of the cache's pods
+
+abbrev pub time_of : Due → Option ℕ
+time_of Never = None
+time_of (At at) = Some at
+
+abbrev pub due_on : Pod → Option (Version × Node) → Option ℕ
+due_on pod None = None
+due_on pod (Some y) = time_of (due pod y.1)
+
+-- stale says whether the pod's key is
+abbrev pub due_seen : Identity → Bool → Option (Version × Pod) → List Entry → Option ℕ
+due_seen q true x h = None
+due_seen q false None h = None
+due_seen q false (Some x) h = due_on x.1 (seen_node q x.1.node h)
+
+-- when a pod is due that isn't stale and whose node the cache has
+abbrev pub due_at : Identity → Key → List Entry → Option ℕ
+due_at q pod h = due_seen q (is_stale q pod h) (seen_pod q pod h) h
+
+abbrev pub DeletesWake : Type 0
+DeletesWake =
+    (doc : Doc) (k : ℕ) (q : Identity) (pod : Key) (h : List Entry)
+    → evict doc k q pod h ≡ h ↔ is_early (wall doc q.process k) (due_at q pod h) ≡ true
+
+abbrev pub dues_at : Identity → List Key → List Entry → Option ℕ
+dues_at q [] h = None
+dues_at q (pod ∷ pods) h = sooner (due_at q pod h) (dues_at q pods h)
+
+-- ---- the tick
+
+-- before its first sync a term waits for that alone
+abbrev pub term_reading : Doc → Identity → List Entry → Option ℕ
+term_reading doc q h = only_if (is_synced q h) (sooner (pass_at doc q h) (heads_at doc q (places (nodes q h)) h))
+
+abbrev pub term_time : Identity → List Entry → Option ℕ
+term_time q h = only_if (is_synced q h) (dues_at q (pod_keys h) h)
+
+-- nothing of a tick's is due at beat k
+pub record IsEarlyTick (doc : Doc) (k : ℕ) (q : Identity) (h : List Entry) : Type 0 where
+  pub at_once : is_due_at_once doc q h ≡ false
+  pub reading : is_early (local doc q.process k) (term_reading doc q h) ≡ true
+  pub time : is_early (wall doc q.process k) (term_time q h) ≡ true
+
+abbrev pub TicksWake : Type 0
+TicksWake = (doc : Doc) (k : ℕ) (q : Identity) (h : List Entry) → tick doc k q h ≡ h ↔ IsEarlyTick doc k q h
