@@ -1,6 +1,6 @@
 -- On which nodes a pod may run. Sources: Kubernetes, "Taints and Tolerations"; the admission plugin DefaultTolerationSeconds.
-use Rattle.std.specs.Prelude.{ℕ, ◌+◌, ◌<◌, ◌^◌, ◌==◌, ◌&&◌, ◌||◌, not, Bool, true, false, List, [], ◌∷◌, ◌++◌, length, Option, Some, None, pos, if◌then◌else◌}
-use Rattle.std.specs.List.{list_any, list_all}
+use Rattle.std.specs.Prelude.{ℕ, ◌+◌, ◌≤◌, ◌==◌, ◌&&◌, ◌||◌, not, Bool, true, false, List, [], ◌∷◌, ◌++◌, length, Option, Some, None, pos, if◌then◌else◌}
+use Rattle.std.specs.List.{All, list_any, list_all}
 use Rattle.kube_objects.specs.declared.node.Effect.{Effect}
 use Rattle.kube_objects.specs.declared.node.Effect.TheVariants as effects
 use Rattle.kube_objects.specs.declared.node.Taint.{Taint}
@@ -79,6 +79,13 @@ placed_from nodes place (row ∷ rest) = placement_for nodes place row ++ placed
 abbrev pub placed : List NodeRow → List PodRow → List Placement
 placed nodes pods = placed_from nodes 0 pods
 
--- a pod's tolerations are few enough to be counted
+-- ---- limits
+
 abbrev pub HasFew : PodRow → Type 0
-HasFew row = length row.pod.tolerations < 2 ^ 31
+HasFew row = length row.pod.tolerations ≤ 100
+
+-- the limits of a document
+pub record AreFew (all_nodes : List NodeRow) (all_pods : List PodRow) : Type 0 where
+  pub nodes : length all_nodes ≤ 1000
+  pub pods : length all_pods ≤ 30000
+  pub tolerations : All HasFew all_pods

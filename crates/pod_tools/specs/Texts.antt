@@ -1,5 +1,6 @@
 -- The lines of the two answers.
-use Rattle.std.specs.Prelude.{ℕ, ◌+◌, ◌==◌, List, [], ◌∷◌, ◌++◌, length, map, flat_map, count_by, not, codes, decimal, slice_get, Option, Some, None, unwrap_or, if◌then◌else◌}
+use Rattle.std.specs.Prelude.{ℕ, ◌+◌, ◌==◌, List, [], ◌∷◌, ◌++◌, length, map, flat_map, not, Bool, codes, decimal, slice_get, Option, Some, None, unwrap_or, if◌then◌else◌}
+use Rattle.std.specs.List.{filter}
 use Rattle.kube_objects.specs.declared.key.Key.{Key}
 use Rattle.pod_tools.specs.declared.collecting.Cause.{Cause}
 use Rattle.pod_tools.specs.declared.collecting.Cause.TheVariants as causes
@@ -16,10 +17,14 @@ use Rattle.pod_tools.specs.Feasible.{placed}
 abbrev pub text_of : List (List ℕ) → ℕ → List ℕ
 text_of names number = unwrap_or (slice_get names number) []
 
--- `NAMESPACE/NAME` of the pod at a place
+-- `NAMESPACE/NAME`
+abbrev pub pod_name : List (List ℕ) → PodRow → List ℕ
+pod_name names row = text_of names row.key.space ++ codes "/" ++ text_of names row.key.name
+
+-- the same of the pod at a place
 abbrev pub pod_text_of : List (List ℕ) → Option PodRow → List ℕ
 pod_text_of names None = []
-pod_text_of names (Some row) = text_of names row.key.space ++ codes "/" ++ text_of names row.key.name
+pod_text_of names (Some row) = pod_name names row
 
 abbrev pub pod_text : List (List ℕ) → List PodRow → ℕ → List ℕ
 pod_text names pods place = pod_text_of names (slice_get pods place)
@@ -60,9 +65,12 @@ unfoldable pub placement_line : List (List ℕ) → List NodeRow → List PodRow
 placement_line names nodes pods p =
     codes "place " ++ pod_text names pods p.pod ++ codes " tolerations=" ++ decimal p.tolerations ++ codes " nodes=" ++ joined names nodes p.nodes ++ codes "\n"
 
+abbrev pub has_node : Placement → Bool
+has_node p = not (length p.nodes == 0)
+
 -- how many of the pods have a node
 abbrev pub count_feasible : List Placement → ℕ
-count_feasible placements = count_by (λ (p : Placement). not (length p.nodes == 0)) placements
+count_feasible placements = length (filter has_node placements)
 
 unfoldable pub placements_line : List Placement → List ℕ
 placements_line placements = codes "placed pods=" ++ decimal (length placements) ++ codes " feasible=" ++ decimal (count_feasible placements) ++ codes "\n"

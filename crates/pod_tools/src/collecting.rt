@@ -1,12 +1,14 @@
 // Pods that are collected.
-ghost use Rattle.std.specs.Prelude.{◌≡◌, ◌<◌, ◌^◌, ◌+◌, ◌++◌, nat_le, length, IfOk, OnOk, Some};
+ghost use Rattle.std.specs.Prelude.{◌≡◌, ◌+◌, ◌++◌, nat_le, length, IfOk, OnOk, Some};
+ghost use Rattle.std.specs.List.{list_any};
 ghost use Rattle.std.specs.Option.{option_map};
 ghost use Rattle.pod_tools.specs.Collected as spec;
+ghost use Rattle.pod_tools.specs.Feasible.{AreFew};
 
 use crate::oldest::{Age, comes_before, first_kept};
 use crate::{CollectInput, MissingRow, NodeRow, PodRow};
 use kube_base::{ListOf, NoMemory, Wall};
-use kube_objects::{Ready, ReadyStatus};
+use kube_objects::{Ready, ReadyStatus, Taint};
 use std::alloc::Global;
 
 /// How long a node has to be gone before its pods are collected, in microseconds: 40 seconds.
@@ -35,8 +37,8 @@ pub type Picks = ListOf<Pick>;
 ///
 /// Takes memory for the ages of the terminated pods, which are sorted once, and for the answer.
 pub fn collect(alloc: Global, input: &CollectInput) -> Result<Picks, NoMemory>
-    requires { length input.now.pods < 2 ^ 32 }
-    ensures { IfOk result (λ picks. picks ≡ spec.collected input.now) }
+    requires { AreFew input.now.nodes input.now.pods }
+    ensures { IfOk result (λ picks. picks ≡ spec.collected input.entry.now) }
 {
     let kept = first_kept(alloc, input.threshold, input.pods.as_slice())?;
     let mut picks = Picks::new(alloc);
@@ -60,7 +62,7 @@ fn add_pick(picks: &mut Picks, pod: u32, cause: Option<Cause>) -> Result<(), NoM
 fn cause_of(input: &CollectInput, kept: Option<Age>, place: u32, row: &PodRow) -> Option<Cause>
     requires { (age : spec.Age) → spec.comes_before_any age kept
         ≡ nat_le (spec.rank age (spec.ages_from 0 input.now.pods)) (spec.excess input.now.threshold (length (spec.ages_from 0 input.now.pods))) }
-    ensures { result ≡ spec.cause_of input.now place row.now }
+    ensures { result ≡ spec.cause_of input.entry.now place row.now }
 {
     if row.terminated && comes_before((row.created.0, place), kept) {
         Some(Cause::Terminated)
@@ -83,7 +85,7 @@ fn is_scheduled(row: &PodRow) -> bool
 
 /// Whether the pod is terminating on a node that isn't Ready and is out of service.
 fn is_stranded(input: &CollectInput, row: &PodRow) -> bool
-    ensures { result ≡ spec.is_stranded input.now row.now }
+    ensures { result ≡ spec.is_stranded input.entry.now row.now }
 {
     if !(row.terminating && is_scheduled(row)) {
         return false;
@@ -104,13 +106,14 @@ fn node_of(nodes: &[NodeRow], name: u32) -> Option<&NodeRow>
 fn is_out(service: Option<u32>, row: &NodeRow) -> bool
     ensures { result ≡ spec.is_out service (Some row.now) }
 {
-    !is_ready(row.node.ready)
-        && row
-            .node
-            .taints
-            .as_slice()
-            .iter()
-            .any(|taint| is_number(service, taint.key))
+    !is_ready(row.node.ready) && has_taint(service, row.node.taints.as_slice())
+}
+
+/// Whether one of the taints has this key.
+fn has_taint(key: Option<u32>, taints: &[Taint]) -> bool
+    ensures { result ≡ list_any (λ t. spec.is_number key t.key) taints.now }
+{
+    taints.iter().any(|taint| is_number(key, taint.key))
 }
 
 fn is_ready(ready: Option<Ready>) -> bool
@@ -137,7 +140,7 @@ fn is_number(number: Option<u32>, key: u32) -> bool
 
 /// Whether the pod names a node that isn't there and has been missing for 40 seconds.
 fn is_orphan(input: &CollectInput, row: &PodRow) -> bool
-    ensures { result ≡ spec.is_orphan input.now row.now }
+    ensures { result ≡ spec.is_orphan input.entry.now row.now }
 {
     is_scheduled(row)
         && is_gone(input.now, input.missing.as_slice(), row.pod.node)

@@ -20,16 +20,24 @@ pub fn defaulted(tolerations: &Tolerations) -> Result<Tolerations, NoMemory>
 fn add_default(all: &mut Tolerations, key: u32, given: &[Toleration]) -> Result<(), NoMemory>
     ensures { OnOk result (all.new ≡ all.old ++ spec.default_for key given.now) }
 {
-    if given.iter().any(|toleration| speaks_of(key, toleration)) {
-        return Ok(());
+    if is_spoken_of(key, given) {
+        Ok(())
+    } else {
+        all.push(Toleration {
+            key,
+            operator: Operator::Exists,
+            value: 0,
+            effect: Some(Effect::NoExecute),
+            seconds: Some(300),
+        })
     }
-    all.push(Toleration {
-        key,
-        operator: Operator::Exists,
-        value: 0,
-        effect: Some(Effect::NoExecute),
-        seconds: Some(300),
-    })
+}
+
+/// Whether one of the tolerations speaks of NoExecute taints with this key.
+fn is_spoken_of(key: u32, given: &[Toleration]) -> bool
+    ensures { result ≡ list_any (spec.speaks_of key) given.now }
+{
+    given.iter().any(|toleration| speaks_of(key, toleration))
 }
 
 fn speaks_of(key: u32, toleration: &Toleration) -> bool

@@ -4,13 +4,16 @@
 mod collecting;
 mod defaults;
 mod oldest;
+mod pick_lines;
+mod placement_lines;
 mod placing;
 mod rows;
-#[cfg(test)]
-mod tests;
+mod texts;
 
 pub use collecting::{Cause, Pick, Picks, collect};
 pub use defaults::defaulted;
+pub use pick_lines::collect_lines;
+pub use placement_lines::place_lines;
 pub use placing::{Placement, Placements, place};
 pub use rows::{
     CollectInput, MissingRow, MissingRows, NodeRow, NodeRows, PlaceInput, PodRow, PodRows,

@@ -1,5 +1,5 @@
 // The oldest of the terminated pods.
-ghost use Rattle.std.specs.Prelude.{◌≡◌, ◌<◌, ◌^◌, ◌++◌, length, nat_le, IfOk, OnOk};
+ghost use Rattle.std.specs.Prelude.{◌≡◌, ◌≤◌, ◌++◌, length, nat_le, slice_get, IfOk, OnOk};
 ghost use Rattle.pod_tools.specs.Collected.{Age, age_of, ages_from, comes_before_any, excess, rank};
 
 use crate::PodRow;
@@ -16,22 +16,29 @@ pub(crate) fn first_kept(
     threshold: u32,
     pods: &[PodRow],
 ) -> Result<Option<Age>, NoMemory>
-    requires { length pods.now < 2 ^ 32 }
+    requires { length pods.now ≤ 30000 }
     ensures { IfOk result (λ kept. (age : Age) → comes_before_any age kept
         ≡ nat_le (rank age (ages_from 0 pods.now)) (excess threshold (length (ages_from 0 pods.now)))) }
 {
     let mut ages = ages_of(alloc, pods)?;
     ages.sort_unstable();
     let over = excess(threshold, ages.len());
-    match ages.get(over) {
-        Some(age) => Ok(Some(*age)),
-        None => Ok(None),
+    Ok(age_at(&ages, over))
+}
+
+/// The age at a place.
+fn age_at(ages: &[Age], place: usize) -> Option<Age>
+    ensures { result ≡ slice_get ages.now place }
+{
+    match ages.get(place) {
+        Some(age) => Some(*age),
+        None => None,
     }
 }
 
 /// The ages of the terminated pods in input order.
 fn ages_of(alloc: Global, pods: &[PodRow]) -> Result<Vec<Age>, NoMemory>
-    requires { length pods.now < 2 ^ 32 }
+    requires { length pods.now ≤ 30000 }
     ensures { IfOk result (λ ages. ages.items ≡ ages_from 0 pods.now) }
 {
     let mut ages = Vec::new(alloc);

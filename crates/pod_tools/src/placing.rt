@@ -1,6 +1,6 @@
 // Nodes on which a pod may run.
-ghost use Rattle.std.specs.Prelude.{◌≡◌, ◌<◌, ◌^◌, ◌++◌, length, IfOk, OnOk};
-ghost use Rattle.std.specs.List.{All, list_any, list_all};
+ghost use Rattle.std.specs.Prelude.{◌≡◌, ◌≤◌, ◌++◌, length, IfOk, OnOk};
+ghost use Rattle.std.specs.List.{list_any, list_all};
 ghost use Rattle.kube_objects.specs.Tolerations.{tolerates};
 ghost use Rattle.pod_tools.specs.Feasible as spec;
 
@@ -23,9 +23,7 @@ pub type Placements = ListOf<Placement>;
 
 /// For each pod that names no node the nodes on which it may run.
 pub fn place(alloc: Global, input: &PlaceInput) -> Result<Placements, NoMemory>
-    requires pods { length input.now.pods < 2 ^ 32 }
-    requires nodes { length input.now.nodes < 2 ^ 32 }
-    requires tolerations { All spec.HasFew input.now.pods }
+    requires { spec.AreFew input.now.nodes input.now.pods }
     ensures { IfOk result (λ placements. placements ≡ spec.placed input.now.nodes input.now.pods) }
 {
     let mut placements = Placements::new(alloc);
@@ -49,7 +47,7 @@ fn add_placement(
     place: u32,
     row: &PodRow,
 ) -> Result<(), NoMemory>
-    requires nodes { length nodes.now < 2 ^ 32 }
+    requires nodes { length nodes.now ≤ 1000 }
     requires tolerations { spec.HasFew row.now }
     ensures { OnOk result (placements.new ≡ placements.old ++ spec.placement_for nodes.now place row.now) }
 {
@@ -67,8 +65,8 @@ fn placement_of(
     pod: u32,
     given: &Tolerations,
 ) -> Result<Placement, NoMemory>
-    requires nodes { length nodes.now < 2 ^ 32 }
-    requires tolerations { length given.now < 2 ^ 31 }
+    requires nodes { length nodes.now ≤ 1000 }
+    requires tolerations { length given.now ≤ 100 }
     ensures { IfOk result (λ p. p ≡ spec.placement nodes.now pod given.now) }
 {
     let tolerations = defaulted(given)?;
@@ -86,7 +84,7 @@ fn feasible(
     tolerations: &[Toleration],
     nodes: &[NodeRow],
 ) -> Result<NumberList, NoMemory>
-    requires { length nodes.now < 2 ^ 32 }
+    requires { length nodes.now ≤ 1000 }
     ensures { IfOk result (λ places. places ≡ spec.feasible_from tolerations.now 0 nodes.now) }
 {
     let mut places = NumberList::new(alloc);
