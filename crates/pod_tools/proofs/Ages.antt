@@ -3,7 +3,7 @@ use Rattle.std.proofs.Common.{◌≡◌, ℕ, zero, suc, ◌+◌, ◌<◌, ◌�
 use Rattle.std.specs.Prelude.{slice_get}
 use Rattle.std.specs.Cmp.{IsStrictWeakOrder}
 use Rattle.std.specs.List.Sorted.{IsPermutation, IsSortedBy}
-use Rattle.std.proofs.lemmas.List.Sorted.{ranks_by, sorted_far, sum_by-IsPermutation}
+use Rattle.std.proofs.lemmas.List.Sorted.{ranks_by, sorted_far, length_permutation, sum_by-IsPermutation}
 use Rattle.std.proofs.lemmas.List.Sums.{sum_by-cons}
 use Rattle.std.proofs.lemmas.Bool.{le-leb, lt-leb, leb-true, leb-false}
 use Rattle.std.proofs.lemmas.Cmp.{nat_cmp_total, then_total, on_total}
@@ -79,13 +79,13 @@ kept-rank age (a ∷ ages) up k =
     (kept-rank age ages (λ i j d le lt. up (suc i) (suc j) d (omega arith) (omega arith))) k
 
 -- the first age that is kept, in the code's steps: the ages are sorted, and one is looked up
-pub first-kept : (age : Age) (ages made sorted shown : List Age) (threshold count over : ℕ) (found : Option Age)
-    → made ≡ ages → IsPermutation made sorted → length sorted ≡ length made → IsSortedBy comes_before sorted → shown ≡ sorted
-    → count ≡ length sorted → over ≡ excess threshold count → found ≡ slice_get shown over
+pub first-kept : (age : Age) (ages made sorted shown : List Age) (threshold : ℕ) (found : Option Age)
+    → made ≡ ages → IsPermutation made sorted → IsSortedBy comes_before sorted → shown ≡ sorted → found ≡ slice_get shown (excess threshold (length shown))
     → comes_before_any age found ≡ nat_le (rank age ages) (excess threshold (length ages))
-first-kept age ages made sorted shown threshold count over found same moved long up seen counted exceeds at =
-    ap (comes_before_any age) (at ∙ ap (λ s. slice_get s over) seen)
-    ∙ kept-rank age sorted (λ i j d le lt. sorted_far comes_before order sorted up i j d le lt) over
-    ∙ ap (λ n. nat_le n over) (sum_by-IsPermutation (counts age) made sorted moved)
-    ∙ ap (λ xs. nat_le (rank age xs) over) same
-    ∙ ap (nat_le (rank age ages)) (exceeds ∙ ap (excess threshold) (counted ∙ long ∙ ap length same))
+first-kept age ages made sorted shown threshold found same moved up seen at =
+    let long : length sorted ≡ length ages = length_permutation made sorted moved ∙ ap length same in
+    ap (comes_before_any age) (at ∙ ap (λ s. slice_get s (excess threshold (length s))) seen)
+    ∙ kept-rank age sorted (λ i j d le lt. sorted_far comes_before order sorted up i j d le lt) (excess threshold (length sorted))
+    ∙ ap (λ n. nat_le n (excess threshold (length sorted))) (sum_by-IsPermutation (counts age) made sorted moved)
+    ∙ ap (λ xs. nat_le (rank age xs) (excess threshold (length sorted))) same
+    ∙ ap (λ n. nat_le (rank age ages) (excess threshold n)) long

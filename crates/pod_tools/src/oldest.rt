@@ -22,8 +22,14 @@ pub(crate) fn first_kept(
 {
     let mut ages = ages_of(alloc, pods)?;
     ages.sort_unstable();
-    let over = excess(threshold, ages.len());
-    Ok(age_at(&ages, over))
+    Ok(age_over(threshold, &ages))
+}
+
+/// The age behind so many as are over the threshold.
+fn age_over(threshold: u32, ages: &[Age]) -> Option<Age>
+    ensures { result ≡ slice_get ages.now (excess threshold (length ages.now)) }
+{
+    age_at(ages, excess(threshold, ages.len()))
 }
 
 /// The age at a place.

@@ -67,11 +67,11 @@ fn cause_text(cause: Cause) -> &'static [u8]
     }
 }
 
-#[tactic(auto, unfolding(crate::specs::Texts::picks_line))]
 fn add_picks_count(text: &mut Vec<u8>, count: usize) -> Result<(), NoMemory>
     ensures { OnOk result (text.new.items ≡ text.old.items ++ spec.picks_line count) }
 {
     add(text, b"collected pods=")?;
     add_number(text, count as u64)?;
-    add(text, b"\n")
+    add(text, b"\n")?;
+    Ok(())
 }

@@ -3,7 +3,7 @@ ghost use Rattle.std.specs.Prelude.{◌≡◌, ◌++◌, codes, flat_map, IfOk, 
 ghost use Rattle.pod_tools.specs.Feasible.{AreFew};
 ghost use Rattle.pod_tools.specs.Texts as spec;
 
-use crate::texts::{add, add_node, add_number, add_pod};
+use crate::texts::{add, add_node, add_number, add_pod, add_small};
 use crate::{NodeRow, PlaceInput, Placement, PodRow, place};
 use kube_base::{Names, NoMemory};
 use std::alloc::Global;
@@ -43,7 +43,6 @@ fn add_placements(
     Ok(())
 }
 
-#[tactic(auto, unfolding(crate::specs::Texts::placement_line))]
 fn add_placement_line(
     text: &mut Vec<u8>,
     names: &Names,
@@ -57,10 +56,11 @@ fn add_placement_line(
     add(text, b"place ")?;
     add_pod(text, names, pods, placement.pod)?;
     add(text, b" tolerations=")?;
-    add_number(text, u64::from(placement.tolerations))?;
+    add_small(text, placement.tolerations)?;
     add(text, b" nodes=")?;
     add_joined(text, names, nodes, placement.nodes.as_slice())?;
-    add(text, b"\n")
+    add(text, b"\n")?;
+    Ok(())
 }
 
 /// Adds the names of the nodes at these places with commas between them, or `-`.
@@ -108,7 +108,6 @@ fn add_other(
     add_node(text, names, nodes, place)
 }
 
-#[tactic(auto, unfolding(crate::specs::Texts::placements_line))]
 fn add_placements_count(text: &mut Vec<u8>, placements: &[Placement]) -> Result<(), NoMemory>
     ensures { OnOk result (text.new.items ≡ text.old.items ++ spec.placements_line placements.now) }
 {
@@ -116,7 +115,8 @@ fn add_placements_count(text: &mut Vec<u8>, placements: &[Placement]) -> Result<
     add_number(text, placements.len() as u64)?;
     add(text, b" feasible=")?;
     add_number(text, count_feasible(placements) as u64)?;
-    add(text, b"\n")
+    add(text, b"\n")?;
+    Ok(())
 }
 
 /// How many of the pods have a node.

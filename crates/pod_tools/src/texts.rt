@@ -23,6 +23,13 @@ pub(crate) fn add_number(text: &mut Vec<u8>, number: u64) -> Result<(), NoMemory
     Ok(())
 }
 
+/// Adds a number of 32 bits in decimal.
+pub(crate) fn add_small(text: &mut Vec<u8>, number: u32) -> Result<(), NoMemory>
+    ensures { OnOk result (text.new.items ≡ text.old.items ++ decimal number) }
+{
+    add_number(text, u64::from(number))
+}
+
 /// The text of a number, or the empty text where none is held.
 fn name_of(names: &Names, number: u32) -> &[u8]
     ensures { result.now ≡ spec.text_of names.now number }
