@@ -116,8 +116,8 @@ all-sound names ((key, objects.Pod p) ∷ items) h = ((h.0.kind, h.0.few), all-s
 
 start-fits : (names : Texts) (items : List (Key × Object)) → IsReadable names [] items → Fit no_rows items
 start-fits names items h = record {
-  nodes = kinds-few kinds.Node items h.fit;
-  pods = kinds-few kinds.Pod items h.fit;
+  nodes = omega (arith, kinds-few kinds.Node items h.fit);
+  pods = omega (arith, kinds-few kinds.Pod items h.fit);
   few = All-nil HasFew;
   sound = all-sound names items h.each;
 }
