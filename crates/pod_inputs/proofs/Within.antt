@@ -1,6 +1,5 @@
 -- The rows that are read keep the limits of a document.
-use Rattle.std.proofs.Common.{◌≡◌, ℕ, ◌+◌, ◌≤◌, Bool, true, false, cond, List, [], ◌∷◌, ◌++◌, length, Option, Some, None, codes, refl, sym, ap, subst, ◌∙◌, arith, length-append, ◌==◌}
-use Rattle.std.specs.Prelude.{Result, Ok}
+use Rattle.std.proofs.Common.{◌≡◌, ℕ, ◌+◌, ◌≤◌, true, cond, List, [], ◌∷◌, length, Option, Some, None, codes, refl, sym, ap, subst, ◌∙◌, arith, length-append, ◌==◌}
 use Rattle.std.specs.List.{All, AllByRecursion}
 use Rattle.std.proofs.lemmas.List.Elements.{All-nil, All-push}
 use Rattle.std.proofs.lemmas.List.Sums.{sum_by-cons}
@@ -14,20 +13,17 @@ use Rattle.kube_objects.specs.declared.key.Kind.TheVariants as kinds
 use Rattle.kube_objects.specs.declared.object.Object.{Object}
 use Rattle.kube_objects.specs.declared.object.Object.TheVariants as objects
 use Rattle.kube_objects.specs.declared.pod.Pod.{Pod}
-use Rattle.manifest_json.specs.declared.codes.TheConstants.{TOP_SHAPE}
-use Rattle.manifest_json.specs.declared.fault.Refusal.{Refusal}
 use Rattle.manifest_json.specs.Fields.{Texts}
 use Rattle.manifest_json.specs.Readable.{IsReadable, IsReadableItem}
 use Rattle.manifest_json.specs.Walk.{kind_count, member_path}
 use Rattle.manifest_json.proofs.FittingItems.{kinds-few}
-use Rattle.manifest_json.proofs.Getting.{Gets, done, refused, weaker, by_test, and_then, skip}
+use Rattle.manifest_json.proofs.Getting.{Gets, done, refused, by_test, and_then, skip}
 use Rattle.manifest_json.proofs.ReadItems.{list-reads}
 use Rattle.script_reader.specs.Fields.{required}
 use Rattle.pod_inputs.specs.declared.row.Rows.{Rows}
-use Rattle.pod_inputs.specs.Rows.{pod_row_at, node_row_at, no_rows, with_node, with_pod, row_at, is_read, next_row_at, item_row_at, rows_from, rows_in}
+use Rattle.pod_inputs.specs.Rows.{pod_row_at, no_rows, row_at, is_read, next_row_at, item_row_at, rows_from, rows_in}
 use Rattle.pod_inputs.specs.Walk.{collect_at, collect_walk, place_at, place_walk}
 use Rattle.pod_tools.specs.declared.rows.CollectInput.{CollectInput}
-use Rattle.pod_tools.specs.declared.rows.NodeRow.{NodeRow}
 use Rattle.pod_tools.specs.declared.rows.PlaceInput.{PlaceInput}
 use Rattle.pod_tools.specs.declared.rows.PodRow.{PodRow}
 use Rattle.pod_tools.specs.Feasible.{AreFew, HasFew}

@@ -1,5 +1,5 @@
 -- The first age that is kept, in ages in order, and the rank of an age among them.
-use Rattle.std.proofs.Common.{◌≡◌, ℕ, zero, suc, ◌+◌, ◌<◌, ◌≤◌, nat_le, not, Bool, true, false, cond, List, [], ◌∷◌, length, get_or, refl, sym, ap, ◌∙◌, arith, count_by, Option, Some, None}
+use Rattle.std.proofs.Common.{◌≡◌, ℕ, zero, suc, ◌+◌, ◌<◌, ◌≤◌, nat_le, not, Bool, true, false, cond, List, [], ◌∷◌, length, get_or, refl, sym, ap, ◌∙◌, arith, Option}
 use Rattle.std.specs.Prelude.{slice_get}
 use Rattle.std.specs.Cmp.{IsStrictWeakOrder}
 use Rattle.std.specs.List.Sorted.{IsPermutation, IsSortedBy}

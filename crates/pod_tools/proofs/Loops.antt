@@ -1,5 +1,5 @@
 -- One step of a loop that adds for each item what a definition adds for it.
-use Rattle.std.proofs.Common.{◌≡◌, ℕ, ◌+◌, ◌<◌, ◌≤◌, List, [], ◌∷◌, ◌++◌, length, drop, get_or, Option, refl, subst, sym, ap, ◌∙◌, add-one, drop-cons, append_assoc}
+use Rattle.std.proofs.Common.{◌≡◌, ℕ, ◌+◌, ◌<◌, List, ◌∷◌, ◌++◌, length, drop, get_or, Option, refl, subst, sym, ap, ◌∙◌, add-one, drop-cons, append_assoc}
 use Rattle.pod_tools.specs.declared.collecting.Cause.{Cause}
 use Rattle.pod_tools.specs.declared.collecting.Pick.{Pick}
 use Rattle.pod_tools.specs.declared.rows.CollectInput.{CollectInput}
