@@ -1,4 +1,5 @@
 pub mod Said
 pub mod Grown
 pub mod Readings
+pub mod Writables
 pub mod Endings

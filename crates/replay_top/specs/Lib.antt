@@ -1,7 +1,8 @@
 pub mod Commands
-pub mod Lines
 pub mod Names
 pub mod Outcome
 pub mod Readings
+pub mod Runs
 pub mod Spoken
 pub mod Summary
+pub mod Traces

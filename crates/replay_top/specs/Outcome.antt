@@ -11,7 +11,7 @@ use Rattle.replay_top.specs.declared.command.Command.TheVariants.{Replay, Check}
 use Rattle.replay_top.specs.declared.status.Status.{Status}
 use Rattle.replay_top.specs.declared.status.Status.TheVariants.{Done, Refused, Usage, SourceFault, SinkFault, OutOfMemory}
 use Rattle.replay_top.specs.Commands.{command_of}
-use Rattle.replay_top.specs.Lines.{trace}
+use Rattle.replay_top.specs.Traces.{trace}
 use Rattle.replay_top.specs.Summary.{summary}
 
 -- how the run ends, all that it writes, and what it leaves of the source's bytes

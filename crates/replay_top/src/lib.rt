@@ -1,8 +1,8 @@
 //! The commands: from bytes to the trace of a document, the line on it, or its one refusal.
 #![tactic(auto)]
 
+mod buffer;
 mod command;
-mod lines;
 mod reading;
 mod running;
 mod status;
