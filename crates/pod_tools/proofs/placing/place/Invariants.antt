@@ -1,0 +1,8 @@
+use Rattle.std.proofs.Common.{◌≡◌, ◌++◌, drop}
+use Rattle.pod_tools.specs.Feasible.{placed_from}
+use Rattle.pod_tools.proofs.placing.place.Given as goal
+
+-- those so far, and those of the pods that are left
+abbrev pub invariant-loop-place : goal.invariant-loop-place
+invariant-loop-place l =
+    placed_from l.input.nodes 0 l.input.pods ≡ l.placements ++ placed_from l.input.nodes l.place (drop l.place l.input.pods)
