@@ -1,0 +1,22 @@
+//! A checker of traces that trusts nobody: it reads the text of a trace by a grammar of its own and says whether it is safe.
+#![tactic(auto)]
+
+mod audit_of;
+mod earlier;
+mod fault;
+mod forms;
+mod grammar;
+mod header;
+mod line;
+mod nearest;
+mod pass;
+mod review;
+mod role;
+mod roll;
+mod seat;
+
+pub use audit_of::{BAD_TRACE, OUTSIDE, OVERLAP, Report, SPACING, audit};
+pub use fault::AuditFault;
+pub use forms::read_line;
+pub use header::{Header, read_header};
+pub use line::{Answer, Line, Says, Verb};
