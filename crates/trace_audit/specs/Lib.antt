@@ -1,4 +1,4 @@
-pub mod Forms
-pub mod Grammar
-pub mod Headers
-pub mod Reads
+pub mod Entries
+pub mod Findings
+pub mod Terms
+pub mod Verdict

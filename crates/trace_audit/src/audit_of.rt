@@ -1,7 +1,7 @@
 // The audit of a trace.
 use crate::fault::AuditFault;
-use crate::grammar::cut;
-use crate::header::{Header, read_header};
+
+use trace_lines::{Header, cut, read_header};
 use crate::pass::Pass;
 use kube_base::NoMemory;
 use std::alloc::Global;

@@ -4,10 +4,7 @@
 mod audit_of;
 mod earlier;
 mod fault;
-mod forms;
-mod grammar;
-mod header;
-mod line;
+mod mark;
 mod nearest;
 mod pass;
 mod review;
@@ -17,6 +14,3 @@ mod seat;
 
 pub use audit_of::{BAD_TRACE, OUTSIDE, OVERLAP, Report, SPACING, audit};
 pub use fault::AuditFault;
-pub use forms::read_line;
-pub use header::{Header, read_header};
-pub use line::{Answer, Line, Says, Verb};

@@ -1,7 +1,7 @@
 // The lines of a trace, read from the last to the first.
-use crate::forms::read_line;
-use crate::header::Header;
-use crate::line::Line;
+use trace_lines::read_line;
+use trace_lines::Header;
+use trace_lines::Line;
 use crate::review::Review;
 use kube_base::NoMemory;
 use std::alloc::Global;

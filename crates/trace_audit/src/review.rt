@@ -1,9 +1,9 @@
 // The terms of a trace, looked at from its last line to its first.
 use crate::earlier::earlier;
-use crate::header::Header;
-use crate::line::Line;
+use trace_lines::Header;
+use trace_lines::Line;
 use crate::nearest::{Nearest, Span};
-use crate::role::{Role, role};
+use crate::role::{Role, role_played};
 use crate::roll::Roll;
 use crate::seat::Seat;
 use kube_base::NoMemory;
@@ -53,7 +53,7 @@ impl Review {
 
     /// Takes the line before those so far.
     pub(crate) fn take(&mut self, number: u64, line: &Line<&[u8]>) -> Result<(), NoMemory> {
-        let role = role(&line.says);
+        let role = role_played(&line.says);
         if let Role::Idles = role {
             return Ok(());
         }

@@ -1,9 +1,9 @@
 // What a line means for the terms of a trace.
 ghost use Rattle.std.specs.Prelude.{◌≡◌};
 ghost use Rattle.trace_audit.specs.Entries.{role_of, played};
-ghost use Rattle.trace_audit.specs.Reads.{said};
+ghost use Rattle.trace_lines.specs.Reads.{said};
 
-use crate::line::Says;
+use trace_lines::Says;
 
 /// What a line means for the terms of a trace. An acting line is one of zones, of taints or another.
 #[derive(Drop)]
@@ -21,7 +21,7 @@ pub(crate) enum Role<T> {
     Idles,
 }
 
-pub(crate) fn role<'a>(says: &Says<&'a [u8]>) -> Role<&'a [u8]>
+pub(crate) fn role_played<'a>(says: &Says<&'a [u8]>) -> Role<&'a [u8]>
     ensures { played result ≡ role_of (said says.now) }
 {
     match says {

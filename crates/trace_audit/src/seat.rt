@@ -1,15 +1,9 @@
 // What follows a place of the trace, for one identity.
 use crate::earlier::earlier;
+use crate::mark::Mark;
 use crate::roll::Roll;
 use kube_base::{ListOf, NoMemory};
 use std::alloc::Global;
-
-/// A taint line.
-#[derive(Clone, Copy, Debug, PartialEq, Eq)]
-pub(crate) struct Mark {
-    pub(crate) beat: u32,
-    pub(crate) line: u64,
-}
 
 /// What follows a place of the trace, for one identity: where its span ends, and its acting lines up to its next lead.
 #[derive(Drop)]

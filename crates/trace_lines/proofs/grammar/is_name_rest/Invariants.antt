@@ -1,6 +1,6 @@
 use Rattle.std.proofs.Common.{◌≡◌, drop}
-use Rattle.trace_audit.specs.Grammar as spec
-use Rattle.trace_audit.proofs.grammar.is_name_rest.Given as goal
+use Rattle.trace_lines.specs.Grammar as spec
+use Rattle.trace_lines.proofs.grammar.is_name_rest.Given as goal
 
 -- what is left decides
 abbrev pub invariant-loop-byte : goal.invariant-loop-byte

@@ -2,17 +2,17 @@
 use Rattle.std.specs.Prelude.{ℕ, ◌==◌, ◌&&◌, ◌||◌, Bool, true, false, List, codes, Option, Some, None, if◌then◌else◌}
 use Rattle.std.specs.Str.{bytes_eq}
 use Rattle.kube_base.specs.Times.{◌>>=◌}
-use Rattle.trace_audit.specs.declared.line.Answer.{Answer}
-use Rattle.trace_audit.specs.declared.line.Answer.TheVariants.{Done, Conflict, Absent, Exists}
-use Rattle.trace_audit.specs.declared.line.Verb.{Verb}
-use Rattle.trace_audit.specs.declared.line.Verb.TheVariants.{Create, Update}
-use Rattle.trace_audit.specs.declared.line.Line.{Line}
-use Rattle.trace_audit.specs.declared.line.Says.{Says}
-use Rattle.trace_audit.specs.declared.line.Says.TheVariants as says
-use Rattle.trace_audit.specs.declared.forms.Sort.{Sort}
-use Rattle.trace_audit.specs.declared.forms.Sort.TheVariants.{Script, Controller, Kubelet}
-use Rattle.trace_audit.specs.Grammar.{cut, number, labelled, is_name, is_spaced, is_zone, is_key, is_second}
-use Rattle.trace_audit.specs.Headers.{behind}
+use Rattle.trace_lines.specs.declared.line.Answer.{Answer}
+use Rattle.trace_lines.specs.declared.line.Answer.TheVariants.{Done, Conflict, Absent, Exists}
+use Rattle.trace_lines.specs.declared.line.Verb.{Verb}
+use Rattle.trace_lines.specs.declared.line.Verb.TheVariants.{Create, Update}
+use Rattle.trace_lines.specs.declared.line.Line.{Line}
+use Rattle.trace_lines.specs.declared.line.Says.{Says}
+use Rattle.trace_lines.specs.declared.line.Says.TheVariants as says
+use Rattle.trace_lines.specs.declared.forms.Sort.{Sort}
+use Rattle.trace_lines.specs.declared.forms.Sort.TheVariants.{Script, Controller, Kubelet}
+use Rattle.trace_lines.specs.Grammar.{cut, number, labelled, is_name, is_spaced, is_zone, is_key, is_second}
+use Rattle.trace_lines.specs.Headers.{behind}
 
 -- ---- answers
 

@@ -1,9 +1,9 @@
 -- What is read of texts, seen without where it lies in memory.
 use Rattle.std.specs.Prelude.{◌≡◌, ℕ, List, Option, Some, None}
-use Rattle.std.specs.Bor.{Bor}
-use Rattle.trace_audit.specs.declared.line.Line.{Line}
-use Rattle.trace_audit.specs.declared.line.Says.{Says}
-use Rattle.trace_audit.specs.declared.line.Says.TheVariants as says
+use denote.Ref.{Bor}
+use Rattle.trace_lines.specs.declared.line.Line.{Line}
+use Rattle.trace_lines.specs.declared.line.Says.{Says}
+use Rattle.trace_lines.specs.declared.line.Says.TheVariants as says
 
 -- what a function returned, seen by the view, is what the definition reads
 abbrev pub Reads : {X Y : Type 0} → (X → Y) → Option X → Option Y → Type 0

@@ -1,17 +1,26 @@
 // The small parts of a trace's lines: words, numbers, names and labels.
-ghost use Rattle.std.specs.Prelude.{◌≡◌, ◌<◌, ◌≤◌, ◌^◌, ◌+◌, Some, None, MatchOption, IfSome, length};
+ghost use Rattle.std.specs.Prelude.{◌≡◌, ◌<◌, ◌≤◌, ◌^◌, ◌+◌, Some, None, MatchOption, IfSome, length, position, ◌==◌};
 ghost use Rattle.std.specs.List.{list_all};
 ghost use Rattle.std.specs.Str.{bytes_eq};
-ghost use Rattle.trace_audit.specs.Grammar as spec;
+ghost use Rattle.trace_lines.specs.Grammar as spec;
 
 use kube_base::read_time;
 
 /// What stands before and behind the first byte that is this one.
-pub(crate) fn cut(text: &[u8], byte: u8) -> Option<(&[u8], &[u8])>
+pub fn cut(text: &[u8], byte: u8) -> Option<(&[u8], &[u8])>
     ensures { MatchOption result (spec.cut byte text.now ≡ None) (λ parts. spec.cut byte text.now ≡ Some (parts.0.now, parts.1.now)) }
 {
-    let place = text.iter().position(|b| *b == byte)?;
-    Some((&text[..place], &text[place + 1..]))
+    let place = place_of(text, byte)?;
+    let (before, _) = text.split_at(place);
+    let (_, behind) = text.split_at(place + 1);
+    Some((before, behind))
+}
+
+fn place_of(text: &[u8], byte: u8) -> Option<usize>
+    ensures place { result ≡ position (λ b. b == byte) text.now }
+    ensures within { IfSome result (λ place. place < length text.now) }
+{
+    text.iter().position(|b| *b == byte)
 }
 
 /// Whether a text is this word.

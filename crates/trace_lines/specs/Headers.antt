@@ -2,8 +2,8 @@
 use Rattle.std.specs.Prelude.{ℕ, nat_le, Bool, true, false, List, codes, Option, Some, None, if◌then◌else◌}
 use Rattle.std.specs.Str.{bytes_eq}
 use Rattle.kube_base.specs.Times.{◌>>=◌}
-use Rattle.trace_audit.specs.declared.header.Header.{Header}
-use Rattle.trace_audit.specs.Grammar.{cut, labelled}
+use Rattle.trace_lines.specs.declared.header.Header.{Header}
+use Rattle.trace_lines.specs.Grammar.{cut, labelled}
 
 -- what stands behind this word and a space
 unfoldable pub behind : List ℕ → List ℕ → Option (List ℕ)

@@ -1,6 +1,6 @@
 use Rattle.std.proofs.Common.{◌≡◌, ◌≤◌, drop}
-use Rattle.trace_audit.specs.Grammar.{number_onto}
-use Rattle.trace_audit.proofs.grammar.digits.Given as goal
+use Rattle.trace_lines.specs.Grammar.{number_onto}
+use Rattle.trace_lines.proofs.grammar.digits.Given as goal
 
 -- what is left decides
 abbrev pub invariant-loop-byte : goal.invariant-loop-byte

@@ -1,6 +1,6 @@
 // The first line of a trace.
 ghost use Rattle.std.specs.Prelude.{◌≡◌, ◌≤◌, IfSome, MatchOption, Some, None};
-ghost use Rattle.trace_audit.specs.Headers as spec;
+ghost use Rattle.trace_lines.specs.Headers as spec;
 
 use crate::grammar::{cut, is, labelled};
 

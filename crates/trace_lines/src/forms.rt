@@ -1,15 +1,15 @@
 // The lines of a trace behind the first, each of one form.
 ghost use Rattle.std.specs.Prelude.{◌≡◌, ◌≤◌, IfSome, MatchOption, Some, None};
-ghost use Rattle.trace_audit.specs.Forms as spec;
-ghost use Rattle.trace_audit.specs.Grammar.{cut};
-ghost use Rattle.trace_audit.specs.Reads.{Reads, said, seen};
+ghost use Rattle.trace_lines.specs.Forms as spec;
+ghost use Rattle.trace_lines.specs.Grammar.{cut};
+ghost use Rattle.trace_lines.specs.Reads.{Reads, said, seen};
 
 use crate::grammar::{cut, is, is_key, is_name, is_second, is_spaced, is_zone, labelled, number};
 use crate::header::{LAST_BEAT, behind};
 use crate::line::{Answer, Line, Says, Verb};
 
 /// Who may act.
-#[derive(Clone, Copy, Debug, PartialEq, Eq)]
+#[derive(Clone, Copy)]
 pub(crate) enum Sort {
     Script,
     Controller,
