@@ -1,4 +1,7 @@
 pub mod Entries
 pub mod Findings
+pub mod Near
+pub mod Reviews
+pub mod Seats
 pub mod Terms
 pub mod Verdict

@@ -1,10 +1,13 @@
 // The audit of a trace.
-use crate::fault::AuditFault;
+ghost use Rattle.std.specs.Prelude.{◌≡◌, count_by, ◌==◌};
+ghost use Rattle.trace_audit.specs.Verdict as spec;
+ghost use Rattle.trace_audit.specs.Reviews.{Tells};
 
-use trace_lines::{Header, cut, read_header};
+use crate::fault::AuditFault;
 use crate::pass::Pass;
 use kube_base::NoMemory;
 use std::alloc::Global;
+use trace_lines::{Header, cut, read_header};
 
 /// What a trace that is safe has.
 #[derive(Clone, Copy, Debug, PartialEq, Eq)]
@@ -17,20 +20,26 @@ pub struct Report {
     pub taints: u64,
 }
 
-/// The text is no trace.
+/// The code of a text that is no trace: a line is wrong or missing.
 pub const BAD_TRACE: u32 = 40;
 
-/// Two terms of different identities share a beat.
+/// The code of two terms of different identities that share a beat: the first lead that does so with an earlier one.
 pub const OVERLAP: u32 = 41;
 
-/// A controller acts outside its term.
+/// The code of a controller's acting line outside its term.
 pub const OUTSIDE: u32 = 42;
 
-/// A taint comes too soon.
+/// The code of a taint line that breaks the spacing.
 pub const SPACING: u32 = 43;
 
-/// Reads the text of a trace, and reports on it where it is safe.
-pub fn audit(alloc: Global, bytes: &[u8]) -> Result<Report, AuditFault> {
+/// Reads the text of a trace, and reports on it where it is safe: where no two identities lead at one beat, leaders alone act,
+/// and taints are spaced. Otherwise it refuses it with a code, and the first line at fault.
+///
+/// The lines are read once, from the last to the first, so that a lead's line is met when the end of its span is known.
+/// What is kept is one seat an identity, with the zones and the taint lines of one term.
+pub fn audit(alloc: Global, bytes: &[u8]) -> Result<Report, AuditFault>
+    ensures { Tells result (spec.verdict bytes.now) }
+{
     let Some((first, rest)) = cut(bytes, b'\n') else {
         return Err(AuditFault::Refused(BAD_TRACE, 1));
     };
@@ -38,25 +47,26 @@ pub fn audit(alloc: Global, bytes: &[u8]) -> Result<Report, AuditFault> {
         return Err(AuditFault::Refused(BAD_TRACE, 1));
     };
     let lines = 1 + feeds(rest);
-    let pass = pass_of(alloc, header, lines, rest)?;
+    let pass = pass_over(alloc, header, lines, rest)?;
     verdict(lines, &pass)
 }
 
 /// How many line feeds a text has.
-fn feeds(text: &[u8]) -> u64 {
+fn feeds(text: &[u8]) -> u64
+    ensures { result ≡ count_by (λ byte. byte == 10) text.now }
+{
     text.iter().filter(|byte| **byte == b'\n').count() as u64
 }
 
 /// What is found in the lines behind the first, of which the last ended one has this number.
-fn pass_of(alloc: Global, header: Header, lines: u64, text: &[u8]) -> Result<Pass, NoMemory> {
+fn pass_over(alloc: Global, header: Header, lines: u64, text: &[u8]) -> Result<Pass, NoMemory> {
     let (mut rest, last) = last_line(text);
-    let wrong = if last.is_empty() { None } else { Some(lines + 1) };
-    let mut pass = Pass::new(alloc, header, wrong);
-    let mut number = lines;
-    while let Some(text) = rest {
+    let mut number = lines + 1;
+    let mut pass = Pass::new(alloc, header, number, last);
+    'lines: while let Some(text) = rest {
         let (before, line) = last_line(text);
-        pass.take(number, line)?;
         number -= 1;
+        pass.take(number, line)?;
         rest = before;
     }
     Ok(pass)
@@ -78,14 +88,13 @@ fn verdict(lines: u64, pass: &Pass) -> Result<Report, AuditFault> {
     if let Some(line) = pass.wrong {
         return Err(AuditFault::Refused(BAD_TRACE, line));
     }
-    let findings = pass.review.findings();
-    if let Some(line) = findings.crossed {
+    if let Some(line) = pass.review.findings.crossed {
         return Err(AuditFault::Refused(OVERLAP, line));
     }
-    if let Some(line) = findings.outside {
+    if let Some(line) = pass.review.outside() {
         return Err(AuditFault::Refused(OUTSIDE, line));
     }
-    if let Some(line) = findings.unspaced {
+    if let Some(line) = pass.review.findings.unspaced {
         return Err(AuditFault::Refused(SPACING, line));
     }
     Ok(Report {

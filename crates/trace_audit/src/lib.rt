@@ -11,6 +11,7 @@ mod review;
 mod role;
 mod roll;
 mod seat;
+mod spacing;
 
 pub use audit_of::{BAD_TRACE, OUTSIDE, OVERLAP, Report, SPACING, audit};
 pub use fault::AuditFault;

@@ -1,6 +1,6 @@
 // The spans that follow a place.
-ghost use Rattle.std.specs.Prelude.{◌≡◌};
-ghost use Rattle.trace_audit.specs.Nearest as spec;
+ghost use Rattle.std.specs.Prelude.{◌≡◌, Some};
+ghost use Rattle.trace_audit.specs.Near as spec;
 
 /// A span that isn't empty: whose it is, by the place of the identity, its first beat and the line of its lead.
 #[derive(Clone, Copy, Debug, PartialEq, Eq)]
@@ -13,37 +13,35 @@ pub(crate) struct Span {
 /// The first span of all, and the first of another identity than that one's.
 #[derive(Clone, Copy, Debug, PartialEq, Eq)]
 pub(crate) struct Nearest {
-    first: Option<Span>,
-    other: Option<Span>,
+    pub(crate) first: Option<Span>,
+    pub(crate) other: Option<Span>,
 }
 
 impl Nearest {
-    /// No span.
-    pub(crate) fn new() -> Nearest {
-        Nearest {
-            first: None,
-            other: None,
-        }
-    }
-
-    /// The line of the first span of another identity, where it begins before this beat.
-    pub(crate) fn crossed(self, who: usize, to: u32) -> Option<u64> {
-        let span = self.of_another(who)?;
+    /// The first span of another identity, where it begins before this beat: its line.
+    pub(crate) fn crossed(self, who: usize, to: u32) -> Option<u64>
+        ensures { result ≡ spec.begun_before to (spec.another self who) }
+    {
+        let span = self.another(who)?;
         if span.from < to { Some(span.line) } else { None }
     }
 
-    fn of_another(self, who: usize) -> Option<Span> {
+    fn another(self, who: usize) -> Option<Span>
+        ensures { result ≡ spec.another self who }
+    {
         match self.first {
-            Some(first) => if first.who != who { Some(first) } else { self.other },
+            Some(first) => if first.who == who { self.other } else { Some(first) },
             None => None,
         }
     }
 
     /// The same with one more span before all.
-    pub(crate) fn with(self, span: Span) -> Nearest {
+    pub(crate) fn with(self, span: Span) -> Nearest
+        ensures { result ≡ record { first = Some span; other = spec.another self span.who } }
+    {
         Nearest {
             first: Some(span),
-            other: self.of_another(span.who),
+            other: self.another(span.who),
         }
     }
 }

@@ -1,25 +1,29 @@
 // The lines of a trace, read from the last to the first.
-use trace_lines::read_line;
-use trace_lines::Header;
-use trace_lines::Line;
+ghost use Rattle.std.specs.Prelude.{◌≡◌, ◌+◌, ◌<◌, ◌≤◌, ◌^◌, ◌==◌, List, ℕ, [], ◌∷◌, length, OnOk, if◌then◌else◌, Some, None};
+ghost use Rattle.trace_audit.specs.Reviews.{PassStands};
+
 use crate::review::Review;
 use kube_base::NoMemory;
 use std::alloc::Global;
+use trace_lines::{Header, Line, read_line};
 
 /// What is known of the lines so far, from the last one back.
 #[derive(Drop)]
 pub(crate) struct Pass {
-    header: Header,
+    pub(crate) header: Header,
     /// The first line that is wrong or missing.
     pub(crate) wrong: Option<u64>,
-    /// The beat of the first of these lines.
-    next: Option<u32>,
+    /// The beat of the first of these lines, where it is of a form.
+    pub(crate) next: Option<u32>,
     pub(crate) review: Review,
 }
 
 impl Pass {
-    /// No lines so far; or the text doesn't end with a line feed, and the rest behind the last one is a line that is wrong.
-    pub(crate) fn new(alloc: Global, header: Header, wrong: Option<u64>) -> Pass {
+    /// What stands behind the last line feed, which has to be empty. The number is the one that it would have as a line.
+    pub(crate) fn new(alloc: Global, header: Header, number: u64, unended: &[u8]) -> Pass
+        ensures { PassStands header number (unended.now ∷ []) result }
+    {
+        let wrong = if unended.len() == 0 { None } else { Some(number) };
         Pass {
             header,
             wrong,
@@ -29,7 +33,12 @@ impl Pass {
     }
 
     /// Takes the line before those so far.
-    pub(crate) fn take(&mut self, number: u64, text: &[u8]) -> Result<(), NoMemory> {
+    pub(crate) fn take(&mut self, number: u64, text: &[u8]) -> Result<(), NoMemory>
+        requires number { number < 2 ^ 64 - 1 }
+        requires end { self.old.header.end ≤ 604800000 }
+        ensures { (header : Header) (line : List ℕ) (lines : List (List ℕ)) → PassStands header (number + 1) (line ∷ lines) self.old
+            → OnOk result (PassStands header number (text.now ∷ line ∷ lines) self.new) }
+    {
         match read_line(text) {
             Some(line) => self.take_line(number, &line),
             None => {
@@ -40,7 +49,10 @@ impl Pass {
         }
     }
 
-    fn take_line(&mut self, number: u64, line: &Line<&[u8]>) -> Result<(), NoMemory> {
+    fn take_line(&mut self, number: u64, line: &Line<&[u8]>) -> Result<(), NoMemory>
+        requires number { number < 2 ^ 64 - 1 }
+        requires end { self.old.header.end ≤ 604800000 }
+    {
         if line.beat > self.header.end {
             self.wrong = Some(number);
         } else if is_before(self.next, line.beat) {

@@ -1,13 +1,20 @@
 // The terms of a trace, looked at from its last line to its first.
+ghost use Rattle.std.specs.Prelude.{◌≡◌, ◌+◌, ◌<◌, ◌≤◌, ◌^◌, List, [], ◌∷◌, OnOk};
+ghost use Rattle.trace_lines.specs.Reads.{seen};
+ghost use Rattle.trace_audit.specs.Entries.{Entry, entry_of};
+ghost use Rattle.trace_audit.specs.Findings.{least, outside};
+ghost use Rattle.trace_audit.specs.Terms.{terms};
+ghost use Rattle.trace_audit.specs.Seats.{AreAfter};
+ghost use Rattle.trace_audit.specs.Reviews.{ReviewStands};
+
 use crate::earlier::earlier;
-use trace_lines::Header;
-use trace_lines::Line;
 use crate::nearest::{Nearest, Span};
 use crate::role::{Role, role_played};
 use crate::roll::Roll;
 use crate::seat::Seat;
 use kube_base::NoMemory;
 use std::alloc::Global;
+use trace_lines::{Header, Line};
 
 /// The first line at fault so far, for each of three faults.
 #[derive(Clone, Copy, Debug, PartialEq, Eq)]
@@ -24,23 +31,29 @@ pub(crate) struct Findings {
 #[derive(Drop)]
 pub(crate) struct Review {
     alloc: Global,
-    header: Header,
-    actors: Roll,
-    seats: Vec<Seat>,
-    nearest: Nearest,
-    findings: Findings,
+    pub(crate) header: Header,
+    pub(crate) actors: Roll,
+    pub(crate) seats: Vec<Seat>,
+    pub(crate) nearest: Nearest,
+    pub(crate) findings: Findings,
     pub(crate) leads: u64,
     pub(crate) taints: u64,
 }
 
 impl Review {
-    pub(crate) fn new(alloc: Global, header: Header) -> Review {
+    /// No lines so far.
+    pub(crate) fn new(alloc: Global, header: Header) -> Review
+        ensures { ReviewStands header [] result }
+    {
         Review {
             alloc,
             header,
             actors: Roll::new(alloc),
             seats: Vec::new(alloc),
-            nearest: Nearest::new(),
+            nearest: Nearest {
+                first: None,
+                other: None,
+            },
             findings: Findings {
                 crossed: None,
                 outside: None,
@@ -52,45 +65,57 @@ impl Review {
     }
 
     /// Takes the line before those so far.
-    pub(crate) fn take(&mut self, number: u64, line: &Line<&[u8]>) -> Result<(), NoMemory> {
-        let role = role_played(&line.says);
-        if let Role::Idles = role {
-            return Ok(());
-        }
-        let place = self.place(line.actor)?;
-        match role {
+    pub(crate) fn take(&mut self, number: u64, line: &Line<&[u8]>) -> Result<(), NoMemory>
+        requires end { self.old.header.end ≤ 604800000 }
+        requires leads { self.old.leads < 2 ^ 63 }
+        requires taints { self.old.taints < 2 ^ 63 }
+        ensures { (header : Header) (es : List Entry) → ReviewStands header es self.old → AreAfter line.now.beat number es
+            → OnOk result (ReviewStands header (entry_of number (seen line.now) ∷ es) self.new) }
+    {
+        match role_played(&line.says) {
+            Role::Idles => Ok(()),
             Role::Leads => {
+                let place = self.place(line.actor)?;
                 self.lead(place, line.beat, number);
                 Ok(())
             }
             Role::Taints => {
+                let place = self.place(line.actor)?;
                 self.taints += 1;
-                play(&mut self.seats[place], line.beat, number, Role::Taints)
+                self.seats[place].take(Role::Taints, line.beat, number)
             }
-            role => play(&mut self.seats[place], line.beat, number, role),
+            role => {
+                let place = self.place(line.actor)?;
+                self.seats[place].take(role, line.beat, number)
+            }
         }
     }
 
     /// The place of an actor among the seats.
-    fn place(&mut self, actor: &[u8]) -> Result<usize, NoMemory> {
+    fn place(&mut self, actor: &[u8]) -> Result<usize, NoMemory>
+        requires { self.old.header.end ≤ 604800000 }
+    {
         let place = self.actors.place(actor)?;
         if place >= self.seats.len() {
-            self.seats.push(Seat::new(self.alloc, self.header.end + 1))?;
+            self.seats
+                .push(Seat::new(self.alloc, self.header.end + 1))?;
         }
         Ok(place)
     }
 
+    /// A lead comes before: what was kept for its term is looked at.
     fn lead(&mut self, place: usize, beat: u32, line: u64) {
-        let seat = &mut self.seats[place];
-        self.findings.outside = earlier(self.findings.outside, seat.late);
+        let seat = &self.seats[place];
+        let to = seat.to;
+        self.findings.outside = earlier(seat.late, self.findings.outside);
         self.findings.unspaced = earlier(
-            self.findings.unspaced,
             seat.unspaced(self.header.beat_millis),
+            self.findings.unspaced,
         );
-        if beat < seat.to {
+        if beat < to {
             self.findings.crossed = earlier(
+                self.nearest.crossed(place, to),
                 self.findings.crossed,
-                self.nearest.crossed(place, seat.to),
             );
             self.nearest = self.nearest.with(Span {
                 who: place,
@@ -98,39 +123,18 @@ impl Review {
                 line,
             });
         }
-        self.seats[place] = Seat::new(self.alloc, seat.to);
+        self.seats[place] = Seat::new(self.alloc, to);
         self.leads += 1;
     }
 
-    /// What was found in all: an acting line before its actor's first lead lies outside too.
-    pub(crate) fn findings(&self) -> Findings {
-        let mut findings = self.findings;
+    /// The first acting line that lies outside: in a term, or before its actor's first lead.
+    pub(crate) fn outside(&self) -> Option<u64>
+        ensures { (header : Header) (es : List Entry) → ReviewStands header es self.now → result ≡ least (outside es (terms (header.end + 1) es)) }
+    {
+        let mut found = self.findings.outside;
         for seat in &self.seats {
-            findings.outside = earlier(findings.outside, seat.first);
+            found = earlier(found, seat.first);
         }
-        findings
-    }
-}
-
-fn play(seat: &mut Seat, beat: u32, number: u64, role: Role<&[u8]>) -> Result<(), NoMemory> {
-    match role {
-        Role::Ends => {
-            seat.end(beat);
-            Ok(())
-        }
-        Role::Acts => {
-            seat.act(beat, number);
-            Ok(())
-        }
-        Role::Zones(zone, rate) => {
-            seat.act(beat, number);
-            seat.zone(beat, zone, rate)
-        }
-        Role::Taints => {
-            seat.act(beat, number);
-            seat.taint(beat, number)
-        }
-        Role::Leads => Ok(()),
-        Role::Idles => Ok(()),
+        found
     }
 }

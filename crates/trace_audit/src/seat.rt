@@ -1,7 +1,14 @@
 // What follows a place of the trace, for one identity.
+ghost use Rattle.std.specs.Prelude.{◌≡◌, length, OnOk};
+ghost use Rattle.trace_audit.specs.Findings.{least, soon};
+ghost use Rattle.trace_audit.specs.Entries.{played};
+ghost use Rattle.trace_audit.specs.Seats as spec;
+
 use crate::earlier::earlier;
 use crate::mark::Mark;
+use crate::role::Role;
 use crate::roll::Roll;
+use crate::spacing::first_soon;
 use kube_base::{ListOf, NoMemory};
 use std::alloc::Global;
 
@@ -14,7 +21,7 @@ pub(crate) struct Seat {
     pub(crate) first: Option<u64>,
     /// The first acting line that isn't before the beat `to`.
     pub(crate) late: Option<u64>,
-    /// The zones.
+    /// The different zones.
     pub(crate) zones: Roll,
     /// The greatest rate of a zone, or 0.
     pub(crate) rate: u32,
@@ -25,8 +32,10 @@ pub(crate) struct Seat {
 }
 
 impl Seat {
-    /// Nothing follows up to the beat before this one.
-    pub(crate) fn new(alloc: Global, to: u32) -> Seat {
+    /// Nothing follows up to before this beat.
+    pub(crate) fn new(alloc: Global, to: u32) -> Seat
+        ensures { result ≡ spec.blank to }
+    {
         Seat {
             to,
             first: None,
@@ -38,14 +47,42 @@ impl Seat {
         }
     }
 
-    /// An end, crash or stop line comes before.
-    pub(crate) fn end(&mut self, beat: u32) {
-        self.to = beat;
-        self.late = self.first;
+    /// A line of the identity comes before, which is no lead.
+    pub(crate) fn take(
+        &mut self,
+        role: Role<&[u8]>,
+        beat: u32,
+        line: u64,
+    ) -> Result<(), NoMemory>
+        ensures { OnOk result (self.new ≡ spec.after (played role.entry) beat line self.old) }
+    {
+        match role {
+            Role::Ends => {
+                self.to = beat;
+                self.late = self.first;
+                Ok(())
+            }
+            Role::Acts => {
+                self.act(beat, line);
+                Ok(())
+            }
+            Role::Zones(zone, rate) => {
+                self.act(beat, line);
+                self.zone(beat, zone, rate)
+            }
+            Role::Taints => {
+                self.act(beat, line);
+                self.taints.push(Mark { beat, line })
+            }
+            Role::Leads => Ok(()),
+            Role::Idles => Ok(()),
+        }
     }
 
     /// An acting line comes before.
-    pub(crate) fn act(&mut self, beat: u32, line: u64) {
+    fn act(&mut self, beat: u32, line: u64)
+        ensures { self.new ≡ spec.acted beat line self.old }
+    {
         self.first = earlier(Some(line), self.first);
         if self.to <= beat {
             self.late = earlier(Some(line), self.late);
@@ -53,47 +90,25 @@ impl Seat {
     }
 
     /// So does what a zone line says.
-    pub(crate) fn zone(&mut self, beat: u32, zone: &[u8], rate: u32) -> Result<(), NoMemory> {
+    fn zone(&mut self, beat: u32, zone: &[u8], rate: u32) -> Result<(), NoMemory>
+        ensures { OnOk result (self.new ≡ spec.zoned beat zone.now rate self.old) }
+    {
         self.zones.place(zone)?;
         self.rate = self.rate.max(rate);
         self.start = Some(beat);
         Ok(())
     }
 
-    /// So does a taint line.
-    pub(crate) fn taint(&mut self, beat: u32, line: u64) -> Result<(), NoMemory> {
-        self.taints.push(Mark { beat, line })
-    }
-
     /// The first taint line that breaks the spacing.
-    pub(crate) fn unspaced(&self, millis: u32) -> Option<u64> {
-        let count = self.zones.len();
-        let scale = u64::from(millis) * u64::from(self.rate);
-        unspaced(self.start, count, scale, self.taints.as_slice())
-    }
-}
-
-/// The first taint line, of those of a term from the last to the first, that breaks the spacing: that comes too soon after the
-/// one as many taint lines before it as there are zones, or after the first zone line where there are fewer.
-fn unspaced(start: Option<u32>, zones: usize, scale: u64, taints: &[Mark]) -> Option<u64> {
-    let mut found = None;
-    for (index, taint) in taints.iter().enumerate() {
-        let base = if zones < taints.len() - index {
-            Some(taints[index + zones].beat)
-        } else {
-            start
-        };
-        if !is_wide(base, taint.beat, scale) {
-            found = earlier(Some(taint.line), found);
-        }
-    }
-    found
-}
-
-/// Whether a step from a beat, if there is one, to another is wide. `scale` is the milliseconds of a beat times the rate.
-fn is_wide(from: Option<u32>, to: u32, scale: u64) -> bool {
-    match from {
-        Some(from) => u128::from(to.saturating_sub(from)) * u128::from(scale) >= 500_000,
-        None => false,
+    pub(crate) fn unspaced(&self, millis: u32) -> Option<u64>
+        ensures { result ≡ least (soon millis self.now.rate (length self.now.zones) self.now.start self.now.taints) }
+    {
+        first_soon(
+            millis,
+            self.rate,
+            self.zones.len(),
+            self.start,
+            self.taints.as_slice(),
+        )
     }
 }
