@@ -1,3 +1,1 @@
-pub mod Least
-pub mod NearLaws
-pub mod SeatLaws
+pub mod LineLaws

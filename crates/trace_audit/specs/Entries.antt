@@ -1,12 +1,12 @@
 -- The lines of a trace's text, and what each means for the terms.
 use Rattle.std.specs.Prelude.{ℕ, ◌+◌, ◌==◌, ◌&&◌, nat_le, Bool, List, [], ◌∷◌, length, Option, Some, None, if◌then◌else◌}
-use denote.Ref.{Bor}
 use Rattle.trace_lines.specs.declared.line.Line.{Line}
 use Rattle.trace_lines.specs.declared.line.Says.{Says}
 use Rattle.trace_lines.specs.declared.line.Says.TheVariants as says
-use Rattle.trace_audit.specs.declared.role.Role.{Role}
-use Rattle.trace_audit.specs.declared.role.Role.TheVariants.{Leads, Ends, Zones, Taints, Acts, Idles}
+use Rattle.trace_terms.specs.declared.role.Role.{Role}
+use Rattle.trace_terms.specs.declared.role.Role.TheVariants.{Leads, Ends, Zones, Taints, Acts, Idles}
 use Rattle.trace_lines.specs.Forms.{line_of}
+use Rattle.trace_terms.specs.Entries.{Entry}
 
 -- ---- lines
 
@@ -57,22 +57,6 @@ role_of (says.NodeLease verb node answer) = Idles
 role_of (says.Status node ready answer) = Idles
 role_of (says.Put key version) = Idles
 role_of (says.Remove key version) = Idles
-
--- the same, with the texts themselves in the place of references to them
-abbrev pub played : Role (Bor (List ℕ)) → Role (List ℕ)
-played Leads = Leads
-played Ends = Ends
-played (Zones zone rate) = Zones zone.now rate
-played Taints = Taints
-played Acts = Acts
-played Idles = Idles
-
--- a line behind the first, with its number from 1
-pub record Entry : Type 0 where
-  pub line : ℕ
-  pub beat : ℕ
-  pub actor : List ℕ
-  pub role : Role (List ℕ)
 
 abbrev pub entry_of : ℕ → Line (List ℕ) → Entry
 entry_of number line = record { line = number; beat = line.beat; actor = line.actor; role = role_of line.says }

@@ -1,7 +1,3 @@
 pub mod Entries
-pub mod Findings
-pub mod Near
-pub mod Reviews
-pub mod Seats
-pub mod Terms
+pub mod Passes
 pub mod Verdict

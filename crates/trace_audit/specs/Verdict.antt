@@ -3,10 +3,11 @@ use Rattle.std.specs.Prelude.{ℕ, ◌+◌, ◌-◌, Bool, List, [], ◌∷◌, 
 use Rattle.trace_audit.specs.declared.audit_of.Report.{Report}
 use Rattle.trace_lines.specs.declared.header.Header.{Header}
 use Rattle.trace_lines.specs.Headers.{header_of}
-use Rattle.trace_audit.specs.Entries.{Entry, lines_of, entries_of, first_wrong}
-use Rattle.trace_audit.specs.Terms.{terms, is_lead, is_taint}
-use Rattle.trace_audit.specs.Findings.{least, crossed, outside, unspaced}
+use Rattle.trace_terms.specs.Entries.{Entry}
+use Rattle.trace_terms.specs.Terms.{terms, is_lead, is_taint}
+use Rattle.trace_terms.specs.Findings.{least, crossed, outside, unspaced}
 use Rattle.trace_lines.specs.Grammar.{cut}
+use Rattle.trace_audit.specs.Entries.{lines_of, entries_of, first_wrong}
 
 -- a refusal: its code, and its line from 1
 pub record Fault : Type 0 where

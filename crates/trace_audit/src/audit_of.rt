@@ -1,7 +1,7 @@
 // The audit of a trace.
 ghost use Rattle.std.specs.Prelude.{◌≡◌, count_by, ◌==◌};
 ghost use Rattle.trace_audit.specs.Verdict as spec;
-ghost use Rattle.trace_audit.specs.Reviews.{Tells};
+ghost use Rattle.trace_audit.specs.Passes.{Tells};
 
 use crate::fault::AuditFault;
 use crate::pass::Pass;

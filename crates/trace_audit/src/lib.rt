@@ -2,16 +2,9 @@
 #![tactic(auto)]
 
 mod audit_of;
-mod earlier;
 mod fault;
-mod mark;
-mod nearest;
 mod pass;
-mod review;
-mod role;
-mod roll;
-mod seat;
-mod spacing;
+mod role_played;
 
 pub use audit_of::{BAD_TRACE, OUTSIDE, OVERLAP, Report, SPACING, audit};
 pub use fault::AuditFault;

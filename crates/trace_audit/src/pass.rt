@@ -1,11 +1,12 @@
 // The lines of a trace, read from the last to the first.
 ghost use Rattle.std.specs.Prelude.{◌≡◌, ◌+◌, ◌<◌, ◌≤◌, ◌^◌, ◌==◌, List, ℕ, [], ◌∷◌, length, OnOk, if◌then◌else◌, Some, None};
-ghost use Rattle.trace_audit.specs.Reviews.{PassStands};
+ghost use Rattle.trace_audit.specs.Passes.{PassStands};
 
-use crate::review::Review;
+use crate::role_played::role_played;
 use kube_base::NoMemory;
 use std::alloc::Global;
 use trace_lines::{Header, Line, read_line};
+use trace_terms::Review;
 
 /// What is known of the lines so far, from the last one back.
 #[derive(Drop)]
@@ -28,7 +29,7 @@ impl Pass {
             header,
             wrong,
             next: None,
-            review: Review::new(alloc, header),
+            review: Review::new(alloc, header.beat_millis, header.end),
         }
     }
 
@@ -61,7 +62,8 @@ impl Pass {
         self.next = Some(line.beat);
         match self.wrong {
             Some(_) => Ok(()),
-            None => self.review.take(number, line),
+            None => self.review
+                .take(number, line.beat, line.actor, role_played(&line.says)),
         }
     }
 }

@@ -9,7 +9,7 @@ use std::marker::Model;
 
 /// Different texts, which contracts see as their list in the order in which they came.
 #[derive(Drop)]
-pub(crate) struct Roll {
+pub struct Roll {
     alloc: Global,
     texts: IndexSet<Vec<u8>>,
 }
@@ -24,7 +24,7 @@ impl Model for Roll {
 
 impl Roll {
     /// No texts.
-    pub(crate) fn new(alloc: Global) -> Roll
+    pub fn new(alloc: Global) -> Roll
         ensures { result ≡ [] }
     {
         Roll {
@@ -34,7 +34,7 @@ impl Roll {
     }
 
     /// How many texts there are.
-    pub(crate) fn len(&self) -> usize
+    pub fn len(&self) -> usize
         ensures len { result ≡ length self.now }
         ensures once { EachOnce self.now }
     {
@@ -42,7 +42,7 @@ impl Roll {
     }
 
     /// The place of a text, which is added where it is new.
-    pub(crate) fn place(&mut self, text: &[u8]) -> Result<usize, NoMemory>
+    pub fn place(&mut self, text: &[u8]) -> Result<usize, NoMemory>
         ensures place { IfOk result (λ place. place ≡ number_in self.old text.now) }
         ensures held { OnOk result (self.new ≡ with_name self.old text.now) }
         ensures err { OnErr result (self.new ≡ self.old) }

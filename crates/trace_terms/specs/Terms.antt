@@ -1,9 +1,9 @@
 -- The terms of a trace: who leads from when to when, and what a leader does in its term (profile).
 use Rattle.std.specs.Prelude.{ℕ, ◌&&◌, Bool, true, false, List, [], ◌∷◌, if◌then◌else◌}
 use Rattle.std.specs.Str.{bytes_eq}
-use Rattle.trace_audit.specs.declared.role.Role.{Role}
-use Rattle.trace_audit.specs.declared.role.Role.TheVariants.{Leads, Ends, Zones, Taints, Acts, Idles}
-use Rattle.trace_audit.specs.Entries.{Entry}
+use Rattle.trace_terms.specs.declared.role.Role.{Role}
+use Rattle.trace_terms.specs.declared.role.Role.TheVariants.{Leads, Ends, Zones, Taints, Acts, Idles}
+use Rattle.trace_terms.specs.Entries.{Entry}
 
 abbrev pub is_lead : {T : Type 0} → Role T → Bool
 is_lead Leads = true

@@ -3,13 +3,13 @@ use Rattle.std.specs.Prelude.{◌≡◌, ℕ, nat_le, nat_lt, Bool, true, List, 
 use Rattle.std.specs.List.{filter}
 use Rattle.std.specs.Str.{bytes_eq}
 use Rattle.kube_base.specs.Names.{with_name}
-use Rattle.trace_audit.specs.declared.mark.Mark.{Mark}
-use Rattle.trace_audit.specs.declared.role.Role.{Role}
-use Rattle.trace_audit.specs.declared.role.Role.TheVariants.{Leads, Ends, Zones, Taints, Acts, Idles}
-use Rattle.trace_audit.specs.declared.seat.Seat.{Seat}
-use Rattle.trace_audit.specs.Entries.{Entry}
-use Rattle.trace_audit.specs.Terms.{ended, own}
-use Rattle.trace_audit.specs.Findings.{earlier, least, numbers, zones_of, rate_of, start_of, taints_of}
+use Rattle.trace_terms.specs.declared.mark.Mark.{Mark}
+use Rattle.trace_terms.specs.declared.role.Role.{Role}
+use Rattle.trace_terms.specs.declared.role.Role.TheVariants.{Leads, Ends, Zones, Taints, Acts, Idles}
+use Rattle.trace_terms.specs.declared.seat.Seat.{Seat}
+use Rattle.trace_terms.specs.Entries.{Entry}
+use Rattle.trace_terms.specs.Terms.{ended, own}
+use Rattle.trace_terms.specs.Findings.{earlier, least, numbers, zones_of, rate_of, start_of, taints_of}
 
 -- nothing follows
 abbrev pub blank : ℕ → Seat

@@ -1,8 +1,8 @@
 // What follows a place of the trace, for one identity.
 ghost use Rattle.std.specs.Prelude.{◌≡◌, length, OnOk};
-ghost use Rattle.trace_audit.specs.Findings.{least, soon};
-ghost use Rattle.trace_audit.specs.Entries.{played};
-ghost use Rattle.trace_audit.specs.Seats as spec;
+ghost use Rattle.trace_terms.specs.Findings.{least, soon};
+ghost use Rattle.trace_terms.specs.Entries.{played};
+ghost use Rattle.trace_terms.specs.Seats as spec;
 
 use crate::earlier::earlier;
 use crate::mark::Mark;
@@ -14,26 +14,26 @@ use std::alloc::Global;
 
 /// What follows a place of the trace, for one identity: where its span ends, and its acting lines up to its next lead.
 #[derive(Drop)]
-pub(crate) struct Seat {
+pub struct Seat {
     /// The beat of its next `end`, `crash` or `stop` line, or the one behind the last beat.
-    pub(crate) to: u32,
+    pub to: u32,
     /// The first acting line.
-    pub(crate) first: Option<u64>,
+    pub first: Option<u64>,
     /// The first acting line that isn't before the beat `to`.
-    pub(crate) late: Option<u64>,
+    pub late: Option<u64>,
     /// The different zones.
-    pub(crate) zones: Roll,
+    pub zones: Roll,
     /// The greatest rate of a zone, or 0.
-    pub(crate) rate: u32,
+    pub rate: u32,
     /// The beat of the first zone line.
-    pub(crate) start: Option<u32>,
+    pub start: Option<u32>,
     /// The taint lines, the last one first.
-    pub(crate) taints: ListOf<Mark>,
+    pub taints: ListOf<Mark>,
 }
 
 impl Seat {
     /// Nothing follows up to before this beat.
-    pub(crate) fn new(alloc: Global, to: u32) -> Seat
+    pub fn new(alloc: Global, to: u32) -> Seat
         ensures { result ≡ spec.blank to }
     {
         Seat {
@@ -48,7 +48,7 @@ impl Seat {
     }
 
     /// A line of the identity comes before, which is no lead.
-    pub(crate) fn take(
+    pub fn take(
         &mut self,
         role: Role<&[u8]>,
         beat: u32,
@@ -100,7 +100,7 @@ impl Seat {
     }
 
     /// The first taint line that breaks the spacing.
-    pub(crate) fn unspaced(&self, millis: u32) -> Option<u64>
+    pub fn unspaced(&self, millis: u32) -> Option<u64>
         ensures { result ≡ least (soon millis self.now.rate (length self.now.zones) self.now.start self.now.taints) }
     {
         first_soon(

@@ -1,25 +1,25 @@
 // The spans that follow a place.
 ghost use Rattle.std.specs.Prelude.{◌≡◌, Some};
-ghost use Rattle.trace_audit.specs.Near as spec;
+ghost use Rattle.trace_terms.specs.Near as spec;
 
 /// A span that isn't empty: whose it is, by the place of the identity, its first beat and the line of its lead.
 #[derive(Clone, Copy, Debug, PartialEq, Eq)]
-pub(crate) struct Span {
-    pub(crate) who: usize,
-    pub(crate) from: u32,
-    pub(crate) line: u64,
+pub struct Span {
+    pub who: usize,
+    pub from: u32,
+    pub line: u64,
 }
 
 /// The first span of all, and the first of another identity than that one's.
 #[derive(Clone, Copy, Debug, PartialEq, Eq)]
-pub(crate) struct Nearest {
-    pub(crate) first: Option<Span>,
-    pub(crate) other: Option<Span>,
+pub struct Nearest {
+    pub first: Option<Span>,
+    pub other: Option<Span>,
 }
 
 impl Nearest {
     /// The first span of another identity, where it begins before this beat: its line.
-    pub(crate) fn crossed(self, who: usize, to: u32) -> Option<u64>
+    pub fn crossed(self, who: usize, to: u32) -> Option<u64>
         ensures { result ≡ spec.begun_before to (spec.another self who) }
     {
         let span = self.another(who)?;
@@ -36,7 +36,7 @@ impl Nearest {
     }
 
     /// The same with one more span before all.
-    pub(crate) fn with(self, span: Span) -> Nearest
+    pub fn with(self, span: Span) -> Nearest
         ensures { result ≡ record { first = Some span; other = spec.another self span.who } }
     {
         Nearest {

@@ -3,8 +3,8 @@ use Rattle.std.proofs.Common.{◌≡◌, ℕ, ◌≤◌, Bool, true, false, cond
 use Rattle.std.specs.List.{filter, list_any}
 use Rattle.std.specs.Str.{bytes_eq}
 use Rattle.std.proofs.lemmas.Slice.Eq.{bytes_eq-Decides}
-use Rattle.trace_audit.specs.Entries.{Entry}
-use Rattle.trace_audit.specs.Findings.{earlier, least, numbers}
+use Rattle.trace_terms.specs.Entries.{Entry}
+use Rattle.trace_terms.specs.Findings.{earlier, least, numbers}
 
 pub earlier-none : (a : Option ℕ) → earlier a None ≡ a
 earlier-none None = refl

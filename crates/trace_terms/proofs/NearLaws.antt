@@ -5,12 +5,12 @@ use Rattle.std.specs.Str.{bytes_eq}
 use Rattle.std.proofs.lemmas.Bool.Decides.{nat_tests}
 use Rattle.std.proofs.lemmas.Slice.Eq.{bytes_eq-Decides}
 use Rattle.kube_base.specs.Names.{number_of, EachOnce}
-use Rattle.trace_audit.specs.declared.nearest.Span.{Span}
-use Rattle.trace_audit.specs.Entries.{Entry}
-use Rattle.trace_audit.specs.Terms.{Term, terms, term_of, is_lead}
-use Rattle.trace_audit.specs.Findings.{earlier, least, crosses}
-use Rattle.trace_audit.specs.Near.{another_of, begun_before, live, others, IsSpan, IsFirst, IsOther}
-use Rattle.trace_audit.specs.Seats.{AreAfter, InOrder}
+use Rattle.trace_terms.specs.declared.nearest.Span.{Span}
+use Rattle.trace_terms.specs.Entries.{Entry}
+use Rattle.trace_terms.specs.Terms.{Term, terms, term_of, is_lead}
+use Rattle.trace_terms.specs.Findings.{earlier, least, crosses}
+use Rattle.trace_terms.specs.Near.{another_of, begun_before, live, others, IsSpan, IsFirst, IsOther}
+use Rattle.trace_terms.specs.Seats.{AreAfter, InOrder}
 
 -- ---- who is nearest
 

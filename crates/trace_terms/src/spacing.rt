@@ -1,6 +1,6 @@
 // The spacing of taints in a term.
 ghost use Rattle.std.specs.Prelude.{◌≡◌, ◌*◌, ◌<◌, length, drop, slice_get};
-ghost use Rattle.trace_audit.specs.Findings as spec;
+ghost use Rattle.trace_terms.specs.Findings as spec;
 
 use crate::earlier::earlier;
 use crate::mark::Mark;

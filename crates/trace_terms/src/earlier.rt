@@ -1,6 +1,6 @@
 // The earlier of two lines.
 ghost use Rattle.std.specs.Prelude.{◌≡◌};
-ghost use Rattle.trace_audit.specs.Findings as spec;
+ghost use Rattle.trace_terms.specs.Findings as spec;
 
 /// The lesser number, where there is one.
 pub(crate) fn earlier(one: Option<u64>, other: Option<u64>) -> Option<u64>

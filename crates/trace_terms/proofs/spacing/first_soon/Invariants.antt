@@ -1,6 +1,6 @@
 use Rattle.std.proofs.Common.{◌≡◌, drop}
-use Rattle.trace_audit.specs.Findings.{earlier, least, soon}
-use Rattle.trace_audit.proofs.spacing.first_soon.Given as goal
+use Rattle.trace_terms.specs.Findings.{earlier, least, soon}
+use Rattle.trace_terms.proofs.spacing.first_soon.Given as goal
 
 -- what was found and what is left make it
 abbrev pub invariant-loop-index : goal.invariant-loop-index

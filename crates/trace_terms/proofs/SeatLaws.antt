@@ -3,13 +3,13 @@ use Rattle.std.proofs.Common.{◌≡◌, ℕ, nat_le, Bool, true, false, cond, �
 use Rattle.std.specs.List.{filter}
 use Rattle.std.specs.Str.{bytes_eq}
 use Rattle.kube_base.specs.Names.{with_name}
-use Rattle.trace_audit.specs.declared.role.Role.{Role}
-use Rattle.trace_audit.specs.declared.role.Role.TheVariants.{Leads, Ends, Zones, Taints, Acts, Idles}
-use Rattle.trace_audit.specs.declared.seat.Seat.{Seat}
-use Rattle.trace_audit.specs.Entries.{Entry}
-use Rattle.trace_audit.specs.Terms.{ended, own, own_with, is_end, is_acting}
-use Rattle.trace_audit.specs.Findings.{earlier, least, numbers, zones_of, zones_with, rate_of, rate_with, start_of, start_with, taints_of, taints_with, mark_of}
-use Rattle.trace_audit.specs.Seats.{blank, acted, zoned, tainted, after, Sits, SeatStands, AreAfter}
+use Rattle.trace_terms.specs.declared.role.Role.{Role}
+use Rattle.trace_terms.specs.declared.role.Role.TheVariants.{Leads, Ends, Zones, Taints, Acts, Idles}
+use Rattle.trace_terms.specs.declared.seat.Seat.{Seat}
+use Rattle.trace_terms.specs.Entries.{Entry}
+use Rattle.trace_terms.specs.Terms.{ended, own, own_with, is_end, is_acting}
+use Rattle.trace_terms.specs.Findings.{earlier, least, numbers, zones_of, zones_with, rate_of, rate_with, start_of, start_with, taints_of, taints_with, mark_of}
+use Rattle.trace_terms.specs.Seats.{blank, acted, zoned, tainted, after, Sits, SeatStands, AreAfter}
 
 -- ---- one line more
 

@@ -2,7 +2,7 @@
 
 /// A taint line of a term.
 #[derive(Clone, Copy, Debug, PartialEq, Eq)]
-pub(crate) struct Mark {
-    pub(crate) beat: u32,
-    pub(crate) line: u64,
+pub struct Mark {
+    pub beat: u32,
+    pub line: u64,
 }

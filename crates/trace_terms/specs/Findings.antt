@@ -3,11 +3,11 @@ use Rattle.std.specs.Prelude.{ℕ, ◌+◌, ◌-◌, ◌*◌, ◌&&◌, not, nat
 use Rattle.std.specs.List.{filter, flat_map}
 use Rattle.std.specs.Str.{bytes_eq}
 use Rattle.kube_base.specs.Names.{with_name}
-use Rattle.trace_audit.specs.declared.role.Role.{Role}
-use Rattle.trace_audit.specs.declared.role.Role.TheVariants.{Leads, Ends, Zones, Taints, Acts, Idles}
-use Rattle.trace_audit.specs.declared.mark.Mark.{Mark}
-use Rattle.trace_audit.specs.Entries.{Entry}
-use Rattle.trace_audit.specs.Terms.{Term, terms, is_lead, is_acting}
+use Rattle.trace_terms.specs.declared.role.Role.{Role}
+use Rattle.trace_terms.specs.declared.role.Role.TheVariants.{Leads, Ends, Zones, Taints, Acts, Idles}
+use Rattle.trace_terms.specs.declared.mark.Mark.{Mark}
+use Rattle.trace_terms.specs.Entries.{Entry}
+use Rattle.trace_terms.specs.Terms.{Term, terms, is_lead, is_acting}
 
 -- ---- the first of some lines
 

@@ -1,26 +1,13 @@
-// What a line means for the terms of a trace.
+// What the words of a line mean for the terms.
 ghost use Rattle.std.specs.Prelude.{◌≡◌};
-ghost use Rattle.trace_audit.specs.Entries.{role_of, played};
+ghost use Rattle.trace_terms.specs.Entries.{played};
 ghost use Rattle.trace_lines.specs.Reads.{said};
+ghost use Rattle.trace_audit.specs.Entries.{role_of};
 
 use trace_lines::Says;
+use trace_terms::Role;
 
-/// What a line means for the terms of a trace. An acting line is one of zones, of taints or another.
-#[derive(Drop)]
-pub(crate) enum Role<T> {
-    /// It begins a term.
-    Leads,
-    /// It ends the terms of its actor.
-    Ends,
-    /// The zone `REGION/ZONE` has this rate.
-    Zones(T, u32),
-    Taints,
-    /// It acts in another way.
-    Acts,
-    /// It means nothing for terms.
-    Idles,
-}
-
+/// What the words of a line mean for the terms.
 pub(crate) fn role_played<'a>(says: &Says<&'a [u8]>) -> Role<&'a [u8]>
     ensures { played result ≡ role_of (said says.now) }
 {

@@ -2,9 +2,9 @@
 use Rattle.std.specs.Prelude.{◌≡◌, ℕ, ◌==◌, not, nat_lt, Bool, List, [], ◌∷◌, slice_get, Option, Some, None, if◌then◌else◌}
 use Rattle.std.specs.List.{filter}
 use Rattle.std.specs.Str.{bytes_eq}
-use Rattle.trace_audit.specs.declared.nearest.Nearest.{Nearest}
-use Rattle.trace_audit.specs.declared.nearest.Span.{Span}
-use Rattle.trace_audit.specs.Terms.{Term}
+use Rattle.trace_terms.specs.declared.nearest.Nearest.{Nearest}
+use Rattle.trace_terms.specs.declared.nearest.Span.{Span}
+use Rattle.trace_terms.specs.Terms.{Term}
 
 abbrev pub another_of : Option Span → Option Span → ℕ → Option Span
 another_of None other who = None
