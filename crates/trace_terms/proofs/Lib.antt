@@ -1,3 +1,5 @@
 pub mod Least
+pub mod SeatsLaws
 pub mod NearLaws
 pub mod SeatLaws
+pub mod ReviewLaws

@@ -4,21 +4,18 @@ use Rattle.std.specs.List.{filter}
 use Rattle.std.specs.Str.{bytes_eq}
 use Rattle.std.proofs.lemmas.Bool.Decides.{nat_tests}
 use Rattle.std.proofs.lemmas.Slice.Eq.{bytes_eq-Decides}
-use Rattle.kube_base.specs.Names.{number_of, EachOnce}
 use Rattle.trace_terms.specs.declared.nearest.Span.{Span}
 use Rattle.trace_terms.specs.Entries.{Entry}
 use Rattle.trace_terms.specs.Terms.{Term, terms, term_of, is_lead}
 use Rattle.trace_terms.specs.Findings.{earlier, least, crosses}
 use Rattle.trace_terms.specs.Near.{another_of, begun_before, live, others, IsSpan, IsFirst, IsOther}
-use Rattle.trace_terms.specs.Seats.{AreAfter, InOrder}
+use Rattle.trace_terms.specs.Seats.{AreAfter, InOrder, Once}
+use Rattle.trace_terms.proofs.SeatsLaws.{one-place}
 
 -- ---- who is nearest
 
-one-place : (actors : List (List ℕ)) → EachOnce actors → (p q : ℕ) (a : List ℕ) → slice_get actors p ≡ Some a → slice_get actors q ≡ Some a → p ≡ q
-one-place actors once p q a at there = let e : Some p ≡ Some q = sym (once p a at) ∙ once q a there in cc
-
 -- the first span of another is the first of the terms of others
-pub another-first : (actors : List (List ℕ)) (ts : List Term) (first other : Option Span) (p : ℕ) (a : List ℕ) → EachOnce actors → slice_get actors p ≡ Some a
+pub another-first : (actors : List (List ℕ)) (ts : List Term) (first other : Option Span) (p : ℕ) (a : List ℕ) → Once actors → slice_get actors p ≡ Some a
     → IsFirst actors ts first → IsOther actors ts other → IsFirst actors (others a ts) (another_of first other p)
 another-first actors [] None other p a once at f o = tt
 another-first actors [] (Some s) other p a once at f o = absurd f

@@ -1,21 +1,21 @@
 -- What was found in the lines of a trace from the last one back.
-use Rattle.std.specs.Prelude.{◌≡◌, ℕ, ◌+◌, Bool, false, List, length, count_by}
+use Rattle.std.specs.Prelude.{◌≡◌, ℕ, ◌+◌, nat_lt, Bool, false, List, length, count_by, slice_get, slice_set, Some, if◌then◌else◌}
 use Rattle.std.specs.List.{list_any, flat_map}
 use Rattle.std.specs.Str.{bytes_eq}
-use Rattle.kube_base.specs.Names.{EachOnce}
 use Rattle.trace_terms.specs.declared.review.Review.{Review}
 use Rattle.trace_terms.specs.Entries.{Entry}
 use Rattle.trace_terms.specs.Terms.{terms, is_lead, is_taint}
-use Rattle.trace_terms.specs.Findings.{least, crossed, outside_term, unspaced}
-use Rattle.trace_terms.specs.Near.{NearestStands}
-use Rattle.trace_terms.specs.Seats.{blank, SeatStands, AllSit, InOrder}
+use Rattle.trace_terms.specs.Findings.{earlier, least, crossed, outside_term, soon, unspaced}
+use Rattle.trace_terms.specs.Near.{NearestStands, another, begun_before}
+use Rattle.trace_terms.specs.declared.seat.Seat.{Seat}
+use Rattle.trace_terms.specs.Seats.{blank, SeatStands, AllSit, InOrder, Once}
 
 -- what was found in the lines that follow a place
 pub record ReviewStands (millis end : ℕ) (es : List Entry) (r : Review) : Type 0 where
   pub millis_is : r.millis ≡ millis
   pub end_is : r.end ≡ end
   pub order : InOrder es
-  pub once : EachOnce r.actors
+  pub once : Once r.actors
   pub seats : AllSit (SeatStands (end + 1) es) r.actors r.seats.items
   pub absent : (who : List ℕ) → list_any (bytes_eq who) r.actors ≡ false → SeatStands (end + 1) es who (blank (end + 1))
   pub nearest : NearestStands r.actors (terms (end + 1) es) r.nearest
@@ -25,3 +25,25 @@ pub record ReviewStands (millis end : ℕ) (es : List Entry) (r : Review) : Type
   pub leads_is : r.leads ≡ count_by (λ e. is_lead e.role) es
   pub taints_is : r.taints ≡ count_by (λ e. is_taint e.role) es
 
+
+-- a step that counts nothing
+pub record IsCounted (old new : Review) : Type 0 where
+  pub leads : new.leads ≡ old.leads
+  pub taints : new.taints ≡ old.taints
+  pub end : new.end ≡ old.end
+
+-- a lead of the identity at a place
+pub record Led (place beat line : ℕ) (old new : Review) : Type 0 where
+  pub millis : new.millis ≡ old.millis
+  pub end : new.end ≡ old.end
+  pub actors : new.actors ≡ old.actors
+  pub leads : new.leads ≡ old.leads + 1
+  pub taints : new.taints ≡ old.taints
+  pub seats : (s : Seat) → slice_get old.seats.items place ≡ Some s → new.seats.items ≡ slice_set old.seats.items place (blank s.to)
+  pub outside : (s : Seat) → slice_get old.seats.items place ≡ Some s → new.findings.outside ≡ earlier s.late old.findings.outside
+  pub unspaced : (s : Seat) → slice_get old.seats.items place ≡ Some s
+      → new.findings.unspaced ≡ earlier (least (soon old.millis s.rate (length s.zones) s.start s.taints)) old.findings.unspaced
+  pub crossed : (s : Seat) → slice_get old.seats.items place ≡ Some s → new.findings.crossed
+      ≡ (if nat_lt beat s.to then earlier (begun_before s.to (another old.nearest place)) old.findings.crossed else old.findings.crossed)
+  pub nearest : (s : Seat) → slice_get old.seats.items place ≡ Some s → new.nearest
+      ≡ (if nat_lt beat s.to then record { first = Some (record { who = place; from = beat; line = line }); other = another old.nearest place } else old.nearest)

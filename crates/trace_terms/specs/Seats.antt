@@ -1,6 +1,6 @@
 -- What is kept of one identity, from the last line of a trace back.
-use Rattle.std.specs.Prelude.{◌≡◌, ℕ, nat_le, nat_lt, Bool, true, List, [], ◌∷◌, ◌++◌, max, Option, Some, None, if◌then◌else◌}
-use Rattle.std.specs.List.{filter}
+use Rattle.std.specs.Prelude.{◌≡◌, ℕ, nat_le, nat_lt, Bool, true, false, List, [], ◌∷◌, ◌++◌, max, Option, Some, None, if◌then◌else◌}
+use Rattle.std.specs.List.{filter, list_any}
 use Rattle.std.specs.Str.{bytes_eq}
 use Rattle.kube_base.specs.Names.{with_name}
 use Rattle.trace_terms.specs.declared.mark.Mark.{Mark}
@@ -64,3 +64,8 @@ AreAfter beat line (e ∷ es) = (nat_le beat e.beat ≡ true) × (nat_le line e.
 abbrev pub InOrder : List Entry → Type 0
 InOrder [] = Unit {0}
 InOrder (e ∷ es) = AreAfter e.beat e.line es × InOrder es
+
+-- each identity stands at one place alone
+abbrev pub Once : List (List ℕ) → Type 0
+Once [] = Unit {0}
+Once (k ∷ ks) = (list_any (bytes_eq k) ks ≡ false) × Once ks

@@ -1,10 +1,10 @@
 // The terms of a trace, looked at from its last line to its first.
-ghost use Rattle.std.specs.Prelude.{◌≡◌, ℕ, ◌+◌, ◌<◌, ◌≤◌, ◌^◌, List, [], ◌∷◌, OnOk};
+ghost use Rattle.std.specs.Prelude.{◌≡◌, ℕ, ◌+◌, ◌<◌, ◌≤◌, ◌^◌, List, [], ◌∷◌, length, slice_get, Some, OnOk, IfOk};
 ghost use Rattle.trace_terms.specs.Entries.{Entry, played};
 ghost use Rattle.trace_terms.specs.Findings.{least, outside};
 ghost use Rattle.trace_terms.specs.Terms.{terms};
 ghost use Rattle.trace_terms.specs.Seats.{AreAfter};
-ghost use Rattle.trace_terms.specs.Reviews.{ReviewStands};
+ghost use Rattle.trace_terms.specs.Reviews.{ReviewStands, IsCounted, Led};
 
 use crate::earlier::earlier;
 use crate::nearest::{Nearest, Span};
@@ -73,10 +73,15 @@ impl Review {
         role: Role<&[u8]>,
     ) -> Result<(), NoMemory>
         requires end { self.old.end ≤ 604800000 }
-        requires leads { self.old.leads < 2 ^ 63 }
-        requires taints { self.old.taints < 2 ^ 63 }
-        ensures { (millis end : ℕ) (es : List Entry) → ReviewStands millis end es self.old → AreAfter beat number es
+        requires even { length self.old.seats.items ≡ length self.old.actors }
+        requires leads { self.old.leads + 1 < 2 ^ 64 }
+        requires taints { self.old.taints + 1 < 2 ^ 64 }
+        ensures stands { (millis end : ℕ) (es : List Entry) → ReviewStands millis end es self.old → AreAfter beat number es
             → OnOk result (ReviewStands millis end (record { line = number; beat = beat; actor = actor.now; role = played role.entry } ∷ es) self.new) }
+        ensures even { OnOk result (length self.new.seats.items ≡ length self.new.actors) }
+        ensures end { self.new.end ≡ self.old.end }
+        ensures leads { self.new.leads ≤ self.old.leads + 1 }
+        ensures taints { self.new.taints ≤ self.old.taints + 1 }
     {
         match role {
             Role::Idles => Ok(()),
@@ -90,34 +95,48 @@ impl Review {
                 self.taints += 1;
                 self.seats[place].take(Role::Taints, beat, number)
             }
-            role => {
+            Role::Ends => {
                 let place = self.place(actor)?;
-                self.seats[place].take(role, beat, number)
+                self.seats[place].take(Role::Ends, beat, number)
+            }
+            Role::Acts => {
+                let place = self.place(actor)?;
+                self.seats[place].take(Role::Acts, beat, number)
+            }
+            Role::Zones(zone, rate) => {
+                let place = self.place(actor)?;
+                self.seats[place].take(Role::Zones(zone, rate), beat, number)
             }
         }
     }
 
     /// The place of an actor among the seats.
     fn place(&mut self, actor: &[u8]) -> Result<usize, NoMemory>
-        requires { self.old.end ≤ 604800000 }
+        requires end { self.old.end ≤ 604800000 }
+        requires even { length self.old.seats.items ≡ length self.old.actors }
+        ensures stands { (millis end : ℕ) (es : List Entry) → ReviewStands millis end es self.old → OnOk result (ReviewStands millis end es self.new) }
+        ensures at { IfOk result (λ place. slice_get self.new.actors place ≡ Some actor.now) }
+        ensures within { IfOk result (λ place. place < length self.new.seats.items) }
+        ensures even { OnOk result (length self.new.seats.items ≡ length self.new.actors) }
+        ensures same { IsCounted self.old self.new }
     {
         let place = self.actors.place(actor)?;
-        if place >= self.seats.len() {
-            self.seats
-                .push(Seat::new(self.alloc, self.end + 1))?;
+        if self.seats.len() < self.actors.len() {
+            self.seats.push(Seat::new(self.alloc, self.end + 1))?;
         }
         Ok(place)
     }
 
     /// A lead comes before: what was kept for its term is looked at.
-    fn lead(&mut self, place: usize, beat: u32, line: u64) {
+    fn lead(&mut self, place: usize, beat: u32, line: u64)
+        requires within { place < length self.old.seats.items }
+        requires leads { self.old.leads + 1 < 2 ^ 64 }
+        ensures { Led place beat line self.old self.new }
+    {
         let seat = &self.seats[place];
         let to = seat.to;
         self.findings.outside = earlier(seat.late, self.findings.outside);
-        self.findings.unspaced = earlier(
-            seat.unspaced(self.millis),
-            self.findings.unspaced,
-        );
+        self.findings.unspaced = earlier(seat.unspaced(self.millis), self.findings.unspaced);
         if beat < to {
             self.findings.crossed = earlier(
                 self.nearest.crossed(place, to),

@@ -1,6 +1,7 @@
 // Texts that are kept once each.
 ghost use Rattle.std.specs.Prelude.{◌≡◌, [], map, length, IfOk, OnOk, OnErr};
-ghost use Rattle.kube_base.specs.Names.{number_in, with_name, EachOnce};
+ghost use Rattle.kube_base.specs.Names.{number_in, with_name};
+ghost use Rattle.trace_terms.specs.Seats.{Once};
 
 use indexmap::IndexSet;
 use kube_base::NoMemory;
@@ -36,7 +37,7 @@ impl Roll {
     /// How many texts there are.
     pub fn len(&self) -> usize
         ensures len { result ≡ length self.now }
-        ensures once { EachOnce self.now }
+        ensures once { Once self.now }
     {
         self.texts.len()
     }

@@ -1,0 +1,198 @@
+-- What was found in the lines of a trace stands behind one line more.
+use Rattle.std.proofs.Common.{◌≡◌, ℕ, ◌+◌, nat_le, nat_lt, Bool, true, false, cond, not, ◌&&◌, List, [], ◌∷◌, ◌++◌, length, count_by, map, min, max, slice_get, Option, Some, None, refl, sym, ap, subst, ◌∙◌, arith}
+use Rattle.std.proofs.Math.ListN.{set}
+use Rattle.std.specs.List.{filter, flat_map, list_any}
+use Rattle.std.specs.Str.{bytes_eq}
+use Rattle.std.proofs.lemmas.Bool.Decides.{nat_tests}
+use Rattle.std.proofs.lemmas.Slice.Eq.{bytes_eq-Decides}
+use Rattle.trace_terms.specs.declared.review.Review.{Review}
+use Rattle.trace_terms.specs.declared.role.Role.{Role}
+use Rattle.trace_terms.specs.declared.role.Role.TheVariants.{Leads, Ends, Zones, Taints, Acts, Idles}
+use Rattle.trace_terms.specs.declared.seat.Seat.{Seat}
+use Rattle.trace_terms.specs.Entries.{Entry}
+use Rattle.trace_terms.specs.Terms.{Term, terms, term_of, ended, own, is_lead, is_taint, is_acting}
+use Rattle.trace_terms.specs.Findings.{earlier, least, numbers, crosses, crossed, outside_term, soon, unspaced, unspaced_acts, zones_of, rate_of, start_of, taints_of}
+use Rattle.trace_terms.specs.Near.{another, begun_before, live, others, IsFirst, IsOther, NearestStands}
+use Rattle.trace_terms.specs.Seats.{blank, after, SeatStands, AllSit, AreAfter, InOrder, Once}
+use Rattle.trace_terms.specs.Reviews.{ReviewStands, Led}
+use Rattle.trace_terms.proofs.Least.{least-append}
+use Rattle.trace_terms.proofs.NearLaws.{TermsAfter, TermsInOrder, another-first, terms-after, terms-in-order, crossed-first}
+use Rattle.trace_terms.proofs.SeatLaws.{seat-other, seat-led, own-after}
+use Rattle.trace_terms.proofs.SeatsLaws.{all-sit-map, all-sit-set, all-sit-at, held-at}
+
+-- ---- terms
+
+terms-same : (stop : ℕ) (e : Entry) (es : List Entry) → is_lead e.role ≡ false → terms stop (e ∷ es) ≡ terms stop es
+unfolding terms
+terms-same stop e es no = ap (λ b. cond b (term_of stop e es ∷ terms stop es) (terms stop es)) no
+
+terms-more : (stop : ℕ) (e : Entry) (es : List Entry) → is_lead e.role ≡ true → terms stop (e ∷ es) ≡ term_of stop e es ∷ terms stop es
+unfolding terms
+terms-more stop e es yes = ap (λ b. cond b (term_of stop e es ∷ terms stop es) (terms stop es)) yes
+
+-- ---- a term that crosses
+
+dead : (from to c d : ℕ) → nat_lt from to ≡ false → nat_lt (max from c) (min to d) ≡ false
+dead from to c d no = grind (arith, nat_tests)
+
+and-false : (b : Bool) → (b && false) ≡ false
+and-false true = refl
+and-false false = refl
+
+crosses-none : (t : Term) (ts : List Term) → nat_lt t.from t.to ≡ false → filter (crosses t) ts ≡ []
+crosses-none t [] no = refl
+crosses-none t (u ∷ us) no =
+    let miss : crosses t u ≡ false = ap (λ b. not (bytes_eq t.actor u.actor) && b) (dead t.from t.to u.from u.to no) ∙ and-false (not (bytes_eq t.actor u.actor)) in
+    ap (λ b. cond b (u ∷ filter (crosses t) us) (filter (crosses t) us)) miss ∙ crosses-none t us no
+
+-- ---- acting outside
+
+late-outside : (from to line : ℕ) (acts : List Entry) → AreAfter from line acts
+    → filter (λ a. not (nat_le from a.beat && nat_lt a.beat to)) acts ≡ filter (λ a. nat_le to a.beat) acts
+late-outside from to line [] h = refl
+late-outside from to line (a ∷ acts) h =
+    let test : not (nat_le from a.beat && nat_lt a.beat to) ≡ nat_le to a.beat =
+        ap (λ b. not (b && nat_lt a.beat to)) h.0 ∙ opposite a.beat to in
+    ap (λ b. cond b (a ∷ filter (λ a. not (nat_le from a.beat && nat_lt a.beat to)) acts) (filter (λ a. not (nat_le from a.beat && nat_lt a.beat to)) acts)) test
+    ∙ ap (λ l. cond (nat_le to a.beat) (a ∷ l) l) (late-outside from to line acts h.2)
+  where
+    opposite : (a to : ℕ) → not (nat_lt a to) ≡ nat_le to a
+    opposite a to = grind (arith, nat_tests)
+
+-- ---- a line of no lead
+
+-- the other fields where the terms stay
+with_seats : (millis end : ℕ) (e : Entry) (es : List Entry) (old new : Review) → is_lead e.role ≡ false → AreAfter e.beat e.line es → ReviewStands millis end es old
+    → new.millis ≡ old.millis → new.end ≡ old.end → new.actors ≡ old.actors → new.nearest ≡ old.nearest → new.findings ≡ old.findings
+    → new.leads ≡ old.leads → new.taints ≡ cond (is_taint e.role) 1 0 + old.taints
+    → AllSit (SeatStands (end + 1) (e ∷ es)) old.actors new.seats.items
+    → ((who : List ℕ) → list_any (bytes_eq who) old.actors ≡ false → SeatStands (end + 1) (e ∷ es) who (blank (end + 1)))
+    → ReviewStands millis end (e ∷ es) new
+with_seats millis end e es old new no later h m n a near f leads taints seats absent = record {
+  millis_is = m ∙ h.millis_is;
+  end_is = n ∙ h.end_is;
+  order = (later, h.order);
+  once = subst Once (sym a) h.once;
+  seats = subst (λ ks. AllSit (SeatStands (end + 1) (e ∷ es)) ks new.seats.items) (sym a) seats;
+  absent = subst (λ ks. (who : List ℕ) → list_any (bytes_eq who) ks ≡ false → SeatStands (end + 1) (e ∷ es) who (blank (end + 1))) (sym a) absent;
+  nearest = subst (λ ts. NearestStands new.actors ts new.nearest) (sym (terms-same (end + 1) e es no))
+      (subst (λ ks. NearestStands ks (terms (end + 1) es) new.nearest) (sym a) (subst (λ x. NearestStands old.actors (terms (end + 1) es) x) (sym near) h.nearest));
+  crossed_is = ap (λ x. x.crossed) f ∙ h.crossed_is ∙ ap (λ ts. least (crossed ts)) (sym (terms-same (end + 1) e es no));
+  outside_is = ap (λ x. x.outside) f ∙ h.outside_is ∙ ap (λ ts. least (flat_map outside_term ts)) (sym (terms-same (end + 1) e es no));
+  unspaced_is = ap (λ x. x.unspaced) f ∙ h.unspaced_is ∙ ap (λ ts. least (unspaced millis ts)) (sym (terms-same (end + 1) e es no));
+  leads_is = leads ∙ h.leads_is ∙ ap (λ b. cond b 1 0 + count_by (λ e. is_lead e.role) es) (sym no);
+  taints_is = taints ∙ ap (λ n. cond (is_taint e.role) 1 0 + n) h.taints_is;
+}
+
+-- who isn't held isn't the actor of a line whose actor is
+not-held : (ks : List (List ℕ)) (place : ℕ) (a who : List ℕ) → slice_get ks place ≡ Some a → list_any (bytes_eq who) ks ≡ false → bytes_eq a who ≡ false
+not-held ks place a who at no = by (bytes_eq a who) refl
+  where
+    by : (b : Bool) → bytes_eq a who ≡ b → bytes_eq a who ≡ false
+    by false e = e
+    by true e =
+        let same : a ≡ who = (bytes_eq-Decides a who).0 e in
+        absurd (let bad : true ≡ false = sym (held-at ks a place at) ∙ subst (λ w. list_any (bytes_eq w) ks ≡ false) (sym same) no in cc)
+
+same-bytes : (a : List ℕ) → bytes_eq a a ≡ true
+same-bytes a = (bytes_eq-Decides a a).1 refl
+
+-- ---- a lead
+
+near-more : (actors : List (List ℕ)) (t : Term) (ts : List Term) (old : Review) (place : ℕ) → Once actors → slice_get actors place ≡ Some t.actor
+    → NearestStands actors ts old.nearest → (b : Bool) → nat_lt t.from t.to ≡ b
+    → NearestStands actors (t ∷ ts) (cond b (record { first = Some (record { who = place; from = t.from; line = t.line }); other = another old.nearest place }) old.nearest)
+near-more actors t ts old place once at h true e = record {
+  first = subst (λ c. IsFirst actors (cond c (t ∷ live ts) (live ts)) (Some (record { who = place; from = t.from; line = t.line }))) (sym e) (record { who = at; from = refl; line = refl });
+  other = subst (λ c. IsOther actors (cond c (t ∷ live ts) (live ts)) (another old.nearest place)) (sym e)
+      (another-first actors (live ts) old.nearest.first old.nearest.other place t.actor once at h.first h.other);
+}
+near-more actors t ts old place once at h false e = record {
+  first = subst (λ c. IsFirst actors (cond c (t ∷ live ts) (live ts)) old.nearest.first) (sym e) h.first;
+  other = subst (λ c. IsOther actors (cond c (t ∷ live ts) (live ts)) old.nearest.other) (sym e) h.other;
+}
+
+crossed-more : (actors : List (List ℕ)) (t : Term) (ts : List Term) (old : Review) (place : ℕ) → Once actors → slice_get actors place ≡ Some t.actor
+    → NearestStands actors ts old.nearest → TermsAfter t.from t.line ts → TermsInOrder ts → (b : Bool) → nat_lt t.from t.to ≡ b
+    → cond b (earlier (begun_before t.to (another old.nearest place)) (least (crossed ts))) (least (crossed ts)) ≡ least (crossed (t ∷ ts))
+unfolding crossed
+crossed-more actors t ts old place once at h later order true e =
+    ap (λ l. earlier l (least (crossed ts)))
+        (sym (crossed-first actors t ts (another old.nearest place) later order (another-first actors (live ts) old.nearest.first old.nearest.other place t.actor once at h.first h.other)))
+    ∙ sym (least-append (map (λ u. u.line) (filter (crosses t) ts)) (crossed ts))
+crossed-more actors t ts old place once at h later order false e =
+    ap (λ l. least (map (λ u. u.line) l ++ crossed ts)) (sym (crosses-none t ts e))
+
+outside-more : (stop : ℕ) (e : Entry) (es : List Entry) (s : Seat) → AreAfter e.beat e.line es → SeatStands stop es e.actor s
+    → earlier s.late (least (flat_map outside_term (terms stop es))) ≡ least (flat_map outside_term (term_of stop e es ∷ terms stop es))
+outside-more stop e es s later sits =
+    ap (λ l. earlier l (least (flat_map outside_term (terms stop es))))
+        (sits.late ∙ ap (λ l. least (numbers l)) (sym (late-outside e.beat (ended stop e.actor es) e.line (own e.actor es) (own-after e.beat e.line e.actor es later))))
+    ∙ sym (least-append (outside_term (term_of stop e es)) (flat_map outside_term (terms stop es)))
+
+soon-seat : (millis : ℕ) (acts : List Entry) (s : Seat) → s.rate ≡ rate_of acts → s.zones ≡ zones_of acts → s.start ≡ start_of acts → s.taints ≡ taints_of acts
+    → soon millis s.rate (length s.zones) s.start s.taints ≡ unspaced_acts millis acts
+unfolding unspaced_acts
+soon-seat millis acts s r z b t =
+    ap (λ n. soon millis n (length s.zones) s.start s.taints) r ∙ ap (λ l. soon millis (rate_of acts) (length l) s.start s.taints) z
+    ∙ ap (λ o. soon millis (rate_of acts) (length (zones_of acts)) o s.taints) b ∙ ap (λ l. soon millis (rate_of acts) (length (zones_of acts)) (start_of acts) l) t
+
+unspaced-more : (millis stop : ℕ) (e : Entry) (es : List Entry) (s : Seat) → SeatStands stop es e.actor s
+    → earlier (least (soon millis s.rate (length s.zones) s.start s.taints)) (least (unspaced millis (terms stop es))) ≡ least (unspaced millis (term_of stop e es ∷ terms stop es))
+unspaced-more millis stop e es s sits =
+    ap (λ l. earlier (least l) (least (unspaced millis (terms stop es)))) (soon-seat millis (own e.actor es) s sits.rate sits.zones sits.start sits.taints)
+    ∙ sym (least-append (unspaced_acts millis (own e.actor es)) (unspaced millis (terms stop es)))
+
+pub review-led : (millis end place : ℕ) (e : Entry) (es : List Entry) (old new : Review) → e.role ≡ Leads → AreAfter e.beat e.line es
+    → slice_get old.actors place ≡ Some e.actor → Led place e.beat e.line old new → ReviewStands millis end es old → ReviewStands millis end (e ∷ es) new
+review-led millis end place e es old new is later at led h = by (all-sit-at (SeatStands (end + 1) es) e.actor old.actors old.seats.items place at h.seats)
+  where
+    yes : is_lead e.role ≡ true
+    yes = ap (λ r. is_lead r) is
+
+    by : (s : Seat) × (slice_get old.seats.items place ≡ Some s) × SeatStands (end + 1) es e.actor s → ReviewStands millis end (e ∷ es) new
+    by (s, get, sits) = record {
+      millis_is = led.millis ∙ h.millis_is;
+      end_is = led.end ∙ h.end_is;
+      order = (later, h.order);
+      once = subst Once (sym led.actors) h.once;
+      seats = subst (λ ks. AllSit (SeatStands (end + 1) (e ∷ es)) ks new.seats.items) (sym led.actors)
+          (subst (λ ss. AllSit (SeatStands (end + 1) (e ∷ es)) old.actors ss) (sym (led.seats s get))
+          (all-sit-set (SeatStands (end + 1) es) (SeatStands (end + 1) (e ∷ es)) e.actor old.actors old.seats.items place (blank s.to) h.once at
+              (λ k t other p. seat-other (end + 1) k e es t other p) (seat-led (end + 1) e.actor e es s is (same-bytes e.actor) sits) h.seats));
+      absent = subst (λ ks. (who : List ℕ) → list_any (bytes_eq who) ks ≡ false → SeatStands (end + 1) (e ∷ es) who (blank (end + 1))) (sym led.actors)
+          (λ who no. seat-other (end + 1) who e es (blank (end + 1)) (not-held old.actors place e.actor who at no) (h.absent who no));
+      nearest = subst (λ ts. NearestStands new.actors ts new.nearest) (sym (terms-more (end + 1) e es yes))
+          (subst (λ ks. NearestStands ks (term_of (end + 1) e es ∷ terms (end + 1) es) new.nearest) (sym led.actors)
+          (subst (λ n. NearestStands old.actors (term_of (end + 1) e es ∷ terms (end + 1) es) n) (sym (led.nearest s get ∙ to_near s sits))
+          (near-more old.actors (term_of (end + 1) e es) (terms (end + 1) es) old place h.once at h.nearest (nat_lt e.beat (ended (end + 1) e.actor es)) refl)));
+      crossed_is = led.crossed s get ∙ to_crossed s sits
+          ∙ crossed-more old.actors (term_of (end + 1) e es) (terms (end + 1) es) old place h.once at h.nearest (terms-after (end + 1) e.beat e.line es later) (terms-in-order (end + 1) es h.order)
+              (nat_lt e.beat (ended (end + 1) e.actor es)) refl
+          ∙ ap (λ ts. least (crossed ts)) (sym (terms-more (end + 1) e es yes));
+      outside_is = led.outside s get ∙ ap (λ l. earlier s.late l) h.outside_is ∙ outside-more (end + 1) e es s later sits
+          ∙ ap (λ ts. least (flat_map outside_term ts)) (sym (terms-more (end + 1) e es yes));
+      unspaced_is = led.unspaced s get ∙ ap (λ m. earlier (least (soon m s.rate (length s.zones) s.start s.taints)) old.findings.unspaced) h.millis_is
+          ∙ ap (λ l. earlier (least (soon millis s.rate (length s.zones) s.start s.taints)) l) h.unspaced_is
+          ∙ unspaced-more millis (end + 1) e es s sits ∙ ap (λ ts. least (unspaced millis ts)) (sym (terms-more (end + 1) e es yes));
+      leads_is = led.leads ∙ ap (λ n. n + 1) h.leads_is ∙ one-lead;
+      taints_is = led.taints ∙ h.taints_is ∙ no-taint;
+    }
+      where
+        to_near : (s : Seat) → SeatStands (end + 1) es e.actor s
+            → cond (nat_lt e.beat s.to) (record { first = Some (record { who = place; from = e.beat; line = e.line }); other = another old.nearest place }) old.nearest
+            ≡ cond (nat_lt e.beat (ended (end + 1) e.actor es)) (record { first = Some (record { who = place; from = e.beat; line = e.line }); other = another old.nearest place }) old.nearest
+        to_near s sits = ap (λ n. cond (nat_lt e.beat n) (record { first = Some (record { who = place; from = e.beat; line = e.line }); other = another old.nearest place }) old.nearest) sits.until
+
+        to_crossed : (s : Seat) → SeatStands (end + 1) es e.actor s
+            → cond (nat_lt e.beat s.to) (earlier (begun_before s.to (another old.nearest place)) old.findings.crossed) old.findings.crossed
+            ≡ cond (nat_lt e.beat (ended (end + 1) e.actor es)) (earlier (begun_before (ended (end + 1) e.actor es) (another old.nearest place)) (least (crossed (terms (end + 1) es)))) (least (crossed (terms (end + 1) es)))
+        to_crossed s sits =
+            ap (λ n. cond (nat_lt e.beat n) (earlier (begun_before n (another old.nearest place)) old.findings.crossed) old.findings.crossed) sits.until
+            ∙ ap (λ l. cond (nat_lt e.beat (ended (end + 1) e.actor es)) (earlier (begun_before (ended (end + 1) e.actor es) (another old.nearest place)) l) l) h.crossed_is
+
+        one-lead : count_by (λ e. is_lead e.role) es + 1 ≡ cond (is_lead e.role) 1 0 + count_by (λ e. is_lead e.role) es
+        one-lead = let n : count_by (λ e. is_lead e.role) es + 1 ≡ 1 + count_by (λ e. is_lead e.role) es = omega arith in n ∙ ap (λ b. cond b 1 0 + count_by (λ e. is_lead e.role) es) (sym yes)
+
+        no-taint : count_by (λ e. is_taint e.role) es ≡ cond (is_taint e.role) 1 0 + count_by (λ e. is_taint e.role) es
+        no-taint = let n : count_by (λ e. is_taint e.role) es ≡ 0 + count_by (λ e. is_taint e.role) es = omega arith in n ∙ ap (λ r. cond (is_taint r) 1 0 + count_by (λ e. is_taint e.role) es) (sym is)
