@@ -1,5 +1,5 @@
 -- What is known of a trace's lines from the last one back.
-use Rattle.std.specs.Prelude.{◌≡◌, ℕ, ◌+◌, List, [], ◌∷◌, Option, Some, None, Result, Ok, Err}
+use Rattle.std.specs.Prelude.{◌≡◌, ℕ, ◌+◌, ◌≤◌, nat_lt, Bool, false, List, [], ◌∷◌, length, Option, Some, None, Result, Ok, Err}
 use Rattle.trace_lines.specs.declared.header.Header.{Header}
 use Rattle.trace_lines.specs.declared.line.Line.{Line}
 use Rattle.trace_lines.specs.Forms.{line_of}
@@ -26,6 +26,15 @@ pub record PassStands (header : Header) (number : ℕ) (lines : List (List ℕ))
   pub wrong : p.wrong ≡ first_wrong header.end number 0 lines
   pub next : p.next ≡ next_beat lines
   pub review : p.wrong ≡ None → ReviewStands header.beat_millis header.end (entries_of number lines) p.review
+
+-- what a pass counts with
+pub record IsReady (p : Pass) : Type 0 where
+  pub end : p.review.end ≤ 604800000
+  pub even : length p.review.seats.items ≡ length p.review.actors
+
+abbrev pub is_below : Option ℕ → ℕ → Bool
+is_below None other = false
+is_below (Some beat) other = nat_lt beat other
 
 -- a report, or the first fault, unless memory ran out
 abbrev pub Fails : {A : Type 0} → AuditFault → Result A Fault → Type 0

@@ -1,7 +1,9 @@
 // The audit of a trace.
-ghost use Rattle.std.specs.Prelude.{◌≡◌, count_by, ◌==◌};
+ghost use Rattle.std.specs.Prelude.{◌≡◌, ◌≤◌, ◌<◌, count_by, ◌==◌, ℕ, List, [], ◌∷◌, ◌++◌, length, MatchOption, IfSome, IfOk};
+ghost use Rattle.trace_lines.specs.declared.header.Header.{Header};
+ghost use Rattle.trace_audit.specs.Entries.{lines_of};
 ghost use Rattle.trace_audit.specs.Verdict as spec;
-ghost use Rattle.trace_audit.specs.Passes.{Tells};
+ghost use Rattle.trace_audit.specs.Passes.{Tells, PassStands};
 
 use crate::fault::AuditFault;
 use crate::pass::Pass;
@@ -59,7 +61,11 @@ fn feeds(text: &[u8]) -> u64
 }
 
 /// What is found in the lines behind the first, of which the last ended one has this number.
-fn pass_over(alloc: Global, header: Header, lines: u64, text: &[u8]) -> Result<Pass, NoMemory> {
+fn pass_over(alloc: Global, header: Header, lines: u64, text: &[u8]) -> Result<Pass, NoMemory>
+    requires end { header.end ≤ 604800000 }
+    requires lines { lines ≡ length (lines_of text.now) }
+    ensures { IfOk result (λ pass. PassStands header 2 (lines_of text.now) pass) }
+{
     let (mut rest, last) = last_line(text);
     let mut number = lines + 1;
     let mut pass = Pass::new(alloc, header, number, last);
@@ -73,7 +79,10 @@ fn pass_over(alloc: Global, header: Header, lines: u64, text: &[u8]) -> Result<P
 }
 
 /// What stands before the last line feed, if there is one, and what stands behind it.
-fn last_line(text: &[u8]) -> (Option<&[u8]>, &[u8]) {
+fn last_line(text: &[u8]) -> (Option<&[u8]>, &[u8])
+    ensures lines { MatchOption result.0 (lines_of text.now ≡ result.1.now ∷ []) (λ before. lines_of text.now ≡ lines_of before.now ++ result.1.now ∷ []) }
+    ensures shorter { IfSome result.0 (λ before. length before.now < length text.now) }
+{
     let mut at = text.len();
     while at > 0 {
         if text[at - 1] == b'\n' {
@@ -84,7 +93,9 @@ fn last_line(text: &[u8]) -> (Option<&[u8]>, &[u8]) {
     (None, text)
 }
 
-fn verdict(lines: u64, pass: &Pass) -> Result<Report, AuditFault> {
+fn verdict(lines: u64, pass: &Pass) -> Result<Report, AuditFault>
+    ensures { (header : Header) (text : List (List ℕ)) → PassStands header 2 text pass.now → lines ≡ length text → Tells result (spec.judged header text) }
+{
     if let Some(line) = pass.wrong {
         return Err(AuditFault::Refused(BAD_TRACE, line));
     }

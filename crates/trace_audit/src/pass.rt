@@ -1,6 +1,9 @@
 // The lines of a trace, read from the last to the first.
 ghost use Rattle.std.specs.Prelude.{◌≡◌, ◌+◌, ◌<◌, ◌≤◌, ◌^◌, ◌==◌, List, ℕ, [], ◌∷◌, length, OnOk, if◌then◌else◌, Some, None};
-ghost use Rattle.trace_audit.specs.Passes.{PassStands};
+ghost use Rattle.trace_lines.specs.declared.header.Header.{Header};
+ghost use Rattle.trace_lines.specs.Forms.{line_of};
+ghost use Rattle.trace_lines.specs.Reads.{seen};
+ghost use Rattle.trace_audit.specs.Passes.{PassStands, IsReady, is_below};
 
 use crate::role_played::role_played;
 use kube_base::NoMemory;
@@ -35,10 +38,15 @@ impl Pass {
 
     /// Takes the line before those so far.
     pub(crate) fn take(&mut self, number: u64, text: &[u8]) -> Result<(), NoMemory>
-        requires number { number < 2 ^ 64 - 1 }
-        requires end { self.old.header.end ≤ 604800000 }
-        ensures { (header : Header) (line : List ℕ) (lines : List (List ℕ)) → PassStands header (number + 1) (line ∷ lines) self.old
+        requires number { number + 1 < 2 ^ 64 }
+        requires ready { IsReady self.old }
+        requires leads { self.old.review.leads + 1 < 2 ^ 64 }
+        requires taints { self.old.review.taints + 1 < 2 ^ 64 }
+        ensures stands { (header : Header) (line : List ℕ) (lines : List (List ℕ)) → PassStands header (number + 1) (line ∷ lines) self.old
             → OnOk result (PassStands header number (text.now ∷ line ∷ lines) self.new) }
+        ensures ready { OnOk result (IsReady self.new) }
+        ensures leads { self.new.review.leads ≤ self.old.review.leads + 1 }
+        ensures taints { self.new.review.taints ≤ self.old.review.taints + 1 }
     {
         match read_line(text) {
             Some(line) => self.take_line(number, &line),
@@ -51,8 +59,15 @@ impl Pass {
     }
 
     fn take_line(&mut self, number: u64, line: &Line<&[u8]>) -> Result<(), NoMemory>
-        requires number { number < 2 ^ 64 - 1 }
-        requires end { self.old.header.end ≤ 604800000 }
+        requires number { number + 1 < 2 ^ 64 }
+        requires ready { IsReady self.old }
+        requires leads { self.old.review.leads + 1 < 2 ^ 64 }
+        requires taints { self.old.review.taints + 1 < 2 ^ 64 }
+        ensures stands { (header : Header) (text before : List ℕ) (lines : List (List ℕ)) → line_of text ≡ Some (seen line.now)
+            → PassStands header (number + 1) (before ∷ lines) self.old → OnOk result (PassStands header number (text ∷ before ∷ lines) self.new) }
+        ensures ready { OnOk result (IsReady self.new) }
+        ensures leads { self.new.review.leads ≤ self.old.review.leads + 1 }
+        ensures taints { self.new.review.taints ≤ self.old.review.taints + 1 }
     {
         if line.beat > self.header.end {
             self.wrong = Some(number);
@@ -68,7 +83,9 @@ impl Pass {
     }
 }
 
-fn is_before(beat: Option<u32>, other: u32) -> bool {
+fn is_before(beat: Option<u32>, other: u32) -> bool
+    ensures { result ≡ is_below beat other }
+{
     match beat {
         Some(beat) => beat < other,
         None => false,

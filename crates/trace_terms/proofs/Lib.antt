@@ -3,3 +3,4 @@ pub mod SeatsLaws
 pub mod NearLaws
 pub mod SeatLaws
 pub mod ReviewLaws
+pub mod StrayLaws

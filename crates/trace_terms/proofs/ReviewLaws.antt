@@ -1,10 +1,11 @@
 -- What was found in the lines of a trace stands behind one line more.
-use Rattle.std.proofs.Common.{◌≡◌, ℕ, ◌+◌, nat_le, nat_lt, Bool, true, false, cond, not, ◌&&◌, List, [], ◌∷◌, ◌++◌, length, count_by, map, min, max, slice_get, Option, Some, None, refl, sym, ap, subst, ◌∙◌, arith}
+use Rattle.std.proofs.Common.{◌≡◌, ℕ, zero, suc, ◌+◌, nat_le, nat_lt, Bool, true, false, cond, not, ◌&&◌, ◌||◌, List, [], ◌∷◌, ◌++◌, length, count_by, map, min, max, slice_get, Option, Some, None, refl, sym, ap, subst, ◌∙◌, arith}
 use Rattle.std.proofs.Math.ListN.{set}
 use Rattle.std.specs.List.{filter, flat_map, list_any}
 use Rattle.std.specs.Str.{bytes_eq}
 use Rattle.std.proofs.lemmas.Bool.Decides.{nat_tests}
 use Rattle.std.proofs.lemmas.Slice.Eq.{bytes_eq-Decides}
+use Rattle.trace_terms.specs.declared.nearest.Span.{Span}
 use Rattle.trace_terms.specs.declared.review.Review.{Review}
 use Rattle.trace_terms.specs.declared.role.Role.{Role}
 use Rattle.trace_terms.specs.declared.role.Role.TheVariants.{Leads, Ends, Zones, Taints, Acts, Idles}
@@ -17,8 +18,8 @@ use Rattle.trace_terms.specs.Seats.{blank, after, SeatStands, AllSit, AreAfter, 
 use Rattle.trace_terms.specs.Reviews.{ReviewStands, Led}
 use Rattle.trace_terms.proofs.Least.{least-append}
 use Rattle.trace_terms.proofs.NearLaws.{TermsAfter, TermsInOrder, another-first, terms-after, terms-in-order, crossed-first}
-use Rattle.trace_terms.proofs.SeatLaws.{seat-other, seat-led, own-after}
-use Rattle.trace_terms.proofs.SeatsLaws.{all-sit-map, all-sit-set, all-sit-at, held-at}
+use Rattle.trace_terms.proofs.SeatLaws.{seat-other, seat-led, seat-idles, seat-after, own-after}
+use Rattle.trace_terms.proofs.SeatsLaws.{all-sit-map, all-sit-set, all-sit-push, all-sit-at, held-at}
 
 -- ---- terms
 
@@ -196,3 +197,90 @@ review-led millis end place e es old new is later at led h = by (all-sit-at (Sea
 
         no-taint : count_by (λ e. is_taint e.role) es ≡ cond (is_taint e.role) 1 0 + count_by (λ e. is_taint e.role) es
         no-taint = let n : count_by (λ e. is_taint e.role) es ≡ 0 + count_by (λ e. is_taint e.role) es = omega arith in n ∙ ap (λ r. cond (is_taint r) 1 0 + count_by (λ e. is_taint e.role) es) (sym is)
+
+-- ---- other lines
+
+pub review-idles : (millis end : ℕ) (e : Entry) (es : List Entry) (r : Review) → e.role ≡ Idles → AreAfter e.beat e.line es → ReviewStands millis end es r
+    → ReviewStands millis end (e ∷ es) r
+review-idles millis end e es r is later h =
+    with_seats millis end e es r r (ap (λ x. is_lead x) is) later h refl refl refl refl refl refl none
+    (all-sit-map (SeatStands (end + 1) es) (SeatStands (end + 1) (e ∷ es)) r.actors r.seats.items (λ k s held p. seat-idles (end + 1) k e es s is p) h.seats)
+    (λ who no. seat-idles (end + 1) who e es (blank (end + 1)) is (h.absent who no))
+  where
+    none : r.taints ≡ cond (is_taint e.role) 1 0 + r.taints
+    none = let n : r.taints ≡ 0 + r.taints = omega arith in n ∙ ap (λ x. cond (is_taint x) 1 0 + r.taints) (sym is)
+
+-- a step that the identity at a place makes, other than a lead
+pub record Played (place beat line : ℕ) (role : Role (List ℕ)) (old new : Review) : Type 0 where
+  pub millis : new.millis ≡ old.millis
+  pub end : new.end ≡ old.end
+  pub actors : new.actors ≡ old.actors
+  pub nearest : new.nearest ≡ old.nearest
+  pub findings : new.findings ≡ old.findings
+  pub leads : new.leads ≡ old.leads
+  pub taints : new.taints ≡ cond (is_taint role) 1 0 + old.taints
+  pub seats : (s : Seat) → slice_get old.seats.items place ≡ Some s → new.seats.items ≡ set old.seats.items place (after role beat line s)
+
+pub review-plays : (millis end place : ℕ) (e : Entry) (es : List Entry) (old new : Review) → is_lead e.role ≡ false → AreAfter e.beat e.line es
+    → slice_get old.actors place ≡ Some e.actor → Played place e.beat e.line e.role old new → ReviewStands millis end es old → ReviewStands millis end (e ∷ es) new
+review-plays millis end place e es old new no later at p h =
+    by (all-sit-at (SeatStands (end + 1) es) e.actor old.actors old.seats.items place at h.seats)
+  where
+    by : (s : Seat) × (slice_get old.seats.items place ≡ Some s) × SeatStands (end + 1) es e.actor s → ReviewStands millis end (e ∷ es) new
+    by (s, get, sits) =
+        with_seats millis end e es old new no later h p.millis p.end p.actors p.nearest p.findings p.leads p.taints
+        (subst (λ ss. AllSit (SeatStands (end + 1) (e ∷ es)) old.actors ss) (sym (p.seats s get))
+            (all-sit-set (SeatStands (end + 1) es) (SeatStands (end + 1) (e ∷ es)) e.actor old.actors old.seats.items place (after e.role e.beat e.line s) h.once at
+                (λ k t other q. seat-other (end + 1) k e es t other q) (seat-after (end + 1) e.actor e.role e es s refl no later (same-bytes e.actor) sits) h.seats))
+        (λ who no. seat-other (end + 1) who e es (blank (end + 1)) (not-held old.actors place e.actor who at no) (h.absent who no))
+
+-- ---- one identity more
+
+get-front : (ks : List (List ℕ)) (k a : List ℕ) (n : ℕ) → slice_get ks n ≡ Some a → slice_get (ks ++ k ∷ []) n ≡ Some a
+get-front [] k a n at = absurd (let no : None ≡ Some a = at in cc)
+get-front (j ∷ ks) k a zero at = at
+get-front (j ∷ ks) k a (suc n) at = get-front ks k a n at
+
+first-grown : (ks : List (List ℕ)) (k : List ℕ) (ts : List Term) (s : Option Span) → IsFirst ks ts s → IsFirst (ks ++ k ∷ []) ts s
+first-grown ks k [] None h = tt
+first-grown ks k [] (Some s) h = absurd h
+first-grown ks k (t ∷ ts) None h = absurd h
+first-grown ks k (t ∷ ts) (Some s) h = record { who = get-front ks k t.actor s.who h.who; from = h.from; line = h.line }
+
+other-grown : (ks : List (List ℕ)) (k : List ℕ) (ts : List Term) (s : Option Span) → IsOther ks ts s → IsOther (ks ++ k ∷ []) ts s
+other-grown ks k [] s h = h
+other-grown ks k (t ∷ ts) s h = first-grown ks k (others t.actor ts) s h
+
+not-before : (ks : List (List ℕ)) (k who : List ℕ) → list_any (bytes_eq who) (ks ++ k ∷ []) ≡ false → list_any (bytes_eq who) ks ≡ false
+not-before [] k who no = refl
+not-before (j ∷ ks) k who no = by (bytes_eq who j) no
+  where
+    by : (b : Bool) → (b || list_any (bytes_eq who) (ks ++ k ∷ [])) ≡ false → (b || list_any (bytes_eq who) ks) ≡ false
+    by true no = absurd (let bad : true ≡ false = no in cc)
+    by false no = not-before ks k who no
+
+pub review-placed : (millis end : ℕ) (a : List ℕ) (es : List Entry) (old new : Review) → list_any (bytes_eq a) old.actors ≡ false
+    → new.millis ≡ old.millis → new.end ≡ old.end → new.nearest ≡ old.nearest → new.findings ≡ old.findings → new.leads ≡ old.leads → new.taints ≡ old.taints
+    → new.actors ≡ old.actors ++ a ∷ [] → new.seats.items ≡ old.seats.items ++ blank (old.end + 1) ∷ [] → Once new.actors
+    → ReviewStands millis end es old → ReviewStands millis end es new
+review-placed millis end a es old new no m n near f leads taints actors seats once h = record {
+  millis_is = m ∙ h.millis_is;
+  end_is = n ∙ h.end_is;
+  order = h.order;
+  once = once;
+  seats = subst (λ ks. AllSit (SeatStands (end + 1) es) ks new.seats.items) (sym actors)
+      (subst (λ ss. AllSit (SeatStands (end + 1) es) (old.actors ++ a ∷ []) ss) (sym (seats ∙ ap (λ n. old.seats.items ++ blank (n + 1) ∷ []) h.end_is))
+      (all-sit-push (SeatStands (end + 1) es) old.actors old.seats.items a (blank (end + 1)) h.seats (h.absent a no)));
+  absent = subst (λ ks. (who : List ℕ) → list_any (bytes_eq who) ks ≡ false → SeatStands (end + 1) es who (blank (end + 1))) (sym actors)
+      (λ who out. h.absent who (not-before old.actors a who out));
+  nearest = subst (λ ks. NearestStands ks (terms (end + 1) es) new.nearest) (sym actors)
+      (subst (λ x. NearestStands (old.actors ++ a ∷ []) (terms (end + 1) es) x) (sym near) (record {
+          first = first-grown old.actors a (live (terms (end + 1) es)) old.nearest.first h.nearest.first;
+          other = other-grown old.actors a (live (terms (end + 1) es)) old.nearest.other h.nearest.other;
+      }));
+  crossed_is = ap (λ x. x.crossed) f ∙ h.crossed_is;
+  outside_is = ap (λ x. x.outside) f ∙ h.outside_is;
+  unspaced_is = ap (λ x. x.unspaced) f ∙ h.unspaced_is;
+  leads_is = leads ∙ h.leads_is;
+  taints_is = taints ∙ h.taints_is;
+}

@@ -7,7 +7,7 @@ use Rattle.trace_terms.specs.declared.role.Role.{Role}
 use Rattle.trace_terms.specs.declared.role.Role.TheVariants.{Leads, Ends, Zones, Taints, Acts, Idles}
 use Rattle.trace_terms.specs.declared.seat.Seat.{Seat}
 use Rattle.trace_terms.specs.Entries.{Entry}
-use Rattle.trace_terms.specs.Terms.{ended, own, own_with, is_end, is_acting}
+use Rattle.trace_terms.specs.Terms.{ended, own, own_with, is_lead, is_end, is_acting}
 use Rattle.trace_terms.specs.Findings.{earlier, least, numbers, zones_of, zones_with, rate_of, rate_with, start_of, start_with, taints_of, taints_with, mark_of}
 use Rattle.trace_terms.specs.Seats.{blank, acted, zoned, tainted, after, Sits, SeatStands, AreAfter}
 
@@ -84,7 +84,7 @@ sits-act Acts to e acts s is acting h = record {
 
 -- ---- lines behind a beat
 
-own-after : (beat line : ℕ) (who : List ℕ) (es : List Entry) → AreAfter beat line es → AreAfter beat line (own who es)
+pub own-after : (beat line : ℕ) (who : List ℕ) (es : List Entry) → AreAfter beat line es → AreAfter beat line (own who es)
 unfolding own
 own-after beat line who [] h = tt
 own-after beat line who (e ∷ es) h = by (bytes_eq e.actor who) e.role (own-after beat line who es h.2)
@@ -156,3 +156,21 @@ pub seat-ends : (stop : ℕ) (who : List ℕ) (e : Entry) (es : List Entry) (s :
     → SeatStands stop es who s → SeatStands stop (e ∷ es) who (after Ends e.beat e.line s)
 seat-ends stop who e es s is later same h =
     moved stop who Ends e es _ is same (sits-end e.beat e.line (ended stop who es) (own who es) s (own-after e.beat e.line who es later) h)
+
+-- a line that means nothing leaves each seat
+pub seat-idles : (stop : ℕ) (who : List ℕ) (e : Entry) (es : List Entry) (s : Seat) → e.role ≡ Idles → SeatStands stop es who s → SeatStands stop (e ∷ es) who s
+seat-idles stop who e es s is h = by (bytes_eq e.actor who) refl
+  where
+    by : (b : Bool) → bytes_eq e.actor who ≡ b → SeatStands stop (e ∷ es) who s
+    by true same = moved stop who Idles e es s is same h
+    by false other = seat-other stop who e es s other h
+
+-- behind a line of its actor that is no lead
+pub seat-after : (stop : ℕ) (who : List ℕ) (role : Role (List ℕ)) (e : Entry) (es : List Entry) (s : Seat) → e.role ≡ role → is_lead role ≡ false
+    → AreAfter e.beat e.line es → bytes_eq e.actor who ≡ true → SeatStands stop es who s → SeatStands stop (e ∷ es) who (after role e.beat e.line s)
+seat-after stop who Leads e es s is no later same h = absurd (let bad : true ≡ false = no in cc)
+seat-after stop who Ends e es s is no later same h = seat-ends stop who e es s is later same h
+seat-after stop who (Zones zone rate) e es s is no later same h = seat-plays stop who (Zones zone rate) e es s is refl same h
+seat-after stop who Taints e es s is no later same h = seat-plays stop who Taints e es s is refl same h
+seat-after stop who Acts e es s is no later same h = seat-plays stop who Acts e es s is refl same h
+seat-after stop who Idles e es s is no later same h = seat-idles stop who e es s is h

@@ -83,7 +83,7 @@ all-sit-at P a (k ∷ ks) (s ∷ ss) (suc place) at h = all-sit-at P a ks ss pla
 
 -- ---- places
 
-held-at : (ks : List (List ℕ)) (a : List ℕ) (n : ℕ) → slice_get ks n ≡ Some a → list_any (bytes_eq a) ks ≡ true
+pub held-at : (ks : List (List ℕ)) (a : List ℕ) (n : ℕ) → slice_get ks n ≡ Some a → list_any (bytes_eq a) ks ≡ true
 held-at [] a n at = absurd (let no : None ≡ Some a = at in cc)
 held-at (k ∷ ks) a zero at = let same : a ≡ k = (let e : Some k ≡ Some a = at in cc) in ap (λ b. b || list_any (bytes_eq a) ks) ((bytes_eq-Decides a k).1 same)
 held-at (k ∷ ks) a (suc n) at = or-right (bytes_eq a k) (held-at ks a n at)

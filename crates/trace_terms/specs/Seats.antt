@@ -69,3 +69,8 @@ InOrder (e ∷ es) = AreAfter e.beat e.line es × InOrder es
 abbrev pub Once : List (List ℕ) → Type 0
 Once [] = Unit {0}
 Once (k ∷ ks) = (list_any (bytes_eq k) ks ≡ false) × Once ks
+
+-- the first acting line of all seats
+abbrev pub first_acting : List Seat → Option ℕ
+first_acting [] = None
+first_acting (s ∷ ss) = earlier s.first (first_acting ss)

@@ -1,7 +1,7 @@
 // A taint line.
 
 /// A taint line of a term.
-#[derive(Clone, Copy, Debug, PartialEq, Eq)]
+#[derive(Clone, Copy)]
 pub struct Mark {
     pub beat: u32,
     pub line: u64,

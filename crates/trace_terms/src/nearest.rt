@@ -3,7 +3,7 @@ ghost use Rattle.std.specs.Prelude.{◌≡◌, Some};
 ghost use Rattle.trace_terms.specs.Near as spec;
 
 /// A span that isn't empty: whose it is, by the place of the identity, its first beat and the line of its lead.
-#[derive(Clone, Copy, Debug, PartialEq, Eq)]
+#[derive(Clone, Copy)]
 pub struct Span {
     pub who: usize,
     pub from: u32,
@@ -11,7 +11,7 @@ pub struct Span {
 }
 
 /// The first span of all, and the first of another identity than that one's.
-#[derive(Clone, Copy, Debug, PartialEq, Eq)]
+#[derive(Clone, Copy)]
 pub struct Nearest {
     pub first: Option<Span>,
     pub other: Option<Span>,

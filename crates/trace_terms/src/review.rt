@@ -3,7 +3,7 @@ ghost use Rattle.std.specs.Prelude.{◌≡◌, ℕ, ◌+◌, ◌<◌, ◌≤◌,
 ghost use Rattle.trace_terms.specs.Entries.{Entry, played};
 ghost use Rattle.trace_terms.specs.Findings.{least, outside};
 ghost use Rattle.trace_terms.specs.Terms.{terms};
-ghost use Rattle.trace_terms.specs.Seats.{AreAfter};
+ghost use Rattle.trace_terms.specs.Seats.{AreAfter, first_acting};
 ghost use Rattle.trace_terms.specs.Reviews.{ReviewStands, IsCounted, Led};
 
 use crate::earlier::earlier;
@@ -15,7 +15,7 @@ use kube_base::NoMemory;
 use std::alloc::Global;
 
 /// The first line at fault so far, for each of three faults.
-#[derive(Clone, Copy, Debug, PartialEq, Eq)]
+#[derive(Clone, Copy)]
 pub struct Findings {
     /// A lead whose span shares a beat with an earlier one of another identity.
     pub crossed: Option<u64>,
@@ -156,10 +156,17 @@ impl Review {
     pub fn outside(&self) -> Option<u64>
         ensures { (millis end : ℕ) (es : List Entry) → ReviewStands millis end es self.now → result ≡ least (outside es (terms (end + 1) es)) }
     {
-        let mut found = self.findings.outside;
-        for seat in &self.seats {
-            found = earlier(found, seat.first);
-        }
-        found
+        earlier(self.findings.outside, first_of(&self.seats))
     }
+}
+
+/// The first acting line of all seats.
+fn first_of(seats: &[Seat]) -> Option<u64>
+    ensures { result ≡ first_acting seats.now }
+{
+    let mut found = None;
+    for seat in seats {
+        found = earlier(found, seat.first);
+    }
+    found
 }
