@@ -158,7 +158,11 @@ fn script_write(text: &[u8]) -> Option<(&[u8], u64)>
 {
     let (key, rest) = cut(text, b' ')?;
     let version = version(rest)?;
-    if is_key(key) { Some((key, version)) } else { None }
+    if is_key(key) {
+        Some((key, version))
+    } else {
+        None
+    }
 }
 
 #[tactic(auto, unfolding(crate::specs::Forms::by_kubelet))]
@@ -367,7 +371,11 @@ fn node_taint(text: &[u8]) -> Option<(&[u8], &[u8], Answer)>
     ensures { Reads (λ p. (p.0.now, p.1.now, p.2)) result (spec.node_taint text.now) }
 {
     let (node, word, answer) = node_word(text)?;
-    if is_taint(word) { Some((node, word, answer)) } else { None }
+    if is_taint(word) {
+        Some((node, word, answer))
+    } else {
+        None
+    }
 }
 
 /// `NODE WORD A`
@@ -378,7 +386,11 @@ fn node_word(text: &[u8]) -> Option<(&[u8], &[u8], Answer)>
     let (node, rest) = cut(text, b' ')?;
     let (word, rest) = cut(rest, b' ')?;
     let answer = change_of(rest)?;
-    if is_name(node) { Some((node, word, answer)) } else { None }
+    if is_name(node) {
+        Some((node, word, answer))
+    } else {
+        None
+    }
 }
 
 fn is_reason(text: &[u8]) -> bool

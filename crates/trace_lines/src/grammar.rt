@@ -134,9 +134,7 @@ pub(crate) fn is_label(text: &[u8]) -> bool
     if text.len() > 63 {
         return false;
     }
-    are_label_bytes(text)
-        && is_letter_or_digit(text[0])
-        && is_letter_or_digit(text[text.len() - 1])
+    are_label_bytes(text) && is_letter_or_digit(text[0]) && is_letter_or_digit(text[text.len() - 1])
 }
 
 fn are_label_bytes(text: &[u8]) -> bool

@@ -24,8 +24,14 @@ fn reads_lines(rt: HostRuntime) {
         ("53 c1_1 taint n1 not-ready conflict v=2", true),
         ("9 script put lease/default/db v=4", true),
         ("64 c1_0 mode on", false),
-        ("364 cm-b_1 evict default/web-c due=2024-01-01T00:06:04Z v=103", true),
-        ("364 cm-b_1 evict default/web-c due=2024-13-01T00:06:04Z v=103", false),
+        (
+            "364 cm-b_1 evict default/web-c due=2024-01-01T00:06:04Z v=103",
+            true,
+        ),
+        (
+            "364 cm-b_1 evict default/web-c due=2024-13-01T00:06:04Z v=103",
+            false,
+        ),
     ] {
         assert_eq!(rt; read_line(text.as_bytes()).is_some(), reads, "{text}");
     }

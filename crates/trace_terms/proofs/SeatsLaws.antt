@@ -113,3 +113,28 @@ module _ {A : Type 0} (f : A → List ℕ) where
   unfolding IsDistinct
   once-map [] d = tt
   once-map (k ∷ ks) d = (missing k ks d.0, once-map ks d.1)
+
+-- ---- a text that gets a place
+
+pub with-name-is : (names : List (List ℕ)) (a : List ℕ) (b : Bool) → list_any (bytes_eq a) names ≡ b → with_name names a ≡ cond b names (names ++ a ∷ [])
+unfolding with_name
+with-name-is names a b e = ap (λ c. cond c names (names ++ a ∷ [])) e
+
+one-plus : (n : ℕ) → 1 + n ≡ suc n
+one-plus n = omega arith
+
+pub number-at : (names : List (List ℕ)) (a : List ℕ) → slice_get (with_name names a) (number_in names a) ≡ Some a
+unfolding with_name number_in
+number-at [] a = refl
+number-at (k ∷ ks) a = by (bytes_eq a k) refl (number-at ks a)
+  where
+    next : (c : Bool) (n : ℕ) → slice_get (cond c ks (ks ++ a ∷ [])) n ≡ Some a → slice_get (cond c (k ∷ ks) (k ∷ (ks ++ a ∷ []))) (suc n) ≡ Some a
+    next true n e = e
+    next false n e = e
+
+    by : (b : Bool) → bytes_eq a k ≡ b → slice_get (cond (list_any (bytes_eq a) ks) ks (ks ++ a ∷ [])) (position_or_len (bytes_eq a) ks) ≡ Some a
+        → slice_get (cond (b || list_any (bytes_eq a) ks) (k ∷ ks) (k ∷ (ks ++ a ∷ []))) (cond (not b) (1 + position_or_len (bytes_eq a) ks) 0) ≡ Some a
+    by true e rest = ap (λ w. Some w) (sym ((bytes_eq-Decides a k).0 e))
+    by false e rest =
+        ap (λ n. slice_get (cond (list_any (bytes_eq a) ks) (k ∷ ks) (k ∷ (ks ++ a ∷ []))) n) (one-plus (position_or_len (bytes_eq a) ks))
+        ∙ next (list_any (bytes_eq a) ks) (position_or_len (bytes_eq a) ks) rest
