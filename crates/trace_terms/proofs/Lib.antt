@@ -1,6 +1,0 @@
-pub mod Least
-pub mod SeatsLaws
-pub mod NearLaws
-pub mod SeatLaws
-pub mod ReviewLaws
-pub mod StrayLaws

@@ -1,6 +1,0 @@
-pub mod Entries
-pub mod Findings
-pub mod Near
-pub mod Reviews
-pub mod Seats
-pub mod Terms
