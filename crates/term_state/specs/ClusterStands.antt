@@ -8,10 +8,10 @@ use Rattle.kube_objects.specs.Feeds.{is_among}
 use Rattle.kube_objects.specs.Keys.{key_eq}
 use Rattle.kube_objects.specs.Modes.{mode}
 use Rattle.kube_objects.specs.Newest.{has}
-use Rattle.kube_objects.specs.Seen.{is_pod, is_stale, is_synced, seen_pod}
+use Rattle.kube_objects.specs.Seen.{is_pod, seen_pod}
 use Rattle.evict_queue.specs.Queue.{due_in}
-use Rattle.watch_cache.specs.Stands.{CacheStands, synced_writes}
-use Rattle.tick_laws.specs.Judged.{is_dirty, seen_due, shown}
+use Rattle.watch_cache.specs.Stands.{CacheStands}
+use Rattle.tick_laws.specs.Judged.{is_dirty, seen_due}
 use Rattle.term_state.specs.declared.cluster.Cluster.{Cluster}
 
 -- whether a cluster has a node among those to untaint or swap
@@ -49,11 +49,3 @@ but_pod pod test key = test key && not (key_eq pod key)
 -- and without some keys
 abbrev pub but_pods : List Key → (Key → Bool) → Key → Bool
 but_pods keys test key = test key && not (is_among keys key)
-
--- the mode is on or off from g on, and nothing else differs from h
-pub record IsModeChange (q : Identity) (h g : List Entry) (on : Bool) : Type 0 where
-  pub shown : (key : Key) → shown q key g ≡ shown q key h
-  pub stale : (key : Key) → is_stale q key g ≡ is_stale q key h
-  pub mode : mode q g ≡ on
-  pub position : synced_writes q g ≡ synced_writes q h
-  pub synced : is_synced q g ≡ is_synced q h

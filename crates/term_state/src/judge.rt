@@ -1,6 +1,5 @@
 // Judging what is seen of a node or a pod.
 ghost use Rattle.std.specs.Prelude.{◌≡◌, ◌≤◌, ◌+◌, ◌*◌, ◌==◌, ◌&&◌, ◌||◌, not, ℕ, Bool, true, false, List, length, IfOk, OnOk};
-ghost use Rattle.std.specs.List.{list_any};
 ghost use Rattle.kube_objects.specs.Entry.{Entry, Identity};
 ghost use Rattle.kube_objects.specs.Seen.{is_synced, seen_pod};
 ghost use Rattle.kube_objects.specs.Tainting as tainting;
@@ -10,51 +9,20 @@ ghost use Rattle.watch_cache.specs.Kept.{is_on};
 
 use crate::Cluster;
 use crate::tries::node_key;
-use kube_base::{NOT_READY, NoMemory, Steps, UNREACHABLE};
-use kube_objects::{Due, Effect, Key, KeyList, Kind, Node, ReadyStatus, Taint};
+use kube_base::{NoMemory, Steps};
+use kube_objects::{Due, Key, KeyList, Kind, Node};
+use node_taints::{Wants, has_condition, has_opposite, want_of};
 use taint_match::due;
 use watch_cache::NotSynced2;
-
-// Whether a taint is one of the two condition taints, whatever its value.
-fn is_condition(taint: &Taint) -> bool
-    ensures { result ≡ tainting.is_condition taint.now }
-{
-    taint.effect == Effect::NoExecute && (taint.key == NOT_READY || taint.key == UNREACHABLE)
-}
-
-fn has_condition(node: &Node) -> bool
-    ensures { result ≡ tainting.has_condition node.now }
-{
-    node.taints
-        .as_slice()
-        .iter()
-        .any(|taint| is_condition(taint))
-}
-
-// Whether the node has the opposite of the taint that it wants.
-fn has_opposite(node: &Node, wanted: u32) -> bool
-    ensures { result ≡ list_any (tainting.is_opposite wanted) node.now.taints }
-{
-    node.taints
-        .as_slice()
-        .iter()
-        .any(|taint| is_condition(taint) && taint.key != wanted)
-}
 
 // Whether a node is untainted or swapped; `on` says whether the mode is.
 fn is_cleaned(on: bool, node: &Node) -> bool
     ensures { result ≡ judged.cleans (tainting.wants on node.now) node.now }
 {
-    if on {
-        return has_condition(node);
-    }
-    match node.ready {
-        None => false,
-        Some(ready) => match ready.status {
-            ReadyStatus::True => has_condition(node),
-            ReadyStatus::False => has_opposite(node, NOT_READY),
-            ReadyStatus::Unknown => has_opposite(node, UNREACHABLE),
-        },
+    match want_of(on, node) {
+        Wants::Nothing => has_condition(node),
+        Wants::Wanted(wanted) => has_opposite(wanted, node),
+        Wants::Whatever => false,
     }
 }
 

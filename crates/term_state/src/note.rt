@@ -5,7 +5,7 @@ ghost use Rattle.kube_objects.specs.Newest.{has};
 ghost use Rattle.kube_objects.specs.Seen.{is_pod, is_synced, seen_node, seen_pod};
 ghost use Rattle.kube_objects.specs.Stored as stored_words;
 ghost use Rattle.kube_objects.specs.Tainting.{before_tick};
-ghost use Rattle.tick_laws.specs.Changes.{IsChange, gone, noted};
+ghost use Rattle.tick_laws.specs.Changes.{IsChange, IsModeChange, gone, noted};
 ghost use Rattle.tick_laws.specs.Steps.{pods_on};
 ghost use Rattle.watch_cache.specs.Kept.{is_on};
 
@@ -16,7 +16,7 @@ use kube_objects::{Key, Node, Object};
 
 impl Cluster {
     ghost use Rattle.kube_objects.specs.declared.key.Key.{Key};
-    ghost use Rattle.term_state.specs.ClusterStands.{ClusterBut, ClusterStands, IsModeChange, but_pod, has_moved, no_node, no_pod};
+    ghost use Rattle.term_state.specs.ClusterStands.{ClusterBut, ClusterStands, but_pod, has_moved, no_node, no_pod};
     ghost use Rattle.term_state.specs.Running.{IsMoved};
 
     /// The node is seen as it was written. It counts two steps for each pod on the node.
