@@ -1,4 +1,5 @@
 pub mod Frames
 pub mod Named
 pub mod Orders
+pub mod Tried
 pub mod Walks
