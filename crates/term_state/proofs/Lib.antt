@@ -1,2 +1,4 @@
 pub mod Aside
+pub mod Judging
+pub mod TakingDue
 pub mod Widen
