@@ -75,11 +75,8 @@ next_pods q h nodes pods keys all rest key c is s =
     by_tests : (b there here later : Bool) → (b && (not there || later)) ≡ false → ((b && (not there || (here || later))) && not here) ≡ false
     by_tests false there here later is = refl
     by_tests true true true later is = refl
-    by_tests true true false later is = by_last later is
-      where
-        by_last : (later : Bool) → later ≡ false → (later && true) ≡ false
-        by_last true is = is
-        by_last false is = refl
+    by_tests true true false true is = is
+    by_tests true true false false is = refl
     by_tests true false here later is = absurd (false_is (sym is))
 
 pub end_pods : (q : Identity) (h : List Entry) (nodes : ℕ → Bool) (pods : Key → Bool) (keys rest : List Key) (c : Cluster) → rest ≡ []

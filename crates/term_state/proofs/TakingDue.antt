@@ -75,9 +75,9 @@ end_taken q h now todo c dues s late kept = (
 pub is_new : (todo : BTreeSet Key) (dues : EvictQueue) (pod : Key) (at : ℕ) → ((p : Key) → contains key_cmp todo p ≡ true → due_in dues p ≡ Never) → due_in dues pod ≡ At at → contains key_cmp todo pod ≡ false
 is_new todo dues pod at gone is = by_test (contains key_cmp todo pod) refl
   where
+    differ : Never ≡ At at → ⊥
+    differ is = cc
+
     by_test : (b : Bool) → contains key_cmp todo pod ≡ b → b ≡ false
     by_test true there = absurd (differ (sym (gone pod there) ∙ is))
-      where
-        differ : Never ≡ At at → ⊥
-        differ is = cc
     by_test false there = refl
