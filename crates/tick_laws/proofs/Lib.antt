@@ -1,3 +1,5 @@
+pub mod Cleaning
+pub mod Evicting
 pub mod Frames
 pub mod Named
 pub mod Orders

@@ -1,13 +1,10 @@
 -- What stays judged as before, by what a change leaves.
-use Rattle.std.proofs.Common.{◌≡◌, ◌∙◌, ℕ, ◌==◌, ◌&&◌, ◌||◌, not, Bool, true, false, cond, List, Option, Some, None, refl, sym, ap, subst}
+use Rattle.std.proofs.Common.{◌≡◌, ◌∙◌, ℕ, ◌==◌, ◌||◌, not, Bool, true, false, cond, List, Option, Some, None, refl, sym, ap}
 use Rattle.std.proofs.lemmas.Bool.{eqb-true, eq-eqb}
 use Rattle.kube_base.specs.declared.numbers.Version.{Version}
 use Rattle.kube_objects.specs.declared.key.Key.{Key}
 use Rattle.kube_objects.specs.declared.node.Node.{Node}
-use Rattle.kube_objects.specs.declared.object.Object.{Object}
-use Rattle.kube_objects.specs.declared.object.Object.TheVariants as object
-use Rattle.kube_objects.specs.declared.pod.Due.{Due}
-use Rattle.kube_objects.specs.declared.pod.Due.TheVariants.{Never, At}
+use Rattle.kube_objects.specs.declared.pod.Due.TheVariants.{Never}
 use Rattle.kube_objects.specs.declared.pod.Pod.{Pod}
 use Rattle.kube_objects.specs.Entry.{Entry, Identity, Place}
 use Rattle.kube_objects.specs.Keys.{key_eq}
@@ -15,7 +12,7 @@ use Rattle.kube_objects.specs.Modes.{mode}
 use Rattle.kube_objects.specs.Seen.{seen_node, seen_pod, is_stale, is_pod}
 use Rattle.kube_objects.specs.Stored.{node_key}
 use Rattle.kube_objects.specs.Tainting.{lacks_in, waits}
-use Rattle.kube_objects.proofs.KeyOrder.{same_key, key_itself}
+use Rattle.kube_objects.proofs.KeyOrder.{key_itself}
 use Rattle.history_laws.proofs.Plainly.{false_is}
 use Rattle.tick_laws.specs.Changes.{is_that, IsChange, IsSame, IsModeChange, noted, gone}
 use Rattle.tick_laws.specs.Judged.{dirty_as, is_dirty, due_on, due_as, seen_due}
