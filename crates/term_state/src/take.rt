@@ -48,6 +48,7 @@ impl Cluster {
         if position > store.changes() {
             return Ok(());
         }
-        self.cache.sync_since(&store.since(position), steps)
+        self.cache.sync_since(&store.since(position), steps)?;
+        Ok(())
     }
 }
