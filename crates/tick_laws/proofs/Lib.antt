@@ -3,5 +3,7 @@ pub mod Evicting
 pub mod Frames
 pub mod Named
 pub mod Orders
+pub mod Reached
+pub mod Syncing
 pub mod Tried
 pub mod Walks
