@@ -4,6 +4,8 @@ pub mod Frames
 pub mod Named
 pub mod Orders
 pub mod Reached
+pub mod Steps
 pub mod Syncing
+pub mod Ticked
 pub mod Tried
 pub mod Walks
