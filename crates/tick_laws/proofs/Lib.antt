@@ -1,6 +1,8 @@
 pub mod Cleaning
 pub mod Evicting
+pub mod Foreign
 pub mod Frames
+pub mod Heads
 pub mod Named
 pub mod Orders
 pub mod Reached
@@ -8,4 +10,5 @@ pub mod Steps
 pub mod Syncing
 pub mod Ticked
 pub mod Tried
+pub mod Waiting
 pub mod Walks

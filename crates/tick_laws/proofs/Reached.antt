@@ -60,7 +60,7 @@ pub unsynced_since : (q : Identity) (h : List Entry) (e : Entry) → is_sync_of 
 unsynced_since q h e other = ap (λ b. cond b [] (and_key (write_of e.deed) (keys_since q h))) other
 
 -- where a pod's key reads as before, it is reached as before
-reached_same : (q : Identity) (h : List Entry) (e : Entry) (key : Key) → is_sync_of q e.actor e.deed ≡ false → seen_pod q key (e ∷ h) ≡ seen_pod q key h → IsReached q h key → IsReached q (e ∷ h) key
+pub reached_same : (q : Identity) (h : List Entry) (e : Entry) (key : Key) → is_sync_of q e.actor e.deed ≡ false → seen_pod q key (e ∷ h) ≡ seen_pod q key h → IsReached q h key → IsReached q (e ∷ h) key
 reached_same q h e key other same is =
     subst (λ keys. (is_among keys key || is_node_among keys (seen_pod q key (e ∷ h))) ≡ true) (sym (unsynced_since q h e other))
     (subst (λ x. (is_among (and_key (write_of e.deed) (keys_since q h)) key || is_node_among (and_key (write_of e.deed) (keys_since q h)) x) ≡ true) (sym same)
