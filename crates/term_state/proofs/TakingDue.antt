@@ -81,3 +81,13 @@ is_new todo dues pod at gone is = by_test (contains key_cmp todo pod) refl
     by_test : (b : Bool) → contains key_cmp todo pod ≡ b → b ≡ false
     by_test true there = absurd (differ (sym (gone pod there) ∙ is))
     by_test false there = refl
+
+-- and has no due any more
+pub gone_more : (todo more : BTreeSet Key) (old new : EvictQueue) (pod : Key) → ((p : Key) → contains key_cmp todo p ≡ true → due_in old p ≡ Never)
+    → ((key : Key) → due_in new key ≡ cond (key_eq pod key) Never (due_in old key)) → ((key : Key) → contains key_cmp more key ≡ cond (key_eq pod key) true (contains key_cmp todo key))
+    → (p : Key) → contains key_cmp more p ≡ true → due_in new p ≡ Never
+gone_more todo more old new pod gone left has p there = left p ∙ by_test (key_eq pod p) (sym (has p) ∙ there)
+  where
+    by_test : (b : Bool) → cond b true (contains key_cmp todo p) ≡ true → cond b Never (due_in old p) ≡ Never
+    by_test true is = refl
+    by_test false is = gone p is

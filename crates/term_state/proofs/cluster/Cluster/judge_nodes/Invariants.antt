@@ -13,5 +13,5 @@ abbrev pub invariant-loop-name : goal.invariant-loop-name
 invariant-loop-name l = record {
   stands : (q : Identity) (h : List Entry) → ClusterBut q h (λ n. has (seen_node q n h)) no_pod l.fn.self → is_synced q h ≡ true
       → ClusterBut q h (λ n. is_named l.rest n) no_pod l.self;
-  moved : (n : ℕ) → (is_named l.rest n || has_moved l.self n) ≡ (is_named l.names n || has_moved l.fn.self n);
+  moved : (n : ℕ) → (is_named l.rest n || has_moved l.self n) ≡ (is_named l.initial.rest n || has_moved l.fn.self n);
 }
