@@ -8,6 +8,7 @@ pub mod Orders
 pub mod Reached
 pub mod Steps
 pub mod Syncing
+pub mod Tainting
 pub mod Ticked
 pub mod Tried
 pub mod Waiting
