@@ -5,6 +5,7 @@ pub mod Frames
 pub mod Heads
 pub mod Named
 pub mod Orders
+pub mod Phases
 pub mod Reached
 pub mod Steps
 pub mod Syncing
