@@ -7,11 +7,10 @@ ghost use Rattle.kube_objects.specs.Seen as seen_words;
 ghost use Rattle.kube_objects.specs.Tainting.{before_tick};
 ghost use Rattle.kube_objects.specs.Tick as tick;
 ghost use Rattle.object_store.specs.Stands.{StoreStands};
-ghost use Rattle.tick_laws.specs.Since.{keys_since};
+ghost use Rattle.tick_laws.specs.Since.{AreReached};
 ghost use Rattle.tick_laws.specs.Steps.{tick_cost};
 ghost use Rattle.term_state.specs.ClusterStands.{ClusterStands};
 ghost use Rattle.term_state.specs.Running.{IsMoved, IsView};
-ghost use Rattle.term_state.specs.Taking.{AreReached};
 
 use crate::judge::judge_changes;
 use kube_base::{NoMemory, Steps};
