@@ -57,17 +57,17 @@ node_tests true there out = refl
 node_tests false there out = ap (λ b. b && true) out
 
 pod_tests : (own on later : Bool) → own ≡ false → later ≡ false → ((own || (on || later)) && not on) ≡ false
-pod_tests true on later no out = absurd (false_is (sym no))
-pod_tests false true later no out = refl
-pod_tests false false later no out = ap (λ b. b && true) out
+pod_tests true on later nothing out = absurd (false_is (sym nothing))
+pod_tests false true later nothing out = refl
+pod_tests false false later nothing out = ap (λ b. b && true) out
 
 -- no pod's key is a node's
 own_none : (name : ℕ) (p : Key) (there : Bool) → (is_pod p.kind && there) ≡ false → (is_pod p.kind && (key_eq (node_key name) p || there)) ≡ false
 own_none name p there out = by_kind (is_pod p.kind) refl out
   where
     by_kind : (b : Bool) → is_pod p.kind ≡ b → (b && there) ≡ false → (b && (key_eq (node_key name) p || there)) ≡ false
-    by_kind true kind no = ap (λ b. b || there) (node_no_pod name p kind) ∙ no
-    by_kind false kind no = refl
+    by_kind true kind nothing = ap (λ b. b || there) (node_no_pod name p kind) ∙ nothing
+    by_kind false kind nothing = refl
 
 pub next_node : (q : Identity) (g : List Entry) (name : ℕ) (rest : List Key) (c : Cluster)
     → ClusterBut q g (but_node name (λ n. is_among (node_key name ∷ rest) (node_key n))) (λ p. is_open q g (node_key name ∷ rest) p && not (is_on name (seen_pod q p g))) c → LeftBut q g rest c
