@@ -1,11 +1,8 @@
 -- A try on the store is an entry of the history.
-use Rattle.std.proofs.Common.{◌≡◌, ◌∙◌, List, ◌∷◌, Option, Some, None, Bool, true, not, Result, Ok, Err, OnOk, OnErr, refl, sym, ap}
-use Rattle.kube_base.specs.declared.memory.NoMemory.{NoMemory}
+use Rattle.std.proofs.Common.{◌≡◌, ◌∙◌, List, ◌∷◌, Some, Bool, true, not, Result, Ok, Err, OnOk, OnErr, sym, ap}
 use Rattle.kube_base.specs.declared.numbers.Version.{Version}
 use Rattle.kube_objects.specs.declared.call.Answer.{Answer}
-use Rattle.kube_objects.specs.declared.call.Answer.TheVariants as answer
 use Rattle.kube_objects.specs.declared.call.Reply.{Reply}
-use Rattle.kube_objects.specs.declared.call.Reply.TheVariants as reply
 use Rattle.kube_objects.specs.Entry.{Entry, Identity}
 use Rattle.kube_objects.specs.Newest.{only_if}
 use Rattle.kube_objects.specs.Stored.{Write, try_write, write_of}

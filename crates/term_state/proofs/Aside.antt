@@ -1,11 +1,10 @@
 -- A cluster through a change of the history, but for what the change is of.
-use Rattle.std.proofs.Common.{◌≡◌, ◌∙◌, ℕ, ◌==◌, ◌&&◌, ◌||◌, not, Bool, true, false, cond, List, Option, Some, None, refl, sym, ap}
+use Rattle.std.proofs.Common.{◌≡◌, ◌∙◌, ℕ, ◌==◌, ◌||◌, Bool, true, false, cond, List, Option, Some, None, refl, sym, ap}
 use Rattle.kube_base.specs.declared.numbers.Version.{Version}
 use Rattle.kube_objects.specs.declared.key.Key.{Key}
 use Rattle.kube_objects.specs.declared.node.Node.{Node}
 use Rattle.kube_objects.specs.declared.object.Object.{Object}
-use Rattle.kube_objects.specs.declared.object.Object.TheVariants as object
-use Rattle.kube_objects.specs.Entry.{Entry, Identity, Place}
+use Rattle.kube_objects.specs.Entry.{Entry, Identity}
 use Rattle.kube_objects.specs.Keys.{key_eq}
 use Rattle.kube_objects.specs.Newest.{has}
 use Rattle.kube_objects.specs.Seen.{is_pod, pod_in, seen_node, seen_pod}
@@ -163,6 +162,7 @@ mode_aside q h g on c d s =
       dues = λ key out. s.dues key refl ∙ sym (mode_dues q h g on d key);
       kinds = λ key there. s.kinds key (sym (ap has (same_pod q key h g (d.shown key))) ∙ there);
     }
+
 pub mode_moved : (q : Identity) (h g : List Entry) (on : Bool) → IsModeChange q h g on → (k : ℕ) (old new : Cluster) → before_tick q k g ≡ before_tick q k h
     → ((n : ℕ) → has_moved new n ≡ (has (seen_node q n g) || has_moved old n)) → IsMoved q k h old → IsMoved q k g new
 mode_moved q h g on d k old new beneath more s n out place =

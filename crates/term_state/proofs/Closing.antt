@@ -1,14 +1,12 @@
 -- What a try or a deletion is of is exact again, and a term that begins.
-use Rattle.std.proofs.Common.{◌≡◌, ◌∙◌, ℕ, ◌<◌, ◌==◌, ◌&&◌, ◌||◌, not, Bool, true, false, cond, List, [], ◌∷◌, Option, Some, None, IfSome, IfNone, refl, sym, ap, subst, arith}
+use Rattle.std.proofs.Common.{◌≡◌, ◌∙◌, ℕ, ◌<◌, ◌==◌, ◌&&◌, ◌||◌, not, Bool, true, false, cond, List, [], ◌∷◌, Option, Some, None, IfSome, IfNone, refl, sym, ap, arith}
 use Rattle.std.proofs.lemmas.Bool.{eqb-true}
 use Rattle.std.proofs.lemmas.Bool.Decides.{nat_tests}
 use Rattle.std.specs.BTreeSet.{BTreeSet, Updates, contains}
 use Rattle.std.specs.Ordering.{is_eq, nat_cmp}
 use Rattle.kube_base.specs.declared.numbers.Version.{Version}
-use Rattle.kube_objects.specs.declared.deed.Actor.{Actor}
 use Rattle.kube_objects.specs.declared.key.Key.{Key}
 use Rattle.kube_objects.specs.declared.node.Node.{Node}
-use Rattle.kube_objects.specs.declared.object.Object.{Object}
 use Rattle.kube_objects.specs.declared.pod.Due.{Due}
 use Rattle.kube_objects.specs.declared.pod.Due.TheVariants.{Never, At}
 use Rattle.kube_objects.specs.declared.pod.Pod.{Pod}
@@ -27,7 +25,6 @@ use Rattle.tick_laws.specs.Changes.{IsChange}
 use Rattle.tick_laws.specs.Judged.{due_as, due_on, is_by_now, is_dirty, seen_due, shown}
 use Rattle.tick_laws.proofs.Frames.{node_shown, pod_shown}
 use Rattle.tick_laws.proofs.Tried.{refused_clean, unseen_clean, unseen_never}
-use Rattle.watch_cache.specs.declared.cache.Cache.{Cache}
 use Rattle.watch_cache.specs.Kept.{of_kind}
 use Rattle.watch_cache.specs.Stands.{CacheStands, is_tick_by, kept_in, ticks}
 use Rattle.watch_cache.proofs.Frames.{upper}

@@ -1,6 +1,5 @@
 -- What is judged of a node, of pods, and of a term that begins.
-use Rattle.std.proofs.Common.{◌≡◌, ◌∙◌, ℕ, ◌==◌, ◌&&◌, ◌||◌, not, Bool, true, false, cond, List, [], ◌∷◌, Option, Some, None, refl, sym, ap, subst}
-use Rattle.std.proofs.lemmas.Bool.{eqb-true}
+use Rattle.std.proofs.Common.{◌≡◌, ◌∙◌, ℕ, ◌==◌, ◌&&◌, ◌||◌, not, Bool, true, false, cond, List, [], ◌∷◌, Option, refl, sym, ap, subst}
 use Rattle.kube_base.specs.declared.numbers.Version.{Version}
 use Rattle.kube_objects.specs.declared.key.Key.{Key}
 use Rattle.kube_objects.specs.declared.node.Node.{Node}
@@ -16,7 +15,7 @@ use Rattle.kube_objects.proofs.KeyOrder.{same_key}
 use Rattle.history_laws.proofs.Plainly.{false_is}
 use Rattle.evict_queue.specs.Queue.{due_in}
 use Rattle.evict_queue.specs.declared.queue.EvictQueue.{EvictQueue}
-use Rattle.tick_laws.specs.Judged.{dirty_as, due_as, due_on, is_dirty, seen_due}
+use Rattle.tick_laws.specs.Judged.{dirty_as, due_as, is_dirty, seen_due}
 use Rattle.watch_cache.specs.Listed.{is_named}
 use Rattle.term_state.specs.declared.cluster.Cluster.{Cluster}
 use Rattle.term_state.specs.ClusterStands.{ClusterBut, but_node, but_pod, but_pods, no_pod}

@@ -1,5 +1,5 @@
 -- Of what a cluster stands but for.
-use Rattle.std.proofs.Common.{◌≡◌, ◌∙◌, ℕ, ◌&&◌, ◌||◌, not, Bool, true, false, refl, sym, List}
+use Rattle.std.proofs.Common.{◌≡◌, ℕ, ◌&&◌, ◌||◌, not, Bool, true, false, refl, sym, List}
 use Rattle.kube_objects.specs.declared.key.Key.{Key}
 use Rattle.kube_objects.specs.Entry.{Entry, Identity}
 use Rattle.history_laws.proofs.Plainly.{false_is}

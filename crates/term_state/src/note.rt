@@ -39,12 +39,7 @@ impl Cluster {
     }
 
     // The cache has the node as it was written; nothing is judged.
-    fn write_node(
-        &mut self,
-        name: u32,
-        version: Version,
-        written: Node,
-    ) -> Result<(), NoMemory>
+    fn write_node(&mut self, name: u32, version: Version, written: Node) -> Result<(), NoMemory>
         ensures stands { (q : Identity) (h g : List Entry) → ClusterStands q h self.old
             → IsChange q h g (noted name version written) None
             → OnOk result (ClusterBut q g (λ n. name == n) (λ p. is_on name (seen_pod q p g)) self.new) }

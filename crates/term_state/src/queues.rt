@@ -47,7 +47,11 @@ impl Cluster {
     }
 
     /// Takes out the pods that are due by now. It counts a step for each, and one more.
-    pub fn take_due<L>(&mut self, now: Wall, steps: &mut Steps<L>) -> Result<BTreeSet<Key>, NoMemory>
+    pub fn take_due<L>(
+        &mut self,
+        now: Wall,
+        steps: &mut Steps<L>,
+    ) -> Result<BTreeSet<Key>, NoMemory>
         ensures stands { (q : Identity) (h : List Entry) → ClusterStands q h self.old
             → IfOk result (λ todo. ClusterBut q h no_node (λ p. contains key_cmp todo p) self.new) }
         ensures due { (q : Identity) (h : List Entry) → ClusterStands q h self.old

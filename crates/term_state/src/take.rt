@@ -40,7 +40,7 @@ impl Cluster {
     pub fn take_over<L>(&mut self, store: &Store, steps: &mut Steps<L>) -> Result<(), NoMemory>
         ensures stands { (q : Identity) (k : ℕ) (h : List Entry) → ClusterStands q h self.old → StoreStands h store.now → AreReached q h
             → OnOk result (ClusterBut q (add k q Sync h) (λ n. is_among (keys_since q h) (node_key n))
-                (is_open q (add k q Sync h) (keys_since q h)) self.new) }
+            (is_open q (add k q Sync h) (keys_since q h)) self.new) }
         ensures moved { (n : ℕ) → has_moved self.new n ≡ has_moved self.old n }
         ensures counted { (q : Identity) (h : List Entry) → ClusterStands q h self.old → StoreStands h store.now
             → OnOk result (steps.new ≤ steps.old + length (keys_since q h)) }

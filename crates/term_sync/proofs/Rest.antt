@@ -95,7 +95,7 @@ next_pod q g key rest c kind s =
     widen q g (λ n. is_among (key ∷ rest) (node_key n)) (λ n. is_among rest (node_key n)) (but_pod key (is_open q g (key ∷ rest))) (is_open q g rest) c
     (λ n out. ap (λ b. b || is_among rest (node_key n)) (pod_no_node key n kind) ∙ out)
     (λ p out. ap (λ b. ((is_pod p.kind && (key_eq key p || is_among rest p)) || b) && not (key_eq key p)) (no_node_among key rest (seen_pod q p g) (λ n. pod_no_node key n kind))
-        ∙ by_tests (is_pod p.kind) (key_eq key p) (is_among rest p) (is_node_among rest (seen_pod q p g)) out) s
+    ∙ by_tests (is_pod p.kind) (key_eq key p) (is_among rest p) (is_node_among rest (seen_pod q p g)) out) s
   where
     and_false : (b : Bool) → (b && false) ≡ false
     and_false true = refl
@@ -117,7 +117,7 @@ next_other q g key rest c differs kind s =
     widen q g (λ n. is_among (key ∷ rest) (node_key n)) (λ n. is_among rest (node_key n)) (is_open q g (key ∷ rest)) (is_open q g rest) c
     (λ n out. ap (λ b. b || is_among rest (node_key n)) (differs n) ∙ out)
     (λ p out. ap (λ b. (is_pod p.kind && (key_eq key p || is_among rest p)) || b) (no_node_among key rest (seen_pod q p g) differs)
-        ∙ ap (λ b. b || is_node_among rest (seen_pod q p g)) (by_kind p (is_pod p.kind) refl) ∙ out) s
+    ∙ ap (λ b. b || is_node_among rest (seen_pod q p g)) (by_kind p (is_pod p.kind) refl) ∙ out) s
   where
     other : (p : Key) → is_pod p.kind ≡ true → (b : Bool) → key_eq key p ≡ b → b ≡ false
     other p pod true same = absurd (false_is (sym (ap (λ x. is_pod x.kind) (sym (same_key key p same)) ∙ kind) ∙ pod))

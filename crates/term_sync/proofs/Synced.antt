@@ -1,5 +1,5 @@
 -- A sync, whether it comes or not.
-use Rattle.std.proofs.Common.{◌≡◌, ◌∙◌, ℕ, ◌+◌, ◌*◌, ◌≤◌, ◌||◌, Bool, true, false, List, length, drop, refl, sym, ap, subst, arith}
+use Rattle.std.proofs.Common.{◌≡◌, ◌∙◌, ℕ, ◌||◌, Bool, true, false, List, drop, refl, sym, ap}
 use Rattle.kube_objects.specs.declared.key.Key.{Key}
 use Rattle.kube_objects.specs.Entry.{Entry, Identity, Sync, Ticks, entry}
 use Rattle.kube_objects.specs.Feeds.{is_among}

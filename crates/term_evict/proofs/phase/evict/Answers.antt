@@ -1,8 +1,7 @@
-use Rattle.std.proofs.Common.{◌≡◌, ◌∙◌, ◌+◌, ◌<◌, ℕ, Bool, true, false, cond, List, [], ◌∷◌, None, Some, refl, sym, ap, subst, length, arith}
+use Rattle.std.proofs.Common.{◌≡◌, ◌∙◌, ◌<◌, Bool, true, false, cond, List, [], ◌∷◌, None, Some, refl, sym, ap, subst, length, arith}
 use Rattle.std.specs.BTreeMap.{is_at}
 use Rattle.std.specs.BTreeSet.{IsLowerBound, Updates, btree_set_len, contains}
 use Rattle.std.specs.List.{list_any}
-use Rattle.kube_objects.specs.contracts.key.KeyOrd.TheImpl as key_ord
 use Rattle.kube_objects.specs.declared.key.Key.{Key}
 use Rattle.kube_objects.specs.Keys.{key_cmp, key_eq}
 use Rattle.kube_objects.specs.Tick.{evict}

@@ -1,4 +1,4 @@
-use Rattle.std.proofs.Common.{◌≡◌, ◌∙◌, ap, subst, sym, None}
+use Rattle.std.proofs.Common.{◌∙◌, ap, subst, sym, None}
 use Rattle.kube_objects.specs.Deletes.{answer_delete}
 use Rattle.kube_objects.specs.Entry.{Ticks, entry}
 use Rattle.kube_objects.specs.Stored.{node_key, try_write}

@@ -1,4 +1,4 @@
-use Rattle.std.proofs.Common.{◌≡◌, ◌∙◌, true, ap, subst, sym, rules, Some}
+use Rattle.std.proofs.Common.{◌∙◌, ap, subst, sym, Some}
 use Rattle.kube_objects.specs.declared.object.Object.TheVariants as object
 use Rattle.kube_objects.specs.Answers.{answer_update}
 use Rattle.kube_objects.specs.Entry.{Ticks, entry}

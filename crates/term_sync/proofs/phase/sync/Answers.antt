@@ -1,4 +1,4 @@
-use Rattle.std.proofs.Common.{◌≡◌, ◌∙◌, ◌||◌, ℕ, Bool, List, ◌+◌, ◌*◌, ◌≤◌, ◌&&◌, not, false, true, ap, length, drop, sym, subst, refl, arith}
+use Rattle.std.proofs.Common.{◌≡◌, ◌∙◌, ◌||◌, ℕ, Bool, List, ◌+◌, ◌≤◌, ◌&&◌, not, false, true, ap, drop, sym, subst, arith}
 use Rattle.std.proofs.lemmas.Result.{on_ok_weaker}
 use Rattle.kube_objects.specs.Document.{Doc}
 use Rattle.kube_objects.specs.Entry.{Entry, Identity, Sync}
@@ -8,7 +8,6 @@ use Rattle.kube_objects.specs.Seen.{is_fresh}
 use Rattle.kube_objects.specs.Stored.{node_key}
 use Rattle.object_store.specs.Stands.{changed_in}
 use Rattle.kube_objects.specs.Tick.{add, sync, sync_if}
-use Rattle.tick_laws.specs.Since.{keys_since}
 use Rattle.tick_laws.specs.Steps.{tick_cost, write_costs}
 use Rattle.tick_laws.proofs.Steps.{cost_sync}
 use Rattle.tick_laws.proofs.Syncing.{sync_synced}

@@ -1,6 +1,6 @@
-use Rattle.std.proofs.Common.{◌≡◌, ◌∙◌, true, false, Some, None, refl, ap, sym, rules}
-use Rattle.kube_objects.specs.Seen.{is_pod, is_stale, seen_node, seen_pod}
-use Rattle.tick_laws.specs.Judged.{due_as, due_on}
+use Rattle.std.proofs.Common.{◌≡◌, ◌∙◌, true, false, Some, None, ap, sym, rules}
+use Rattle.kube_objects.specs.Seen.{is_pod, seen_pod}
+use Rattle.tick_laws.specs.Judged.{due_on}
 use Rattle.tick_laws.proofs.Tried.{unseen_never}
 use Rattle.watch_cache.specs.Stands.{stale_in}
 use Rattle.watch_cache.specs.Told.{found_pair}

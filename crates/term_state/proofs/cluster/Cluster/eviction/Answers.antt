@@ -1,7 +1,6 @@
-use Rattle.std.proofs.Common.{◌≡◌, ◌∙◌, ◌<◌, false, Some, None, refl, ap, sym, arith}
+use Rattle.std.proofs.Common.{◌≡◌, ◌∙◌, ◌<◌, false, refl, ap, sym, arith}
 use Rattle.tick_laws.specs.Judged.{is_by_now, seen_due}
 use Rattle.tick_laws.proofs.Tried.{unseen_never}
-use Rattle.kube_objects.specs.declared.pod.Due.TheVariants.{Never, At}
 use Rattle.watch_cache.specs.Told.{found_pair}
 use Rattle.term_state.proofs.Closing.{if_none_always, late_due, quiet_pod, unplaced_never}
 use Rattle.term_state.proofs.cluster.Cluster.eviction.Goals as goal

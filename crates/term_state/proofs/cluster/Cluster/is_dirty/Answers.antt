@@ -1,5 +1,5 @@
-use Rattle.std.proofs.Common.{◌≡◌, ◌∙◌, false, Some, None, refl, ap, sym, rules}
-use Rattle.kube_objects.specs.Seen.{is_stale, seen_node}
+use Rattle.std.proofs.Common.{◌≡◌, ◌∙◌, false, Some, None, ap, sym, rules}
+use Rattle.kube_objects.specs.Seen.{seen_node}
 use Rattle.kube_objects.specs.Stored.{node_key}
 use Rattle.watch_cache.specs.Stands.{stale_in}
 use Rattle.watch_cache.specs.Told.{found_pair}

@@ -1,5 +1,3 @@
-use Rattle.std.proofs.Common.{None}
-use Rattle.tick_laws.specs.Changes.{gone}
 use Rattle.tick_laws.proofs.Tried.{gone_never}
 use Rattle.term_state.proofs.Aside.{gone_aside, with_cache}
 use Rattle.term_state.proofs.Closing.{closed_pod}

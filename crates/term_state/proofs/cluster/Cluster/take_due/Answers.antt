@@ -1,4 +1,4 @@
-use Rattle.std.proofs.Common.{◌≡◌, ◌∙◌, ◌+◌, ◌<◌, ◌≤◌, Bool, true, false, cond, refl, sym, ap, subst, arith}
+use Rattle.std.proofs.Common.{◌≡◌, ◌∙◌, ◌+◌, ◌<◌, ◌≤◌, true, false, cond, refl, sym, ap, subst, arith}
 use Rattle.std.proofs.lemmas.Grind.{common_steps}
 use Rattle.std.specs.BTreeMap.{is_at}
 use Rattle.std.specs.BTreeSet.{Updates, btree_set_len, contains}
@@ -7,7 +7,6 @@ use Rattle.kube_objects.specs.contracts.key.KeyOrd.TheImpl as key_ord
 use Rattle.kube_objects.specs.declared.key.Key.{Key}
 use Rattle.kube_objects.specs.Keys.{key_cmp, key_eq}
 use Rattle.kube_objects.proofs.KeyOrder.{key_order}
-use Rattle.evict_queue.specs.Queue.{due_in}
 use Rattle.history_laws.proofs.Plainly.{false_is}
 use Rattle.term_state.proofs.TakingDue.{begin_taken, end_taken, gone_more, is_new, next_taken}
 use Rattle.term_state.proofs.cluster.Cluster.take_due.Goals as goal

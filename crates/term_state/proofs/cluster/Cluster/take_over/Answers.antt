@@ -1,4 +1,4 @@
-use Rattle.std.proofs.Common.{◌≡◌, ◌∙◌, ◌+◌, cond, drop, length, ap, sym, arith}
+use Rattle.std.proofs.Common.{◌≡◌, ◌∙◌, cond, length, ap, arith}
 use Rattle.std.proofs.lemmas.List.{length-drop}
 use Rattle.kube_objects.specs.Feeds.{is_among}
 use Rattle.kube_objects.specs.Stored.{writes}
@@ -7,7 +7,7 @@ use Rattle.object_store.specs.Stands as feed
 use Rattle.object_store.specs.StoreAnswers.{changed_keys}
 use Rattle.tick_laws.specs.Since.{keys_since}
 use Rattle.tick_laws.proofs.Syncing.{synced_few}
-use Rattle.watch_cache.specs.Stands.{kept_in, position_in}
+use Rattle.watch_cache.specs.Stands.{kept_in}
 use Rattle.watch_cache.proofs.Syncs.{written-count}
 use Rattle.term_state.proofs.Takes.{keys_same, since_is, taken_over}
 use Rattle.term_state.proofs.cluster.Cluster.take_over.Goals as goal
