@@ -1,7 +1,14 @@
 pub mod Cleaning
 pub mod Evicting
+pub mod Foreign
 pub mod Frames
+pub mod Heads
 pub mod Named
 pub mod Orders
+pub mod Reached
+pub mod Steps
+pub mod Syncing
+pub mod Ticked
 pub mod Tried
+pub mod Waiting
 pub mod Walks
