@@ -1,5 +1,5 @@
 -- Since when nodes wait in zones.
-use Rattle.std.specs.Prelude.{◌≡◌, ℕ, Bool, true, cond, Option, Some, None, unwrap_or}
+use Rattle.std.specs.Prelude.{◌≡◌, ℕ, Bool, true, false, cond, Option, Some, None, unwrap_or}
 use Rattle.std.specs.BTreeMap.{BTreeMap, get}
 use Rattle.std.specs.Ordering.{nat_cmp, is_lt}
 use Rattle.kube_base.specs.declared.numbers.Beat.{Beat}
@@ -17,6 +17,10 @@ since queues zone node = since_at queues.zones zone node
 -- the one zone in which a node may wait
 abbrev pub home : Queues → ℕ → Option Place
 home queues node = get nat_cmp queues.homes node
+
+abbrev pub is_place : Place → Option Place → Bool
+is_place place None = false
+is_place place (Some other) = zone_eq other place
 
 -- a node that waits in this place since a beat keeps it, and one that comes to it waits since the given one
 abbrev pub moved_in : Option Place → Place → ℕ → Option ℕ → Option ℕ

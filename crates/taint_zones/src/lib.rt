@@ -4,6 +4,7 @@
 mod limit;
 mod place;
 mod queues;
+mod zone_queues;
 mod zones;
 
 pub use limit::Limit;

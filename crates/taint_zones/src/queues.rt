@@ -1,9 +1,10 @@
 // The nodes that wait, zone by zone.
-ghost use Rattle.std.specs.Prelude.{◌≡◌, ℕ, ◌==◌, ◌&&◌, not, Bool, true, false, Some, None, IfSome, IfNone, IsTrue, OnOk, ◌↔◌, unwrap_or, if◌then◌else◌};
+ghost use Rattle.std.specs.Prelude.{◌≡◌, ℕ, ◌==◌, ◌&&◌, not, Bool, true, false, Some, None, IfSome, IfNone, OnOk, unwrap_or, if◌then◌else◌};
 ghost use Rattle.taint_queue.specs.Order.{precedes};
 ghost use Rattle.taint_zones.specs.Homes.{AreHome};
 
 use crate::Place;
+use crate::zone_queues::{leave, to_back, want};
 use kube_base::{Beat, NoMemory};
 use std::alloc::Global;
 use std::collections::BTreeMap;
@@ -24,7 +25,7 @@ pub struct Queues {
 impl Queues {
     ghost use Rattle.std.specs.Option.{option_map};
     ghost use Rattle.taint_zones.specs.Places.{zone_eq};
-    ghost use Rattle.taint_zones.specs.Waiting.{IsEmpty, IsNextZone, home, moved_in, since};
+    ghost use Rattle.taint_zones.specs.Waiting.{IsEmpty, IsNextZone, home, is_place, moved_in, since};
 
     /// Nobody waits. Takes no memory.
     pub fn new(alloc: Global) -> Queues
@@ -59,12 +60,10 @@ impl Queues {
     pub fn leave(&mut self, node: u32)
         ensures { (zone : Place) (other : ℕ) → since self.new zone other ≡ (if node == other then None else since self.old zone other) }
     {
-        let Some(home) = self.homes.remove(&node) else {
+        let Some(place) = self.home(node) else {
             return;
         };
-        if let Some(queue) = self.zones.get_mut(&home) {
-            queue.leave(node);
-        }
+        leave(&mut self.zones, place, node);
     }
 
     // The node waits in no other zone, and this one is its zone.
@@ -73,19 +72,29 @@ impl Queues {
             ≡ (if node == other && not (zone_eq place zone) then None else since self.old zone other)) }
         ensures home { OnOk result (home self.new node ≡ Some place) }
     {
-        if !self.is_home(node, place) {
-            self.leave(node);
+        if self.is_home(node, place) {
+            return Ok(());
         }
+        self.leave(node);
         self.homes.insert(node, place)?;
         Ok(())
     }
 
-    fn is_home(&self, node: u32, place: Place) -> bool
-        ensures { IsTrue result ↔ (home self.now node ≡ Some place) }
+    fn home(&self, node: u32) -> Option<Place>
+        ensures { result ≡ home self.now node }
     {
         match self.homes.get(&node) {
+            None => None,
+            Some(place) => Some(*place),
+        }
+    }
+
+    fn is_home(&self, node: u32, place: Place) -> bool
+        ensures { result ≡ is_place place (home self.now node) }
+    {
+        match self.home(node) {
             None => false,
-            Some(home) => *home == place,
+            Some(home) => home == place,
         }
     }
 
@@ -95,14 +104,7 @@ impl Queues {
         ensures { OnOk result ((zone : Place) (other : ℕ) → since self.new zone other
             ≡ (if node == other && zone_eq place zone then Some (unwrap_or (since self.old zone node) at.0) else since self.old zone other)) }
     {
-        if let Some(queue) = self.zones.get_mut(&place) {
-            queue.want(node, at)?;
-            return Ok(());
-        }
-        let mut queue = Queue::new(self.alloc);
-        queue.want(node, at)?;
-        self.zones.insert(place, queue)?;
-        Ok(())
+        want(&mut self.zones, self.alloc, place, node, at)
     }
 
     /// The node that waits in a zone since the least beat, and of equal ones the least; none exactly where nobody waits.
@@ -123,17 +125,16 @@ impl Queues {
         ensures { (zone : Place) (other : ℕ) → since self.new zone other
             ≡ (if node == other && zone_eq place zone then option_map (λ _. at.0) (since self.old zone node) else since self.old zone other) }
     {
-        if let Some(queue) = self.zones.get_mut(&place) {
-            queue.to_back(node, at);
-        }
+        to_back(&mut self.zones, place, node, at);
     }
 
-    /// A zone after which, up to it, nobody waits; where there is none, nobody waits after that one. None is before all.
+    /// The next zone after this one, or the first, that has a queue. Between the two nobody waits; where there is none,
+    /// nobody waits after this one.
     pub fn next_zone(&self, after: Option<Place>) -> Option<Place>
         ensures { IsNextZone self.now after result }
     {
         match after {
-            None => self.zones.keys().next().copied(),
+            None => self.first_zone(),
             Some(place) => {
                 match self
                     .zones
@@ -144,6 +145,15 @@ impl Queues {
                     Some((next, _)) => Some(*next),
                 }
             }
+        }
+    }
+
+    fn first_zone(&self) -> Option<Place>
+        ensures { IsNextZone self.now None result }
+    {
+        match self.zones.first_key_value() {
+            None => None,
+            Some((first, _)) => Some(*first),
         }
     }
 }
