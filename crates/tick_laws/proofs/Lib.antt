@@ -5,9 +5,11 @@ pub mod Frames
 pub mod Heads
 pub mod Named
 pub mod Orders
+pub mod Phases
 pub mod Reached
 pub mod Steps
 pub mod Syncing
+pub mod Tainting
 pub mod Ticked
 pub mod Tried
 pub mod Waiting
