@@ -1,18 +1,17 @@
 -- The token of a zone's limit.
-use Rattle.std.proofs.Common.{◌≡◌, ◌∙◌, ℕ, ◌*◌, ◌-◌, ◌≤◌, ◌↔◌, nat_le, Bool, true, false, cond, List, Option, Some, None, IfSome, IsTrue, refl, sym, ap, subst, arith}
+use Rattle.std.proofs.Common.{◌≡◌, ◌∙◌, ℕ, ◌*◌, ◌-◌, ◌≤◌, ◌↔◌, nat_le, Bool, true, false, cond, List, Some, None, IsTrue, refl, sym, ap, arith}
 use Rattle.std.proofs.lemmas.Bool.Decides.{nat_tests}
 use Rattle.std.specs.BTreeMap.{BTreeMap, get, Updates}
 use Rattle.kube_objects.specs.Clocks.{local}
 use Rattle.kube_objects.specs.Document.{Doc}
 use Rattle.kube_objects.specs.Entry as entry
 use Rattle.kube_objects.specs.Entry.{Entry, Identity}
-use Rattle.kube_objects.specs.Tokens.{base, has_token, is_grown, rated, token_size}
-use Rattle.rate_bucket.specs.Filling.{Filling, HasToken, after_attempt, empty_at}
+use Rattle.kube_objects.specs.Tokens.{base, has_token, is_grown, token_size}
+use Rattle.rate_bucket.specs.Filling.{Filling, HasToken, after_attempt}
 use Rattle.taint_zones.specs.declared.limit.Limit.{Limit}
 use Rattle.taint_zones.specs.declared.place.Place.{Place}
-use Rattle.taint_zones.specs.Limits.{LimitStands, after_token, rated_of}
+use Rattle.taint_zones.specs.Limits.{LimitStands, after_token}
 use Rattle.taint_zones.specs.Places.{zone_cmp, zone_eq}
-use Rattle.taint_zones.proofs.Homing.{false_is}
 use Rattle.taint_zones.proofs.ZoneMaps.{same_zone}
 
 le_true : (a b : ℕ) → a ≤ b → nat_le a b ≡ true

@@ -1,10 +1,7 @@
 -- Since when nodes wait in zones.
 use Rattle.std.specs.Prelude.{◌≡◌, ℕ, Bool, true, false, cond, Option, Some, None, unwrap_or}
-use Rattle.std.specs.BTreeMap.{BTreeMap, get}
+use Rattle.std.specs.BTreeMap.{get}
 use Rattle.std.specs.Ordering.{nat_cmp, is_lt}
-use Rattle.kube_base.specs.declared.numbers.Beat.{Beat}
-use Rattle.taint_queue.specs.Queue.{waits_since}
-use Rattle.taint_queue.specs.declared.queue.Queue.{Queue}
 use Rattle.taint_zones.specs.declared.place.Place.{Place}
 use Rattle.taint_zones.specs.declared.queues.Queues.{Queues}
 use Rattle.taint_zones.specs.Homes.{since_at}

@@ -1,5 +1,5 @@
 -- Untainting or swapping one node.
-use Rattle.std.proofs.Common.{◌≡◌, ◌∙◌, ◌×◌, ℕ, ◌+◌, ◌≤◌, ◌++◌, List, [], ◌∷◌, Option, Some, None, Result, Ok, Err, true, false, refl, sym, ap, subst, append_nil}
+use Rattle.std.proofs.Common.{◌≡◌, ◌∙◌, ◌×◌, ℕ, ◌+◌, ◌≤◌, ◌++◌, List, [], ◌∷◌, Option, Some, None, Result, Ok, Err, true, false, refl, sym, ap, subst, append-nil}
 use Rattle.std.specs.Result.{OnOk}
 use Rattle.kube_base.specs.declared.numbers.Version.{Version}
 use Rattle.kube_objects.specs.declared.deed.Deed.{Deed}
@@ -23,7 +23,7 @@ untold q k before h tick t silent s =
     record {
       who = s.who;
       beat = s.beat;
-      told = s.told ∙ sym (append_nil (printed h)) ∙ ap (λ o. printed h ++ deeds_of k (actor_of q) o) (sym silent);
+      told = s.told ∙ sym (append-nil (printed h)) ∙ ap (λ o. printed h ++ deeds_of k (actor_of q) o) (sym silent);
     }
 
 -- a node that is to be cleaned is seen

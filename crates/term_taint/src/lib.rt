@@ -1,13 +1,9 @@
-// A library with one function.
+//! Who waits for a taint, and the queued taints of a tick.
 #![tactic(auto)]
 
-ghost use Rattle.std.specs.Prelude.{◌≡◌};
-ghost use Rattle.term_taint.specs.Echo.{echo_of};
+mod head;
+mod phase;
+mod settle;
 
-// The `ensures` clause is the contract: what `echo` returns is `echo_of` of its argument, a definition
-// in `specs/Echo.antt`, which a caller's clause can cite too.
-pub fn echo(x: usize) -> usize
-    ensures { result ≡ echo_of x }
-{
-    x
-}
+pub use phase::taint;
+pub use settle::settle;

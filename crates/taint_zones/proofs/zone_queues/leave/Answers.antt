@@ -1,4 +1,4 @@
-use Rattle.std.proofs.Common.{rules, ◌≡◌, ◌∙◌, ℕ, sym, ap, refl, Option, Some, None}
+use Rattle.std.proofs.Common.{rules, ◌∙◌, ℕ, sym, ap, refl, Option, None}
 use Rattle.std.specs.BTreeMap.{get}
 use Rattle.std.specs.Option.{option_copied_mut}
 use Rattle.kube_base.specs.declared.numbers.Beat.{Beat}

@@ -1,8 +1,7 @@
-use Rattle.std.proofs.Common.{rules, ◌≡◌, ◌∙◌, Some, sym, ap, subst}
-use Rattle.std.specs.BTreeMap.{get, Updates}
+use Rattle.std.proofs.Common.{rules, ◌∙◌, sym, ap, subst}
 use Rattle.std.specs.Option.{option_copied_mut}
 use Rattle.taint_zones.specs.Limits.{LimitStands}
-use Rattle.taint_zones.specs.Places.{entry_place, of_place, zone_cmp}
+use Rattle.taint_zones.specs.Places.{entry_place, of_place}
 use Rattle.taint_zones.proofs.Tokening.{limit_kept, limit_taken, token_is}
 use Rattle.taint_zones.proofs.zones.Zones.try_take.Goals as goal
 
