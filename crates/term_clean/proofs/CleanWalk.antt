@@ -70,7 +70,7 @@ begin_walk doc k q before h t s v told r view =
     }
 
 pub next_dirty : (q : Identity) (now : List Entry) (c : Option ℕ) (n : ℕ) → IsNextAfter (λ n. is_dirty q n now) c (Some n) → is_dirty q n now ≡ true
-next_dirty q now c n next = next.1.0
+next_dirty q now c n (later, dirty, none) = dirty
 
 pub next_walk : (doc : Doc) (k : ℕ) (q : Identity) (before : List Deed) (h now : List Entry) (c : Option ℕ) (n : ℕ) (t u : Cluster) (s z : Store) (v : View) (told more : Told)
     → Walking doc k q before h now c t s v told → IsNextAfter (λ n. is_dirty q n now) c (Some n) → Running q k before (clean doc k q n now) u z more

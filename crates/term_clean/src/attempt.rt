@@ -1,5 +1,5 @@
 // Untainting or swapping one node.
-ghost use Rattle.std.specs.Prelude.{◌≡◌, ◌≤◌, ◌+◌, ◌×◌, ℕ, true, List, OnOk, IfOk};
+ghost use Rattle.std.specs.Prelude.{◌≡◌, ◌≤◌, ◌+◌, ℕ, true, List, Some, OnOk, IfOk};
 ghost use Rattle.kube_objects.specs.Clocks.{wall};
 ghost use Rattle.kube_objects.specs.Document.{Doc};
 ghost use Rattle.kube_objects.specs.Entry.{Entry, Identity};
@@ -33,10 +33,10 @@ pub(crate) fn clean_one<L>(
     name: u32,
 ) -> Result<(), NoMemory>
     ensures stands { (doc : Doc) (k : ℕ) (q : Identity) (before : List Deed) (h : List Entry) → Running q k before h cluster.old store.old told.old
-        → IsView doc k q h view.now → is_dirty q name h ≡ true
+        → IsView doc k q h view.entry.now → is_dirty q name h ≡ true
         → OnOk result (Running q k before (tick.clean doc k q name h) cluster.new store.new told.new) }
     ensures counted { (doc : Doc) (k : ℕ) (q : Identity) (before : List Deed) (h : List Entry) → Running q k before h cluster.old store.old told.old
-        → IsView doc k q h view.now → is_dirty q name h ≡ true
+        → IsView doc k q h view.entry.now → is_dirty q name h ≡ true
         → OnOk result (steps.new + tick_cost q k h ≤ steps.old + tick_cost q k (tick.clean doc k q name h)) }
 {
     let Some((given, node)) = cluster.node(name) else {
@@ -44,7 +44,9 @@ pub(crate) fn clean_one<L>(
     };
     let wants = want_of(cluster.mode(), node);
     let written = cleaned(wants, node, view.wall)?;
-    attempt(cluster, store, view, told, steps, name, given, wants, written)
+    attempt(
+        cluster, store, view, told, steps, name, given, wants, written,
+    )
 }
 
 // The node that is written: without condition taints, or with the wanted one in the place of the other.
@@ -72,13 +74,13 @@ fn attempt<L>(
     written: Node,
 ) -> Result<(), NoMemory>
     ensures stands { (doc : Doc) (k : ℕ) (q : Identity) (before : List Deed) (h : List Entry) (node : Node)
-        → Running q k before h cluster.old store.old told.old → IsView doc k q h view.now → written ≡ cleaned_node doc k q node (wants_of wants)
+        → Running q k before h cluster.old store.old told.old → IsView doc k q h view.entry.now → written ≡ cleaned_node doc k q node (wants_of wants)
         → OnOk result (Running q k before (tick.add k q (cleaning doc k q name given node (wants_of wants) (tries.try_node q name given h)) h)
-            cluster.new store.new told.new) }
+        cluster.new store.new told.new) }
     ensures counted { (doc : Doc) (k : ℕ) (q : Identity) (before : List Deed) (h : List Entry) (node : Node)
-        → Running q k before h cluster.old store.old told.old → IsView doc k q h view.now → written ≡ cleaned_node doc k q node (wants_of wants)
+        → Running q k before h cluster.old store.old told.old → IsView doc k q h view.entry.now → written ≡ cleaned_node doc k q node (wants_of wants)
         → OnOk result (steps.new + tick_cost q k h
-            ≤ steps.old + tick_cost q k (tick.add k q (cleaning doc k q name given node (wants_of wants) (tries.try_node q name given h)) h)) }
+        ≤ steps.old + tick_cost q k (tick.add k q (cleaning doc k q name given node (wants_of wants) (tries.try_node q name given h)) h)) }
 {
     let answer = try_node(store, view.passes, name, given, &written)?;
     tell(told, name, wants, answer)?;
@@ -86,12 +88,7 @@ fn attempt<L>(
 }
 
 // Tells of a try that was answered.
-fn tell(
-    told: &mut Told,
-    name: u32,
-    wants: Wants,
-    answer: Option<Answer>,
-) -> Result<(), NoMemory>
+fn tell(told: &mut Told, name: u32, wants: Wants, answer: Option<Answer>) -> Result<(), NoMemory>
     ensures { (doc : Doc) (k : ℕ) (q : Identity) (before : List Deed) (h : List Entry) (given : Version) (node : Node) → IsTold q k before h told.old
         → OnOk result (IsTold q k before (tick.add k q (cleaning doc k q name given node (wants_of wants) answer) h) told.new) }
 {
@@ -122,9 +119,28 @@ fn note<L>(
 {
     match answer {
         None => Ok(()),
-        Some(Answer::Done(version)) => cluster.note_node(name, version, written, steps),
-        Some(Answer::Absent) => cluster.refuse_node(name),
-        Some(Answer::Exists) => cluster.refuse_node(name),
-        Some(Answer::Conflict(_)) => cluster.refuse_node(name),
+        Some(answer) => note_answer(cluster, steps, name, written, answer),
+    }
+}
+
+fn note_answer<L>(
+    cluster: &mut Cluster,
+    steps: &mut Steps<L>,
+    name: u32,
+    written: Node,
+    answer: Answer,
+) -> Result<(), NoMemory>
+    ensures stands { (q : Identity) (k : ℕ) (h g : List Entry) → ClusterStands q h cluster.old → IsMoved q k h cluster.old → is_synced q h ≡ true
+        → before_tick q k g ≡ before_tick q k h → IsChange q h g (noted_by name written (Some answer)) (refused_by (node_key name) (Some answer))
+        → OnOk result (ClusterStands q g cluster.new × IsMoved q k g cluster.new) }
+    ensures counted { (q : Identity) (h g : List Entry) → ClusterStands q h cluster.old → is_synced q h ≡ true
+        → IsChange q h g (noted_by name written (Some answer)) (refused_by (node_key name) (Some answer))
+        → OnOk result (steps.new ≤ steps.old + own_cost q g (try_write (node_write name written) (Some answer))) }
+{
+    match answer {
+        Answer::Done(version) => cluster.note_node(name, version, written, steps),
+        Answer::Absent => cluster.refuse_node(name),
+        Answer::Exists => cluster.refuse_node(name),
+        Answer::Conflict(_) => cluster.refuse_node(name),
     }
 }

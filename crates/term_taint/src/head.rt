@@ -1,5 +1,5 @@
 // The queued taint of one zone.
-ghost use Rattle.std.specs.Prelude.{◌≡◌, ◌≤◌, ◌+◌, ◌×◌, ◌==◌, ℕ, true, List, Some, OnOk, IfOk, if◌then◌else◌};
+ghost use Rattle.std.specs.Prelude.{◌≡◌, ◌≤◌, ◌+◌, ◌==◌, ℕ, true, List, Some, None, OnOk, IfOk, if◌then◌else◌};
 ghost use Rattle.kube_objects.specs.Document.{Doc};
 ghost use Rattle.kube_objects.specs.Entry.{Entry, Head, Identity};
 ghost use Rattle.kube_objects.specs.Entry as entry_words;
@@ -40,10 +40,10 @@ pub(crate) fn taint_first<L>(
 ) -> Result<(), NoMemory>
     requires { view.now.now.0 ≤ 2000000000000000000 }
     ensures stands { (doc : Doc) (q : Identity) (k : ℕ) (before : List Deed) (h : List Entry)
-        → Heading doc q k before h zones.old cluster.old store.old told.old → IsView doc k q h view.now
+        → Heading doc q k before h zones.old cluster.old store.old told.old → IsView doc k q h view.entry.now
         → OnOk result (Heading doc q k before (tick.taint doc k q (entry_place place) h) zones.new cluster.new store.new told.new) }
     ensures counted { (doc : Doc) (q : Identity) (k : ℕ) (before : List Deed) (h : List Entry)
-        → Heading doc q k before h zones.old cluster.old store.old told.old → IsView doc k q h view.now
+        → Heading doc q k before h zones.old cluster.old store.old told.old → IsView doc k q h view.entry.now
         → OnOk result (steps.new + tick_cost q k h ≤ steps.old + tick_cost q k (tick.taint doc k q (entry_place place) h)) }
 {
     let Some(name) = zones.queues.head(place) else {
@@ -55,7 +55,17 @@ pub(crate) fn taint_first<L>(
     let Some(lacking) = lacking(cluster, name, view.wall)? else {
         return Ok(());
     };
-    attempt(&mut zones.queues, cluster, store, view, told, steps, place, name, lacking)
+    attempt(
+        &mut zones.queues,
+        cluster,
+        store,
+        view,
+        told,
+        steps,
+        place,
+        name,
+        lacking,
+    )
 }
 
 // A node that wants a taint: its version, the taint's key, and the node with the taint.
@@ -98,14 +108,14 @@ fn attempt<L>(
     lacking: Lacking,
 ) -> Result<(), NoMemory>
     ensures stands { (doc : Doc) (k : ℕ) (q : Identity) (before : List Deed) (h : List Entry)
-        → Running q k before h cluster.old store.old told.old → IsView doc k q h view.now
+        → Running q k before h cluster.old store.old told.old → IsView doc k q h view.entry.now
         → OnOk result (Running q k before (headed k q (entry_place place) name lacking h) cluster.new store.new told.new) }
     ensures queues { (doc : Doc) (k : ℕ) (q : Identity) (before : List Deed) (h : List Entry)
-        → Running q k before h cluster.old store.old told.old → IsView doc k q h view.now
+        → Running q k before h cluster.old store.old told.old → IsView doc k q h view.entry.now
         → OnOk result ((zone : Place) (other : ℕ) → since queues.new zone other
-            ≡ (if name == other then requeued (tries.try_node q name lacking.given h) place zone k (since queues.old zone name) else since queues.old zone other)) }
+        ≡ (if name == other then requeued (tries.try_node q name lacking.given h) place zone k (since queues.old zone name) else since queues.old zone other)) }
     ensures counted { (doc : Doc) (k : ℕ) (q : Identity) (before : List Deed) (h : List Entry)
-        → Running q k before h cluster.old store.old told.old → IsView doc k q h view.now
+        → Running q k before h cluster.old store.old told.old → IsView doc k q h view.entry.now
         → OnOk result (steps.new + tick_cost q k h ≤ steps.old + tick_cost q k (headed k q (entry_place place) name lacking h)) }
 {
     let answer = try_node(store, view.passes, name, lacking.given, &lacking.written)?;
@@ -132,11 +142,20 @@ fn requeue(queues: &mut Queues, place: Place, name: u32, at: Beat, answer: Optio
         ≡ (if name == other then requeued answer place zone at.0 (since queues.old zone name) else since queues.old zone other) }
 {
     match answer {
-        Some(Answer::Done(_)) => queues.leave(name),
         None => queues.to_back(place, name, at),
-        Some(Answer::Absent) => queues.to_back(place, name, at),
-        Some(Answer::Exists) => queues.to_back(place, name, at),
-        Some(Answer::Conflict(_)) => queues.to_back(place, name, at),
+        Some(answer) => requeue_answered(queues, place, name, at, answer),
+    }
+}
+
+fn requeue_answered(queues: &mut Queues, place: Place, name: u32, at: Beat, answer: Answer)
+    ensures { (zone : Place) (other : ℕ) → since queues.new zone other
+        ≡ (if name == other then requeued (Some answer) place zone at.0 (since queues.old zone name) else since queues.old zone other) }
+{
+    match answer {
+        Answer::Done(_) => queues.leave(name),
+        Answer::Absent => queues.to_back(place, name, at),
+        Answer::Exists => queues.to_back(place, name, at),
+        Answer::Conflict(_) => queues.to_back(place, name, at),
     }
 }
 
@@ -156,10 +175,29 @@ fn note<L>(
         → OnOk result (steps.new ≤ steps.old + own_cost q g (try_write (node_write name written) answer)) }
 {
     match answer {
-        Some(Answer::Done(version)) => cluster.note_node(name, version, written, steps),
         None => Ok(()),
-        Some(Answer::Absent) => Ok(()),
-        Some(Answer::Exists) => Ok(()),
-        Some(Answer::Conflict(_)) => Ok(()),
+        Some(answer) => note_answer(cluster, steps, name, written, answer),
+    }
+}
+
+fn note_answer<L>(
+    cluster: &mut Cluster,
+    steps: &mut Steps<L>,
+    name: u32,
+    written: Node,
+    answer: Answer,
+) -> Result<(), NoMemory>
+    ensures stands { (q : Identity) (k : ℕ) (h g : List Entry) → ClusterStands q h cluster.old → IsMoved q k h cluster.old → is_synced q h ≡ true
+        → before_tick q k g ≡ before_tick q k h → IsChange q h g (noted_by name written (Some answer)) None
+        → OnOk result (ClusterStands q g cluster.new × IsMoved q k g cluster.new) }
+    ensures counted { (q : Identity) (h g : List Entry) → ClusterStands q h cluster.old → is_synced q h ≡ true
+        → IsChange q h g (noted_by name written (Some answer)) None
+        → OnOk result (steps.new ≤ steps.old + own_cost q g (try_write (node_write name written) (Some answer))) }
+{
+    match answer {
+        Answer::Done(version) => cluster.note_node(name, version, written, steps),
+        Answer::Absent => Ok(()),
+        Answer::Exists => Ok(()),
+        Answer::Conflict(_) => Ok(()),
     }
 }

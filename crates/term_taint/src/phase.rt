@@ -30,10 +30,10 @@ pub fn taint<L>(
 ) -> Result<(), NoMemory>
     requires { view.now.now.0 ≤ 2000000000000000000 }
     ensures stands { (doc : Doc) (q : Identity) (k : ℕ) (before : List Deed) (h : List Entry)
-        → Heading doc q k before h zones.old cluster.old store.old told.old → IsView doc k q h view.now
+        → Heading doc q k before h zones.old cluster.old store.old told.old → IsView doc k q h view.entry.now
         → OnOk result (Heading doc q k before (tick.tainted doc k q h) zones.new cluster.new store.new told.new) }
     ensures counted { (doc : Doc) (q : Identity) (k : ℕ) (before : List Deed) (h : List Entry)
-        → Heading doc q k before h zones.old cluster.old store.old told.old → IsView doc k q h view.now
+        → Heading doc q k before h zones.old cluster.old store.old told.old → IsView doc k q h view.entry.now
         → OnOk result (steps.new + tick_cost q k h ≤ steps.old + tick_cost q k (tick.tainted doc k q h)) }
 {
     let mut next = zones.queues.next_zone(None);
