@@ -1,5 +1,5 @@
 -- What is left to judge.
-use Rattle.std.proofs.Common.{◌≡◌, ◌∙◌, ℕ, zero, suc, ◌+◌, drop, slice_get, ◌==◌, ◌&&◌, ◌||◌, not, Bool, true, false, List, [], ◌∷◌, Option, Some, None, refl, sym, ap, subst, arith}
+use Rattle.std.proofs.Common.{◌≡◌, ◌∙◌, ℕ, zero, suc, ◌+◌, add-one, drop, slice_get, ◌==◌, ◌&&◌, ◌||◌, not, Bool, true, false, List, [], ◌∷◌, Option, Some, None, refl, sym, ap, subst, arith}
 use Rattle.std.proofs.lemmas.Bool.Decides.{nat_tests}
 use Rattle.kube_base.specs.declared.numbers.Version.{Version}
 use Rattle.kube_objects.specs.declared.key.Key.{Key}
@@ -57,17 +57,17 @@ node_tests true there out = refl
 node_tests false there out = ap (λ b. b && true) out
 
 pod_tests : (own on later : Bool) → own ≡ false → later ≡ false → ((own || (on || later)) && not on) ≡ false
-pod_tests true on later no out = absurd (false_is (sym no))
-pod_tests false true later no out = refl
-pod_tests false false later no out = ap (λ b. b && true) out
+pod_tests true on later nothing out = absurd (false_is (sym nothing))
+pod_tests false true later nothing out = refl
+pod_tests false false later nothing out = ap (λ b. b && true) out
 
 -- no pod's key is a node's
 own_none : (name : ℕ) (p : Key) (there : Bool) → (is_pod p.kind && there) ≡ false → (is_pod p.kind && (key_eq (node_key name) p || there)) ≡ false
 own_none name p there out = by_kind (is_pod p.kind) refl out
   where
     by_kind : (b : Bool) → is_pod p.kind ≡ b → (b && there) ≡ false → (b && (key_eq (node_key name) p || there)) ≡ false
-    by_kind true kind no = ap (λ b. b || there) (node_no_pod name p kind) ∙ no
-    by_kind false kind no = refl
+    by_kind true kind nothing = ap (λ b. b || there) (node_no_pod name p kind) ∙ nothing
+    by_kind false kind nothing = refl
 
 pub next_node : (q : Identity) (g : List Entry) (name : ℕ) (rest : List Key) (c : Cluster)
     → ClusterBut q g (but_node name (λ n. is_among (node_key name ∷ rest) (node_key n))) (λ p. is_open q g (node_key name ∷ rest) p && not (is_on name (seen_pod q p g))) c → LeftBut q g rest c
@@ -129,13 +129,16 @@ next_other q g key rest c differs kind s =
 
 -- ---- the rest of the changes
 
+some_same : (a b : Key) → ◌≡◌ {A = Option Key} (Some a) (Some b) → a ≡ b
+some_same a b is = cc
+
 pub next_drop : (keys : List Key) (n : ℕ) (key : Key) → slice_get keys n ≡ Some key → drop n keys ≡ key ∷ drop (n + 1) keys
-next_drop [] n key is = absurd (cc)
-next_drop (k ∷ ks) zero key is = first is
+next_drop keys n key is = by_place keys n is ∙ ap (λ m. key ∷ drop m keys) (sym (add-one n))
   where
-    first : ◌≡◌ {A = Option Key} (Some k) (Some key) → k ∷ ks ≡ key ∷ ks
-    first is = cc
-next_drop (k ∷ ks) (suc n) key is = next_drop ks n key is
+    by_place : (keys : List Key) (n : ℕ) → slice_get keys n ≡ Some key → drop n keys ≡ key ∷ drop (suc n) keys
+    by_place [] n is = absurd (cc)
+    by_place (k ∷ ks) zero is = ap (λ x. x ∷ ks) (some_same k key is)
+    by_place (k ∷ ks) (suc n) is = by_place ks n is
 
 pub end_left : (q : Identity) (g : List Entry) (keys : List Key) (c : Cluster) → keys ≡ [] → LeftBut q g keys c → ClusterStands q g c
 end_left q g keys c empty s = widen q g (λ n. is_among [] (node_key n)) no_node (is_open q g []) no_pod c (λ n is. refl) (λ p is. by_pod p (is_pod p.kind) (seen_pod q p g)) (subst (λ xs. LeftBut q g xs c) empty s)

@@ -6,6 +6,7 @@ pub mod Heads
 pub mod Named
 pub mod Orders
 pub mod Phases
+pub mod Quiet
 pub mod Reached
 pub mod Steps
 pub mod Syncing
