@@ -1,0 +1,7 @@
+pub mod Changes
+pub mod Judged
+pub mod Rows
+pub mod Since
+pub mod Steps
+pub mod Ticked
+pub mod Walks
