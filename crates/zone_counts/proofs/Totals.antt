@@ -1,6 +1,6 @@
 -- Counts of nodes, with one more.
 use Rattle.std.proofs.Common.{◌≡◌, ℕ, ◌+◌, ◌<◌, ◌≤◌, ◌++◌, ◌∷◌, [], List, length, Bool, true, false, cond, not, ◌&&◌, ◌==◌, nat_lt, min, Option, Some, None, refl, sym, ap, ◌∙◌, subst, arith}
-use Rattle.std.specs.Prelude.{count_by}
+use Rattle.std.specs.Prelude.{count_by, unwrap_or}
 use Rattle.std.specs.Ordering.{nat_cmp, ordering_then, is_eq}
 use Rattle.std.specs.declared.cmp.Ordering.{Ordering}
 use Rattle.std.specs.declared.cmp.Ordering.TheVariants.{Less, Equal, Greater}
@@ -10,6 +10,7 @@ use Rattle.kube_objects.specs.declared.node.Node.{Node}
 use Rattle.kube_objects.specs.Entry.{Place as Zone}
 use Rattle.kube_objects.specs.Modes.{is_in, is_ready, place_of, place_eq, ready_in, other_in, size_in}
 use Rattle.kube_objects.specs.Newest.{has}
+use Rattle.tick_laws.proofs.Orders.{same_place}
 use Rattle.zone_counts.specs.declared.counts.Count.{Count}
 use Rattle.zone_counts.specs.declared.counts.Counts.{Counts}
 use Rattle.zone_counts.specs.Counted.{CountsStand, and_one, count_at, one_more, ready_at, others_at}
@@ -17,41 +18,12 @@ use Rattle.zone_counts.specs.Counted.{CountsStand, and_one, count_at, one_more, 
 abbrev pub none : Count
 none = record { ready = 0; others = 0 }
 
-abbrev pub or_none : Option Count → Count
-or_none None = none
-or_none (Some count) = count
-
 -- a zone without a count is one without nodes
-pub and_first : (ready : Bool) (x : Option Count) → and_one ready (Some (or_none x)) ≡ and_one ready x
+pub and_first : (ready : Bool) (x : Option Count) → and_one ready (Some (unwrap_or x none)) ≡ and_one ready x
 and_first true None = refl
 and_first false None = refl
 and_first true (Some x) = refl
 and_first false (Some x) = refl
-
--- ---- zones that the order doesn't tell apart are one
-
-then_eq : (o p : Ordering) → is_eq (ordering_then o p) ≡ (is_eq o && is_eq p)
-then_eq Less p = refl
-then_eq Equal p = refl
-then_eq Greater p = refl
-
-number_same : (a b : ℕ) → is_eq (nat_cmp a b) ≡ true → a ≡ b
-number_same a b h = grind (arith, nat_tests)
-
-first_of_and : (b c : Bool) → (b && c) ≡ true → b ≡ true
-first_of_and true c h = refl
-first_of_and false c h = h
-
-second_of_and : (b c : Bool) → (b && c) ≡ true → c ≡ true
-second_of_and true c h = h
-second_of_and false c h = cc
-
-pub place_same : (a b : Zone) → place_eq a b ≡ true → a ≡ b
-place_same a b is =
-    let both = sym (then_eq (nat_cmp a.region b.region) (nat_cmp a.zone b.zone)) ∙ is in
-    let region : a.region ≡ b.region = number_same a.region b.region (first_of_and _ _ both) in
-    let zone : a.zone ≡ b.zone = number_same a.zone b.zone (second_of_and _ _ both) in
-    ap (λ n. record { region = n; zone = a.zone }) region ∙ ap (λ n. record { region = b.region; zone = n }) zone
 
 -- ---- one more node
 
@@ -120,16 +92,16 @@ says_at nodes c s place = record { there = s.there place; ready = s.ready place;
 -- one more node is counted
 pub stands_more : (nodes : List Node) (node : Node) (old new : Counts) → CountsStand nodes old → length nodes + 1 < 4294967296
     → ((other : Zone) → count_at new other
-      ≡ cond (place_eq (place_of node) other) (Some (and_one (is_ready node.ready) (count_at old (place_of node)))) (count_at old other))
+    ≡ cond (place_eq (place_of node) other) (Some (and_one (is_ready node.ready) (count_at old (place_of node)))) (count_at old other))
     → CountsStand (nodes ++ node ∷ []) new
 stands_more nodes node old new s few counted = record { there = λ p. (says p).there; ready = λ p. (says p).ready; others = λ p. (says p).others }
   where
     by_place : (place : Zone) (b : Bool) → is_in place node ≡ b
         → Says (cond b (Some (and_one (is_ready node.ready) (count_at old (place_of node)))) (count_at old place)) place (nodes ++ node ∷ [])
     by_place place true at =
-        let same : place_of node ≡ place = place_same (place_of node) place at in
+        let same : place_of node ≡ place = same_place (place_of node) place at in
         subst (λ p. Says (Some (and_one (is_ready node.ready) (count_at old p))) place (nodes ++ node ∷ [])) (sym same)
-            (here (count_at old place) place nodes node (is_ready node.ready) at refl few (says_at nodes old s place))
+        (here (count_at old place) place nodes node (is_ready node.ready) at refl few (says_at nodes old s place))
     by_place place false at = elsewhere (count_at old place) place nodes node at (says_at nodes old s place)
 
     says : (place : Zone) → Says (count_at new place) place (nodes ++ node ∷ [])

@@ -9,4 +9,4 @@ pub returns : goal.returns
 returns c other =
     c.in_ok-insert.ensures.updates.0 (as_place other)
     ∙ ap (λ x. cond (place_eq (place_as c.args.place) other) (Some x) (count_at c.args.self.now other))
-        (c.and_one-count.ensures ∙ ?)
+    (c.and_one-count.ensures ∙ ap (λ x. and_one c.args.ready (Some x)) (search rules) ∙ and_first c.args.ready (count_at c.args.self.now (place_as c.args.place)))
