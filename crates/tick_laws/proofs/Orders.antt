@@ -1,5 +1,5 @@
 -- Nodes' names, pods' keys and zones are in strict orders.
-use Rattle.std.proofs.Common.{◌≡◌, ◌∙◌, ℕ, ◌&&◌, Bool, true, false, refl, sym, ap, Less, Equal, Greater, arith}
+use Rattle.std.proofs.Common.{◌≡◌, ◌∙◌, ℕ, true, refl, ap, Less, Equal, Greater, arith}
 use Rattle.std.proofs.lemmas.Bool.Decides.{nat_tests}
 use Rattle.std.proofs.lemmas.Cmp.{nat_cmp_total, on_total, then_total}
 use Rattle.std.specs.Ordering.{nat_cmp, is_eq, ordering_then}

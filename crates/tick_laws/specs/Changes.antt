@@ -13,12 +13,12 @@ use Rattle.kube_objects.specs.Entry.{Entry, Identity, Tick, Ticks, Untaint, Swap
 use Rattle.kube_objects.specs.Keys.{key_eq}
 use Rattle.kube_objects.specs.Modes.{mode, mode_says}
 use Rattle.kube_objects.specs.Newest.{when}
-use Rattle.kube_objects.specs.Seen.{is_synced, is_stale, is_refused, tick_shows, synced_says}
-use Rattle.kube_objects.specs.Stored.{tick_write, try_write, node_write, holds, at_key, node_key}
+use Rattle.kube_objects.specs.Seen.{is_synced, is_stale, is_refused, synced_says}
+use Rattle.kube_objects.specs.Stored.{Write, next_version, tick_write, try_write, node_write, node_key}
 use Rattle.kube_objects.specs.Tainting.{Wants, Wanted}
 use Rattle.kube_objects.specs.Tick.{new_taint, untainted, swapped}
 use Rattle.tick_laws.specs.Judged.{shown}
-use Rattle.watch_cache.specs.Stands.{synced_writes, sync_says, refused_key}
+use Rattle.watch_cache.specs.Stands.{synced_writes, refused_key}
 
 -- ---- what one entry changes
 
@@ -44,6 +44,27 @@ pub record IsChange (q : Identity) (h g : List Entry) (wrote : Option Wrote) (re
 
 abbrev pub IsSame : Identity → List Entry → List Entry → Type 0
 IsSame q h g = IsChange q h g None None
+
+-- from h to g the mode becomes this
+pub record IsModeChange (q : Identity) (h g : List Entry) (on : Bool) : Type 0 where
+  pub shown : (key : Key) → shown q key g ≡ shown q key h
+  pub stale : (key : Key) → is_stale q key g ≡ is_stale q key h
+  pub mode : mode q g ≡ on
+  pub position : synced_writes q g ≡ synced_writes q h
+  pub synced : is_synced q g ≡ is_synced q h
+
+-- what an own write changes; h is the history before it
+abbrev pub with_version : Version → Option Object → Option (Version × Object)
+with_version version None = None
+with_version version (Some x) = Some (version, x)
+
+abbrev pub wrote_as : List Entry → Option Write → Option Wrote
+wrote_as h None = None
+wrote_as h (Some write) = Some (write.0, with_version (next_version h) write.1)
+
+abbrev pub wrote_key : Option Wrote → Option Key
+wrote_key None = None
+wrote_key (Some wrote) = Some wrote.0
 
 -- a node is seen as written
 abbrev pub noted : ℕ → Version → Node → Option Wrote
@@ -76,9 +97,7 @@ IsGiven next _ = Unit {0}
 -- a mark, an untaint, a swap or a queued taint
 pub record IsTryOn (name : ℕ) (written : Node) (tried : Option Answer) (t : Tick) : Type 0 where
   pub write : tick_write t ≡ try_write (node_write name written) tried
-  pub shows : (key : Key) (k : ℕ) (who : Actor) (h : List Entry) → tick_shows key k who t h ≡ holds h k who (at_key key (tick_write t))
   pub mode : (q : Identity) (who : Actor) → mode_says q who (Ticks t) ≡ None
-  pub position : (q : Identity) (who : Actor) (h : List Entry) → sync_says q who (Ticks t) h ≡ None
   pub synced : (q : Identity) (who : Actor) → synced_says q who (Ticks t) ≡ None
 
 -- one that makes its key stale where it is refused: an untaint, a swap
