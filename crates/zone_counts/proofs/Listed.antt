@@ -24,9 +24,9 @@ use Rattle.tick_laws.proofs.Orders.{places_strict, same_place}
 use Rattle.zone_counts.specs.declared.counts.Count.{Count}
 use Rattle.zone_counts.specs.declared.counts.Counts.{Counts}
 use Rattle.zone_counts.specs.declared.counts.ZoneCount.{ZoneCount}
-use Rattle.zone_counts.specs.declared.place.Place.{Place}
+use Rattle.taint_zones.specs.declared.place.Place.{Place}
 use Rattle.zone_counts.specs.Counted.{CountsStand, count_at, ready_at, others_at, zone_count, zone_counts}
-use Rattle.zone_counts.specs.Places.{as_place, place_as, zone_cmp}
+use Rattle.taint_zones.specs.Places.{of_place, entry_place, zone_cmp}
 
 abbrev pub zone_of : Place × Count → ZoneCount
 zone_of e = record { place = e.0; ready = e.1.ready; others = e.1.others }
@@ -37,7 +37,7 @@ zones_total : IsTotalOrder zone_cmp
 zones_total = then_total (on_total (λ (p : Place). p.region) nat_cmp_total) (on_total (λ (p : Place). p.zone) nat_cmp_total)
 
 zones_same : (a b : Place) → zone_cmp a b ≡ Equal → a ≡ b
-zones_same a b is = ap as_place (places_strict.same (place_as a) (place_as b) is)
+zones_same a b is = ap of_place (places_strict.same (entry_place a) (entry_place b) is)
 
 less_is : (o : Ordering) → o ≡ Less → T (is_lt o)
 less_is o is = subst (λ o. T (is_lt o)) (sym is) tt
@@ -94,9 +94,9 @@ abbrev count_of : List Node → Zone → Count
 count_of nodes place = record { ready = ready_in place nodes; others = other_in place nodes }
 
 abbrev entry_of : List Node → Zone → Place × Count
-entry_of nodes place = (as_place place, count_of nodes place)
+entry_of nodes place = (of_place place, count_of nodes place)
 
-below : (nodes : List Node) (place : Zone) (ps : List Zone) → Above place_cmp place ps → T (below_all zone_cmp (as_place place) (map (entry_of nodes) ps))
+below : (nodes : List Node) (place : Zone) (ps : List Zone) → Above place_cmp place ps → T (below_all zone_cmp (of_place place) (map (entry_of nodes) ps))
 below nodes place [] above = tt
 below nodes place (p ∷ ps) above = both _ _ (less_is _ above.0) (below nodes place ps above.1)
 
@@ -105,15 +105,15 @@ sorted nodes [] ascend = tt
 sorted nodes (p ∷ ps) ascend = both _ _ (below nodes p ps ascend.0) (sorted nodes ps ascend.1)
 
 found : (nodes : List Node) (q : Place) (ps : List Zone)
-    → find zone_cmp q (map (entry_of nodes) ps) ≡ cond (list_any (place_eq (place_as q)) ps) (Some (count_of nodes (place_as q))) None
+    → find zone_cmp q (map (entry_of nodes) ps) ≡ cond (list_any (place_eq (entry_place q)) ps) (Some (count_of nodes (entry_place q))) None
 found nodes q [] = refl
-found nodes q (p ∷ ps) = by_test (place_eq (place_as q) p) refl (found nodes q ps)
+found nodes q (p ∷ ps) = by_test (place_eq (entry_place q) p) refl (found nodes q ps)
   where
-    by_test : (b : Bool) → place_eq (place_as q) p ≡ b
-        → find zone_cmp q (map (entry_of nodes) ps) ≡ cond (list_any (place_eq (place_as q)) ps) (Some (count_of nodes (place_as q))) None
+    by_test : (b : Bool) → place_eq (entry_place q) p ≡ b
+        → find zone_cmp q (map (entry_of nodes) ps) ≡ cond (list_any (place_eq (entry_place q)) ps) (Some (count_of nodes (entry_place q))) None
         → cond b (Some (count_of nodes p)) (find zone_cmp q (map (entry_of nodes) ps))
-        ≡ cond (b || list_any (place_eq (place_as q)) ps) (Some (count_of nodes (place_as q))) None
-    by_test true is rest = ap (λ p. Some (count_of nodes p)) (sym (same_place (place_as q) p is))
+        ≡ cond (b || list_any (place_eq (entry_place q)) ps) (Some (count_of nodes (entry_place q))) None
+    by_test true is rest = ap (λ p. Some (count_of nodes p)) (sym (same_place (entry_place q) p is))
     by_test false is rest = rest
 
 ordered_below : (x : Place) (es : List (Place × Count)) → AllByRecursion (λ y. zone_cmp x y ≡ Less) (keys_of es) → T (below_all zone_cmp x es)
@@ -141,7 +141,7 @@ counts_are nodes c s o =
     same_entries zone_cmp zones_total zones_same c.zones.entries (map (entry_of nodes) (places nodes))
     (ordered c.zones.entries o) (sorted nodes (places nodes) (places_ascend nodes))
     (λ q. looked_up q c.zones.entries
-    ∙ count_is (count_at c (place_as q)) _ _ _ (s.there (place_as q) ∙ sym (there (place_as q) nodes)) (s.ready (place_as q)) (s.others (place_as q))
+    ∙ count_is (count_at c (entry_place q)) _ _ _ (s.there (entry_place q) ∙ sym (there (entry_place q) nodes)) (s.ready (entry_place q)) (s.others (entry_place q))
     ∙ sym (found nodes q (places nodes)))
 
 mapped : (nodes : List Node) (ps : List Zone) → map zone_of (map (entry_of nodes) ps) ≡ map (zone_count nodes) ps

@@ -8,11 +8,11 @@ use Rattle.kube_objects.specs.Newest.{has}
 use Rattle.zone_counts.specs.declared.counts.Count.{Count}
 use Rattle.zone_counts.specs.declared.counts.Counts.{Counts}
 use Rattle.zone_counts.specs.declared.counts.ZoneCount.{ZoneCount}
-use Rattle.zone_counts.specs.Places.{as_place, zone_cmp}
+use Rattle.taint_zones.specs.Places.{of_place, zone_cmp}
 
 -- the count that is kept for a zone
 abbrev pub count_at : Counts → model.Place → Option Count
-count_at counts place = get zone_cmp counts.zones (as_place place)
+count_at counts place = get zone_cmp counts.zones (of_place place)
 
 abbrev pub ready_at : Option Count → ℕ
 ready_at None = 0
@@ -38,7 +38,7 @@ pub record CountsStand (nodes : List Node) (counts : Counts) : Type 0 where
   pub others : (place : model.Place) → others_at (count_at counts place) ≡ other_in place nodes
 
 abbrev pub zone_count : List Node → model.Place → ZoneCount
-zone_count nodes place = record { place = as_place place; ready = ready_in place nodes; others = other_in place nodes }
+zone_count nodes place = record { place = of_place place; ready = ready_in place nodes; others = other_in place nodes }
 
 -- each zone of these nodes, in order
 abbrev pub zone_counts : List Node → List ZoneCount

@@ -5,13 +5,13 @@ ghost use Rattle.kube_objects.specs.Entry.{Place as Zone};
 ghost use Rattle.kube_objects.specs.Modes as model;
 ghost use Rattle.kube_objects.specs.declared.node.Node.{Node};
 ghost use Rattle.zone_counts.specs.Counted as counted;
-ghost use Rattle.zone_counts.specs.Places.{place_as};
+ghost use Rattle.taint_zones.specs.Places.{entry_place};
 
-use crate::Place;
 use kube_base::NoMemory;
 use kube_objects::{Node, ReadyStatus};
 use std::alloc::Global;
 use std::collections::BTreeMap;
+use taint_zones::Place;
 
 /// How many nodes of a zone are ready, and how many aren't.
 #[derive(Clone, Copy, Debug, PartialEq, Eq)]
@@ -42,6 +42,16 @@ fn is_ready(node: &Node) -> bool
     match node.ready {
         Some(ready) => ready.status == ReadyStatus::True,
         None => false,
+    }
+}
+
+// The zone that a node is in.
+fn place_of(node: &Node) -> Place
+    ensures { entry_place result ≡ model.place_of node.now }
+{
+    Place {
+        region: node.region,
+        zone: node.zone,
     }
 }
 
@@ -79,13 +89,13 @@ impl Counts {
         ensures { (nodes : List Node) → CountsStand nodes self.old → length nodes + 1 < 4294967296
             → OnOk result (CountsStand (nodes ++ node.now ∷ []) self.new) }
     {
-        self.count(Place::of(node), is_ready(node))
+        self.count(place_of(node), is_ready(node))
     }
 
     // One node more in a zone.
     fn count(&mut self, place: Place, ready: bool) -> Result<(), NoMemory>
         ensures { OnOk result ((other : Zone) → counted.count_at self.new other
-            ≡ (if model.place_eq (place_as place) other then Some (counted.and_one ready (counted.count_at self.old (place_as place))) else counted.count_at self.old other)) }
+            ≡ (if model.place_eq (entry_place place) other then Some (counted.and_one ready (counted.count_at self.old (entry_place place))) else counted.count_at self.old other)) }
     {
         let none = Count {
             ready: 0,

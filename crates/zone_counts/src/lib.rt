@@ -2,7 +2,5 @@
 #![tactic(auto)]
 
 mod counts;
-mod place;
 
 pub use counts::{Counts, ZoneCount};
-pub use place::Place;

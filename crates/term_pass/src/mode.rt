@@ -1,0 +1,1 @@
+// The mode in which every zone is disrupted.

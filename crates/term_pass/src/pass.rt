@@ -1,0 +1,2 @@
+// The pass.
+pub fn pass() {}

@@ -1,0 +1,1 @@
+// The zones' states and rates.
