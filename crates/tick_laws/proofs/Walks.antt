@@ -44,11 +44,11 @@ module _ {A : Type 0} (compare : A → A → Ordering) (strict : IsStrict compar
 
   module _ (f : A → List Entry → List Entry) where
     -- n is the next one after the place c at which something is done
-    pub walk_next : (c : Option A) (n : A) (names : List A) (h : List Entry) → is_after compare c n ≡ true → Ascends compare names → Among n names
-        → ((m : A) → is_after compare c m ≡ true → compare m n ≡ Less → f m h ≡ h)
+    pub walk_next_among : (c : Option A) (n : A) (names : List A) (h : List Entry) → is_after compare c n ≡ true → Ascends compare names → Among n names
+        → ((m : A) → Among m names → is_after compare c m ≡ true → compare m n ≡ Less → f m h ≡ h)
         → for_each f (after compare c names) h ≡ for_each f (after compare (Some n) names) (f n h)
-    walk_next c n [] h later ascends there idle = absurd there
-    walk_next c n (m ∷ ms) h later ascends (inl is) idle =
+    walk_next_among c n [] h later ascends there idle = absurd there
+    walk_next_among c n (m ∷ ms) h later ascends (inl is) idle =
         subst (λ m. Above compare m ms → for_each f (after compare c (m ∷ ms)) h ≡ for_each f (after compare (Some n) (m ∷ ms)) (f n h)) is here ascends.0
       where
         here : Above compare n ms → for_each f (after compare c (n ∷ ms)) h ≡ for_each f (after compare (Some n) (n ∷ ms)) (f n h)
@@ -56,9 +56,9 @@ module _ {A : Type 0} (compare : A → A → Ordering) (strict : IsStrict compar
             ap (λ b. for_each f (cond b (n ∷ ms) (after compare c ms)) h) later
             ∙ ap (λ xs. for_each f xs (f n h)) (sym (after_it n ms above))
             ∙ ap (λ b. for_each f (cond b (n ∷ ms) (after compare (Some n) ms)) (f n h)) (sym (not_itself n))
-    walk_next c n (m ∷ ms) h later ascends (inr there) idle =
+    walk_next_among c n (m ∷ ms) h later ascends (inr there) idle =
         by_test (is_after compare c m) refl
-        ∙ walk_next c n ms h later ascends.1 there idle
+        ∙ walk_next_among c n ms h later ascends.1 there (λ m at. idle m (inr at))
         ∙ ap (λ b. for_each f (cond b (m ∷ ms) (after compare (Some n) ms)) (f n h)) (sym (not_before m n below))
       where
         below : compare m n ≡ Less
@@ -66,14 +66,23 @@ module _ {A : Type 0} (compare : A → A → Ordering) (strict : IsStrict compar
 
         by_test : (b : Bool) → is_after compare c m ≡ b → for_each f (cond b (m ∷ ms) (after compare c ms)) h ≡ for_each f (after compare c ms) h
         by_test false test = refl
-        by_test true test = ap (for_each f ms) (idle m test below) ∙ ap (λ xs. for_each f xs h) (sym (after_above c m ms test ascends.0))
+        by_test true test = ap (for_each f ms) (idle m (inl refl) test below) ∙ ap (λ xs. for_each f xs h) (sym (after_above c m ms test ascends.0))
+
+    pub walk_next : (c : Option A) (n : A) (names : List A) (h : List Entry) → is_after compare c n ≡ true → Ascends compare names → Among n names
+        → ((m : A) → is_after compare c m ≡ true → compare m n ≡ Less → f m h ≡ h)
+        → for_each f (after compare c names) h ≡ for_each f (after compare (Some n) names) (f n h)
+    walk_next c n names h later ascends there idle = walk_next_among c n names h later ascends there (λ m at. idle m)
 
     -- at none after the place c is anything done
-    pub walk_end : (c : Option A) (names : List A) (h : List Entry) → Ascends compare names → ((m : A) → is_after compare c m ≡ true → f m h ≡ h)
+    pub walk_end_among : (c : Option A) (names : List A) (h : List Entry) → Ascends compare names → ((m : A) → Among m names → is_after compare c m ≡ true → f m h ≡ h)
         → for_each f (after compare c names) h ≡ h
-    walk_end c [] h ascends idle = refl
-    walk_end c (m ∷ ms) h ascends idle = by_test (is_after compare c m) refl ∙ walk_end c ms h ascends.1 idle
+    walk_end_among c [] h ascends idle = refl
+    walk_end_among c (m ∷ ms) h ascends idle = by_test (is_after compare c m) refl ∙ walk_end_among c ms h ascends.1 (λ m at. idle m (inr at))
       where
         by_test : (b : Bool) → is_after compare c m ≡ b → for_each f (cond b (m ∷ ms) (after compare c ms)) h ≡ for_each f (after compare c ms) h
         by_test false test = refl
-        by_test true test = ap (for_each f ms) (idle m test) ∙ ap (λ xs. for_each f xs h) (sym (after_above c m ms test ascends.0))
+        by_test true test = ap (for_each f ms) (idle m (inl refl) test) ∙ ap (λ xs. for_each f xs h) (sym (after_above c m ms test ascends.0))
+
+    pub walk_end : (c : Option A) (names : List A) (h : List Entry) → Ascends compare names → ((m : A) → is_after compare c m ≡ true → f m h ≡ h)
+        → for_each f (after compare c names) h ≡ h
+    walk_end c names h ascends idle = walk_end_among c names h ascends (λ m at. idle m)
