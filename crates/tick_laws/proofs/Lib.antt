@@ -6,3 +6,4 @@ pub mod Named
 pub mod Orders
 pub mod Tried
 pub mod Walks
+pub mod Zoning
