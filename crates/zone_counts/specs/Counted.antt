@@ -4,7 +4,9 @@ use Rattle.std.specs.BTreeMap.{get}
 use Rattle.kube_objects.specs.declared.node.Node.{Node}
 use Rattle.kube_objects.specs.Entry as model
 use Rattle.kube_objects.specs.Modes.{ready_in, other_in, size_in, places}
+use Rattle.kube_objects.specs.Modes as modes
 use Rattle.kube_objects.specs.Newest.{has}
+use Rattle.kube_objects.specs.Zones.{state_of}
 use Rattle.zone_counts.specs.declared.counts.Count.{Count}
 use Rattle.zone_counts.specs.declared.counts.Counts.{Counts}
 use Rattle.zone_counts.specs.declared.counts.ZoneCount.{ZoneCount}
@@ -43,3 +45,6 @@ zone_count nodes place = record { place = of_place place; ready = ready_in place
 -- each zone of these nodes, in order
 abbrev pub zone_counts : List Node → List ZoneCount
 zone_counts nodes = map (zone_count nodes) (places nodes)
+
+abbrev pub is_full : ZoneCount → ℕ → Bool
+is_full zone percent = modes.is_full (state_of zone.ready zone.others percent)
