@@ -1,4 +1,0 @@
-pub mod Homes
-pub mod Limits
-pub mod Places
-pub mod Waiting
