@@ -140,6 +140,13 @@ stale_aside q h g pod pods c cache d kind s u =
       kinds = kinds_changed q h g None (Some pod) d tt s.kinds;
     }
 
+none_is : {A : Type 0} (o : Option A) → has o ≡ false → o ≡ None
+none_is None is = refl
+none_is (Some x) is = absurd (false_is (sym is))
+
+unseen_before : (q : Identity) (h g : List Entry) (on : Bool) → IsModeChange q h g on → (n : ℕ) → has (seen_node q n g) ≡ false → seen_node q n h ≡ None
+unseen_before q h g on d n out = sym (same_node q n h g (d.shown (node_key n))) ∙ none_is (seen_node q n g) out
+
 -- the mode changed, and no node is judged yet
 pub mode_aside : (q : Identity) (h g : List Entry) (on : Bool) (c : Cluster) → IsModeChange q h g on → ClusterStands q h c
     → ClusterBut q g (λ n. has (seen_node q n g)) no_pod (record { alloc = c.alloc; cache = c.cache; mode = on; unclean = c.unclean; dues = c.dues; moved = c.moved })
@@ -152,14 +159,14 @@ mode_aside q h g on c d s =
         position = s.cache.position ∙ sym d.position;
       };
       mode = sym d.mode;
-      unclean = λ n out. s.unclean n refl ∙ sym (mode_unseen q h g on (record { region = 0; zone = 0 }) n d (unseen n out)).0;
+      unclean = λ n out. s.unclean n refl ∙ sym (mode_unseen q h g on (record { region = 0; zone = 0 }) n d (unseen_before q h g on d n out)).0;
       dues = λ key out. s.dues key refl ∙ sym (mode_dues q h g on d key);
       kinds = λ key there. s.kinds key (sym (ap has (same_pod q key h g (d.shown key))) ∙ there);
     }
-  where
-    none_is : {A : Type 0} (o : Option A) → has o ≡ false → o ≡ None
-    none_is None is = refl
-    none_is (Some x) is = absurd (false_is (sym is))
-
-    unseen : (n : ℕ) → has (seen_node q n g) ≡ false → seen_node q n h ≡ None
-    unseen n out = sym (same_node q n h g (d.shown (node_key n))) ∙ none_is (seen_node q n g) out
+pub mode_moved : (q : Identity) (h g : List Entry) (on : Bool) → IsModeChange q h g on → (k : ℕ) (old new : Cluster) → before_tick q k g ≡ before_tick q k h
+    → ((n : ℕ) → has_moved new n ≡ (has (seen_node q n g) || has_moved old n)) → IsMoved q k h old → IsMoved q k g new
+mode_moved q h g on d k old new beneath more s n out place =
+    let both = sym (more n) ∙ out in
+    (mode_unseen q h g on place n d (unseen_before q h g on d n (first_none (has (seen_node q n g)) (has_moved old n) both))).1
+    ∙ s n (second_none (has (seen_node q n g)) (has_moved old n) both) place
+    ∙ ap (waits q place n) (sym beneath)

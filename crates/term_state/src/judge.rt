@@ -120,7 +120,8 @@ impl Cluster {
     fn pods_of<L>(&self, name: u32, steps: &mut Steps<L>) -> Result<KeyList, NoMemory>
         ensures listed { (q : Identity) (h : List Entry) (nodes : ℕ → Bool) (pods : Key → Bool) → ClusterBut q h nodes pods self.now
             → is_synced q h ≡ true → IfOk result (AreListed (λ k. is_on name (seen_pod q k h))) }
-        ensures counted { IfOk result (λ keys. steps.new ≤ steps.old + length keys) }
+        ensures counted { (q : Identity) (h : List Entry) (nodes : ℕ → Bool) (pods : Key → Bool) → ClusterBut q h nodes pods self.now
+            → is_synced q h ≡ true → IfOk result (λ keys. steps.new ≤ steps.old + length keys) }
     {
         match self.cache.pods_of(name, steps) {
             Ok(keys) => Ok(keys),

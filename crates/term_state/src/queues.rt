@@ -56,6 +56,8 @@ impl Cluster {
         let mut todo = BTreeSet::new(self.alloc);
         while let Some(pod) = self.dues.next_due(u128::from(now.0), steps) {
             todo.insert(pod)?;
+            // It is read, so that it is known to be a usize.
+            let _ = todo.len();
         }
         Ok(todo)
     }

@@ -6,7 +6,7 @@ ghost use Rattle.kube_objects.specs.Seen as seen_words;
 ghost use Rattle.kube_objects.specs.Stored.{node_key};
 ghost use Rattle.kube_objects.specs.Tick.{add};
 ghost use Rattle.object_store.specs.Stands.{StoreStands};
-ghost use Rattle.tick_laws.specs.Since.{keys_since};
+ghost use Rattle.tick_laws.specs.Since.{AreReached, keys_since};
 
 use crate::Cluster;
 use kube_base::{NoMemory, Steps};
@@ -17,7 +17,7 @@ use watch_cache::NotSynced;
 impl Cluster {
     ghost use Rattle.watch_cache.specs.Stands.{position_in, synced_writes};
     ghost use Rattle.term_state.specs.ClusterStands.{ClusterBut, ClusterStands, has_moved};
-    ghost use Rattle.term_state.specs.Taking.{AreReached, is_open};
+    ghost use Rattle.term_state.specs.Taking.{is_open};
 
     /// How many writes the store had had at the last sync; 0 before the first.
     pub fn position(&self) -> u64
@@ -48,6 +48,7 @@ impl Cluster {
         if position > store.changes() {
             return Ok(());
         }
-        self.cache.sync_since(&store.since(position), steps)
+        self.cache.sync_since(&store.since(position), steps)?;
+        Ok(())
     }
 }

@@ -92,6 +92,25 @@ by_now_seen now q pod h is = by_due (seen_due q pod h) refl is
     by_due Never same is = absurd (false_is is)
     by_due (At at) same is = (at, same, is)
 
+pub due_is_pod : (now : ℕ) (q : Identity) (pod : Key) (h : List Entry) → is_by_now now (seen_due q pod h) ≡ true → is_pod pod.kind ≡ true
+due_is_pod now q pod h is =
+    let found = by_now_seen now q pod h is in
+    (due_seen q pod h found.0 found.1).kind
+
+pub due_is_fresh : (now : ℕ) (q : Identity) (pod : Key) (h : List Entry) → is_by_now now (seen_due q pod h) ≡ true → is_stale q pod h ≡ false
+due_is_fresh now q pod h is =
+    let found = by_now_seen now q pod h is in
+    (due_seen q pod h found.0 found.1).fresh
+
+-- the due of a pod that isn't stale
+pub due_of : (q : Identity) (pod : Key) (h : List Entry) (x : Version × Pod) (y : Version × Node) → is_pod pod.kind ≡ true → is_stale q pod h ≡ false → seen_pod q pod h ≡ Some x → seen_node q x.1.node h ≡ Some y
+    → seen_due q pod h ≡ due x.1 y.1
+due_of q pod h x y kind fresh sees sees_node =
+    ap (λ b. due_as q (not b || is_stale q pod h) (seen_pod q pod h) h) kind
+    ∙ ap (λ b. due_as q b (seen_pod q pod h) h) fresh
+    ∙ ap (λ o. due_as q false o h) sees
+    ∙ ap (due_on x.1) sees_node
+
 module _ (doc : Doc) (k : ℕ) (q : Identity) where
   -- a pod that isn't due by now adds nothing
   pub evict_idle : (pod : Key) (h : List Entry) → is_pod pod.kind ≡ true → is_by_now (wall doc q.process k) (seen_due q pod h) ≡ false → evict doc k q pod h ≡ h
@@ -119,6 +138,15 @@ module _ (doc : Doc) (k : ℕ) (q : Identity) where
       ∙ ap (λ o. evict_on doc k q pod s.x o h) s.sees_node
       ∙ ap (λ d. evict_due doc k q pod s.x.0 s.x.1.node s.y.0 d h) s.time
       ∙ ap (λ b. delete_if k q pod s.x.0 s.x.1.node s.y.0 at b h) now
+
+  -- the same from what is seen
+  pub due_adds : (pod : Key) (h : List Entry) (x : Version × Pod) (y : Version × Node) (at : ℕ) → is_by_now (wall doc q.process k) (seen_due q pod h) ≡ true → seen_pod q pod h ≡ Some x → seen_node q x.1.node h ≡ Some y
+      → due x.1 y.1 ≡ At at → evict doc k q pod h ≡ add k q (Delete pod x.0 y.0 at (try_delete q pod x.0 x.1.node y.0 h)) h
+  due_adds pod h x y at now sees sees_node time =
+      let kind = due_is_pod (wall doc q.process k) q pod h now in
+      let fresh = due_is_fresh (wall doc q.process k) q pod h now in
+      evict_adds pod h at (record { kind = kind; fresh = fresh; x = x; sees = sees; y = y; sees_node = sees_node; time = time })
+      (ap (is_by_now (wall doc q.process k)) (sym (due_of q pod h x y kind fresh sees sees_node ∙ time)) ∙ now)
 
   -- an eviction leaves the history, or adds one delete of the pod
   pub evict_either : (pod : Key) (h : List Entry) (P : List Entry → Type 0) → P h → ((given node_given : Version) (at : ℕ) (a : Option Answer) → P (add k q (Delete pod given node_given at a) h)) → P (evict doc k q pod h)

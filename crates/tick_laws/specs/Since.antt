@@ -7,7 +7,7 @@ use Rattle.kube_objects.specs.declared.pod.Pod.{Pod}
 use Rattle.kube_objects.specs.Entry.{Entry, Identity, Deed, Ticks, Sync}
 use Rattle.kube_objects.specs.Feeds.{is_among}
 use Rattle.kube_objects.specs.Identities.{is_by}
-use Rattle.kube_objects.specs.Seen.{seen_pod}
+use Rattle.kube_objects.specs.Seen.{seen_pod, is_stale}
 use Rattle.kube_objects.specs.Stored.{write_of, node_key}
 use Rattle.watch_cache.specs.Stands.{and_key}
 
@@ -27,3 +27,7 @@ is_node_among keys (Some x) = is_among keys (node_key x.1.node)
 -- since the last sync the key was written, or the node that its pod is seen on
 abbrev pub IsReached : Identity → List Entry → Key → Type 0
 IsReached q h key = (is_among (keys_since q h) key || is_node_among (keys_since q h) (seen_pod q key h)) ≡ true
+
+-- that holds of each stale key
+abbrev pub AreReached : Identity → List Entry → Type 0
+AreReached q h = (key : Key) → is_stale q key h ≡ true → IsReached q h key
