@@ -2,7 +2,6 @@
 use Rattle.std.specs.Prelude.{◌≡◌, ◌≤◌, ◌+◌, ℕ, Bool, List, Option, Some, None, option_map}
 use Rattle.kube_base.specs.declared.numbers.Local.{Local}
 use Rattle.kube_objects.specs.declared.deed.Deed.{Deed}
-use Rattle.kube_objects.specs.declared.settings.Settings2.{Settings2}
 use Rattle.kube_objects.specs.Clocks.{local}
 use Rattle.kube_objects.specs.Document.{Doc}
 use Rattle.kube_objects.specs.Entry.{Entry, Identity, Pass}
@@ -15,17 +14,6 @@ use Rattle.term_state.specs.Running.{Running}
 use Rattle.term_state.specs.declared.cluster.Cluster.{Cluster}
 use Rattle.term_state.specs.declared.told.Told.{Told}
 use Rattle.tick_laws.specs.Steps.{tick_cost}
-
--- the settings are the document's
-pub record AreSettings (doc : Doc) (s : Settings2) : Type 0 where
-  pub monitor : s.monitor_period_millis ≡ doc.settings.monitor_period_millis
-  pub grace : s.grace_period_millis ≡ doc.settings.grace_period_millis
-  pub startup : s.startup_grace_millis ≡ doc.settings.startup_grace_millis
-  pub primary : s.primary_rate ≡ doc.settings.primary_rate
-  pub secondary : s.secondary_rate ≡ doc.settings.secondary_rate
-  pub large : s.large_zone ≡ doc.settings.large_zone
-  pub percent : s.unhealthy_percent ≡ doc.settings.unhealthy_percent
-  pub policy : s.rate_policy ≡ doc.settings.rate_policy
 
 abbrev pub reading_of : Option Local → Option ℕ
 reading_of None = None

@@ -2,6 +2,7 @@
 //! states and rates.
 #![tactic(auto)]
 
+mod count;
 mod due;
 mod looks;
 mod mark;
