@@ -12,14 +12,17 @@ use Rattle.kube_objects.specs.Entry.{Entry, Identity}
 use Rattle.kube_objects.specs.Keys.{key_cmp, key_eq}
 use Rattle.kube_objects.specs.Seen.{is_pod, pod_keys}
 use Rattle.kube_objects.specs.Tick.{evict, evicted, for_each}
+use Rattle.kube_objects.specs.Tries.{try_delete}
 use Rattle.history_laws.proofs.Plainly.{false_is}
 use Rattle.object_store.specs.declared.store.Store.{Store}
 use Rattle.tick_laws.specs.Judged.{is_by_now, seen_due}
+use Rattle.tick_laws.specs.Steps.{tick_cost}
 use Rattle.tick_laws.specs.Ticked.{IsTicked}
 use Rattle.tick_laws.specs.Walks.{Among, after, is_after}
-use Rattle.tick_laws.proofs.Evicting.{by_now_seen, due_is_pod, due_seen, evict_end, evict_next, evict_others}
+use Rattle.tick_laws.proofs.Evicting.{by_now_seen, due_is_pod, due_seen, evict_adds, evict_end, evict_next, evict_others}
 use Rattle.tick_laws.proofs.Named.{pod_is_named}
 use Rattle.tick_laws.proofs.Orders.{keys_strict}
+use Rattle.tick_laws.proofs.Steps.{cost_delete}
 use Rattle.tick_laws.proofs.Ticked.{evict_ticked, ticked_losses, ticked_watches}
 use Rattle.tick_laws.proofs.Walks.{after_none}
 use Rattle.term_state.specs.declared.cluster.Cluster.{Cluster}
@@ -164,3 +167,12 @@ module _ (doc : Doc) (k : ℕ) (q : Identity) (before : List Deed) (h now : List
         told = w.deleting.told;
         synced = w.deleting.synced;
       })
+
+-- ---- steps
+
+pub evict_costs : (doc : Doc) (k : ℕ) (q : Identity) (pod : Key) (h : List Entry) → is_by_now (wall doc q.process k) (seen_due q pod h) ≡ true → 2 + tick_cost q k h ≤ tick_cost q k (evict doc k q pod h)
+evict_costs doc k q pod h now =
+    let found = by_now_seen (wall doc q.process k) q pod h now in
+    let s = due_seen q pod h found.0 found.1 in
+    subst (λ g. 2 + tick_cost q k h ≤ tick_cost q k g) (sym (evict_adds doc k q pod h found.0 s found.2))
+    (cost_delete q k h pod s.x.0 s.y.0 found.0 (try_delete q pod s.x.0 s.x.1.node s.y.0 h))

@@ -5,4 +5,5 @@ pub mod Counted
 pub mod Judging
 pub mod Takes
 pub mod TakingDue
+pub mod Telling
 pub mod Widen

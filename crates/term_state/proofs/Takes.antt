@@ -1,5 +1,5 @@
 -- A sync takes over what was written.
-use Rattle.std.proofs.Common.{◌≡◌, ◌∙◌, ℕ, ◌+◌, ◌≤◌, ◌||◌, Bool, true, false, cond, List, [], ◌∷◌, Option, Some, None, refl, sym, ap, subst, length, drop}
+use Rattle.std.proofs.Common.{◌≡◌, ◌∙◌, ℕ, ◌+◌, ◌≤◌, ◌&&◌, ◌||◌, Bool, true, false, cond, List, [], ◌∷◌, Option, Some, None, refl, sym, ap, subst, length, drop}
 use Rattle.kube_base.specs.declared.numbers.Version.{Version}
 use Rattle.kube_objects.specs.declared.key.Key.{Key}
 use Rattle.kube_objects.specs.declared.key.Kind.{Kind}
@@ -18,10 +18,11 @@ use Rattle.object_store.specs.FeedLaws.{kinds_in}
 use Rattle.object_store.specs.Stands.{StoreStands, shown_in}
 use Rattle.object_store.specs.StoreAnswers.{changed_keys, kept_of}
 use Rattle.object_store.specs.declared.store.Store.{Store}
-use Rattle.tick_laws.specs.Judged.{shown}
+use Rattle.tick_laws.specs.Judged.{seen_due, shown}
 use Rattle.tick_laws.specs.Since.{AreReached, is_node_among, keys_since}
 use Rattle.tick_laws.proofs.Frames.{pod_shown}
 use Rattle.tick_laws.proofs.Syncing.{keys_since_is, sync_dirty, sync_due, sync_keeps, sync_pod, sync_position, sync_shows, sync_stale, sync_synced}
+use Rattle.tick_laws.proofs.Tried.{no_pod_never}
 use Rattle.watch_cache.specs.declared.cache.Cache.{Cache}
 use Rattle.watch_cache.specs.Kept.{kept, of_kind}
 use Rattle.watch_cache.specs.Stands.{and_key, kept_in, position_in, stale_in, synced_in, synced_writes, written_keys}
@@ -94,8 +95,8 @@ module _ (q : Identity) (k : ℕ) (h : List Entry) (c : Cluster) (cache : Cache)
         };
         mode = s.mode;
         unclean = λ n out. s.unclean n refl ∙ sym (sync_dirty q k h n out (fresh_node q h s.kinds r n out));
-        dues = λ key out. s.dues key refl ∙ sym (due_stays key (first_none (is_among (keys_since q h) key) (is_node_among (keys_since q h) (seen_pod q key (add k q Sync h))) out)
-            (second_none (is_among (keys_since q h) key) (is_node_among (keys_since q h) (seen_pod q key (add k q Sync h))) out));
+        dues = λ key out. s.dues key refl ∙ by_kind key (is_pod key.kind) refl (first_none (is_pod key.kind && is_among (keys_since q h) key) (is_node_among (keys_since q h) (seen_pod q key (add k q Sync h))) out)
+            (second_none (is_pod key.kind && is_among (keys_since q h) key) (is_node_among (keys_since q h) (seen_pod q key (add k q Sync h))) out);
         kinds = λ key there. stored_kind h store key (stored key h) (st.objects key) (sym (ap has (sym (pod_shown q key (add k q Sync h)) ∙ ap (of_kind pod_in) (sync_shows q k h key))) ∙ there);
       }
     where
@@ -105,3 +106,7 @@ module _ (q : Identity) (k : ℕ) (h : List Entry) (c : Cluster) (cache : Cache)
 
       due_stays : (key : Key) → is_among (keys_since q h) key ≡ false → is_node_among (keys_since q h) (seen_pod q key (add k q Sync h)) ≡ false → seen_due q key (add k q Sync h) ≡ seen_due q key h
       due_stays key out on = sync_due q k h key out (fresh_pod q h s.kinds r key out (ap (is_node_among (keys_since q h)) (sym (sync_pod q k h key out)) ∙ on)) on
+
+      by_kind : (key : Key) (b : Bool) → is_pod key.kind ≡ b → (b && is_among (keys_since q h) key) ≡ false → is_node_among (keys_since q h) (seen_pod q key (add k q Sync h)) ≡ false → seen_due q key h ≡ seen_due q key (add k q Sync h)
+      by_kind key true kind out on = sym (due_stays key out on)
+      by_kind key false kind out on = no_pod_never q key h kind ∙ sym (no_pod_never q key (add k q Sync h) kind)

@@ -7,6 +7,7 @@ pub mod Marking
 pub mod Named
 pub mod Orders
 pub mod Phases
+pub mod Quiet
 pub mod Reached
 pub mod Steps
 pub mod Syncing

@@ -15,7 +15,7 @@ use Rattle.kube_objects.specs.Newest.{when}
 use Rattle.kube_objects.specs.Seen.{seen_node, is_fresh, is_stale, is_refused, node_names, pod_keys}
 use Rattle.kube_objects.specs.Stored.{node_key}
 use Rattle.kube_objects.specs.Tainting.{Wants, Nothing, Wanted, Whatever, wants, has_condition, is_opposite}
-use Rattle.kube_objects.specs.Tick.{add, for_each, sync_if, sync, mark_as, mark_seen, mark, mode_if, is_same_mode, mode_as, set_mode, zone_if, zone_as, zone, marks, pass_if, pass, untaint_if, swap_if, clean_as, clean_seen, clean, cleaned, taint, tainted, evict, evicted, tick}
+use Rattle.kube_objects.specs.Tick.{add, for_each, sync_if, sync, mark_as, mark_seen, mark, mode_if, is_same_mode, mode_as, set_mode, zone_if, zone_as, zone, set_zones, marks, pass_if, pass, untaint_if, swap_if, clean_as, clean_seen, clean, cleaned, taint, tainted, evict, evicted, tick}
 use Rattle.kube_objects.specs.Tokens.{rated, is_rated, base}
 use Rattle.kube_objects.specs.Tries.{try_node}
 use Rattle.history_laws.proofs.Plainly.{false_is, true_is, none_is, some_is}
@@ -94,17 +94,20 @@ module _ (doc : Doc) (k : ℕ) (q : Identity) (P : List Entry → Type 0) where
         by_state : (s : ZoneState) (rate : ℕ) → P (zone_as k q place s rate h)
         by_state s rate = by_test s rate (is_rated s rate (rated q place h))
 
+    -- marks, mode and zones, after the entry of the pass
+    pub pass_rest : (h : List Entry) → P h → P (set_zones doc k q (set_mode doc k q (marks doc k q h)))
+    pass_rest h p =
+        let marked = marks doc k q h in
+        let moded = set_mode doc k q marked in
+        every (zone doc k q (nodes q moded)) P (zone_step (nodes q moded)) (places (nodes q moded)) moded
+        (mode_step marked (every (mark doc k q) P mark_step (node_names h) h p))
+
     pub pass_keeps : (h : List Entry) → P h → P (pass doc k q h)
     pass_keeps h p = by_test (is_pass_due doc k q h)
       where
         by_test : (b : Bool) → P (pass_if doc k q b h)
         by_test false = p
-        by_test true =
-            let passed = add k q Pass h in
-            let marked = marks doc k q passed in
-            let moded = set_mode doc k q marked in
-            every (zone doc k q (nodes q moded)) P (zone_step (nodes q moded)) (places (nodes q moded)) moded
-            (mode_step marked (every (mark doc k q) P mark_step (node_names passed) passed (more Pass h refl p)))
+        by_test true = pass_rest (add k q Pass h) (more Pass h refl p)
 
   module _ (more : (t : Tick) (h : List Entry) → is_cleaning t ≡ true → MadeTick doc k q t h → P h → P (add k q t h)) where
     pub clean_step : (name : ℕ) (h : List Entry) → P h → P (clean doc k q name h)

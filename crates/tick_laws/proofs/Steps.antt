@@ -16,7 +16,7 @@ use Rattle.history_laws.proofs.Plainly.{false_is}
 use Rattle.tick_laws.specs.Since.{keys_since}
 use Rattle.tick_laws.specs.Steps.{pods_on, kind_cost, write_costs, own_cost, entry_cost, deed_cost, tick_cost}
 use Rattle.tick_laws.specs.Ticked.{IsTicked}
-use Rattle.tick_laws.proofs.Ticked.{is_own_tick, ticked_keeps}
+use Rattle.tick_laws.proofs.Ticked.{is_own_tick, before_short, ticked_keeps}
 use Rattle.watch_cache.proofs.Ticks.{is_sync}
 
 module _ (q : Identity) (k : ℕ) (h : List Entry) where
@@ -62,14 +62,6 @@ pub cost_ticked : (q : Identity) (k : ℕ) (h g : List Entry) → IsTicked q k h
 cost_ticked q k h g s = ticked_keeps q k (λ g. tick_cost q k h ≤ tick_cost q k g) (λ t g le. omega (arith, le, cost_grows q k g t)) h g s (omega arith)
 
 -- ---- a tick begins with nothing
-
-before_short : (q : Identity) (k : ℕ) (h : List Entry) → length (before_tick q k h) ≤ length h
-before_short q k [] = omega arith
-before_short q k (e ∷ h) = by_test (is_tick_of q k e.beat e.actor e.deed) (before_short q k h)
-  where
-    by_test : (b : Bool) → length (before_tick q k h) ≤ length h → length {A = Entry} (elim b [ true ↦ before_tick q k h | false ↦ e ∷ h ]) ≤ length (e ∷ h)
-    by_test true le = omega (arith, le)
-    by_test false le = omega arith
 
 pub cost_start : (q : Identity) (k : ℕ) (h : List Entry) → before_tick q k h ≡ h → tick_cost q k h ≡ 0
 cost_start q k [] is = refl

@@ -1,5 +1,5 @@
 -- What own entries of one tick keep, and that each phase of a tick adds no others.
-use Rattle.std.proofs.Common.{◌≡◌, ◌∙◌, ℕ, ◌&&◌, Bool, true, false, List, [], ◌∷◌, Option, Some, None, refl, sym, ap, subst}
+use Rattle.std.proofs.Common.{◌≡◌, ◌∙◌, ℕ, ◌&&◌, Bool, true, false, List, [], ◌∷◌, Option, Some, None, refl, sym, ap, subst, arith, length, ◌≤◌}
 use Rattle.std.proofs.lemmas.Bool.{eq-eqb}
 use Rattle.std.specs.Ordering.{nat_cmp}
 use Rattle.kube_base.specs.declared.numbers.Version.{Version}
@@ -53,6 +53,14 @@ is_own_tick q k t = ap (λ b. b && is_by q (actor_of q)) (eq-eqb k k refl) ∙ s
 
 pub own_before : (q : Identity) (k : ℕ) (t : Tick) (h : List Entry) → before_tick q k (add k q t h) ≡ before_tick q k h
 own_before q k t h = ap (λ b. elim b [ true ↦ before_tick q k h | false ↦ add k q t h ]) (is_own_tick q k t)
+
+pub before_short : (q : Identity) (k : ℕ) (h : List Entry) → length (before_tick q k h) ≤ length h
+before_short q k [] = omega arith
+before_short q k (e ∷ h) = by_test (is_tick_of q k e.beat e.actor e.deed) (before_short q k h)
+  where
+    by_test : (b : Bool) → length (before_tick q k h) ≤ length h → length {A = Entry} (elim b [ true ↦ before_tick q k h | false ↦ e ∷ h ]) ≤ length (e ∷ h)
+    by_test true le = omega (arith, le)
+    by_test false le = omega arith
 
 module _ (q : Identity) (k : ℕ) (h g : List Entry) (s : IsTicked q k h g) where
   pub ticked_before : before_tick q k g ≡ before_tick q k h

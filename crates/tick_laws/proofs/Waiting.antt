@@ -1,5 +1,5 @@
 -- Since when nodes wait: within a tick, after a queued taint, after another entry.
-use Rattle.std.proofs.Common.{◌≡◌, ◌∙◌, ◌⊎◌, inl, inr, ℕ, ◌==◌, ◌&&◌, not, Bool, true, false, List, [], ◌∷◌, Option, Some, None, refl, sym, ap, subst}
+use Rattle.std.proofs.Common.{◌≡◌, ◌∙◌, ◌⊎◌, inl, inr, ℕ, ◌==◌, ◌&&◌, not, Bool, true, false, List, [], ◌∷◌, Option, Some, None, refl, sym, ap, subst, arith, length}
 use Rattle.std.proofs.lemmas.Bool.{eqb-true, eq-eqb}
 use Rattle.kube_base.specs.declared.numbers.Version.{Version}
 use Rattle.kube_objects.specs.declared.call.Answer.{Answer}
@@ -16,7 +16,7 @@ use Rattle.tick_laws.specs.Judged.{key_if, waits_since}
 use Rattle.tick_laws.specs.Rows.{is_no_head, no_heads, settled, IsFresh}
 use Rattle.tick_laws.proofs.Evicting.{deleted_waits}
 use Rattle.tick_laws.proofs.Frames.{delete_change}
-use Rattle.tick_laws.proofs.Ticked.{own_before, is_own_tick}
+use Rattle.tick_laws.proofs.Ticked.{own_before, is_own_tick, before_short}
 use Rattle.watch_cache.proofs.Frames.{upper}
 use Rattle.watch_cache.proofs.Ticks.{same_self}
 
@@ -79,8 +79,13 @@ settle q k place name h none = by_now (waits q place name h) (waits q place name
     by_now (Some wanted) (Some before) is was r = ap (λ (n : ℕ). Some n) (r.1 refl)
 
 -- a tick that has made no entry yet has no queued taint
-pub no_heads_start : (q : Identity) (k : ℕ) (h : List Entry) (e : Entry) → is_tick_of q k e.beat e.actor e.deed ≡ false → no_heads q k (e ∷ h) ≡ true
-no_heads_start q k h e is = ap (λ b. elim b [ true ↦ is_no_head e.deed && no_heads q k h | false ↦ true ]) is
+pub no_heads_start : (q : Identity) (k : ℕ) (h : List Entry) → before_tick q k h ≡ h → no_heads q k h ≡ true
+no_heads_start q k [] is = refl
+no_heads_start q k (e ∷ h) is = by_test (is_tick_of q k e.beat e.actor e.deed) is
+  where
+    by_test : (b : Bool) → ◌≡◌ {A = List Entry} (elim b [ true ↦ before_tick q k h | false ↦ e ∷ h ]) (e ∷ h) → ◌≡◌ {A = Bool} (elim b [ true ↦ is_no_head e.deed && no_heads q k h | false ↦ true ]) true
+    by_test true same = absurd (omega (arith, before_short q k h, ap length same))
+    by_test false same = refl
 
 -- and another entry keeps this
 pub no_heads_more : (q : Identity) (k : ℕ) (h : List Entry) (t : Tick) → is_no_head (Ticks t) ≡ true → no_heads q k h ≡ true → no_heads q k (add k q t h) ≡ true

@@ -1,5 +1,6 @@
 pub mod Changes
 pub mod Judged
+pub mod Quiet
 pub mod Rows
 pub mod Since
 pub mod Steps

@@ -1,4 +1,4 @@
-use Rattle.std.proofs.Common.{◌≡◌, ◌∙◌, ◌+◌, ◌≤◌, Bool, true, false, cond, refl, sym, ap, subst, arith}
+use Rattle.std.proofs.Common.{◌≡◌, ◌∙◌, ◌+◌, ◌<◌, ◌≤◌, Bool, true, false, cond, refl, sym, ap, subst, arith}
 use Rattle.std.proofs.lemmas.Grind.{common_steps}
 use Rattle.std.specs.BTreeMap.{is_at}
 use Rattle.std.specs.BTreeSet.{Updates, btree_set_len, contains}
@@ -49,8 +49,8 @@ loop-pod-preserved g c =
 
 pub returns-clause-stands : goal.returns-clause-stands
 returns-clause-stands g c q h s =
-    (end_taken q h c.args.now.0 c.loop-pod.todo c.loop-pod.self c.next_due.new.self (c.loop-pod.invariant.taken q h s) c.in_default.ensures.none c.in_default.ensures.kept).0
+    (end_taken q h c.args.now.0 c.loop-pod.todo c.loop-pod.self c.next_due.new.self (c.loop-pod.invariant.taken q h s) (λ at key is. subst (λ n. n < at) c.from.ensures (c.in_default.ensures.none at key is)) c.in_default.ensures.kept).0
 
 pub returns-clause-due : goal.returns-clause-due
 returns-clause-due g c q h s =
-    (end_taken q h c.args.now.0 c.loop-pod.todo c.loop-pod.self c.next_due.new.self (c.loop-pod.invariant.taken q h s) c.in_default.ensures.none c.in_default.ensures.kept).1
+    (end_taken q h c.args.now.0 c.loop-pod.todo c.loop-pod.self c.next_due.new.self (c.loop-pod.invariant.taken q h s) (λ at key is. subst (λ n. n < at) c.from.ensures (c.in_default.ensures.none at key is)) c.in_default.ensures.kept).1
