@@ -5,7 +5,7 @@ use Rattle.kube_objects.specs.declared.deed.Deed.{Deed}
 use Rattle.kube_objects.specs.Clocks.{local}
 use Rattle.kube_objects.specs.Document.{Doc}
 use Rattle.kube_objects.specs.Entry.{Entry, Identity, Pass}
-use Rattle.kube_objects.specs.Health.{last_pass, renewal}
+use Rattle.kube_objects.specs.Health.{last_pass, probe, renewal}
 use Rattle.kube_objects.specs.Tick.{add}
 use Rattle.node_health.specs.Stands.{PassStands}
 use Rattle.node_health.specs.declared.health.Health.{Health}
@@ -27,7 +27,10 @@ LastStands doc q h last = reading_of last ≡ option_map (local doc q.process) (
 abbrev pub HaveCost : Identity → ℕ → List Entry → List Entry → ℕ → ℕ → Type 0
 HaveCost q k h g old new = new + tick_cost q k h ≤ old + tick_cost q k g
 
--- h is the history before the pass, and now has the marks so far; some nodes were looked at
+-- h is the history before the pass, and now has the marks so far; some nodes were looked at. Leases, and when nodes were last heard
+-- of, are as they were after the entry of the pass
 pub record IsPassing (doc : Doc) (k : ℕ) (q : Identity) (before : List Deed) (h now : List Entry) (looked : ℕ → Bool) (c : Cluster) (x : Health) (s : Store) (t : Told) : Type 0 where
   pub running : Running q k before now c s t
   pub health : PassStands doc k q h looked x
+  pub leases : (name : ℕ) → renewal q name now ≡ renewal q name h
+  pub probes : (name : ℕ) → probe q name now ≡ probe q name (add k q Pass h)

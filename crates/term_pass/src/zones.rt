@@ -75,7 +75,7 @@ pub(crate) fn set_zones(
     requires reading { view.now.now.0 ≤ 2000000000000000000 }
     ensures stands { (doc : Doc) (k : ℕ) (q : Identity) (before : List Deed) (h : List Entry) → IsTold q k before h told.old
         → ArePassed doc q h zones.old → counts.now ≡ zone_counts (nodes q h) → length (nodes q h) < 4294967296 → on ≡ mode q h
-        → AreSettings doc settings.now → view.now.now.0 ≡ local doc q.process k
+        → AreSettings doc settings.now → view.entry.now.now.0 ≡ local doc q.process k
         → OnOk result (IsTold q k before (model.set_zones doc k q h) told.new × LimitsStand doc q (model.set_zones doc k q h) zones.new) }
     ensures queues { (zone : Place) (node : ℕ) → since zones.new.queues zone node ≡ since zones.old.queues zone node }
 {

@@ -25,10 +25,12 @@ pub(crate) fn count(
         → IfOk result (λ zones. zones.items ≡ zone_counts (nodes q h)) }
 {
     let mut counts = Counts::new(alloc);
-    for name in names.as_slice() {
+    let mut rest = names.as_slice();
+    while let Some((name, others)) = rest.split_first() {
         if let Some((_, node)) = cluster.node(*name) {
             counts.add(node)?;
         }
+        rest = others;
     }
     counts.list()
 }
