@@ -52,7 +52,7 @@ pub(crate) fn taint_first<L>(
     if !zones.try_take(place, view.now) {
         return Ok(());
     }
-    let Some(lacking) = lacking(cluster, name, view.wall)? else {
+    let Some(lacking) = lack_of(cluster, name, view.wall)? else {
         return Ok(());
     };
     attempt(
@@ -76,7 +76,7 @@ struct Lacking {
     written: Node,
 }
 
-fn lacking(cluster: &Cluster, name: u32, now: Wall) -> Result<Option<Lacking>, NoMemory>
+fn lack_of(cluster: &Cluster, name: u32, now: Wall) -> Result<Option<Lacking>, NoMemory>
     ensures { (doc : Doc) (k : ℕ) (q : Identity) (h : List Entry) (place : entry_words.Place) (wanted : ℕ) (x : Version × Node) → ClusterStands q h cluster.now
         → is_synced q h ≡ true → now.0 ≡ wall doc q.process k → waits q place name h ≡ Some wanted → seen_node q name h ≡ Some x
         → IfOk result (λ found. found ≡ Some (lacking_of (x.0) wanted (tick.tainted_with (tick.new_taint doc k q wanted) (x.1)))) }
