@@ -4,6 +4,7 @@
 mod cluster;
 mod eviction;
 mod judge;
+mod moved;
 mod note;
 mod queues;
 mod take;

@@ -3,6 +3,7 @@ pub mod Evicting
 pub mod Foreign
 pub mod Frames
 pub mod Heads
+pub mod Marking
 pub mod Named
 pub mod Orders
 pub mod Phases
@@ -15,3 +16,4 @@ pub mod Ticked
 pub mod Tried
 pub mod Waiting
 pub mod Walks
+pub mod Zoning

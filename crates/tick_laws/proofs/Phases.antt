@@ -3,26 +3,31 @@ use Rattle.std.proofs.Common.{◌≡◌, ◌∙◌, ℕ, ◌&&◌, not, Bool, tr
 use Rattle.std.specs.List.{list_any}
 use Rattle.kube_base.specs.declared.numbers.Version.{Version}
 use Rattle.kube_objects.specs.declared.call.Answer.{Answer}
+use Rattle.kube_objects.specs.declared.deed.Actor.{Actor}
 use Rattle.kube_objects.specs.declared.key.Key.{Key}
 use Rattle.kube_objects.specs.declared.node.Node.{Node}
 use Rattle.kube_objects.specs.declared.node.ZoneState.{ZoneState}
 use Rattle.kube_objects.specs.Document.{Doc}
-use Rattle.kube_objects.specs.Entry.{Entry, Identity, Place, Tick, Sync, Pass, Mark, Mode, Zone, Untaint, Swap, Head, Delete}
-use Rattle.kube_objects.specs.Health.{is_pass_due, mark_of, last_pass}
+use Rattle.kube_objects.specs.Entry.{Entry, Identity, Place, Deed, Ticks, Tick, Sync, Pass, Mark, Mode, Zone, Untaint, Swap, Head, Delete}
+use Rattle.kube_objects.specs.Health.{is_pass_due, mark_of, last_pass, pass_says}
 use Rattle.kube_objects.specs.InForce.{watches}
-use Rattle.kube_objects.specs.Modes.{nodes, places, state_in, rate_in, all_full, mode}
-use Rattle.kube_objects.specs.Newest.{when}
+use Rattle.kube_objects.specs.Modes.{nodes, places, place_eq, state_in, rate_in, all_full, mode}
+use Rattle.kube_objects.specs.Newest.{newest, when, only_if, join, or_zero}
+use Rattle.kube_objects.specs.Identities.{is_by}
 use Rattle.kube_objects.specs.Seen.{seen_node, is_fresh, is_stale, is_refused, node_names, pod_keys}
 use Rattle.kube_objects.specs.Stored.{node_key}
 use Rattle.kube_objects.specs.Tainting.{Wants, Nothing, Wanted, Whatever, wants, has_condition, is_opposite}
 use Rattle.kube_objects.specs.Tick.{add, for_each, sync_if, sync, mark_as, mark_seen, mark, mode_if, is_same_mode, mode_as, set_mode, zone_if, zone_as, zone, set_zones, marks, pass_if, pass, untaint_if, swap_if, clean_as, clean_seen, clean, cleaned, taint, tainted, evict, evicted, tick}
-use Rattle.kube_objects.specs.Tokens.{rated, is_rated, base}
+use Rattle.kube_objects.specs.Tokens.{is_zone, rated_says, rated, is_rated, has_rate, is_base, base}
 use Rattle.kube_objects.specs.Tries.{try_node}
 use Rattle.history_laws.proofs.Plainly.{false_is, true_is, none_is, some_is}
 use Rattle.history_laws.proofs.Ticks.{IsDelete, MadeTick, Each, IsPodKey, pods_only, evict_step, walk_sync, walk_pass, walk_cleaned, walk_tainted, walk_evicted, walk_tick}
 use Rattle.tick_laws.specs.Judged.{waits_since}
 use Rattle.tick_laws.specs.Rows.{no_heads, IsFresh}
 use Rattle.tick_laws.specs.Since.{IsReached, AreReached}
+use Rattle.watch_cache.proofs.Frames.{upper}
+use Rattle.watch_cache.specs.Stands.{is_tick_by}
+use Rattle.tick_laws.proofs.Foreign.{foreign_change}
 use Rattle.tick_laws.proofs.Reached.{own_reached, sync_reached, refused_node_reached, refused_pod_reached}
 use Rattle.tick_laws.proofs.Tainting.{heading, taint_either}
 use Rattle.tick_laws.proofs.Waiting.{no_heads_more, delete_key, fresh_same}
@@ -248,9 +253,10 @@ module _ (doc : Doc) (k : ℕ) (q : Identity) (h : List Entry) where
       → (place : Place) (name : ℕ) → (waits_since q place name (evicted doc k q h) ≡ waits_since q place name h) × IsFresh q k place name (evicted doc k q h)
   evicted_since fresh place name =
       evicted_keeps doc k q (λ g. (waits_since q place name g ≡ waits_since q place name h) × IsFresh q k place name g)
-      (λ pod given node_given at a g made s.
-      (delete_key q k place name pod given node_given at a g made.kind s.1 ∙ s.0,
-      fresh_same q k place name (Delete pod given node_given at a) g (delete_key q k place name pod given node_given at a g made.kind s.1) s.1))
+      (λ pod given node_given at a g made s. (
+        delete_key q k place name pod given node_given at a g made.kind s.1 ∙ s.0,
+        fresh_same q k place name (Delete pod given node_given at a) g (delete_key q k place name pod given node_given at a g made.kind s.1) s.1,
+      ))
       h (refl, fresh place name)
 
 -- ---- stale keys are reached, through each phase
@@ -293,3 +299,44 @@ module _ (doc : Doc) (k : ℕ) (q : Identity) (h : List Entry) (old : AreReached
 
   pub reached_after_tick : AreReached q (tick doc k q h)
   reached_after_tick = walk_tick doc k q (AreReached q) (made_reached doc k q) h old
+
+-- ---- an entry that is no own entry of a tick
+
+pub foreign_limits : (q : Identity) (h : List Entry) (e : Entry) → is_tick_by q e.actor e.deed ≡ false → KeepsLimits q h (e ∷ h)
+foreign_limits q h e other =
+    record {
+      passed = ap (λ o. upper o (last_pass q h)) (by_pass e.actor e.deed other);
+      rated = λ place. ap (λ o. join (upper o (newest (λ e T. rated_says q place e.actor e.deed T) h))) (by_rated place e.actor e.deed other);
+      base = λ place. ap (λ b. or_zero (upper (when b e.beat) (newest (λ e T. when (is_base q place e.actor e.deed T) e.beat) h))) (by_base place e.actor e.deed other);
+      mode = (foreign_change q h e other).mode;
+    }
+  where
+    and_false : (b : Bool) → (b && false) ≡ false
+    and_false true = refl
+    and_false false = refl
+
+    pass_tick : (who : Actor) (t : Tick) → is_by q who ≡ false → pass_says q e.beat who (Ticks t) ≡ None
+    pass_tick who Pass is = ap (λ b. when b e.beat) is
+    pass_tick who t is = refl
+
+    by_pass : (who : Actor) (d : Deed) → is_tick_by q who d ≡ false → pass_says q e.beat who d ≡ None
+    by_pass who (Ticks t) is = pass_tick who t is
+    by_pass who d is = refl
+
+    rated_tick : (place : Place) (who : Actor) (t : Tick) → is_by q who ≡ false → rated_says q place who (Ticks t) h ≡ None
+    rated_tick place who Pass is = ap (λ b. only_if b (when (not (is_zone q place h)) None)) is
+    rated_tick place who (Zone at state rate) is = ap (λ b. when (place_eq at place && b) (Some (state, rate))) is ∙ ap (λ b. when b (Some (state, rate))) (and_false (place_eq at place))
+    rated_tick place who t is = refl
+
+    by_rated : (place : Place) (who : Actor) (d : Deed) → is_tick_by q who d ≡ false → rated_says q place who d h ≡ None
+    by_rated place who (Ticks t) is = rated_tick place who t is
+    by_rated place who d is = refl
+
+    base_tick : (place : Place) (who : Actor) (t : Tick) → is_by q who ≡ false → is_base q place who (Ticks t) h ≡ false
+    base_tick place who (Zone at state rate) is = ap (λ b. place_eq at place && (b && not (has_rate rate (rated q place h)))) is ∙ and_false (place_eq at place)
+    base_tick place who (Head at node wanted given written a) is = ap (λ b. place_eq at place && b) is ∙ and_false (place_eq at place)
+    base_tick place who t is = refl
+
+    by_base : (place : Place) (who : Actor) (d : Deed) → is_tick_by q who d ≡ false → is_base q place who d h ≡ false
+    by_base place who (Ticks t) is = base_tick place who t is
+    by_base place who d is = refl

@@ -143,9 +143,11 @@ module _ (q : Identity) (k : ℕ) (h : List Entry) where
 -- ---- a front as long as the position, and the keys since
 
 pub keys_split : (q : Identity) (h : List Entry) → (front : List Key) × (written_keys h ≡ front ++ keys_since q h) × (length front ≡ synced_writes q h)
-keys_split q h =
-    (take (synced_writes q h) (written_keys h), sym (ap (λ keys. take (synced_writes q h) (written_keys h) ++ keys) (keys_since_is q h) ∙ take-append-drop (synced_writes q h) (written_keys h)),
-    length-take-le (synced_writes q h) (written_keys h) (subst (λ n. synced_writes q h ≤ n) (sym (written-count h)) (synced_few q h)))
+keys_split q h = (
+  take (synced_writes q h) (written_keys h),
+  sym (ap (λ keys. take (synced_writes q h) (written_keys h) ++ keys) (keys_since_is q h) ∙ take-append-drop (synced_writes q h) (written_keys h)),
+  length-take-le (synced_writes q h) (written_keys h) (subst (λ n. synced_writes q h ≤ n) (sym (written-count h)) (synced_few q h)),
+)
 
 -- ---- a cache is up to date exactly where it was synced and nothing was written since
 

@@ -30,11 +30,11 @@ module _ {A : Type 0} (compare : A → A → Ordering) (strict : IsStrict compar
   above_less n m (x ∷ xs) (inr there) p = above_less n m xs there p.1
 
   -- what comes after one that does, or after the place itself
-  after_above : (c : Option A) (m : A) (ms : List A) → is_after compare c m ≡ true → Above compare m ms → after compare c ms ≡ ms
+  pub after_above : (c : Option A) (m : A) (ms : List A) → is_after compare c m ≡ true → Above compare m ms → after compare c ms ≡ ms
   after_above c m [] later p = refl
   after_above c m (x ∷ xs) later p = ap (λ b. cond b (x ∷ xs) (after compare c xs)) (after_more c m x later p.0)
 
-  after_it : (m : A) (ms : List A) → Above compare m ms → after compare (Some m) ms ≡ ms
+  pub after_it : (m : A) (ms : List A) → Above compare m ms → after compare (Some m) ms ≡ ms
   after_it m [] p = refl
   after_it m (x ∷ xs) p = ap (λ b. cond b (x ∷ xs) (after compare (Some m) xs)) (ap is_lt p.0)
 
