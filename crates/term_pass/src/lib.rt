@@ -2,12 +2,12 @@
 //! states and rates.
 #![tactic(auto)]
 
-mod count;
+mod counting;
 mod due;
 mod looks;
-mod mark;
+mod marking;
 mod mode;
-mod pass;
+mod passing;
 mod zones;
 
-pub use pass::pass;
+pub use passing::pass;

@@ -16,7 +16,7 @@ ghost use Rattle.term_pass.specs.Passing.{HaveCost, IsPassing};
 ghost use Rattle.node_health.specs.Kept as spec;
 ghost use Rattle.watch_cache.specs.Told.{AreNamed};
 
-use crate::mark;
+use crate::marking::{mark, marked_node};
 use kube_base::{KUBE_NODE_LEASE, NoMemory, Steps, Wall, whole_second};
 use kube_objects::{Key, Kind, NumberList};
 use node_health::{Grace, Health, Verdict};
@@ -70,8 +70,8 @@ fn look<L>(
     match health.look(name, node, renewed, view.now, grace)? {
         Verdict::Keep => Ok(()),
         Verdict::MarkUnknown(reason) => {
-            let written = mark::marked_node(node, whole_second(view.wall))?;
-            mark::mark(name, given, written, reason, cluster, store, view, told, steps)
+            let written = marked_node(node, whole_second(view.wall))?;
+            mark(name, given, written, reason, cluster, store, view, told, steps)
         }
     }
 }

@@ -13,7 +13,7 @@ ghost use Rattle.term_state.specs.Running.{IsView, Running};
 ghost use Rattle.term_pass.specs.Passing.{HaveCost, LastStands};
 ghost use Rattle.zone_counts.specs.Settings.{AreSettings};
 
-use crate::count::count;
+use crate::counting::count;
 use crate::due::{is_due, of_millis};
 use crate::looks::look_all;
 use crate::mode::set_mode;
