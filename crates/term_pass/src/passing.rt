@@ -45,12 +45,12 @@ pub fn pass<L>(
     requires ordered { settings.now.secondary_rate ≤ settings.now.primary_rate }
     requires reading { view.now.now.0 ≤ 2000000000000000000 }
     ensures running { (doc : Doc) (k : ℕ) (q : Identity) (before : List Deed) (h : List Entry) → Running q k before h cluster.old store.old told.old
-        → HealthStands doc q h health.old → LimitsStand doc q h zones.old → LastStands doc q h last.old → IsView doc k q h view.now
+        → HealthStands doc q h health.old → LimitsStand doc q h zones.old → LastStands doc q h last.old → IsView doc k q h view.entry.now
         → AreSettings doc settings.now → length (nodes q h) < 4294967296
         → OnOk result (Running q k before (model.pass doc k q h) cluster.new store.new told.new × HealthStands doc q (model.pass doc k q h) health.new
             × LimitsStand doc q (model.pass doc k q h) zones.new × LastStands doc q (model.pass doc k q h) last.new) }
     ensures counted { (doc : Doc) (k : ℕ) (q : Identity) (before : List Deed) (h : List Entry) → Running q k before h cluster.old store.old told.old
-        → HealthStands doc q h health.old → LimitsStand doc q h zones.old → LastStands doc q h last.old → IsView doc k q h view.now
+        → HealthStands doc q h health.old → LimitsStand doc q h zones.old → LastStands doc q h last.old → IsView doc k q h view.entry.now
         → AreSettings doc settings.now → length (nodes q h) < 4294967296
         → OnOk result (HaveCost q k h (model.pass doc k q h) steps.old steps.new) }
     ensures queues { (zone : Place) (node : ℕ) → since zones.new.queues zone node ≡ since zones.old.queues zone node }

@@ -1,0 +1,2 @@
+pub mod ZoneLimits
+pub mod ZoneWalk
