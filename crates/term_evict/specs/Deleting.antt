@@ -12,7 +12,8 @@ use Rattle.term_state.specs.ClusterStands.{ClusterBut, no_node}
 use Rattle.term_state.specs.Running.{IsMoved, IsTold}
 
 -- the dues of these pods are taken out
-pub record Deleting (q : Identity) (k : ℕ) (before : List Deed) (h : List Entry) (pods : Key → Bool) (c : Cluster) (s : Store) (t : Told) : Type 0 where
+pub record Deleting (q : Identity) (k : ℕ) (before : List Deed) (h : List Entry)
+    (pods : Key → Bool) (c : Cluster) (s : Store) (t : Told) : Type 0 where
   pub cluster : ClusterBut q h no_node pods c
   pub moved : IsMoved q k h c
   pub store : StoreStands h s

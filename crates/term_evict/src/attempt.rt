@@ -27,7 +27,8 @@ fn note(
     eviction: &Eviction,
     answer: Option<Answer>,
 ) -> Result<(), NoMemory>
-    ensures stands { (q : Identity) (h g : List Entry) (pods : Key → Bool) → ClusterBut q h no_node pods cluster.old → is_pod pod.kind ≡ true
+    ensures stands { (q : Identity) (h g : List Entry) (pods : Key → Bool) → ClusterBut q h no_node pods cluster.old
+        → is_pod pod.kind ≡ true
         → IsChange q h g (gone_by pod answer) (refused_by pod answer) → seen_due q pod h ≡ At (eviction.now.due.0)
         → OnOk result (ClusterBut q g no_node (but_pod pod pods) cluster.new) }
     ensures moved { (n : ℕ) → has_moved cluster.new n ≡ has_moved cluster.old n }
@@ -61,7 +62,7 @@ pub(crate) fn evict_one<L>(
     pod: Key,
 ) -> Result<(), NoMemory>
     ensures stands { (doc : Doc) (k : ℕ) (q : Identity) (before : List Deed) (h : List Entry) (pods : Key → Bool)
-        → Deleting q k before h pods cluster.old store.old told.old → IsView doc k q h view.now
+        → Deleting q k before h pods cluster.old store.old told.old → IsView doc k q h view.entry.now
         → is_by_now (wall doc q.process k) (seen_due q pod h) ≡ true
         → OnOk result (Deleting q k before (tick.evict doc k q pod h) (but_pod pod pods) cluster.new store.new told.new) }
     ensures counted { steps.new ≤ steps.old + 1 }

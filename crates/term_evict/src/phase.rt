@@ -22,10 +22,12 @@ pub fn evict<L>(
     told: &mut Told,
     steps: &mut Steps<L>,
 ) -> Result<(), NoMemory>
-    ensures stands { (doc : Doc) (k : ℕ) (q : Identity) (before : List Deed) (h : List Entry) → Running q k before h cluster.old store.old told.old
-        → IsView doc k q h view.now → OnOk result (Running q k before (tick.evicted doc k q h) cluster.new store.new told.new) }
-    ensures counted { (doc : Doc) (k : ℕ) (q : Identity) (before : List Deed) (h : List Entry) → Running q k before h cluster.old store.old told.old
-        → IsView doc k q h view.now
+    ensures stands { (doc : Doc) (k : ℕ) (q : Identity) (before : List Deed) (h : List Entry)
+        → Running q k before h cluster.old store.old told.old
+        → IsView doc k q h view.entry.now → OnOk result (Running q k before (tick.evicted doc k q h) cluster.new store.new told.new) }
+    ensures counted { (doc : Doc) (k : ℕ) (q : Identity) (before : List Deed) (h : List Entry)
+        → Running q k before h cluster.old store.old told.old
+        → IsView doc k q h view.entry.now
         → OnOk result (steps.new + tick_cost q k h ≤ steps.old + (1 + tick_cost q k (tick.evicted doc k q h))) }
 {
     let mut todo = cluster.take_due(view.wall, steps)?;

@@ -105,8 +105,10 @@ impl Cluster {
 
     /// Whether the next tick has an untaint or a swap, if nothing changes before.
     pub fn is_unclean(&self) -> bool
-        ensures none { (q : Identity) (h : List Entry) → ClusterStands q h self.now → result ≡ false → (n : ℕ) → judged.is_dirty q n h ≡ false }
-        ensures some { (q : Identity) (h : List Entry) → ClusterStands q h self.now → result ≡ true → (n : ℕ) × (judged.is_dirty q n h ≡ true) }
+        ensures none { (q : Identity) (h : List Entry) → ClusterStands q h self.now → result ≡ false → (n : ℕ)
+            → judged.is_dirty q n h ≡ false }
+        ensures some { (q : Identity) (h : List Entry) → ClusterStands q h self.now → result ≡ true
+            → (n : ℕ) × (judged.is_dirty q n h ≡ true) }
     {
         match self.unclean.first() {
             None => false,

@@ -102,7 +102,8 @@ impl Cluster {
 
     // Each node that is seen is judged again. Pods aren't looked at.
     fn judge_nodes(&mut self) -> Result<(), NoMemory>
-        ensures stands { (q : Identity) (h : List Entry) → ClusterBut q h (λ n. has (seen_node q n h)) no_pod self.old → is_synced q h ≡ true
+        ensures stands { (q : Identity) (h : List Entry) → ClusterBut q h (λ n. has (seen_node q n h)) no_pod self.old
+            → is_synced q h ≡ true
             → OnOk result (ClusterStands q h self.new) }
         ensures moved { (q : Identity) (h : List Entry) → ClusterBut q h (λ n. has (seen_node q n h)) no_pod self.old → is_synced q h ≡ true
             → OnOk result ((n : ℕ) → has_moved self.new n ≡ (has (seen_node q n h) || has_moved self.old n)) }

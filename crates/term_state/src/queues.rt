@@ -1,5 +1,6 @@
 // The nodes and pods that wait for a phase of the tick.
-ghost use Rattle.std.specs.Prelude.{◌≡◌, ◌≤◌, ◌<◌, ◌+◌, ◌==◌, ◌&&◌, not, ℕ, Bool, true, false, List, Option, Some, None, OnOk, IfOk, IfSome, IfNone};
+ghost use Rattle.std.specs.Prelude.{◌≡◌, ◌≤◌, ◌<◌, ◌+◌, ◌==◌, ◌&&◌, not, ℕ, Bool};
+ghost use Rattle.std.specs.Prelude.{true, false, List, Option, Some, None, OnOk, IfOk, IfSome, IfNone};
 ghost use Rattle.std.specs.BTreeSet.{contains, btree_set_len};
 ghost use Rattle.kube_objects.specs.Entry.{Entry, Identity};
 ghost use Rattle.kube_objects.specs.Keys.{key_cmp};
@@ -20,7 +21,8 @@ impl Cluster {
     /// The first of the nodes to untaint or swap that comes after this one; none is before all.
     pub fn next_unclean(&self, after: Option<u32>) -> Option<u32>
         ensures kept { IsNextAfter (is_unclean_in self.now) after result }
-        ensures dirty { (q : Identity) (h : List Entry) → ClusterStands q h self.now → IsNextAfter (λ n. judged.is_dirty q n h) after result }
+        ensures dirty { (q : Identity) (h : List Entry) → ClusterStands q h self.now
+            → IsNextAfter (λ n. judged.is_dirty q n h) after result }
     {
         match after {
             None => self.unclean.first().copied(),

@@ -39,7 +39,8 @@ impl Cluster {
     /// Takes over what was written since the last sync, and judges nothing. Each write counts a step.
     pub fn take_over<L>(&mut self, store: &Store, steps: &mut Steps<L>) -> Result<(), NoMemory>
         ensures stands { (q : Identity) (k : ℕ) (h : List Entry) → ClusterStands q h self.old → StoreStands h store.now → AreReached q h
-            → OnOk result (ClusterBut q (add k q Sync h) (λ n. is_among (keys_since q h) (node_key n)) (is_open q (add k q Sync h) (keys_since q h)) self.new) }
+            → OnOk result (ClusterBut q (add k q Sync h) (λ n. is_among (keys_since q h) (node_key n))
+                (is_open q (add k q Sync h) (keys_since q h)) self.new) }
         ensures moved { (n : ℕ) → has_moved self.new n ≡ has_moved self.old n }
         ensures counted { (q : Identity) (h : List Entry) → ClusterStands q h self.old → StoreStands h store.now
             → OnOk result (steps.new ≤ steps.old + length (keys_since q h)) }

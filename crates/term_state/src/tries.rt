@@ -49,7 +49,8 @@ pub fn try_node(
 ) -> Result<Option<Answer>, NoMemory>
     ensures answer { (q : Identity) (h : List Entry) → StoreStands h store.old → passes ≡ not (loses_requests q.process h)
         → IfOk result (λ answer. answer ≡ spec.try_node q name given h) }
-    ensures stands { (q : Identity) (k : ℕ) (h : List Entry) (tick : Tick) → StoreStands h store.old → passes ≡ not (loses_requests q.process h)
+    ensures stands { (q : Identity) (k : ℕ) (h : List Entry) (tick : Tick) → StoreStands h store.old
+        → passes ≡ not (loses_requests q.process h)
         → tick_write tick ≡ try_write (node_write name written.now) (spec.try_node q name given h)
         → OnOk result (StoreStands (add k q tick h) store.new) }
 {
@@ -75,7 +76,8 @@ pub fn try_delete(
 ) -> Result<Option<Answer>, NoMemory>
     ensures answer { (q : Identity) (h : List Entry) → StoreStands h store.old → passes ≡ not (loses_requests q.process h)
         → IfOk result (λ answer. answer ≡ spec.try_delete q pod given node node_given h) }
-    ensures stands { (q : Identity) (k : ℕ) (h : List Entry) (tick : Tick) → StoreStands h store.old → passes ≡ not (loses_requests q.process h)
+    ensures stands { (q : Identity) (k : ℕ) (h : List Entry) (tick : Tick) → StoreStands h store.old
+        → passes ≡ not (loses_requests q.process h)
         → tick_write tick ≡ try_write (pod, None) (spec.try_delete q pod given node node_given h)
         → OnOk result (StoreStands (add k q tick h) store.new) }
 {

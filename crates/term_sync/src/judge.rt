@@ -55,7 +55,8 @@ pub(crate) fn judge_changes<L>(
 ) -> Result<(), NoMemory>
     ensures stands { (q : Identity) (g : List Entry) → let keys = drop position (changed_in store.now) in
         LeftBut q g keys cluster.old → is_synced q g ≡ true → OnOk result (ClusterStands q g cluster.new) }
-    ensures moved { OnOk result ((n : ℕ) → has_moved cluster.new n ≡ (is_among (drop position (changed_in store.now)) (node_key n) || has_moved cluster.old n)) }
+    ensures moved { OnOk result ((n : ℕ)
+        → has_moved cluster.new n ≡ (is_among (drop position (changed_in store.now)) (node_key n) || has_moved cluster.old n)) }
     ensures counted { (q : Identity) (g : List Entry) → let keys = drop position (changed_in store.now) in
         LeftBut q g keys cluster.old → is_synced q g ≡ true
         → OnOk result (steps.new ≤ steps.old + 2 * write_costs q g keys) }

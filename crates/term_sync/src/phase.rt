@@ -7,11 +7,10 @@ ghost use Rattle.kube_objects.specs.Seen as seen_words;
 ghost use Rattle.kube_objects.specs.Tainting.{before_tick};
 ghost use Rattle.kube_objects.specs.Tick as tick;
 ghost use Rattle.object_store.specs.Stands.{StoreStands};
-ghost use Rattle.tick_laws.specs.Since.{keys_since};
+ghost use Rattle.tick_laws.specs.Since.{AreReached};
 ghost use Rattle.tick_laws.specs.Steps.{tick_cost};
 ghost use Rattle.term_state.specs.ClusterStands.{ClusterStands};
 ghost use Rattle.term_state.specs.Running.{IsMoved, IsView};
-ghost use Rattle.term_state.specs.Taking.{AreReached};
 
 use crate::judge::judge_changes;
 use kube_base::{NoMemory, Steps};
@@ -28,7 +27,8 @@ pub fn is_fresh(cluster: &Cluster, store: &Store) -> bool
 
 /// Whether a tick begins with a sync.
 pub fn syncs(cluster: &Cluster, store: &Store, watch: bool) -> bool
-    ensures { (doc : Doc) (q : Identity) (h : List Entry) → ClusterStands q h cluster.now → StoreStands h store.now → watch ≡ watches doc q.process h
+    ensures { (doc : Doc) (q : Identity) (h : List Entry) → ClusterStands q h cluster.now → StoreStands h store.now
+        → watch ≡ watches doc q.process h
         → result ≡ (watches doc q.process h && not (seen_words.is_fresh q h)) }
 {
     watch && !is_fresh(cluster, store)
@@ -41,14 +41,18 @@ pub fn sync<L>(
     view: &View,
     steps: &mut Steps<L>,
 ) -> Result<(), NoMemory>
-    ensures stands { (doc : Doc) (k : ℕ) (q : Identity) (h : List Entry) → ClusterStands q h cluster.old → StoreStands h store.now → AreReached q h
-        → IsView doc k q h view.now → OnOk result (ClusterStands q (tick.sync doc k q h) cluster.new) }
-    ensures store { (doc : Doc) (k : ℕ) (q : Identity) (h : List Entry) → StoreStands h store.now → StoreStands (tick.sync doc k q h) store.now }
-    ensures moved { (doc : Doc) (k : ℕ) (q : Identity) (h : List Entry) → ClusterStands q h cluster.old → StoreStands h store.now → AreReached q h
-        → IsView doc k q h view.now → IsMoved q k h cluster.old → before_tick q k (tick.sync doc k q h) ≡ before_tick q k h
+    ensures stands { (doc : Doc) (k : ℕ) (q : Identity) (h : List Entry) → ClusterStands q h cluster.old → StoreStands h store.now
+        → AreReached q h
+        → IsView doc k q h view.entry.now → OnOk result (ClusterStands q (tick.sync doc k q h) cluster.new) }
+    ensures store { (doc : Doc) (k : ℕ) (q : Identity) (h : List Entry) → StoreStands h store.now
+        → StoreStands (tick.sync doc k q h) store.now }
+    ensures moved { (doc : Doc) (k : ℕ) (q : Identity) (h : List Entry) → ClusterStands q h cluster.old → StoreStands h store.now
+        → AreReached q h
+        → IsView doc k q h view.entry.now → IsMoved q k h cluster.old → before_tick q k (tick.sync doc k q h) ≡ before_tick q k h
         → OnOk result (IsMoved q k (tick.sync doc k q h) cluster.new) }
-    ensures counted { (doc : Doc) (k : ℕ) (q : Identity) (h : List Entry) → ClusterStands q h cluster.old → StoreStands h store.now → AreReached q h
-        → IsView doc k q h view.now → OnOk result (steps.new + tick_cost q k h ≤ steps.old + tick_cost q k (tick.sync doc k q h)) }
+    ensures counted { (doc : Doc) (k : ℕ) (q : Identity) (h : List Entry) → ClusterStands q h cluster.old → StoreStands h store.now
+        → AreReached q h
+        → IsView doc k q h view.entry.now → OnOk result (steps.new + tick_cost q k h ≤ steps.old + tick_cost q k (tick.sync doc k q h)) }
 {
     if !syncs(cluster, store, view.watch) {
         return Ok(());
