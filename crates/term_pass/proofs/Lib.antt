@@ -1,3 +1,5 @@
 pub mod Looking
 pub mod Marks
 pub mod Numbered
+pub mod ZoneLimits
+pub mod ZoneWalk

@@ -135,7 +135,7 @@ begin_looking doc k q before h names v c x s t old running health view are =
 
 -- ---- one node more
 
-listed_first : (n : ℕ) (ns : List ℕ) → is_listed (n ∷ ns) n ≡ true
+pub listed_first : (n : ℕ) (ns : List ℕ) → is_listed (n ∷ ns) n ≡ true
 listed_first n ns = ap (λ t. t || is_listed ns n) same
   where
     same : (n == n) ≡ true
@@ -220,3 +220,7 @@ end_looking doc k q before h names rest v c x s t old new is l =
     and_true : (b : Bool) → (b && true) ≡ b
     and_true true = refl
     and_true false = refl
+
+-- a node that was seen isn't missing now
+pub unseen : (q : Identity) (n : ℕ) (h now : List Entry) → has (seen_node q n h) ≡ true → seen_node q n now ≡ seen_node q n h → None ≡ seen_node q n now → ⊥
+unseen q n h now there same none = false_is (ap has (none ∙ same) ∙ there)

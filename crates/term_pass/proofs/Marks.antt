@@ -1,5 +1,5 @@
 -- One mark.
-use Rattle.std.proofs.Common.{◌≡◌, ◌∙◌, ◌≤◌, ◌+◌, ◌*◌, ℕ, not, Bool, true, false, List, Option, Some, None, refl, sym, ap, subst, arith}
+use Rattle.std.proofs.Common.{◌≡◌, ◌∙◌, ◌≤◌, ◌+◌, ◌*◌, ℕ, Result, Ok, Err, OnOk, not, Bool, true, false, List, Option, Some, None, refl, sym, ap, subst, arith}
 use Rattle.kube_base.specs.declared.numbers.Version.{Version}
 use Rattle.kube_objects.specs.declared.call.Answer.{Answer}
 use Rattle.kube_objects.specs.declared.call.Answer.TheVariants as answer
@@ -12,7 +12,8 @@ use Rattle.kube_objects.specs.Seen.{seen_node}
 use Rattle.kube_objects.specs.Stored.{node_write, tick_write, try_write}
 use Rattle.kube_objects.specs.Tick.{add, mark_as, mark_seen, mark}
 use Rattle.kube_objects.specs.Tries.{try_node}
-use Rattle.history.specs.Printed.{tick_act}
+use Rattle.history.specs.Printed.{reason_in, tick_act}
+use Rattle.kube_objects.specs.declared.deed.Act.TheVariants as act
 use Rattle.object_store.specs.Stands.{StoreStands}
 use Rattle.object_store.specs.declared.store.Store.{Store}
 use Rattle.term_state.specs.ClusterStands.{ClusterStands, no_node, no_pod}
@@ -92,3 +93,21 @@ view_more doc k q h t v s = record { watch = s.watch; passes = s.passes; beat = 
 
 pub mark_view : (doc : Doc) (k : ℕ) (q : Identity) (name : ℕ) (h : List Entry) (v : View) → IsView doc k q h v → IsView doc k q (mark doc k q name h) v
 mark_view doc k q name h v s = mark_either doc k q name h (λ g. IsView doc k q g v) s (λ given written. view_more doc k q h (Mark name given written (try_node q name given h)) v s)
+
+-- ---- answers
+
+pub both_ok : {A B : Type 0} (r : Result A B) (P Q : Type 0) → OnOk r P → OnOk r Q → OnOk r (P × Q)
+both_ok (Ok a) P Q p q = (p, q)
+both_ok (Err e) P Q p q = tt
+
+-- one that isn't Done changes nothing
+pub unnoted : (name : ℕ) (written : Node) (a : Answer) → ((v : Version) → a ≡ answer.Done v → ⊥) → noted_by name written (Some a) ≡ None
+unnoted name written (answer.Done v) other = absurd (other v refl)
+unnoted name written answer.Absent other = refl
+unnoted name written answer.Exists other = refl
+unnoted name written (answer.Conflict v) other = refl
+
+-- its line
+pub mark_act : (q : Identity) (h : List Entry) (name : ℕ) (given : Version) (written : Node) (reason : ℕ) (a : Answer) → try_node q name given h ≡ Some a → reason ≡ reason_in written.ready
+    → tick_act (Mark name given written (try_node q name given h)) ≡ Some (act.Marked name reason a)
+mark_act q h name given written reason a is same = ap (λ a. tick_act (Mark name given written a)) is ∙ ap (λ n. Some (act.Marked name n a)) (sym same)

@@ -8,6 +8,7 @@ ghost use Rattle.kube_objects.specs.Tick as model;
 ghost use Rattle.kube_objects.specs.Tokens.{is_rated, rated};
 ghost use Rattle.kube_objects.specs.declared.deed.Deed.{Deed};
 ghost use Rattle.taint_zones.specs.Limits.{LimitStands, LimitsStand};
+ghost use Rattle.taint_zones.specs.Places.{entry_place};
 ghost use Rattle.taint_zones.specs.Waiting.{since};
 ghost use Rattle.taint_zones.specs.declared.place.Place.{Place};
 ghost use Rattle.term_state.specs.Running.{IsTold};
@@ -20,7 +21,7 @@ use kube_objects::{Act, Settings2, ZoneState};
 use rate_bucket::Bucket;
 use std::alloc::Global;
 use std::collections::BTreeMap;
-use taint_zones::{Limit, Zones};
+use taint_zones::{Limit, Place, Zones};
 use term_state::{Told, View};
 use zone_counts::ZoneCount;
 use zone_state::Policies;
@@ -60,6 +61,23 @@ fn is_rated(old: &Option<Limit>, state: ZoneState, rate: u32) -> bool
     }
 }
 
+// Tells the state and rate of a zone, unless it has them already.
+fn tell(
+    rated: bool,
+    place: Place,
+    state: ZoneState,
+    rate: u32,
+    told: &mut Told,
+) -> Result<(), NoMemory>
+    ensures { (k : ℕ) (q : Identity) (before : List Deed) (h : List Entry) → IsTold q k before h told.old
+        → OnOk result (IsTold q k before (model.zone_if k q (entry_place place) state rate rated h) told.new) }
+{
+    if rated {
+        return Ok(());
+    }
+    told.add(Act::Zone(place.region, place.zone, state, rate))
+}
+
 /// The zones of a pass get their states and rates, and those without nodes are forgotten.
 pub(crate) fn set_zones(
     alloc: Global,
@@ -85,9 +103,7 @@ pub(crate) fn set_zones(
         let old = zones.limits.remove(&zone.place);
         let state = zone.state(settings.unhealthy_percent);
         let rate = zone.rate(on, settings, policies);
-        if !is_rated(&old, state, rate) {
-            told.add(Act::Zone(zone.place.region, zone.place.zone, state, rate))?;
-        }
+        tell(is_rated(&old, state, rate), zone.place, state, rate, told)?;
         kept.insert(zone.place, renewed(old, state, rate, view.now))?;
         rest = others;
     }

@@ -76,7 +76,7 @@ positive_or false n c is = ap (λ m. nat_lt 0 m) (zero_and n) ∙ is
     zero_and n = omega (arith)
 
 -- a zone is one of some nodes' where it has one of them
-there : (place : Zone) (nodes : List Node) → list_any (place_eq place) (places nodes) ≡ nat_lt 0 (size_in place nodes)
+pub there : (place : Zone) (nodes : List Node) → list_any (place_eq place) (places nodes) ≡ nat_lt 0 (size_in place nodes)
 there place [] = refl
 there place (node ∷ nodes) =
     inserted (place_eq place) (place_of node) (places nodes)
@@ -84,7 +84,7 @@ there place (node ∷ nodes) =
     ∙ ap (λ b. is_in place node || b) (there place nodes)
     ∙ sym (ap (λ n. nat_lt 0 n) (sum_by-cons (λ x. cond (is_in place x) 1 0) node nodes) ∙ positive_or (is_in place node) (size_in place nodes) _ refl)
 
-places_ascend : (nodes : List Node) → Ascends place_cmp (places nodes)
+pub places_ascend : (nodes : List Node) → Ascends place_cmp (places nodes)
 places_ascend [] = tt
 places_ascend (node ∷ nodes) = ascends_insert place_cmp places_strict (place_of node) (places nodes) (places_ascend nodes)
 
