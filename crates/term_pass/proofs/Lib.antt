@@ -1,2 +1,3 @@
+pub mod Moding
 pub mod ZoneLimits
 pub mod ZoneWalk
