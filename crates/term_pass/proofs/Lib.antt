@@ -1,5 +1,6 @@
 pub mod Looking
 pub mod Marks
+pub mod Moding
 pub mod Numbered
 pub mod ZoneLimits
 pub mod ZoneWalk
