@@ -9,6 +9,7 @@ ghost use Rattle.term_pass.specs.Passing.{LastStands};
 use kube_base::Local;
 
 /// Milliseconds as a span of readings, in units of 10^-12 s.
+#[tactic(auto, unfolding(kube_objects::specs::Document::of_millis))]
 pub(crate) fn of_millis(millis: u32) -> u64
     ensures { result ≡ of_millis millis }
 {
