@@ -5,6 +5,8 @@ ghost use Rattle.kube_objects.specs.Entry.{Entry, Identity};
 ghost use Rattle.kube_objects.specs.Modes as modes;
 ghost use Rattle.kube_objects.specs.Newest.{has};
 ghost use Rattle.kube_objects.specs.Seen.{is_synced, seen, seen_node, seen_pod};
+ghost use Rattle.std.specs.List.Sorted.{IsStrictlySortedBy};
+ghost use Rattle.std.specs.Ordering.{nat_cmp};
 ghost use Rattle.tick_laws.specs.Judged as judged;
 
 use evict_queue::EvictQueue;
@@ -93,8 +95,9 @@ impl Cluster {
 
     /// The names of the nodes, each once and in order.
     pub fn nodes(&self) -> Result<NumberList, NoMemory>
-        ensures { (q : Identity) (h : List Entry) (nodes : ℕ → Bool) (pods : Key → Bool) → ClusterBut q h nodes pods self.now
+        ensures named { (q : Identity) (h : List Entry) (nodes : ℕ → Bool) (pods : Key → Bool) → ClusterBut q h nodes pods self.now
             → is_synced q h ≡ true → IfOk result (AreNamed (λ n. has (seen_node q n h))) }
+        ensures ascend { IfOk result (IsStrictlySortedBy nat_cmp) }
     {
         match self.cache.nodes() {
             Ok(names) => Ok(names),

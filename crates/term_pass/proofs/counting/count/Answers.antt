@@ -1,5 +1,7 @@
 use Rattle.std.proofs.Common.{◌≡◌, ◌∙◌, ◌∷◌, [], Some, None, ap, arith, rules, subst, sym}
 use Rattle.std.proofs.lemmas.Grind.{common_steps}
+use Rattle.kube_base.specs.declared.numbers.Version.{Version}
+use Rattle.kube_objects.specs.declared.node.Node.{Node}
 use Rattle.kube_objects.specs.Modes.{nodes, nodes_among}
 use Rattle.kube_objects.specs.Newest.{has}
 use Rattle.kube_objects.specs.Seen.{seen_node}
@@ -22,7 +24,7 @@ loop-name-preserved-in_ok-add c =
     let names = c.args.names.now in
     let all = c.loop-name.rest.now in
     let old = c.loop-name.counts in
-    let x = (c.in-Some-node.field-0-0, c.in-Some-node.node.now) in
+    let x : Version × Node = (c.in-Some-node.field-0-0, c.in-Some-node.node.now) in
     let split : all ≡ n ∷ others = c.in-Some.ensures.cases.0 in
     record {
       counting = λ q h s synced are few.

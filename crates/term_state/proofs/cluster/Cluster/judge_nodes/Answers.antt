@@ -12,7 +12,7 @@ pub loop-name-init : goal.loop-name-init
 loop-name-init c = record {
   stands = λ q h s synced.
       widen q h (λ n. has (seen_node q n h)) (is_named c.as_slice-rest.result.now) no_pod no_pod c.args.self.now
-      (λ n is. sym ((c.in_ok-names.ensures q h (λ n. has (seen_node q n h)) no_pod s synced).named n) ∙ ap (λ xs. is_named xs n) (sym c.as_slice-rest.ensures) ∙ is) (λ p is. is) s;
+      (λ n is. sym ((c.in_ok-names.ensures.named q h (λ n. has (seen_node q n h)) no_pod s synced).named n) ∙ ap (λ xs. is_named xs n) (sym c.as_slice-rest.ensures) ∙ is) (λ p is. is) s;
   moved = λ n. refl;
 }
 
@@ -40,4 +40,4 @@ returns-clause-moved c q h s synced n =
     let empty : c.loop-name.rest.now ≡ [] = grind (arith, common_steps) in
     ap (λ xs. is_named xs n || has_moved c.loop-name.self n) (sym empty)
     ∙ c.loop-name.invariant.moved n
-    ∙ ap (λ b. b || has_moved c.args.self.now n) (ap (λ xs. is_named xs n) c.as_slice-rest.ensures ∙ (c.in_ok-names.ensures q h (λ n. has (seen_node q n h)) no_pod s synced).named n)
+    ∙ ap (λ b. b || has_moved c.args.self.now n) (ap (λ xs. is_named xs n) c.as_slice-rest.ensures ∙ (c.in_ok-names.ensures.named q h (λ n. has (seen_node q n h)) no_pod s synced).named n)

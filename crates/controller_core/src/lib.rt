@@ -1,0 +1,8 @@
+//! A leader's term: what it has seen of the cluster, and its tick.
+#![tactic(auto)]
+
+mod acts;
+mod term;
+mod wakes;
+
+pub use term::Term;
