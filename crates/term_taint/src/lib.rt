@@ -3,7 +3,7 @@
 
 mod head;
 mod phase;
-mod settle;
+mod settling;
 
 pub use phase::taint;
-pub use settle::settle;
+pub use settling::settle;
