@@ -1,0 +1,81 @@
+-- What a phase of a tick leaves that has no entry of its kind.
+use Rattle.std.proofs.Common.{◌≡◌, ◌∙◌, ℕ, ◌&&◌, not, Bool, true, false, List, Option, Some, None, IfSome, option_map, refl, sym, ap, subst}
+use Rattle.kube_base.specs.declared.numbers.Local.{Local}
+use Rattle.kube_objects.specs.declared.deed.Deed.{Deed}
+use Rattle.kube_objects.specs.Clocks.{local}
+use Rattle.kube_objects.specs.Document.{Doc}
+use Rattle.kube_objects.specs.Entry.{Entry, Identity, Place, Tick, Ticks, Sync, Untaint, Swap, Head, Delete, entry}
+use Rattle.kube_objects.specs.Health.{last_pass}
+use Rattle.kube_objects.specs.InForce.{watches}
+use Rattle.kube_objects.specs.Seen.{is_fresh, is_synced}
+use Rattle.kube_objects.specs.Tainting.{before_tick}
+use Rattle.kube_objects.specs.Tick.{add, cleaned, evicted, sync, sync_if, tainted}
+use Rattle.kube_objects.specs.Tokens.{base, rated}
+use Rattle.history_laws.proofs.Plainly.{false_is}
+use Rattle.node_health.specs.Stands.{is_of_health}
+use Rattle.node_health.proofs.Frames.{SaysSame, says-same, says-then, unheard-kind}
+use Rattle.taint_zones.specs.declared.zones.Zones.{Zones}
+use Rattle.taint_zones.specs.Limits.{LimitsStand, limit_at}
+use Rattle.term_pass.specs.Passing.{LastStands}
+use Rattle.term_state.specs.declared.told.Told.{Told}
+use Rattle.term_state.specs.Running.{IsTold}
+use Rattle.term_state.proofs.Telling.{told_beside}
+use Rattle.tick_laws.proofs.Phases.{KeepsLimits, cleaned_keeps, evicted_keeps, is_cleaning, is_heading, sync_keeps, tainted_keeps}
+use Rattle.tick_laws.proofs.Syncing.{sync_synced}
+
+-- ---- the health of nodes
+
+says_more : (q : Identity) (k : ℕ) (h g : List Entry) (t : Tick) → is_of_health (Ticks t) ≡ false → SaysSame q h g → SaysSame q h (add k q t g)
+says_more q k h g t other s = says-then q h g (add k q t g) s (unheard-kind q g (entry k 4 q (Ticks t)) other)
+
+cleaning_unheard : (t : Tick) → is_cleaning t ≡ true → is_of_health (Ticks t) ≡ false
+cleaning_unheard (Untaint name given written a) is = refl
+cleaning_unheard (Swap name wanted given written a) is = refl
+cleaning_unheard t is = absurd (false_is is)
+
+heading_unheard : (t : Tick) → is_heading t ≡ true → is_of_health (Ticks t) ≡ false
+heading_unheard (Head place name wanted given written a) is = refl
+heading_unheard t is = absurd (false_is is)
+
+module _ (doc : Doc) (k : ℕ) (q : Identity) (h : List Entry) where
+  pub sync_says : SaysSame q h (sync doc k q h)
+  sync_says = sync_keeps doc k q (SaysSame q h) (λ g s. says_more q k h g Sync refl s) h (says-same q h)
+
+  pub cleaned_says : SaysSame q h (cleaned doc k q h)
+  cleaned_says = cleaned_keeps doc k q (SaysSame q h) (λ t g is made s. says_more q k h g t (cleaning_unheard t is) s) h (says-same q h)
+
+  pub tainted_says : SaysSame q h (tainted doc k q h)
+  tainted_says = tainted_keeps doc k q (SaysSame q h) (λ t g is made s. says_more q k h g t (heading_unheard t is) s) h (says-same q h)
+
+  pub evicted_says : SaysSame q h (evicted doc k q h)
+  evicted_says = evicted_keeps doc k q (SaysSame q h) (λ pod given node_given at a g made s. says_more q k h g (Delete pod given node_given at a) refl s) h (says-same q h)
+
+-- ---- limits, and the last pass
+
+pub limits_stand : (doc : Doc) (q : Identity) (h g : List Entry) (zones : Zones) → KeepsLimits q h g → LimitsStand doc q h zones → LimitsStand doc q g zones
+limits_stand doc q h g zones k s place = record {
+  rated = (s place).rated ∙ sym (k.rated place);
+  rate = (s place).rate;
+  base = subst (λ n. IfSome (limit_at zones place) (λ limit. limit.bucket.base ≡ local doc q.process n)) (sym (k.base place)) (s place).base;
+}
+
+pub last_stands : (doc : Doc) (q : Identity) (h g : List Entry) (last : Option Local) → last_pass q g ≡ last_pass q h → LastStands doc q h last → LastStands doc q g last
+last_stands doc q h g last same s = s ∙ ap (option_map (local doc q.process)) (sym same)
+
+-- ---- a sync
+
+-- a term that hasn't synced after this hasn't synced now
+pub unsynced_none : (doc : Doc) (k : ℕ) (q : Identity) (h : List Entry) → is_synced q (sync doc k q h) ≡ false → sync doc k q h ≡ h
+unsynced_none doc k q h none = by_test (watches doc q.process h && not (is_fresh q h)) none
+  where
+    by_test : (b : Bool) → is_synced q (sync_if k q b h) ≡ false → sync_if k q b h ≡ h
+    by_test true none = absurd (false_is (sym none ∙ sync_synced q k h))
+    by_test false none = refl
+
+-- a sync isn't printed
+pub told_synced : (doc : Doc) (k : ℕ) (q : Identity) (before : List Deed) (h : List Entry) (t : Told) → IsTold q k before h t → IsTold q k before (sync doc k q h) t
+told_synced doc k q before h t s = by_test (watches doc q.process h && not (is_fresh q h))
+  where
+    by_test : (b : Bool) → IsTold q k before (sync_if k q b h) t
+    by_test true = told_beside q k before h Sync t refl s
+    by_test false = s

@@ -1,0 +1,22 @@
+use Rattle.std.proofs.Common.{◌≡◌, ◌∙◌, None, IfSome, ap, sym, subst, refl, option_map}
+use Rattle.kube_objects.specs.Clocks.{local}
+use Rattle.kube_objects.specs.Tokens.{base}
+use Rattle.taint_zones.specs.Limits.{rated_of}
+use Rattle.taint_zones.specs.Places.{of_place}
+use Rattle.controller_core.proofs.Starting.{no_pass, no_rate, no_since, none_reached}
+use Rattle.controller_core.proofs.term.Term.new.Goals as goal
+
+pub returns : goal.returns
+returns c doc q h none s = record {
+  cluster = c.new.ensures.stands q h none;
+  reached = none_reached q h none;
+  health = c.new-2.ensures.stands doc q h (no_pass q h none);
+  limits = λ place. record {
+    rated = ap rated_of (c.new-3.ensures.limits place) ∙ sym (no_rate q place h none);
+    rate = subst (λ x. IfSome x (λ limit. limit.bucket.rate ≡ limit.rate)) (sym (c.new-3.ensures.limits place)) tt;
+    base = subst (λ x. IfSome x (λ limit. limit.bucket.base ≡ local doc q.process (base q place h))) (sym (c.new-3.ensures.limits place)) tt;
+  };
+  queues = λ place n. c.new-3.ensures.queues (of_place place) n ∙ sym (no_since q place n h none);
+  last = sym (ap (option_map (local doc q.process)) (no_pass q h none));
+  settings = s;
+}

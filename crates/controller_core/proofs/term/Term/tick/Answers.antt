@@ -1,0 +1,36 @@
+use Rattle.std.proofs.Common.{◌≡◌, ◌∙◌, ◌++◌, ap, sym, subst}
+use Rattle.history.specs.Printed.{printed}
+use Rattle.kube_objects.specs.declared.deed.Actor.TheVariants as actor
+use Rattle.kube_objects.specs.Entry.{actor_of}
+use Rattle.kube_objects.specs.Tick.{tick}
+use Rattle.leader_elector.specs.Stands.{Names}
+use Rattle.term_state.specs.ClusterStands.{no_node, no_pod}
+use Rattle.term_state.specs.Running.{IsTold}
+use Rattle.controller_core.proofs.term.Term.tick.Goals as goal
+
+pub returns-clause-stands : goal.returns-clause-stands
+returns-clause-stands g c doc k q h s st v acts start small =
+    let names = subst (λ x. Names x c.identity.result) acts c.identity.ensures in
+    let who : actor.Proc c.identity.result.0 c.identity.result.1 ≡ actor_of q = λ i. actor.Proc (record { 0 = names.0 i }) (names.1 i) in
+    let told = subst (λ n. IsTold q n (printed h) h c.new-told.result) v.beat (c.new-told.ensures.stands q h who) in
+    let w = c.in_ok-begin.ensures.stands doc k q (printed h) h s st told v start small in
+    record {
+      term = record {
+        cluster = c.forget_moved.ensures.stands q (tick doc k q h) no_node no_pod w.term.cluster;
+        reached = w.term.reached;
+        health = w.term.health;
+        limits = w.term.limits;
+        queues = w.term.queues;
+        last = w.term.last;
+        settings = w.term.settings;
+      };
+      store = w.store;
+      told = ap (λ xs. printed h ++ xs) c.into_deeds.ensures ∙ w.told.told;
+    }
+
+pub returns-clause-counted : goal.returns-clause-counted
+returns-clause-counted g c doc k q h s st v acts start small =
+    let names = subst (λ x. Names x c.identity.result) acts c.identity.ensures in
+    let who : actor.Proc c.identity.result.0 c.identity.result.1 ≡ actor_of q = λ i. actor.Proc (record { 0 = names.0 i }) (names.1 i) in
+    let told = subst (λ n. IsTold q n (printed h) h c.new-told.result) v.beat (c.new-told.ensures.stands q h who) in
+    c.in_ok-begin.ensures.counted doc k q (printed h) h s st told v start small

@@ -1,0 +1,68 @@
+-- A term stands for a history.
+use Rattle.std.specs.Prelude.{◌≡◌, ◌++◌, ℕ, true, List}
+use Rattle.history.specs.Printed.{printed}
+use Rattle.kube_objects.specs.declared.deed.Deed.{Deed}
+use Rattle.kube_objects.specs.Document.{Doc}
+use Rattle.kube_objects.specs.Entry.{Entry, Identity}
+use Rattle.kube_objects.specs.Tainting.{before_tick}
+use Rattle.kube_objects.specs.Tick.{cleaned, evicted, pass, tainted, tick}
+use Rattle.node_health.specs.Stands.{HealthStands}
+use Rattle.object_store.specs.Stands.{StoreStands}
+use Rattle.object_store.specs.declared.store.Store.{Store}
+use Rattle.taint_zones.specs.Limits.{LimitsStand}
+use Rattle.term_pass.specs.Passing.{LastStands}
+use Rattle.term_state.specs.declared.told.Told.{Told}
+use Rattle.term_state.specs.ClusterStands.{ClusterStands}
+use Rattle.term_state.specs.Running.{IsTold, Running}
+use Rattle.term_taint.specs.QueuesStand.{QueuesStand}
+use Rattle.tick_laws.specs.Rows.{no_heads}
+use Rattle.tick_laws.specs.Since.{AreReached}
+use Rattle.zone_counts.specs.Settings.{AreSettings}
+use Rattle.controller_core.specs.declared.term.Term.{Term}
+
+-- one clause for each field, and that stale keys were written since the last sync
+pub record TermStands (doc : Doc) (q : Identity) (h : List Entry) (t : Term) : Type 0 where
+  pub cluster : ClusterStands q h t.cluster
+  pub reached : AreReached q h
+  pub health : HealthStands doc q h t.health
+  pub limits : LimitsStand doc q h t.zones
+  pub queues : QueuesStand q h t.zones.queues
+  pub last : LastStands doc q h t.last
+  pub settings : AreSettings doc t.settings
+
+-- after a tick: the term and the store stand for the history with the tick, and the deeds are those that are printed for it
+pub record Ticked (doc : Doc) (k : ℕ) (q : Identity) (h : List Entry) (deeds : List Deed) (t : Term) (s : Store) : Type 0 where
+  pub term : TermStands doc q (tick doc k q h) t
+  pub store : StoreStands (tick doc k q h) s
+  pub told : printed h ++ deeds ≡ printed (tick doc k q h)
+
+-- ---- within a tick
+
+-- after the sync; who waits is as before the tick
+pub record Begun (doc : Doc) (k : ℕ) (q : Identity) (before : List Deed) (h : List Entry) (t : Term) (s : Store) (o : Told) : Type 0 where
+  pub running : Running q k before h t.cluster s o
+  pub health : HealthStands doc q h t.health
+  pub limits : LimitsStand doc q h t.zones
+  pub queues : QueuesStand q (before_tick q k h) t.zones.queues
+  pub heads : no_heads q k h ≡ true
+  pub last : LastStands doc q h t.last
+  pub settings : AreSettings doc t.settings
+
+-- after the evictions
+pub record Acted (doc : Doc) (k : ℕ) (q : Identity) (before : List Deed) (h : List Entry) (t : Term) (s : Store) (o : Told) : Type 0 where
+  pub running : Running q k before h t.cluster s o
+  pub health : HealthStands doc q h t.health
+  pub limits : LimitsStand doc q h t.zones
+  pub queues : QueuesStand q h t.zones.queues
+  pub last : LastStands doc q h t.last
+  pub settings : AreSettings doc t.settings
+
+-- at the end
+pub record Went (doc : Doc) (k : ℕ) (q : Identity) (before : List Deed) (h : List Entry) (t : Term) (s : Store) (o : Told) : Type 0 where
+  pub term : TermStands doc q h t
+  pub store : StoreStands h s
+  pub told : IsTold q k before h o
+
+-- what a tick does after its sync
+abbrev pub acted : Doc → ℕ → Identity → List Entry → List Entry
+acted doc k q h = evicted doc k q (tainted doc k q (cleaned doc k q (pass doc k q h)))

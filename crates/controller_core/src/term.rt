@@ -1,0 +1,85 @@
+// A term of a leader.
+ghost use Rattle.std.specs.Prelude.{◌≡◌, ◌≤◌, ◌<◌, ◌+◌, ◌++◌, ℕ, List, length, IfOk, OnOk};
+ghost use Rattle.history.specs.Printed.{printed};
+ghost use Rattle.kube_objects.specs.Document.{Doc};
+ghost use Rattle.kube_objects.specs.Entry.{Entry, Identity};
+ghost use Rattle.kube_objects.specs.Modes.{nodes};
+ghost use Rattle.kube_objects.specs.Tainting.{before_tick};
+ghost use Rattle.kube_objects.specs.Tick as model;
+ghost use Rattle.leader_elector.specs.Stands.{acting_identity};
+ghost use Rattle.object_store.specs.Stands.{StoreStands};
+ghost use Rattle.term_state.specs.Running.{IsView};
+ghost use Rattle.tick_laws.specs.Steps.{tick_cost};
+ghost use Rattle.watch_cache.specs.Stands.{ticks};
+ghost use Rattle.zone_counts.specs.Settings.{AreSettings};
+
+use kube_base::{Local, NoMemory, Steps};
+use kube_objects::{Actor, Deeds, Settings2};
+use leader_elector::Acting;
+use node_health::Health;
+use object_store::Store;
+use std::alloc::Global;
+use taint_zones::Zones;
+use term_state::{Cluster, Told, View};
+use zone_state::Policies;
+
+/// A term of a leader: what it has seen of the cluster since it began to lead, and what its ticks keep.
+///
+/// After `NoMemory` the term and the store may only be dropped. Source: the node lifecycle controller of Kubernetes and its
+/// taint eviction controller.
+#[derive(Drop)]
+pub struct Term {
+    pub(crate) alloc: Global,
+    pub(crate) settings: Settings2,
+    pub(crate) cluster: Cluster,
+    pub(crate) health: Health,
+    pub(crate) zones: Zones,
+    pub(crate) last: Option<Local>,
+    ghost ordered: { settings.secondary_rate ≤ settings.primary_rate },
+}
+
+impl Term {
+    ghost use Rattle.controller_core.specs.TermStands.{TermStands, Ticked};
+
+    /// A term that begins. It has seen nothing.
+    pub fn new(alloc: Global, settings: &Settings2) -> Term
+        requires { settings.now.secondary_rate ≤ settings.now.primary_rate }
+        ensures { (doc : Doc) (q : Identity) (h : List Entry) → ticks q h ≡ 0 → AreSettings doc settings.now → TermStands doc q h result }
+    {
+        Term {
+            alloc,
+            settings: *settings,
+            cluster: Cluster::new(alloc),
+            health: Health::new(alloc),
+            zones: Zones::new(alloc),
+            last: None,
+        }
+    }
+
+    /// One tick: a sync, and once there was one a pass where it is due, untaints and swaps, queued taints, and evictions.
+    /// Answers the printed deeds in order. Of what it counts a step at most is no part of the tick's cost.
+    pub fn tick<L>(
+        &mut self,
+        acting: &Acting<'_>,
+        store: &mut Store,
+        view: &View,
+        policies: &Policies,
+        steps: &mut Steps<L>,
+    ) -> Result<Deeds, NoMemory>
+        requires { view.now.now.0 ≤ 2000000000000000000 }
+        ensures stands { (doc : Doc) (k : ℕ) (q : Identity) (h : List Entry) → TermStands doc q h self.old → StoreStands h store.old
+            → IsView doc k q h view.entry.now → acting_identity acting.now ≡ q → before_tick q k h ≡ h
+            → length (nodes q (model.sync doc k q h)) < 4294967296
+            → IfOk result (λ deeds. Ticked doc k q h deeds self.new store.new) }
+        ensures counted { (doc : Doc) (k : ℕ) (q : Identity) (h : List Entry) → TermStands doc q h self.old → StoreStands h store.old
+            → IsView doc k q h view.entry.now → acting_identity acting.now ≡ q → before_tick q k h ≡ h
+            → length (nodes q (model.sync doc k q h)) < 4294967296
+            → OnOk result (steps.new ≤ steps.old + (1 + tick_cost q k (model.tick doc k q h))) }
+    {
+        let (process, incarnation) = acting.identity();
+        let mut told = Told::new(self.alloc, Actor::Proc(process, incarnation), view.beat);
+        self.begin(store, view, policies, &mut told, steps)?;
+        self.cluster.forget_moved();
+        Ok(told.into_deeds())
+    }
+}

@@ -1,0 +1,96 @@
+// Nodes with other taints.
+ghost use Rattle.std.specs.Prelude.{◌≡◌, ◌++◌, ◌∷◌, [], not, filter, take, IfOk, Some};
+ghost use Rattle.std.specs.List.{list_any};
+ghost use Rattle.kube_objects.specs.Tainting.{is_condition, is_opposite, is_wanted};
+ghost use Rattle.kube_objects.specs.Tick as tick;
+ghost use Rattle.node_taints.specs.Editing.{taint_at};
+
+use crate::wants::is_condition;
+use kube_base::{ListOf, NoMemory, Wall};
+use kube_objects::{Effect, Node, Taint, Taints};
+
+/// The NoExecute taint with this key that a controller adds at a whole second: without a value, and with that time.
+pub fn new_taint(key: u32, second: Wall) -> Taint
+    ensures { result ≡ taint_at key second.0 }
+{
+    Taint {
+        key,
+        value: 0,
+        effect: Effect::NoExecute,
+        added: Some(second),
+    }
+}
+
+/// The node without its condition taints.
+#[tactic(auto, using(std::proofs::lemmas::List::Elements::filter_more))]
+pub fn untainted(node: &Node) -> Result<Node, NoMemory>
+    ensures { IfOk result (λ written. written ≡ tick.untainted node.now) }
+{
+    let mut taints = ListOf::new(node.taints.allocator());
+    for taint in node.taints.as_slice() {
+        if !is_condition(taint) {
+            taints.push(*taint)?;
+        }
+    }
+    Ok(with_taints(node, taints))
+}
+
+/// The node without the condition taint that isn't the given one. The given one stays as it is where the node has it;
+/// else it is put at the end.
+pub fn swapped(node: &Node, taint: Taint) -> Result<Node, NoMemory>
+    ensures { IfOk result (λ written. written ≡ tick.swapped taint node.now) }
+{
+    let mut taints = without_opposite(node, taint.key)?;
+    if !has_wanted(node, taint.key) {
+        taints.push(taint)?;
+    }
+    Ok(with_taints(node, taints))
+}
+
+/// The node with a further taint at the end.
+pub fn tainted(node: &Node, taint: Taint) -> Result<Node, NoMemory>
+    ensures { IfOk result (λ written. written ≡ tick.tainted_with taint node.now) }
+{
+    let mut taints = node.taints.copy()?;
+    taints.push(taint)?;
+    Ok(with_taints(node, taints))
+}
+
+#[tactic(auto, using(std::proofs::lemmas::List::Elements::filter_more))]
+fn without_opposite(node: &Node, wanted: u32) -> Result<Taints, NoMemory>
+    ensures { IfOk result (λ taints. taints ≡ filter (λ other. not (is_opposite wanted other)) node.now.taints) }
+{
+    let mut taints = ListOf::new(node.taints.allocator());
+    for taint in node.taints.as_slice() {
+        if !is_opposite(wanted, taint) {
+            taints.push(*taint)?;
+        }
+    }
+    Ok(taints)
+}
+
+fn is_opposite(wanted: u32, taint: &Taint) -> bool
+    ensures { result ≡ is_opposite wanted taint.now }
+{
+    is_condition(taint) && taint.key != wanted
+}
+
+fn has_wanted(node: &Node, wanted: u32) -> bool
+    ensures { result ≡ list_any (is_wanted wanted) node.now.taints }
+{
+    node.taints
+        .as_slice()
+        .iter()
+        .any(|taint| is_condition(taint) && taint.key == wanted)
+}
+
+fn with_taints(node: &Node, taints: Taints) -> Node
+    ensures { result ≡ tick.with_taints node.now taints }
+{
+    Node {
+        region: node.region,
+        zone: node.zone,
+        taints,
+        ready: node.ready,
+    }
+}

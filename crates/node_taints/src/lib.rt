@@ -1,0 +1,8 @@
+//! Which condition taint a node wants, and nodes with such taints added or taken away.
+#![tactic(auto)]
+
+mod edits;
+mod wants;
+
+pub use edits::{new_taint, swapped, tainted, untainted};
+pub use wants::{Wants, has_condition, has_opposite, lacks, want_of};

@@ -1,0 +1,3 @@
+pub mod Homing
+pub mod Tokening
+pub mod ZoneMaps

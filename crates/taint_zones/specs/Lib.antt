@@ -1,0 +1,4 @@
+pub mod Homes
+pub mod Limits
+pub mod Places
+pub mod Waiting

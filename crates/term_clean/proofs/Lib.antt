@@ -1,0 +1,2 @@
+pub mod CleanWalk
+pub mod Cleans

@@ -1,0 +1,58 @@
+-- The mode through a pass.
+use Rattle.std.proofs.Common.{◌≡◌, ◌∙◌, ℕ, Bool, true, false, List, Result, Ok, Err, OnOk, refl, sym, ap, subst}
+use Rattle.kube_objects.specs.declared.deed.Deed.{Deed}
+use Rattle.kube_objects.specs.Document.{Doc}
+use Rattle.kube_objects.specs.Entry.{Entry, Identity, Ticks, Mode}
+use Rattle.kube_objects.specs.Modes.{all_full, mode, nodes}
+use Rattle.kube_objects.specs.Tainting.{before_tick}
+use Rattle.kube_objects.specs.Tick.{add, is_same_mode, mode_if, set_mode}
+use Rattle.node_health.specs.Stands.{HealthStands}
+use Rattle.node_health.specs.declared.health.Health.{Health}
+use Rattle.node_health.proofs.Frames.{health-same, unheard-kind}
+use Rattle.object_store.proofs.Keeps.{store-beside}
+use Rattle.object_store.specs.declared.store.Store.{Store}
+use Rattle.term_state.specs.ClusterStands.{ClusterStands}
+use Rattle.term_state.specs.Running.{IsMoved, IsTold, Running}
+use Rattle.term_state.specs.declared.cluster.Cluster.{Cluster}
+use Rattle.term_state.specs.declared.told.Told.{Told}
+use Rattle.tick_laws.proofs.Frames.{mode_change}
+use Rattle.tick_laws.proofs.Ticked.{own_before}
+
+same_as : (on b : Bool) → on ≡ b → is_same_mode on b ≡ true
+same_as true true is = refl
+same_as false false is = refl
+same_as true false is = absurd (cc)
+same_as false true is = absurd (cc)
+
+other_than : (on b : Bool) → (on ≡ b → ⊥) → is_same_mode on b ≡ false
+other_than true true apart = absurd (apart refl)
+other_than false false apart = absurd (apart refl)
+other_than true false apart = refl
+other_than false true apart = refl
+
+pub mode_stays : (doc : Doc) (k : ℕ) (q : Identity) (h : List Entry) (on : Bool) → on ≡ all_full doc (nodes q h) → on ≡ mode q h → set_mode doc k q h ≡ h
+mode_stays doc k q h on is same =
+    ap (λ x. mode_if k q x (is_same_mode x (mode q h)) h) (sym is) ∙ ap (λ b. mode_if k q on b h) (same_as on (mode q h) same)
+
+pub mode_turns : (doc : Doc) (k : ℕ) (q : Identity) (h : List Entry) (on : Bool) → on ≡ all_full doc (nodes q h) → (on ≡ mode q h → ⊥) → set_mode doc k q h ≡ add k q (Mode on) h
+mode_turns doc k q h on is apart =
+    ap (λ x. mode_if k q x (is_same_mode x (mode q h)) h) (sym is) ∙ ap (λ b. mode_if k q on b h) (other_than on (mode q h) apart)
+
+pub health_on : (doc : Doc) (k : ℕ) (q : Identity) (h : List Entry) (health : Health) → HealthStands doc q h health → HealthStands doc q (add k q (Mode true) h) health
+health_on doc k q h health s = health-same doc q h (add k q (Mode true) h) health (unheard-kind q h _ refl) s
+
+pub running_after : (q : Identity) (k : ℕ) (before : List Deed) (h : List Entry) (on : Bool) (old new : Cluster) (store : Store) (told after : Told)
+    → Running q k before h old store told → ClusterStands q (add k q (Mode on) h) new → IsMoved q k (add k q (Mode on) h) new
+    → IsTold q k before (add k q (Mode on) h) after → Running q k before (add k q (Mode on) h) new store after
+running_after q k before h on old new store told after r cluster moved told_after =
+    record {
+      cluster = cluster;
+      moved = moved;
+      store = store-beside h _ store r.store refl;
+      told = told_after;
+      synced = (mode_change q k h on).synced ∙ r.synced;
+    }
+
+pub both_ok : {A E : Type 0} (r : Result A E) (P Q R : Type 0) → OnOk r P → OnOk r Q → (P → Q → R) → OnOk r R
+both_ok (Ok x) P Q R p q f = f p q
+both_ok (Err e) P Q R p q f = tt

@@ -1,0 +1,111 @@
+-- A sync takes over what was written.
+use Rattle.std.proofs.Common.{◌≡◌, ◌∙◌, ℕ, ◌&&◌, ◌||◌, Bool, true, false, cond, List, [], ◌∷◌, Option, Some, None, refl, sym, ap, drop}
+use Rattle.kube_base.specs.declared.numbers.Version.{Version}
+use Rattle.kube_objects.specs.declared.key.Key.{Key}
+use Rattle.kube_objects.specs.declared.object.Object.{Object}
+use Rattle.kube_objects.specs.declared.object.Object.TheVariants as object
+use Rattle.kube_objects.specs.declared.pod.Pod.{Pod}
+use Rattle.kube_objects.specs.Entry.{Entry, Identity, Sync}
+use Rattle.kube_objects.specs.Feeds.{is_among}
+use Rattle.kube_objects.specs.Kinds.{IsOfKind}
+use Rattle.kube_objects.specs.Newest.{has}
+use Rattle.kube_objects.specs.Seen.{is_pod, is_stale, pod_in, seen_pod}
+use Rattle.kube_objects.specs.Stored.{Held, node_key, stored, write_of, writes}
+use Rattle.kube_objects.specs.Tick.{add}
+use Rattle.history_laws.proofs.Plainly.{false_is}
+use Rattle.object_store.specs.FeedLaws.{kinds_in}
+use Rattle.object_store.specs.Stands.{StoreStands, shown_in}
+use Rattle.object_store.specs.StoreAnswers.{changed_keys, kept_of}
+use Rattle.object_store.specs.declared.store.Store.{Store}
+use Rattle.tick_laws.specs.Judged.{seen_due, shown}
+use Rattle.tick_laws.specs.Since.{AreReached, is_node_among, keys_since}
+use Rattle.tick_laws.proofs.Frames.{pod_shown}
+use Rattle.tick_laws.proofs.Syncing.{keys_since_is, sync_dirty, sync_due, sync_keeps, sync_pod, sync_position, sync_shows, sync_stale, sync_synced}
+use Rattle.tick_laws.proofs.Tried.{no_pod_never}
+use Rattle.watch_cache.specs.declared.cache.Cache.{Cache}
+use Rattle.watch_cache.specs.Kept.{kept, of_kind}
+use Rattle.watch_cache.specs.Stands.{and_key, kept_in, position_in, stale_in, synced_in, synced_writes, written_keys}
+use Rattle.term_state.specs.declared.cluster.Cluster.{Cluster}
+use Rattle.term_state.specs.ClusterStands.{ClusterBut, ClusterStands}
+use Rattle.term_state.specs.Taking.{is_open}
+use Rattle.term_state.proofs.Aside.{with_cache}
+use Rattle.term_state.proofs.Widen.{first_none, second_none}
+
+-- the store's words and the cache's say the same
+pub kept_same : (o : Option Held) → kept_of o ≡ kept o
+kept_same None = refl
+kept_same (Some x) = refl
+
+pub keys_same : (h : List Entry) → changed_keys h ≡ written_keys h
+keys_same [] = refl
+keys_same (e ∷ h) = ap (and_key (write_of e.deed)) (keys_same h)
+
+-- what is stored from a position on was written since the last sync
+pub since_is : (q : Identity) (h : List Entry) (position : ℕ) → position ≡ synced_writes q h → drop position (changed_keys h) ≡ keys_since q h
+since_is q h position is = ap (λ n. drop n (changed_keys h)) is ∙ ap (drop (synced_writes q h)) (keys_same h) ∙ sym (keys_since_is q h)
+
+module _ (q : Identity) (h : List Entry) (kinds : (key : Key) → has (seen_pod q key h) ≡ true → is_pod key.kind ≡ true) (r : AreReached q h) where
+  -- a key that nobody wrote, and whose pod's node nobody wrote, isn't stale
+  unreached : (key : Key) → is_among (keys_since q h) key ≡ false → is_node_among (keys_since q h) (seen_pod q key h) ≡ false → is_stale q key h ≡ false
+  unreached key out on = by_test (is_stale q key h) refl
+    where
+      none : (is_among (keys_since q h) key || is_node_among (keys_since q h) (seen_pod q key h)) ≡ false
+      none = ap (λ b. b || is_node_among (keys_since q h) (seen_pod q key h)) out ∙ on
+
+      by_test : (b : Bool) → is_stale q key h ≡ b → b ≡ false
+      by_test true stale = absurd (false_is (sym none ∙ r key stale))
+      by_test false fresh = refl
+
+  -- no pod is seen under a node's key
+  no_pod_at : (keys : List Key) (name : ℕ) → is_node_among keys (seen_pod q (node_key name) h) ≡ false
+  no_pod_at keys name = by_pod (seen_pod q (node_key name) h) (kinds (node_key name))
+    where
+      by_pod : (o : Option (Version × Pod)) → (has o ≡ true → false ≡ true) → is_node_among keys o ≡ false
+      by_pod None none = refl
+      by_pod (Some x) none = absurd (false_is (none refl))
+
+  pub fresh_node : (name : ℕ) → is_among (keys_since q h) (node_key name) ≡ false → is_stale q (node_key name) h ≡ false
+  fresh_node name out = unreached (node_key name) out (no_pod_at (keys_since q h) name)
+
+  pub fresh_pod : (key : Key) → is_among (keys_since q h) key ≡ false → is_node_among (keys_since q h) (seen_pod q key h) ≡ false → is_stale q key h ≡ false
+  fresh_pod key out on = unreached key out on
+
+-- a pod that is stored stands under a pod's key
+stored_kind : (h : List Entry) (store : Store) (key : Key) (o : Option Held) → shown_in store key ≡ kept_of o → has (of_kind pod_in (kept o)) ≡ true → is_pod key.kind ≡ true
+stored_kind h store key None is there = absurd (false_is there)
+stored_kind h store key (Some x) is there = by_object x.object (λ other at. kinds_in store key x.version other (is ∙ ap (λ o. Some (x.version, o)) at)) there
+  where
+    by_object : (y : Object) → ((other : Object) → y ≡ other → IsOfKind key other) → has (of_kind pod_in (Some (x.version, y))) ≡ true → is_pod key.kind ≡ true
+    by_object (object.Node node) kind there = absurd (false_is there)
+    by_object (object.Lease lease) kind there = absurd (false_is there)
+    by_object (object.Pod pod) kind there = ap is_pod (kind (object.Pod pod) refl)
+
+module _ (q : Identity) (k : ℕ) (h : List Entry) (c : Cluster) (cache : Cache) (store : Store) (s : ClusterStands q h c) (st : StoreStands h store) (r : AreReached q h) where
+  pub taken_over : ((key : Key) → kept_in cache key ≡ cond (is_among (keys_since q h) key) (kept_of (stored key h)) (kept_in c.cache key))
+      → ((key : Key) → stale_in cache key ≡ false) → synced_in cache ≡ true → position_in cache ≡ writes h
+      → ClusterBut q (add k q Sync h) (λ n. is_among (keys_since q h) (node_key n)) (is_open q (add k q Sync h) (keys_since q h)) (with_cache c cache)
+  taken_over objects stale synced position =
+      record {
+        cache = record {
+          objects = λ key. objects key ∙ by_test key (is_among (keys_since q h) key) refl;
+          stale = λ key. stale key ∙ sym (sync_stale q k h key);
+          synced = synced ∙ sym (sync_synced q k h);
+          position = position ∙ sym (sync_position q k h);
+        };
+        mode = s.mode;
+        unclean = λ n out. s.unclean n refl ∙ sym (sync_dirty q k h n out (fresh_node q h s.kinds r n out));
+        dues = λ key out. s.dues key refl ∙ by_kind key (is_pod key.kind) refl (first_none (is_pod key.kind && is_among (keys_since q h) key) (is_node_among (keys_since q h) (seen_pod q key (add k q Sync h))) out)
+            (second_none (is_pod key.kind && is_among (keys_since q h) key) (is_node_among (keys_since q h) (seen_pod q key (add k q Sync h))) out);
+        kinds = λ key there. stored_kind h store key (stored key h) (st.objects key) (sym (ap has (sym (pod_shown q key (add k q Sync h)) ∙ ap (of_kind pod_in) (sync_shows q k h key))) ∙ there);
+      }
+    where
+      by_test : (key : Key) (b : Bool) → is_among (keys_since q h) key ≡ b → cond b (kept_of (stored key h)) (kept_in c.cache key) ≡ shown q key (add k q Sync h)
+      by_test key true written = kept_same (stored key h) ∙ sym (sync_shows q k h key)
+      by_test key false out = s.cache.objects key ∙ sym (sync_keeps q k h key out)
+
+      due_stays : (key : Key) → is_among (keys_since q h) key ≡ false → is_node_among (keys_since q h) (seen_pod q key (add k q Sync h)) ≡ false → seen_due q key (add k q Sync h) ≡ seen_due q key h
+      due_stays key out on = sync_due q k h key out (fresh_pod q h s.kinds r key out (ap (is_node_among (keys_since q h)) (sym (sync_pod q k h key out)) ∙ on)) on
+
+      by_kind : (key : Key) (b : Bool) → is_pod key.kind ≡ b → (b && is_among (keys_since q h) key) ≡ false → is_node_among (keys_since q h) (seen_pod q key (add k q Sync h)) ≡ false → seen_due q key h ≡ seen_due q key (add k q Sync h)
+      by_kind key true kind out on = sym (due_stays key out on)
+      by_kind key false kind out on = no_pod_never q key h kind ∙ sym (no_pod_never q key (add k q Sync h) kind)

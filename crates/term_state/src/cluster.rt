@@ -1,0 +1,121 @@
+// The cluster as a term sees it.
+ghost use Rattle.std.specs.Prelude.{◌≡◌, ◌≤◌, ◌+◌, ℕ, Bool, true, false, List, IfOk};
+ghost use Rattle.kube_objects.specs.Answers.{as_kind, lease_in};
+ghost use Rattle.kube_objects.specs.Entry.{Entry, Identity};
+ghost use Rattle.kube_objects.specs.Modes as modes;
+ghost use Rattle.kube_objects.specs.Newest.{has};
+ghost use Rattle.kube_objects.specs.Seen.{is_synced, seen, seen_node, seen_pod};
+ghost use Rattle.std.specs.List.Sorted.{IsStrictlySortedBy};
+ghost use Rattle.std.specs.Ordering.{nat_cmp};
+ghost use Rattle.tick_laws.specs.Judged as judged;
+
+use evict_queue::EvictQueue;
+use kube_base::{NoMemory, Steps, Version};
+use kube_objects::{Key, Lease, Node, NumberList, Pod};
+use std::alloc::Global;
+use std::collections::BTreeSet;
+use watch_cache::{Cache, NotSynced, NotSynced2};
+
+/// The cluster as a term sees it, and what follows from that: the nodes to untaint or swap, and when pods are due.
+///
+/// `moved` has the nodes that may begin or end to wait for a taint since it was emptied last. After `NoMemory` of a call
+/// that changes it, a cluster may only be dropped.
+#[derive(Drop)]
+pub struct Cluster {
+    pub(crate) alloc: Global,
+    pub(crate) cache: Cache,
+    pub(crate) mode: bool,
+    pub(crate) unclean: BTreeSet<u32>,
+    pub(crate) dues: EvictQueue,
+    pub(crate) moved: BTreeSet<u32>,
+}
+
+impl Cluster {
+    ghost use Rattle.kube_objects.specs.declared.key.Key.{Key};
+    ghost use Rattle.watch_cache.specs.Stands.{ticks};
+    ghost use Rattle.watch_cache.specs.Told.{AreNamed, found_pair};
+    ghost use Rattle.term_state.specs.ClusterStands.{ClusterBut, ClusterStands, has_moved};
+
+    /// The cluster of a term that begins. It has had no sync. Takes no memory.
+    pub fn new(alloc: Global) -> Cluster
+        ensures stands { (q : Identity) (h : List Entry) → ticks q h ≡ 0 → ClusterStands q h result }
+        ensures moved { (n : ℕ) → has_moved result n ≡ false }
+    {
+        Cluster {
+            alloc,
+            cache: Cache::new(alloc),
+            mode: false,
+            unclean: BTreeSet::new(alloc),
+            dues: EvictQueue::new(alloc),
+            moved: BTreeSet::new(alloc),
+        }
+    }
+
+    /// Whether the mode in which every zone is disrupted is on.
+    pub fn mode(&self) -> bool
+        ensures { (q : Identity) (h : List Entry) (nodes : ℕ → Bool) (pods : Key → Bool) → ClusterBut q h nodes pods self.now
+            → result ≡ modes.mode q h }
+    {
+        self.mode
+    }
+
+    /// The node of that name, with its version.
+    pub fn node(&self, name: u32) -> Option<(Version, &Node)>
+        ensures { (q : Identity) (h : List Entry) (nodes : ℕ → Bool) (pods : Key → Bool) → ClusterBut q h nodes pods self.now
+            → is_synced q h ≡ true → found_pair result ≡ seen_node q name h }
+    {
+        match self.cache.node(name) {
+            Ok(found) => found,
+            Err(NotSynced) => None,
+        }
+    }
+
+    /// The Lease under a key, with its version.
+    pub fn lease(&self, key: &Key) -> Option<(Version, &Lease)>
+        ensures { (q : Identity) (h : List Entry) (nodes : ℕ → Bool) (pods : Key → Bool) → ClusterBut q h nodes pods self.now
+            → is_synced q h ≡ true → found_pair result ≡ as_kind lease_in (seen q key.now h) }
+    {
+        match self.cache.lease(key) {
+            Ok(found) => found,
+            Err(NotSynced) => None,
+        }
+    }
+
+    /// The pod under a key, with its version. It counts a step.
+    pub fn pod<L>(&self, key: &Key, steps: &mut Steps<L>) -> Option<(Version, &Pod)>
+        ensures seen { (q : Identity) (h : List Entry) (nodes : ℕ → Bool) (pods : Key → Bool) → ClusterBut q h nodes pods self.now
+            → is_synced q h ≡ true → found_pair result ≡ seen_pod q key.now h }
+        ensures counted { steps.new ≤ steps.old + 1 }
+    {
+        match self.cache.pod(key, steps) {
+            Ok(found) => found,
+            Err(NotSynced) => None,
+        }
+    }
+
+    /// The names of the nodes, each once and in order.
+    pub fn nodes(&self) -> Result<NumberList, NoMemory>
+        ensures named { (q : Identity) (h : List Entry) (nodes : ℕ → Bool) (pods : Key → Bool) → ClusterBut q h nodes pods self.now
+            → is_synced q h ≡ true → IfOk result (AreNamed (λ n. has (seen_node q n h))) }
+        ensures ascend { IfOk result (IsStrictlySortedBy nat_cmp) }
+    {
+        match self.cache.nodes() {
+            Ok(names) => Ok(names),
+            Err(NotSynced2::NoMemory) => Err(NoMemory),
+            Err(NotSynced2::NotSynced) => Ok(NumberList::new(self.alloc)),
+        }
+    }
+
+    /// Whether the next tick has an untaint or a swap, if nothing changes before.
+    pub fn is_unclean(&self) -> bool
+        ensures none { (q : Identity) (h : List Entry) → ClusterStands q h self.now → result ≡ false → (n : ℕ)
+            → judged.is_dirty q n h ≡ false }
+        ensures some { (q : Identity) (h : List Entry) → ClusterStands q h self.now → result ≡ true
+            → (n : ℕ) × (judged.is_dirty q n h ≡ true) }
+    {
+        match self.unclean.first() {
+            None => false,
+            Some(_) => true,
+        }
+    }
+}

@@ -1,0 +1,19 @@
+//! The cluster as a term of a leader sees and judges it, and the tries by which a tick writes.
+#![tactic(auto)]
+
+mod cluster;
+mod eviction;
+mod judge;
+mod moved;
+mod note;
+mod queues;
+mod take;
+mod told;
+mod tries;
+mod view;
+
+pub use cluster::Cluster;
+pub use eviction::Eviction;
+pub use told::Told;
+pub use tries::{try_delete, try_node};
+pub use view::View;

@@ -1,0 +1,55 @@
+// What a sync takes over.
+ghost use Rattle.std.specs.Prelude.{◌≡◌, ◌≤◌, ◌+◌, ℕ, true, List, length, OnOk};
+ghost use Rattle.kube_objects.specs.Entry.{Entry, Identity, Sync};
+ghost use Rattle.kube_objects.specs.Feeds.{is_among};
+ghost use Rattle.kube_objects.specs.Seen as seen_words;
+ghost use Rattle.kube_objects.specs.Stored.{node_key};
+ghost use Rattle.kube_objects.specs.Tick.{add};
+ghost use Rattle.object_store.specs.Stands.{StoreStands};
+ghost use Rattle.tick_laws.specs.Since.{AreReached, keys_since};
+
+use crate::Cluster;
+use kube_base::{NoMemory, Steps};
+use kube_objects::Feed;
+use object_store::Store;
+use watch_cache::NotSynced;
+
+impl Cluster {
+    ghost use Rattle.watch_cache.specs.Stands.{position_in, synced_writes};
+    ghost use Rattle.term_state.specs.ClusterStands.{ClusterBut, ClusterStands, has_moved};
+    ghost use Rattle.term_state.specs.Taking.{is_open};
+
+    /// How many writes the store had had at the last sync; 0 before the first.
+    pub fn position(&self) -> u64
+        ensures { (q : Identity) (h : List Entry) → ClusterStands q h self.now → result ≡ synced_writes q h }
+    {
+        self.cache.position()
+    }
+
+    /// Whether there was a sync.
+    pub fn is_synced(&self) -> bool
+        ensures { (q : Identity) (h : List Entry) → ClusterStands q h self.now → result ≡ seen_words.is_synced q h }
+    {
+        match self.cache.node(0) {
+            Ok(_) => true,
+            Err(NotSynced) => false,
+        }
+    }
+
+    /// Takes over what was written since the last sync, and judges nothing. Each write counts a step.
+    pub fn take_over<L>(&mut self, store: &Store, steps: &mut Steps<L>) -> Result<(), NoMemory>
+        ensures stands { (q : Identity) (k : ℕ) (h : List Entry) → ClusterStands q h self.old → StoreStands h store.now → AreReached q h
+            → OnOk result (ClusterBut q (add k q Sync h) (λ n. is_among (keys_since q h) (node_key n))
+            (is_open q (add k q Sync h) (keys_since q h)) self.new) }
+        ensures moved { (n : ℕ) → has_moved self.new n ≡ has_moved self.old n }
+        ensures counted { (q : Identity) (h : List Entry) → ClusterStands q h self.old → StoreStands h store.now
+            → OnOk result (steps.new ≤ steps.old + length (keys_since q h)) }
+    {
+        let position = self.cache.position();
+        if position > store.changes() {
+            return Ok(());
+        }
+        self.cache.sync_since(&store.since(position), steps)?;
+        Ok(())
+    }
+}

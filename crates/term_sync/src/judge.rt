@@ -1,0 +1,74 @@
+// Judging what was taken over.
+ghost use Rattle.std.specs.Prelude.{◌≡◌, ◌≤◌, ◌+◌, ◌*◌, ◌||◌, ℕ, Bool, true, List, ◌∷◌, OnOk, drop};
+ghost use Rattle.kube_objects.specs.Entry.{Entry, Identity};
+ghost use Rattle.kube_objects.specs.Feeds.{is_among};
+ghost use Rattle.kube_objects.specs.Keys.{key_eq};
+ghost use Rattle.kube_objects.specs.Seen.{is_synced};
+ghost use Rattle.kube_objects.specs.Stored.{node_key};
+ghost use Rattle.kube_objects.specs.declared.key.Key.{Key};
+ghost use Rattle.object_store.specs.Stands.{changed_in};
+ghost use Rattle.tick_laws.specs.Steps.{pods_on, write_cost, write_costs};
+ghost use Rattle.term_state.specs.ClusterStands.{ClusterBut, ClusterStands, has_moved};
+ghost use Rattle.term_sync.specs.Left.{LeftBut};
+
+use kube_base::{NoMemory, Steps};
+use kube_objects::{Feed, Key, Kind};
+use object_store::Store;
+use term_state::Cluster;
+
+// What follows from a node is exact again, with the pods on it. A key with a namespace is no node's.
+fn judge_node<L>(cluster: &mut Cluster, key: Key, steps: &mut Steps<L>) -> Result<(), NoMemory>
+    requires kind { key.kind ≡ Kind.Node }
+    ensures stands { (q : Identity) (g : List Entry) (rest : List Key) → LeftBut q g (key ∷ rest) cluster.old → is_synced q g ≡ true
+        → OnOk result (LeftBut q g rest cluster.new) }
+    ensures moved { OnOk result ((n : ℕ) → has_moved cluster.new n ≡ (key_eq key (node_key n) || has_moved cluster.old n)) }
+    ensures counted { (q : Identity) (g : List Entry) (nodes : ℕ → Bool) (pods : Key → Bool) → ClusterBut q g nodes pods cluster.old
+        → is_synced q g ≡ true → OnOk result (steps.new ≤ steps.old + 2 * pods_on q key.name g) }
+{
+    if key.space != 0 {
+        return Ok(());
+    }
+    cluster.judge_node(key.name, steps)
+}
+
+// What follows from a key's object is exact again.
+fn judge<L>(cluster: &mut Cluster, key: Key, steps: &mut Steps<L>) -> Result<(), NoMemory>
+    ensures stands { (q : Identity) (g : List Entry) (rest : List Key) → LeftBut q g (key ∷ rest) cluster.old → is_synced q g ≡ true
+        → OnOk result (LeftBut q g rest cluster.new) }
+    ensures moved { OnOk result ((n : ℕ) → has_moved cluster.new n ≡ (key_eq key (node_key n) || has_moved cluster.old n)) }
+    ensures counted { (q : Identity) (g : List Entry) (nodes : ℕ → Bool) (pods : Key → Bool) → ClusterBut q g nodes pods cluster.old
+        → is_synced q g ≡ true → OnOk result (steps.new ≤ steps.old + 2 * write_cost q g key) }
+{
+    match key.kind {
+        Kind::Node => judge_node(cluster, key, steps),
+        Kind::Lease => Ok(()),
+        Kind::Pod => cluster.judge_pod(key, steps),
+    }
+}
+
+/// What follows from the changes from a position on is exact again.
+pub(crate) fn judge_changes<L>(
+    cluster: &mut Cluster,
+    store: &Store,
+    position: u64,
+    steps: &mut Steps<L>,
+) -> Result<(), NoMemory>
+    ensures stands { (q : Identity) (g : List Entry) → let keys = drop position (changed_in store.now) in
+        LeftBut q g keys cluster.old → is_synced q g ≡ true → OnOk result (ClusterStands q g cluster.new) }
+    ensures moved { OnOk result ((n : ℕ)
+        → has_moved cluster.new n ≡ (is_among (drop position (changed_in store.now)) (node_key n) || has_moved cluster.old n)) }
+    ensures counted { (q : Identity) (g : List Entry) → let keys = drop position (changed_in store.now) in
+        LeftBut q g keys cluster.old → is_synced q g ≡ true
+        → OnOk result (steps.new ≤ steps.old + 2 * write_costs q g keys) }
+{
+    let count = store.changes();
+    let mut place = position;
+    while place < count {
+        let Some(key) = store.change(place) else {
+            unreachable!()
+        };
+        judge(cluster, key, steps)?;
+        place += 1;
+    }
+    Ok(())
+}

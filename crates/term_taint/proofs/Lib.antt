@@ -1,0 +1,4 @@
+pub mod Attempting
+pub mod Firsts
+pub mod Settles
+pub mod ZoneWalk

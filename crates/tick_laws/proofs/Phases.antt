@@ -1,0 +1,342 @@
+-- Which entries each phase of a tick adds, and what a phase leaves as it was.
+use Rattle.std.proofs.Common.{◌≡◌, ◌∙◌, ℕ, ◌&&◌, not, Bool, true, false, List, [], ◌∷◌, Option, Some, None, refl, sym, ap, subst}
+use Rattle.std.specs.List.{list_any}
+use Rattle.kube_base.specs.declared.numbers.Version.{Version}
+use Rattle.kube_objects.specs.declared.call.Answer.{Answer}
+use Rattle.kube_objects.specs.declared.deed.Actor.{Actor}
+use Rattle.kube_objects.specs.declared.key.Key.{Key}
+use Rattle.kube_objects.specs.declared.node.Node.{Node}
+use Rattle.kube_objects.specs.declared.node.ZoneState.{ZoneState}
+use Rattle.kube_objects.specs.Document.{Doc}
+use Rattle.kube_objects.specs.Entry.{Entry, Identity, Place, Deed, Ticks, Tick, Sync, Pass, Mark, Mode, Zone, Untaint, Swap, Head, Delete}
+use Rattle.kube_objects.specs.Health.{is_pass_due, mark_of, last_pass, pass_says}
+use Rattle.kube_objects.specs.InForce.{watches}
+use Rattle.kube_objects.specs.Modes.{nodes, places, place_eq, state_in, rate_in, all_full, mode}
+use Rattle.kube_objects.specs.Newest.{newest, when, only_if, join, or_zero}
+use Rattle.kube_objects.specs.Identities.{is_by}
+use Rattle.kube_objects.specs.Seen.{seen_node, is_fresh, is_stale, is_refused, node_names, pod_keys}
+use Rattle.kube_objects.specs.Stored.{node_key}
+use Rattle.kube_objects.specs.Tainting.{Wants, Nothing, Wanted, Whatever, wants, has_condition, is_opposite}
+use Rattle.kube_objects.specs.Tick.{add, for_each, sync_if, sync, mark_as, mark_seen, mark, mode_if, is_same_mode, mode_as, set_mode, zone_if, zone_as, zone, set_zones, marks, pass_if, pass, untaint_if, swap_if, clean_as, clean_seen, clean, cleaned, taint, tainted, evict, evicted, tick}
+use Rattle.kube_objects.specs.Tokens.{is_zone, rated_says, rated, is_rated, has_rate, is_base, base}
+use Rattle.kube_objects.specs.Tries.{try_node}
+use Rattle.history_laws.proofs.Plainly.{false_is, true_is, none_is, some_is}
+use Rattle.history_laws.proofs.Ticks.{IsDelete, MadeTick, Each, IsPodKey, pods_only, evict_step, walk_sync, walk_pass, walk_cleaned, walk_tainted, walk_evicted, walk_tick}
+use Rattle.tick_laws.specs.Judged.{waits_since}
+use Rattle.tick_laws.specs.Rows.{no_heads, IsFresh}
+use Rattle.tick_laws.specs.Since.{IsReached, AreReached}
+use Rattle.watch_cache.proofs.Frames.{upper}
+use Rattle.watch_cache.specs.Stands.{is_tick_by}
+use Rattle.tick_laws.proofs.Foreign.{foreign_change}
+use Rattle.tick_laws.proofs.Reached.{own_reached, sync_reached, refused_node_reached, refused_pod_reached}
+use Rattle.tick_laws.proofs.Tainting.{heading, taint_either}
+use Rattle.tick_laws.proofs.Waiting.{no_heads_more, delete_key, fresh_same}
+
+-- ---- the entries of each phase
+
+abbrev pub is_passing : Tick → Bool
+is_passing Pass = true
+is_passing (Mark name given written a) = true
+is_passing (Mode on) = true
+is_passing (Zone place state rate) = true
+is_passing _ = false
+
+abbrev pub is_cleaning : Tick → Bool
+is_cleaning (Untaint name given written a) = true
+is_cleaning (Swap name wanted given written a) = true
+is_cleaning _ = false
+
+abbrev pub is_heading : Tick → Bool
+is_heading (Head place name wanted given written a) = true
+is_heading _ = false
+
+abbrev pub is_deleting : Tick → Bool
+is_deleting (Delete pod given node_given at a) = true
+is_deleting _ = false
+
+-- what a step for each of some things keeps
+pub every : {A : Type 0} (f : A → List Entry → List Entry) (P : List Entry → Type 0) → ((a : A) (h : List Entry) → P h → P (f a h)) → (xs : List A) (h : List Entry) → P h → P (for_each f xs h)
+every f P keeps [] h p = p
+every f P keeps (x ∷ xs) h p = every f P keeps xs (f x h) (keeps x h p)
+
+module _ (doc : Doc) (k : ℕ) (q : Identity) (P : List Entry → Type 0) where
+  pub sync_keeps : ((h : List Entry) → P h → P (add k q Sync h)) → (h : List Entry) → P h → P (sync doc k q h)
+  sync_keeps more h p = by_test (watches doc q.process h && not (is_fresh q h))
+    where
+      by_test : (b : Bool) → P (sync_if k q b h)
+      by_test true = more h p
+      by_test false = p
+
+  module _ (more : (t : Tick) (h : List Entry) → is_passing t ≡ true → P h → P (add k q t h)) where
+    pub mark_step : (name : ℕ) (h : List Entry) → P h → P (mark doc k q name h)
+    mark_step name h p = by_seen (seen_node q name h)
+      where
+        by_mark : (x : Version × Node) (o : Option Node) → P (mark_as k q name x.0 o h)
+        by_mark x None = p
+        by_mark x (Some written) = more (Mark name x.0 written (try_node q name x.0 h)) h refl p
+
+        by_seen : (o : Option (Version × Node)) → P (mark_seen doc k q name o h)
+        by_seen None = p
+        by_seen (Some x) = by_mark x (mark_of doc q k name x.1 h)
+
+    pub mode_step : (h : List Entry) → P h → P (set_mode doc k q h)
+    mode_step h p = by_mode (all_full doc (nodes q h))
+      where
+        by_test : (on b : Bool) → P (mode_if k q on b h)
+        by_test on true = p
+        by_test on false = more (Mode on) h refl p
+
+        by_mode : (on : Bool) → P (mode_as k q on h)
+        by_mode on = by_test on (is_same_mode on (mode q h))
+
+    pub zone_step : (seen : List Node) (place : Place) (h : List Entry) → P h → P (zone doc k q seen place h)
+    zone_step seen place h p = by_state (state_in doc seen place) (rate_in doc (mode q h) seen place)
+      where
+        by_test : (s : ZoneState) (rate : ℕ) (b : Bool) → P (zone_if k q place s rate b h)
+        by_test s rate true = p
+        by_test s rate false = more (Zone place s rate) h refl p
+
+        by_state : (s : ZoneState) (rate : ℕ) → P (zone_as k q place s rate h)
+        by_state s rate = by_test s rate (is_rated s rate (rated q place h))
+
+    -- marks, mode and zones, after the entry of the pass
+    pub pass_rest : (h : List Entry) → P h → P (set_zones doc k q (set_mode doc k q (marks doc k q h)))
+    pass_rest h p =
+        let marked = marks doc k q h in
+        let moded = set_mode doc k q marked in
+        every (zone doc k q (nodes q moded)) P (zone_step (nodes q moded)) (places (nodes q moded)) moded
+        (mode_step marked (every (mark doc k q) P mark_step (node_names h) h p))
+
+    pub pass_keeps : (h : List Entry) → P h → P (pass doc k q h)
+    pass_keeps h p = by_test (is_pass_due doc k q h)
+      where
+        by_test : (b : Bool) → P (pass_if doc k q b h)
+        by_test false = p
+        by_test true = pass_rest (add k q Pass h) (more Pass h refl p)
+
+  module _ (more : (t : Tick) (h : List Entry) → is_cleaning t ≡ true → MadeTick doc k q t h → P h → P (add k q t h)) where
+    pub clean_step : (name : ℕ) (h : List Entry) → P h → P (clean doc k q name h)
+    clean_step name h p = by_stale (is_stale q (node_key name) h) (seen_node q name h) refl
+      where
+        by_untaint : (x : Version × Node) → seen_node q name h ≡ Some x → (b : Bool) → P (untaint_if k q name x.0 x.1 b h)
+        by_untaint x is false = p
+        by_untaint x is true = more _ h refl (x.1, is, refl) p
+
+        by_swap : (x : Version × Node) → seen_node q name h ≡ Some x → (wanted : ℕ) (b : Bool) → P (swap_if doc k q name x.0 x.1 wanted b h)
+        by_swap x is wanted false = p
+        by_swap x is wanted true = more _ h refl (x.1, is, refl) p
+
+        by_wants : (x : Version × Node) → seen_node q name h ≡ Some x → (w : Wants) → P (clean_as doc k q name x.0 x.1 w h)
+        by_wants x is Nothing = by_untaint x is (has_condition x.1)
+        by_wants x is (Wanted wanted) = by_swap x is wanted (list_any (is_opposite wanted) x.1.taints)
+        by_wants x is Whatever = p
+
+        by_stale : (b : Bool) (o : Option (Version × Node)) → seen_node q name h ≡ o → P (clean_seen doc k q name b o h)
+        by_stale true o is = p
+        by_stale false None is = p
+        by_stale false (Some x) is = by_wants x is (wants (mode q h) x.1)
+
+    pub cleaned_keeps : (h : List Entry) → P h → P (cleaned doc k q h)
+    cleaned_keeps h p = every (clean doc k q) P clean_step (node_names h) h p
+
+  module _ (more : (t : Tick) (h : List Entry) → is_heading t ≡ true → MadeTick doc k q t h → P h → P (add k q t h)) where
+    pub taint_step : (place : Place) (h : List Entry) → P h → P (taint doc k q place h)
+    taint_step place h p =
+        taint_either doc k q place h P p (λ at n wanted w token head. more (heading doc k q place n wanted w.x (try_node q n w.x.0 h)) h refl (token, (w.x.1, w.sees, refl)) p)
+
+    pub tainted_keeps : (h : List Entry) → P h → P (tainted doc k q h)
+    tainted_keeps h p = every (taint doc k q) P taint_step (places (nodes q h)) h p
+
+  module _ (more : (pod : Key) (given node_given : Version) (at : ℕ) (a : Option Answer) (h : List Entry) → IsDelete doc k q pod given node_given at a h → P h → P (add k q (Delete pod given node_given at a) h)) where
+    pub evict_keeps : (pod : Key) (h : List Entry) → IsPodKey pod → P h → P (evict doc k q pod h)
+    evict_keeps pod h kind p = evict_step doc k q P pod h kind p (λ given node_given at a made. more pod given node_given at a h made p)
+
+    pub evicted_keeps : (h : List Entry) → P h → P (evicted doc k q h)
+    evicted_keeps h p = each (pod_keys h) h (pods_only h) p
+      where
+        each : (keys : List Key) (h : List Entry) → Each IsPodKey keys → P h → P (for_each (evict doc k q) keys h)
+        each [] h all p = p
+        each (key ∷ keys) h all p = each keys (evict doc k q key h) all.1 (evict_keeps key h all.0 p)
+
+-- ---- what an entry leaves that is of another kind
+
+pub pass_kept : (q : Identity) (k : ℕ) (h : List Entry) (t : Tick) → is_passing t ≡ false → last_pass q (add k q t h) ≡ last_pass q h
+pass_kept q k h Pass is = absurd (true_is is)
+pass_kept q k h t is = refl
+
+pub rated_kept : (q : Identity) (k : ℕ) (h : List Entry) (t : Tick) → is_passing t ≡ false → (place : Place) → rated q place (add k q t h) ≡ rated q place h
+rated_kept q k h Pass is place = absurd (true_is is)
+rated_kept q k h (Zone p s rate) is place = absurd (true_is is)
+rated_kept q k h t is place = refl
+
+pub base_kept : (q : Identity) (k : ℕ) (h : List Entry) (t : Tick) → is_passing t ≡ false → is_heading t ≡ false → (place : Place) → base q place (add k q t h) ≡ base q place h
+base_kept q k h (Zone p s rate) is other place = absurd (true_is is)
+base_kept q k h (Head p name wanted given written a) is other place = absurd (true_is other)
+base_kept q k h t is other place = refl
+
+pub mode_kept : (q : Identity) (k : ℕ) (h : List Entry) (t : Tick) → is_passing t ≡ false → mode q (add k q t h) ≡ mode q h
+mode_kept q k h (Mode on) is = absurd (true_is is)
+mode_kept q k h t is = refl
+
+pub heads_kept : (q : Identity) (k : ℕ) (h : List Entry) (t : Tick) → is_heading t ≡ false → no_heads q k h ≡ true → no_heads q k (add k q t h) ≡ true
+heads_kept q k h (Head p name wanted given written a) is none = absurd (true_is is)
+heads_kept q k h t is none = no_heads_more q k h t refl none
+
+-- ---- what the limits of zones, the passes and the mode look at, through a phase that has no entry of theirs
+
+pub record KeepsLimits (q : Identity) (h g : List Entry) : Type 0 where
+  pub passed : last_pass q g ≡ last_pass q h
+  pub rated : (place : Place) → rated q place g ≡ rated q place h
+  pub base : (place : Place) → base q place g ≡ base q place h
+  pub mode : mode q g ≡ mode q h
+
+limits_same : (q : Identity) (h : List Entry) → KeepsLimits q h h
+limits_same q h = record { passed = refl; rated = λ place. refl; base = λ place. refl; mode = refl }
+
+limits_more : (q : Identity) (k : ℕ) (h g : List Entry) (t : Tick) → is_passing t ≡ false → is_heading t ≡ false → KeepsLimits q h g → KeepsLimits q h (add k q t g)
+limits_more q k h g t unpassing unheading s =
+    record {
+      passed = pass_kept q k g t unpassing ∙ s.passed;
+      rated = λ place. rated_kept q k g t unpassing place ∙ s.rated place;
+      base = λ place. base_kept q k g t unpassing unheading place ∙ s.base place;
+      mode = mode_kept q k g t unpassing ∙ s.mode;
+    }
+
+cleaning_alone : (t : Tick) → is_cleaning t ≡ true → (is_passing t ≡ false) × (is_heading t ≡ false)
+cleaning_alone (Untaint name given written a) is = (refl, refl)
+cleaning_alone (Swap name wanted given written a) is = (refl, refl)
+cleaning_alone t is = absurd (false_is is)
+
+heading_alone : (t : Tick) → is_heading t ≡ true → is_passing t ≡ false
+heading_alone (Head place name wanted given written a) is = refl
+heading_alone t is = absurd (false_is is)
+
+passing_alone : (t : Tick) → is_passing t ≡ true → is_heading t ≡ false
+passing_alone (Head place name wanted given written a) is = absurd (false_is is)
+passing_alone t is = refl
+
+module _ (doc : Doc) (k : ℕ) (q : Identity) (h : List Entry) where
+  pub sync_limits : KeepsLimits q h (sync doc k q h)
+  sync_limits = sync_keeps doc k q (KeepsLimits q h) (λ g s. limits_more q k h g Sync refl refl s) h (limits_same q h)
+
+  pub cleaned_limits : KeepsLimits q h (cleaned doc k q h)
+  cleaned_limits =
+      cleaned_keeps doc k q (KeepsLimits q h) (λ t g is made s. limits_more q k h g t (cleaning_alone t is).0 (cleaning_alone t is).1 s) h (limits_same q h)
+
+  pub evicted_limits : KeepsLimits q h (evicted doc k q h)
+  evicted_limits = evicted_keeps doc k q (KeepsLimits q h) (λ pod given node_given at a g made s. limits_more q k h g (Delete pod given node_given at a) refl refl s) h (limits_same q h)
+
+  -- queued taints take tokens, and leave the rest of this
+  pub tainted_passed : last_pass q (tainted doc k q h) ≡ last_pass q h
+  tainted_passed = tainted_keeps doc k q (λ g. last_pass q g ≡ last_pass q h) (λ t g is made s. pass_kept q k g t (heading_alone t is) ∙ s) h refl
+
+  pub tainted_rated : (place : Place) → rated q place (tainted doc k q h) ≡ rated q place h
+  tainted_rated place = tainted_keeps doc k q (λ g. rated q place g ≡ rated q place h) (λ t g is made s. rated_kept q k g t (heading_alone t is) place ∙ s) h refl
+
+  pub tainted_mode : mode q (tainted doc k q h) ≡ mode q h
+  tainted_mode = tainted_keeps doc k q (λ g. mode q g ≡ mode q h) (λ t g is made s. mode_kept q k g t (heading_alone t is) ∙ s) h refl
+
+  -- ---- before the queued taints there are none
+
+  pub sync_heads : no_heads q k h ≡ true → no_heads q k (sync doc k q h) ≡ true
+  sync_heads = sync_keeps doc k q (λ g. no_heads q k g ≡ true) (λ g s. heads_kept q k g Sync refl s) h
+
+  pub pass_heads : no_heads q k h ≡ true → no_heads q k (pass doc k q h) ≡ true
+  pass_heads = pass_keeps doc k q (λ g. no_heads q k g ≡ true) (λ t g is s. heads_kept q k g t (passing_alone t is) s) h
+
+  pub cleaned_heads : no_heads q k h ≡ true → no_heads q k (cleaned doc k q h) ≡ true
+  cleaned_heads = cleaned_keeps doc k q (λ g. no_heads q k g ≡ true) (λ t g is made s. heads_kept q k g t (cleaning_alone t is).1 s) h
+
+  -- ---- deletes leave since when nodes wait
+
+  pub evicted_since : ((place : Place) (name : ℕ) → IsFresh q k place name h)
+      → (place : Place) (name : ℕ) → (waits_since q place name (evicted doc k q h) ≡ waits_since q place name h) × IsFresh q k place name (evicted doc k q h)
+  evicted_since fresh place name =
+      evicted_keeps doc k q (λ g. (waits_since q place name g ≡ waits_since q place name h) × IsFresh q k place name g)
+      (λ pod given node_given at a g made s. (
+        delete_key q k place name pod given node_given at a g made.kind s.1 ∙ s.0,
+        fresh_same q k place name (Delete pod given node_given at a) g (delete_key q k place name pod given node_given at a g made.kind s.1) s.1,
+      ))
+      h (refl, fresh place name)
+
+-- ---- stale keys are reached, through each phase
+
+made_reached : (doc : Doc) (k : ℕ) (q : Identity) (t : Tick) (h : List Entry) → MadeTick doc k q t h → AreReached q h → AreReached q (add k q t h)
+made_reached doc k q Sync h made old = sync_reached q k h
+made_reached doc k q (Untaint name given written a) h made old = own_reached q k h (Untaint name given written a) refl old (λ key is. by_test key (is_refused a) refl is)
+  where
+    by_test : (key : Key) (b : Bool) → is_refused a ≡ b → when b (node_key name) ≡ Some key → IsReached q h key
+    by_test key false refused is = absurd (none_is key is)
+    by_test key true refused is = subst (IsReached q h) (some_is (node_key name) key is) (refused_node_reached q name h (given, made.0) made.1 (ap is_refused (sym made.2) ∙ refused))
+made_reached doc k q (Swap name wanted given written a) h made old = own_reached q k h (Swap name wanted given written a) refl old (λ key is. by_test key (is_refused a) refl is)
+  where
+    by_test : (key : Key) (b : Bool) → is_refused a ≡ b → when b (node_key name) ≡ Some key → IsReached q h key
+    by_test key false refused is = absurd (none_is key is)
+    by_test key true refused is = subst (IsReached q h) (some_is (node_key name) key is) (refused_node_reached q name h (given, made.0) made.1 (ap is_refused (sym made.2) ∙ refused))
+made_reached doc k q (Delete pod given node_given at a) h made old = own_reached q k h (Delete pod given node_given at a) refl old (λ key is. by_test key (is_refused a) refl is)
+  where
+    by_test : (key : Key) (b : Bool) → is_refused a ≡ b → when b pod ≡ Some key → IsReached q h key
+    by_test key false refused is = absurd (none_is key is)
+    by_test key true refused is =
+        subst (IsReached q h) (some_is pod key is) (refused_pod_reached q pod h (given, made.x) (node_given, made.y) made.sees made.sees_node (ap is_refused (sym made.is) ∙ refused))
+made_reached doc k q t h made old = own_reached q k h t refl old (λ key is. absurd (none_is key is))
+
+module _ (doc : Doc) (k : ℕ) (q : Identity) (h : List Entry) (old : AreReached q h) where
+  pub reached_after_sync : AreReached q (sync doc k q h)
+  reached_after_sync = walk_sync doc k q (AreReached q) (made_reached doc k q) h old
+
+  pub reached_after_pass : AreReached q (pass doc k q h)
+  reached_after_pass = walk_pass doc k q (AreReached q) (made_reached doc k q) h old
+
+  pub reached_after_cleaned : AreReached q (cleaned doc k q h)
+  reached_after_cleaned = walk_cleaned doc k q (AreReached q) (made_reached doc k q) h old
+
+  pub reached_after_tainted : AreReached q (tainted doc k q h)
+  reached_after_tainted = walk_tainted doc k q (AreReached q) (made_reached doc k q) h old
+
+  pub reached_after_evicted : AreReached q (evicted doc k q h)
+  reached_after_evicted = walk_evicted doc k q (AreReached q) (made_reached doc k q) h old
+
+  pub reached_after_tick : AreReached q (tick doc k q h)
+  reached_after_tick = walk_tick doc k q (AreReached q) (made_reached doc k q) h old
+
+-- ---- an entry that is no own entry of a tick
+
+pub foreign_limits : (q : Identity) (h : List Entry) (e : Entry) → is_tick_by q e.actor e.deed ≡ false → KeepsLimits q h (e ∷ h)
+foreign_limits q h e other =
+    record {
+      passed = ap (λ o. upper o (last_pass q h)) (by_pass e.actor e.deed other);
+      rated = λ place. ap (λ o. join (upper o (newest (λ e T. rated_says q place e.actor e.deed T) h))) (by_rated place e.actor e.deed other);
+      base = λ place. ap (λ b. or_zero (upper (when b e.beat) (newest (λ e T. when (is_base q place e.actor e.deed T) e.beat) h))) (by_base place e.actor e.deed other);
+      mode = (foreign_change q h e other).mode;
+    }
+  where
+    and_false : (b : Bool) → (b && false) ≡ false
+    and_false true = refl
+    and_false false = refl
+
+    pass_tick : (who : Actor) (t : Tick) → is_by q who ≡ false → pass_says q e.beat who (Ticks t) ≡ None
+    pass_tick who Pass is = ap (λ b. when b e.beat) is
+    pass_tick who t is = refl
+
+    by_pass : (who : Actor) (d : Deed) → is_tick_by q who d ≡ false → pass_says q e.beat who d ≡ None
+    by_pass who (Ticks t) is = pass_tick who t is
+    by_pass who d is = refl
+
+    rated_tick : (place : Place) (who : Actor) (t : Tick) → is_by q who ≡ false → rated_says q place who (Ticks t) h ≡ None
+    rated_tick place who Pass is = ap (λ b. only_if b (when (not (is_zone q place h)) None)) is
+    rated_tick place who (Zone at state rate) is = ap (λ b. when (place_eq at place && b) (Some (state, rate))) is ∙ ap (λ b. when b (Some (state, rate))) (and_false (place_eq at place))
+    rated_tick place who t is = refl
+
+    by_rated : (place : Place) (who : Actor) (d : Deed) → is_tick_by q who d ≡ false → rated_says q place who d h ≡ None
+    by_rated place who (Ticks t) is = rated_tick place who t is
+    by_rated place who d is = refl
+
+    base_tick : (place : Place) (who : Actor) (t : Tick) → is_by q who ≡ false → is_base q place who (Ticks t) h ≡ false
+    base_tick place who (Zone at state rate) is = ap (λ b. place_eq at place && (b && not (has_rate rate (rated q place h)))) is ∙ and_false (place_eq at place)
+    base_tick place who (Head at node wanted given written a) is = ap (λ b. place_eq at place && b) is ∙ and_false (place_eq at place)
+    base_tick place who t is = refl
+
+    by_base : (place : Place) (who : Actor) (d : Deed) → is_tick_by q who d ≡ false → is_base q place who d h ≡ false
+    by_base place who (Ticks t) is = base_tick place who t is
+    by_base place who d is = refl

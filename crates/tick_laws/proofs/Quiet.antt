@@ -1,0 +1,242 @@
+-- A tick adds nothing exactly where it is quiet.
+use Rattle.std.proofs.Common.{◌≡◌, ◌∙◌, ◌⊎◌, inl, inr, ℕ, ◌<◌, ◌≤◌, ◌&&◌, not, Bool, true, false, List, [], ◌∷◌, length, Option, Some, None, refl, sym, ap, subst, arith}
+use Rattle.std.specs.Ordering.{nat_cmp}
+use Rattle.kube_objects.specs.declared.key.Key.{Key}
+use Rattle.kube_objects.specs.Clocks.{wall}
+use Rattle.kube_objects.specs.Document.{Doc}
+use Rattle.kube_objects.specs.Entry.{Entry, Identity, Place, Pass}
+use Rattle.kube_objects.specs.Health.{is_pass_due}
+use Rattle.kube_objects.specs.InForce.{watches}
+use Rattle.kube_objects.specs.Keys.{key_cmp}
+use Rattle.kube_objects.specs.Modes.{place_cmp, nodes, places}
+use Rattle.kube_objects.specs.Seen.{is_fresh, is_synced, node_names, pod_keys}
+use Rattle.kube_objects.specs.Tainting.{waits, queued, queued_as, first, Queued, head_of}
+use Rattle.kube_objects.specs.Tick.{add, for_each, sync_if, sync, pass_if, pass, clean, cleaned, taint, tainted, evict, evicted, tick_if, tick_after, tick}
+use Rattle.kube_objects.specs.Tokens.{has_token}
+use Rattle.tick_laws.specs.Judged.{key_if, is_dirty, seen_due, is_by_now}
+use Rattle.tick_laws.specs.Quiet.{IsQuietTerm, IsQuietTick}
+use Rattle.tick_laws.specs.Ticked.{IsTicked}
+use Rattle.tick_laws.specs.Walks.{Among}
+use Rattle.tick_laws.proofs.Cleaning.{dirty_seen, clean_idle, clean_adds, clean_end}
+use Rattle.tick_laws.proofs.Evicting.{by_now_seen, due_seen, evict_adds, evict_either, evict_end}
+use Rattle.tick_laws.proofs.Named.{node_is_named, pod_is_named}
+use Rattle.tick_laws.proofs.Orders.{names_strict, keys_strict, places_strict}
+use Rattle.tick_laws.proofs.Phases.{pass_rest}
+use Rattle.tick_laws.proofs.Tainting.{taint_no_token, taint_nobody, taint_adds, taint_either, taint_end, since_waits, waiting, waiting_place}
+use Rattle.tick_laws.proofs.Heads.{head_waits}
+use Rattle.tick_laws.proofs.Ticked.{ticked_keeps, sync_ticked, pass_ticked, cleaned_ticked, tainted_ticked, evicted_ticked, clean_ticked, taint_ticked, evict_ticked}
+use Rattle.tick_laws.proofs.Walks.{after_none}
+
+-- ---- histories grow
+
+pub ticked_longer : (q : Identity) (k : ℕ) (h g : List Entry) → IsTicked q k h g → length h ≤ length g
+ticked_longer q k h g s = ticked_keeps q k (λ g. length h ≤ length g) (λ t g le. omega (arith, le)) h g s (omega arith)
+
+-- where each leaves the history or adds to it, and one of them adds to it as it is at first, something is added
+pub some_grows : {A : Type 0} (f : A → List Entry → List Entry) → ((a : A) (h : List Entry) → length h ≤ length (f a h)) → (h : List Entry)
+    → ((a : A) → (f a h ≡ h) ⊎ (length h < length (f a h))) → (n : A) → length h < length (f n h) → (names : List A) → Among n names → length h < length (for_each f names h)
+some_grows {A} f longer h either n busy [] there = absurd there
+some_grows {A} f longer h either n busy (m ∷ ms) there = by_first (either m) (some_grows f longer h either n busy ms)
+  where
+    rest : (ms : List A) (g : List Entry) → length g ≤ length (for_each f ms g)
+    rest [] g = omega arith
+    rest (x ∷ xs) g = omega (arith, longer x g, rest xs (f x g))
+
+    later : (Among n ms → length h < length (for_each f ms h)) → f m h ≡ h → (n ≡ m) ⊎ Among n ms → length h < length (for_each f ms h)
+    later next idle (inl is) = absurd (omega (arith, busy, ap (λ (a : A). length (f a h)) is, ap length idle))
+    later next idle (inr there) = next there
+
+    by_first : (f m h ≡ h) ⊎ (length h < length (f m h)) → (Among n ms → length h < length (for_each f ms h)) → length h < length (for_each f ms (f m h))
+    by_first (inl idle) next = subst (λ g. length h < length (for_each f ms g)) (sym idle) (later next idle there)
+    by_first (inr grows) next = omega (arith, grows, rest ms (f m h))
+
+-- ---- who waits makes a head
+
+pub head_some : (q : Identity) (place : Place) (h : List Entry) (n wanted : ℕ) → waits q place n h ≡ Some wanted → (names : List ℕ) → Among n names → (y : Queued) × (head_of q place names h ≡ Some y)
+head_some q place h n wanted now [] there = absurd there
+head_some q place h n wanted now (m ∷ ms) (inl is) = by_rest (head_of q place ms h) (ap (λ n. waits q place n h) (sym is) ∙ now)
+  where
+    by_rest : (r : Option Queued) → waits q place m h ≡ Some wanted → (y : Queued) × (first (queued_as (queued q place m h) m (waits q place m h)) r ≡ Some y)
+    by_rest None mine = ((queued q place m h, m), ap (λ o. first (queued_as (queued q place m h) m o) None) mine)
+    by_rest (Some x) mine = (_, ap (λ o. first (queued_as (queued q place m h) m o) (Some x)) mine)
+head_some q place h n wanted now (m ∷ ms) (inr there) = by_first (queued_as (queued q place m h) m (waits q place m h)) (head_some q place h n wanted now ms there)
+  where
+    by_first : (o : Option Queued) → (y : Queued) × (head_of q place ms h ≡ Some y) → (y : Queued) × (first o (head_of q place ms h) ≡ Some y)
+    by_first None found = found
+    by_first (Some x) found = (_, ap (first (Some x)) found.1)
+
+-- ---- each phase
+
+module _ (doc : Doc) (k : ℕ) (q : Identity) (h : List Entry) where
+  pub sync_none : (watches doc q.process h && not (is_fresh q h)) ≡ false → sync doc k q h ≡ h
+  sync_none is = ap (λ b. sync_if k q b h) is
+
+  pub sync_grows : (watches doc q.process h && not (is_fresh q h)) ≡ true → length h < length (sync doc k q h)
+  sync_grows is = subst (λ b. length h < length (sync_if k q b h)) (sym is) (omega arith)
+
+  pub pass_none : is_pass_due doc k q h ≡ false → pass doc k q h ≡ h
+  pass_none is = ap (λ b. pass_if doc k q b h) is
+
+  pub cleaned_none : ((name : ℕ) → is_dirty q name h ≡ false) → cleaned doc k q h ≡ h
+  cleaned_none none = ap (λ names. for_each (clean doc k q) names h) (sym (after_none nat_cmp names_strict (node_names h))) ∙ clean_end doc k q None h h (λ m later. none m)
+
+  pub cleaned_grows : (name : ℕ) → is_dirty q name h ≡ true → length h < length (cleaned doc k q h)
+  cleaned_grows name dirty =
+      let x = dirty_seen q name h dirty in
+      some_grows (clean doc k q) (λ name g. ticked_longer q k g (clean doc k q name g) (clean_ticked doc k q name g)) h either name (grows name dirty) (node_names h) (node_is_named q name h x.0 x.1)
+    where
+      grows : (name : ℕ) → is_dirty q name h ≡ true → length h < length (clean doc k q name h)
+      grows name dirty =
+          let x = dirty_seen q name h dirty in
+          subst (λ g. length h < length g) (sym (clean_adds doc k q name h x.0 dirty x.1)) (omega arith)
+
+      by_dirty : (name : ℕ) (b : Bool) → is_dirty q name h ≡ b → (clean doc k q name h ≡ h) ⊎ (length h < length (clean doc k q name h))
+      by_dirty name false is = inl (clean_idle doc k q name h is)
+      by_dirty name true is = inr (grows name is)
+
+      either : (name : ℕ) → (clean doc k q name h ≡ h) ⊎ (length h < length (clean doc k q name h))
+      either name = by_dirty name (is_dirty q name h) refl
+
+  quiet_zone : (place : Place) → ((name : ℕ) → has_token doc q k place h ≡ true → waits q place name h ≡ None) → taint doc k q place h ≡ h
+  quiet_zone place none = by_token (has_token doc q k place h) refl
+    where
+      by_token : (b : Bool) → has_token doc q k place h ≡ b → taint doc k q place h ≡ h
+      by_token false token = taint_no_token doc k q place h token
+      by_token true token = taint_nobody doc k q place h (λ m. ap (λ o. key_if o (queued q place m h)) (none m token))
+
+  pub tainted_none : ((place : Place) (name : ℕ) → has_token doc q k place h ≡ true → waits q place name h ≡ None) → tainted doc k q h ≡ h
+  tainted_none none =
+      ap (λ names. for_each (taint doc k q) names h) (sym (after_none place_cmp places_strict (places (nodes q h)))) ∙ taint_end doc k q None h h (λ place later. quiet_zone place (none place))
+
+  pub tainted_grows : (place : Place) (name wanted : ℕ) → has_token doc q k place h ≡ true → waits q place name h ≡ Some wanted → length h < length (tainted doc k q h)
+  tainted_grows place name wanted token now =
+      let w = waiting q place name wanted h now in
+      let head = head_some q place h name wanted now (node_names h) (node_is_named q name h w.x w.sees) in
+      let found = since_waits q place head.0.1 head.0.0 h (head_waits q place (node_names h) h head.0 head.1) in
+      let x = waiting q place head.0.1 found.0 h found.1 in
+      some_grows (taint doc k q) (λ place g. ticked_longer q k g (taint doc k q place g) (taint_ticked doc k q place g)) h either place
+      (subst (λ g. length h < length g) (sym (taint_adds doc k q place h head.0.0 head.0.1 found.0 x.x token head.1 found.1 x.sees)) (omega arith))
+      (places (nodes q h)) (waiting_place q place name wanted h now)
+    where
+      either : (place : Place) → (taint doc k q place h ≡ h) ⊎ (length h < length (taint doc k q place h))
+      either place = taint_either doc k q place h (λ g. (g ≡ h) ⊎ (length h < length g)) (inl refl) (λ at n wanted w token head. inr (omega arith))
+
+  pub evicted_none : ((key : Key) → is_by_now (wall doc q.process k) (seen_due q key h) ≡ false) → evicted doc k q h ≡ h
+  evicted_none none = ap (λ keys. for_each (evict doc k q) keys h) (sym (after_none key_cmp keys_strict (pod_keys h))) ∙ evict_end doc k q None h h (λ key later. none key)
+
+  pub evicted_grows : (key : Key) → is_by_now (wall doc q.process k) (seen_due q key h) ≡ true → length h < length (evicted doc k q h)
+  evicted_grows key now =
+      let found = by_now_seen (wall doc q.process k) q key h now in
+      let s = due_seen q key h found.0 found.1 in
+      some_grows (evict doc k q) (λ key g. ticked_longer q k g (evict doc k q key g) (evict_ticked doc k q key g)) h either key
+      (subst (λ g. length h < length g) (sym (evict_adds doc k q key h found.0 s found.2)) (omega arith))
+      (pod_keys h) (pod_is_named q key h s.x s.kind s.sees)
+    where
+      either : (key : Key) → (evict doc k q key h ≡ h) ⊎ (length h < length (evict doc k q key h))
+      either key = evict_either doc k q key h (λ g. (g ≡ h) ⊎ (length h < length g)) (inl refl) (λ given node_given at a. inr (omega arith))
+
+-- a pass adds its own entry at least
+pub pass_grows : (doc : Doc) (k : ℕ) (q : Identity) (h : List Entry) → is_pass_due doc k q h ≡ true → length h < length (pass doc k q h)
+pass_grows doc k q h due =
+    subst (λ b. length h < length (pass_if doc k q b h)) (sym due)
+    (pass_rest doc k q (λ g. length h < length g) (λ t g is less. omega (arith, less)) (add k q Pass h) (omega arith))
+
+-- ---- the tick
+
+pub quiet_adds_nothing : (doc : Doc) (k : ℕ) (q : Identity) (h : List Entry) → IsQuietTick doc k q h → tick doc k q h ≡ h
+quiet_adds_nothing doc k q h quiet = ap (tick_after doc k q) (sync_none doc k q h quiet.sync) ∙ by_synced (is_synced q h) refl
+  where
+    by_synced : (b : Bool) → is_synced q h ≡ b → tick_if doc k q b h ≡ h
+    by_synced false synced = refl
+    by_synced true synced =
+        let s = quiet.term synced in
+        ap (λ g. evicted doc k q (tainted doc k q (cleaned doc k q g))) (pass_none doc k q h s.pass)
+        ∙ ap (λ g. evicted doc k q (tainted doc k q g)) (cleaned_none doc k q h s.nodes)
+        ∙ ap (evicted doc k q) (tainted_none doc k q h s.heads)
+        ∙ evicted_none doc k q h s.pods
+
+is_no : (b : Bool) → (b ≡ true → ⊥) → b ≡ false
+is_no true none = absurd (none refl)
+is_no false none = refl
+
+module _ (doc : Doc) (k : ℕ) (q : Identity) where
+  sync_longer : (h : List Entry) → length h ≤ length (sync doc k q h)
+  sync_longer h = ticked_longer q k h (sync doc k q h) (sync_ticked doc k q h)
+
+  pass_longer : (h : List Entry) → length h ≤ length (pass doc k q h)
+  pass_longer h = ticked_longer q k h (pass doc k q h) (pass_ticked doc k q h)
+
+  cleaned_longer : (h : List Entry) → length h ≤ length (cleaned doc k q h)
+  cleaned_longer h = ticked_longer q k h (cleaned doc k q h) (cleaned_ticked doc k q h)
+
+  tainted_longer : (h : List Entry) → length h ≤ length (tainted doc k q h)
+  tainted_longer h = ticked_longer q k h (tainted doc k q h) (tainted_ticked doc k q h)
+
+  evicted_longer : (h : List Entry) → length h ≤ length (evicted doc k q h)
+  evicted_longer h = ticked_longer q k h (evicted doc k q h) (evicted_ticked doc k q h)
+
+  term_longer : (h : List Entry) (b : Bool) → length h ≤ length (tick_if doc k q b h)
+  term_longer h false = omega arith
+  term_longer h true =
+      let a = pass doc k q h in
+      let b = cleaned doc k q a in
+      let c = tainted doc k q b in
+      omega (arith, pass_longer h, cleaned_longer a, tainted_longer b, evicted_longer c)
+
+  pub tick_longer : (h : List Entry) → length h ≤ length (tick doc k q h)
+  tick_longer h = omega (arith, sync_longer h, term_longer (sync doc k q h) (is_synced q (sync doc k q h)))
+
+  module _ (h : List Entry) (still : length (evicted doc k q (tainted doc k q (cleaned doc k q (pass doc k q h)))) ≡ length h) where
+    still_pass : is_pass_due doc k q h ≡ false
+    still_pass = is_no (is_pass_due doc k q h) busy
+      where
+        busy : is_pass_due doc k q h ≡ true → ⊥
+        busy due =
+            let a = pass doc k q h in
+            let b = cleaned doc k q a in
+            omega (arith, still, pass_grows doc k q h due, cleaned_longer a, tainted_longer b, evicted_longer (tainted doc k q b))
+
+    without_pass : length (evicted doc k q (tainted doc k q (cleaned doc k q h))) ≡ length h
+    without_pass = ap (λ g. length (evicted doc k q (tainted doc k q (cleaned doc k q g)))) (sym (pass_none doc k q h still_pass)) ∙ still
+
+    still_nodes : (name : ℕ) → is_dirty q name h ≡ false
+    still_nodes name = is_no (is_dirty q name h) busy
+      where
+        busy : is_dirty q name h ≡ true → ⊥
+        busy dirty =
+            let b = cleaned doc k q h in
+            omega (arith, without_pass, cleaned_grows doc k q h name dirty, tainted_longer b, evicted_longer (tainted doc k q b))
+
+    without_cleaned : length (evicted doc k q (tainted doc k q h)) ≡ length h
+    without_cleaned = ap (λ g. length (evicted doc k q (tainted doc k q g))) (sym (cleaned_none doc k q h still_nodes)) ∙ without_pass
+
+    still_heads : (place : Place) (name : ℕ) → has_token doc q k place h ≡ true → waits q place name h ≡ None
+    still_heads place name token = by_now (waits q place name h) refl
+      where
+        by_now : (o : Option ℕ) → waits q place name h ≡ o → o ≡ None
+        by_now None now = refl
+        by_now (Some wanted) now = absurd (omega (arith, without_cleaned, tainted_grows doc k q h place name wanted token now, evicted_longer (tainted doc k q h)))
+
+    without_tainted : length (evicted doc k q h) ≡ length h
+    without_tainted = ap (λ g. length (evicted doc k q g)) (sym (tainted_none doc k q h still_heads)) ∙ without_cleaned
+
+    still_pods : (key : Key) → is_by_now (wall doc q.process k) (seen_due q key h) ≡ false
+    still_pods key = is_no (is_by_now (wall doc q.process k) (seen_due q key h)) busy
+      where
+        busy : is_by_now (wall doc q.process k) (seen_due q key h) ≡ true → ⊥
+        busy now = omega (arith, without_tainted, evicted_grows doc k q h key now)
+
+    pub still_term : IsQuietTerm doc k q h
+    still_term = record { pass = still_pass; nodes = still_nodes; heads = still_heads; pods = still_pods }
+
+  pub still_is_quiet : (h : List Entry) → tick doc k q h ≡ h → IsQuietTick doc k q h
+  still_is_quiet h still = record { sync = unsynced; term = by_synced }
+    where
+      unsynced : (watches doc q.process h && not (is_fresh q h)) ≡ false
+      unsynced = is_no (watches doc q.process h && not (is_fresh q h)) busy
+        where
+          busy : (watches doc q.process h && not (is_fresh q h)) ≡ true → ⊥
+          busy due = omega (arith, ap length still, sync_grows doc k q h due, term_longer (sync doc k q h) (is_synced q (sync doc k q h)))
+
+      by_synced : is_synced q h ≡ true → IsQuietTerm doc k q h
+      by_synced synced = still_term h (ap length (sym (ap (λ b. tick_if doc k q b h) synced) ∙ sym (ap (tick_after doc k q) (sync_none doc k q h unsynced)) ∙ still))
