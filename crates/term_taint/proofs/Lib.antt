@@ -1,4 +1,5 @@
 pub mod Attempting
 pub mod Firsts
+pub mod Lacks
 pub mod Settles
 pub mod ZoneWalk

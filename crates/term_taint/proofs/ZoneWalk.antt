@@ -1,5 +1,5 @@
 -- The walk over zones.
-use Rattle.std.proofs.Common.{◌≡◌, ◌∙◌, inl, inr, ℕ, ◌+◌, ◌*◌, ◌<◌, ◌≤◌, not, Bool, true, false, cond, List, [], ◌∷◌, Option, Some, None, refl, sym, ap, subst, arith, Less, Equal, Greater}
+use Rattle.std.proofs.Common.{◌≡◌, ◌∙◌, inl, inr, ℕ, ◌+◌, ◌-◌, ◌*◌, ◌<◌, ◌≤◌, not, Bool, true, false, cond, List, [], ◌∷◌, Option, Some, None, refl, sym, ap, subst, arith, Less, Equal, Greater}
 use Rattle.std.proofs.lemmas.Bool.Decides.{nat_tests}
 use Rattle.std.proofs.lemmas.Cmp.{tied_itself}
 use Rattle.std.specs.Ordering.{is_eq, is_lt, nat_cmp, ordering_reverse, ordering_then}
@@ -208,3 +208,12 @@ number_grows a b fits less = by_region (nat_cmp a.region b.region) refl less
     by_region Less is less = omega (arith, fits, below a.region b.region is)
     by_region Equal is less = omega (arith, fits, same a.region b.region is, below a.zone b.zone (less_is (nat_cmp a.zone b.zone) less))
     by_region Greater is less = absurd (false_is less)
+
+-- how many places may still come
+abbrev pub zones_left : Option Place → ℕ
+zones_left None = 0
+zones_left (Some place) = 18446744073709551616 - number place
+
+pub fewer_left : (p : Place) (next : Option Place) (queues : Queues) → p.region < 4294967296 → p.zone < 4294967296 → IsNextZone queues (Some p) next → zones_left next < zones_left (Some p)
+fewer_left p None queues region zone is = omega (arith, region, zone)
+fewer_left p (Some n) queues region zone (later, between) = omega (arith, region, zone, number_grows p n zone later)

@@ -39,10 +39,14 @@ pub fn settle(queues: &mut Queues, cluster: &Cluster, beat: Beat) -> Result<(), 
 fn place_of(cluster: &Cluster, name: u32) -> Option<Place>
     ensures { (q : Identity) (h : List Entry) → ClusterStands q h cluster.now → is_synced q h ≡ true → IsWaitingIn q h name result }
 {
-    let (_, node) = cluster.node(name)?;
-    lacks(cluster.mode(), node)?;
-    Some(Place {
-        region: node.region,
-        zone: node.zone,
-    })
+    let Some((_, node)) = cluster.node(name) else {
+        return None;
+    };
+    match lacks(cluster.mode(), node) {
+        None => None,
+        Some(_) => Some(Place {
+            region: node.region,
+            zone: node.zone,
+        }),
+    }
 }
