@@ -1,2 +1,3 @@
 pub mod Between
+pub mod Readying
 pub mod Starting
