@@ -68,16 +68,20 @@ module _ {A : Type 0} (compare : A → A → Ordering) (strict : IsStrict compar
   past_above c m [] is above = refl
   past_above c m (x ∷ xs) is above = all_after c x xs (after_more compare strict c m x is above.0)
 
+  it_above : (m : A) (xs : List A) → Above compare m xs → after compare (Some m) xs ≡ xs
+  it_above m [] above = refl
+  it_above m (x ∷ xs) above = ap (λ o. cond (is_lt o) (x ∷ xs) (after compare (Some m) xs)) above.0
+
   pub walk_to : (c : Option A) (p : A) (names : List A) (h : List Entry) → is_after compare c p ≡ true → Ascends compare names
       → ((m : A) → is_after compare c m ≡ true → compare m p ≡ Less → f m h ≡ h) → ((Among p names → ⊥) → f p h ≡ h)
       → for_each f (after compare c names) h ≡ for_each f (after compare (Some p) names) (f p h)
   walk_to c p [] h later ascends idle out = sym (out (λ there. there))
-  walk_to c p (m ∷ ms) h later ascends idle out = by_order (compare m p) refl
+  walk_to c p (m ∷ ms) h later ascends idle out = by_order (walk_to c p ms h later ascends.1 idle) (compare m p) refl
     where
-      by_order : (o : Ordering) → compare m p ≡ o → for_each f (after compare c (m ∷ ms)) h ≡ for_each f (after compare (Some p) (m ∷ ms)) (f p h)
-      by_order Less less =
+      by_order : (((Among p ms → ⊥) → f p h ≡ h) → for_each f (after compare c ms) h ≡ for_each f (after compare (Some p) ms) (f p h)) → (o : Ordering) → compare m p ≡ o → for_each f (after compare c (m ∷ ms)) h ≡ for_each f (after compare (Some p) (m ∷ ms)) (f p h)
+      by_order rest Less less =
           by_cursor (is_after compare c m) refl
-          ∙ walk_to c p ms h later ascends.1 idle (λ absent. out (λ there. by_there absent there))
+          ∙ rest (λ absent. out (λ there. by_there absent there))
           ∙ ap (λ b. for_each f (cond b (m ∷ ms) (after compare (Some p) ms)) (f p h)) (sym (not_before compare strict m p less))
         where
           by_cursor : (b : Bool) → is_after compare c m ≡ b → for_each f (cond b (m ∷ ms) (after compare c ms)) h ≡ for_each f (after compare c ms) h
@@ -87,20 +91,16 @@ module _ {A : Type 0} (compare : A → A → Ordering) (strict : IsStrict compar
           by_there : (Among p ms → ⊥) → Among p (m ∷ ms) → ⊥
           by_there absent (inl same) = less_equal (compare m p) less (ap (compare m) same ∙ tied_itself strict.total m)
           by_there absent (inr there) = absent there
-      by_order Equal equal =
+      by_order rest Equal equal =
           let same = strict.same m p equal in
           subst (λ p. is_after compare c p ≡ true → for_each f (after compare c (m ∷ ms)) h ≡ for_each f (after compare (Some p) (m ∷ ms)) (f p h)) same here later
         where
           here : is_after compare c m ≡ true → for_each f (after compare c (m ∷ ms)) h ≡ for_each f (after compare (Some m) (m ∷ ms)) (f m h)
           here is =
               ap (λ xs. for_each f xs h) (all_after c m ms is)
-              ∙ ap (λ xs. for_each f xs (f m h)) (sym (it_above ms ascends.0))
+              ∙ ap (λ xs. for_each f xs (f m h)) (sym (it_above m ms ascends.0))
               ∙ ap (λ b. for_each f (cond b (m ∷ ms) (after compare (Some m) ms)) (f m h)) (sym (not_itself compare strict m))
-
-          it_above : (xs : List A) → Above compare m xs → after compare (Some m) xs ≡ xs
-          it_above [] above = refl
-          it_above (x ∷ xs) above = ap (λ o. cond (is_lt o) (x ∷ xs) (after compare (Some m) xs)) above.0
-      by_order Greater greater =
+      by_order rest Greater greater =
           ap (λ xs. for_each f xs h) (all_after c m ms (after_more compare strict c p m later below))
           ∙ ap (for_each f (m ∷ ms)) (sym (out absent))
           ∙ ap (λ xs. for_each f xs (f p h)) (sym (all_after (Some p) m ms (ap is_lt below)))
