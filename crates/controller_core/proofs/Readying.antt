@@ -1,8 +1,9 @@
 -- When a zone's queued taint is made.
-use Rattle.std.proofs.Common.{◌≡◌, ◌∙◌, inl, inr, ℕ, ◌+◌, ◌*◌, ◌-◌, ◌≤◌, ◌<◌, ◌⊎◌, ◌^◌, nat_le, Bool, true, false, List, Option, Some, None, IfSome, IfNone, refl, sym, ap, subst, arith, Less, Equal, Greater}
+use Rattle.std.proofs.Common.{◌≡◌, ◌∙◌, inl, inr, ℕ, ◌+◌, ◌*◌, ◌-◌, ◌≤◌, ◌<◌, ◌⊎◌, ◌^◌, nat_le, Bool, true, false, List, Option, Some, None, IfSome, IsNone, ◌↔◌, refl, sym, ap, subst, arith, Less, Equal, Greater}
 use Rattle.std.proofs.lemmas.Bool.Decides.{nat_tests}
 use Rattle.std.specs.Ordering.{is_lt, ordering_reverse}
 use Rattle.std.specs.declared.cmp.Ordering.{Ordering}
+use Rattle.kube_base.specs.declared.numbers.Local.{Local}
 use Rattle.kube_objects.specs.Clocks.{local}
 use Rattle.kube_objects.specs.Document.{Doc}
 use Rattle.kube_objects.specs.Entry as entry
@@ -12,6 +13,7 @@ use Rattle.kube_objects.specs.Newest.{has}
 use Rattle.kube_objects.specs.Tainting.{queued, waits}
 use Rattle.kube_objects.specs.Tokens.{has_token}
 use Rattle.history_laws.proofs.Plainly.{false_is}
+use Rattle.rate_bucket.specs.Filling.{HasToken}
 use Rattle.taint_zones.specs.declared.limit.Limit.{Limit}
 use Rattle.taint_zones.specs.declared.place.Place.{Place}
 use Rattle.taint_zones.specs.declared.queues.Queues.{Queues}
@@ -23,7 +25,7 @@ use Rattle.term_taint.specs.QueuesStand.{QueuesStand}
 use Rattle.term_taint.proofs.ZoneWalk.{number}
 use Rattle.tick_laws.specs.Judged.{key_if}
 use Rattle.tick_laws.proofs.Orders.{places_strict}
-use Rattle.controller_core.specs.Wakes.{IsHeadDue}
+use Rattle.controller_core.specs.Wakes.{IsHeadDue, is_reached}
 
 le_true : (a b : ℕ) → a ≤ b → nat_le a b ≡ true
 le_true a b le = grind (arith, nat_tests)
@@ -133,3 +135,15 @@ module _ (doc : Doc) (k : ℕ) (q : Identity) (h : List Entry) (queues : Queues)
 abbrev pub zones_left : Option Place → ℕ
 zones_left None = 0
 zones_left (Some place) = 2 ^ 64 - number place
+
+-- ---- the reading at which a limit's token is there
+
+module _ (doc : Doc) (k : ℕ) (q : Identity) (h : List Entry) (place : entry.Place) (limit : Limit) (s : LimitStands doc q h place (Some limit)) where
+  pub ready_there : (o : Option Local) → IfSome o (λ at. HasToken limit.bucket at.0) → is_reached o (local doc q.process k) ≡ true → has_token doc q k place h ≡ true
+  ready_there None there is = absurd (false_is is)
+  ready_there (Some at) there is = reached_token doc q k h place limit at.0 s there is
+
+  pub ready_all : (o : Option Local) → IsNone o ↔ (limit.bucket.rate ≡ 0) → IfSome o (λ at. (earlier : ℕ) → HasToken limit.bucket earlier → at.0 ≤ earlier) → has_token doc q k place h ≡ true
+      → is_reached o (local doc q.process k) ≡ true
+  ready_all None never least token = absurd (no_rate_none doc q k h place limit s (never.0 refl) token)
+  ready_all (Some at) never least token = token_reached doc q k h place limit at.0 s least token
