@@ -87,7 +87,7 @@ insert_there : (n : ℕ) (ms : List ℕ) → Ascends nat_cmp ms → Among n ms �
 insert_there n [] ascends there = absurd there
 insert_there n (m ∷ ms) ascends (inl is) =
     ap (λ o. elim o [ Less ↦ n ∷ m ∷ ms | Equal ↦ m ∷ ms | Greater ↦ m ∷ insert_once nat_cmp n ms ])
-        (ap (nat_cmp n) (sym is) ∙ tied_itself names_strict.total n)
+    (ap (nat_cmp n) (sym is) ∙ tied_itself names_strict.total n)
 insert_there n (m ∷ ms) ascends (inr there) =
     ap (λ o. elim o [ Less ↦ n ∷ m ∷ ms | Equal ↦ m ∷ ms | Greater ↦ m ∷ insert_once nat_cmp n ms ]) (later m ms ascends.0 there)
     ∙ ap (λ xs. m ∷ xs) (insert_there n ms ascends.1 there)
@@ -160,7 +160,7 @@ pub mark_change : (q : Identity) (k : ℕ) (h : List Entry) (name : ℕ) (given 
     → IsChange q h (add k q (Mark name given written (try_node q name given h)) h) (noted_by name written (try_node q name given h)) None
 mark_change q k h name given written =
     mild_change q k h name written (try_node q name given h) (Mark name given written (try_node q name given h))
-        (mark_is name given written (try_node q name given h)) (given_node q name given h)
+    (mark_is name given written (try_node q name given h)) (given_node q name given h)
 
 pub mark_keeps : (doc : Doc) (k : ℕ) (q : Identity) (name : ℕ) (h : List Entry) → KeepsPlaces q h (mark doc k q name h)
 mark_keeps doc k q name h = by_node (seen_node q name h) refl
@@ -170,7 +170,7 @@ mark_keeps doc k q name h = by_node (seen_node q name h) refl
     by_test x false is = keeps_itself q h
     by_test x true is =
         mark_keeps_as q k h name x.0 x (with_mark (whole_second (wall doc q.process k)) x.1) is refl (try_node q name x.0 h)
-            (mark_change q k h name x.0 (with_mark (whole_second (wall doc q.process k)) x.1))
+        (mark_change q k h name x.0 (with_mark (whole_second (wall doc q.process k)) x.1))
 
     by_node : (o : Option (Version × Node)) → seen_node q name h ≡ o → KeepsPlaces q h (mark_seen doc k q name o h)
     by_node None is = keeps_itself q h
@@ -297,10 +297,10 @@ marks_left : (doc : Doc) (k : ℕ) (q : Identity) (h : List Entry) (c : Option �
     → for_each (mark doc k q) (after nat_cmp c (node_names h)) now ≡ for_each (mark doc k q) rest now
 marks_left doc k q h c [] now left s =
     walk_end nat_cmp names_strict (mark doc k q) c (node_names h) now (node_names_ascend h)
-        (λ m later. mark_unseen doc k q m now (seen_too q h now s m ∙ sym (left.named m later)))
+    (λ m later. mark_unseen doc k q m now (seen_too q h now s m ∙ sym (left.named m later)))
 marks_left doc k q h c (n ∷ ns) now left s =
     walk_next nat_cmp names_strict (mark doc k q) c n (node_names h) now (first_later _ c n ns left) (node_names_ascend h) (among (seen_node q n h) refl)
-        (λ m later less. mark_unseen doc k q m now (seen_too q h now s m ∙ between_fails _ c n ns left m later less))
+    (λ m later less. mark_unseen doc k q m now (seen_too q h now s m ∙ between_fails _ c n ns left m later less))
     ∙ marks_left doc k q h (Some n) ns (mark doc k q n now) (next_left _ c n ns left) (keeps_then q h now (mark doc k q n now) s (mark_keeps doc k q n now))
   where
     among : (o : Option (Version × Node)) → seen_node q n h ≡ o → Among n (node_names h)

@@ -153,7 +153,7 @@ size_split place (n ∷ ns) =
     ∙ ap (λ m. cond (is_in place n) 1 0 + m) (size_split place ns)
     ∙ by_tests (is_in place n) (is_ready n.ready) (ready_in place ns) (other_in place ns)
     ∙ sym (ap (λ a. a + other_in place (n ∷ ns)) (sum_by-cons (λ x. cond (is_in place x && is_ready x.ready) 1 0) n ns)
-      ∙ ap (λ b. (cond (is_in place n && is_ready n.ready) 1 0 + ready_in place ns) + b) (sum_by-cons (λ x. cond (is_in place x && not (is_ready x.ready)) 1 0) n ns))
+    ∙ ap (λ b. (cond (is_in place n && is_ready n.ready) 1 0 + ready_in place ns) + b) (sum_by-cons (λ x. cond (is_in place x && not (is_ready x.ready)) 1 0) n ns))
   where
     by_tests : (a b : Bool) (r o : ℕ) → cond a 1 0 + (r + o) ≡ (cond (a && b) 1 0 + r) + (cond (a && not b) 1 0 + o)
     by_tests true true r o = omega (arith)

@@ -13,7 +13,7 @@ returns-then-not-is_full c doc nodes are is =
     let head : c.loop-zone.rest.now ≡ c.in-Some.zone.now ∷ c.in-Some.others.now = search rules in
     let fails : is_full c.in-Some.zone.now c.args.percent ≡ false = search rules in
     one_not doc nodes c.args.zones.now c.args.percent
-        (sym c.loop-zone.invariant ∙ ap (all_of c.args.percent) head ∙ ap (λ b. b && all_of c.args.percent c.in-Some.others.now) fails) are is
+    (sym c.loop-zone.invariant ∙ ap (all_of c.args.percent) head ∙ ap (λ b. b && all_of c.args.percent c.in-Some.others.now) fails) are is
 
 pub returns : goal.returns
 returns c doc nodes are is =
