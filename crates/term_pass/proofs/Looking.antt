@@ -208,14 +208,15 @@ next_looking doc k q before h names all ns n v c d x y s r t u old mid new is l 
 pub end_looking : (doc : Doc) (k : ℕ) (q : Identity) (before : List Deed) (h : List Entry) (names rest : List ℕ) (v : View) (c : Cluster) (x : Health) (s : Store) (t : Told) (old new : ℕ) → rest ≡ []
     → Looking doc k q before h names rest v c x s t old new → IsPassing doc k q before h (marks doc k q (add k q Pass h)) (λ n. is_listed names n) c x s t × HaveCost q k (add k q Pass h) (marks doc k q (add k q Pass h)) old new
 end_looking doc k q before h names rest v c x s t old new is l =
-    subst (λ g. IsPassing doc k q before h g (λ n. is_listed names n) c x s t × HaveCost q k (add k q Pass h) g old new) (sym (ap (λ xs. for_each (mark doc k q) xs l.now) is) ∙ l.follows)
-    (record {
-      running = l.passing.running;
-      health = pass-same doc k q h (looked_of names rest) (λ n. is_listed names n) x (λ n. ap (λ xs. looked_of names xs n) is ∙ and_true (is_listed names n)) l.passing.health;
-      leases = l.passing.leases;
-      probes = l.passing.probes;
-    },
-    l.cost)
+    subst (λ g. IsPassing doc k q before h g (λ n. is_listed names n) c x s t × HaveCost q k (add k q Pass h) g old new) (sym (ap (λ xs. for_each (mark doc k q) xs l.now) is) ∙ l.follows) (
+      record {
+        running = l.passing.running;
+        health = pass-same doc k q h (looked_of names rest) (λ n. is_listed names n) x (λ n. ap (λ xs. looked_of names xs n) is ∙ and_true (is_listed names n)) l.passing.health;
+        leases = l.passing.leases;
+        probes = l.passing.probes;
+      },
+      l.cost,
+    )
   where
     and_true : (b : Bool) → (b && true) ≡ b
     and_true true = refl

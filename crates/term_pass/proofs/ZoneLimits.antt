@@ -104,7 +104,7 @@ module _ (doc : Doc) (k : ℕ) (q : Identity) (h : List Entry) (place : Zone) (s
     pub went_on : LimitStands doc q (zone_as k q place state rate h) place (Some limit)
     went_on =
         subst (λ o. LimitStands doc q (zone_if k q place state rate (is_rated state rate o) h) place (Some limit)) s.rated
-            (by_test (is_rated state rate (Some (old.state, old.rate))) refl)
+        (by_test (is_rated state rate (Some (old.state, old.rate))) refl)
 
 -- ---- the limits of other zones
 

@@ -88,10 +88,11 @@ zoning_ends doc k q before h rest kept zones new told none is z = by_left z.left
     by_left : (left : List Zone) → rest ≡ map (zone_count (nodes q h)) left → for_each (zone doc k q (nodes q h)) left z.now ≡ set_zones doc k q h
         → ((place : Zone) → list_any (place_eq place) left ≡ false → LimitStands doc q z.now place (get zone_cmp kept (of_place place)))
         → IsTold q k before (set_zones doc k q h) told × LimitsStand doc q (set_zones doc k q h) new
-    by_left [] rest_is follows done =
-        (subst (λ g. IsTold q k before g told) follows z.printed,
-         λ place. subst (λ g. LimitStands doc q g place (get zone_cmp new.limits (of_place place))) follows
-             (subst (λ limits. LimitStands doc q z.now place (get zone_cmp limits (of_place place))) (sym is) (done place refl)))
+    by_left [] rest_is follows done = (
+      subst (λ g. IsTold q k before g told) follows z.printed,
+      λ place. subst (λ g. LimitStands doc q g place (get zone_cmp new.limits (of_place place))) follows
+          (subst (λ limits. LimitStands doc q z.now place (get zone_cmp limits (of_place place))) (sym is) (done place refl)),
+    )
     by_left (p ∷ ps) rest_is follows done = absurd (suc_no (length (map (zone_count (nodes q h)) ps)) (sym (ap (λ xs. length xs) rest_is) ∙ none))
       where
         suc_no : (n : ℕ) → suc n ≡ 0 → ⊥
@@ -162,7 +163,7 @@ zoning_goes_on doc k q before h rest others kept after zones removed told new z 
     by_open : (place : Zone) (b : Bool) → place_eq p place ≡ b → list_any (place_eq place) ps ≡ true → LimitStands doc q (zone doc k q (nodes q h) p z.now) place (limit_at removed place)
     by_open place false apart is =
         subst (LimitStands doc q (zone doc k q (nodes q h) p z.now) place) (sym (taken place ∙ ap (λ b. cond b None (limit_at zones place)) apart))
-            (other place (limit_at zones place) apart (z.to_do place (ap (list_any (place_eq place)) left_is ∙ ap (λ b. b || list_any (place_eq place) ps) (turned place apart) ∙ is)))
+        (other place (limit_at zones place) apart (z.to_do place (ap (list_any (place_eq place)) left_is ∙ ap (λ b. b || list_any (place_eq place) ps) (turned place apart) ∙ is)))
     by_open place true same is = absurd (false_is (sym (not_further p ps ascends.0) ∙ ap (λ x. list_any (place_eq x) ps) (same_place p place same) ∙ is))
       where
         false_is : false ≡ true → ⊥
@@ -171,10 +172,10 @@ zoning_goes_on doc k q before h rest others kept after zones removed told new z 
     by_done : (place : Zone) (b : Bool) → place_eq p place ≡ b → list_any (place_eq place) ps ≡ false → LimitStands doc q (zone doc k q (nodes q h) p z.now) place (get zone_cmp after (of_place place))
     by_done place true same is =
         subst (LimitStands doc q (zone doc k q (nodes q h) p z.now) place) (sym (put place ∙ ap (λ b. cond b (Some limit) (get zone_cmp kept (of_place place))) same))
-            (subst (λ x. LimitStands doc q (zone doc k q (nodes q h) p z.now) x (Some limit)) (same_place p place same) stands)
+        (subst (λ x. LimitStands doc q (zone doc k q (nodes q h) p z.now) x (Some limit)) (same_place p place same) stands)
     by_done place false apart is =
         subst (LimitStands doc q (zone doc k q (nodes q h) p z.now) place) (sym (put place ∙ ap (λ b. cond b (Some limit) (get zone_cmp kept (of_place place))) apart))
-            (other place (get zone_cmp kept (of_place place)) apart (z.done place (ap (list_any (place_eq place)) left_is ∙ ap (λ b. b || list_any (place_eq place) ps) (turned place apart) ∙ is)))
+        (other place (get zone_cmp kept (of_place place)) apart (z.done place (ap (list_any (place_eq place)) left_is ∙ ap (λ b. b || list_any (place_eq place) ps) (turned place apart) ∙ is)))
 
 -- the code's step, by what its calls tell
 module _ (doc : Doc) (k : ℕ) (q : Identity) (before : List Deed) (h : List Entry) (counts : List ZoneCount) (on : Bool) (first : Zones) (settings : Settings2) (reading : ℕ) (told_first : Told)
@@ -196,7 +197,7 @@ module _ (doc : Doc) (k : ℕ) (q : Identity) (before : List Deed) (h : List Ent
   old_stands : LimitStands doc q z.now next.place old
   old_stands =
       subst (LimitStands doc q z.now next.place) (sym (found ∙ ap (get zone_cmp zones.limits) place_is))
-          (z.to_do next.place (ap (list_any (place_eq next.place)) next.left_is ∙ ap (λ b. b || list_any (place_eq next.place) next.further) (place_itself next.place)))
+      (z.to_do next.place (ap (list_any (place_eq next.place)) next.left_is ∙ ap (λ b. b || list_any (place_eq next.place) next.further) (place_itself next.place)))
 
   zone_is : zone doc k q (nodes q h) next.place z.now ≡ zone_as k q next.place state rate z.now
   zone_is =
@@ -210,9 +211,9 @@ module _ (doc : Doc) (k : ℕ) (q : Identity) (before : List Deed) (h : List Ent
   pub zone_step : Zoning doc k q before h others after removed new
   zone_step =
       zoning_goes_on doc k q before h rest others kept after zones removed told new z next.place next.further next.left_is next.others_are limit
-          (subst (λ g. LimitStands doc q g next.place (Some limit)) (sym zone_is) (renewed z.now next.place old_stands))
-          (λ place. put (of_place place) ∙ ap (λ p. cond (is_eq (zone_cmp p (of_place place))) (Some limit) (get zone_cmp kept (of_place place))) place_is)
-          (λ place. taken (of_place place) ∙ ap (λ p. cond (is_eq (zone_cmp p (of_place place))) None (get zone_cmp zones.limits (of_place place))) place_is)
-          (subst (λ g. IsTold q k before g new) (ap (λ b. zone_if k q next.place state rate b z.now) (rated_is z.now next.place old_stands) ∙ sym zone_is)
-              (subst (λ p. IsTold q k before (zone_if k q (entry_place p) state rate is z.now) new) place_is (tells z.now z.printed)))
-          (ap (mode q) zone_is ∙ mode_same (is_rated state rate (rated q next.place z.now)))
+      (subst (λ g. LimitStands doc q g next.place (Some limit)) (sym zone_is) (renewed z.now next.place old_stands))
+      (λ place. put (of_place place) ∙ ap (λ p. cond (is_eq (zone_cmp p (of_place place))) (Some limit) (get zone_cmp kept (of_place place))) place_is)
+      (λ place. taken (of_place place) ∙ ap (λ p. cond (is_eq (zone_cmp p (of_place place))) None (get zone_cmp zones.limits (of_place place))) place_is)
+      (subst (λ g. IsTold q k before g new) (ap (λ b. zone_if k q next.place state rate b z.now) (rated_is z.now next.place old_stands) ∙ sym zone_is)
+      (subst (λ p. IsTold q k before (zone_if k q (entry_place p) state rate is z.now) new) place_is (tells z.now z.printed)))
+      (ap (mode q) zone_is ∙ mode_same (is_rated state rate (rated q next.place z.now)))

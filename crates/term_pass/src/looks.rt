@@ -71,7 +71,9 @@ fn look<L>(
         Verdict::Keep => Ok(()),
         Verdict::MarkUnknown(reason) => {
             let written = marked_node(node, whole_second(view.wall))?;
-            mark(name, given, written, reason, cluster, store, view, told, steps)
+            mark(
+                name, given, written, reason, cluster, store, view, told, steps,
+            )
         }
     }
 }
@@ -91,7 +93,7 @@ pub(crate) fn look_all<L>(
         → Running q k before (add k q Pass h) cluster.old store.old told.old → HealthStands doc q h health.old → IsView doc k q h view.entry.now
         → IsGraceOf doc grace.now → AreNamed (λ n. has (seen_node q n h)) names.now
         → OnOk result (IsPassing doc k q before h (model.marks doc k q (add k q Pass h)) (λ n. spec.is_listed names.now n)
-            cluster.new health.new store.new told.new) }
+        cluster.new health.new store.new told.new) }
     ensures counted { (doc : Doc) (k : ℕ) (q : Identity) (before : List Deed) (h : List Entry)
         → Running q k before (add k q Pass h) cluster.old store.old told.old → HealthStands doc q h health.old → IsView doc k q h view.entry.now
         → IsGraceOf doc grace.now → AreNamed (λ n. has (seen_node q n h)) names.now

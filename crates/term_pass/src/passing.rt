@@ -48,7 +48,7 @@ pub fn pass<L>(
         → HealthStands doc q h health.old → LimitsStand doc q h zones.old → LastStands doc q h last.old → IsView doc k q h view.entry.now
         → AreSettings doc settings.now → length (nodes q h) < 4294967296
         → OnOk result (Running q k before (model.pass doc k q h) cluster.new store.new told.new × HealthStands doc q (model.pass doc k q h) health.new
-            × LimitsStand doc q (model.pass doc k q h) zones.new × LastStands doc q (model.pass doc k q h) last.new) }
+        × LimitsStand doc q (model.pass doc k q h) zones.new × LastStands doc q (model.pass doc k q h) last.new) }
     ensures counted { (doc : Doc) (k : ℕ) (q : Identity) (before : List Deed) (h : List Entry) → Running q k before h cluster.old store.old told.old
         → HealthStands doc q h health.old → LimitsStand doc q h zones.old → LastStands doc q h last.old → IsView doc k q h view.entry.now
         → AreSettings doc settings.now → length (nodes q h) < 4294967296
@@ -67,6 +67,22 @@ pub fn pass<L>(
     look_all(&names, cluster, health, store, view, &grace, told, steps)?;
     health.forget_others(&names);
     let counts = count(alloc, &names, cluster)?;
-    set_mode(&counts, settings.unhealthy_percent, cluster, health, view, told)?;
-    set_zones(alloc, &counts, cluster.mode(), zones, settings, policies, view, told)
+    set_mode(
+        &counts,
+        settings.unhealthy_percent,
+        cluster,
+        health,
+        view,
+        told,
+    )?;
+    set_zones(
+        alloc,
+        &counts,
+        cluster.mode(),
+        zones,
+        settings,
+        policies,
+        view,
+        told,
+    )
 }

@@ -25,8 +25,9 @@ returns c doc k q before h store running health view are percent =
     let mode_is : c.mode.result ≡ mode q h = c.mode.ensures q h no_node no_pod running.cluster in
     let is = mode_turns doc k q h on full (λ same. apart (same ∙ sym mode_is)) in
     both_ok c.set_mode.result _ _ _
-        (c.set_mode.ensures.stands q h (add k q (Mode on) h) running.cluster running.synced (mode_change q k h on))
-        (c.set_mode.ensures.moved q k h (add k q (Mode on) h) running.cluster running.synced running.moved (own_before q k (Mode on) h) (mode_change q k h on))
-        (λ cluster moved. subst (λ g. Running q k before g c.set_mode.new.self store c.add.new.self × HealthStands doc q g c.hear_at_end.new.health) (sym is)
-            (running_after q k before h on _ c.set_mode.new.self store _ c.add.new.self running cluster moved (c.in_ok-add.ensures q k before h (Mode on) running.told refl),
-             c.hear_at_end.ensures doc k q h health view.reading))
+    (c.set_mode.ensures.stands q h (add k q (Mode on) h) running.cluster running.synced (mode_change q k h on))
+    (c.set_mode.ensures.moved q k h (add k q (Mode on) h) running.cluster running.synced running.moved (own_before q k (Mode on) h) (mode_change q k h on))
+    (λ cluster moved. subst (λ g. Running q k before g c.set_mode.new.self store c.add.new.self × HealthStands doc q g c.hear_at_end.new.health) (sym is) (
+      running_after q k before h on _ c.set_mode.new.self store _ c.add.new.self running cluster moved (c.in_ok-add.ensures q k before h (Mode on) running.told refl),
+      c.hear_at_end.ensures doc k q h health view.reading,
+    ))

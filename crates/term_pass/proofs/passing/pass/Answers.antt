@@ -39,9 +39,12 @@ returns-clause-running g c doc k q before h r health limits last view s few =
     let left = zones_leave doc k q (moded doc k q h) c.set_mode.new.cluster c.look_all.new.store c.set_mode.new.health (record { cluster = both.0.cluster; moved = both.0.moved; store = both.0.store; synced = both.0.synced; health = both.1 }) in
     on_ok_weaker c.set_zones.result
     (λ done. subst (λ f. Running q k before f c.set_mode.new.cluster c.look_all.new.store c.set_zones.new.told × HealthStands doc q f c.set_mode.new.health × LimitsStand doc q f c.set_zones.new.zones × LastStands doc q f (Some c.args.view.now.now))
-    (sym (pass_is doc k q h due))
-    (record { cluster = left.cluster; moved = left.moved; store = left.store; told = done.0; synced = left.synced },
-    left.health, done.1, ap Some view.reading ∙ sym (ap (option_map (local doc q.process)) (pass_last doc k q h))))
+    (sym (pass_is doc k q h due)) (
+      record { cluster = left.cluster; moved = left.moved; store = left.store; told = done.0; synced = left.synced },
+      left.health,
+      done.1,
+      ap Some view.reading ∙ sym (ap (option_map (local doc q.process)) (pass_last doc k q h)),
+    ))
     (c.set_zones.ensures.stands doc k q before (moded doc k q h) both.0.told (are_passed doc k q h c.args.zones.now limits)
     (c.deref-2.ensures.value ∙ counted ∙ ap zone_counts (sym (moded_nodes doc k q h)))
     (subst (λ (n : ℕ). n < 4294967296) (sym (ap length (moded_nodes doc k q h) ∙ marks_many doc k q h)) few)

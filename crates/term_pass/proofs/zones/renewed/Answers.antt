@@ -7,5 +7,5 @@ use Rattle.term_pass.proofs.zones.renewed.Goals as goal
 pub returns-in-Some : goal.returns-in-Some
 returns-in-Some c doc k q h place s reading =
     subst (λ b. LimitStands doc q (zone_as k q place c.args.state c.args.rate h) place (Some (record { state = c.args.state; rate = c.args.rate; bucket = b })))
-        (sym c.swap.ensures)
-        (went_on doc k q h place c.args.state c.args.rate c.args.now.0 reading c.in-Some.old (subst (LimitStands doc q h place) c.in-Some.is s))
+    (sym c.swap.ensures)
+    (went_on doc k q h place c.args.state c.args.rate c.args.now.0 reading c.in-Some.old (subst (LimitStands doc q h place) c.in-Some.is s))
