@@ -1,5 +1,5 @@
 -- One try to write a node with a queued taint.
-use Rattle.std.proofs.Common.{◌≡◌, ◌∙◌, ℕ, ◌+◌, ◌≤◌, List, Option, Some, None, Result, Ok, Err, true, false, refl, sym, ap, subst}
+use Rattle.std.proofs.Common.{◌≡◌, ℕ, ◌+◌, ◌≤◌, List, Option, None, Result, Ok, Err, true, refl, sym, ap, subst}
 use Rattle.std.specs.Result.{OnOk}
 use Rattle.kube_base.specs.declared.numbers.Version.{Version}
 use Rattle.kube_objects.specs.declared.call.Answer.{Answer}

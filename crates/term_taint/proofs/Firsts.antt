@@ -1,12 +1,10 @@
 -- The first of a zone's queue is tried.
-use Rattle.std.proofs.Common.{◌≡◌, ◌∙◌, inl, inr, ℕ, ◌+◌, ◌<◌, ◌≤◌, ◌==◌, ◌&&◌, ◌||◌, nat_lt, nat_le, Bool, true, false, cond, List, Option, Some, None, IfSome, refl, sym, ap, subst, arith}
+use Rattle.std.proofs.Common.{◌≡◌, ◌∙◌, inl, inr, ℕ, ◌<◌, ◌≤◌, ◌==◌, ◌&&◌, ◌||◌, nat_lt, nat_le, Bool, true, false, cond, List, Option, Some, None, refl, sym, ap, subst, arith}
 use Rattle.std.proofs.lemmas.Bool.{eqb-true}
 use Rattle.std.proofs.lemmas.Bool.Decides.{nat_tests}
 use Rattle.std.specs.Option.{option_map}
-use Rattle.kube_base.specs.declared.numbers.Version.{Version}
 use Rattle.kube_objects.specs.declared.call.Answer.{Answer}
 use Rattle.kube_objects.specs.declared.call.Answer.TheVariants as answer
-use Rattle.kube_objects.specs.declared.node.Node.{Node}
 use Rattle.kube_objects.specs.Clocks.{local}
 use Rattle.kube_objects.specs.Document.{Doc}
 use Rattle.kube_objects.specs.Entry as entry
@@ -16,7 +14,6 @@ use Rattle.kube_objects.specs.Newest.{only_if}
 use Rattle.kube_objects.specs.Seen.{node_names}
 use Rattle.kube_objects.specs.Tainting.{head_of, lacks, lacks_in, queued, waits}
 use Rattle.kube_objects.specs.Tick.{add, new_taint, tainted_with}
-use Rattle.kube_objects.specs.Tokens.{base, rated}
 use Rattle.kube_objects.specs.Tries.{try_node}
 use Rattle.taint_queue.specs.Order.{precedes}
 use Rattle.taint_zones.specs.declared.limit.Limit.{Limit}
@@ -31,7 +28,7 @@ use Rattle.tick_laws.specs.Judged.{key_if, waits_since}
 use Rattle.tick_laws.proofs.Heads.{Precedes, head_least}
 use Rattle.tick_laws.proofs.Named.{node_is_named, node_names_ascend}
 use Rattle.tick_laws.proofs.Orders.{same_place}
-use Rattle.tick_laws.proofs.Tainting.{IsWaiting, accepted_waits, heading, heading_base, heading_base_elsewhere, heading_change, heading_own, heading_rated, heading_since, heading_since_elsewhere, since_waits, waiting}
+use Rattle.tick_laws.proofs.Tainting.{IsWaiting, accepted_waits, heading, heading_base, heading_base_elsewhere, heading_change, heading_own, heading_since, heading_since_elsewhere, since_waits, waiting}
 use Rattle.tick_laws.proofs.Tried.{refused_waits}
 use Rattle.term_taint.specs.Attempts.{requeued}
 use Rattle.term_taint.specs.QueuesStand.{QueuesStand}

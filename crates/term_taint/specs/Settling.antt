@@ -1,13 +1,12 @@
 -- Where a node waits.
-use Rattle.std.specs.Prelude.{◌≡◌, ℕ, cond, List, Option, Some, None}
+use Rattle.std.specs.Prelude.{◌≡◌, ℕ, List, Option, Some, None}
 use Rattle.kube_objects.specs.Entry as entry
 use Rattle.kube_objects.specs.Entry.{Entry, Identity}
 use Rattle.kube_objects.specs.Newest.{has}
 use Rattle.kube_objects.specs.Tainting.{waits}
 use Rattle.taint_zones.specs.declared.place.Place.{Place}
 use Rattle.taint_zones.specs.Places.{of_place, zone_eq}
-use Rattle.taint_zones.specs.Waiting.{is_place}
-use Rattle.std.specs.Prelude.{Bool, true, false}
+use Rattle.std.specs.Prelude.{Bool, false}
 
 -- a node waits in this zone alone, or nowhere
 abbrev pub is_zone : Option Place → Place → Bool

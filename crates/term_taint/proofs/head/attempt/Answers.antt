@@ -1,10 +1,9 @@
-use Rattle.std.proofs.Common.{◌≡◌, ◌∙◌, ◌==◌, ◌+◌, ◌≤◌, ℕ, cond, ap, subst, arith}
+use Rattle.std.proofs.Common.{◌≡◌, ◌∙◌, ◌==◌, ◌+◌, ◌≤◌, cond, ap, subst, arith}
 use Rattle.std.specs.Result.{OnOk}
 use Rattle.std.proofs.lemmas.Result.{on_ok_weaker}
 use Rattle.kube_objects.specs.Entry.{Head}
 use Rattle.kube_objects.specs.Tick.{add}
 use Rattle.kube_objects.specs.Tries.{try_node}
-use Rattle.taint_zones.specs.declared.place.Place.{Place}
 use Rattle.taint_zones.specs.Places.{entry_place}
 use Rattle.taint_zones.specs.Waiting.{since}
 use Rattle.tick_laws.specs.Steps.{tick_cost}

@@ -1,6 +1,5 @@
-use Rattle.std.proofs.Common.{◌≡◌, ◌∙◌, None, Some, ap, sym}
+use Rattle.std.proofs.Common.{◌≡◌, ◌∙◌, Some, ap, sym}
 use Rattle.kube_objects.specs.Modes.{mode}
-use Rattle.kube_objects.specs.Seen.{seen_node}
 use Rattle.kube_objects.specs.Tainting.{lacks}
 use Rattle.history_laws.proofs.Plainly.{none_is, some_is}
 use Rattle.watch_cache.specs.Told.{found_pair}

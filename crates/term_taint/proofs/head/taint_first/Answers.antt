@@ -1,7 +1,7 @@
-use Rattle.std.proofs.Common.{◌≡◌, ◌∙◌, ◌==◌, ◌+◌, ◌≤◌, ℕ, cond, true, sym, ap, subst}
+use Rattle.std.proofs.Common.{◌≡◌, ◌∙◌, ◌==◌, ◌+◌, ◌≤◌, ℕ, cond, true, sym, subst}
 use Rattle.std.specs.Result.{OnOk}
 use Rattle.std.proofs.lemmas.Result.{on_ok_weaker}
-use Rattle.kube_objects.specs.Tick.{new_taint, taint, tainted_with}
+use Rattle.kube_objects.specs.Tick.{new_taint, tainted_with}
 use Rattle.kube_objects.specs.Tokens.{has_token}
 use Rattle.kube_objects.specs.Tries.{try_node}
 use Rattle.history_laws.proofs.Plainly.{none_is, some_is}

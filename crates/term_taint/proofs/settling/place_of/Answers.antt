@@ -1,6 +1,4 @@
-use Rattle.std.proofs.Common.{◌≡◌, ◌∙◌, None, Some, ap, sym}
-use Rattle.kube_objects.specs.Modes.{mode}
-use Rattle.kube_objects.specs.Seen.{seen_node}
+use Rattle.std.proofs.Common.{◌∙◌, ap, sym}
 use Rattle.kube_objects.specs.Tainting.{lacks}
 use Rattle.watch_cache.specs.Told.{found_pair}
 use Rattle.term_state.specs.ClusterStands.{no_node, no_pod}
