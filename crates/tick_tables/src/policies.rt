@@ -1,0 +1,28 @@
+// The rates of zones in which nodes are disrupted.
+ghost use Rattle.std.specs.Prelude.{◌≡◌};
+ghost use Rattle.zone_state.specs.Views.{full_of, partial_of};
+
+use kube_objects::RatePolicy;
+use zone_state::ZoneView;
+
+/// The rate of a zone in which many nodes aren't ready.
+pub(crate) fn partial(view: ZoneView) -> u32
+    ensures { result ≡ partial_of view }
+{
+    match view.policy {
+        RatePolicy::Standard if view.size > view.threshold => view.secondary,
+        RatePolicy::Gentle => view.secondary,
+        _ => 0,
+    }
+}
+
+/// The rate of a zone in which no node is ready.
+pub(crate) fn full(view: ZoneView) -> u32
+    ensures { result ≡ full_of view }
+{
+    match view.policy {
+        RatePolicy::Standard => view.primary,
+        RatePolicy::Gentle => view.secondary,
+        RatePolicy::Halt => 0,
+    }
+}

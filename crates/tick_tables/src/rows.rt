@@ -1,0 +1,211 @@
+// The scripts. Each is a scene of the model's worked traces, whose lines are in `stdout`.
+use crate::change::{Added, Change};
+use kube_base::{NOT_READY, UNREACHABLE};
+use kube_objects::{RatePolicy, ReadyStatus};
+
+/// Nodes, zones and pods.
+pub(crate) const N1: u32 = 10;
+
+pub(crate) const N2: u32 = 11;
+
+pub(crate) const N3: u32 = 12;
+
+pub(crate) const M1: u32 = 13;
+
+pub(crate) const P1: u32 = 20;
+
+pub(crate) const P2: u32 = 21;
+
+pub(crate) const P3: u32 = 22;
+
+pub(crate) const A: u32 = 32;
+
+pub(crate) const B: u32 = 33;
+
+/// The first and the last beat of a term.
+#[derive(Clone, Copy, Debug, PartialEq, Eq)]
+pub(crate) struct Span {
+    pub(crate) from: u16,
+    pub(crate) to: u16,
+}
+
+/// A scene: its terms, what changes before the tick of which beat, and of some ticks how many steps they count at most.
+#[derive(Clone, Copy, Debug)]
+pub(crate) struct Row {
+    pub(crate) name: &'static str,
+    pub(crate) grace_millis: u32,
+    pub(crate) policy: RatePolicy,
+    pub(crate) terms: &'static [Span],
+    pub(crate) changes: &'static [(u16, Change)],
+    pub(crate) steps: &'static [(u16, u64)],
+}
+
+const NOT_READY_AT_EPOCH: Option<Added> = Some(Added {
+    key: NOT_READY,
+    at: 0,
+});
+
+const TRUE: ReadyStatus = ReadyStatus::True;
+
+const FALSE: ReadyStatus = ReadyStatus::False;
+
+pub(crate) const ROWS: [Row; 9] = [
+    Row {
+        name: "a kubelet that crashes",
+        grace_millis: 40_000,
+        policy: RatePolicy::Standard,
+        terms: &[Span { from: 4, to: 504 }],
+        changes: &[
+            (0, Change::BareNode(N1)),
+            (1, Change::Status(N1, TRUE, 0)),
+            (3, Change::Renewal),
+            (5, Change::NodeLease(N1, 400)),
+            (7, Change::Renewal),
+        ],
+        steps: &[],
+    },
+    Row {
+        name: "every zone disrupted, and no more",
+        grace_millis: 40_000,
+        policy: RatePolicy::Standard,
+        terms: &[Span { from: 4, to: 154 }],
+        changes: &[
+            (0, Change::Node(N1, A, FALSE, NOT_READY_AT_EPOCH)),
+            (0, Change::Node(N2, A, FALSE, None)),
+            (0, Change::Pod(P1, N1, [None, None])),
+            (0, Change::Pod(P2, N2, [None, None])),
+            (3, Change::Renewal),
+            (7, Change::Renewal),
+            (40, Change::Node(N1, A, TRUE, None)),
+        ],
+        steps: &[],
+    },
+    Row {
+        name: "one zone with two that aren't ready",
+        grace_millis: 40_000,
+        policy: RatePolicy::Standard,
+        terms: &[Span { from: 4, to: 109 }, Span { from: 270, to: 370 }],
+        changes: &[
+            (0, Change::Node(N1, A, FALSE, None)),
+            (0, Change::Node(N2, A, FALSE, None)),
+            (0, Change::Node(N3, A, TRUE, None)),
+            (3, Change::Renewal),
+            (7, Change::Renewal),
+            (31, Change::Renewal),
+            (55, Change::Renewal),
+            (79, Change::Renewal),
+            (103, Change::Renewal),
+            (269, Change::Renewal),
+            (273, Change::Renewal),
+            (297, Change::Renewal),
+            (321, Change::Renewal),
+            (345, Change::Renewal),
+            (369, Change::Renewal),
+        ],
+        steps: &[],
+    },
+    Row {
+        name: "a swap, and the due that counts anew",
+        grace_millis: 40_000,
+        policy: RatePolicy::Standard,
+        terms: &[Span { from: 4, to: 200 }],
+        changes: &[
+            (
+                0,
+                Change::Node(
+                    N1,
+                    A,
+                    FALSE,
+                    Some(Added {
+                        key: UNREACHABLE,
+                        at: -60,
+                    }),
+                ),
+            ),
+            (0, Change::Node(N2, A, TRUE, None)),
+            (
+                0,
+                Change::Pod(P1, N1, [Some((UNREACHABLE, 300)), Some((NOT_READY, 20))]),
+            ),
+            (3, Change::Renewal),
+            (7, Change::Renewal),
+        ],
+        steps: &[],
+    },
+    Row {
+        name: "a delete by an old version of the node",
+        grace_millis: 40_000,
+        policy: RatePolicy::Standard,
+        terms: &[Span { from: 4, to: 130 }],
+        changes: &[
+            (0, Change::Node(N1, A, FALSE, NOT_READY_AT_EPOCH)),
+            (0, Change::Node(N2, A, TRUE, None)),
+            (0, Change::Pod(P1, N1, [Some((NOT_READY, 10)), None])),
+            (3, Change::Renewal),
+            (7, Change::Renewal),
+            (50, Change::Watch(false)),
+            (60, Change::Node(N1, A, TRUE, None)),
+            (120, Change::Watch(true)),
+        ],
+        steps: &[],
+    },
+    Row {
+        name: "a delete that is due when the watch is on again",
+        grace_millis: 40_000,
+        policy: RatePolicy::Standard,
+        terms: &[Span { from: 4, to: 130 }],
+        changes: &[
+            (0, Change::Node(N1, A, FALSE, NOT_READY_AT_EPOCH)),
+            (0, Change::Node(N2, A, TRUE, None)),
+            (0, Change::Pod(P1, N1, [Some((NOT_READY, 10)), None])),
+            (3, Change::Renewal),
+            (7, Change::Renewal),
+            (50, Change::Watch(false)),
+            (60, Change::Node(N1, A, FALSE, NOT_READY_AT_EPOCH)),
+            (120, Change::Watch(true)),
+        ],
+        steps: &[],
+    },
+    Row {
+        name: "deletes that are lost",
+        grace_millis: 40_000,
+        policy: RatePolicy::Standard,
+        terms: &[Span { from: 4, to: 121 }],
+        changes: &[
+            (0, Change::Node(N1, A, FALSE, NOT_READY_AT_EPOCH)),
+            (0, Change::Node(N2, A, TRUE, None)),
+            (0, Change::Pod(P1, N1, [Some((NOT_READY, 10)), None])),
+            (3, Change::Renewal),
+            (7, Change::Renewal),
+            (90, Change::Passes(false)),
+            (120, Change::Passes(true)),
+        ],
+        steps: &[],
+    },
+    Row {
+        name: "a gentle policy",
+        grace_millis: 600_000,
+        policy: RatePolicy::Gentle,
+        terms: &[Span { from: 4, to: 1004 }],
+        changes: &[
+            (0, Change::Node(N1, A, FALSE, None)),
+            (0, Change::Node(M1, B, TRUE, None)),
+            (3, Change::Renewal),
+            (7, Change::Renewal),
+        ],
+        steps: &[],
+    },
+    Row {
+        name: "a tick after a sync, and one with nothing new",
+        grace_millis: 40_000,
+        policy: RatePolicy::Standard,
+        terms: &[Span { from: 4, to: 5 }],
+        changes: &[
+            (0, Change::Node(N1, A, TRUE, None)),
+            (0, Change::Pod(P1, N1, [None, None])),
+            (0, Change::Pod(P2, N1, [None, None])),
+            (0, Change::Pod(P3, N1, [None, None])),
+        ],
+        steps: &[(4, 17), (5, 1)],
+    },
+];

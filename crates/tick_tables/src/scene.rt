@@ -1,0 +1,178 @@
+// A scene, beat by beat.
+ghost use Rattle.std.specs.Prelude.{◌≤◌};
+ghost use Rattle.kube_base.specs.Bounds.{most_local};
+
+use crate::change::{Change, EPOCH, write};
+use crate::policies::{full, partial};
+use crate::rows::{Row, Span};
+use controller_core::Term;
+use kube_base::{Beat, Local, NoMemory, ProcId, Steps, Version, Wall};
+use kube_objects::{Reply, Settings2};
+use leader_elector::{Candidate, CandidateNext, Leading, Timing};
+use object_store::Store;
+use std::alloc::Global;
+use std::io::{self, ErrorKind};
+use std::sync::ledger::Blank;
+use term_state::View;
+use zone_state::Policies;
+
+const TIMING: Timing = Timing {
+    lease_seconds: 2_000,
+    renew: 900_000_000_000_000,
+    retry: 600_000_000_000_000,
+    timeout: 2_000_000_000_000,
+    fast: false,
+};
+
+// A beat is 100 ms.
+fn reading(beat: u16) -> Local
+    ensures { result.0 ≤ most_local }
+{
+    Local(u64::from(beat) * 100_000_000_000)
+}
+
+fn time(beat: u16) -> Wall {
+    Wall(EPOCH + u64::from(beat) * 100_000)
+}
+
+fn settings(row: &Row) -> Settings2 {
+    Settings2 {
+        monitor_period_millis: 5_000,
+        grace_period_millis: row.grace_millis,
+        startup_grace_millis: 60_000,
+        node_lease_duration_seconds: 40,
+        primary_rate: 100,
+        secondary_rate: 10,
+        large_zone: 50,
+        unhealthy_percent: 55,
+        rate_policy: row.policy,
+    }
+}
+
+// A candidate that finds no Lease, creates it and leads.
+fn leader(at: Local, wall: Wall) -> Option<Leading>
+    requires { at.0 ≤ most_local }
+{
+    let candidate = Candidate::start(ProcId(0), 1, TIMING, at);
+    let CandidateNext::Ask(candidate, get) = candidate.on_timer(at, wall) else {
+        return None;
+    };
+    let CandidateNext::Ask(candidate, create) = candidate.on_reply(
+        get.number,
+        Reply::Absent,
+        at,
+        wall,
+    ) else {
+        return None;
+    };
+    match candidate.on_reply(create.number, Reply::Done(Version(1)), at, wall) {
+        CandidateNext::Lead(leading) => Some(leading),
+        _ => None,
+    }
+}
+
+fn out_of_memory(_: NoMemory) -> io::Error {
+    io::Error::from(ErrorKind::OutOfMemory)
+}
+
+// The store, with the watch and the losses that are in force.
+#[derive(Drop)]
+struct Scene {
+    store: Store,
+    watch: bool,
+    passes: bool,
+}
+
+impl Scene {
+    fn change(&mut self, alloc: Global, row: &Row, beat: u16) -> Result<(), NoMemory> {
+        for change in row.changes {
+            let (at, change) = *change;
+            if at == beat {
+                self.make(alloc, change, time(beat))?;
+            }
+        }
+        Ok(())
+    }
+
+    fn make(&mut self, alloc: Global, change: Change, now: Wall) -> Result<(), NoMemory> {
+        match change {
+            Change::Watch(on) => {
+                self.watch = on;
+                Ok(())
+            }
+            Change::Passes(on) => {
+                self.passes = on;
+                Ok(())
+            }
+            change => write(alloc, &mut self.store, change, now),
+        }
+    }
+
+    fn view(&self, beat: u16) -> View
+        ensures { result.now.0 ≤ most_local }
+    {
+        View {
+            watch: self.watch,
+            passes: self.passes,
+            beat: Beat(u32::from(beat)),
+            now: reading(beat),
+            wall: time(beat),
+        }
+    }
+}
+
+/// Plays a scene, and prints each deed with its beat.
+pub(crate) fn play(rt: &HostRuntime, row: &Row) -> io::Result<()> {
+    let alloc = rt.alloc();
+    let mut scene = Scene {
+        store: Store::new(alloc),
+        watch: true,
+        passes: true,
+    };
+    let mut next = 0;
+    for span in row.terms {
+        for beat in next..span.from {
+            scene.change(alloc, row, beat).map_err(out_of_memory)?;
+        }
+        lead(rt, row, *span, &mut scene)?;
+        next = span.to.saturating_add(1);
+    }
+    Ok(())
+}
+
+// One term, from its first beat to its last.
+fn lead(rt: &HostRuntime, row: &Row, span: Span, scene: &mut Scene) -> io::Result<()> {
+    let alloc = rt.alloc();
+    let policies = Policies::new(partial, full);
+    let mut term = Term::new(alloc, &settings(row));
+    let Some(leading) = leader(reading(span.from), time(span.from)) else {
+        return Ok(());
+    };
+    for beat in span.from..span.to.saturating_add(1) {
+        scene.change(alloc, row, beat).map_err(out_of_memory)?;
+        let Some(acting) = leading.acting(reading(beat)) else {
+            return Ok(());
+        };
+        let view = scene.view(beat);
+        let mut steps = Steps::new(Blank::new(1));
+        let deeds = term
+            .tick(&acting, &mut scene.store, &view, &policies, &mut steps)
+            .map_err(out_of_memory)?;
+        for deed in deeds.as_slice() {
+            println!(rt; "{beat} {:?}", deed.act)?;
+        }
+        tell_steps(rt, row, beat, steps.count())?;
+    }
+    Ok(())
+}
+
+// Whether a tick counted no more than it may, where that is asked.
+fn tell_steps(rt: &HostRuntime, row: &Row, beat: u16, count: u64) -> io::Result<()> {
+    for most in row.steps {
+        let (at, most) = *most;
+        if at == beat {
+            println!(rt; "{beat} at most {most} steps: {}", count <= most)?;
+        }
+    }
+    Ok(())
+}
