@@ -1,11 +1,15 @@
 // Writes of pods.
+ghost use Rattle.std.specs.Prelude.{◌≡◌};
+
 use kube_base::{ListOf, Version};
 use kube_objects::{Key, Kind, Object, Pod};
 use object_store::{Store, StoreFault};
 use std::alloc::Global;
 
 /// The key of the pod of this name.
-pub(crate) fn key(name: u32) -> Key {
+pub(crate) fn key(name: u32) -> Key
+    ensures { result.kind ≡ Kind.Pod }
+{
     Key {
         kind: Kind::Pod,
         space: 14,

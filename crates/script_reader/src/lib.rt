@@ -14,5 +14,7 @@ mod settings;
 mod table;
 
 pub use document::Document;
+pub use parts::Beats;
 pub use premise::lease_premise;
 pub use reading::{document_of, read_document, read_value};
+pub use table::EventType;

@@ -3,10 +3,10 @@ use kube_base::{Beat, Wall};
 
 /// The beats: how long one is, which is the last, and the time of day at the first.
 #[derive(Clone, Copy, Debug)]
-pub(crate) struct Beats {
-    pub(crate) millis: u32,
-    pub(crate) end: Beat,
-    pub(crate) epoch: Wall,
+pub struct Beats {
+    pub millis: u32,
+    pub end: Beat,
+    pub epoch: Wall,
 }
 
 /// The timings of leader election. A controller may have its own.

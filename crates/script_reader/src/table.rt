@@ -20,7 +20,7 @@ pub(crate) enum Version {
 
 /// The types of events.
 #[derive(Clone, Copy, Debug, PartialEq, Eq)]
-pub(crate) enum EventType {
+pub enum EventType {
     Rate,
     Delay,
     Loss,
