@@ -6,15 +6,13 @@ mod deed;
 mod document;
 mod event;
 mod field;
-mod parts;
+pub mod parts;
 mod premise;
 mod process;
 mod reading;
 mod settings;
-mod table;
+pub mod table;
 
 pub use document::Document;
-pub use parts::Beats;
 pub use premise::lease_premise;
 pub use reading::{document_of, read_document, read_value};
-pub use table::EventType;

@@ -13,7 +13,7 @@ use serde_json::{Map, Value};
 
 /// The versions of a document.
 #[derive(Clone, Copy, Debug, PartialEq, Eq)]
-pub(crate) enum Version {
+pub enum Version {
     One,
     Two,
 }
@@ -35,7 +35,7 @@ pub enum EventType {
 
 /// The objects of a document.
 #[derive(Clone, Copy, Debug)]
-pub(crate) enum Table {
+pub enum Table {
     Top,
     Settings(Version),
     Controller(Version),
