@@ -1,4 +1,2 @@
 pub mod Between
-pub mod Readying
 pub mod Starting
-pub mod Waking

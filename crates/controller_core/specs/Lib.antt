@@ -1,2 +1,1 @@
 pub mod TermStands
-pub mod Wakes

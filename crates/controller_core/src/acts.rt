@@ -82,14 +82,7 @@ impl Term {
         )?;
         clean(&mut self.cluster, store, view, told, steps)?;
         settle(&mut self.zones.queues, &self.cluster, view.beat)?;
-        taint(
-            &mut self.zones,
-            &mut self.cluster,
-            store,
-            view,
-            told,
-            steps,
-        )?;
+        taint(&mut self.zones, &mut self.cluster, store, view, told, steps)?;
         evict(&mut self.cluster, store, view, told, steps)
     }
 }

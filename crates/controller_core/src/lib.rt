@@ -2,7 +2,6 @@
 #![tactic(auto)]
 
 mod acts;
-mod ready;
 mod term;
 mod wakes;
 

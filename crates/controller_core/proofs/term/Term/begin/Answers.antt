@@ -1,10 +1,15 @@
-use Rattle.std.proofs.Common.{◌≡◌, ◌∙◌, ◌+◌, ◌≤◌, ap, sym, subst, refl, true, false, arith}
+use Rattle.std.proofs.Common.{◌≡◌, ◌∙◌, ℕ, List, ◌+◌, ◌≤◌, ap, sym, subst, refl, true, false, arith}
 use Rattle.std.proofs.lemmas.Result.{on_ok_weaker}
+use Rattle.kube_objects.specs.declared.deed.Deed.{Deed}
+use Rattle.kube_objects.specs.Document.{Doc}
+use Rattle.kube_objects.specs.Entry.{Entry, Identity}
 use Rattle.kube_objects.specs.Seen.{is_synced}
 use Rattle.kube_objects.specs.Tainting.{before_tick, waits}
 use Rattle.kube_objects.specs.Tick.{sync, tick, tick_if}
 use Rattle.node_health.proofs.Frames.{health-same}
+use Rattle.object_store.specs.declared.store.Store.{Store}
 use Rattle.term_evict.proofs.Walking.{view_kept}
+use Rattle.term_state.specs.declared.told.Told.{Told}
 use Rattle.term_state.specs.ClusterStands.{ClusterStands}
 use Rattle.term_state.specs.Running.{IsMoved}
 use Rattle.tick_laws.specs.Judged.{waits_since}
@@ -14,9 +19,13 @@ use Rattle.tick_laws.proofs.Phases.{reached_after_tick, sync_heads, sync_limits}
 use Rattle.tick_laws.proofs.Steps.{cost_start}
 use Rattle.tick_laws.proofs.Ticked.{sync_ticked, ticked_before}
 use Rattle.tick_laws.proofs.Waiting.{no_heads_start}
-use Rattle.controller_core.specs.TermStands.{Begun, Went, acted}
+use Rattle.controller_core.specs.declared.term.Term.{Term}
+use Rattle.controller_core.specs.TermStands.{Went, acted}
 use Rattle.controller_core.proofs.Between.{last_stands, limits_stand, sync_says, told_synced, unsynced_none}
 use Rattle.controller_core.proofs.term.Term.begin.Goals as goal
+
+went_same : (doc : Doc) (k : ℕ) (q : Identity) (before : List Deed) (h g : List Entry) (t : Term) (s : Store) (o : Told) → g ≡ h → Went doc k q before h t s o → Went doc k q before g t s o
+went_same doc k q before h g t s o is w = subst (λ f. Went doc k q before f t s o) (sym is) w
 
 pub returns-then-not-is_synced-clause-stands : goal.returns-then-not-is_synced-clause-stands
 returns-then-not-is_synced-clause-stands g c doc k q before h s st told v start small =
@@ -24,7 +33,7 @@ returns-then-not-is_synced-clause-stands g c doc k q before h s st told v start 
     let unsynced : is_synced q (sync doc k q h) ≡ false = sym (c.is_synced.ensures q (sync doc k q h) seen) ∙ c.if-not-is_synced.true in
     let same = unsynced_none doc k q h unsynced in
     let whole : tick doc k q h ≡ h = ap (λ b. tick_if doc k q b (sync doc k q h)) unsynced ∙ same in
-    subst (λ f. Went doc k q before f (record (c.args.self.now) { cluster = c.sync.new.cluster }) c.args.store.now c.args.told.now) (sym whole)
+    went_same doc k q before h (tick doc k q h) _ _ _ whole
     (record {
       term = record {
         cluster = subst (λ f. ClusterStands q f c.sync.new.cluster) same seen;

@@ -10,8 +10,8 @@ use Rattle.controller_core.proofs.term.Term.tick.Goals as goal
 
 pub returns-clause-stands : goal.returns-clause-stands
 returns-clause-stands g c doc k q h s st v acts start small =
-    let names = subst (λ x. Names x c.identity.result) acts c.identity.ensures in
-    let who : actor.Proc c.identity.result.0 c.identity.result.1 ≡ actor_of q = λ i. actor.Proc (record { 0 = names.0 i }) (names.1 i) in
+    let names = subst (λ x. Names x c.identity-incarnation.result) acts c.identity-incarnation.ensures in
+    let who : actor.Proc c.identity-incarnation.result.0 c.identity-incarnation.result.1 ≡ actor_of q = λ i. actor.Proc (record { 0 = names.0 i }) (names.1 i) in
     let told = subst (λ n. IsTold q n (printed h) h c.new-told.result) v.beat (c.new-told.ensures.stands q h who) in
     let w = c.in_ok-begin.ensures.stands doc k q (printed h) h s st told v start small in
     record {
@@ -30,7 +30,7 @@ returns-clause-stands g c doc k q h s st v acts start small =
 
 pub returns-clause-counted : goal.returns-clause-counted
 returns-clause-counted g c doc k q h s st v acts start small =
-    let names = subst (λ x. Names x c.identity.result) acts c.identity.ensures in
-    let who : actor.Proc c.identity.result.0 c.identity.result.1 ≡ actor_of q = λ i. actor.Proc (record { 0 = names.0 i }) (names.1 i) in
+    let names = subst (λ x. Names x c.identity-incarnation.result) acts c.identity-incarnation.ensures in
+    let who : actor.Proc c.identity-incarnation.result.0 c.identity-incarnation.result.1 ≡ actor_of q = λ i. actor.Proc (record { 0 = names.0 i }) (names.1 i) in
     let told = subst (λ n. IsTold q n (printed h) h c.new-told.result) v.beat (c.new-told.ensures.stands q h who) in
     c.in_ok-begin.ensures.counted doc k q (printed h) h s st told v start small
