@@ -11,8 +11,8 @@ use Rattle.replay_top.proofs.Grown.{trace-first, trace-named}
 use Rattle.replay_top.proofs.Writables.{process_names-count}
 use Rattle.replay_top.proofs.trace.write_trace.Goals as goal
 
-pub write_beats-requires-runs : goal.write_beats-requires-runs
-write_beats-requires-runs g c =
+pub write_beats-requires-clause-runs : goal.write_beats-requires-clause-runs
+write_beats-requires-clause-runs g c =
     let d = c.args.document in
     let doc = doc_of d in
     let w = c.in-Ok.world in
