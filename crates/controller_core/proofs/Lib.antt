@@ -1,2 +1,4 @@
 pub mod Between
+pub mod Readying
 pub mod Starting
+pub mod Waking
