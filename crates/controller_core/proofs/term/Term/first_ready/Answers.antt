@@ -1,11 +1,11 @@
-use Rattle.std.proofs.Common.{◌≡◌, ◌∙◌, inl, inr, ◌<◌, ◌≤◌, ◌-◌, ◌⊎◌, ◌^◌, ℕ, Option, Some, None, true, false, refl, sym, subst, arith, rules}
+use Rattle.std.proofs.Common.{◌≡◌, inl, inr, ◌<◌, ◌⊎◌, Option, Some, None, sym, subst, arith, rules}
 use Rattle.history_laws.proofs.Plainly.{false_is}
 use Rattle.kube_objects.specs.Clocks.{local}
 use Rattle.taint_zones.specs.declared.place.Place.{Place}
 use Rattle.taint_zones.specs.declared.queues.Queues.{Queues}
 use Rattle.taint_zones.specs.Places.{entry_place}
 use Rattle.taint_zones.specs.Waiting.{IsNextZone}
-use Rattle.term_taint.proofs.ZoneWalk.{number, number_grows}
+use Rattle.term_taint.proofs.ZoneWalk.{number_grows}
 use Rattle.controller_core.proofs.Readying.{end_covered, next_covered, zones_left}
 use Rattle.controller_core.proofs.term.Term.first_ready.Goals as goal
 

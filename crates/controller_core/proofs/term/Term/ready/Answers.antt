@@ -1,5 +1,4 @@
-use Rattle.std.proofs.Common.{◌≡◌, ◌∙◌, Some, None, IfSome, IfNone, true, false, refl, ap, sym, subst, rules}
-use Rattle.history_laws.proofs.Plainly.{false_is}
+use Rattle.std.proofs.Common.{◌≡◌, Some, None, IfNone, subst, rules}
 use Rattle.taint_zones.specs.Limits.{LimitStands, limit_at}
 use Rattle.taint_zones.specs.Places.{entry_place}
 use Rattle.taint_zones.specs.Waiting.{IsEmpty}
