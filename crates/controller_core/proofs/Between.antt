@@ -1,16 +1,14 @@
 -- What a phase of a tick leaves that has no entry of its kind.
-use Rattle.std.proofs.Common.{◌≡◌, ◌∙◌, ℕ, ◌&&◌, not, Bool, true, false, List, Option, Some, None, IfSome, option_map, refl, sym, ap, subst}
+use Rattle.std.proofs.Common.{◌≡◌, ◌∙◌, ℕ, ◌&&◌, not, Bool, true, false, List, Option, IfSome, option_map, refl, sym, ap, subst}
 use Rattle.kube_base.specs.declared.numbers.Local.{Local}
 use Rattle.kube_objects.specs.declared.deed.Deed.{Deed}
 use Rattle.kube_objects.specs.Clocks.{local}
 use Rattle.kube_objects.specs.Document.{Doc}
-use Rattle.kube_objects.specs.Entry.{Entry, Identity, Place, Tick, Ticks, Sync, Untaint, Swap, Head, Delete, entry}
+use Rattle.kube_objects.specs.Entry.{Entry, Identity, Tick, Ticks, Sync, Untaint, Swap, Head, Delete, entry}
 use Rattle.kube_objects.specs.Health.{last_pass}
 use Rattle.kube_objects.specs.InForce.{watches}
 use Rattle.kube_objects.specs.Seen.{is_fresh, is_synced}
-use Rattle.kube_objects.specs.Tainting.{before_tick}
 use Rattle.kube_objects.specs.Tick.{add, cleaned, evicted, sync, sync_if, tainted}
-use Rattle.kube_objects.specs.Tokens.{base, rated}
 use Rattle.history_laws.proofs.Plainly.{false_is}
 use Rattle.node_health.specs.Stands.{is_of_health}
 use Rattle.node_health.proofs.Frames.{SaysSame, says-same, says-then, unheard-kind}

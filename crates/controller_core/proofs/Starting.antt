@@ -1,21 +1,14 @@
 -- A term that begins stands for every history without ticks of its own.
-use Rattle.std.proofs.Common.{◌≡◌, ◌∙◌, ℕ, Bool, true, false, List, [], ◌∷◌, Option, Some, None, IfSome, refl, sym, ap, subst, arith}
-use Rattle.kube_objects.specs.declared.deed.Actor.{Actor}
-use Rattle.kube_objects.specs.declared.key.Key.{Key}
-use Rattle.kube_objects.specs.Document.{Doc}
+use Rattle.std.proofs.Common.{◌≡◌, ◌∙◌, ℕ, Bool, true, false, List, [], ◌∷◌, None, refl, arith}
 use Rattle.kube_objects.specs.Entry as model
 use Rattle.kube_objects.specs.Entry.{Entry, Identity, Deed, Tick, Ticks, Pass, Zone}
 use Rattle.kube_objects.specs.Health.{last_pass}
-use Rattle.kube_objects.specs.Identities.{is_by}
-use Rattle.kube_objects.specs.Newest.{added, newest}
-use Rattle.kube_objects.specs.Seen.{is_stale}
-use Rattle.kube_objects.specs.Tainting.{lacks_in, queued, waits}
-use Rattle.kube_objects.specs.Modes.{mode}
+use Rattle.kube_objects.specs.Newest.{added}
 use Rattle.kube_objects.specs.Tokens.{rated}
 use Rattle.history_laws.proofs.Plainly.{false_is}
-use Rattle.tick_laws.specs.Judged.{key_if, waits_since}
+use Rattle.tick_laws.specs.Judged.{waits_since}
 use Rattle.tick_laws.specs.Since.{AreReached}
-use Rattle.tick_laws.proofs.Phases.{KeepsLimits, foreign_limits}
+use Rattle.tick_laws.proofs.Phases.{foreign_limits}
 use Rattle.tick_laws.proofs.Foreign.{foreign_reached, foreign_since}
 use Rattle.watch_cache.specs.Stands.{is_tick_by, ticks}
 

@@ -1,1 +1,2 @@
 pub mod TermStands
+pub mod Wakes

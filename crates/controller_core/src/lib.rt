@@ -2,6 +2,7 @@
 #![tactic(auto)]
 
 mod acts;
+mod ready;
 mod term;
 mod wakes;
 

@@ -57,7 +57,7 @@ impl Term {
     }
 
     /// One tick: a sync, and once there was one a pass where it is due, untaints and swaps, queued taints, and evictions.
-    /// Answers the printed deeds in order. Of what it counts a step at most is no part of the tick's cost.
+    /// Answers the printed deeds in order. It counts at most one step more than the cost of the tick.
     pub fn tick<L>(
         &mut self,
         acting: &Acting<'_>,

@@ -1,6 +1,5 @@
-use Rattle.std.proofs.Common.{◌≡◌, ◌∙◌, ◌+◌, ◌≤◌, ap, sym, refl, true, arith}
+use Rattle.std.proofs.Common.{◌≡◌, ◌∙◌, ap, sym, true, arith}
 use Rattle.std.proofs.lemmas.Result.{on_ok_weaker}
-use Rattle.kube_objects.specs.Health.{last_pass}
 use Rattle.kube_objects.specs.Tainting.{before_tick}
 use Rattle.kube_objects.specs.Tick.{cleaned, evicted, pass, tainted}
 use Rattle.node_health.proofs.Frames.{health-same}

@@ -1,4 +1,4 @@
-use Rattle.std.proofs.Common.{◌≡◌, ◌∙◌, None, IfSome, ap, sym, subst, refl, option_map}
+use Rattle.std.proofs.Common.{◌≡◌, ◌∙◌, IfSome, ap, sym, subst, option_map}
 use Rattle.kube_objects.specs.Clocks.{local}
 use Rattle.kube_objects.specs.Tokens.{base}
 use Rattle.taint_zones.specs.Limits.{rated_of}

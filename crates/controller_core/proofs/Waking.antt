@@ -1,0 +1,47 @@
+-- When a pass is due.
+use Rattle.std.proofs.Common.{◌≡◌, ◌∙◌, ℕ, ◌+◌, ◌*◌, ◌<◌, ◌≤◌, nat_le, true, false, List, Option, Some, None, option_map, refl, sym, ap, arith}
+use Rattle.std.proofs.lemmas.Bool.Decides.{nat_tests}
+use Rattle.kube_base.specs.declared.numbers.Local.{Local}
+use Rattle.kube_objects.specs.Clocks.{local}
+use Rattle.kube_objects.specs.Document.{Doc, of_millis}
+use Rattle.kube_objects.specs.Entry.{Entry, Identity}
+use Rattle.kube_objects.specs.Health.{is_after_pass, is_pass_due, last_pass}
+use Rattle.term_pass.specs.Passing.{LastStands}
+
+some_number : (a b : ℕ) → ◌≡◌ {A = Option ℕ} (Some a) (Some b) → a ≡ b
+some_number a b is = cc
+
+some_none : (a : ℕ) → ◌≡◌ {A = Option ℕ} (Some a) None → ⊥
+some_none a is = cc
+
+-- a pass is due a period after the last
+pub due_from : (doc : Doc) (k : ℕ) (q : Identity) (h : List Entry) (last : Local) (period : ℕ) → LastStands doc q h (Some last) → period ≡ of_millis doc.settings.monitor_period_millis
+    → is_pass_due doc k q h ≡ nat_le (last.0 + period) (local doc q.process k)
+due_from doc k q h last period s is = by_pass (last_pass q h) refl s
+  where
+    by_pass : (o : Option ℕ) → last_pass q h ≡ o → Some last.0 ≡ option_map (local doc q.process) o → is_pass_due doc k q h ≡ nat_le (last.0 + period) (local doc q.process k)
+    by_pass None same stands = absurd (some_none last.0 stands)
+    by_pass (Some at) same stands =
+        ap (is_after_pass doc k q) same
+        ∙ ap (λ n. nat_le (n + of_millis doc.settings.monitor_period_millis) (local doc q.process k)) (sym (some_number last.0 (local doc q.process at) stands))
+        ∙ ap (λ p. nat_le (last.0 + p) (local doc q.process k)) (sym is)
+
+pub not_none : (doc : Doc) (q : Identity) (h : List Entry) (last : Local) → LastStands doc q h (Some last) → last_pass q h ≡ None → ⊥
+not_none doc q h last s none = some_none last.0 (s ∙ ap (option_map (local doc q.process)) none)
+
+pub none_last : (doc : Doc) (q : Identity) (h : List Entry) → LastStands doc q h None → last_pass q h ≡ None
+none_last doc q h s = by_pass (last_pass q h) s
+  where
+    by_pass : (o : Option ℕ) → ◌≡◌ {A = Option ℕ} None (option_map (local doc q.process) o) → o ≡ None
+    by_pass None is = refl
+    by_pass (Some at) is = absurd (some_none (local doc q.process at) (sym is))
+
+pub not_yet : (a b : ℕ) → b < a → nat_le a b ≡ false
+not_yet a b less = grind (arith, nat_tests)
+
+pub by_then : (a b : ℕ) → a ≤ b → nat_le a b ≡ true
+by_then a b le = grind (arith, nat_tests)
+
+pub period_is : (millis period other : ℕ) → other ≡ millis → period ≡ millis * 1000000000 → period ≡ of_millis other
+unfolding of_millis
+period_is millis period other same is = is ∙ ap (λ n. n * 1000000000) (sym same)

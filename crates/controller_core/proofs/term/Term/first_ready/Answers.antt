@@ -1,0 +1,63 @@
+use Rattle.std.proofs.Common.{◌≡◌, inl, inr, ◌<◌, ◌⊎◌, Option, Some, None, sym, subst, arith, rules}
+use Rattle.history_laws.proofs.Plainly.{false_is}
+use Rattle.kube_objects.specs.Clocks.{local}
+use Rattle.taint_zones.specs.declared.place.Place.{Place}
+use Rattle.taint_zones.specs.declared.queues.Queues.{Queues}
+use Rattle.taint_zones.specs.Places.{entry_place}
+use Rattle.taint_zones.specs.Waiting.{IsNextZone}
+use Rattle.term_taint.proofs.ZoneWalk.{number_grows}
+use Rattle.controller_core.proofs.Readying.{end_covered, next_covered, zones_left}
+use Rattle.controller_core.proofs.term.Term.first_ready.Goals as goal
+
+either : {A B C : Type 0} → A ⊎ B → (A → C) → (B → C) → C
+either (inl a) f g = f a
+either (inr b) f g = g b
+
+-- fewer zones are left after this one
+zones_fewer : (queues : Queues) (place : Place) (next : Option Place) → IsNextZone queues (Some place) next → place.region < 4294967296 → place.zone < 4294967296 → zones_left next < zones_left (Some place)
+zones_fewer queues place None is region zone = omega (arith, region, zone)
+zones_fewer queues place (Some next) is region zone = let more = number_grows place next zone is.0 in omega (arith, region, zone, more)
+
+pub loop-next-init : goal.loop-next-init
+loop-next-init c = record {
+  least = omega arith;
+  there = λ doc k q h s le. inl le;
+  walk = (None, c.next_zone-next.ensures, λ doc k q h s place out due. absurd (false_is (sym out)));
+}
+
+pub loop-next-smaller : goal.loop-next-smaller
+loop-next-smaller c =
+    let place = c.in-Some.place in
+    let region : place.region < 4294967296 = omega arith in
+    let zone : place.zone < 4294967296 = omega arith in
+    subst (λ o. zones_left c.next_zone-next-in-Some.result < zones_left o) (sym c.in-Some.is) (zones_fewer c.args.self.now.zones.queues place c.next_zone-next-in-Some.result c.next_zone-next-in-Some.ensures region zone)
+
+pub loop-next-preserved : goal.loop-next-preserved
+loop-next-preserved c =
+    let place = c.in-Some.place in
+    let queues = c.args.self.now.zones.queues in
+    let i = c.loop-next.invariant in
+    let next = subst (IsNextZone queues i.walk.0) c.in-Some.is i.walk.1 in
+    record {
+      least = omega (arith, c.earlier-least.ensures.least, i.least);
+      there = λ doc k q h s le. either (c.earlier-least.ensures.there (local doc q.process k) le) (λ old. i.there doc k q h s old) (λ reached. inr (entry_place place, c.ready.ensures.there doc k q h s reached));
+      walk = (
+        Some place,
+        c.next_zone-next-in-Some.ensures,
+        λ doc k q h s. next_covered doc k q h queues s.queues i.walk.0 place c.loop-next.least.0 c.earlier-least.result.0 next c.earlier-least.ensures.least (i.walk.2 doc k q h s)
+            (λ due. c.earlier-least.ensures.other (local doc q.process k) (c.ready.ensures.all doc k q h s due)),
+      );
+    }
+
+pub returns-clause-all : goal.returns-clause-all
+returns-clause-all c doc k q h place s due =
+    let i = c.loop-next.invariant in
+    let queues = c.args.self.now.zones.queues in
+    let none : c.loop-next.next ≡ None = search rules in
+    end_covered doc k q h queues s.queues i.walk.0 c.loop-next.least.0 (subst (IsNextZone queues i.walk.0) none i.walk.1) (i.walk.2 doc k q h s) place due
+
+pub returns-clause-least : goal.returns-clause-least
+returns-clause-least c = c.loop-next.invariant.least
+
+pub returns-clause-there : goal.returns-clause-there
+returns-clause-there c doc k q h s le = c.loop-next.invariant.there doc k q h s le

@@ -1,0 +1,85 @@
+// The readings at which a tick has a pass or a queued taint.
+ghost use Rattle.std.specs.Prelude.{◌≡◌, ◌≤◌, ◌<◌, ◌⊎◌, ℕ, true, false, List, None, IfSome, IfNone};
+ghost use Rattle.kube_objects.specs.Clocks.{local};
+ghost use Rattle.kube_objects.specs.Document.{Doc};
+ghost use Rattle.kube_objects.specs.Entry as model;
+ghost use Rattle.kube_objects.specs.Entry.{Entry, Identity};
+ghost use Rattle.kube_objects.specs.Health.{is_pass_due, last_pass};
+ghost use Rattle.taint_zones.specs.Places.{entry_place};
+ghost use Rattle.controller_core.specs.Wakes.{IsHeadDue, is_reached};
+
+use crate::Term;
+use kube_base::Local;
+use taint_zones::Place;
+
+// The earlier of two readings, where there is another.
+fn earlier(least: Local, other: Option<Local>) -> Local
+    ensures least { result.0 ≤ least.0 }
+    ensures other { (now : ℕ) → is_reached other now ≡ true → result.0 ≤ now }
+    ensures there { (now : ℕ) → result.0 ≤ now → (least.0 ≤ now) ⊎ (is_reached other now ≡ true) }
+{
+    match other {
+        None => least,
+        Some(other) => {
+            if other.0 < least.0 {
+                return other;
+            }
+            least
+        }
+    }
+}
+
+impl Term {
+    ghost use Rattle.controller_core.specs.TermStands.{TermStands};
+
+    // The reading at which a zone's token is there, where somebody waits in the zone.
+    fn ready(&self, place: Place) -> Option<Local>
+        ensures there { (doc : Doc) (k : ℕ) (q : Identity) (h : List Entry) → TermStands doc q h self.now
+            → is_reached result (local doc q.process k) ≡ true → IsHeadDue doc k q h (entry_place place) }
+        ensures all { (doc : Doc) (k : ℕ) (q : Identity) (h : List Entry) → TermStands doc q h self.now
+            → IsHeadDue doc k q h (entry_place place) → is_reached result (local doc q.process k) ≡ true }
+    {
+        let Some(_) = self.zones.queues.head(place) else {
+            return None;
+        };
+        match self.zones.limits.get(&place) {
+            None => None,
+            Some(limit) => limit.bucket.ready_at(),
+        }
+    }
+
+    // The least of this reading and of those at which a queued taint is made of somebody who waits now.
+    fn first_ready(&self, given: Local) -> Local
+        ensures least { result.0 ≤ given.0 }
+        ensures all { (doc : Doc) (k : ℕ) (q : Identity) (h : List Entry) (place : model.Place) → TermStands doc q h self.now
+            → IsHeadDue doc k q h place → result.0 ≤ local doc q.process k }
+        ensures there { (doc : Doc) (k : ℕ) (q : Identity) (h : List Entry) → TermStands doc q h self.now → result.0 ≤ local doc q.process k
+            → (given.0 ≤ local doc q.process k) ⊎ ((place : model.Place) × IsHeadDue doc k q h place) }
+    {
+        let mut least = given;
+        let mut next = self.zones.queues.next_zone(None);
+        while let Some(place) = next {
+            least = earlier(least, self.ready(place));
+            next = self.zones.queues.next_zone(Some(place));
+        }
+        least
+    }
+
+    /// The least reading at which a tick has a pass, or a queued taint of those who wait now; none exactly where there was no
+    /// pass. Readings are at most 2 * 10^18.
+    pub fn wake(&self) -> Option<Local>
+        ensures none { (doc : Doc) (q : Identity) (h : List Entry) → TermStands doc q h self.now → IfNone result (last_pass q h ≡ None) }
+        ensures some { (doc : Doc) (q : Identity) (h : List Entry) → TermStands doc q h self.now
+            → IfSome result (λ at. ¬ (last_pass q h ≡ None)) }
+        ensures early { (doc : Doc) (k : ℕ) (q : Identity) (h : List Entry) → TermStands doc q h self.now
+            → local doc q.process k ≤ 2000000000000000000 → IfSome result (λ at. local doc q.process k < at.0
+            → (is_pass_due doc k q h ≡ false) × ((place : model.Place) → ¬ IsHeadDue doc k q h place)) }
+        ensures there { (doc : Doc) (k : ℕ) (q : Identity) (h : List Entry) → TermStands doc q h self.now
+            → local doc q.process k ≤ 2000000000000000000 → IfSome result (λ at. at.0 ≤ local doc q.process k
+            → (is_pass_due doc k q h ≡ true) ⊎ ((place : model.Place) × IsHeadDue doc k q h place)) }
+    {
+        let last = self.last?;
+        let period = u64::from(self.settings.monitor_period_millis) * 1_000_000_000;
+        Some(self.first_ready(Local(last.0.saturating_add(period))))
+    }
+}
