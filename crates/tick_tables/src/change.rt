@@ -34,7 +34,7 @@ pub(crate) enum Change {
     /// A node's Lease, renewed so many milliseconds after the epoch.
     NodeLease(u32, i64),
     /// A pod on a node, with tolerations of NoExecute taints, each by the taint's key and its seconds.
-    Pod(u32, u32, [Option<(u32, i64)>; 2]),
+    Pod(u32, u32, Option<(u32, i64)>, Option<(u32, i64)>),
     /// The leader renews its Lease.
     Renewal,
     /// The leader's watch is on.
@@ -85,20 +85,17 @@ fn ready(status: ReadyStatus, heartbeat: i64) -> Ready {
     }
 }
 
-fn tolerations(alloc: Global, keys: [Option<(u32, i64)>; 2]) -> Result<Tolerations, NoMemory> {
-    let mut tolerations = ListOf::new(alloc);
-    for key in keys {
-        if let Some((key, seconds)) = key {
-            tolerations.push(Toleration {
-                key,
-                operator: Operator::Exists,
-                value: 0,
-                effect: Some(Effect::NoExecute),
-                seconds: Some(seconds),
-            })?;
-        }
-    }
-    Ok(tolerations)
+fn add_toleration(tolerations: &mut Tolerations, key: Option<(u32, i64)>) -> Result<(), NoMemory> {
+    let Some((key, seconds)) = key else {
+        return Ok(());
+    };
+    tolerations.push(Toleration {
+        key,
+        operator: Operator::Exists,
+        value: 0,
+        effect: Some(Effect::NoExecute),
+        seconds: Some(seconds),
+    })
 }
 
 fn lease(renewed: Wall) -> Lease {
@@ -155,11 +152,11 @@ pub(crate) fn write(
                 now,
             )
         }
-        Change::Pod(name, node, keys) => {
-            let pod = Pod {
-                node,
-                tolerations: tolerations(alloc, keys)?,
-            };
+        Change::Pod(name, node, first, second) => {
+            let mut tolerations = ListOf::new(alloc);
+            add_toleration(&mut tolerations, first)?;
+            add_toleration(&mut tolerations, second)?;
+            let pod = Pod { node, tolerations };
             put(
                 store,
                 key(Kind::Pod, NAMESPACE, name),

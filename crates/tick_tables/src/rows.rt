@@ -72,8 +72,8 @@ pub(crate) const ROWS: [Row; 9] = [
         changes: &[
             (0, Change::Node(N1, A, FALSE, NOT_READY_AT_EPOCH)),
             (0, Change::Node(N2, A, FALSE, None)),
-            (0, Change::Pod(P1, N1, [None, None])),
-            (0, Change::Pod(P2, N2, [None, None])),
+            (0, Change::Pod(P1, N1, None, None)),
+            (0, Change::Pod(P2, N2, None, None)),
             (3, Change::Renewal),
             (7, Change::Renewal),
             (40, Change::Node(N1, A, TRUE, None)),
@@ -125,7 +125,7 @@ pub(crate) const ROWS: [Row; 9] = [
             (0, Change::Node(N2, A, TRUE, None)),
             (
                 0,
-                Change::Pod(P1, N1, [Some((UNREACHABLE, 300)), Some((NOT_READY, 20))]),
+                Change::Pod(P1, N1, Some((UNREACHABLE, 300)), Some((NOT_READY, 20))),
             ),
             (3, Change::Renewal),
             (7, Change::Renewal),
@@ -140,7 +140,7 @@ pub(crate) const ROWS: [Row; 9] = [
         changes: &[
             (0, Change::Node(N1, A, FALSE, NOT_READY_AT_EPOCH)),
             (0, Change::Node(N2, A, TRUE, None)),
-            (0, Change::Pod(P1, N1, [Some((NOT_READY, 10)), None])),
+            (0, Change::Pod(P1, N1, Some((NOT_READY, 10)), None)),
             (3, Change::Renewal),
             (7, Change::Renewal),
             (50, Change::Watch(false)),
@@ -157,7 +157,7 @@ pub(crate) const ROWS: [Row; 9] = [
         changes: &[
             (0, Change::Node(N1, A, FALSE, NOT_READY_AT_EPOCH)),
             (0, Change::Node(N2, A, TRUE, None)),
-            (0, Change::Pod(P1, N1, [Some((NOT_READY, 10)), None])),
+            (0, Change::Pod(P1, N1, Some((NOT_READY, 10)), None)),
             (3, Change::Renewal),
             (7, Change::Renewal),
             (50, Change::Watch(false)),
@@ -174,7 +174,7 @@ pub(crate) const ROWS: [Row; 9] = [
         changes: &[
             (0, Change::Node(N1, A, FALSE, NOT_READY_AT_EPOCH)),
             (0, Change::Node(N2, A, TRUE, None)),
-            (0, Change::Pod(P1, N1, [Some((NOT_READY, 10)), None])),
+            (0, Change::Pod(P1, N1, Some((NOT_READY, 10)), None)),
             (3, Change::Renewal),
             (7, Change::Renewal),
             (90, Change::Passes(false)),
@@ -202,9 +202,9 @@ pub(crate) const ROWS: [Row; 9] = [
         terms: &[Span { from: 4, to: 5 }],
         changes: &[
             (0, Change::Node(N1, A, TRUE, None)),
-            (0, Change::Pod(P1, N1, [None, None])),
-            (0, Change::Pod(P2, N1, [None, None])),
-            (0, Change::Pod(P3, N1, [None, None])),
+            (0, Change::Pod(P1, N1, None, None)),
+            (0, Change::Pod(P2, N1, None, None)),
+            (0, Change::Pod(P3, N1, None, None)),
         ],
         steps: &[(4, 17), (5, 1)],
     },

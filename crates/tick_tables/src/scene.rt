@@ -35,7 +35,9 @@ fn time(beat: u16) -> Wall {
     Wall(EPOCH + u64::from(beat) * 100_000)
 }
 
-fn settings(row: &Row) -> Settings2 {
+fn settings(row: &Row) -> Settings2
+    ensures { result.secondary_rate ≤ result.primary_rate }
+{
     Settings2 {
         monitor_period_millis: 5_000,
         grace_period_millis: row.grace_millis,
