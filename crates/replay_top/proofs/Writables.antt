@@ -25,7 +25,7 @@ process_names-count names doc =
     omega (
       arith,
       length-append (map controller doc.controllers) (map kubelet doc.kubelets),
-      length-map controller doc.controllers,
-      length-map kubelet doc.kubelets,
+      length-map doc.controllers controller,
+      length-map doc.kubelets kubelet,
       length-append doc.controllers doc.kubelets,
     )
