@@ -3,4 +3,5 @@ pub mod SeatsLaws
 pub mod NearLaws
 pub mod SeatLaws
 pub mod ReviewLaws
+pub mod SpacingLaws
 pub mod StrayLaws

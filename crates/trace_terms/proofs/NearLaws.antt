@@ -30,7 +30,7 @@ another-first actors (t ∷ ts) (Some s) other p a once at f o = by (s.who == p)
     miss true e other_place =
         let same : a ≡ t.actor = (bytes_eq-Decides a t.actor).0 e in
         let place : s.who ≡ p = one-place actors once s.who p a (f.who ∙ ap (λ w. Some w) (sym same)) at in
-        absurd (let no : (p == p) ≡ false = subst (λ w. (w == p) ≡ false) place other_place in grind (arith, nat_tests))
+        absurd (let denied : (p == p) ≡ false = subst (λ w. (w == p) ≡ false) place other_place in grind (arith, nat_tests))
 
     by : (b : Bool) → (s.who == p) ≡ b → IsFirst actors (others a (t ∷ ts)) (cond b other (Some s))
     by true e =
@@ -106,11 +106,11 @@ first-line p from line (t ∷ ts) h = by (p t) (first-line p from line ts h.2)
     by false rest = rest
 
 none-before : (to from line : ℕ) (ts : List Term) → TermsAfter from line ts → nat_lt from to ≡ false → filter (λ u. nat_lt u.from to) ts ≡ []
-none-before to from line [] h no = refl
-none-before to from line (t ∷ ts) h no =
+none-before to from line [] h denied = refl
+none-before to from line (t ∷ ts) h denied =
     let le : nat_le from t.from ≡ true = h.0 in
     let late : nat_lt t.from to ≡ false = grind (arith, nat_tests) in
-    ap (λ b. cond b (t ∷ filter (λ u. nat_lt u.from to) ts) (filter (λ u. nat_lt u.from to) ts)) late ∙ none-before to from line ts h.2 no
+    ap (λ b. cond b (t ∷ filter (λ u. nat_lt u.from to) ts) (filter (λ u. nat_lt u.from to) ts)) late ∙ none-before to from line ts h.2 denied
 
 begun-first : (actors : List (List ℕ)) (to : ℕ) (ts : List Term) (s : Option Span) → TermsInOrder ts → IsFirst actors ts s
     → least (lines_of_terms (filter (λ u. nat_lt u.from to) ts)) ≡ begun_before to s

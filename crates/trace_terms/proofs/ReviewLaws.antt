@@ -4,6 +4,7 @@ use Rattle.std.proofs.Math.ListN.{set}
 use Rattle.std.specs.List.{filter, flat_map, list_any}
 use Rattle.std.specs.Str.{bytes_eq}
 use Rattle.std.proofs.lemmas.Bool.Decides.{nat_tests}
+use Rattle.std.proofs.lemmas.List.Sums.{sum_by-cons}
 use Rattle.std.proofs.lemmas.Slice.Eq.{bytes_eq-Decides}
 use Rattle.trace_terms.specs.declared.nearest.Span.{Span}
 use Rattle.trace_terms.specs.declared.review.Review.{Review}
@@ -12,39 +13,48 @@ use Rattle.trace_terms.specs.declared.role.Role.TheVariants.{Leads, Ends, Zones,
 use Rattle.trace_terms.specs.declared.seat.Seat.{Seat}
 use Rattle.trace_terms.specs.Entries.{Entry}
 use Rattle.trace_terms.specs.Terms.{Term, terms, term_of, ended, own, is_lead, is_taint, is_acting}
-use Rattle.trace_terms.specs.Findings.{earlier, least, numbers, crosses, crossed, outside_term, soon, unspaced, unspaced_acts, zones_of, rate_of, start_of, taints_of}
+use Rattle.trace_terms.specs.Findings.{earlier, least, numbers, crosses, crossed, outside_term, outside, strays, soon, unspaced, unspaced_acts, zones_of, rate_of, start_of, taints_of}
 use Rattle.trace_terms.specs.Near.{another, begun_before, live, others, IsFirst, IsOther, NearestStands}
-use Rattle.trace_terms.specs.Seats.{blank, after, SeatStands, AllSit, AreAfter, InOrder, Once}
+use Rattle.trace_terms.specs.Seats.{blank, after, SeatStands, AllSit, AreAfter, InOrder, Once, first_acting}
 use Rattle.trace_terms.specs.Reviews.{ReviewStands, Led}
 use Rattle.trace_terms.proofs.Least.{least-append}
 use Rattle.trace_terms.proofs.NearLaws.{TermsAfter, TermsInOrder, another-first, terms-after, terms-in-order, crossed-first}
-use Rattle.trace_terms.proofs.SeatLaws.{seat-other, seat-led, seat-idles, seat-after, own-after}
+use Rattle.trace_terms.proofs.StrayLaws.{first-stray}
+use Rattle.trace_terms.proofs.SeatLaws.{blank-sits, seat-other, seat-led, seat-idles, seat-after, own-after}
 use Rattle.trace_terms.proofs.SeatsLaws.{all-sit-map, all-sit-set, all-sit-push, all-sit-at, held-at}
+
+-- ---- counts
+
+count-more : (p : Entry → Bool) (e : Entry) (es : List Entry) → cond (p e) 1 0 + count_by p es ≡ count_by p (e ∷ es)
+count-more p e es = sym (sum_by-cons (λ x. cond (p x) 1 0) e es)
+
+zero-plus : (n : ℕ) → n ≡ 0 + n
+zero-plus n = omega arith
 
 -- ---- terms
 
 terms-same : (stop : ℕ) (e : Entry) (es : List Entry) → is_lead e.role ≡ false → terms stop (e ∷ es) ≡ terms stop es
 unfolding terms
-terms-same stop e es no = ap (λ b. cond b (term_of stop e es ∷ terms stop es) (terms stop es)) no
+terms-same stop e es denied = ap (λ b. cond b (term_of stop e es ∷ terms stop es) (terms stop es)) denied
 
 terms-more : (stop : ℕ) (e : Entry) (es : List Entry) → is_lead e.role ≡ true → terms stop (e ∷ es) ≡ term_of stop e es ∷ terms stop es
 unfolding terms
-terms-more stop e es yes = ap (λ b. cond b (term_of stop e es ∷ terms stop es) (terms stop es)) yes
+terms-more stop e es granted = ap (λ b. cond b (term_of stop e es ∷ terms stop es) (terms stop es)) granted
 
 -- ---- a term that crosses
 
 dead : (from to c d : ℕ) → nat_lt from to ≡ false → nat_lt (max from c) (min to d) ≡ false
-dead from to c d no = grind (arith, nat_tests)
+dead from to c d denied = grind (arith, nat_tests)
 
 and-false : (b : Bool) → (b && false) ≡ false
 and-false true = refl
 and-false false = refl
 
 crosses-none : (t : Term) (ts : List Term) → nat_lt t.from t.to ≡ false → filter (crosses t) ts ≡ []
-crosses-none t [] no = refl
-crosses-none t (u ∷ us) no =
-    let miss : crosses t u ≡ false = ap (λ b. not (bytes_eq t.actor u.actor) && b) (dead t.from t.to u.from u.to no) ∙ and-false (not (bytes_eq t.actor u.actor)) in
-    ap (λ b. cond b (u ∷ filter (crosses t) us) (filter (crosses t) us)) miss ∙ crosses-none t us no
+crosses-none t [] denied = refl
+crosses-none t (u ∷ us) denied =
+    let miss : crosses t u ≡ false = ap (λ b. not (bytes_eq t.actor u.actor) && b) (dead t.from t.to u.from u.to denied) ∙ and-false (not (bytes_eq t.actor u.actor)) in
+    ap (λ b. cond b (u ∷ filter (crosses t) us) (filter (crosses t) us)) miss ∙ crosses-none t us denied
 
 -- ---- acting outside
 
@@ -69,31 +79,32 @@ with_seats : (millis end : ℕ) (e : Entry) (es : List Entry) (old new : Review)
     → AllSit (SeatStands (end + 1) (e ∷ es)) old.actors new.seats.items
     → ((who : List ℕ) → list_any (bytes_eq who) old.actors ≡ false → SeatStands (end + 1) (e ∷ es) who (blank (end + 1)))
     → ReviewStands millis end (e ∷ es) new
-with_seats millis end e es old new no later h m n a near f leads taints seats absent = record {
+with_seats millis end e es old new denied later h m n a near f leads taints seats absent = record {
   millis_is = m ∙ h.millis_is;
   end_is = n ∙ h.end_is;
   order = (later, h.order);
   once = subst Once (sym a) h.once;
   seats = subst (λ ks. AllSit (SeatStands (end + 1) (e ∷ es)) ks new.seats.items) (sym a) seats;
   absent = subst (λ ks. (who : List ℕ) → list_any (bytes_eq who) ks ≡ false → SeatStands (end + 1) (e ∷ es) who (blank (end + 1))) (sym a) absent;
-  nearest = subst (λ ts. NearestStands new.actors ts new.nearest) (sym (terms-same (end + 1) e es no))
+  nearest = subst (λ ts. NearestStands new.actors ts new.nearest) (sym (terms-same (end + 1) e es denied))
       (subst (λ ks. NearestStands ks (terms (end + 1) es) new.nearest) (sym a) (subst (λ x. NearestStands old.actors (terms (end + 1) es) x) (sym near) h.nearest));
-  crossed_is = ap (λ x. x.crossed) f ∙ h.crossed_is ∙ ap (λ ts. least (crossed ts)) (sym (terms-same (end + 1) e es no));
-  outside_is = ap (λ x. x.outside) f ∙ h.outside_is ∙ ap (λ ts. least (flat_map outside_term ts)) (sym (terms-same (end + 1) e es no));
-  unspaced_is = ap (λ x. x.unspaced) f ∙ h.unspaced_is ∙ ap (λ ts. least (unspaced millis ts)) (sym (terms-same (end + 1) e es no));
-  leads_is = leads ∙ h.leads_is ∙ ap (λ b. cond b 1 0 + count_by (λ e. is_lead e.role) es) (sym no);
-  taints_is = taints ∙ ap (λ n. cond (is_taint e.role) 1 0 + n) h.taints_is;
+  crossed_is = ap (λ x. x.crossed) f ∙ h.crossed_is ∙ ap (λ ts. least (crossed ts)) (sym (terms-same (end + 1) e es denied));
+  outside_is = ap (λ x. x.outside) f ∙ h.outside_is ∙ ap (λ ts. least (flat_map outside_term ts)) (sym (terms-same (end + 1) e es denied));
+  unspaced_is = ap (λ x. x.unspaced) f ∙ h.unspaced_is ∙ ap (λ ts. least (unspaced millis ts)) (sym (terms-same (end + 1) e es denied));
+  leads_is = leads ∙ h.leads_is ∙ zero-plus (count_by (λ e. is_lead e.role) es) ∙ ap (λ b. cond b 1 0 + count_by (λ e. is_lead e.role) es) (sym denied)
+      ∙ count-more (λ e. is_lead e.role) e es;
+  taints_is = taints ∙ ap (λ n. cond (is_taint e.role) 1 0 + n) h.taints_is ∙ count-more (λ e. is_taint e.role) e es;
 }
 
 -- who isn't held isn't the actor of a line whose actor is
 not-held : (ks : List (List ℕ)) (place : ℕ) (a who : List ℕ) → slice_get ks place ≡ Some a → list_any (bytes_eq who) ks ≡ false → bytes_eq a who ≡ false
-not-held ks place a who at no = by (bytes_eq a who) refl
+not-held ks place a who at denied = by (bytes_eq a who) refl
   where
     by : (b : Bool) → bytes_eq a who ≡ b → bytes_eq a who ≡ false
     by false e = e
     by true e =
         let same : a ≡ who = (bytes_eq-Decides a who).0 e in
-        absurd (let bad : true ≡ false = sym (held-at ks a place at) ∙ subst (λ w. list_any (bytes_eq w) ks ≡ false) (sym same) no in cc)
+        absurd (let bad : true ≡ false = sym (held-at ks a place at) ∙ subst (λ w. list_any (bytes_eq w) ks ≡ false) (sym same) denied in cc)
 
 same-bytes : (a : List ℕ) → bytes_eq a a ≡ true
 same-bytes a = (bytes_eq-Decides a a).1 refl
@@ -148,8 +159,8 @@ pub review-led : (millis end place : ℕ) (e : Entry) (es : List Entry) (old new
     → slice_get old.actors place ≡ Some e.actor → Led place e.beat e.line old new → ReviewStands millis end es old → ReviewStands millis end (e ∷ es) new
 review-led millis end place e es old new is later at led h = by (all-sit-at (SeatStands (end + 1) es) e.actor old.actors old.seats.items place at h.seats)
   where
-    yes : is_lead e.role ≡ true
-    yes = ap (λ r. is_lead r) is
+    granted : is_lead e.role ≡ true
+    granted = ap (λ r. is_lead r) is
 
     by : (s : Seat) × (slice_get old.seats.items place ≡ Some s) × SeatStands (end + 1) es e.actor s → ReviewStands millis end (e ∷ es) new
     by (s, get, sits) = record {
@@ -162,22 +173,22 @@ review-led millis end place e es old new is later at led h = by (all-sit-at (Sea
           (all-sit-set (SeatStands (end + 1) es) (SeatStands (end + 1) (e ∷ es)) e.actor old.actors old.seats.items place (blank s.to) h.once at
               (λ k t other p. seat-other (end + 1) k e es t other p) (seat-led (end + 1) e.actor e es s is (same-bytes e.actor) sits) h.seats));
       absent = subst (λ ks. (who : List ℕ) → list_any (bytes_eq who) ks ≡ false → SeatStands (end + 1) (e ∷ es) who (blank (end + 1))) (sym led.actors)
-          (λ who no. seat-other (end + 1) who e es (blank (end + 1)) (not-held old.actors place e.actor who at no) (h.absent who no));
-      nearest = subst (λ ts. NearestStands new.actors ts new.nearest) (sym (terms-more (end + 1) e es yes))
+          (λ who denied. seat-other (end + 1) who e es (blank (end + 1)) (not-held old.actors place e.actor who at denied) (h.absent who denied));
+      nearest = subst (λ ts. NearestStands new.actors ts new.nearest) (sym (terms-more (end + 1) e es granted))
           (subst (λ ks. NearestStands ks (term_of (end + 1) e es ∷ terms (end + 1) es) new.nearest) (sym led.actors)
           (subst (λ n. NearestStands old.actors (term_of (end + 1) e es ∷ terms (end + 1) es) n) (sym (led.nearest s get ∙ to_near s sits))
           (near-more old.actors (term_of (end + 1) e es) (terms (end + 1) es) old place h.once at h.nearest (nat_lt e.beat (ended (end + 1) e.actor es)) refl)));
       crossed_is = led.crossed s get ∙ to_crossed s sits
           ∙ crossed-more old.actors (term_of (end + 1) e es) (terms (end + 1) es) old place h.once at h.nearest (terms-after (end + 1) e.beat e.line es later) (terms-in-order (end + 1) es h.order)
               (nat_lt e.beat (ended (end + 1) e.actor es)) refl
-          ∙ ap (λ ts. least (crossed ts)) (sym (terms-more (end + 1) e es yes));
+          ∙ ap (λ ts. least (crossed ts)) (sym (terms-more (end + 1) e es granted));
       outside_is = led.outside s get ∙ ap (λ l. earlier s.late l) h.outside_is ∙ outside-more (end + 1) e es s later sits
-          ∙ ap (λ ts. least (flat_map outside_term ts)) (sym (terms-more (end + 1) e es yes));
+          ∙ ap (λ ts. least (flat_map outside_term ts)) (sym (terms-more (end + 1) e es granted));
       unspaced_is = led.unspaced s get ∙ ap (λ m. earlier (least (soon m s.rate (length s.zones) s.start s.taints)) old.findings.unspaced) h.millis_is
           ∙ ap (λ l. earlier (least (soon millis s.rate (length s.zones) s.start s.taints)) l) h.unspaced_is
-          ∙ unspaced-more millis (end + 1) e es s sits ∙ ap (λ ts. least (unspaced millis ts)) (sym (terms-more (end + 1) e es yes));
-      leads_is = led.leads ∙ ap (λ n. n + 1) h.leads_is ∙ one-lead;
-      taints_is = led.taints ∙ h.taints_is ∙ no-taint;
+          ∙ unspaced-more millis (end + 1) e es s sits ∙ ap (λ ts. least (unspaced millis ts)) (sym (terms-more (end + 1) e es granted));
+      leads_is = led.leads ∙ ap (λ n. n + 1) h.leads_is ∙ one-lead ∙ count-more (λ e. is_lead e.role) e es;
+      taints_is = led.taints ∙ h.taints_is ∙ no-taint ∙ count-more (λ e. is_taint e.role) e es;
     }
       where
         to_near : (s : Seat) → SeatStands (end + 1) es e.actor s
@@ -193,7 +204,7 @@ review-led millis end place e es old new is later at led h = by (all-sit-at (Sea
             ∙ ap (λ l. cond (nat_lt e.beat (ended (end + 1) e.actor es)) (earlier (begun_before (ended (end + 1) e.actor es) (another old.nearest place)) l) l) h.crossed_is
 
         one-lead : count_by (λ e. is_lead e.role) es + 1 ≡ cond (is_lead e.role) 1 0 + count_by (λ e. is_lead e.role) es
-        one-lead = let n : count_by (λ e. is_lead e.role) es + 1 ≡ 1 + count_by (λ e. is_lead e.role) es = omega arith in n ∙ ap (λ b. cond b 1 0 + count_by (λ e. is_lead e.role) es) (sym yes)
+        one-lead = let n : count_by (λ e. is_lead e.role) es + 1 ≡ 1 + count_by (λ e. is_lead e.role) es = omega arith in n ∙ ap (λ b. cond b 1 0 + count_by (λ e. is_lead e.role) es) (sym granted)
 
         no-taint : count_by (λ e. is_taint e.role) es ≡ cond (is_taint e.role) 1 0 + count_by (λ e. is_taint e.role) es
         no-taint = let n : count_by (λ e. is_taint e.role) es ≡ 0 + count_by (λ e. is_taint e.role) es = omega arith in n ∙ ap (λ r. cond (is_taint r) 1 0 + count_by (λ e. is_taint e.role) es) (sym is)
@@ -205,7 +216,7 @@ pub review-idles : (millis end : ℕ) (e : Entry) (es : List Entry) (r : Review)
 review-idles millis end e es r is later h =
     with_seats millis end e es r r (ap (λ x. is_lead x) is) later h refl refl refl refl refl refl none
     (all-sit-map (SeatStands (end + 1) es) (SeatStands (end + 1) (e ∷ es)) r.actors r.seats.items (λ k s held p. seat-idles (end + 1) k e es s is p) h.seats)
-    (λ who no. seat-idles (end + 1) who e es (blank (end + 1)) is (h.absent who no))
+    (λ who denied. seat-idles (end + 1) who e es (blank (end + 1)) is (h.absent who denied))
   where
     none : r.taints ≡ cond (is_taint e.role) 1 0 + r.taints
     none = let n : r.taints ≡ 0 + r.taints = omega arith in n ∙ ap (λ x. cond (is_taint x) 1 0 + r.taints) (sym is)
@@ -223,21 +234,21 @@ pub record Played (place beat line : ℕ) (role : Role (List ℕ)) (old new : Re
 
 pub review-plays : (millis end place : ℕ) (e : Entry) (es : List Entry) (old new : Review) → is_lead e.role ≡ false → AreAfter e.beat e.line es
     → slice_get old.actors place ≡ Some e.actor → Played place e.beat e.line e.role old new → ReviewStands millis end es old → ReviewStands millis end (e ∷ es) new
-review-plays millis end place e es old new no later at p h =
+review-plays millis end place e es old new denied later at p h =
     by (all-sit-at (SeatStands (end + 1) es) e.actor old.actors old.seats.items place at h.seats)
   where
     by : (s : Seat) × (slice_get old.seats.items place ≡ Some s) × SeatStands (end + 1) es e.actor s → ReviewStands millis end (e ∷ es) new
     by (s, get, sits) =
-        with_seats millis end e es old new no later h p.millis p.end p.actors p.nearest p.findings p.leads p.taints
+        with_seats millis end e es old new denied later h p.millis p.end p.actors p.nearest p.findings p.leads p.taints
         (subst (λ ss. AllSit (SeatStands (end + 1) (e ∷ es)) old.actors ss) (sym (p.seats s get))
             (all-sit-set (SeatStands (end + 1) es) (SeatStands (end + 1) (e ∷ es)) e.actor old.actors old.seats.items place (after e.role e.beat e.line s) h.once at
-                (λ k t other q. seat-other (end + 1) k e es t other q) (seat-after (end + 1) e.actor e.role e es s refl no later (same-bytes e.actor) sits) h.seats))
-        (λ who no. seat-other (end + 1) who e es (blank (end + 1)) (not-held old.actors place e.actor who at no) (h.absent who no))
+                (λ k t other q. seat-other (end + 1) k e es t other q) (seat-after (end + 1) e.actor e.role e es s refl denied later (same-bytes e.actor) sits) h.seats))
+        (λ who denied. seat-other (end + 1) who e es (blank (end + 1)) (not-held old.actors place e.actor who at denied) (h.absent who denied))
 
 -- ---- one identity more
 
 get-front : (ks : List (List ℕ)) (k a : List ℕ) (n : ℕ) → slice_get ks n ≡ Some a → slice_get (ks ++ k ∷ []) n ≡ Some a
-get-front [] k a n at = absurd (let no : None ≡ Some a = at in cc)
+get-front [] k a n at = absurd (let denied : None ≡ Some a = at in cc)
 get-front (j ∷ ks) k a zero at = at
 get-front (j ∷ ks) k a (suc n) at = get-front ks k a n at
 
@@ -252,25 +263,26 @@ other-grown ks k [] s h = h
 other-grown ks k (t ∷ ts) s h = first-grown ks k (others t.actor ts) s h
 
 not-before : (ks : List (List ℕ)) (k who : List ℕ) → list_any (bytes_eq who) (ks ++ k ∷ []) ≡ false → list_any (bytes_eq who) ks ≡ false
-not-before [] k who no = refl
-not-before (j ∷ ks) k who no = by (bytes_eq who j) no
+not-before [] k who denied = refl
+not-before (j ∷ ks) k who denied = by (bytes_eq who j) denied (λ d. not-before ks k who d)
   where
-    by : (b : Bool) → (b || list_any (bytes_eq who) (ks ++ k ∷ [])) ≡ false → (b || list_any (bytes_eq who) ks) ≡ false
-    by true no = absurd (let bad : true ≡ false = no in cc)
-    by false no = not-before ks k who no
+    by : (b : Bool) → (b || list_any (bytes_eq who) (ks ++ k ∷ [])) ≡ false
+        → (list_any (bytes_eq who) (ks ++ k ∷ []) ≡ false → list_any (bytes_eq who) ks ≡ false) → (b || list_any (bytes_eq who) ks) ≡ false
+    by true denied again = absurd (let bad : true ≡ false = denied in cc)
+    by false denied again = again denied
 
 pub review-placed : (millis end : ℕ) (a : List ℕ) (es : List Entry) (old new : Review) → list_any (bytes_eq a) old.actors ≡ false
     → new.millis ≡ old.millis → new.end ≡ old.end → new.nearest ≡ old.nearest → new.findings ≡ old.findings → new.leads ≡ old.leads → new.taints ≡ old.taints
     → new.actors ≡ old.actors ++ a ∷ [] → new.seats.items ≡ old.seats.items ++ blank (old.end + 1) ∷ [] → Once new.actors
     → ReviewStands millis end es old → ReviewStands millis end es new
-review-placed millis end a es old new no m n near f leads taints actors seats once h = record {
+review-placed millis end a es old new denied m n near f leads taints actors seats once h = record {
   millis_is = m ∙ h.millis_is;
   end_is = n ∙ h.end_is;
   order = h.order;
   once = once;
   seats = subst (λ ks. AllSit (SeatStands (end + 1) es) ks new.seats.items) (sym actors)
       (subst (λ ss. AllSit (SeatStands (end + 1) es) (old.actors ++ a ∷ []) ss) (sym (seats ∙ ap (λ n. old.seats.items ++ blank (n + 1) ∷ []) h.end_is))
-      (all-sit-push (SeatStands (end + 1) es) old.actors old.seats.items a (blank (end + 1)) h.seats (h.absent a no)));
+      (all-sit-push (SeatStands (end + 1) es) old.actors old.seats.items a (blank (end + 1)) h.seats (h.absent a denied)));
   absent = subst (λ ks. (who : List ℕ) → list_any (bytes_eq who) ks ≡ false → SeatStands (end + 1) es who (blank (end + 1))) (sym actors)
       (λ who out. h.absent who (not-before old.actors a who out));
   nearest = subst (λ ks. NearestStands ks (terms (end + 1) es) new.nearest) (sym actors)
@@ -284,3 +296,31 @@ review-placed millis end a es old new no m n near f leads taints actors seats on
   leads_is = leads ∙ h.leads_is;
   taints_is = taints ∙ h.taints_is;
 }
+
+-- ---- at the front
+
+pub nothing-stands : (millis end : ℕ) (r : Review) → r.millis ≡ millis → r.end ≡ end → r.actors ≡ [] → r.seats.items ≡ [] → r.nearest ≡ record { first = None; other = None }
+    → r.findings ≡ record { crossed = None; outside = None; unspaced = None } → r.leads ≡ 0 → r.taints ≡ 0 → ReviewStands millis end [] r
+unfolding terms crossed ended own
+nothing-stands millis end r m n actors seats near f leads taints = record {
+  millis_is = m;
+  end_is = n;
+  order = tt;
+  once = subst Once (sym actors) tt;
+  seats = subst (λ ks. AllSit (SeatStands (end + 1) []) ks r.seats.items) (sym actors) (subst (λ ss. AllSit (SeatStands (end + 1) []) [] ss) (sym seats) tt);
+  absent = λ who out. blank-sits (end + 1);
+  nearest = subst (λ x. NearestStands r.actors [] x) (sym near) (record { first = tt; other = refl });
+  crossed_is = ap (λ x. x.crossed) f;
+  outside_is = ap (λ x. x.outside) f;
+  unspaced_is = ap (λ x. x.unspaced) f;
+  leads_is = leads;
+  taints_is = taints;
+}
+
+-- the first line outside
+pub first-outside : (millis end : ℕ) (es : List Entry) (r : Review) → ReviewStands millis end es r
+    → earlier r.findings.outside (first_acting r.seats.items) ≡ least (outside es (terms (end + 1) es))
+first-outside millis end es r h =
+    ap (λ l. earlier l (first_acting r.seats.items)) h.outside_is
+    ∙ ap (λ l. earlier (least (flat_map outside_term (terms (end + 1) es))) l) (first-stray (end + 1) es r.actors r.seats.items h.seats h.absent)
+    ∙ sym (least-append (flat_map outside_term (terms (end + 1) es)) (numbers (strays es)))

@@ -51,9 +51,9 @@ acts-as role = is_acting role ≡ true
 
 sits-act : (role : Role (List ℕ)) (to : ℕ) (e : Entry) (acts : List Entry) (s : Seat) → e.role ≡ role → is_acting role ≡ true → Sits to acts s
     → Sits to (e ∷ acts) (after role e.beat e.line s)
-sits-act Leads to e acts s is acting h = absurd (let no : false ≡ true = acting in cc)
-sits-act Ends to e acts s is acting h = absurd (let no : false ≡ true = acting in cc)
-sits-act Idles to e acts s is acting h = absurd (let no : false ≡ true = acting in cc)
+sits-act Leads to e acts s is acting h = absurd (let denied : false ≡ true = acting in cc)
+sits-act Ends to e acts s is acting h = absurd (let denied : false ≡ true = acting in cc)
+sits-act Idles to e acts s is acting h = absurd (let denied : false ≡ true = acting in cc)
 sits-act (Zones zone rate) to e acts s is acting h = record {
   until = h.until;
   first = ap (λ l. earlier (Some e.line) l) h.first;
@@ -142,9 +142,9 @@ seat-led stop who e es s is same h =
 
 pub seat-plays : (stop : ℕ) (who : List ℕ) (role : Role (List ℕ)) (e : Entry) (es : List Entry) (s : Seat) → e.role ≡ role → is_acting role ≡ true → bytes_eq e.actor who ≡ true
     → SeatStands stop es who s → SeatStands stop (e ∷ es) who (after role e.beat e.line s)
-seat-plays stop who Leads e es s is acting same h = absurd (let no : false ≡ true = acting in cc)
-seat-plays stop who Ends e es s is acting same h = absurd (let no : false ≡ true = acting in cc)
-seat-plays stop who Idles e es s is acting same h = absurd (let no : false ≡ true = acting in cc)
+seat-plays stop who Leads e es s is acting same h = absurd (let denied : false ≡ true = acting in cc)
+seat-plays stop who Ends e es s is acting same h = absurd (let denied : false ≡ true = acting in cc)
+seat-plays stop who Idles e es s is acting same h = absurd (let denied : false ≡ true = acting in cc)
 seat-plays stop who (Zones zone rate) e es s is acting same h =
     moved stop who (Zones zone rate) e es _ is same (sits-act (Zones zone rate) (ended stop who es) e (own who es) s is acting h)
 seat-plays stop who Taints e es s is acting same h =
@@ -168,9 +168,9 @@ seat-idles stop who e es s is h = by (bytes_eq e.actor who) refl
 -- behind a line of its actor that is no lead
 pub seat-after : (stop : ℕ) (who : List ℕ) (role : Role (List ℕ)) (e : Entry) (es : List Entry) (s : Seat) → e.role ≡ role → is_lead role ≡ false
     → AreAfter e.beat e.line es → bytes_eq e.actor who ≡ true → SeatStands stop es who s → SeatStands stop (e ∷ es) who (after role e.beat e.line s)
-seat-after stop who Leads e es s is no later same h = absurd (let bad : true ≡ false = no in cc)
-seat-after stop who Ends e es s is no later same h = seat-ends stop who e es s is later same h
-seat-after stop who (Zones zone rate) e es s is no later same h = seat-plays stop who (Zones zone rate) e es s is refl same h
-seat-after stop who Taints e es s is no later same h = seat-plays stop who Taints e es s is refl same h
-seat-after stop who Acts e es s is no later same h = seat-plays stop who Acts e es s is refl same h
-seat-after stop who Idles e es s is no later same h = seat-idles stop who e es s is h
+seat-after stop who Leads e es s is denied later same h = absurd (let bad : true ≡ false = denied in cc)
+seat-after stop who Ends e es s is denied later same h = seat-ends stop who e es s is later same h
+seat-after stop who (Zones zone rate) e es s is denied later same h = seat-plays stop who (Zones zone rate) e es s is refl same h
+seat-after stop who Taints e es s is denied later same h = seat-plays stop who Taints e es s is refl same h
+seat-after stop who Acts e es s is denied later same h = seat-plays stop who Acts e es s is refl same h
+seat-after stop who Idles e es s is denied later same h = seat-idles stop who e es s is h

@@ -36,55 +36,9 @@ all-sit-map P Q (k ∷ ks) (s ∷ ss) f h =
     or-right true b e = refl
     or-right false b e = e
 
--- one of them anew, and the others as they are
-pub all-sit-set : (P Q : List ℕ → Seat → Type 0) (a : List ℕ) (ks : List (List ℕ)) (ss : List Seat) (place : ℕ) (s : Seat) → Once ks
-    → slice_get ks place ≡ Some a → ((k : List ℕ) (t : Seat) → bytes_eq a k ≡ false → P k t → Q k t) → Q a s → AllSit P ks ss → AllSit Q ks (set ss place s)
-all-sit-set P Q a [] ss place s once at f q h = absurd (let no : None ≡ Some a = at in cc)
-all-sit-set P Q a (k ∷ ks) [] place s once at f q h = absurd h
-all-sit-set P Q a (k ∷ ks) (t ∷ ss) zero s once at f q h =
-    let same : k ≡ a = (let e : Some k ≡ Some a = at in cc) in
-    (subst (λ w. Q w s) (sym same) q, others ks ss (subst (λ w. list_any (bytes_eq w) ks ≡ false) same once.0) h.1)
-  where
-    others : (ks : List (List ℕ)) (ss : List Seat) → list_any (bytes_eq a) ks ≡ false → AllSit P ks ss → AllSit Q ks ss
-    others [] [] no h = tt
-    others [] (s ∷ ss) no h = absurd h
-    others (k ∷ ks) [] no h = absurd h
-    others (k ∷ ks) (s ∷ ss) no h = by (bytes_eq a k) refl no
-      where
-        by : (b : Bool) → bytes_eq a k ≡ b → (b || list_any (bytes_eq a) ks) ≡ false → AllSit Q (k ∷ ks) (s ∷ ss)
-        by true e no = absurd (let bad : true ≡ false = no in cc)
-        by false e no = (f k s e h.0, others ks ss no h.1)
-all-sit-set P Q a (k ∷ ks) (t ∷ ss) (suc place) s once at f q h =
-    (f k t (differs (bytes_eq a k) refl) h.0, all-sit-set P Q a ks ss place s once.1 at f q h.1)
-  where
-    held : (js : List (List ℕ)) (n : ℕ) → slice_get js n ≡ Some a → list_any (bytes_eq a) js ≡ true
-    held [] n at = absurd (let no : None ≡ Some a = at in cc)
-    held (j ∷ js) zero at = let same : a ≡ j = (let e : Some j ≡ Some a = at in cc) in ap (λ b. b || list_any (bytes_eq a) js) ((bytes_eq-Decides a j).1 same)
-    held (j ∷ js) (suc n) at = or-right (bytes_eq a j) (held js n at)
-      where
-        or-right : (b : Bool) → list_any (bytes_eq a) js ≡ true → (b || list_any (bytes_eq a) js) ≡ true
-        or-right true e = refl
-        or-right false e = e
-
-    differs : (b : Bool) → bytes_eq a k ≡ b → bytes_eq a k ≡ false
-    differs false e = e
-    differs true e =
-        let same : a ≡ k = (bytes_eq-Decides a k).0 e in
-        let no : list_any (bytes_eq a) ks ≡ false = subst (λ w. list_any (bytes_eq w) ks ≡ false) (sym same) once.0 in
-        absurd (let bad : true ≡ false = sym (held ks place at) ∙ no in cc)
-
--- the seat at a place
-pub all-sit-at : (P : List ℕ → Seat → Type 0) (a : List ℕ) (ks : List (List ℕ)) (ss : List Seat) (place : ℕ) → slice_get ks place ≡ Some a → AllSit P ks ss
-    → (s : Seat) × (slice_get ss place ≡ Some s) × P a s
-all-sit-at P a [] ss place at h = absurd (let no : None ≡ Some a = at in cc)
-all-sit-at P a (k ∷ ks) [] place at h = absurd h
-all-sit-at P a (k ∷ ks) (s ∷ ss) zero at h = let same : k ≡ a = (let e : Some k ≡ Some a = at in cc) in (s, refl, subst (λ w. P w s) same h.0)
-all-sit-at P a (k ∷ ks) (s ∷ ss) (suc place) at h = all-sit-at P a ks ss place at h.1
-
--- ---- places
-
+-- what stands at a place is held
 pub held-at : (ks : List (List ℕ)) (a : List ℕ) (n : ℕ) → slice_get ks n ≡ Some a → list_any (bytes_eq a) ks ≡ true
-held-at [] a n at = absurd (let no : None ≡ Some a = at in cc)
+held-at [] a n at = absurd (let denied : None ≡ Some a = at in cc)
 held-at (k ∷ ks) a zero at = let same : a ≡ k = (let e : Some k ≡ Some a = at in cc) in ap (λ b. b || list_any (bytes_eq a) ks) ((bytes_eq-Decides a k).1 same)
 held-at (k ∷ ks) a (suc n) at = or-right (bytes_eq a k) (held-at ks a n at)
   where
@@ -92,8 +46,48 @@ held-at (k ∷ ks) a (suc n) at = or-right (bytes_eq a k) (held-at ks a n at)
     or-right true e = refl
     or-right false e = e
 
+-- the others of one that isn't among them
+others : (P Q : List ℕ → Seat → Type 0) (a : List ℕ) → ((k : List ℕ) (t : Seat) → bytes_eq a k ≡ false → P k t → Q k t) → (ks : List (List ℕ)) (ss : List Seat)
+    → list_any (bytes_eq a) ks ≡ false → AllSit P ks ss → AllSit Q ks ss
+others P Q a f [] [] denied h = tt
+others P Q a f [] (s ∷ ss) denied h = absurd h
+others P Q a f (k ∷ ks) [] denied h = absurd h
+others P Q a f (k ∷ ks) (s ∷ ss) denied h = by (bytes_eq a k) refl denied (λ d. others P Q a f ks ss d h.1)
+  where
+    by : (b : Bool) → bytes_eq a k ≡ b → (b || list_any (bytes_eq a) ks) ≡ false → (list_any (bytes_eq a) ks ≡ false → AllSit Q ks ss) → AllSit Q (k ∷ ks) (s ∷ ss)
+    by true e denied again = absurd (let bad : true ≡ false = denied in cc)
+    by false e denied again = (f k s e h.0, again denied)
+
+-- one of them anew, and the others as they are
+pub all-sit-set : (P Q : List ℕ → Seat → Type 0) (a : List ℕ) (ks : List (List ℕ)) (ss : List Seat) (place : ℕ) (s : Seat) → Once ks
+    → slice_get ks place ≡ Some a → ((k : List ℕ) (t : Seat) → bytes_eq a k ≡ false → P k t → Q k t) → Q a s → AllSit P ks ss → AllSit Q ks (set ss place s)
+all-sit-set P Q a [] ss place s once at f q h = absurd (let denied : None ≡ Some a = at in cc)
+all-sit-set P Q a (k ∷ ks) [] place s once at f q h = absurd h
+all-sit-set P Q a (k ∷ ks) (t ∷ ss) zero s once at f q h =
+    let same : k ≡ a = (let e : Some k ≡ Some a = at in cc) in
+    (subst (λ w. Q w s) (sym same) q, others P Q a f ks ss (subst (λ w. list_any (bytes_eq w) ks ≡ false) same once.0) h.1)
+all-sit-set P Q a (k ∷ ks) (t ∷ ss) (suc place) s once at f q h =
+    (f k t (differs (bytes_eq a k) refl) h.0, all-sit-set P Q a ks ss place s once.1 at f q h.1)
+  where
+    differs : (b : Bool) → bytes_eq a k ≡ b → bytes_eq a k ≡ false
+    differs false e = e
+    differs true e =
+        let same : a ≡ k = (bytes_eq-Decides a k).0 e in
+        let denied : list_any (bytes_eq a) ks ≡ false = subst (λ w. list_any (bytes_eq w) ks ≡ false) (sym same) once.0 in
+        absurd (let bad : true ≡ false = sym (held-at ks a place at) ∙ denied in cc)
+
+-- the seat at a place
+pub all-sit-at : (P : List ℕ → Seat → Type 0) (a : List ℕ) (ks : List (List ℕ)) (ss : List Seat) (place : ℕ) → slice_get ks place ≡ Some a → AllSit P ks ss
+    → (s : Seat) × (slice_get ss place ≡ Some s) × P a s
+all-sit-at P a [] ss place at h = absurd (let denied : None ≡ Some a = at in cc)
+all-sit-at P a (k ∷ ks) [] place at h = absurd h
+all-sit-at P a (k ∷ ks) (s ∷ ss) zero at h = let same : k ≡ a = (let e : Some k ≡ Some a = at in cc) in (s, refl, subst (λ w. P w s) same h.0)
+all-sit-at P a (k ∷ ks) (s ∷ ss) (suc place) at h = all-sit-at P a ks ss place at h.1
+
+-- ---- places
+
 pub one-place : (ks : List (List ℕ)) → Once ks → (p q : ℕ) (a : List ℕ) → slice_get ks p ≡ Some a → slice_get ks q ≡ Some a → p ≡ q
-one-place [] once p q a at there = absurd (let no : None ≡ Some a = at in cc)
+one-place [] once p q a at there = absurd (let denied : None ≡ Some a = at in cc)
 one-place (k ∷ ks) once zero zero a at there = refl
 one-place (k ∷ ks) once zero (suc q) a at there =
     let same : k ≡ a = (let e : Some k ≡ Some a = at in cc) in

@@ -81,19 +81,19 @@ all-held ks (e ∷ es) f = by (λ g. all-held ks es g) (list_any (bytes_eq e.act
     same = (bytes_eq-Decides e.actor e.actor).1 refl
 
     miss : (who : List ℕ) → list_any (bytes_eq e.actor) ks ≡ true → list_any (bytes_eq who) ks ≡ false → (b : Bool) → bytes_eq e.actor who ≡ b → bytes_eq e.actor who ≡ false
-    miss who held no false is = is
-    miss who held no true is =
-        absurd (let bad : true ≡ false = sym held ∙ subst (λ w. list_any (bytes_eq w) ks ≡ false) (sym ((bytes_eq-Decides e.actor who).0 is)) no in cc)
+    miss who held denied false is = is
+    miss who held denied true is =
+        absurd (let bad : true ≡ false = sym held ∙ subst (λ w. list_any (bytes_eq w) ks ≡ false) (sym ((bytes_eq-Decides e.actor who).0 is)) denied in cc)
 
     rest : list_any (bytes_eq e.actor) ks ≡ true → (who : List ℕ) → list_any (bytes_eq who) ks ≡ false → least (numbers (by_actor who es)) ≡ None
-    rest held who no =
-        ap (λ b. least (numbers (cond b (e ∷ by_actor who es) (by_actor who es)))) (sym (miss who held no (bytes_eq e.actor who) refl)) ∙ f who no
+    rest held who denied =
+        ap (λ b. least (numbers (cond b (e ∷ by_actor who es) (by_actor who es)))) (sym (miss who held denied (bytes_eq e.actor who) refl)) ∙ f who denied
 
     by : (((who : List ℕ) → list_any (bytes_eq who) ks ≡ false → least (numbers (by_actor who es)) ≡ None) → AreHeld ks es)
         → (b : Bool) → list_any (bytes_eq e.actor) ks ≡ b → AreHeld ks (e ∷ es)
-    by again true held = (held, all-held ks es (rest held))
-    by again false no =
-        absurd (some e.line (least (numbers (by_actor e.actor es))) (ap (λ b. least (numbers (cond b (e ∷ by_actor e.actor es) (by_actor e.actor es)))) (sym same) ∙ f e.actor no))
+    by again true held = (held, again (rest held))
+    by again false denied =
+        absurd (some e.line (least (numbers (by_actor e.actor es))) (ap (λ b. least (numbers (cond b (e ∷ by_actor e.actor es) (by_actor e.actor es)))) (sym same) ∙ f e.actor denied))
 
 -- ---- the first stray
 
@@ -109,4 +109,4 @@ pub first-stray : (stop : ℕ) (es : List Entry) (ks : List (List ℕ)) (ss : Li
 first-stray stop es ks ss h absent =
     first-seats stop es ks ss h
     ∙ least_by-same (λ k. least (numbers (own k es))) (λ k. least (numbers (by_actor k (strays es)))) (λ k. ap (λ l. least (numbers l)) (sym (strays-own k es))) ks
-    ∙ least-grouped ks (strays es) (all-held ks (strays es) (λ who no. ap (λ l. least (numbers l)) (strays-own who es) ∙ sym (absent who no).first))
+    ∙ least-grouped ks (strays es) (all-held ks (strays es) (λ who denied. ap (λ l. least (numbers l)) (strays-own who es) ∙ sym (absent who denied).first))
