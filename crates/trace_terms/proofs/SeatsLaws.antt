@@ -1,5 +1,5 @@
 -- The seats of all identities.
-use Rattle.std.proofs.Common.{◌≡◌, ℕ, zero, suc, ◌+◌, ◌<◌, ◌==◌, nat_lt, Bool, true, false, cond, not, ◌||◌, List, [], ◌∷◌, ◌++◌, length, map, slice_get, Option, Some, None, refl, sym, ap, subst, ◌∙◌, arith}
+use Rattle.std.proofs.Common.{◌≡◌, ℕ, zero, suc, ◌+◌, ◌<◌, ◌≤◌, ◌==◌, nat_lt, Bool, true, false, cond, not, ◌||◌, List, [], ◌∷◌, ◌++◌, length, map, slice_get, Option, Some, None, refl, sym, ap, subst, ◌∙◌, arith, length-append}
 use Rattle.std.proofs.Math.ListN.{set}
 use Rattle.std.specs.List.{AllByRecursion, IsDistinct, list_any, position_or_len}
 use Rattle.std.specs.Str.{bytes_eq}
@@ -132,3 +132,29 @@ number-at (k ∷ ks) a = by (bytes_eq a k) refl (number-at ks a)
     by false e rest =
         ap (λ n. slice_get (cond (list_any (bytes_eq a) ks) (k ∷ ks) (k ∷ (ks ++ a ∷ []))) n) (one-plus (position_or_len (bytes_eq a) ks))
         ∙ next (list_any (bytes_eq a) ks) (position_or_len (bytes_eq a) ks) rest
+
+-- what has no more names has the same
+pub unchanged : (names : List (List ℕ)) (a : List ℕ) → length (with_name names a) ≤ length names → with_name names a ≡ names
+unchanged names a few = by (list_any (bytes_eq a) names) refl
+  where
+    by : (b : Bool) → list_any (bytes_eq a) names ≡ b → with_name names a ≡ names
+    by true e = with-name-is names a true e
+    by false e =
+        let more : length (with_name names a) ≡ length names + 1 = ap (λ ks. length ks) (with-name-is names a false e) ∙ length-append names (a ∷ []) in
+        absurd (omega (arith, more, few))
+
+-- what has more has this one more
+pub one-more : (names : List (List ℕ)) (a : List ℕ) → length names < length (with_name names a)
+    → (list_any (bytes_eq a) names ≡ false) × (with_name names a ≡ names ++ a ∷ [])
+one-more names a many = by (list_any (bytes_eq a) names) refl
+  where
+    by : (b : Bool) → list_any (bytes_eq a) names ≡ b → (list_any (bytes_eq a) names ≡ false) × (with_name names a ≡ names ++ a ∷ [])
+    by true e =
+        let same : length (with_name names a) ≡ length names = ap (λ ks. length ks) (with-name-is names a true e) in
+        absurd (omega (arith, same, many))
+    by false e = (e, with-name-is names a false e)
+
+pub get-within : (ks : List (List ℕ)) (a : List ℕ) (n : ℕ) → slice_get ks n ≡ Some a → n < length ks
+get-within [] a n at = absurd (let denied : None ≡ Some a = at in cc)
+get-within (k ∷ ks) a zero at = omega arith
+get-within (k ∷ ks) a (suc n) at = let rest = get-within ks a n at in omega (arith, rest)
