@@ -178,13 +178,13 @@ review-led millis end place e es old new is later at led h = by (all-sit-at (Sea
           (subst (λ ks. NearestStands ks (term_of (end + 1) e es ∷ terms (end + 1) es) new.nearest) (sym led.actors)
           (subst (λ n. NearestStands old.actors (term_of (end + 1) e es ∷ terms (end + 1) es) n) (sym (led.nearest s get ∙ to_near s sits))
           (near-more old.actors (term_of (end + 1) e es) (terms (end + 1) es) old place h.once at h.nearest (nat_lt e.beat (ended (end + 1) e.actor es)) refl)));
-      crossed_is = led.crossed s get ∙ to_crossed s sits
+      crossed_is = ap (λ x. x.crossed) (led.findings s get) ∙ to_crossed s sits
           ∙ crossed-more old.actors (term_of (end + 1) e es) (terms (end + 1) es) old place h.once at h.nearest (terms-after (end + 1) e.beat e.line es later) (terms-in-order (end + 1) es h.order)
               (nat_lt e.beat (ended (end + 1) e.actor es)) refl
           ∙ ap (λ ts. least (crossed ts)) (sym (terms-more (end + 1) e es granted));
-      outside_is = led.outside s get ∙ ap (λ l. earlier s.late l) h.outside_is ∙ outside-more (end + 1) e es s later sits
+      outside_is = ap (λ x. x.outside) (led.findings s get) ∙ ap (λ l. earlier s.late l) h.outside_is ∙ outside-more (end + 1) e es s later sits
           ∙ ap (λ ts. least (flat_map outside_term ts)) (sym (terms-more (end + 1) e es granted));
-      unspaced_is = led.unspaced s get ∙ ap (λ m. earlier (least (soon m s.rate (length s.zones) s.start s.taints)) old.findings.unspaced) h.millis_is
+      unspaced_is = ap (λ x. x.unspaced) (led.findings s get) ∙ ap (λ m. earlier (least (soon m s.rate (length s.zones) s.start s.taints)) old.findings.unspaced) h.millis_is
           ∙ ap (λ l. earlier (least (soon millis s.rate (length s.zones) s.start s.taints)) l) h.unspaced_is
           ∙ unspaced-more millis (end + 1) e es s sits ∙ ap (λ ts. least (unspaced millis ts)) (sym (terms-more (end + 1) e es granted));
       leads_is = led.leads ∙ ap (λ n. n + 1) h.leads_is ∙ one-lead ∙ count-more (λ e. is_lead e.role) e es;

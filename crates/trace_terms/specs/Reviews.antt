@@ -1,7 +1,9 @@
 -- What was found in the lines of a trace from the last one back.
-use Rattle.std.specs.Prelude.{◌≡◌, ℕ, ◌+◌, nat_lt, Bool, false, List, length, count_by, slice_get, slice_set, Some, if◌then◌else◌}
+use Rattle.std.specs.Prelude.{◌≡◌, ℕ, ◌+◌, nat_lt, Bool, false, List, length, count_by, slice_get, slice_set, Option, Some, if◌then◌else◌}
 use Rattle.std.specs.List.{list_any, flat_map}
 use Rattle.std.specs.Str.{bytes_eq}
+use Rattle.trace_terms.specs.declared.nearest.Nearest.{Nearest}
+use Rattle.trace_terms.specs.declared.review.Findings.{Findings}
 use Rattle.trace_terms.specs.declared.review.Review.{Review}
 use Rattle.trace_terms.specs.Entries.{Entry}
 use Rattle.trace_terms.specs.Terms.{terms, is_lead, is_taint}
@@ -32,6 +34,21 @@ pub record IsCounted (old new : Review) : Type 0 where
   pub taints : new.taints ≡ old.taints
   pub end : new.end ≡ old.end
 
+-- what is found with a lead of the identity at a place, whose seat this is
+abbrev pub crossed_with : ℕ → ℕ → ℕ → Review → Option ℕ
+crossed_with place beat to r = if nat_lt beat to then earlier (begun_before to (another r.nearest place)) r.findings.crossed else r.findings.crossed
+
+abbrev pub findings_with : ℕ → ℕ → Seat → Review → Findings
+findings_with place beat s r = record {
+  crossed = crossed_with place beat s.to r;
+  outside = earlier s.late r.findings.outside;
+  unspaced = earlier (least (soon r.millis s.rate (length s.zones) s.start s.taints)) r.findings.unspaced;
+}
+
+abbrev pub nearest_with : ℕ → ℕ → ℕ → ℕ → Review → Nearest
+nearest_with place beat line to r =
+    if nat_lt beat to then record { first = Some (record { who = place; from = beat; line = line }); other = another r.nearest place } else r.nearest
+
 -- a lead of the identity at a place
 pub record Led (place beat line : ℕ) (old new : Review) : Type 0 where
   pub millis : new.millis ≡ old.millis
@@ -40,10 +57,5 @@ pub record Led (place beat line : ℕ) (old new : Review) : Type 0 where
   pub leads : new.leads ≡ old.leads + 1
   pub taints : new.taints ≡ old.taints
   pub seats : (s : Seat) → slice_get old.seats.items place ≡ Some s → new.seats.items ≡ slice_set old.seats.items place (blank s.to)
-  pub outside : (s : Seat) → slice_get old.seats.items place ≡ Some s → new.findings.outside ≡ earlier s.late old.findings.outside
-  pub unspaced : (s : Seat) → slice_get old.seats.items place ≡ Some s
-      → new.findings.unspaced ≡ earlier (least (soon old.millis s.rate (length s.zones) s.start s.taints)) old.findings.unspaced
-  pub crossed : (s : Seat) → slice_get old.seats.items place ≡ Some s → new.findings.crossed
-      ≡ (if nat_lt beat s.to then earlier (begun_before s.to (another old.nearest place)) old.findings.crossed else old.findings.crossed)
-  pub nearest : (s : Seat) → slice_get old.seats.items place ≡ Some s → new.nearest
-      ≡ (if nat_lt beat s.to then record { first = Some (record { who = place; from = beat; line = line }); other = another old.nearest place } else old.nearest)
+  pub findings : (s : Seat) → slice_get old.seats.items place ≡ Some s → new.findings ≡ findings_with place beat s old
+  pub nearest : (s : Seat) → slice_get old.seats.items place ≡ Some s → new.nearest ≡ nearest_with place beat line s.to old

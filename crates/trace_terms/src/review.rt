@@ -4,7 +4,8 @@ ghost use Rattle.trace_terms.specs.Entries.{Entry, played};
 ghost use Rattle.trace_terms.specs.Findings.{least, outside};
 ghost use Rattle.trace_terms.specs.Terms.{terms};
 ghost use Rattle.trace_terms.specs.Seats.{AreAfter, first_acting};
-ghost use Rattle.trace_terms.specs.Reviews.{ReviewStands, IsCounted, Led};
+ghost use Rattle.trace_terms.specs.declared.seat.Seat.{Seat};
+ghost use Rattle.trace_terms.specs.Reviews.{ReviewStands, IsCounted, Led, crossed_with, findings_with, nearest_with};
 
 use crate::earlier::earlier;
 use crate::nearest::{Nearest, Span};
@@ -133,23 +134,52 @@ impl Review {
         requires leads { self.old.leads + 1 < 2 ^ 64 }
         ensures { Led place beat line self.old self.new }
     {
+        let to = self.seats[place].to;
+        let findings = self.findings_at(place, beat);
+        let nearest = self.nearest_at(place, beat, line);
+        self.findings = findings;
+        self.nearest = nearest;
+        self.seats[place] = Seat::new(self.alloc, to);
+        self.leads += 1;
+    }
+
+    /// The first lines at fault with those of the term whose lead comes before.
+    fn findings_at(&self, place: usize, beat: u32) -> Findings
+        requires { place < length self.now.seats.items }
+        ensures { (s : Seat) → slice_get self.now.seats.items place ≡ Some s → result ≡ findings_with place beat s self.now }
+    {
         let seat = &self.seats[place];
-        let to = seat.to;
-        self.findings.outside = earlier(seat.late, self.findings.outside);
-        self.findings.unspaced = earlier(seat.unspaced(self.millis), self.findings.unspaced);
+        Findings {
+            crossed: self.crossed_at(place, beat, seat.to),
+            outside: earlier(seat.late, self.findings.outside),
+            unspaced: earlier(seat.unspaced(self.millis), self.findings.unspaced),
+        }
+    }
+
+    fn crossed_at(&self, place: usize, beat: u32, to: u32) -> Option<u64>
+        ensures { result ≡ crossed_with place beat to self.now }
+    {
         if beat < to {
-            self.findings.crossed = earlier(
-                self.nearest.crossed(place, to),
-                self.findings.crossed,
-            );
-            self.nearest = self.nearest.with(Span {
+            earlier(self.nearest.crossed(place, to), self.findings.crossed)
+        } else {
+            self.findings.crossed
+        }
+    }
+
+    /// The nearest spans with that of the term whose lead comes before.
+    fn nearest_at(&self, place: usize, beat: u32, line: u64) -> Nearest
+        requires { place < length self.now.seats.items }
+        ensures { (s : Seat) → slice_get self.now.seats.items place ≡ Some s → result ≡ nearest_with place beat line s.to self.now }
+    {
+        if beat < self.seats[place].to {
+            self.nearest.with(Span {
                 who: place,
                 from: beat,
                 line,
-            });
+            })
+        } else {
+            self.nearest
         }
-        self.seats[place] = Seat::new(self.alloc, to);
-        self.leads += 1;
     }
 
     /// The first acting line that lies outside: in a term, or before its actor's first lead.
