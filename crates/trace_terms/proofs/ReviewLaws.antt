@@ -16,7 +16,7 @@ use Rattle.trace_terms.specs.Terms.{Term, terms, term_of, ended, own, is_lead, i
 use Rattle.trace_terms.specs.Findings.{earlier, least, numbers, crosses, crossed, outside_term, outside, strays, soon, unspaced, unspaced_acts, zones_of, rate_of, start_of, taints_of}
 use Rattle.trace_terms.specs.Near.{another, begun_before, live, others, IsFirst, IsOther, NearestStands}
 use Rattle.trace_terms.specs.Seats.{blank, after, SeatStands, AllSit, AreAfter, InOrder, Once, first_acting}
-use Rattle.trace_terms.specs.Reviews.{ReviewStands, Led}
+use Rattle.trace_terms.specs.Reviews.{ReviewStands, Led, Played}
 use Rattle.trace_terms.proofs.Least.{least-append}
 use Rattle.trace_terms.proofs.NearLaws.{TermsAfter, TermsInOrder, another-first, terms-after, terms-in-order, crossed-first}
 use Rattle.trace_terms.proofs.StrayLaws.{first-stray}
@@ -221,29 +221,36 @@ review-idles millis end e es r is later h =
     none : r.taints ≡ cond (is_taint e.role) 1 0 + r.taints
     none = let n : r.taints ≡ 0 + r.taints = omega arith in n ∙ ap (λ x. cond (is_taint x) 1 0 + r.taints) (sym is)
 
--- a step that the identity at a place makes, other than a lead
-pub record Played (place beat line : ℕ) (role : Role (List ℕ)) (old new : Review) : Type 0 where
-  pub millis : new.millis ≡ old.millis
-  pub end : new.end ≡ old.end
-  pub actors : new.actors ≡ old.actors
-  pub nearest : new.nearest ≡ old.nearest
-  pub findings : new.findings ≡ old.findings
-  pub leads : new.leads ≡ old.leads
-  pub taints : new.taints ≡ cond (is_taint role) 1 0 + old.taints
-  pub seats : (s : Seat) → slice_get old.seats.items place ≡ Some s → new.seats.items ≡ set old.seats.items place (after role beat line s)
-
-pub review-plays : (millis end place : ℕ) (e : Entry) (es : List Entry) (old new : Review) → is_lead e.role ≡ false → AreAfter e.beat e.line es
-    → slice_get old.actors place ≡ Some e.actor → Played place e.beat e.line e.role old new → ReviewStands millis end es old → ReviewStands millis end (e ∷ es) new
-review-plays millis end place e es old new denied later at p h =
+-- the same with another count of taints
+counted : (millis end place n : ℕ) (e : Entry) (es : List Entry) (old new : Review) → is_lead e.role ≡ false → AreAfter e.beat e.line es
+    → slice_get old.actors place ≡ Some e.actor → Played place e.beat e.line e.role old new → n ≡ cond (is_taint e.role) 1 0 + old.taints
+    → ReviewStands millis end es old → ReviewStands millis end (e ∷ es) (record new { taints = n })
+counted millis end place n e es old new denied later at p count h =
     by (all-sit-at (SeatStands (end + 1) es) e.actor old.actors old.seats.items place at h.seats)
   where
-    by : (s : Seat) × (slice_get old.seats.items place ≡ Some s) × SeatStands (end + 1) es e.actor s → ReviewStands millis end (e ∷ es) new
+    by : (s : Seat) × (slice_get old.seats.items place ≡ Some s) × SeatStands (end + 1) es e.actor s → ReviewStands millis end (e ∷ es) (record new { taints = n })
     by (s, get, sits) =
-        with_seats millis end e es old new denied later h p.millis p.end p.actors p.nearest p.findings p.leads p.taints
+        with_seats millis end e es old (record new { taints = n }) denied later h p.millis p.end p.actors p.nearest p.findings p.leads count
         (subst (λ ss. AllSit (SeatStands (end + 1) (e ∷ es)) old.actors ss) (sym (p.seats s get))
             (all-sit-set (SeatStands (end + 1) es) (SeatStands (end + 1) (e ∷ es)) e.actor old.actors old.seats.items place (after e.role e.beat e.line s) h.once at
                 (λ k t other q. seat-other (end + 1) k e es t other q) (seat-after (end + 1) e.actor e.role e es s refl denied later (same-bytes e.actor) sits) h.seats))
-        (λ who denied. seat-other (end + 1) who e es (blank (end + 1)) (not-held old.actors place e.actor who at denied) (h.absent who denied))
+        (λ who out. seat-other (end + 1) who e es (blank (end + 1)) (not-held old.actors place e.actor who at out) (h.absent who out))
+
+pub review-plays : (millis end place : ℕ) (e : Entry) (es : List Entry) (old new : Review) → is_lead e.role ≡ false → is_taint e.role ≡ false → AreAfter e.beat e.line es
+    → slice_get old.actors place ≡ Some e.actor → Played place e.beat e.line e.role old new → ReviewStands millis end es old → ReviewStands millis end (e ∷ es) new
+review-plays millis end place e es old new denied plain later at p h =
+    counted millis end place new.taints e es old new denied later at p
+        (p.taints ∙ zero-plus old.taints ∙ ap (λ b. cond b 1 0 + old.taints) (sym plain)) h
+
+pub review-taints : (millis end place : ℕ) (e : Entry) (es : List Entry) (old new : Review) → is_lead e.role ≡ false → is_taint e.role ≡ true → AreAfter e.beat e.line es
+    → slice_get old.actors place ≡ Some e.actor → Played place e.beat e.line e.role old new → ReviewStands millis end es old
+    → ReviewStands millis end (e ∷ es) (record new { taints = new.taints + 1 })
+review-taints millis end place e es old new denied taints later at p h =
+    counted millis end place (new.taints + 1) e es old new denied later at p
+        (ap (λ n. n + 1) p.taints ∙ turned old.taints ∙ ap (λ b. cond b 1 0 + old.taints) (sym taints)) h
+  where
+    turned : (n : ℕ) → n + 1 ≡ 1 + n
+    turned n = omega arith
 
 -- ---- one identity more
 

@@ -9,8 +9,9 @@ use Rattle.trace_terms.specs.Entries.{Entry}
 use Rattle.trace_terms.specs.Terms.{terms, is_lead, is_taint}
 use Rattle.trace_terms.specs.Findings.{earlier, least, crossed, outside_term, soon, unspaced}
 use Rattle.trace_terms.specs.Near.{NearestStands, another, begun_before}
+use Rattle.trace_terms.specs.declared.role.Role.{Role}
 use Rattle.trace_terms.specs.declared.seat.Seat.{Seat}
-use Rattle.trace_terms.specs.Seats.{blank, SeatStands, AllSit, InOrder, Once}
+use Rattle.trace_terms.specs.Seats.{blank, after, SeatStands, AllSit, InOrder, Once}
 
 -- what was found in the lines that follow a place
 pub record ReviewStands (millis end : ℕ) (es : List Entry) (r : Review) : Type 0 where
@@ -59,3 +60,14 @@ pub record Led (place beat line : ℕ) (old new : Review) : Type 0 where
   pub seats : (s : Seat) → slice_get old.seats.items place ≡ Some s → new.seats.items ≡ slice_set old.seats.items place (blank s.to)
   pub findings : (s : Seat) → slice_get old.seats.items place ≡ Some s → new.findings ≡ findings_with place beat s old
   pub nearest : (s : Seat) → slice_get old.seats.items place ≡ Some s → new.nearest ≡ nearest_with place beat line s.to old
+
+-- a step that the identity at a place makes, other than a lead; the taints are counted apart
+pub record Played (place beat line : ℕ) (role : Role (List ℕ)) (old new : Review) : Type 0 where
+  pub millis : new.millis ≡ old.millis
+  pub end : new.end ≡ old.end
+  pub actors : new.actors ≡ old.actors
+  pub nearest : new.nearest ≡ old.nearest
+  pub findings : new.findings ≡ old.findings
+  pub leads : new.leads ≡ old.leads
+  pub taints : new.taints ≡ old.taints
+  pub seats : (s : Seat) → slice_get old.seats.items place ≡ Some s → new.seats.items ≡ slice_set old.seats.items place (after role beat line s)

@@ -5,7 +5,7 @@ ghost use Rattle.trace_terms.specs.Findings.{least, outside};
 ghost use Rattle.trace_terms.specs.Terms.{terms};
 ghost use Rattle.trace_terms.specs.Seats.{AreAfter, first_acting};
 ghost use Rattle.trace_terms.specs.declared.seat.Seat.{Seat};
-ghost use Rattle.trace_terms.specs.Reviews.{ReviewStands, IsCounted, Led, crossed_with, findings_with, nearest_with};
+ghost use Rattle.trace_terms.specs.Reviews.{ReviewStands, IsCounted, Led, Played, crossed_with, findings_with, nearest_with};
 
 use crate::earlier::earlier;
 use crate::nearest::{Nearest, Span};
@@ -93,22 +93,40 @@ impl Review {
             }
             Role::Taints => {
                 let place = self.place(actor)?;
+                self.play(place, beat, number, Role::Taints)?;
                 self.taints += 1;
-                self.seats[place].take(Role::Taints, beat, number)
+                Ok(())
             }
             Role::Ends => {
                 let place = self.place(actor)?;
-                self.seats[place].take(Role::Ends, beat, number)
+                self.play(place, beat, number, Role::Ends)
             }
             Role::Acts => {
                 let place = self.place(actor)?;
-                self.seats[place].take(Role::Acts, beat, number)
+                self.play(place, beat, number, Role::Acts)
             }
             Role::Zones(zone, rate) => {
                 let place = self.place(actor)?;
-                self.seats[place].take(Role::Zones(zone, rate), beat, number)
+                self.play(place, beat, number, Role::Zones(zone, rate))
             }
         }
+    }
+
+    /// A line of the identity at a place comes before, which is no lead. A taint isn't counted here.
+    fn play(
+        &mut self,
+        place: usize,
+        beat: u32,
+        line: u64,
+        role: Role<&[u8]>,
+    ) -> Result<(), NoMemory>
+        requires { place < length self.old.seats.items }
+        ensures played { OnOk result (Played place beat line (played role.entry) self.old self.new) }
+        ensures even { length self.new.seats.items ≡ length self.old.seats.items }
+        ensures same { IsCounted self.old self.new }
+        ensures actors { self.new.actors ≡ self.old.actors }
+    {
+        self.seats[place].take(role, beat, line)
     }
 
     /// The place of an actor among the seats.
