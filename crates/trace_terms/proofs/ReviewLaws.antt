@@ -1,5 +1,5 @@
 -- What was found in the lines of a trace stands behind one line more.
-use Rattle.std.proofs.Common.{◌≡◌, ℕ, zero, suc, ◌+◌, nat_le, nat_lt, Bool, true, false, cond, not, ◌&&◌, ◌||◌, List, [], ◌∷◌, ◌++◌, length, count_by, map, min, max, slice_get, Option, Some, None, refl, sym, ap, subst, ◌∙◌, arith}
+use Rattle.std.proofs.Common.{◌≡◌, ℕ, zero, suc, ◌+◌, nat_le, nat_lt, Bool, true, false, cond, not, ◌&&◌, ◌||◌, List, [], ◌∷◌, ◌++◌, length, count_by, map, min, max, slice_get, Option, Some, None, Result, Ok, Err, OnOk, refl, sym, ap, subst, ◌∙◌, arith}
 use Rattle.std.proofs.Math.ListN.{set}
 use Rattle.std.specs.List.{filter, flat_map, list_any}
 use Rattle.std.specs.Str.{bytes_eq}
@@ -331,3 +331,23 @@ first-outside millis end es r h =
     ap (λ l. earlier l (first_acting r.seats.items)) h.outside_is
     ∙ ap (λ l. earlier (least (flat_map outside_term (terms (end + 1) es))) l) (first-stray (end + 1) es r.actors r.seats.items h.seats h.absent)
     ∙ sym (least-append (flat_map outside_term (terms (end + 1) es)) (numbers (strays es)))
+
+-- ---- by the role that the code has
+
+pub plays-as : (millis end place line beat : ℕ) (actor : List ℕ) (role given : Role (List ℕ)) (es : List Entry) (old new : Review) → role ≡ given
+    → is_lead given ≡ false → is_taint given ≡ false → AreAfter beat line es → slice_get old.actors place ≡ Some actor → Played place beat line given old new
+    → ReviewStands millis end es old → ReviewStands millis end (record { line = line; beat = beat; actor = actor; role = role } ∷ es) new
+plays-as millis end place line beat actor role given es old new is denied plain later at p h =
+    subst (λ r. ReviewStands millis end (record { line = line; beat = beat; actor = actor; role = r } ∷ es) new) (sym is)
+    (review-plays millis end place (record { line = line; beat = beat; actor = actor; role = given }) es old new denied plain later at p h)
+
+pub taints-as : (millis end place line beat : ℕ) (actor : List ℕ) (role : Role (List ℕ)) (es : List Entry) (old new : Review) → role ≡ Taints
+    → AreAfter beat line es → slice_get old.actors place ≡ Some actor → Played place beat line Taints old new
+    → ReviewStands millis end es old → ReviewStands millis end (record { line = line; beat = beat; actor = actor; role = role } ∷ es) (record new { taints = new.taints + 1 })
+taints-as millis end place line beat actor role es old new is later at p h =
+    subst (λ r. ReviewStands millis end (record { line = line; beat = beat; actor = actor; role = r } ∷ es) (record new { taints = new.taints + 1 })) (sym is)
+    (review-taints millis end place (record { line = line; beat = beat; actor = actor; role = Taints }) es old new refl refl later at p h)
+
+pub on-ok : {T E : Type 0} (r : Result T E) (P Q : Type 0) → (P → Q) → OnOk r P → OnOk r Q
+on-ok (Ok x) P Q f h = f h
+on-ok (Err e) P Q f h = h
