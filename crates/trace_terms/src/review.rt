@@ -150,7 +150,8 @@ impl Review {
     fn lead(&mut self, place: usize, beat: u32, line: u64)
         requires within { place < length self.old.seats.items }
         requires leads { self.old.leads + 1 < 2 ^ 64 }
-        ensures { Led place beat line self.old self.new }
+        ensures led { Led place beat line self.old self.new }
+        ensures even { length self.new.seats.items ≡ length self.old.seats.items }
     {
         let to = self.seats[place].to;
         let findings = self.findings_at(place, beat);
