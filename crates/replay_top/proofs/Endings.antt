@@ -7,7 +7,9 @@ use Rattle.script_reader.specs.Documents.{doc_of}
 use Rattle.world_core.specs.Forms.{is_run}
 use Rattle.replay_top.specs.declared.command.Command.{Command}
 use Rattle.replay_top.specs.declared.command.Command.TheVariants.{Replay, Check}
+use Rattle.replay_top.specs.declared.question.Question.{Question}
 use Rattle.replay_top.specs.Commands.{command_of}
+use Rattle.replay_top.specs.Questions.{question_of}
 use Rattle.replay_top.specs.Lines.{trace}
 use Rattle.replay_top.specs.Summary.{summary}
 use Rattle.replay_top.specs.Outcome.{Outcome, outcome, outcome_of, answer_to, done, refused, of_whole, Ends, IsWhole}
@@ -16,8 +18,10 @@ pub ends-moved : (o p : Outcome) (now left before after : Option (List ℕ)) (s 
 ends-moved o p now left before after s same rest ends =
     subst (λ x. Ends x left before after s) (sym same) (subst (λ l. Ends o l before after s) (sym rest) ends)
 
-pub outcome-of : (words : List (List ℕ)) (bytes : List ℕ) (found command : Option Command) → found ≡ command_of words → found ≡ command → outcome words bytes ≡ outcome_of command bytes
-outcome-of words bytes found command tells is = ap (λ c. outcome_of c bytes) (sym tells ∙ is)
+pub outcome-of : (words : List (List ℕ)) (bytes : List ℕ) (found command : Option Command) (question : Option Question)
+    → found ≡ command_of words → found ≡ command → question ≡ question_of words → outcome words bytes ≡ outcome_of command question bytes
+outcome-of words bytes found command question tells is asks =
+    ap (λ c. outcome_of c (question_of words) bytes) (sym tells ∙ is) ∙ ap (λ q. outcome_of command q bytes) (sym asks)
 
 pub answer-trace : (command : Command) (d : Document) (b : Bool) → command ≡ Replay → b ≡ is_run (doc_of d) → b ≡ true → answer_to command d ≡ done (trace d)
 answer-trace command d b is tells answer =

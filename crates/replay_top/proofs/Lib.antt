@@ -1,3 +1,4 @@
+pub mod Askings
 pub mod Said
 pub mod Grown
 pub mod Readings

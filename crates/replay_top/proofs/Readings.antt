@@ -18,7 +18,7 @@ means-read bytes shown found short is exact command =
 pub took-told : (left after : Option (List ℕ)) (bytes taken : List ℕ) → left ≡ Some bytes → TookAll left after taken → (taken ≡ bytes) × (after ≡ Some [])
 took-told left after bytes taken told all = let P : Option (List ℕ) → Type 0 = λ l. TookAll l after taken in subst P told all
 
-drop-front : (xs ys : List ℕ) → drop (length xs) (xs ++ ys) ≡ ys
+pub drop-front : (xs ys : List ℕ) → drop (length xs) (xs ++ ys) ≡ ys
 drop-front [] ys = refl
 drop-front (x ∷ xs) ys = drop-front xs ys
 

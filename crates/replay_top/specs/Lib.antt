@@ -1,7 +1,9 @@
+pub mod Answerings
 pub mod Commands
 pub mod Lines
 pub mod Names
 pub mod Outcome
+pub mod Questions
 pub mod Readings
 pub mod Spoken
 pub mod Summary

@@ -8,10 +8,12 @@ use Rattle.script_reader.specs.Walk.{document_walk}
 use Rattle.world_core.specs.Forms.{is_run}
 use Rattle.replay_top.specs.declared.command.Command.{Command}
 use Rattle.replay_top.specs.declared.command.Command.TheVariants.{Replay, Check}
+use Rattle.replay_top.specs.declared.question.Question.{Question}
 use Rattle.replay_top.specs.declared.status.Status.{Status}
 use Rattle.replay_top.specs.declared.status.Status.TheVariants.{Done, Refused, Usage, SourceFault, SinkFault, OutOfMemory}
 use Rattle.replay_top.specs.Commands.{command_of}
 use Rattle.replay_top.specs.Lines.{trace}
+use Rattle.replay_top.specs.Questions.{question_of, answer_of}
 use Rattle.replay_top.specs.Summary.{summary}
 
 -- how the run ends, all that it writes, and what it leaves of the source's bytes
@@ -46,16 +48,25 @@ answered command (Err r) = refused r []
 unfoldable pub obeyed : Command → List ℕ → Outcome
 obeyed command bytes = if nat_le (length bytes) 16777216 then answered command (document_walk bytes) else refused (of_whole 33) (drop 16777217 bytes)
 
+abbrev pub told : Result (List ℕ) Refusal → Outcome
+told (Ok text) = done text
+told (Err r) = refused r []
+
+-- a question is answered from as many bytes
+unfoldable pub asked : Question → List ℕ → Outcome
+asked question bytes = if nat_le (length bytes) 16777216 then told (answer_of question bytes) else refused (of_whole 33) (drop 16777217 bytes)
+
 abbrev pub usage : List ℕ → Outcome
 usage bytes = record { status = Usage; text = codes "usage: kube_replay COMMAND\n"; left = bytes }
 
-abbrev pub outcome_of : Option Command → List ℕ → Outcome
-outcome_of None bytes = usage bytes
-outcome_of (Some command) bytes = obeyed command bytes
+abbrev pub outcome_of : Option Command → Option Question → List ℕ → Outcome
+outcome_of None None bytes = usage bytes
+outcome_of None (Some question) bytes = asked question bytes
+outcome_of (Some command) question bytes = obeyed command bytes
 
 -- by the words after the program's name and all bytes of the source
 abbrev pub outcome : List (List ℕ) → List ℕ → Outcome
-outcome words bytes = outcome_of (command_of words) bytes
+outcome words bytes = outcome_of (command_of words) (question_of words) bytes
 
 -- the run ends so, all its text was taken, and this is left of the source
 pub record IsWhole (o : Outcome) (rest before after : Option (List ℕ)) (ended : Status) : Type 0 where

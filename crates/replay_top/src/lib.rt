@@ -1,8 +1,10 @@
 //! The commands: from bytes to the trace of a document, the line on it, or its one refusal.
 #![tactic(auto)]
 
+mod asking;
 mod command;
 mod lines;
+mod question;
 mod reading;
 mod running;
 mod status;

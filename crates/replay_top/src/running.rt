@@ -11,9 +11,12 @@ ghost use Rattle.world_core.specs.Forms.{is_run};
 ghost use Rattle.replay_top.specs.Commands.{command_of};
 ghost use Rattle.replay_top.specs.Outcome.{outcome, usage, obeyed, answer_to, refused, refusal_text, done, Ends, IsWhole};
 ghost use Rattle.replay_top.specs.Lines.{trace};
+ghost use Rattle.replay_top.specs.Questions.{question_of};
 ghost use Rattle.replay_top.specs.Summary.{summary};
 
+use crate::asking::ask;
 use crate::command::{Command, command_in};
+use crate::question::question_in;
 use crate::reading::{Reading, read};
 use crate::status::Status;
 use crate::summary::add_summary;
@@ -27,13 +30,13 @@ use std::alloc::Global;
 use world_core::runs;
 
 /// The code of documents that have more bytes than a document may have.
-const TOO_LARGE: u32 = 33;
+pub(crate) const TOO_LARGE: u32 = 33;
 
 /// The code of documents that are of no form that is run.
 const NOT_RUN: u32 = 99;
 
 /// Does what the words after the program's name say: `replay` reads a document from the source and writes its trace to
-/// the sink, and `check` writes one line on it. A refused document is answered by the line of its refusal, and words that
+/// the sink, and `check` writes one line on it. `collect` and `place` read Nodes and Pods from the source and write lines on the pods. A refused document is answered by the line of its refusal, and words that
 /// are no command by a line on the usage, for which the source isn't read and no memory is taken.
 pub fn run<S: Source, K: Sink>(
     alloc: Global,
@@ -45,7 +48,7 @@ pub fn run<S: Source, K: Sink>(
         → Ends (outcome (map string_bytes words.now.items) bytes) (S.left source.new) (K.taken sink.old) (K.taken sink.new) result }
 
     // Words that are no command are answered whether or not the source tells its bytes, with no want of memory.
-    ensures usage { command_of (map string_bytes words.now.items) ≡ None
+    ensures usage { command_of (map string_bytes words.now.items) ≡ None → question_of (map string_bytes words.now.items) ≡ None
         → (S.left source.new ≡ S.left source.old) × ((result ≡ Status.Usage) ⊎ (result ≡ Status.SinkFault))
         × Ends (usage []) (Some []) (K.taken sink.old) (K.taken sink.new) result }
 
@@ -68,7 +71,10 @@ pub fn run<S: Source, K: Sink>(
     documents_are_safe();
     match command_in(words) {
         Some(command) => obey(alloc, command, source, sink),
-        None => tell_usage(sink),
+        None => match question_in(words) {
+            Some(question) => ask(alloc, question, source, sink),
+            None => tell_usage(sink),
+        },
     }
 }
 
@@ -171,7 +177,7 @@ fn check<K: Sink>(alloc: Global, sink: &mut K, document: &Document) -> Status
 }
 
 /// Writes the line of a refusal.
-fn refuse<K: Sink>(alloc: Global, sink: &mut K, code: u32, path: &[u8]) -> Status
+pub(crate) fn refuse<K: Sink>(alloc: Global, sink: &mut K, code: u32, path: &[u8]) -> Status
     ensures text { (left : List ℕ) → Ends (refused (record { code = code; path = path.now }) left) (Some left) (K.taken sink.old) (K.taken sink.new) result }
     ensures silent { result ≢ Status.SourceFault }
     ensures sink_fault { result ≡ Status.SinkFault → Rose (K.faults sink.old) (K.faults sink.new) }
