@@ -12,9 +12,7 @@ ghost use Rattle.script_reader.specs.Fields as keys;
 ghost use Rattle.pod_inputs.specs.Fields as spec;
 
 use kube_base::{NoMemory, Wall, read_time};
-use manifest_json::codes::{
-    BAD_TIME, MISSING_KEY, OUT_OF_RANGE, TOO_MANY, WRONG_JSON, WRONG_TYPE,
-};
+use manifest_json::codes::{BAD_TIME, MISSING_KEY, OUT_OF_RANGE, TOO_MANY, WRONG_JSON, WRONG_TYPE};
 use manifest_json::{Path, ReadFault, Refusal, fault_below, is_name};
 use serde_json::Value;
 use std::alloc::Global;

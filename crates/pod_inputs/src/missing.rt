@@ -30,11 +30,7 @@ pub(crate) fn missing_in(
     missing_of(alloc, names, all)
 }
 
-fn missing_of(
-    alloc: Global,
-    names: &mut Names,
-    list: &[Value],
-) -> Result<MissingRows, ReadFault>
+fn missing_of(alloc: Global, names: &mut Names, list: &[Value]) -> Result<MissingRows, ReadFault>
     ensures { Gives (λ missing. (missing, names.new)) result
         (walk.missing_from names.old 0 [] (items_view list.now)) }
 {
