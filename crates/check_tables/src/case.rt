@@ -1,4 +1,5 @@
 // The cases of rows.
+use crate::document::read_text;
 use crate::manifest::{holder_in, written_of};
 use crate::repeated::repeated;
 use crate::table::Kind;
@@ -33,6 +34,7 @@ fn case_holds(
         Kind::Check => writes(alloc, "check", input.as_bytes(), line.as_str()),
         Kind::CheckOnly => check_only(alloc, input.as_bytes(), line.as_str()),
         Kind::Many => many_hold(alloc, case, line.as_str()),
+        Kind::Read => is_text(Some(read_text(alloc, input.as_str())?), wanted),
         Kind::Holder => is_text(holder_in(alloc, input.as_str())?, wanted),
         Kind::Written => is_text(written_of(alloc, input.as_str())?, wanted),
         _ => Ok(false),

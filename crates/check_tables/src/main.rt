@@ -2,6 +2,7 @@
 #![tactic(auto)]
 
 mod case;
+mod document;
 mod faults;
 mod manifest;
 mod repeated;

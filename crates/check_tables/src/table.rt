@@ -13,6 +13,8 @@ pub(crate) enum Kind {
     Many,
     /// The words of a run that writes the second line.
     Words,
+    /// What a document says, and the document.
+    Read,
     /// Who the holder is, and a Lease's identity.
     Holder,
     /// How many items are skipped, the List that is written, and the List that is read.
@@ -45,6 +47,7 @@ fn kind_of(line: &str) -> Option<Kind> {
         "check only" => Some(Kind::CheckOnly),
         "many" => Some(Kind::Many),
         "words" => Some(Kind::Words),
+        "read" => Some(Kind::Read),
         "holder" => Some(Kind::Holder),
         "written" => Some(Kind::Written),
         "trace" => Some(Kind::Trace),

@@ -1,14 +1,8 @@
 pub mod FieldsBack
-pub mod FittingItems
-pub mod Getting
-pub mod Growing
 pub mod HoldersBack
 pub mod KeptLemmas
 pub mod ListsBack
 pub mod Loops
 pub mod PartsBack
-pub mod ReadableGrows
-pub mod ReadFields
-pub mod ReadHolders
-pub mod ReadItems
+pub mod Places
 pub mod WriteLoops

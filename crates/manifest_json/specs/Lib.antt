@@ -1,7 +1,6 @@
 pub mod Faults
 pub mod Fields
 pub mod Kept
-pub mod Laws
 pub mod Members
 pub mod Readable
 pub mod Walk

@@ -6,21 +6,17 @@ mod fault;
 mod field;
 mod grammar;
 mod kept;
-mod laws;
 mod lease;
 mod list;
 mod metadata;
 mod node;
 mod object;
 mod pod;
-#[cfg(test)]
-mod tests;
 mod write;
 
 pub use fault::{Path, ReadFault, Refusal, fault_below};
 pub use field::number;
 pub use grammar::is_name;
-pub use laws::objects_are_readable;
 pub use list::{Objects, read_list};
 pub use object::read_object;
 pub use write::write_list;

@@ -30,7 +30,7 @@ use Rattle.history_laws.proofs.Walk.{InScript, Scripted}
 use Rattle.manifest_json.specs.Fields.{Texts}
 use Rattle.manifest_json.specs.Readable.{IsHeld, IsTime, IsWholeSecond, IsReadableTaint, IsReadableReady, IsReadableHolder, IsReadableToleration, IsReadableItem}
 use Rattle.manifest_json.specs.Written.{is_writable, is_writable_taint, is_writable_condition, is_writable_item}
-use Rattle.manifest_json.proofs.ReadableGrows.{all-weaker}
+use Rattle.manifest_laws.proofs.ReadableGrows.{all-weaker}
 use Rattle.script_reader.specs.Lawful.{IsPosted, IsLawfulWhat, AreLawfulFrom, IsLawfulDoc, IsSpaceNumber, IsNamedKey, IsReadableWhat, IsWellNamed}
 use Rattle.script_reader.specs.Walk.{numbers_of}
 use Rattle.naming_laws.specs.Items.{IsWritableTaint, IsWritableReady, IsWritableHolder, IsWritableToleration, IsWritableItem}

@@ -1,5 +1,5 @@
 -- Entries through which the health of nodes stands: those of another actor, and those of a kind that it doesn't look at.
-use Rattle.std.proofs.Common.{rules, ◌≡◌, ◌∙◌, ◌&&◌, ◌+◌, ℕ, not, Bool, true, false, nat_lt, List, ◌∷◌, Option, Some, None, refl, sym, ap, subst}
+use Rattle.std.proofs.Common.{rules, ◌≡◌, ◌∙◌, ◌&&◌, ◌+◌, ℕ, not, Bool, false, nat_lt, List, ◌∷◌, Option, Some, None, refl, sym, ap, subst}
 use Rattle.kube_base.specs.declared.numbers.Wall.{Wall}
 use Rattle.kube_objects.specs.declared.node.Node.{Node}
 use Rattle.kube_objects.specs.Clocks.{local, wall, whole_second}

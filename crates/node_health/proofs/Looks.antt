@@ -2,12 +2,11 @@
 use Rattle.std.proofs.Common.{rules, ◌≡◌, ◌∙◌, ◌==◌, ◌&&◌, ◌||◌, ℕ, ◌+◌, not, Bool, true, false, cond, nat_lt, List, [], ◌∷◌, Option, Some, None, option_map, refl, sym, ap, subst, arith}
 use Rattle.std.proofs.lemmas.Bool.Decides.{nat_tests}
 use Rattle.kube_base.specs.declared.numbers.Wall.{Wall}
-use Rattle.kube_objects.specs.declared.deed.Actor.{Actor}
 use Rattle.kube_objects.specs.declared.node.Node.{Node}
 use Rattle.kube_objects.specs.declared.node.Ready.{Ready}
 use Rattle.kube_objects.specs.Clocks.{local, wall, whole_second}
 use Rattle.kube_objects.specs.Document.{Doc}
-use Rattle.kube_objects.specs.Entry.{Entry, Identity, Deed, Ticks, Tick, Pass, Mode, actor_of}
+use Rattle.kube_objects.specs.Entry.{Entry, Identity, Deed, Ticks, Pass, Mode, actor_of}
 use Rattle.kube_objects.specs.Health.{at_pass, grace_of, hears, heartbeat, is_found, is_known, is_later, is_news, is_probe, is_silent, is_unknown, keeps, kept_heartbeat, kept_renewal, last_pass, mark_of, marked, node_heartbeat, pass_says, probe, ready_heartbeat, renewal, with_mark}
 use Rattle.kube_objects.specs.Identities.{is_by}
 use Rattle.kube_objects.specs.Newest.{has, join, newest, only_if, or_else, or_zero, when}
@@ -15,7 +14,6 @@ use Rattle.kube_objects.specs.Tick.{add}
 use Rattle.node_health.specs.declared.grace.Grace.{Grace}
 use Rattle.node_health.specs.declared.health.Health.{Health}
 use Rattle.node_health.specs.declared.known.Known.{Known}
-use Rattle.node_health.specs.declared.verdict.Verdict.{Verdict}
 use Rattle.node_health.specs.declared.verdict.Verdict.TheVariants.{Keep, MarkUnknown}
 use Rattle.node_health.specs.Kept.{after_look, at_reading, grace_for, is_listed, judged, kept, newer, probe_after, reason_for, verdict_of}
 use Rattle.node_health.specs.Stands.{HealthStands, IsGraceOf, IsLook, NodeStands, PassStands, and_looked, passed}

@@ -1,5 +1,5 @@
 -- What is kept of each node after a change of all.
-use Rattle.std.proofs.Common.{◌≡◌, ◌∙◌, ℕ, Bool, true, cond, List, [], Option, None, option_map, filter, map, ap, arith}
+use Rattle.std.proofs.Common.{◌≡◌, ◌∙◌, ℕ, true, cond, List, [], None, option_map, filter, map, ap, arith}
 use Rattle.std.proofs.lemmas.Bool.Decides.{nat_tests}
 use Rattle.std.proofs.lemmas.Map.Entries.{lookup-filter-keys}
 use Rattle.std.proofs.lemmas.Map.Made.{lookup-map_values}
@@ -7,7 +7,6 @@ use Rattle.std.specs.BTreeMap.{is_at}
 use Rattle.std.specs.Map.{lookup}
 use Rattle.std.specs.Ordering.{is_eq, nat_cmp}
 use Rattle.node_health.specs.declared.health.Health.{Health}
-use Rattle.node_health.specs.declared.known.Known.{Known}
 use Rattle.node_health.specs.Kept.{at_reading, is_listed, kept}
 
 same_name : (a b : ℕ) → is_eq (nat_cmp a b) ≡ true → b ≡ a

@@ -1,5 +1,5 @@
 -- The health of nodes stands for a term in a history: one clause for each part of what is kept of a node.
-use Rattle.std.specs.Prelude.{◌≡◌, ◌==◌, ◌||◌, ℕ, Bool, true, false, List, Option, Some, None, IfSome}
+use Rattle.std.specs.Prelude.{◌≡◌, ◌==◌, ◌||◌, ℕ, Bool, true, false, List, Option, Some, IfSome}
 use Rattle.kube_base.specs.declared.numbers.Version.{Version}
 use Rattle.kube_base.specs.declared.numbers.Wall.{Wall}
 use Rattle.kube_objects.specs.declared.node.Node.{Node}

@@ -16,9 +16,9 @@ use Rattle.kube_objects.specs.declared.pod.Pod.{Pod}
 use Rattle.manifest_json.specs.Fields.{Texts}
 use Rattle.manifest_json.specs.Readable.{IsReadable, IsReadableItem}
 use Rattle.manifest_json.specs.Walk.{kind_count, member_path}
-use Rattle.manifest_json.proofs.FittingItems.{kinds-few}
-use Rattle.manifest_json.proofs.Getting.{Gets, done, refused, by_test, and_then, skip}
-use Rattle.manifest_json.proofs.ReadItems.{list-reads}
+use Rattle.manifest_laws.proofs.FittingItems.{kinds-few}
+use Rattle.manifest_laws.proofs.Getting.{Gets, done, refused, by_test, and_then, skip}
+use Rattle.manifest_laws.proofs.ReadItems.{list-reads}
 use Rattle.script_reader.specs.Fields.{required}
 use Rattle.pod_inputs.specs.declared.row.Rows.{Rows}
 use Rattle.pod_inputs.specs.Rows.{pod_row_at, no_rows, row_at, is_read, next_row_at, item_row_at, rows_from, rows_in}

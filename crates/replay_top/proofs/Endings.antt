@@ -10,7 +10,7 @@ use Rattle.replay_top.specs.declared.command.Command.TheVariants.{Replay, Check}
 use Rattle.replay_top.specs.declared.question.Question.{Question}
 use Rattle.replay_top.specs.Commands.{command_of}
 use Rattle.replay_top.specs.Questions.{question_of}
-use Rattle.replay_top.specs.Lines.{trace}
+use Rattle.replay_top.specs.Traces.{trace}
 use Rattle.replay_top.specs.Summary.{summary}
 use Rattle.replay_top.specs.Outcome.{Outcome, outcome, outcome_of, answer_to, done, refused, of_whole, Ends, IsWhole}
 

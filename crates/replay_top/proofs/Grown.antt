@@ -21,7 +21,8 @@ use Rattle.world_core.specs.declared.world.World.{World}
 use Rattle.script_reader.specs.Documents.{doc_of}
 use Rattle.script_reader.specs.declared.document.Document.{Document}
 use Rattle.world_core.specs.Worlds.{WorldStands}
-use Rattle.replay_top.specs.Lines.{first_line, line_of, lines_of, trace_before, trace_of, trace}
+use Rattle.trace_writer.specs.Lines.{line_of, lines_of}
+use Rattle.replay_top.specs.Traces.{first_of, trace_before, trace_of, trace}
 use Rattle.replay_top.specs.Names.{process_names}
 use Rattle.replay_top.proofs.Said.{gave-longer}
 
@@ -41,10 +42,10 @@ pub printed-later : (doc : Doc) (k m : ℕ) → k ≤ m → (more : List Deed) �
 printed-later doc k m earlier = printed-tail (history doc k) (history doc m) (histories_are_positions doc k m earlier)
 
 lines-more : (doc : Doc) (names processes : List (List ℕ)) (front more : List Deed)
-    → (first_line doc ++ lines_of names processes front) ++ lines_of names processes more ≡ first_line doc ++ lines_of names processes (front ++ more)
+    → (first_of doc ++ lines_of names processes front) ++ lines_of names processes more ≡ first_of doc ++ lines_of names processes (front ++ more)
 lines-more doc names processes front more =
-    append_assoc (first_line doc) (lines_of names processes front) (lines_of names processes more)
-    ∙ ap (λ x. first_line doc ++ x) (sym (flat_map-append (line_of names processes) front more))
+    append_assoc (first_of doc) (lines_of names processes front) (lines_of names processes more)
+    ∙ ap (λ x. first_of doc ++ x) (sym (flat_map-append (line_of names processes) front more))
 
 -- a prefix of the trace before a beat is one of the whole trace
 pub gave-whole : (doc : Doc) (names processes : List (List ℕ)) (k : ℕ) (before after : Option (List ℕ)) → k ≤ end_beat doc + 1
@@ -55,7 +56,7 @@ gave-whole doc names processes k before after within g = from (printed-later doc
     from : (more : List Deed) × (printed (history doc k) ++ more ≡ printed (history doc (suc (end_beat doc)))) → Gave before after (trace_of doc names processes)
     from later =
         gave-longer before after (trace_before doc names processes k) (lines_of names processes later.0) (trace_of doc names processes)
-        (lines-more doc names processes (printed (history doc k)) later.0 ∙ ap (λ x. first_line doc ++ lines_of names processes x) later.1) g
+        (lines-more doc names processes (printed (history doc k)) later.0 ∙ ap (λ x. first_of doc ++ lines_of names processes x) later.1) g
 
 pub next-stands : (doc : Doc) (k n : ℕ) (w : World) → n ≡ k + 1 → WorldStands doc (k + 1) (beat doc (history doc k) k) w → WorldStands doc n (history doc n) w
 next-stands doc k n w is s =
@@ -68,7 +69,7 @@ pub trace-next : (doc : Doc) (names processes : List (List ℕ)) (k n : ℕ) (de
 unfolding trace_before
 trace-next doc names processes k n deeds is told =
     lines-more doc names processes (printed (history doc k)) deeds
-    ∙ ap (λ x. first_line doc ++ lines_of names processes x) told
+    ∙ ap (λ x. first_of doc ++ lines_of names processes x) told
     ∙ ap (trace_before doc names processes) (sym (is ∙ add-one k))
 
 -- what the world counts stays within its types
@@ -86,12 +87,12 @@ put-silent doc (x ∷ xs) h =
     put-silent doc xs (script_entry 0 0 (First x.0 (stamped (whole_second (store_wall doc 0)) x.1)) ∷ h) ∙ append-nil (printed h)
 
 -- the text begins with the first line
-pub trace-first : (doc : Doc) (names processes : List (List ℕ)) (empty text : List ℕ) → empty ≡ [] → text ≡ empty ++ first_line doc → text ≡ trace_before doc names processes 0
+pub trace-first : (doc : Doc) (names processes : List (List ℕ)) (empty text : List ℕ) → empty ≡ [] → text ≡ empty ++ first_of doc → text ≡ trace_before doc names processes 0
 unfolding trace_before
 trace-first doc names processes empty text none is =
-    is ∙ ap (λ l. l ++ first_line doc) none
-    ∙ sym (append-nil (first_line doc))
-    ∙ ap (λ ds. first_line doc ++ lines_of names processes ds) (sym (put-silent doc doc.objects []))
+    is ∙ ap (λ l. l ++ first_of doc) none
+    ∙ sym (append-nil (first_of doc))
+    ∙ ap (λ ds. first_of doc ++ lines_of names processes ds) (sym (put-silent doc doc.objects []))
 
 pub trace-end : (doc : Doc) (names processes : List (List ℕ)) → trace_before doc names processes (suc (end_beat doc)) ≡ trace_of doc names processes
 unfolding trace_before trace_of
@@ -104,4 +105,4 @@ trace-named d names processes named ordered = ap (λ n. trace_of (doc_of d) n pr
 -- beats of which nothing is printed leave the trace as it is
 pub trace-same : (doc : Doc) (names processes : List (List ℕ)) (j k : ℕ) → printed (history doc j) ≡ printed (history doc k) → trace_before doc names processes j ≡ trace_before doc names processes k
 unfolding trace_before
-trace-same doc names processes j k same = ap (λ ds. first_line doc ++ lines_of names processes ds) same
+trace-same doc names processes j k same = ap (λ ds. first_of doc ++ lines_of names processes ds) same

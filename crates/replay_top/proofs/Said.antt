@@ -4,7 +4,7 @@ use Rattle.std.proofs.lemmas.List.{append-nil}
 use Rattle.byte_edge.specs.Bytes.{Gives, Gave}
 use Rattle.byte_edge.proofs.Fronts.{gives-both, gives-nothing}
 use Rattle.replay_top.specs.Spoken.{Spoken, Written}
-use Rattle.replay_top.specs.declared.trace.WriteFault.{WriteFault}
+use Rattle.trace_writer.specs.declared.writing.WriteFault.{WriteFault}
 
 -- nothing was written yet
 pub spoken-first : (before : Option (List ℕ)) (buffer said : List ℕ) → buffer ≡ said → Spoken before before buffer said

@@ -1,9 +1,10 @@
 pub mod Answerings
 pub mod Commands
-pub mod Lines
 pub mod Names
 pub mod Outcome
 pub mod Questions
 pub mod Readings
+pub mod Runs
 pub mod Spoken
 pub mod Summary
+pub mod Traces

@@ -12,8 +12,8 @@ use Rattle.replay_top.specs.declared.question.Question.{Question}
 use Rattle.replay_top.specs.declared.status.Status.{Status}
 use Rattle.replay_top.specs.declared.status.Status.TheVariants.{Done, Refused, Usage, SourceFault, SinkFault, OutOfMemory}
 use Rattle.replay_top.specs.Commands.{command_of}
-use Rattle.replay_top.specs.Lines.{trace}
 use Rattle.replay_top.specs.Questions.{question_of, answer_of}
+use Rattle.replay_top.specs.Traces.{trace}
 use Rattle.replay_top.specs.Summary.{summary}
 
 -- how the run ends, all that it writes, and what it leaves of the source's bytes

@@ -1,7 +1,7 @@
 -- What a source had.
 use Rattle.std.specs.Prelude.{◌≡◌, ℕ, List, [], Option, Some}
 use Rattle.script_reader.specs.Documents.{doc_of}
-use Rattle.script_reader.specs.Lawful.{IsLawfulDoc}
+use Rattle.script_reader.specs.Lawful.{IsLawfulDoc, IsWellNamed}
 use Rattle.replay_top.specs.declared.command.Command.{Command}
 use Rattle.replay_top.specs.declared.reading.Reading.{Reading}
 use Rattle.replay_top.specs.declared.reading.Reading.TheVariants.{Document, Refused, TooLarge, Fault, NoMemory}
@@ -19,7 +19,7 @@ Reads bytes left TooLarge = (rest : List ℕ) × (left ≡ Some rest) × Means b
 Reads bytes left Fault = Unit {0}
 Reads bytes left NoMemory = Unit {0}
 
--- a document that was read is lawful
+-- a document that was read is lawful, and its names hold its numbers
 abbrev pub IsLawfulReading : Reading → Type 0
-IsLawfulReading (Document d value) = IsLawfulDoc (doc_of d)
+IsLawfulReading (Document d value) = IsLawfulDoc (doc_of d) × IsWellNamed d.names (doc_of d)
 IsLawfulReading _ = Unit {0}

@@ -1,7 +1,7 @@
 -- A text that is written as it grows, from a buffer.
 use Rattle.std.specs.Prelude.{◌≡◌, ℕ, ◌++◌, List, Option, Result, Ok, Err}
 use Rattle.byte_edge.specs.Bytes.{Gives, Gave}
-use Rattle.replay_top.specs.declared.trace.WriteFault.{WriteFault}
+use Rattle.trace_writer.specs.declared.writing.WriteFault.{WriteFault}
 
 -- what was taken and what the buffer holds are the text so far
 pub record Spoken (before now : Option (List ℕ)) (buffer said : List ℕ) : Type 0 where

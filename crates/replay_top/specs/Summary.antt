@@ -10,7 +10,8 @@ use Rattle.kube_objects.specs.Document.{Doc}
 use Rattle.manifest_json.specs.declared.list.Objects.{Objects}
 use Rattle.script_reader.specs.declared.document.Document.{Document}
 use Rattle.script_reader.specs.Documents.{doc_of}
-use Rattle.replay_top.specs.Lines.{premise_text}
+use Rattle.history.specs.Premise.{lease_premise}
+use Rattle.trace_writer.specs.Lines.{premise_text}
 
 -- how many objects are of a kind
 unfoldable pub count_of : Kind → List (Key × Object) → ℕ
@@ -31,4 +32,4 @@ events_text doc = codes " events=" ++ decimal (length doc.events)
 
 -- what the document has, and whether the lease premise holds
 unfoldable pub summary : Document → List ℕ
-summary d = codes "ok " ++ processes_text (doc_of d) ++ objects_text d.objects ++ events_text (doc_of d) ++ premise_text (doc_of d)
+summary d = codes "ok " ++ processes_text (doc_of d) ++ objects_text d.objects ++ events_text (doc_of d) ++ premise_text (lease_premise (doc_of d))

@@ -2,8 +2,8 @@
 #![tactic(auto)]
 
 mod asking;
+mod buffer;
 mod command;
-mod lines;
 mod question;
 mod reading;
 mod running;

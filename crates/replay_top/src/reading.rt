@@ -3,13 +3,14 @@ ghost use Rattle.std.specs.Prelude.{◌≡◌, ℕ, List, Some, IfOk};
 ghost use Rattle.byte_edge.specs.Bytes.{Rose};
 ghost use Rattle.manifest_json.specs.Faults.{Gives};
 ghost use Rattle.script_reader.specs.Documents.{doc_of};
-ghost use Rattle.script_reader.specs.Lawful.{IsLawfulDoc};
+ghost use Rattle.script_reader.specs.Lawful.{IsLawfulDoc, IsWellNamed};
 ghost use Rattle.script_reader.specs.Walk.{document_walk};
 ghost use Rattle.replay_top.specs.Readings.{Reads, IsLawfulReading};
 
 use byte_edge::{Source, TakeFault, take_all};
+use document_laws::documents_are_lawful;
 use manifest_json::{ReadFault, Refusal};
-use script_reader::{Document, document_of, documents_are_lawful, read_value};
+use script_reader::{Document, document_of, read_value};
 use serde_json::Value;
 use std::alloc::Global;
 
@@ -48,11 +49,12 @@ pub(crate) fn read<S: Source>(alloc: Global, source: &mut S) -> Reading
     }
 }
 
-/// The document in these bytes, which is lawful, and their JSON value.
+/// The document in these bytes, which is lawful and well named, and their JSON value.
 #[tactic(auto, unfolding(script_reader::specs::Walk::document_walk))]
 pub(crate) fn read_bytes(alloc: Global, bytes: &[u8]) -> Result<(Document, Value), ReadFault>
     ensures exact { Gives (λ read. read.0) result (document_walk bytes.now) }
     ensures lawful { IfOk result (λ read. IsLawfulDoc (doc_of read.0)) }
+    ensures named { IfOk result (λ read. IsWellNamed read.0.names (doc_of read.0)) }
 {
     documents_are_lawful();
     let value = read_value(alloc, bytes)?;

@@ -5,13 +5,13 @@ ghost use Rattle.history.specs.Premise.{lease_premise};
 ghost use Rattle.history.specs.Safe.{Holder, Exclusive};
 ghost use Rattle.script_reader.specs.declared.document.Document.{Document};
 ghost use Rattle.script_reader.specs.Documents.{doc_of};
-ghost use Rattle.script_reader.specs.Lawful.{IsLawfulDoc};
+ghost use Rattle.script_reader.specs.Lawful.{IsLawfulDoc, IsWellNamed};
 ghost use Rattle.script_reader.specs.Walk.{document_walk};
 ghost use Rattle.world_core.specs.Forms.{is_run};
 ghost use Rattle.replay_top.specs.Commands.{command_of};
 ghost use Rattle.replay_top.specs.Outcome.{outcome, usage, obeyed, answer_to, refused, refusal_text, done, Ends, IsWhole};
-ghost use Rattle.replay_top.specs.Lines.{trace};
 ghost use Rattle.replay_top.specs.Questions.{question_of};
+ghost use Rattle.replay_top.specs.Traces.{trace};
 ghost use Rattle.replay_top.specs.Summary.{summary};
 
 use crate::asking::ask;
@@ -21,12 +21,14 @@ use crate::reading::{Reading, read};
 use crate::status::Status;
 use crate::summary::add_summary;
 use crate::texts::{add, add_number};
-use crate::trace::{WriteFault, write_trace};
+use crate::trace::write_trace;
 use byte_edge::{Failed, Sink, Source, give_all};
+use document_laws::{documents_are_lawful, lawful_documents_are_sound};
 use kube_base::NoMemory;
 use lease_laws::lease_is_safe;
-use script_reader::{Document, documents_are_lawful, lawful_documents_are_sound};
+use script_reader::Document;
 use std::alloc::Global;
+use trace_writer::WriteFault;
 use world_core::runs;
 
 /// The code of documents that have more bytes than a document may have.
@@ -128,7 +130,8 @@ fn obey<S: Source, K: Sink>(alloc: Global, command: Command, source: &mut S, sin
 
 /// Does what the command says with a document.
 fn answer<K: Sink>(alloc: Global, command: Command, sink: &mut K, document: Document) -> Status
-    requires { IsLawfulDoc (doc_of document) }
+    requires lawful { IsLawfulDoc (doc_of document) }
+    requires named { IsWellNamed document.names (doc_of document) }
     ensures text { Ends (answer_to command document) (Some []) (K.taken sink.old) (K.taken sink.new) result }
     ensures silent { result ≢ Status.SourceFault }
     ensures sink_fault { result ≡ Status.SinkFault → Rose (K.faults sink.old) (K.faults sink.new) }
@@ -148,6 +151,7 @@ fn answer<K: Sink>(alloc: Global, command: Command, sink: &mut K, document: Docu
 /// Writes the trace of a document.
 fn replay<K: Sink>(alloc: Global, sink: &mut K, document: Document) -> Status
     requires lawful { IsLawfulDoc (doc_of document) }
+    requires named { IsWellNamed document.names (doc_of document) }
     requires form { is_run (doc_of document) ≡ true }
     ensures text { Ends (done (trace document)) (Some []) (K.taken sink.old) (K.taken sink.new) result }
     ensures silent { result ≢ Status.SourceFault }

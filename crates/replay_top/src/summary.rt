@@ -3,12 +3,12 @@ ghost use Rattle.std.specs.Prelude.{◌≡◌, ◌++◌, OnOk, decimal, length};
 ghost use Rattle.script_reader.specs.Documents.{doc_of};
 ghost use Rattle.replay_top.specs.Summary.{count_of as how_many, objects_text, processes_text, events_text, summary};
 
-use crate::lines::add_premise;
 use crate::texts::{add, add_number};
 use kube_base::NoMemory;
 use kube_objects::{Key, Kind, Object, Procs};
 use manifest_json::Objects;
-use script_reader::Document;
+use script_reader::{Document, lease_premise};
+use trace_writer::premise_end;
 
 /// Adds the line: how many processes, objects, skipped items and events the document has, and whether its lease premise
 /// holds.
@@ -20,7 +20,7 @@ pub(crate) fn add_summary(text: &mut Vec<u8>, document: &Document) -> Result<(),
     add_processes(text, document)?;
     add_objects(text, &document.objects)?;
     add_events(text, document)?;
-    add_premise(text, document)
+    add(text, premise_end(lease_premise(document)))
 }
 
 #[tactic(auto, unfolding(crate::specs::Summary::processes_text))]

@@ -1,6 +1,4 @@
 // Runs over memory. More documents, sources and sinks are in the tables of check_tables.
-mod deeds;
-mod rows;
 
 use crate::{Status, run};
 use byte_edge::{MemSink, MemSource};

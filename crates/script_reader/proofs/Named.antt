@@ -1,5 +1,5 @@
 -- The places of names beside the processes.
-use Rattle.std.proofs.Common.{◌≡◌, ℕ, ◌+◌, ◌<◌, ◌≤◌, ◌==◌, ◌||◌, not, Bool, true, false, cond, nat_lt, eqb, List, [], ◌∷◌, ◌++◌, length, position, Some, None, refl, sym, ap, subst, ◌∙◌, arith, length-append}
+use Rattle.std.proofs.Common.{◌≡◌, ℕ, ◌+◌, ◌<◌, ◌≤◌, ◌==◌, ◌||◌, Bool, true, false, cond, nat_lt, eqb, List, [], ◌∷◌, ◌++◌, length, position, Some, None, refl, sym, ap, ◌∙◌, arith, length-append}
 use Rattle.std.proofs.lemmas.Bool.{lt-ltb, ltb-true, eq-eqb, eqb-true}
 use Rattle.std.proofs.lemmas.Bool.Decides.{nat_tests}
 use Rattle.std.proofs.lemmas.List.{map-append, length-map}
@@ -9,6 +9,7 @@ use Rattle.std.specs.List.{list_any, position_or_len}
 use Rattle.std.specs.Ordering.{is_eq, nat_cmp}
 use Rattle.std.specs.Prelude.{is_some}
 use Rattle.kube_objects.specs.declared.script.Proc.{Proc}
+use Rattle.manifest_json.proofs.Places.{any_within, none_within}
 use Rattle.script_reader.specs.Walk.{has_name, numbers_of}
 
 no_lt : (a b : ℕ) → b ≤ a → nat_lt a b ≡ false
@@ -19,31 +20,11 @@ no_lt a b le = by (nat_lt a b) refl
     by true e = absurd (omega (arith, ltb-true a b e))
 
 module _ (p : ℕ → Bool) where
-  any_true : (xs : List ℕ) → list_any p xs ≡ true → position_or_len p xs < length xs
-  any_true [] h = absurd cc
-  any_true (x ∷ xs) h = by (p x) refl (any_true xs)
-    where
-      by : (b : Bool) → p x ≡ b → (list_any p xs ≡ true → position_or_len p xs < length xs) → position_or_len p (x ∷ xs) < length (x ∷ xs)
-      by true e rest = subst (λ b. cond (not b) (1 + position_or_len p xs) 0 < length (x ∷ xs)) (sym e) (omega arith)
-      by false e rest =
-          let h' : list_any p xs ≡ true = subst (λ b. (b || list_any p xs) ≡ true) e h in
-          subst (λ b. cond (not b) (1 + position_or_len p xs) 0 < length (x ∷ xs)) (sym e) (omega (arith, rest h'))
-
-  any_false : (xs : List ℕ) → list_any p xs ≡ false → position_or_len p xs ≡ length xs
-  any_false [] h = refl
-  any_false (x ∷ xs) h = by (p x) refl (any_false xs)
-    where
-      by : (b : Bool) → p x ≡ b → (list_any p xs ≡ false → position_or_len p xs ≡ length xs) → position_or_len p (x ∷ xs) ≡ length (x ∷ xs)
-      by true e rest = absurd (let bad : true ≡ false = subst (λ b. (b || list_any p xs) ≡ false) e h in cc)
-      by false e rest =
-          let h' : list_any p xs ≡ false = subst (λ b. (b || list_any p xs) ≡ false) e h in
-          subst (λ b. cond (not b) (1 + position_or_len p xs) 0 ≡ length (x ∷ xs)) (sym e) (omega (arith, rest h'))
-
   there : (xs : List ℕ) → list_any p xs ≡ true → position p xs ≡ Some (position_or_len p xs)
-  there xs h = ap (λ b. cond b (Some (position_or_len p xs)) None) (lt-ltb _ _ (any_true xs h))
+  there xs h = ap (λ b. cond b (Some (position_or_len p xs)) None) (lt-ltb _ _ (any_within p xs h))
 
   nowhere : (xs : List ℕ) → list_any p xs ≡ false → position p xs ≡ None
-  nowhere xs h = ap (λ b. cond b (Some (position_or_len p xs)) None) (no_lt _ _ (omega (arith, any_false xs h)))
+  nowhere xs h = ap (λ b. cond b (Some (position_or_len p xs)) None) (no_lt _ _ (omega (arith, none_within p xs h)))
 
   -- a place is found exactly where there is one
   found-is : (xs : List ℕ) → is_some (position p xs) ≡ list_any p xs
@@ -68,7 +49,7 @@ module _ (p : ℕ → Bool) where
 
       by : (b : Bool) → list_any p xs ≡ b → (c : Bool) → p x ≡ c → position p (xs ++ x ∷ []) ≡ cond (list_any p xs) (position p xs) (cond (p x) (Some (length xs)) None)
       by true e c f =
-          let lt = any_true xs e in
+          let lt = any_within p xs e in
           let apart : eqb (position_or_len p xs) (length xs) ≡ false = differ (position_or_len p xs) (length xs) lt in
           let here = at ∙ ap (λ b. cond b (length xs + cond (p x) 0 1) (position_or_len p xs)) apart in
           made (position_or_len p xs) here ∙ ap (λ b. cond b (Some (position_or_len p xs)) None) (lt-ltb (position_or_len p xs) (length xs + 1) (omega (arith, lt)))
@@ -77,12 +58,12 @@ module _ (p : ℕ → Bool) where
           differ : (a b : ℕ) → a < b → eqb a b ≡ false
           differ a b lt = grind (arith, nat_tests)
       by false e true f =
-          let same = eq-eqb (position_or_len p xs) (length xs) (any_false xs e) in
+          let same = eq-eqb (position_or_len p xs) (length xs) (none_within p xs e) in
           let here = at ∙ ap (λ b. cond b (length xs + cond (p x) 0 1) (position_or_len p xs)) same ∙ ap (λ b. length xs + cond b 0 1) f in
           made (length xs + 0) here ∙ ap (λ b. cond b (Some (length xs + 0)) None) (lt-ltb (length xs + 0) (length xs + 1) (omega arith)) ∙ ap (λ n. Some n) (omega arith)
           ∙ ap (λ b. cond b (Some (length xs)) None) (sym f) ∙ ap (λ b. cond b (position p xs) (cond (p x) (Some (length xs)) None)) (sym e)
       by false e false f =
-          let same = eq-eqb (position_or_len p xs) (length xs) (any_false xs e) in
+          let same = eq-eqb (position_or_len p xs) (length xs) (none_within p xs e) in
           let here = at ∙ ap (λ b. cond b (length xs + cond (p x) 0 1) (position_or_len p xs)) same ∙ ap (λ b. length xs + cond b 0 1) f in
           made (length xs + 1) here ∙ ap (λ b. cond b (Some (length xs + 1)) None) (no_lt (length xs + 1) (length xs + 1) (omega arith))
           ∙ ap (λ b. cond b (Some (length xs)) None) (sym f) ∙ ap (λ b. cond b (position p xs) (cond (p x) (Some (length xs)) None)) (sym e)

@@ -3,6 +3,5 @@ pub mod ClockRates
 pub mod Documents
 pub mod Fields
 pub mod Lawful
-pub mod Laws
 pub mod Tables
 pub mod Walk

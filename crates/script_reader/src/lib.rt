@@ -6,17 +6,13 @@ mod deed;
 mod document;
 mod event;
 mod field;
-mod laws;
 mod parts;
 mod premise;
 mod process;
 mod reading;
 mod settings;
 mod table;
-#[cfg(test)]
-mod tests;
 
 pub use document::Document;
-pub use laws::{documents_are_lawful, lawful_documents_are_sound};
 pub use premise::lease_premise;
 pub use reading::{document_of, read_document, read_value};

@@ -9,12 +9,12 @@ use Rattle.kube_objects.specs.Entry.{Entry, Identity, Deed, Ticks, Tick, Sync, a
 use Rattle.kube_objects.specs.Identities.{is_by}
 use Rattle.kube_objects.specs.Keys.{key_eq}
 use Rattle.kube_objects.specs.Newest.{newest, added, when, only_if, join, or_else, or_zero}
-use Rattle.kube_objects.specs.Seen.{tick_shows, seen_says, seen, synced_says, is_synced, stale_tick, stale_says, is_stale}
-use Rattle.kube_objects.specs.Stored.{Held, Write, holds, at_key, tick_write, writes, next_version, held_as}
+use Rattle.kube_objects.specs.Seen.{tick_shows, seen_says, seen, synced_says, stale_tick, stale_says}
+use Rattle.kube_objects.specs.Stored.{Held, holds, at_key, tick_write, writes, next_version}
 use Rattle.kube_objects.specs.Tick.{add}
 use Rattle.watch_cache.specs.declared.cache.Cache.{Cache}
 use Rattle.watch_cache.specs.Kept.{kept}
-use Rattle.watch_cache.specs.Stands.{CacheStands, IsNext, is_tick_by, kept_in, object_of, position_in, refused_key, stale_in, sync_says, synced_in, synced_writes, ticks}
+use Rattle.watch_cache.specs.Stands.{CacheStands, IsNext, is_tick_by, kept_in, object_of, position_in, refused_key, stale_in, sync_says, synced_in, ticks}
 use Rattle.watch_cache.proofs.Ticks.{is_sync, marks, same_self, refused_unsynced, refused_writes, shows_written, stales_refused, written_refuses, written_unsynced}
 
 -- what the last entry says, before which the others said this

@@ -6,12 +6,12 @@ use Rattle.kube_base.specs.declared.numbers.Version.{Version}
 use Rattle.kube_objects.specs.declared.deed.Actor.{Actor}
 use Rattle.kube_objects.specs.declared.key.Key.{Key}
 use Rattle.kube_objects.specs.declared.object.Object.{Object}
-use Rattle.kube_objects.specs.Entry.{Entry, Identity, Deed, Ticks, Tick, Sync, actor_of}
+use Rattle.kube_objects.specs.Entry.{Entry, Identity, Deed, Ticks, Tick, Sync}
 use Rattle.kube_objects.specs.Feeds.{is_among}
 use Rattle.kube_objects.specs.Identities.{is_by}
 use Rattle.kube_objects.specs.Keys.{key_eq}
 use Rattle.kube_objects.specs.Newest.{added, has, when, only_if, join, or_else, or_zero}
-use Rattle.kube_objects.specs.Seen.{seen_says, seen, synced_says, stale_says, tick_shows}
+use Rattle.kube_objects.specs.Seen.{seen_says, seen, tick_shows}
 use Rattle.kube_objects.specs.Stored.{Held, Write, holds, at_key, tick_write, write_of, writes, last_write, stored}
 use Rattle.kube_objects.specs.Tick.{add}
 use Rattle.watch_cache.specs.declared.cache.Cache.{Cache}

@@ -1,12 +1,12 @@
 -- What a cache has to know of the entries of ticks.
-use Rattle.std.proofs.Common.{◌≡◌, ℕ, ◌==◌, ◌&&◌, Bool, true, false, List, Option, Some, None, refl, sym, ap, ◌∙◌, arith}
+use Rattle.std.proofs.Common.{◌≡◌, ℕ, ◌&&◌, Bool, true, false, List, Option, Some, None, refl, ap, arith}
 use Rattle.std.proofs.lemmas.Bool.Decides.{nat_tests}
 use Rattle.kube_objects.specs.declared.call.Answer.{Answer}
 use Rattle.kube_objects.specs.declared.call.Answer.TheVariants as answer
 use Rattle.kube_objects.specs.declared.deed.Actor.{Actor}
 use Rattle.kube_objects.specs.declared.key.Key.{Key}
-use Rattle.kube_objects.specs.Entry.{Entry, Identity, Tick, Sync, Untaint, Swap, Delete, Mark, Head, actor_of}
-use Rattle.kube_objects.specs.Identities.{is_by, is_same}
+use Rattle.kube_objects.specs.Entry.{Entry, Identity, Tick, Sync, Untaint, Swap, Delete, actor_of}
+use Rattle.kube_objects.specs.Identities.{is_by}
 use Rattle.kube_objects.specs.Keys.{key_eq}
 use Rattle.kube_objects.specs.Newest.{when}
 use Rattle.kube_objects.specs.Seen.{tick_shows, stale_tick, is_refused}

@@ -7,3 +7,9 @@ unfolding document_walk
 returns-clause-lawful c =
     let read : document_walk c.args.bytes.now ≡ Ok c.in_ok-document.document = rw c.in_ok-value.ensures c.in_ok-document.ensures in
     c.documents_are_lawful.ensures.lawful c.args.bytes.now c.in_ok-document.document read
+
+pub returns-clause-named : goal.returns-clause-named
+unfolding document_walk
+returns-clause-named c =
+    let read : document_walk c.args.bytes.now ≡ Ok c.in_ok-document.document = rw c.in_ok-value.ensures c.in_ok-document.ensures in
+    c.documents_are_lawful.ensures.named c.args.bytes.now c.in_ok-document.document read

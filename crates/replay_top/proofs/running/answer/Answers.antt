@@ -1,5 +1,5 @@
 use Rattle.std.proofs.Common.{[], Some, refl}
-use Rattle.replay_top.specs.Lines.{trace}
+use Rattle.replay_top.specs.Traces.{trace}
 use Rattle.replay_top.specs.Summary.{summary}
 use Rattle.replay_top.specs.Outcome.{answer_to, done, refused, of_whole}
 use Rattle.replay_top.proofs.Endings.{ends-moved, answer-trace, answer-refused, answer-checked}

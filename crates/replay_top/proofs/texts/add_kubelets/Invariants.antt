@@ -1,5 +1,5 @@
 use Rattle.std.proofs.Common.{◌≡◌, ◌++◌, codes, map, take}
-use Rattle.replay_top.specs.Names.{text_of}
+use Rattle.trace_writer.specs.Names.{text_of}
 use Rattle.replay_top.proofs.texts.add_kubelets.Given as goal
 
 abbrev pub invariant-loop-kubelet : goal.invariant-loop-kubelet

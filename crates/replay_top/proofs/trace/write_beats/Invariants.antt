@@ -2,7 +2,8 @@ use Rattle.std.proofs.Common.{◌≡◌, ℕ, ◌≤◌, ◌+◌, ◌-◌, List,
 use Rattle.kube_objects.specs.Document.{Doc, end_beat}
 use Rattle.history.specs.History.{history}
 use Rattle.world_core.specs.Worlds.{at_of, end_of, names_of, IsReady, WorldStands}
-use Rattle.replay_top.specs.Lines.{trace_before}
+use Rattle.replay_top.specs.Traces.{trace_before}
+use Rattle.replay_top.specs.Runs.{Runs}
 use Rattle.replay_top.specs.Spoken.{Spoken}
 use Rattle.replay_top.proofs.trace.write_beats.Given as goal
 
@@ -14,11 +15,12 @@ invariant-beats g l =
       ready : IsReady l.world;
       last : end_of l.world ≡ end_of l.fn.world;
       names : names_of l.world ≡ names_of l.fn.world;
+      runs : Runs l.world (length l.processes);
       counted : sink.faults l.fn.sink ≤ sink.faults l.sink;
       stands : (doc : Doc) (before : Option (List ℕ)) → length doc.events ≤ 100000 → WorldStands doc 0 (history doc 0) l.fn.world → end_of l.fn.world ≡ end_beat doc
-          → Spoken before (sink.taken l.fn.sink) l.fn.text.items (trace_before doc (names_of l.fn.world) l.processes 0)
+          → Spoken before (sink.taken l.fn.sink) l.fn.buffer.text.items (trace_before doc (names_of l.fn.world) l.processes 0)
           → WorldStands doc (at_of l.world) (history doc (at_of l.world)) l.world
-          × Spoken before (sink.taken l.sink) l.text.items (trace_before doc (names_of l.fn.world) l.processes (at_of l.world));
+          × Spoken before (sink.taken l.sink) l.buffer.text.items (trace_before doc (names_of l.fn.world) l.processes (at_of l.world));
     }
 
 abbrev pub decreases-beats : goal.decreases-beats

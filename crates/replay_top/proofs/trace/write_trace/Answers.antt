@@ -1,12 +1,31 @@
-use Rattle.std.proofs.Common.{subst, ◌∙◌}
+use Rattle.std.proofs.Common.{length, sym, ap, subst, ◌∙◌}
 use Rattle.byte_edge.proofs.Fronts.{gave-nothing}
 use Rattle.script_reader.specs.Documents.{doc_of}
-use Rattle.world_core.specs.Worlds.{names_of}
-use Rattle.replay_top.specs.Lines.{trace_before, trace_of, trace}
+use Rattle.history.specs.History.{history}
+use Rattle.script_reader.specs.Lawful.{IsWellNamed}
+use Rattle.world_core.specs.Worlds.{names_of, WorldStands}
+use Rattle.replay_top.specs.Traces.{trace_before, trace_of, trace}
 use Rattle.replay_top.specs.Spoken.{Written}
 use Rattle.replay_top.proofs.Said.{spoken-first, written-all, written-front}
 use Rattle.replay_top.proofs.Grown.{trace-first, trace-named}
+use Rattle.replay_top.proofs.Writables.{process_names-count}
 use Rattle.replay_top.proofs.trace.write_trace.Goals as goal
+
+pub write_beats-requires-runs : goal.write_beats-requires-runs
+write_beats-requires-runs g c =
+    let d = c.args.document in
+    let doc = doc_of d in
+    let w = c.in-Ok.world in
+    record {
+      doc = doc;
+      own = record {
+        lawful = c.requires.lawful;
+        named = subst (λ names. IsWellNamed names doc) (sym c.in-Ok.ensures.names) c.requires.named;
+      };
+      end = c.in-Ok.ensures.kept.2;
+      stands = subst (λ k. WorldStands doc k (history doc k) w) (sym c.in-Ok.ensures.kept.1) c.in-Ok.ensures.stands;
+      counted = ap length (c.as_slice.ensures ∙ c.in-Ok.ensures.processes) ∙ process_names-count d.names doc;
+    }
 
 pub returns-in-Ok-clause-all : goal.returns-in-Ok-clause-all
 returns-in-Ok-clause-all g c =
@@ -15,8 +34,8 @@ returns-in-Ok-clause-all g c =
     let processes = c.as_slice.result.now in
     let before = g.K.Sink.taken c.args.sink.now in
     let after = g.K.Sink.taken c.write_beats.new.sink in
-    let first = trace-first (doc_of d) names processes c.new-text.result.items c.start.new.text.items c.new-text.ensures.items c.in-Ok.ensures.text in
-    let s = spoken-first before c.start.new.text.items (trace_before (doc_of d) names processes 0) first in
+    let first = trace-first (doc_of d) names processes c.new-buffer.result.text.items c.start.new.buffer.text.items c.new-buffer.ensures c.in-Ok.ensures.text in
+    let s = spoken-first before c.start.new.buffer.text.items (trace_before (doc_of d) names processes 0) first in
     let w : Written before after (trace_of (doc_of d) names processes) c.write_beats.result
     = c.write_beats.ensures.written (doc_of d) before c.requires.lawful.few_events c.in-Ok.ensures.stands c.in-Ok.ensures.kept.2 s in
     let named = trace-named d names processes c.in-Ok.ensures.names (c.as_slice.ensures ∙ c.in-Ok.ensures.processes) in
@@ -29,8 +48,8 @@ returns-in-Ok-clause-front g c =
     let processes = c.as_slice.result.now in
     let before = g.K.Sink.taken c.args.sink.now in
     let after = g.K.Sink.taken c.write_beats.new.sink in
-    let first = trace-first (doc_of d) names processes c.new-text.result.items c.start.new.text.items c.new-text.ensures.items c.in-Ok.ensures.text in
-    let s = spoken-first before c.start.new.text.items (trace_before (doc_of d) names processes 0) first in
+    let first = trace-first (doc_of d) names processes c.new-buffer.result.text.items c.start.new.buffer.text.items c.new-buffer.ensures c.in-Ok.ensures.text in
+    let s = spoken-first before c.start.new.buffer.text.items (trace_before (doc_of d) names processes 0) first in
     let w : Written before after (trace_of (doc_of d) names processes) c.write_beats.result
     = c.write_beats.ensures.written (doc_of d) before c.requires.lawful.few_events c.in-Ok.ensures.stands c.in-Ok.ensures.kept.2 s in
     let named = trace-named d names processes c.in-Ok.ensures.names (c.as_slice.ensures ∙ c.in-Ok.ensures.processes) in

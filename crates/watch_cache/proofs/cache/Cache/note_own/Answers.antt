@@ -1,5 +1,4 @@
-use Rattle.std.proofs.Common.{◌≡◌, cond, Result, Ok, Err, OnOk, refl}
-use Rattle.kube_base.specs.declared.memory.NoMemory.{NoMemory}
+use Rattle.std.proofs.Common.{refl}
 use Rattle.watch_cache.proofs.Frames.{noted_result}
 use Rattle.watch_cache.proofs.cache.Cache.note_own.Goals as goal
 

@@ -1,7 +1,7 @@
-use Rattle.std.proofs.Common.{◌≡◌, ◌==◌, false, ◌∷◌, ◌++◌, filter, length, refl, sym, ap, ◌∙◌, arith, rules}
+use Rattle.std.proofs.Common.{◌≡◌, ◌==◌, false, ◌∷◌, ◌++◌, filter, length, sym, ap, ◌∙◌, arith, rules}
 use Rattle.kube_base.specs.Steps.{counted}
 use Rattle.kube_objects.specs.contracts.key.KeyOrd.TheImpl as key_ord
-use Rattle.watch_cache.proofs.Lists.{first_key, front_ends, front_of, is_from, pods_listed, ranged, ranged_is, whole_is}
+use Rattle.watch_cache.proofs.Lists.{first_key, front_ends, front_of, is_from, pods_listed, ranged_is, whole_is}
 use Rattle.watch_cache.proofs.Takes.{counted_none}
 use Rattle.watch_cache.proofs.index.Index.pods_of.Goals as goal
 

@@ -1,0 +1,5 @@
+mod EventRanges
+mod FieldRanges
+pub mod LawfulWalk
+mod ProcessRanges
+pub mod SoundDocuments

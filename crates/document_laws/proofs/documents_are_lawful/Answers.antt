@@ -1,0 +1,8 @@
+use Rattle.document_laws.proofs.LawfulWalk.{documents-lawful, documents-well_named}
+use Rattle.document_laws.proofs.documents_are_lawful.Goals as goal
+
+pub returns-clause-lawful : goal.returns-clause-lawful
+returns-clause-lawful c = documents-lawful
+
+pub returns-clause-named : goal.returns-clause-named
+returns-clause-named c = documents-well_named

@@ -1,0 +1,16 @@
+//! What holds of every document that is read. The functions do nothing: each carries a law on its contract.
+#![tactic(auto)]
+
+ghost use Rattle.document_laws.specs.Laws.{DocumentsAreLawful, DocumentsAreWellNamed, LawfulIsSound};
+
+/// Every document that the walk gives keeps its ranges, own rules and limits, the order of its events, and what they name. Its names hold its
+/// numbers, and its objects are those that a manifest can give.
+pub fn documents_are_lawful()
+    ensures lawful { DocumentsAreLawful }
+    ensures named { DocumentsAreWellNamed }
+{}
+
+/// A lawful document leaves the election Lease alone, stops controllers only, and has delays of at least one beat.
+pub fn lawful_documents_are_sound()
+    ensures { LawfulIsSound }
+{}
