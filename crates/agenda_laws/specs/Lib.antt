@@ -3,3 +3,4 @@ pub mod Parts
 pub mod Times
 pub mod Ticking
 pub mod Waking
+pub mod Ahead

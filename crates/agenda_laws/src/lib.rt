@@ -2,6 +2,7 @@
 //! function with an empty body.
 #![tactic(auto)]
 
+ghost use Rattle.agenda_laws.specs.Ahead.{NoTurnsAreFirst, TurnsAreAdded, TheSoonestIsNext};
 ghost use Rattle.agenda_laws.specs.Parts.{EventsAddByParts, ElectorsAddByParts, ControllersAddByParts, KubeletsAddByParts, TicksAddByParts};
 ghost use Rattle.agenda_laws.specs.Standing.{BeatsAddByParts, BeatsAddTheirs, EntriesStandWhereAdded, StandingIsTested};
 ghost use Rattle.agenda_laws.specs.Ticking.{SyncsWake, PassesWake, CleansWake, HeadsWake, DeletesWake, TicksWake};
@@ -57,4 +58,12 @@ pub fn beats_wake_by_causes()
     ensures rested { HistoriesAreRested }
     ensures quiet { QuietBeatsAreSlept }
     ensures next { NextBeatsWake }
+{}
+
+/// The next beat with an entry is the soonest of the first starts, the next event, the next message, and the next turn of each process, all
+/// on the history before the first of these beats.
+pub fn next_beats_are_soonest()
+    ensures first { NoTurnsAreFirst }
+    ensures more { TurnsAreAdded }
+    ensures next { TheSoonestIsNext }
 {}

@@ -9,12 +9,15 @@ use Rattle.kube_objects.specs.Elector.{deadline, timer}
 use Rattle.kube_objects.specs.Entry.{Call, Entry, Identity}
 use Rattle.kube_objects.specs.Identities.{identity}
 use Rattle.kube_objects.specs.Process.{alive, call_in, ended}
+use Rattle.kube_objects.specs.Turns.{is_fast_call, just_expired}
 use Rattle.history.specs.Steps.{elector_turn}
+use Rattle.history_laws.proofs.Plainly.{none_is, some_is}
 use Rattle.agenda_laws.specs.Times.{is_early, sooner, if_up, restart_after, restart_if_down, restart_at, late_at, expiry_at, deadline_at, unless_waiting, attempt_at, LostNoUpdate, elector_reading}
 use Rattle.agenda_laws.proofs.Times.{electors_wake}
 use Rattle.leader_elector.specs.declared.candidate.Candidate.{Candidate}
 use Rattle.leader_elector.specs.declared.leading.Leading.{Leading}
 use Rattle.leader_elector.specs.Moves.{wake_from, wake_before}
+use Rattle.leader_elector.specs.Stands.{IsSettled}
 use Rattle.skew_clock.specs.Clocking.{Clocking, IsFirst, reading}
 use Rattle.skew_clock.proofs.Readings.{reading-monotone}
 use Rattle.world_process.specs.declared.controller.Controller.{Controller}
@@ -90,10 +93,13 @@ leading-reading doc p i wake h x s is =
 
 -- ---- what an update without a Get has left
 
+lost-up : (k p i : ℕ) (h : List Entry) → alive p h ≡ Some i → IsSettled (identity p i) h → LostNoUpdate k p h
+lost-up k p i h up settled j other = subst (λ n. is_fast_call (just_expired (identity p n) k h) ≡ false) (some_is i j (sym up ∙ other)) (settled k)
+
 lost-none : (doc : Doc) (k p i : ℕ) (h : List Entry) (r : Role) → RoleStands doc p i h r → LostNoUpdate k p h
-lost-none doc k p i h (role.Down at) s = λ j up. cc
-lost-none doc k p i h (role.Candidate x) s = λ j up. let same : i ≡ j = cc in subst (λ n. _) same (s.1.settled k)
-lost-none doc k p i h (role.Leading x) s = λ j up. let same : i ≡ j = cc in subst (λ n. _) same (s.1.settled k)
+lost-none doc k p i h (role.Down at) s = λ j up. absurd (none_is j (sym s.0 ∙ up))
+lost-none doc k p i h (role.Candidate x) s = lost-up k p i h s.0 s.1.settled
+lost-none doc k p i h (role.Leading x) s = lost-up k p i h s.0 s.1.settled
 
 -- ---- from readings to beats
 

@@ -1,4 +1,4 @@
-use Rattle.std.proofs.Common.{refl, sym, subst}
+use Rattle.std.proofs.Common.{None, refl, sym, subst}
 use Rattle.world_process.specs.Controllers.{IsBeatOf}
 use Rattle.world_process.proofs.Waking.{beat-of}
 use Rattle.world_process.proofs.clocks.first_beat.Goals as goal
@@ -9,4 +9,6 @@ returns-in-Some c =
     (beat-of c.args.clock.now c.in-Some.at c.first_beat.result c.first_beat.ensures.first c.first_beat.ensures.none)
 
 pub returns-in-None : goal.returns-in-None
-returns-in-None c = record { tells = λ j within. refl; within = tt }
+returns-in-None c =
+    let never : IsBeatOf c.args.clock.now None None = record { tells = λ j within. refl; within = tt } in
+    subst (IsBeatOf c.args.clock.now None) (sym c.in-None.is) never
