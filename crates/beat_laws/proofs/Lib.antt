@@ -1,0 +1,4 @@
+pub mod Unticked
+pub mod Sublists
+pub mod Asked
+pub mod Names

@@ -1,0 +1,2 @@
+pub mod Unticked
+pub mod Names
