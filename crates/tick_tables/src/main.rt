@@ -2,7 +2,6 @@
 #![tactic(auto)]
 
 mod change;
-mod policies;
 mod rows;
 mod scene;
 

@@ -3,13 +3,13 @@ ghost use Rattle.std.specs.Prelude.{◌≤◌};
 ghost use Rattle.kube_base.specs.Bounds.{most_local};
 
 use crate::change::{Change, EPOCH, write};
-use crate::policies::{full, partial};
 use crate::rows::{Row, Span};
 use controller_core::Term;
 use kube_base::{Beat, Local, NoMemory, ProcId, Steps, Version, Wall};
 use kube_objects::{Reply, Settings2};
 use leader_elector::{Candidate, CandidateNext, Leading, Timing};
 use object_store::Store;
+use rate_policies::{full, partial};
 use std::alloc::Global;
 use std::io::{self, ErrorKind};
 use std::sync::ledger::Blank;

@@ -1,4 +1,6 @@
-// The rates of zones in which nodes are disrupted.
+//! The rates of zones in which nodes are disrupted, as a document's rate policy has them.
+#![tactic(auto)]
+
 ghost use Rattle.std.specs.Prelude.{◌≡◌};
 ghost use Rattle.zone_state.specs.Views.{full_of, partial_of};
 
@@ -6,7 +8,7 @@ use kube_objects::RatePolicy;
 use zone_state::ZoneView;
 
 /// The rate of a zone in which many nodes aren't ready.
-pub(crate) fn partial(view: ZoneView) -> u32
+pub fn partial(view: ZoneView) -> u32
     ensures { result ≡ partial_of view }
 {
     match view.policy {
@@ -17,7 +19,7 @@ pub(crate) fn partial(view: ZoneView) -> u32
 }
 
 /// The rate of a zone in which no node is ready.
-pub(crate) fn full(view: ZoneView) -> u32
+pub fn full(view: ZoneView) -> u32
     ensures { result ≡ full_of view }
 {
     match view.policy {
