@@ -24,6 +24,7 @@ use Rattle.leader_elector.specs.Moves.{Asked, delivered as with_reply, reacted}
 use Rattle.world_process.specs.declared.controller.Controller.{Controller}
 use Rattle.world_process.specs.declared.controller.Role.{Role}
 use Rattle.world_process.specs.Controllers.{RoleStands, ControllerStands, IsLed, Replied}
+use Rattle.world_process.specs.Moves as moves
 use Rattle.world_process.specs.Plain.{AreQuiet, with_deeds}
 use Rattle.world_process.proofs.Names.{eq-isnt}
 use Rattle.kube_base.specs.declared.numbers.Local.{Local}
@@ -37,22 +38,25 @@ pub record IsBack (b : Back) (q : Identity) (n : ℕ) (r : Reply) : Type 0 where
   pub number : b.call.number ≡ n
   pub reply : b.reply ≡ r
 
-delivered-is : (doc : Doc) (k : ℕ) (b : Back) (q : Identity) (number : ℕ) (reply : Reply) (h : List Entry) → IsBack b q number reply → delivered doc k b h ≡ deliver_as doc k q b.call reply (counted doc q k number h) h
-delivered-is doc k b q number reply h is =
+delivered-as : (doc : Doc) (k : ℕ) (b : Back) (q : Identity) (number : ℕ) (reply : Reply) (h : List Entry) → IsBack b q number reply → delivered doc k b h ≡ deliver_as doc k q b.call reply (counted doc q k number h) h
+delivered-as doc k b q number reply h is =
     ap (λ w. deliver_as doc k w b.call b.reply (counted doc w k b.call.number h) h) is.who
     ∙ ap (λ n. deliver_as doc k q b.call b.reply (counted doc q k n h) h) is.number
     ∙ ap (λ r. deliver_as doc k q b.call r (counted doc q k number h) h) is.reply
 
 -- a reply that doesn't count
 pub uncounted-is : (doc : Doc) (k : ℕ) (b : Back) (q : Identity) (number : ℕ) (reply : Reply) (h : List Entry) → IsBack b q number reply → counted doc q k number h ≡ None → delivered doc k b h ≡ entry k 3 q (Delivers b.call reply false) ∷ h
-uncounted-is doc k b q number reply h is none = delivered-is doc k b q number reply h is ∙ ap (λ w. deliver_as doc k q b.call reply w h) none
+uncounted-is doc k b q number reply h is none = delivered-as doc k b q number reply h is ∙ ap (λ w. deliver_as doc k q b.call reply w h) none
 
 -- a reply that counts
+pub delivered-is : (doc : Doc) (k : ℕ) (b : Back) (q : Identity) (number : ℕ) (reply : Reply) (waiting : Call) (h : List Entry) → IsBack b q number reply → counted doc q k number h ≡ Some waiting →
+    delivered doc k b h ≡ react_as doc k q waiting reply (is_controller doc q.process) (entry k 3 q (Delivers waiting reply true) ∷ h)
+delivered-is doc k b q number reply waiting h is some = delivered-as doc k b q number reply h is ∙ ap (λ w. deliver_as doc k q b.call reply w h) some
+
 pub counted-is : (doc : Doc) (k : ℕ) (b : Back) (q : Identity) (number : ℕ) (reply : Reply) (waiting : Call) (h : List Entry) → IsBack b q number reply → is_controller doc q.process ≡ true → counted doc q k number h ≡ Some waiting →
     delivered doc k b h ≡ reacted doc k q waiting reply h
 counted-is doc k b q number reply waiting h is controls some =
-    delivered-is doc k b q number reply h is
-    ∙ ap (λ w. deliver_as doc k q b.call reply w h) some
+    delivered-is doc k b q number reply waiting h is some
     ∙ ap (λ t. react_as doc k q waiting reply t (entry k 3 q (Delivers waiting reply true) ∷ h)) controls
 
 -- nothing counts for another incarnation, or where the process is down
@@ -65,12 +69,13 @@ down-absent p i h down = ap (λ o. is_present o i) down
 pub other-absent : (p i j : ℕ) (h : List Entry) → alive p h ≡ Some j → ¬ (j ≡ i) → is_present (alive p h) i ≡ false
 other-absent p i j h up other = ap (λ o. is_present o i) up ∙ eq-isnt j i other
 
-replied-none : (doc : Doc) (k p : ℕ) (b : Back) (h : List Entry) (deeds : List Deed) (c : Controller) → AreQuiet deeds → delivered doc k b h ≡ with_deeds k 3 b.who deeds h → printed (with_deeds k 3 b.who deeds h) ≡ printed h → ControllerStands doc p (with_deeds k 3 b.who deeds h) c →
-    Replied doc k p b h c (record { lead = None; ask = None })
-replied-none doc k p b h deeds c quiet is told stands =
+-- q is the identity after it, and Stands what it stands for
+pub replied-none : (doc : Doc) (k : ℕ) (q : Identity) (b : Back) (h : List Entry) (deeds : List Deed) (Stands : List Entry → Type 0) → AreQuiet deeds → delivered doc k b h ≡ with_deeds k 3 b.who deeds h → printed (with_deeds k 3 b.who deeds h) ≡ printed h →
+    Stands (with_deeds k 3 b.who deeds h) → moves.Replied doc k q b h Stands (record { lead = None; ask = None })
+replied-none doc k q b h deeds Stands quiet is told stands =
     record {
       told = ap printed is ∙ told ∙ sym (append-nil (printed h));
-      asks = record { deeds = deeds; quiet = quiet; adds = is; stands = subst (λ g. ControllerStands doc p g c) (sym is) stands };
+      asks = record { deeds = deeds; quiet = quiet; adds = is; stands = subst Stands (sym is) stands };
     }
 
 -- it changes nothing but the history
@@ -80,7 +85,7 @@ replied-uncounted doc k p i b number reply h c r s is none stands =
     let q = identity p i in
     let next = entry k 3 q (Delivers b.call reply false) ∷ h in
     let same = ap (λ w. entry k 3 w (Delivers b.call reply false) ∷ h) (sym is.who) in
-    replied-none doc k p b h (Delivers b.call reply false ∷ []) (record c { role = r }) (refl, tt) (uncounted-is doc k b q number reply h is none ∙ same) (append-nil (printed h))
+    replied-none doc k (identity p c.incarnation) b h (Delivers b.call reply false ∷ []) (λ g. ControllerStands doc p g (record c { role = r })) (refl, tt) (uncounted-is doc k b q number reply h is none ∙ same) (append-nil (printed h))
     (subst (λ g. ControllerStands doc p g (record c { role = r })) same (stands-role doc p h next c r s refl stands))
 
 -- it counts, and nothing follows
@@ -91,7 +96,7 @@ replied-stays doc k p b number reply waiting h c r s is some stays stands =
     let q = identity p c.incarnation in
     let next = with_reply k q waiting reply h in
     let same = ap (λ w. entry k 3 w (Delivers waiting reply true) ∷ h) (sym is.who) in
-    replied-none doc k p b h (Delivers waiting reply true ∷ []) (record c { role = r }) (refl, tt) (counted-is doc k b q number reply waiting h is s.sort some ∙ stays ∙ same) (append-nil (printed h))
+    replied-none doc k (identity p c.incarnation) b h (Delivers waiting reply true ∷ []) (λ g. ControllerStands doc p g (record c { role = r })) (refl, tt) (counted-is doc k b q number reply waiting h is s.sort some ∙ stays ∙ same) (append-nil (printed h))
     (subst (λ g. ControllerStands doc p g (record c { role = r })) same (stands-role doc p h next c r s refl stands))
 
 -- it counts, and a request follows

@@ -1,10 +1,10 @@
 -- A controller stands beside entries of others.
-use Rattle.std.proofs.Common.{◌≡◌, ℕ, ◌==◌, ◌&&◌, false, List, ◌∷◌, Option, refl, sym, ap, ◌∙◌}
+use Rattle.std.proofs.Common.{◌≡◌, ℕ, false, List, ◌∷◌, Option, refl, sym, ap, ◌∙◌}
 use Rattle.kube_objects.specs.declared.call.Reply.{Reply}
 use Rattle.kube_objects.specs.declared.object.Object.{Object}
 use Rattle.kube_objects.specs.Document.{Doc}
 use Rattle.kube_objects.specs.Entry.{Entry, Identity, Call, Deed, Answers, Tick, Ticks, entry}
-use Rattle.kube_objects.specs.Identities.{identity, is_same, is_by}
+use Rattle.kube_objects.specs.Identities.{identity, is_by}
 use Rattle.kube_objects.specs.Process.{alive, ended}
 use Rattle.leader_elector.proofs.Frames.{candidate-foreign, leading-foreign, candidate-quiet, leading-quiet}
 use Rattle.world_process.specs.declared.controller.Controller.{Controller}
@@ -12,8 +12,7 @@ use Rattle.world_process.specs.declared.controller.Role.{Role}
 use Rattle.world_process.specs.declared.controller.Role.TheVariants as role
 use Rattle.world_process.specs.Controllers.{RoleStands, ControllerStands, restart_reading}
 use Rattle.world_process.proofs.Lives.{is_event, alive-others, ended-others, starts-others}
-use Rattle.world_process.proofs.Names.{of_process-other, is_same-apart, eq-isnt}
-use Rattle.world_process.proofs.Unheard.{and-false}
+use Rattle.world_process.proofs.Names.{of_process-other, is_same-apart, is_same-other}
 
 -- an entry that leaves the life as it is, and is by another identity
 role-beside : (doc : Doc) (p i : ℕ) (e : Entry) (h : List Entry) (r : Role) → alive p (e ∷ h) ≡ alive p h → ended p (e ∷ h) ≡ ended p h → is_by (identity p i) e.actor ≡ false → RoleStands doc p i h r → RoleStands doc p i (e ∷ h) r
@@ -33,7 +32,7 @@ controller-others doc p k step q d h c other own s =
       timing = s.timing;
       clock = s.clock;
       up_first = s.up_first;
-      asleep = s.asleep;
+      waking = s.waking;
       role = role-beside doc p c.incarnation e h c.role (alive-others p e h apart) (ended-others p e h own apart) (is_same-apart q (identity p c.incarnation) other) s.role;
     }
 
@@ -41,14 +40,13 @@ controller-others doc p k step q d h c other own s =
 pub role-stranger : (doc : Doc) (p i j k step : ℕ) (d : Deed) (h : List Entry) (r : Role) → ¬ (j ≡ i) → is_event d ≡ false → ((g : List Entry) → alive p (entry k step (identity p j) d ∷ g) ≡ alive p g) → ((g : List Entry) → ended p (entry k step (identity p j) d ∷ g) ≡ ended p g) →
     RoleStands doc p i h r → RoleStands doc p i (entry k step (identity p j) d ∷ h) r
 role-stranger doc p i j k step d h r other own lives ends s =
-    let apart : is_same (identity p j) (identity p i) ≡ false = ap (λ b. (p == p) && b) (eq-isnt j i other) ∙ and-false (p == p) in
-    role-beside doc p i (entry k step (identity p j) d) h r (lives h) (ends h) apart s
+    role-beside doc p i (entry k step (identity p j) d) h r (lives h) (ends h) (is_same-other p j i other) s
 
 -- an answer of the store, whosever it is
 pub controller-answered : (doc : Doc) (p k step : ℕ) (q : Identity) (call : Call) (reply : Reply) (comes : Option ℕ) (written : Option Object) (h : List Entry) (c : Controller) → ControllerStands doc p h c →
     ControllerStands doc p (entry k step q (Answers call reply comes written) ∷ h) c
 controller-answered doc p k step q call reply comes written h c s =
-    record { sort = s.sort; me = s.me; incarnation = s.incarnation; timing = s.timing; clock = s.clock; up_first = s.up_first; asleep = s.asleep; role = by_role c.role s.role }
+    record { sort = s.sort; me = s.me; incarnation = s.incarnation; timing = s.timing; clock = s.clock; up_first = s.up_first; waking = s.waking; role = by_role c.role s.role }
   where
     by_role : (r : Role) → RoleStands doc p c.incarnation h r → RoleStands doc p c.incarnation (entry k step q (Answers call reply comes written) ∷ h) r
     by_role (role.Down at) r = r
@@ -58,7 +56,7 @@ controller-answered doc p k step q call reply comes written h c s =
 -- an entry of a tick, whosever it is
 pub controller-ticked : (doc : Doc) (p k step : ℕ) (q : Identity) (tick : Tick) (h : List Entry) (c : Controller) → ControllerStands doc p h c → ControllerStands doc p (entry k step q (Ticks tick) ∷ h) c
 controller-ticked doc p k step q tick h c s =
-    record { sort = s.sort; me = s.me; incarnation = s.incarnation; timing = s.timing; clock = s.clock; up_first = s.up_first; asleep = s.asleep; role = by_role c.role s.role }
+    record { sort = s.sort; me = s.me; incarnation = s.incarnation; timing = s.timing; clock = s.clock; up_first = s.up_first; waking = s.waking; role = by_role c.role s.role }
   where
     by_role : (r : Role) → RoleStands doc p c.incarnation h r → RoleStands doc p c.incarnation (entry k step q (Ticks tick) ∷ h) r
     by_role (role.Down at) r = r

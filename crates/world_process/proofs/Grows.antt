@@ -1,5 +1,8 @@
 -- The steps of a beat only add entries.
-use Rattle.std.proofs.Common.{◌≡◌, ℕ, zero, suc, ◌+◌, ◌≤◌, ◌==◌, ◌&&◌, Bool, true, false, List, [], ◌∷◌, Option, Some, None, sym, subst, arith}
+use Rattle.std.proofs.Common.{◌≡◌, ℕ, zero, suc, ◌+◌, ◌≤◌, ◌==◌, ◌&&◌, Bool, true, false, List, [], ◌∷◌, length, Option, Some, None, sym, subst, arith}
+use Rattle.std.specs.Ordering.{nat_cmp}
+use Rattle.std.specs.declared.cmp.Ordering.{Ordering}
+use Rattle.std.specs.declared.cmp.Ordering.TheVariants.{Less, Equal, Greater}
 use Rattle.kube_base.specs.declared.numbers.Version.{Version}
 use Rattle.kube_objects.specs.declared.call.Reply.{Reply}
 use Rattle.kube_objects.specs.declared.call.Request.{Request}
@@ -12,6 +15,8 @@ use Rattle.kube_objects.specs.Entry.{Entry, Identity, Call, Stops, Event, Delive
 use Rattle.kube_objects.specs.Identities.{identity, is_by}
 use Rattle.kube_objects.specs.Kubelet.{next_request, send_next, round_if, round}
 use Rattle.kube_objects.specs.Process.{alive, begun, starts, is_send, call_in, counted, ended, is_late, is_restart_due}
+use Rattle.kube_objects.specs.Seen.{insert_once, insert_named, named, node_name, node_names}
+use Rattle.kube_objects.specs.Stored.{write_of}
 use Rattle.kube_objects.specs.Tick.{add}
 use Rattle.kube_objects.specs.Turns.{lead_if, react, expire_as, expire_call, end_as, end_term, attempt_if, try}
 use Rattle.kube_objects.specs.Wire.{Sent, Back, sent_of, back_of}
@@ -23,18 +28,36 @@ use Rattle.world_process.proofs.Plainly.{added-more, starts-more}
 pub record Grows (h g : List Entry) : Type 0 where
   pub calls : (q : Identity) → begun q h ≤ begun q g
   pub starts : (p : ℕ) → starts p h ≤ starts p g
+  pub nodes : length (node_names h) ≤ length (node_names g)
+
+-- one name more or none
+inserted-by : {A : Type 0} (compare : A → A → Ordering) (x y : A) (ys : List A) (o : Ordering) → length ys ≤ length (insert_once compare x ys) → length (y ∷ ys) ≤ length (elim o as (λ o. List A) [ Less ↦ x ∷ y ∷ ys | Equal ↦ y ∷ ys | Greater ↦ y ∷ insert_once compare x ys ])
+inserted-by compare x y ys Less more = omega arith
+inserted-by compare x y ys Equal more = omega arith
+inserted-by compare x y ys Greater more = omega (arith, more)
+
+inserted-more : {A : Type 0} (compare : A → A → Ordering) (x : A) (ys : List A) → length ys ≤ length (insert_once compare x ys)
+inserted-more compare x [] = omega arith
+inserted-more compare x (y ∷ ys) = inserted-by compare x y ys (compare x y) (inserted-more compare x ys)
+
+named-more : (o : Option ℕ) (ys : List ℕ) → length ys ≤ length (insert_named nat_cmp o ys)
+named-more None ys = omega arith
+named-more (Some x) ys = inserted-more nat_cmp x ys
+
+pub nodes-more : (e : Entry) (h : List Entry) → length (node_names h) ≤ length (node_names (e ∷ h))
+nodes-more e h = named-more (named node_name (write_of e.deed)) (node_names h)
 
 pub grows-same : (h : List Entry) → Grows h h
-grows-same h = record { calls = λ q. omega arith; starts = λ p. omega arith }
+grows-same h = record { calls = λ q. omega arith; starts = λ p. omega arith; nodes = omega arith }
 
 pub grows-entry : (e : Entry) (h : List Entry) → Grows h (e ∷ h)
-grows-entry e h = record { calls = λ q. added-more (is_send e.deed && is_by q e.actor) (begun q h); starts = λ p. starts-more p e h }
+grows-entry e h = record { calls = λ q. added-more (is_send e.deed && is_by q e.actor) (begun q h); starts = λ p. starts-more p e h; nodes = nodes-more e h }
 
 pub grows-on : (f g h : List Entry) → Grows f g → Grows g h → Grows f h
-grows-on f g h a b = record { calls = λ q. omega (arith, a.calls q, b.calls q); starts = λ p. omega (arith, a.starts p, b.starts p) }
+grows-on f g h a b = record { calls = λ q. omega (arith, a.calls q, b.calls q); starts = λ p. omega (arith, a.starts p, b.starts p); nodes = omega (arith, a.nodes, b.nodes) }
 
 pub few-before : (h g : List Entry) → Grows h g → IsFew g → IsFew h
-few-before h g a few = record { calls = λ q. omega (arith, a.calls q, few.calls q); starts = λ p. omega (arith, a.starts p, few.starts p) }
+few-before h g a few = record { calls = λ q. omega (arith, a.calls q, few.calls q); starts = λ p. omega (arith, a.starts p, few.starts p); nodes = omega (arith, a.nodes, few.nodes) }
 
 -- ---- step 1
 
@@ -213,7 +236,7 @@ grows-attempts doc k p h = grows-if_up p (try doc k) (grows-try doc k) (alive p 
 pub grows-ticks : (doc : Doc) (k p : ℕ) (h : List Entry) → Grows h (ticks doc k p h)
 grows-ticks doc k p h = grows-if_up p (λ q T. tick_as doc k q (acts doc q k T) T) (λ q T. grows-tick_as doc k q (acts doc q k T) T) (alive p h) h
 
-grows-elector_turn : (doc : Doc) (k p : ℕ) (h : List Entry) → Grows h (elector_turn doc k p h)
+pub grows-elector_turn : (doc : Doc) (k p : ℕ) (h : List Entry) → Grows h (elector_turn doc k p h)
 grows-elector_turn doc k p h =
     let r = restart doc k p h in
     let e = expire doc k p r in
@@ -231,7 +254,7 @@ grows-round_if doc k q false false h = grows-same h
 grows-round : (doc : Doc) (k : ℕ) (q : Identity) (h : List Entry) → Grows h (round doc k q h)
 grows-round doc k q h = grows-round_if doc k q _ _ h
 
-grows-kubelet_turn : (doc : Doc) (k p : ℕ) (h : List Entry) → Grows h (kubelet_turn doc k p h)
+pub grows-kubelet_turn : (doc : Doc) (k p : ℕ) (h : List Entry) → Grows h (kubelet_turn doc k p h)
 grows-kubelet_turn doc k p h =
     let e = expire doc k p h in
     grows-on h e _ (grows-expire doc k p h) (grows-if_up p (round doc k) (grows-round doc k) (alive p e) e)

@@ -16,9 +16,11 @@ pub mod Restarts
 pub mod Scripted
 pub mod Terms
 pub mod Timers
-pub mod Resting
 pub mod Answering
 -- ---- a kubelet
 pub mod Kubelets
+pub mod Rounds
 -- ---- every process
+pub mod Wakes
 pub mod Processes
+pub mod Forces

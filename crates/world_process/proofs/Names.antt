@@ -2,7 +2,7 @@
 use Rattle.std.proofs.Common.{◌≡◌, ◌<◌, ◌≤◌, ℕ, nat_lt, ◌==◌, ◌&&◌, Bool, true, false, Some, None, refl, ap, ◌∙◌, arith}
 use Rattle.std.proofs.lemmas.Bool.Decides.{nat_tests}
 use Rattle.kube_objects.specs.Entry.{Identity, actor_of}
-use Rattle.kube_objects.specs.Identities.{is_same, of_process}
+use Rattle.kube_objects.specs.Identities.{identity, is_same, of_process}
 use Rattle.kube_objects.specs.Newest.{when}
 
 pub eq-self : (n : ℕ) → (n == n) ≡ true
@@ -50,3 +50,11 @@ of_process-own q = ap (λ b. when b q.incarnation) (eq-self q.process)
 
 pub of_process-other : (q : Identity) (p : ℕ) → ¬ (q.process ≡ p) → of_process p (actor_of q) ≡ None
 of_process-other q p other = ap (λ b. when b q.incarnation) (eq-isnt q.process p other)
+
+-- and so are those of different incarnations
+pub is_same-other : (p i j : ℕ) → ¬ (i ≡ j) → is_same (identity p i) (identity p j) ≡ false
+is_same-other p i j other = ap (λ b. (p == p) && b) (eq-isnt i j other) ∙ and-false (p == p)
+  where
+    and-false : (b : Bool) → (b && false) ≡ false
+    and-false true = refl
+    and-false false = refl

@@ -1,23 +1,20 @@
 -- Every process through entries of others, and what is known of each.
-use Rattle.std.proofs.Common.{◌≡◌, ℕ, true, false, List, ◌∷◌, Option, ap, ◌∙◌}
+use Rattle.std.proofs.Common.{◌≡◌, ℕ, false, List, ◌∷◌, Option}
 use Rattle.kube_base.specs.declared.numbers.Version.{Version}
 use Rattle.kube_objects.specs.declared.call.Reply.{Reply}
 use Rattle.kube_objects.specs.declared.key.Key.{Key}
 use Rattle.kube_objects.specs.declared.object.Object.{Object}
 use Rattle.kube_objects.specs.declared.script.What.{What}
-use Rattle.kube_objects.specs.Document.{Doc, is_controller, is_up_first}
+use Rattle.kube_objects.specs.Document.{Doc, is_up_first}
 use Rattle.kube_objects.specs.Entry.{Entry, Identity, Call, Deed, Event, Answers, Tick, Ticks, entry, script_entry}
 use Rattle.kube_objects.specs.Process.{cancels, starts}
 use Rattle.history.specs.History.{put_all}
-use Rattle.history.specs.Steps.{elector_turn}
 use Rattle.world_process.specs.declared.process.Process.{Process}
 use Rattle.world_process.specs.declared.process.Process.TheVariants.{Controller, Kubelet}
-use Rattle.world_process.specs.Controllers.{IsStill}
 use Rattle.world_process.specs.Processes.{ProcessStands, me_of, incarnation_of, is_up_first_as}
 use Rattle.world_process.proofs.Beside.{controller-others, controller-answered, controller-ticked}
 use Rattle.world_process.proofs.Kubelets.{kubelet-others, kubelet-answered, kubelet-ticked, kubelet-put_all, kubelet-event}
 use Rattle.world_process.proofs.Lives.{is_event}
-use Rattle.world_process.proofs.Resting.{turn-still}
 use Rattle.world_process.proofs.Scripted.{controller-put_all, controller-event}
 
 -- ---- what is known of each
@@ -56,8 +53,3 @@ process-put_all doc p items h (Kubelet b) s = kubelet-put_all doc p items h b s
 pub process-event : (doc : Doc) (p k step : ℕ) (event : What) (version : Option Version) (h : List Entry) (x : Process) → cancels p event ≡ false → ProcessStands doc p h x → ProcessStands doc p (script_entry k step (Event event version) ∷ h) x
 process-event doc p k step event version h (Controller c) other s = controller-event doc p k step event version h c other s
 process-event doc p k step event version h (Kubelet b) other s = kubelet-event doc p k step event version h b s
-
--- ---- turns
-
-pub controller-still : (doc : Doc) (k p : ℕ) (h : List Entry) → IsStill doc k p h → elector_turn doc k p h ≡ h
-controller-still doc k p h still = turn-still doc k p h still

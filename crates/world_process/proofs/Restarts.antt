@@ -14,7 +14,8 @@ use Rattle.history.specs.Steps.{start, restart}
 use Rattle.world_process.specs.declared.controller.Controller.{Controller}
 use Rattle.world_process.specs.declared.controller.Role.TheVariants as role
 use Rattle.world_process.specs.declared.controller.Role.{Role}
-use Rattle.world_process.specs.Controllers.{RoleStands, ControllerStands, Restarted, restart_reading, reading_of, waiting_of}
+use Rattle.world_process.specs.Beats.{reading_of}
+use Rattle.world_process.specs.Controllers.{RoleStands, ControllerStands, Restarted, restart_reading, waiting_of}
 use Rattle.world_process.specs.Plain.{IsFew}
 use Rattle.world_process.proofs.Plainly.{starts-start}
 use Rattle.world_process.proofs.Turning.{restart-up, restart-down}

@@ -40,7 +40,7 @@ use Rattle.world_process.proofs.Unheard.{and-false}
 
 pub controller-first : (doc : Doc) (p beat step : ℕ) (key : Key) (object : Object) (h : List Entry) (c : Controller) → ControllerStands doc p h c → ControllerStands doc p (script_entry beat step (First key object) ∷ h) c
 controller-first doc p beat step key object h c s =
-    record { sort = s.sort; me = s.me; incarnation = s.incarnation; timing = s.timing; clock = s.clock; up_first = s.up_first; asleep = s.asleep; role = by_role c.role s.role }
+    record { sort = s.sort; me = s.me; incarnation = s.incarnation; timing = s.timing; clock = s.clock; up_first = s.up_first; waking = s.waking; role = by_role c.role s.role }
   where
     by_role : (r : Role) → RoleStands doc p c.incarnation h r → RoleStands doc p c.incarnation (script_entry beat step (First key object) ∷ h) r
     by_role (role.Down at) r = r
@@ -60,7 +60,7 @@ said now before = join (elim now as (λ o. Option (Option ℕ)) [ None ↦ befor
 
 pub controller-event : (doc : Doc) (p k step : ℕ) (event : What) (version : Option Version) (h : List Entry) (c : Controller) → cancels p event ≡ false → ControllerStands doc p h c → ControllerStands doc p (script_entry k step (Event event version) ∷ h) c
 controller-event doc p k step event version h c other s =
-    record { sort = s.sort; me = s.me; incarnation = s.incarnation; timing = s.timing; clock = s.clock; up_first = s.up_first; asleep = s.asleep; role = by_role c.role s.role }
+    record { sort = s.sort; me = s.me; incarnation = s.incarnation; timing = s.timing; clock = s.clock; up_first = s.up_first; waking = s.waking; role = by_role c.role s.role }
   where
     ends : ended p (script_entry k step (Event event version) ∷ h) ≡ ended p h
     ends = ap (λ b. said (when b None) (newest (λ e T. restart_says p e.beat e.actor e.deed) h)) other
@@ -150,7 +150,7 @@ down-event doc p k step event version h c own down s =
       timing = s.timing;
       clock = s.clock;
       up_first = s.up_first;
-      asleep = s.asleep;
+      waking = s.waking;
       role = (down-is doc p c.incarnation h c.role down s.role, ap (restart_reading doc p) (sym (cancelled doc p k step event version h own)));
     }
 
@@ -211,7 +211,7 @@ stopped-leading doc k id h c ask s up r =
     down = (alive-stop k 1 q (e ∷ h), ap (restart_reading doc p) (sym (cancelled doc p k 1 (what.Stop id) None h (eq-self p))))
 
     by_release : (o : Option Request) (ask : Option Ask) → Releases q h o ask → AsksOn doc k 1 p g (released k q o g) c' ask
-    by_release None None r = (refl, record { sort = s.sort; me = s.me; incarnation = s.incarnation; timing = s.timing; clock = s.clock; up_first = s.up_first; asleep = s.asleep; role = down })
+    by_release None None r = (refl, record { sort = s.sort; me = s.me; incarnation = s.incarnation; timing = s.timing; clock = s.clock; up_first = s.up_first; waking = s.waking; role = down })
     by_release None (Some ask) r = absurd r
     by_release (Some request) None r = absurd r
     by_release (Some request) (Some ask) r =
@@ -219,5 +219,5 @@ stopped-leading doc k id h c ask s up r =
           kind = Release;
           sent = ap (λ x. send k 1 q Release x g) (sym r.0);
           number = r.1;
-          stands = λ arrives. record { sort = s.sort; me = s.me; incarnation = s.incarnation; timing = s.timing; clock = s.clock; up_first = s.up_first; asleep = s.asleep; role = down };
+          stands = λ arrives. record { sort = s.sort; me = s.me; incarnation = s.incarnation; timing = s.timing; clock = s.clock; up_first = s.up_first; waking = s.waking; role = down };
         }

@@ -1,15 +1,15 @@
 -- A controller's turn after its restart, by what it is and what its elector answers.
-use Rattle.std.proofs.Common.{◌≡◌, ℕ, ◌+◌, ◌++◌, Bool, true, false, List, [], ◌∷◌, Option, Some, None, refl, sym, ap, ◌∙◌, subst}
+use Rattle.std.proofs.Common.{◌≡◌, ◌&&◌, ℕ, ◌+◌, ◌++◌, Bool, true, false, List, [], ◌∷◌, Option, Some, None, refl, sym, ap, ◌∙◌, subst}
 use Rattle.std.proofs.lemmas.List.{append-nil}
 use Rattle.kube_base.specs.declared.numbers.Local.{Local}
 use Rattle.kube_objects.specs.declared.call.Ask.{Ask}
 use Rattle.kube_objects.specs.declared.deed.Act.TheVariants as act
 use Rattle.kube_objects.specs.Clocks.{local}
 use Rattle.kube_objects.specs.Document.{Doc, restart_delay}
-use Rattle.kube_objects.specs.Elector.{leads}
+use Rattle.kube_objects.specs.Elector.{acts, is_before, leads}
 use Rattle.kube_objects.specs.Entry.{Entry, Identity, Ends, Sends, entry, actor_of}
 use Rattle.kube_objects.specs.Identities.{identity}
-use Rattle.kube_objects.specs.Process.{alive, ended}
+use Rattle.kube_objects.specs.Process.{alive, ended, is_present}
 use Rattle.kube_objects.specs.Turns.{end_term, try}
 use Rattle.kube_objects.specs.Wire.{next_call}
 use Rattle.history.specs.Printed.{printed, deeds_of}
@@ -26,6 +26,7 @@ use Rattle.world_process.specs.Moves.{ended_deeds, settled}
 use Rattle.world_process.proofs.Lives.{alive-end, ended-end}
 use Rattle.world_process.proofs.Standing.{stands-role, role-at}
 use Rattle.world_process.proofs.Terms.{no_deadline}
+use Rattle.world_process.proofs.Unheard.{and-false}
 use Rattle.world_process.proofs.Turning.{expire-up, finish-up, attempts-up, expire-down, finish-down, attempts-down, alive-expired, printed-expired, starts-expired}
 
 timed-from : (doc : Doc) (k p : ℕ) (h base : List Entry) (c : Controller) (end : Bool) (ask : Option Ask) → settled doc k p h ≡ base → printed base ≡ printed h ++ ended_deeds k (identity p c.incarnation) end →
@@ -141,3 +142,9 @@ pub candidate-turned : (doc : Doc) (k p : ℕ) (h : List Entry) (c : Controller)
     CandidateTurns doc k (identity p c.incarnation) (expired doc k (identity p c.incarnation) h) (after_turn x ask) → Timed doc k p h (record c { role = role.Candidate x }) false ask
 candidate-turned doc k p h c x None s up t = candidate-stays doc k p h c x s up t.0 t.1
 candidate-turned doc k p h c x (Some ask) s up t = candidate-asks doc k p h c x ask s up t
+
+-- who doesn't lead doesn't act
+pub unled-acts : (doc : Doc) (k : ℕ) (q : Identity) (h : List Entry) → leads q h ≡ false → acts doc q k h ≡ false
+unled-acts doc k q h unled =
+    let present = is_present (alive q.process h) q.incarnation in
+    ap (λ at. present && is_before (local doc q.process k) at) (no_deadline doc q h unled) ∙ and-false present

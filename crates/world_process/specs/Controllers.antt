@@ -1,5 +1,5 @@
 -- A controller of the world stands for a process in a history.
-use Rattle.std.specs.Prelude.{◌≡◌, ℕ, ◌<◌, ◌≤◌, ◌+◌, ◌++◌, Bool, true, false, List, Option, Some, None}
+use Rattle.std.specs.Prelude.{◌≡◌, ℕ, ◌+◌, ◌++◌, Bool, true, false, List, Option, Some, None}
 use Rattle.kube_base.specs.declared.numbers.Local.{Local}
 use Rattle.kube_base.specs.declared.numbers.ProcId.{ProcId}
 use Rattle.kube_objects.specs.declared.call.Ask.{Ask}
@@ -12,13 +12,13 @@ use Rattle.kube_objects.specs.Wire.{Back}
 use Rattle.history.specs.Printed.{printed}
 use Rattle.history.specs.Steps.{restart, attempts}
 use Rattle.leader_elector.specs.Stands.{IsTimingOf, CandidateStands, LeadingStands}
-use Rattle.skew_clock.specs.Clocking.{reading}
 use Rattle.world_process.specs.declared.controller.Controller.{Controller}
 use Rattle.world_process.specs.declared.controller.Role.{Role}
 use Rattle.world_process.specs.declared.controller.Role.TheVariants.{Down, Candidate, Leading}
 use Rattle.world_process.specs.declared.moves.Received.{Received}
 use Rattle.world_process.specs.declared.moves.Stopped.{Stopped}
 use Rattle.world_process.specs.declared.moves.Turn.{Turn}
+use Rattle.world_process.specs.Beats.{IsBeatOf, reading_of}
 use Rattle.world_process.specs.Clocked.{ClockStands}
 use Rattle.world_process.specs.Moves as moves
 use Rattle.world_process.specs.Moves.{settled, started_deeds, ended_deeds}
@@ -27,10 +27,6 @@ use Rattle.world_process.specs.Moves.{settled, started_deeds, ended_deeds}
 abbrev pub restart_reading : Doc → ℕ → Option ℕ → Option ℕ
 restart_reading doc p None = None
 restart_reading doc p (Some at) = Some (local doc p at + restart_delay doc)
-
-abbrev pub reading_of : Option Local → Option ℕ
-reading_of None = None
-reading_of (Some at) = Some at.0
 
 -- the reading at which a process that is down starts again
 abbrev pub waiting_of : Role → Option Local
@@ -57,7 +53,7 @@ pub record ControllerStands (doc : Doc) (p : ℕ) (h : List Entry) (c : Controll
   pub clock : ClockStands doc p c.clock
   pub up_first : c.up_first ≡ is_up_first doc p
   pub role : RoleStands doc p c.incarnation h c.role
-  pub asleep : (j : ℕ) → j ≤ c.clock.end → j < c.until.0 → reading c.clock j < c.below.0
+  pub waking : IsBeatOf c.clock c.waking.until c.waking.below
 
 -- the plain facts that a controller keeps
 pub record SameController (old new : Controller) : Type 0 where
@@ -91,12 +87,6 @@ Replied doc k p b h c r = moves.Replied doc k (identity p c.incarnation) b h (λ
 
 -- ---- a turn
 
--- a turn of the controller does nothing
-pub record IsStill (doc : Doc) (k p : ℕ) (h : List Entry) : Type 0 where
-  pub restarts : restart doc k p h ≡ h
-  pub settles : settled doc k p h ≡ h
-  pub tries : attempts doc k p h ≡ h
-
 -- a controller has started again where it was time
 pub record Restarted (doc : Doc) (k p : ℕ) (h : List Entry) (c : Controller) (started : Bool) : Type 0 where
   pub stands : ControllerStands doc p (restart doc k p h) c
@@ -108,4 +98,4 @@ pub record Timed (doc : Doc) (k p : ℕ) (h : List Entry) (c : Controller) (ende
   pub asks : AsksOn doc k 4 p (settled doc k p h) (attempts doc k p (settled doc k p h)) c ask
 
 abbrev pub Turned : Doc → ℕ → ℕ → List Entry → Controller → Turn → Type 0
-Turned doc k p h c t = moves.Turned doc k p h c.incarnation (λ x. ControllerStands doc p x c) t
+Turned doc k p h c t = moves.TurnedAs doc k p true h c.incarnation (λ x. ControllerStands doc p x c) t

@@ -13,7 +13,7 @@ use Rattle.kube_objects.specs.Newest.{when}
 use Rattle.kube_objects.specs.Process.{alive}
 use Rattle.kube_objects.specs.Wire.{Back}
 use Rattle.history.specs.Printed.{printed, deeds_of}
-use Rattle.history.specs.Steps.{happens, restart, expire, finish, delivered, elector_turn}
+use Rattle.history.specs.Steps.{happens, restart, expire, finish, delivered, elector_turn, kubelet_turn}
 use Rattle.leader_elector.specs.Moves.{Asked}
 use Rattle.world_process.specs.declared.moves.Received.{Received}
 use Rattle.world_process.specs.declared.moves.Stopped.{Stopped}
@@ -66,18 +66,33 @@ pub record StoppedAs (doc : Doc) (k : ℕ) (id : ProcId) (h : List Entry) (i : �
 abbrev pub settled : Doc → ℕ → ℕ → List Entry → List Entry
 settled doc k p h = finish doc k p (expire doc k p h)
 
--- the history after all of a controller's turn that asks nothing
+-- the history after all of a turn that asks nothing, by the sort of the process
+abbrev pub before_asking_as : Doc → ℕ → ℕ → Bool → List Entry → List Entry
+before_asking_as doc k p true h = settled doc k p (restart doc k p h)
+before_asking_as doc k p false h = expire doc k p h
+
 abbrev pub before_asking : Doc → ℕ → ℕ → List Entry → List Entry
-before_asking doc k p h = settled doc k p (restart doc k p h)
+before_asking doc k p h = before_asking_as doc k p (is_controller doc p) h
+
+-- a turn but for its tick, by the sort of the process
+abbrev pub own_turn_as : Doc → ℕ → ℕ → Bool → List Entry → List Entry
+own_turn_as doc k p true h = elector_turn doc k p h
+own_turn_as doc k p false h = kubelet_turn doc k p h
+
+abbrev pub own_turn : Doc → ℕ → ℕ → List Entry → List Entry
+own_turn doc k p h = own_turn_as doc k p (is_controller doc p) h
 
 abbrev pub ended_deeds : ℕ → Identity → Bool → List deed.Deed
 ended_deeds k q b = deeds_of k (actor_of q) (when b act.End)
 
--- a controller has done its turn, but for its tick
-pub record Turned (doc : Doc) (k p : ℕ) (h : List Entry) (i : ℕ) (Stands : List Entry → Type 0) (t : Turn) : Type 0 where
-  pub told : printed (before_asking doc k p h)
+-- a process of this sort has done its turn, but for its tick
+pub record TurnedAs (doc : Doc) (k p : ℕ) (sort : Bool) (h : List Entry) (i : ℕ) (Stands : List Entry → Type 0) (t : Turn) : Type 0 where
+  pub told : printed (before_asking_as doc k p sort h)
       ≡ printed h ++ started_deeds k (identity p i) t.started ++ ended_deeds k (identity p i) t.ended
-  pub asks : AsksOn k 4 (identity p i) (before_asking doc k p h) (elector_turn doc k p h) Stands t.ask
+  pub asks : AsksOn k 4 (identity p i) (before_asking_as doc k p sort h) (own_turn_as doc k p sort h) Stands t.ask
+
+abbrev pub Turned : Doc → ℕ → ℕ → List Entry → ℕ → (List Entry → Type 0) → Turn → Type 0
+Turned doc k p h i Stands t = TurnedAs doc k p (is_controller doc p) h i Stands t
 
 -- ---- a reply
 

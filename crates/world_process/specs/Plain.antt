@@ -1,8 +1,9 @@
 -- What holds of every history, at any point of a beat, that the world keeps in mind.
-use Rattle.std.specs.Prelude.{◌≡◌, Bool, ℕ, ◌+◌, ◌<◌, ◌≤◌, ◌^◌, true, false, List, [], ◌∷◌, IfSome}
+use Rattle.std.specs.Prelude.{◌≡◌, Bool, ℕ, ◌+◌, ◌<◌, ◌≤◌, ◌^◌, true, false, List, [], ◌∷◌, length, IfSome}
 use Rattle.kube_objects.specs.Entry.{Entry, Identity, Deed, Starts, Crashes, Stops, Ends, Delivers, Expires, Leads, entry}
 use Rattle.kube_objects.specs.Identities.{identity, is_by, identity_of}
 use Rattle.kube_objects.specs.Process.{starts, begun}
+use Rattle.kube_objects.specs.Seen.{node_names}
 use Rattle.kube_objects.specs.Wire.{Sent, Back}
 
 -- no entry of the history is by the identity
@@ -34,10 +35,11 @@ abbrev pub BackToKnown : ℕ → List Entry → List Back → Type 0
 BackToKnown n h [] = Unit {0}
 BackToKnown n h (b ∷ bs) = IsKnown n h b.who × BackToKnown n h bs
 
--- the calls and starts that a history counts stay within their types
+-- the calls and starts that a history counts, and the nodes that it names, stay within their types
 pub record IsFew (h : List Entry) : Type 0 where
   pub calls : (q : Identity) → begun q h + 1 < 2 ^ 64
   pub starts : (p : ℕ) → starts p h < 2 ^ 32
+  pub nodes : length (node_names h) < 2 ^ 32
 
 -- deeds of a process that write nothing, send nothing and change nothing in force
 abbrev pub is_quiet : Deed → Bool

@@ -1,10 +1,12 @@
 -- A process of the world stands for one of the document in a history.
-use Rattle.std.specs.Prelude.{◌≡◌, ℕ, Bool, List, Option}
+use Rattle.std.specs.Prelude.{◌≡◌, ℕ, Bool, true, false, List, Option, Some, None}
 use Rattle.kube_base.specs.declared.numbers.ProcId.{ProcId}
 use Rattle.kube_objects.specs.declared.call.Ask.{Ask}
-use Rattle.kube_objects.specs.Document.{Doc}
+use Rattle.kube_objects.specs.Document.{Doc, is_controller}
+use Rattle.kube_objects.specs.Elector.{acts}
 use Rattle.kube_objects.specs.Entry.{Entry}
 use Rattle.kube_objects.specs.Identities.{identity}
+use Rattle.kube_objects.specs.Process.{alive}
 use Rattle.kube_objects.specs.Wire.{Back}
 use Rattle.skew_clock.specs.Clocking.{Clocking}
 use Rattle.world_process.specs.declared.moves.Received.{Received}
@@ -42,6 +44,21 @@ is_up_first_as (Kubelet b) = b.up_first
 pub record SameProcess (old new : Process) : Type 0 where
   pub me : me_of new ≡ me_of old
   pub clock : clock_of new ≡ clock_of old
+
+-- ---- whether it acts
+
+-- where it is up in an incarnation that acts as the leader
+abbrev pub acts_if_up : Doc → ℕ → ℕ → Option ℕ → List Entry → Bool
+acts_if_up doc k p None h = false
+acts_if_up doc k p (Some i) h = acts doc (identity p i) k h
+
+-- a kubelet never does
+abbrev pub acts_as : Doc → ℕ → ℕ → Bool → List Entry → Bool
+acts_as doc k p true h = acts_if_up doc k p (alive p h) h
+acts_as doc k p false h = false
+
+abbrev pub acts_now : Doc → ℕ → ℕ → List Entry → Bool
+acts_now doc k p h = acts_as doc k p (is_controller doc p) h
 
 -- ---- what it did
 

@@ -4,7 +4,8 @@ ghost use Rattle.kube_objects.specs.Clocks.{rate_of as ppm_of, last_rate};
 ghost use Rattle.kube_objects.specs.Document.{Doc, of_millis};
 ghost use Rattle.kube_objects.specs.Newest.{or_else};
 ghost use Rattle.script_reader.specs.Lawful.{AreLawful, IsLawful};
-ghost use Rattle.skew_clock.specs.Clocking.{rate_at, last_set, reading};
+ghost use Rattle.skew_clock.specs.Clocking.{rate_at, last_set};
+ghost use Rattle.world_process.specs.Beats.{IsBeatOf};
 ghost use Rattle.world_process.specs.Clocked.{AreEventsFrom, ClockStands, IsMadeOf, SameSpan};
 
 use kube_base::{Beat, Local, NoMemory, ProcId};
@@ -80,12 +81,12 @@ fn rate_of(what: &What, me: ProcId) -> Option<u32>
     }
 }
 
-/// The first beat at which a clock reads this, or one after all beats.
-pub fn first_beat(clock: &Clock, at: Local) -> Beat
-    ensures { (j : ℕ) → j ≤ clock.now.end → j < result.0 → reading clock.now j < at.0 }
+/// The first beat up to its end at which a clock reads this. None where there is none, or nothing is asked for.
+pub fn first_beat(clock: &Clock, at: Option<Local>) -> Option<Beat>
+    ensures { IsBeatOf clock.now result at }
 {
-    match clock.first_beat(at) {
-        Some(beat) => beat,
-        None => Beat(u32::MAX),
+    match at {
+        Some(at) => clock.first_beat(at),
+        None => None,
     }
 }

@@ -1,5 +1,6 @@
 // A controller of the world: its clock and its part in the election.
-ghost use Rattle.std.specs.Prelude.{◌≡◌, ◌*◌, ◌+◌, ◌<◌, ◌≤◌, ◌^◌, ◌∷◌, ℕ, true, false, List, [], Some, None, IfOk};
+ghost use Rattle.std.specs.Prelude.{◌≡◌, ◌*◌, ◌+◌, ◌<◌, ◌≤◌, ◌^◌, ◌∷◌, ℕ, true, false, List, [], Option, Some, None, IfOk, IfSome, is_some};
+ghost use Rattle.kube_base.specs.declared.numbers.Local.{Local};
 ghost use Rattle.kube_base.specs.declared.numbers.ProcId.{ProcId};
 ghost use Rattle.kube_base.specs.declared.numbers.Version.{Version};
 ghost use Rattle.kube_objects.specs.declared.script.What.TheVariants as what;
@@ -7,23 +8,27 @@ ghost use Rattle.kube_objects.specs.Clocks.{local, wall as wall_in};
 ghost use Rattle.kube_objects.specs.Document.{Doc, is_controller, restart_delay};
 ghost use Rattle.kube_objects.specs.Entry.{Entry, Identity, Leads, entry};
 ghost use Rattle.kube_objects.specs.Identities.{identity};
-ghost use Rattle.kube_objects.specs.Process.{starts};
+ghost use Rattle.kube_objects.specs.Process.{alive, starts};
 ghost use Rattle.kube_objects.specs.Wire.{Back};
 ghost use Rattle.history.specs.Steps.{happens, start, restart};
+ghost use Rattle.agenda_laws.specs.Times.{elector_reading};
 ghost use Rattle.leader_elector.specs.declared.candidate.Candidate.{Candidate};
 ghost use Rattle.leader_elector.specs.declared.leading.Leading.{Leading};
-ghost use Rattle.leader_elector.specs.Stands.{IsChosen};
+ghost use Rattle.leader_elector.specs.Stands.{IsChosen, acting_identity};
 ghost use Rattle.script_reader.specs.Lawful.{AreLawful, IsLawful};
 ghost use Rattle.world_process.specs.declared.controller.Role.TheVariants as role;
+ghost use Rattle.world_process.specs.Beats.{IsBeatOf, reading_of};
 ghost use Rattle.world_process.specs.Clocked.{AreEventsFrom, IsMadeOf};
-ghost use Rattle.world_process.specs.Controllers.{ControllerStands, SameController, Crashed, Begun, StoppedAs, Restarted, Timed, Turned, Replied, IsLed, IsStill, is_up_as, waiting_of};
+ghost use Rattle.world_process.specs.Controllers.{ControllerStands, SameController, Crashed, Begun, StoppedAs, Restarted, Timed, Turned, Replied, IsLed, is_up_as, waiting_of};
 ghost use Rattle.world_process.specs.Plain.{IsPlain, IsFew};
+ghost use Rattle.world_process.specs.Processes.{acts_as};
 
-use crate::clocks::{clock_for, first_beat, picoseconds};
+use crate::clocks::{clock_for, picoseconds};
 use crate::moves::{Received, Stopped, Turn, asks, final_turn, leads, stays, stop_with, turn_with};
+use crate::waking::Waking;
 use kube_base::{Beat, Local, NoMemory, ProcId, Wall};
 use kube_objects::{Event, Proc, Reply, Settings};
-use leader_elector::{Candidate, Heard, Leading, LeadingNext, Timing};
+use leader_elector::{Acting, Candidate, Heard, Leading, LeadingNext, Timing};
 use skew_clock::Clock;
 use std::alloc::Global;
 use std::mem;
@@ -45,9 +50,7 @@ pub struct Controller {
     pub clock: Clock,
     pub up_first: bool,
     pub role: Role,
-    /// At each beat before `until` its clock reads less than `below`.
-    pub until: Beat,
-    pub below: Local,
+    pub waking: Waking,
 }
 
 impl Controller {
@@ -81,8 +84,7 @@ impl Controller {
             clock,
             up_first: process.up,
             role: Role::Down(None),
-            until: Beat(0),
-            below: Local(0),
+            waking: Waking::new(),
         })
     }
 
@@ -173,25 +175,52 @@ impl Controller {
         turn
     }
 
-    // Whether it is known that its turn does nothing from this beat to before `until`.
-    fn is_asleep(&self, beat: Beat) -> bool
-        ensures { (doc : Doc) (k p : ℕ) (h : List Entry) → ControllerStands doc p h self.now → result ≡ true → k ≤ self.now.clock.end
-            → k < self.now.until.0 → IsStill doc k p h }
+    /// The least reading at which its turn, a tick aside, adds an entry to the history. None where there is none.
+    pub fn wake(&self) -> Option<Local>
+        ensures { (doc : Doc) (p : ℕ) (h : List Entry) → ControllerStands doc p h self.now → reading_of result ≡ elector_reading doc p h }
     {
-        beat.0 < self.until.0 && self.sleeps(self.below)
+        match &self.role {
+            Role::Down(at) => *at,
+            Role::Candidate(candidate) => Some(candidate.wake()),
+            Role::Leading(leading) => Some(leading.wake()),
+        }
     }
 
-    /// The first beat at which its turn may do something: in each beat before, up to the end, it does nothing.
-    pub fn wakes_from(&mut self, beat: Beat) -> Beat
+    /// The first beat up to the end at which its clock reads `wake`: its turn, a tick aside, adds an entry to the history from this
+    /// beat on. None where there is none.
+    pub fn turn_beat(&self) -> Option<Beat>
+        ensures { (doc : Doc) (p : ℕ) (h : List Entry) (at : Option Local) → ControllerStands doc p h self.now
+            → reading_of at ≡ elector_reading doc p h → IsBeatOf self.now.clock result at }
+    {
+        self.waking.beat_of(&self.clock, self.wake())
+    }
+
+    /// Finds `turn_beat` and keeps it, so that its next turns needn't read the clock.
+    pub fn keep_turn_beat(&mut self)
         ensures same { SameController self.old self.new }
         ensures stands { (doc : Doc) (p : ℕ) (h : List Entry) → ControllerStands doc p h self.old → ControllerStands doc p h self.new }
-        ensures still { (doc : Doc) (k p : ℕ) (h : List Entry) → ControllerStands doc p h self.old → k ≤ self.old.clock.end
-            → k < result.0 → IsStill doc k p h }
+        ensures kept { (doc : Doc) (p : ℕ) (h : List Entry) (at : Option Local) → ControllerStands doc p h self.old
+            → reading_of at ≡ elector_reading doc p h → IsBeatOf self.new.clock self.new.waking.until at }
     {
-        if !self.is_asleep(beat) {
-            self.doze();
+        let wake = self.wake();
+        self.waking.keep(&self.clock, wake);
+    }
+
+    /// What shows that it acts as the leader at a beat; None where it doesn't.
+    pub fn acting(&self, beat: Beat) -> Option<Acting<'_>>
+        requires { beat.0 ≤ self.now.clock.end }
+        ensures acts { (doc : Doc) (k p : ℕ) (h : List Entry) → ControllerStands doc p h self.now → beat.0 ≡ k
+            → is_some result ≡ acts_as doc k p true h }
+        ensures identity { (doc : Doc) (p : ℕ) (h : List Entry) → ControllerStands doc p h self.now
+            → IfSome result (λ a. acting_identity a ≡ identity p self.now.incarnation) }
+        ensures up { (doc : Doc) (p : ℕ) (h : List Entry) → ControllerStands doc p h self.now
+            → IfSome result (λ a. alive p h ≡ Some self.now.incarnation) }
+    {
+        match &self.role {
+            Role::Down(_) => None,
+            Role::Candidate(_) => None,
+            Role::Leading(leading) => leading.acting(self.clock.local(beat)),
         }
-        self.until
     }
 
     /// Starts again, where it is down and its clock has reached its restart.
@@ -210,47 +239,6 @@ impl Controller {
         }
         self.start(beat);
         true
-    }
-
-    // Whether its turn does nothing at each reading below this one.
-    fn sleeps(&self, below: Local) -> bool
-        ensures { (doc : Doc) (k p : ℕ) (h : List Entry) → ControllerStands doc p h self.now → local doc p k < below.0 → result ≡ true
-            → IsStill doc k p h }
-    {
-        match &self.role {
-            Role::Down(None) => true,
-            Role::Down(Some(at)) => below.0 <= at.0,
-            Role::Candidate(candidate) => below.0 <= candidate.wake().0,
-            Role::Leading(leading) => below.0 <= leading.wake().0,
-        }
-    }
-
-    // Looks for the beat up to which it sleeps, so that its next turns needn't read the clock. It stays out of line, so that a
-    // controller that sleeps costs two comparisons.
-    #[inline(never)]
-    fn doze(&mut self)
-        ensures same { SameController self.old self.new }
-        ensures incarnation { self.new.incarnation ≡ self.old.incarnation }
-        ensures stands { (doc : Doc) (p : ℕ) (h : List Entry) → ControllerStands doc p h self.old → ControllerStands doc p h self.new }
-        ensures still { (doc : Doc) (k p : ℕ) (h : List Entry) → ControllerStands doc p h self.old → k ≤ self.old.clock.end
-            → k < self.new.until.0 → IsStill doc k p h }
-    {
-        let wake = self.wake();
-        self.until = first_beat(&self.clock, wake);
-        self.below = wake;
-    }
-
-    // The least reading at which its turn may do something.
-    fn wake(&self) -> Local
-        ensures { (doc : Doc) (k p : ℕ) (h : List Entry) → ControllerStands doc p h self.now → local doc p k < result.0
-            → IsStill doc k p h }
-    {
-        match &self.role {
-            Role::Down(None) => Local(u64::MAX),
-            Role::Down(Some(at)) => *at,
-            Role::Candidate(candidate) => candidate.wake(),
-            Role::Leading(leading) => leading.wake(),
-        }
     }
 
     // The rest of its turn, after the restart.

@@ -1,30 +1,43 @@
-// A kubelet of the world: its clock, and whether it is up.
-ghost use Rattle.std.specs.Prelude.{◌≡◌, ◌+◌, ◌<◌, ◌^◌, ℕ, false, true, List, [], IfOk};
+// A kubelet of the world: its clock, and its rounds while it is up.
+ghost use Rattle.std.specs.Prelude.{◌≡◌, ◌+◌, ◌<◌, ◌≤◌, ◌^◌, ℕ, false, List, [], Option, IfOk};
+ghost use Rattle.kube_base.specs.declared.numbers.Local.{Local};
 ghost use Rattle.kube_base.specs.declared.numbers.ProcId.{ProcId};
 ghost use Rattle.kube_objects.specs.declared.script.What.TheVariants as what;
 ghost use Rattle.kube_objects.specs.Document.{Doc, is_controller};
 ghost use Rattle.kube_objects.specs.Entry.{Entry};
+ghost use Rattle.kube_objects.specs.Identities.{identity};
+ghost use Rattle.kube_objects.specs.InForce.{posted_status};
 ghost use Rattle.kube_objects.specs.Process.{starts};
-ghost use Rattle.history.specs.Steps.{happens, start};
+ghost use Rattle.kube_objects.specs.Wire.{Back};
+ghost use Rattle.history.specs.Steps.{happens, start, kubelet_turn};
+ghost use Rattle.agenda_laws.specs.Times.{kubelet_reading};
 ghost use Rattle.script_reader.specs.Lawful.{AreLawful, IsLawful};
+ghost use Rattle.world_process.specs.Beats.{IsBeatOf, reading_of};
 ghost use Rattle.world_process.specs.Clocked.{AreEventsFrom, IsMadeOf};
-ghost use Rattle.world_process.specs.Kubelets.{KubeletStands, SameKubelet, Crashed, Begun};
-ghost use Rattle.world_process.specs.Plain.{IsFew};
+ghost use Rattle.world_process.specs.Kubelets.{KubeletStands, SameKubelet, Crashed, Begun, Turned, Replied};
+ghost use Rattle.world_process.specs.Plain.{IsPlain, IsFew};
 
-use crate::clocks::clock_for;
-use kube_base::{NoMemory, ProcId};
-use kube_objects::{Event, Proc, Settings};
+use crate::clocks::{clock_for, picoseconds};
+use crate::moves::{Received, Turn, received_with, stays, turn_with};
+use crate::round_timing::RoundTiming;
+use crate::waking::Waking;
+use kube_base::{Beat, Local, NoMemory, ProcId};
+use kube_objects::{Event, Proc, ReadyStatus, Reply, Settings};
 use skew_clock::Clock;
 use std::alloc::Global;
 
-/// A kubelet with its clock. The incarnation counts its starts.
+/// A kubelet with its clock. The incarnation counts its starts; where it is up its rounds are those of one incarnation.
 #[derive(Drop)]
 pub struct Kubelet {
     pub me: ProcId,
     pub incarnation: u32,
+    /// The number of its node's name.
+    pub node: u32,
+    pub timing: RoundTiming,
     pub clock: Clock,
     pub up_first: bool,
-    pub up: bool,
+    pub rounds: Option<kubelet_node::Kubelet>,
+    pub waking: Waking,
 }
 
 impl Kubelet {
@@ -43,48 +56,131 @@ impl Kubelet {
         ensures stands { (doc : Doc) (p : ℕ) → IsMadeOf doc p me.0 settings.now process.now events.now → is_controller doc p ≡ false
             → IfOk result (KubeletStands doc p []) }
     {
+        let timing = RoundTiming {
+            lease_seconds: settings.node_lease_duration_seconds,
+            timeout: picoseconds(process.timeout_millis),
+        };
         let clock = clock_for(alloc, me, settings, process, events)?;
         Ok(Kubelet {
             me,
             incarnation: 0,
+            node: process.name,
+            timing,
             clock,
             up_first: process.up,
-            up: false,
+            rounds: None,
+            waking: Waking::new(),
         })
     }
 
     /// Starts in the next incarnation.
-    pub fn start(&mut self)
+    pub fn start(&mut self, beat: Beat)
+        requires { beat.0 ≤ self.old.clock.end }
         ensures same { SameKubelet self.old self.new }
-        ensures stands { (doc : Doc) (k step p : ℕ) (h : List Entry) → KubeletStands doc p h self.old → starts p h + 1 < 2 ^ 32
+        ensures stands { (doc : Doc) (n k step p : ℕ) (h : List Entry) → KubeletStands doc p h self.old → beat.0 ≡ k → IsPlain n h
+            → starts p h + 1 < 2 ^ 32
             → KubeletStands doc p (start k step p h) self.new }
     {
-        self.incarnation = self.incarnation.saturating_add(1);
-        self.up = true;
+        let incarnation = self.incarnation.saturating_add(1);
+        let now = self.clock.local(beat);
+        self.incarnation = incarnation;
+        self.rounds = Some(kubelet_node::Kubelet::start(
+            self.node,
+            incarnation,
+            self.timing.lease_seconds,
+            self.timing.timeout,
+            now,
+        ));
     }
 
-    /// Goes down where it is up. Tells whether it was up.
+    /// Goes down where it is up, and its call is forgotten. Tells whether it was up.
     pub fn crash(&mut self) -> bool
         ensures same { SameKubelet self.old self.new }
         ensures stands { (doc : Doc) (k : ℕ) (id : ProcId) (h : List Entry) → KubeletStands doc id.0 h self.old
             → Crashed doc k id h self.new result }
     {
-        let up = self.up;
-        self.up = false;
+        let up = self.rounds.is_some();
+        self.rounds = None;
         up
     }
 
     /// Starts where it is down. Tells whether it was down.
-    pub fn begin(&mut self) -> bool
+    pub fn begin(&mut self, beat: Beat) -> bool
+        requires { beat.0 ≤ self.old.clock.end }
         ensures same { SameKubelet self.old self.new }
-        ensures stands { (doc : Doc) (k : ℕ) (id : ProcId) (h : List Entry) → KubeletStands doc id.0 h self.old
-            → IsFew (happens doc k (what.Start id) h)
+        ensures stands { (doc : Doc) (n k : ℕ) (id : ProcId) (h : List Entry) → KubeletStands doc id.0 h self.old → beat.0 ≡ k
+            → IsPlain n h → IsFew (happens doc k (what.Start id) h)
             → Begun doc k id h self.new result }
     {
-        if self.up {
+        if self.rounds.is_some() {
             return false;
         }
-        self.start();
+        self.start(beat);
         true
+    }
+
+    /// Its turn: a call may expire, and it may send a request. Its messages carry this status.
+    pub fn turn(&mut self, beat: Beat, status: ReadyStatus) -> Turn
+        requires { beat.0 ≤ self.old.clock.end }
+        ensures same { SameKubelet self.old self.new }
+        ensures stands { (doc : Doc) (k p : ℕ) (h : List Entry) → KubeletStands doc p h self.old → beat.0 ≡ k
+            → status ≡ posted_status doc p h → IsFew (kubelet_turn doc k p h)
+            → Turned doc k p h self.new result }
+    {
+        let now = self.clock.local(beat);
+        let wall = self.clock.wall_at(now);
+        match &mut self.rounds {
+            None => turn_with(None),
+            Some(rounds) => turn_with(rounds.on_timer(now, wall, status)),
+        }
+    }
+
+    /// A reply that comes to an incarnation of the kubelet.
+    pub fn receive(&mut self, incarnation: u32, number: u64, reply: &Reply, beat: Beat) -> Received
+        requires { beat.0 ≤ self.old.clock.end }
+        ensures same { SameKubelet self.old self.new }
+        ensures stands { (doc : Doc) (k p : ℕ) (b : Back) (h : List Entry) → KubeletStands doc p h self.old → beat.0 ≡ k
+            → b.who ≡ identity p incarnation → b.call.number ≡ number → b.reply ≡ reply.now
+            → IsFew h → Replied doc k p b h self.new result }
+    {
+        if incarnation != self.incarnation {
+            return stays();
+        }
+        let now = self.clock.local(beat);
+        let wall = self.clock.wall_at(now);
+        match &mut self.rounds {
+            None => stays(),
+            Some(rounds) => received_with(rounds.on_reply(number, *reply, now, wall)),
+        }
+    }
+
+    /// The least reading at which its turn adds an entry to the history. None where there is none.
+    pub fn wake(&self) -> Option<Local>
+        ensures { (doc : Doc) (p : ℕ) (h : List Entry) → KubeletStands doc p h self.now → reading_of result ≡ kubelet_reading doc p h }
+    {
+        match &self.rounds {
+            None => None,
+            Some(rounds) => Some(rounds.wake()),
+        }
+    }
+
+    /// The first beat up to the end at which its clock reads `wake`: its turn adds an entry to the history from this beat on. None
+    /// where there is none.
+    pub fn turn_beat(&self) -> Option<Beat>
+        ensures { (doc : Doc) (p : ℕ) (h : List Entry) (at : Option Local) → KubeletStands doc p h self.now
+            → reading_of at ≡ kubelet_reading doc p h → IsBeatOf self.now.clock result at }
+    {
+        self.waking.beat_of(&self.clock, self.wake())
+    }
+
+    /// Finds `turn_beat` and keeps it, so that its next turns needn't read the clock.
+    pub fn keep_turn_beat(&mut self)
+        ensures same { SameKubelet self.old self.new }
+        ensures stands { (doc : Doc) (p : ℕ) (h : List Entry) → KubeletStands doc p h self.old → KubeletStands doc p h self.new }
+        ensures kept { (doc : Doc) (p : ℕ) (h : List Entry) (at : Option Local) → KubeletStands doc p h self.old
+            → reading_of at ≡ kubelet_reading doc p h → IsBeatOf self.new.clock self.new.waking.until at }
+    {
+        let wake = self.wake();
+        self.waking.keep(&self.clock, wake);
     }
 }

@@ -3,12 +3,18 @@
 
 mod clocks;
 mod controller;
+mod in_force;
 mod kubelet;
 mod moves;
 mod process;
+mod round_timing;
+mod waking;
 
-pub use clocks::picoseconds;
+pub use clocks::{first_beat, picoseconds};
 pub use controller::{Controller, Role};
+pub use in_force::InForce;
 pub use kubelet::Kubelet;
 pub use moves::{Received, Stopped, Turn};
 pub use process::Process;
+pub use round_timing::RoundTiming;
+pub use waking::Waking;

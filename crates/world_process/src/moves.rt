@@ -71,10 +71,14 @@ pub fn stays() -> Received
 pub fn asks(ask: Ask) -> Received
     ensures { result ≡ record { lead = None; ask = Some ask } }
 {
-    Received {
-        lead: None,
-        ask: Some(ask),
-    }
+    received_with(Some(ask))
+}
+
+/// A reply that causes this.
+pub fn received_with(ask: Option<Ask>) -> Received
+    ensures { result ≡ record { lead = None; ask = ask } }
+{
+    Received { lead: None, ask }
 }
 
 /// A reply after which a controller leads.

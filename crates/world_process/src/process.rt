@@ -1,22 +1,30 @@
 // A process of the world, and what the world asks of each.
-ghost use Rattle.std.specs.Prelude.{◌≡◌, ◌+◌, ◌<◌, ◌≤◌, ◌^◌, ℕ, true, List};
+ghost use Rattle.std.specs.Prelude.{◌≡◌, ◌↔◌, ◌+◌, ◌<◌, ◌≤◌, ◌^◌, ℕ, true, List, Option, Some, IfSome, is_some};
+ghost use Rattle.kube_base.specs.declared.numbers.Local.{Local};
 ghost use Rattle.kube_base.specs.declared.numbers.ProcId.{ProcId};
 ghost use Rattle.kube_objects.specs.declared.deed.Actor.TheVariants as actor;
 ghost use Rattle.kube_objects.specs.declared.script.What.TheVariants as what;
 ghost use Rattle.kube_objects.specs.Document.{Doc, is_controller, restart_delay};
 ghost use Rattle.kube_objects.specs.Entry.{Entry};
 ghost use Rattle.kube_objects.specs.Identities.{identity};
-ghost use Rattle.kube_objects.specs.Process.{starts};
+ghost use Rattle.kube_objects.specs.InForce.{posted_status};
+ghost use Rattle.kube_objects.specs.Process.{alive, starts};
 ghost use Rattle.kube_objects.specs.Wire.{Back};
-ghost use Rattle.history.specs.Steps.{happens, start, elector_turn};
+ghost use Rattle.history.specs.Steps.{happens, start};
+ghost use Rattle.agenda_laws.specs.Times.{is_early};
+ghost use Rattle.leader_elector.specs.Stands.{acting_identity};
+ghost use Rattle.world_process.specs.Beats.{IsBeatOf, beat_in, own_reading, reading_of};
+ghost use Rattle.world_process.specs.Moves.{own_turn};
 ghost use Rattle.world_process.specs.Plain.{IsPlain, IsFew};
-ghost use Rattle.world_process.specs.Processes.{ProcessStands, SameProcess, Crashed, Begun, StoppedAs, Turned, Replied, me_of, incarnation_of, clock_of, is_up_first_as};
+ghost use Rattle.world_process.specs.Processes.{ProcessStands, SameProcess, Crashed, Begun, StoppedAs, Turned, Replied, acts_now, me_of, incarnation_of, clock_of, is_up_first_as};
 
 use crate::controller::Controller;
 use crate::kubelet::Kubelet;
-use crate::moves::{Received, Stopped, Turn, stays, stop_with, turn_with};
-use kube_base::{Beat, ProcId};
-use kube_objects::{Actor, Reply};
+use crate::moves::{Received, Stopped, Turn, stop_with};
+use kube_base::{Beat, Local, ProcId};
+use kube_objects::{Actor, ReadyStatus, Reply};
+use leader_elector::Acting;
+use skew_clock::Clock;
 
 /// A process of the world.
 #[derive(Drop)]
@@ -73,7 +81,7 @@ impl Process {
     {
         match self {
             Process::Controller(controller) => controller.start(beat),
-            Process::Kubelet(kubelet) => kubelet.start(),
+            Process::Kubelet(kubelet) => kubelet.start(beat),
         }
     }
 
@@ -99,7 +107,7 @@ impl Process {
     {
         match self {
             Process::Controller(controller) => controller.begin(beat),
-            Process::Kubelet(kubelet) => kubelet.begin(),
+            Process::Kubelet(kubelet) => kubelet.begin(beat),
         }
     }
 
@@ -118,45 +126,95 @@ impl Process {
     }
 
     /// A controller's turn but for its tick: it may start again, end, or ask a request. The delay of a restart is in units
-    /// of 10^-12 s. A kubelet does nothing so far.
-    pub fn turn(&mut self, beat: Beat, delay: u64) -> Turn
+    /// of 10^-12 s. A kubelet's call may expire, and it may send a request; its messages carry this status.
+    pub fn turn(&mut self, beat: Beat, delay: u64, status: ReadyStatus) -> Turn
         requires within { beat.0 ≤ (clock_of self.old).end }
         requires delay { delay ≤ 86400000000000000 }
         ensures same { SameProcess self.old self.new }
-        ensures stands { (doc : Doc) (n k p : ℕ) (h : List Entry) → ProcessStands doc p h self.old → is_controller doc p ≡ true
-            → beat.0 ≡ k → delay ≡ restart_delay doc → IsPlain n h → IsFew (elector_turn doc k p h) → Turned doc k p h self.new result }
+        ensures stands { (doc : Doc) (n k p : ℕ) (h : List Entry) → ProcessStands doc p h self.old → beat.0 ≡ k
+            → delay ≡ restart_delay doc → status ≡ posted_status doc p h → IsPlain n h → IsFew (own_turn doc k p h)
+            → Turned doc k p h self.new result }
     {
         match self {
             Process::Controller(controller) => controller.turn(beat, delay),
-            Process::Kubelet(_) => turn_with(None),
+            Process::Kubelet(kubelet) => kubelet.turn(beat, status),
         }
     }
 
-    /// The first beat at which a controller's turn may do something but for its tick: in each beat before, up to the end,
-    /// it doesn't.
-    pub fn wakes_from(&mut self, beat: Beat) -> Beat
-        ensures same { SameProcess self.old self.new }
-        ensures stands { (doc : Doc) (p : ℕ) (h : List Entry) → ProcessStands doc p h self.old → ProcessStands doc p h self.new }
-        ensures still { (doc : Doc) (k p : ℕ) (h : List Entry) → ProcessStands doc p h self.old → is_controller doc p ≡ true
-            → k ≤ (clock_of self.old).end → k < result.0 → elector_turn doc k p h ≡ h }
+    /// Its clock.
+    pub fn clock(&self) -> &Clock
+        ensures { result.now ≡ clock_of self.now }
     {
         match self {
-            Process::Controller(controller) => controller.wakes_from(beat),
-            Process::Kubelet(_) => Beat(u32::MAX),
+            Process::Controller(controller) => &controller.clock,
+            Process::Kubelet(kubelet) => &kubelet.clock,
         }
     }
 
-    /// A reply that comes to an incarnation of a controller. A kubelet does nothing on one so far.
+    /// The least reading at which its turn, its tick aside, adds an entry to the history. None where there is none.
+    pub fn wake(&self) -> Option<Local>
+        ensures { (doc : Doc) (p : ℕ) (h : List Entry) → ProcessStands doc p h self.now → reading_of result ≡ own_reading doc p h }
+    {
+        match self {
+            Process::Controller(controller) => controller.wake(),
+            Process::Kubelet(kubelet) => kubelet.wake(),
+        }
+    }
+
+    /// The first beat up to the end at which its clock reads `wake`: its turn, its tick aside, adds an entry to the history exactly
+    /// from this beat on. None where there is none.
+    pub fn turn_beat(&self) -> Option<Beat>
+        ensures first { (doc : Doc) (p : ℕ) (h : List Entry) (at : Option Local) → ProcessStands doc p h self.now
+            → reading_of at ≡ own_reading doc p h → IsBeatOf (clock_of self.now) result at }
+        ensures woken { (doc : Doc) (k p : ℕ) (h : List Entry) → ProcessStands doc p h self.now → k ≤ (clock_of self.now).end
+            → own_turn doc k p h ≡ h ↔ is_early k (beat_in result) ≡ true }
+        ensures within { (doc : Doc) (p : ℕ) (h : List Entry) → ProcessStands doc p h self.now
+            → IfSome result (λ beat. beat.0 ≤ (clock_of self.now).end) }
+    {
+        match self {
+            Process::Controller(controller) => controller.turn_beat(),
+            Process::Kubelet(kubelet) => kubelet.turn_beat(),
+        }
+    }
+
+    /// Finds `turn_beat` and keeps it, so that its next turns needn't read the clock.
+    pub fn keep_turn_beat(&mut self)
+        ensures same { SameProcess self.old self.new }
+        ensures stands { (doc : Doc) (p : ℕ) (h : List Entry) → ProcessStands doc p h self.old → ProcessStands doc p h self.new }
+    {
+        match self {
+            Process::Controller(controller) => controller.keep_turn_beat(),
+            Process::Kubelet(kubelet) => kubelet.keep_turn_beat(),
+        }
+    }
+
+    /// What shows that it acts as the leader at a beat; None where it doesn't, as a kubelet never does.
+    pub fn acting(&self, beat: Beat) -> Option<Acting<'_>>
+        requires { beat.0 ≤ (clock_of self.now).end }
+        ensures acts { (doc : Doc) (k p : ℕ) (h : List Entry) → ProcessStands doc p h self.now → beat.0 ≡ k
+            → is_some result ≡ acts_now doc k p h }
+        ensures identity { (doc : Doc) (p : ℕ) (h : List Entry) → ProcessStands doc p h self.now
+            → IfSome result (λ a. acting_identity a ≡ identity p (incarnation_of self.now)) }
+        ensures up { (doc : Doc) (p : ℕ) (h : List Entry) → ProcessStands doc p h self.now
+            → IfSome result (λ a. alive p h ≡ Some (incarnation_of self.now)) }
+    {
+        match self {
+            Process::Controller(controller) => controller.acting(beat),
+            Process::Kubelet(_) => None,
+        }
+    }
+
+    /// A reply that comes to an incarnation of the process.
     pub fn receive(&mut self, incarnation: u32, number: u64, reply: &Reply, beat: Beat) -> Received
         requires { beat.0 ≤ (clock_of self.old).end }
         ensures same { SameProcess self.old self.new }
-        ensures stands { (doc : Doc) (k p : ℕ) (b : Back) (h : List Entry) → ProcessStands doc p h self.old → is_controller doc p ≡ true
+        ensures stands { (doc : Doc) (k p : ℕ) (b : Back) (h : List Entry) → ProcessStands doc p h self.old
             → beat.0 ≡ k → b.who ≡ identity p incarnation → b.call.number ≡ number → b.reply ≡ reply.now → IsFew h
             → Replied doc k p b h self.new result }
     {
         match self {
             Process::Controller(controller) => controller.receive(incarnation, number, reply, beat),
-            Process::Kubelet(_) => stays(),
+            Process::Kubelet(kubelet) => kubelet.receive(incarnation, number, reply, beat),
         }
     }
 }

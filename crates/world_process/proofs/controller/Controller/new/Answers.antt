@@ -1,4 +1,4 @@
-use Rattle.std.proofs.Common.{false, refl, sym, ap, ◌∙◌, arith}
+use Rattle.std.proofs.Common.{false, refl, sym, ap, ◌∙◌}
 use Rattle.kube_objects.specs.Document.{field, of_millis}
 use Rattle.world_process.proofs.controller.Controller.new.Goals as goal
 
@@ -19,5 +19,5 @@ returns-clause-stands c doc p made sort =
       clock = c.in_ok-clock.ensures.stands doc p made;
       up_first = ap (λ y. field (λ x. x.up) false y) (sym process);
       role = (refl, refl);
-      asleep = λ j within before. absurd (omega (arith, before));
+      waking = c.new.ensures c.in_ok-clock.clock;
     }

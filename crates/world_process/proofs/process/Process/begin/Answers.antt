@@ -6,4 +6,4 @@ pub returns-in-Controller-clause-stands : goal.returns-in-Controller-clause-stan
 returns-in-Controller-clause-stands c doc n k id h s at plain few = c.begin.ensures.stands doc n k id h (subst (ProcessStands doc id.0 h) c.in-Controller.is s) at plain few
 
 pub returns-in-Kubelet-clause-stands : goal.returns-in-Kubelet-clause-stands
-returns-in-Kubelet-clause-stands c doc n k id h s at plain few = c.begin-in-Kubelet.ensures.stands doc k id h (subst (ProcessStands doc id.0 h) c.in-Kubelet.is s) few
+returns-in-Kubelet-clause-stands c doc n k id h s at plain few = c.begin-in-Kubelet.ensures.stands doc n k id h (subst (ProcessStands doc id.0 h) c.in-Kubelet.is s) at plain few

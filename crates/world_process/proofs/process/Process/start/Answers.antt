@@ -6,4 +6,4 @@ pub returns-in-Controller-clause-stands : goal.returns-in-Controller-clause-stan
 returns-in-Controller-clause-stands c doc n k step p h s at plain few = c.start.ensures.stands doc n k step p h (subst (ProcessStands doc p h) c.in-Controller.is s) at plain few
 
 pub returns-in-Kubelet-clause-stands : goal.returns-in-Kubelet-clause-stands
-returns-in-Kubelet-clause-stands c doc n k step p h s at plain few = c.start-in-Kubelet.ensures.stands doc k step p h (subst (ProcessStands doc p h) c.in-Kubelet.is s) few
+returns-in-Kubelet-clause-stands c doc n k step p h s at plain few = c.start-in-Kubelet.ensures.stands doc n k step p h (subst (ProcessStands doc p h) c.in-Kubelet.is s) at plain few
