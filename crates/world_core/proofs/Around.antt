@@ -3,11 +3,11 @@ use Rattle.std.proofs.Common.{◌≡◌, ℕ, ◌+◌, ◌<◌, ◌≤◌, ◌==
 use Rattle.kube_objects.specs.declared.deed.Actor.{Actor}
 use Rattle.kube_objects.specs.declared.deed.Actor.TheVariants as actor
 use Rattle.kube_objects.specs.Clocks.{local}
-use Rattle.kube_objects.specs.Document.{Doc, processes}
+use Rattle.kube_objects.specs.Document.{Doc, is_controller, processes}
 use Rattle.kube_objects.specs.Elector.{deadline}
-use Rattle.kube_objects.specs.Entry.{Entry, Identity, Call, Deed, First, Event, Starts, Crashes, Stops, Ends, Sends, Answers, Delivers, Expires, Leads, Ticks, entry}
+use Rattle.kube_objects.specs.Entry.{Entry, Identity, Call, Deed, First, Event, Starts, Crashes, Stops, Ends, Sends, Answers, Delivers, Expires, Leads, Ticks, entry, actor_of}
 use Rattle.kube_objects.specs.Identities.{identity, is_by, of_process}
-use Rattle.kube_objects.specs.Newest.{when, join}
+use Rattle.kube_objects.specs.Newest.{has, join, when}
 use Rattle.kube_objects.specs.Process.{life_says, life, alive, born, gone, starts, call_in, is_late, ended, is_restart_due}
 use Rattle.kube_objects.specs.Stored.{write_of}
 use Rattle.kube_objects.specs.Turns.{expire_as, expire_call, end_as, end_term}
@@ -17,13 +17,16 @@ use Rattle.object_store.proofs.Keeps.{store-beside}
 use Rattle.wire_calls.specs.WireStands.{is_of_wire}
 use Rattle.wire_calls.proofs.Frames.{wire-beside}
 use Rattle.world_core.specs.declared.state.State.{State}
-use Rattle.world_process.specs.Moves.{settled}
+use Rattle.world_process.specs.Moves.{settled, before_asking, before_asking_as}
 use Rattle.world_process.specs.Plain.{IsUnheard, IsKnown, IsPlain, is_quiet, AreQuiet, with_deeds}
 use Rattle.world_core.specs.States.{RestStands, OthersStand, StateWithin}
+use Rattle.world_process.proofs.Forces.{is_standing, in_force-beside}
 use Rattle.world_process.proofs.Processes.{process-others}
 use Rattle.world_process.proofs.Lives.{is_event}
 use Rattle.world_process.proofs.Names.{lt-from, le-from, eq-self}
 use Rattle.world_process.proofs.Plainly.{plain-entry, known-later, starts-start}
+use Rattle.world_terms.specs.TermsStand.{TermsStandBut}
+use Rattle.world_terms.proofs.Frames.{but-own, terms-but}
 
 quiet-write : (d : Deed) → is_quiet d ≡ true → write_of d ≡ None
 quiet-write (First key object) is = cc
@@ -67,13 +70,28 @@ quiet-event (Expires call) is = refl
 quiet-event (Leads version) is = refl
 quiet-event (Ticks tick) is = refl
 
--- all but process i
+quiet-standing : (d : Deed) → is_quiet d ≡ true → is_standing d ≡ false
+quiet-standing (First key object) is = cc
+quiet-standing (Event what version) is = cc
+quiet-standing Starts is = refl
+quiet-standing Crashes is = refl
+quiet-standing Stops is = refl
+quiet-standing Ends is = refl
+quiet-standing (Sends call arrives) is = refl
+quiet-standing (Answers call reply comes written) is = refl
+quiet-standing (Delivers call reply counted) is = refl
+quiet-standing (Expires call) is = refl
+quiet-standing (Leads version) is = refl
+quiet-standing (Ticks tick) is = refl
+
+-- all but process i and its term
 pub record Around (doc : Doc) (k i : ℕ) (arriving : List Sent) (coming : List Back) (h : List Entry) (w : State) : Type 0 where
   pub rest : RestStands doc k arriving coming h w
   pub others : OthersStand doc i h w.processes.items
+  pub terms : TermsStandBut doc i h w.terms
 
 pub around-world : (doc : Doc) (k i : ℕ) (arriving : List Sent) (coming : List Back) (h : List Entry) (w : State) → StateWithin doc k arriving coming h w → Around doc k i arriving coming h w
-around-world doc k i arriving coming h w s = record { rest = s.rest; others = λ p c other is. s.processes p c is }
+around-world doc k i arriving coming h w s = record { rest = s.rest; others = λ p c other is. s.processes p c is; terms = terms-but doc i h w.terms s.terms }
 
 pub rest-own : (doc : Doc) (k j step : ℕ) (arriving : List Sent) (coming : List Back) (q : Identity) (d : Deed) (h : List Entry) (w : State) → is_quiet d ≡ true → IsKnown (processes doc) (entry j step q d ∷ h) q →
     RestStands doc k arriving coming h w → RestStands doc k arriving coming (entry j step q d ∷ h) w
@@ -83,7 +101,12 @@ rest-own doc k j step arriving coming q d h w quiet known s =
       plain = plain-entry (processes doc) j step q d h known s.plain;
       store = store-beside h (entry j step q d) w.store s.store (quiet-write d quiet);
       wire = wire-beside (processes doc) k arriving coming h (entry j step q d) w.wire (quiet-wire d quiet) s.wire;
+      in_force = in_force-beside doc (entry j step q d) h w.in_force (quiet-standing d quiet) s.in_force;
     }
+
+-- whose entry it is
+own-entry : (i : ℕ) (q : Identity) → q.process ≡ i → has (of_process i (actor_of q)) ≡ true
+own-entry i q is = ap (λ n. has (when (n == i) q.incarnation)) is ∙ ap (λ b. has (when b q.incarnation)) (eq-self i)
 
 pub around-own : (doc : Doc) (k i j step : ℕ) (arriving : List Sent) (coming : List Back) (q : Identity) (d : Deed) (h : List Entry) (w : State) → q.process ≡ i → is_quiet d ≡ true → IsKnown (processes doc) (entry j step q d ∷ h) q →
     Around doc k i arriving coming h w → Around doc k i arriving coming (entry j step q d ∷ h) w
@@ -91,6 +114,7 @@ around-own doc k i j step arriving coming q d h w process quiet known s =
     record {
       rest = rest-own doc k j step arriving coming q d h w quiet known s.rest;
       others = λ p c other is. process-others doc p j step q d h c (λ e. other (sym e ∙ process)) (quiet-event d quiet) (s.others p c other is);
+      terms = but-own doc i h (entry j step q d) w.terms (own-entry i q process) s.terms;
     }
 
 pub known-deeds : (n k step : ℕ) (q : Identity) (ds : List Deed) (h : List Entry) → IsKnown n h q → IsKnown n (with_deeds k step q ds h) q
@@ -151,19 +175,16 @@ alive-known n p i h s within up = record { within = within; started = by_order (
 
 -- ---- through a turn up to its attempt
 
-around-start : (doc : Doc) (k i j step : ℕ) (arriving : List Sent) (coming : List Back) (h : List Entry) (w : State) → i < processes doc → Around doc k i arriving coming h w → Around doc k i arriving coming (start j step i h) w
-around-start doc k i j step arriving coming h w within s =
+pub around-started : (doc : Doc) (k i j step : ℕ) (arriving : List Sent) (coming : List Back) (h : List Entry) (w : State) → i < processes doc → Around doc k i arriving coming h w → Around doc k i arriving coming (start j step i h) w
+around-started doc k i j step arriving coming h w within s =
     let q = identity i (starts i h + 1) in
     around-own doc k i j step arriving coming q Starts h w refl refl (record { within = within; started = let e = starts-start j step q h in omega (arith, e) }) s
-
-pub around-started : (doc : Doc) (k i j step : ℕ) (arriving : List Sent) (coming : List Back) (h : List Entry) (w : State) → i < processes doc → Around doc k i arriving coming h w → Around doc k i arriving coming (start j step i h) w
-around-started = around-start
 
 around-restart : (doc : Doc) (k i : ℕ) (arriving : List Sent) (coming : List Back) (h : List Entry) (w : State) → i < processes doc → Around doc k i arriving coming h w → Around doc k i arriving coming (restart doc k i h) w
 around-restart doc k i arriving coming h w within s = by_life (alive i h)
   where
     by_due : (b : Bool) → Around doc k i arriving coming (restart_as k i b h) w
-    by_due true = around-start doc k i k 4 arriving coming h w within s
+    by_due true = around-started doc k i k 4 arriving coming h w within s
     by_due false = s
 
     by_life : (up : Option ℕ) → Around doc k i arriving coming (restart_if doc k i up h) w
@@ -200,7 +221,15 @@ around-finish doc k i arriving coming h w within s = by_life (alive i h) refl
     by_life None is = s
     by_life (Some j) is = by_deadline j (alive-known (processes doc) i j h s.rest.plain within is) (deadline doc (identity i j) h)
 
-pub around-settled : (doc : Doc) (k i : ℕ) (arriving : List Sent) (coming : List Back) (h : List Entry) (w : State) → i < processes doc → Around doc k i arriving coming h w → Around doc k i arriving coming (settled doc k i (restart doc k i h)) w
+around-settled : (doc : Doc) (k i : ℕ) (arriving : List Sent) (coming : List Back) (h : List Entry) (w : State) → i < processes doc → Around doc k i arriving coming h w → Around doc k i arriving coming (settled doc k i (restart doc k i h)) w
 around-settled doc k i arriving coming h w within s =
     let r = restart doc k i h in
     around-finish doc k i arriving coming (expire doc k i r) w within (around-expire doc k i arriving coming r w within (around-restart doc k i arriving coming h w within s))
+
+-- through all of a turn that asks nothing, by the sort of the process
+pub around-before : (doc : Doc) (k i : ℕ) (arriving : List Sent) (coming : List Back) (h : List Entry) (w : State) → i < processes doc → Around doc k i arriving coming h w → Around doc k i arriving coming (before_asking doc k i h) w
+around-before doc k i arriving coming h w within s = by_sort (is_controller doc i)
+  where
+    by_sort : (b : Bool) → Around doc k i arriving coming (before_asking_as doc k i b h) w
+    by_sort true = around-settled doc k i arriving coming h w within s
+    by_sort false = around-expire doc k i arriving coming h w within s

@@ -1,5 +1,5 @@
 -- A whole beat.
-use Rattle.std.proofs.Common.{◌≡◌, ℕ, zero, suc, ◌+◌, ◌≤◌, ◌==◌, ◌++◌, Bool, true, false, cond, List, [], ◌∷◌, refl, ap, ◌∙◌, arith}
+use Rattle.std.proofs.Common.{◌≡◌, ℕ, zero, suc, ◌+◌, ◌≤◌, ◌==◌, ◌++◌, Bool, true, false, cond, List, [], ◌∷◌, refl, sym, ap, ◌∙◌, subst, add-one, arith}
 use Rattle.std.proofs.lemmas.Bool.Decides.{nat_tests}
 use Rattle.kube_objects.specs.Answers.{answer}
 use Rattle.kube_objects.specs.Document.{Doc, processes, is_up_first}
@@ -10,7 +10,8 @@ use Rattle.history.specs.Due.{answer_all, deliver_all}
 use Rattle.history.specs.History.{beat, three_steps}
 use Rattle.history.specs.Steps.{start_first, starts_below, first_starts, step_one, answered, step_three, turns}
 use Rattle.history.proofs.Due.{step_two-due, step_three-due}
-use Rattle.history_laws.specs.Bare.{IsBare}
+use Rattle.beat_laws.specs.Unticked.{IsUnticked}
+use Rattle.beat_laws.proofs.Unticked.{beat_unticked, steps_unticked}
 use Rattle.wire_calls.proofs.Frames.{wire-next-beat}
 use Rattle.world_core.specs.declared.state.State.{State}
 use Rattle.world_process.specs.Plain.{IsFew}
@@ -93,20 +94,30 @@ few-one doc k h few =
 pub few-starts : (doc : Doc) (k : ℕ) (h : List Entry) → IsFew (one doc k h) → IsFew (first_starts doc k h)
 few-starts doc k h few = few-before (first_starts doc k h) (one doc k h) (grows-happen_all doc k doc.events (first_starts doc k h)) few
 
+-- ---- nothing of a tick is on top
+
+pub unticked-three : (doc : Doc) (k : ℕ) (h : List Entry) → IsUnticked k h → IsUnticked k (three doc k h)
+unticked-three doc k h s = subst (IsUnticked k) (three-is doc k h) (steps_unticked doc k h s)
+
+pub unticked-next : (doc : Doc) (k : ℕ) (h : List Entry) → IsUnticked k h → IsUnticked (k + 1) (turns doc k (processes doc) (three doc k h))
+unticked-next doc k h s = subst (λ n. IsUnticked n (turns doc k (processes doc) (three doc k h))) (sym (add-one k)) (subst (IsUnticked (suc k)) (beat-is doc k h) (beat_unticked doc k h s))
+
 -- the next beat begins
-pub world-next : (doc : Doc) (k : ℕ) (h : List Entry) (w : State) → StateWithin doc k [] [] h w → IsPlaced doc (k + 1) w.place → IsBare h → StateStands doc (k + 1) h (record w { beat = record { 0 = w.beat.0 + 1 } })
-world-next doc k h w s placed bare =
+pub world-next : (doc : Doc) (k : ℕ) (h : List Entry) (w : State) → StateWithin doc k [] [] h w → IsPlaced doc (k + 1) w.place → IsUnticked (k + 1) h → StateStands doc (k + 1) h (record w { beat = record { 0 = w.beat.0 + 1 } })
+world-next doc k h w s placed unticked =
     let d = s.rest.document in
     record {
       within = record {
         rest = record {
-          document = record { at = ap (λ n. n + 1) d.at; restart = d.restart; count = d.count; epoch = d.epoch; micros = d.micros; events = d.events; kubelets = d.kubelets; leases = d.leases };
+          document = record { at = ap (λ n. n + 1) d.at; restart = d.restart; count = d.count; epoch = d.epoch; micros = d.micros; events = d.events };
           plain = s.rest.plain;
           store = s.rest.store;
           wire = wire-next-beat (processes doc) k h w.wire s.rest.wire;
+          in_force = s.rest.in_force;
         };
         processes = s.processes;
+        terms = s.terms;
       };
       placed = placed;
-      bare = bare;
+      unticked = unticked;
     }

@@ -1,7 +1,6 @@
 -- ---- lists, ranges and places
 pub mod Lists
 pub mod Ranges
-pub mod RunForms
 pub mod Moving
 -- ---- what a history keeps
 pub mod Known
@@ -10,6 +9,7 @@ pub mod Puts
 pub mod Events
 -- ---- the world beside one process, and with it moved
 pub mod Around
+pub mod Renewing
 pub mod Running
 pub mod Scripts
 -- ---- the steps of a beat, and beats that are passed over
@@ -17,8 +17,8 @@ pub mod Loops
 pub mod Beats
 pub mod Happening
 pub mod Ticking
-pub mod Quiet
--- ---- tests
-pub mod Apart
+pub mod Turns
+pub mod Skipping
+pub mod Awake
 -- ---- what can be written
 pub mod Writing

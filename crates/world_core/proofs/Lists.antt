@@ -1,5 +1,5 @@
 -- Lists: one element is replaced, or there is none.
-use Rattle.std.proofs.Common.{◌≡◌, ℕ, zero, suc, ◌+◌, false, List, [], ◌∷◌, ◌++◌, subst, Some, length, slice_get, slice_set, refl, ap, arith}
+use Rattle.std.proofs.Common.{◌≡◌, ℕ, zero, suc, ◌+◌, false, List, [], ◌∷◌, ◌++◌, subst, Some, length, slice_get, slice_set, refl, ap, ◌∙◌, arith}
 use Rattle.wire_calls.specs.InFlight.{has_any}
 
 pub slice_get-set_same : {A : Type 0} (xs : List A) (i : ℕ) (x y : A) → slice_get xs i ≡ Some y → slice_get (slice_set xs i x) i ≡ Some x
@@ -34,3 +34,16 @@ length-end (z ∷ zs) x = omega (arith, length-end zs x)
 pub none-from : {A : Type 0} (xs : List A) → has_any xs ≡ false → xs ≡ []
 none-from [] none = refl
 none-from (x ∷ xs) none = cc
+
+-- ---- one list after another
+
+pub slice_get-front : {A : Type 0} (xs ys : List A) (i : ℕ) (x : A) → slice_get xs i ≡ Some x → slice_get (xs ++ ys) i ≡ Some x
+slice_get-front [] ys i x is = cc
+slice_get-front (z ∷ zs) ys zero x is = is
+slice_get-front (z ∷ zs) ys (suc i) x is = slice_get-front zs ys i x is
+
+pub slice_get-back : {A : Type 0} (xs ys : List A) (i : ℕ) → slice_get (xs ++ ys) (length xs + i) ≡ slice_get ys i
+slice_get-back [] ys i = let none : 0 + i ≡ i = omega arith in ap (λ n. slice_get ys n) none
+slice_get-back (z ∷ zs) ys i =
+    let one_less : length (z ∷ zs) + i ≡ suc (length zs + i) = omega arith in
+    ap (λ n. slice_get (z ∷ zs ++ ys) n) one_less ∙ slice_get-back zs ys i

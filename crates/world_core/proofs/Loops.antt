@@ -1,5 +1,5 @@
 -- The loops of a beat: what has been taken so far, and what is left.
-use Rattle.std.proofs.Common.{◌≡◌, ℕ, true, suc, ◌+◌, ◌-◌, ◌<◌, ◌++◌, List, [], ◌∷◌, Option, Some, None, length, refl, sym, ap, ◌∙◌, subst, arith}
+use Rattle.std.proofs.Common.{◌≡◌, ℕ, Bool, true, false, suc, ◌+◌, ◌-◌, ◌<◌, ◌++◌, List, [], ◌∷◌, Option, Some, None, length, refl, sym, ap, ◌∙◌, subst, arith}
 use Rattle.kube_objects.specs.declared.call.Reply.{Reply}
 use Rattle.kube_objects.specs.declared.deed.Actor.TheVariants as actor
 use Rattle.kube_objects.specs.declared.deed.Deed as deed
@@ -19,11 +19,14 @@ use Rattle.wire_calls.specs.declared.message.Delivered.{Delivered}
 use Rattle.wire_calls.specs.InFlight.{first_of, rest_of}
 use Rattle.wire_calls.specs.WireStands.{WireStands, arrived_of, as_arrived, delivered_of, as_delivered}
 use Rattle.world_core.specs.declared.state.State.{State}
+use Rattle.world_process.specs.InForce.{InForceStands}
+use Rattle.world_process.specs.Moves.{own_turn, own_turn_as}
 use Rattle.world_process.specs.Plain.{IsKnown, IsFew, SentByKnown, BackToKnown}
 use Rattle.world_core.specs.States.{IsReady, SameDocument, Keeps, EachStands, Running}
 use Rattle.world_process.proofs.Grows.{Grows, grows-on, grows-same, grows-entry, grows-delivered, grows-more_starts, grows-more_turns, grows-ticks, few-before}
 use Rattle.world_core.proofs.Known.{sent-later, back-later}
-use Rattle.world_core.proofs.Running.{doc-same, answered-running}
+use Rattle.world_core.proofs.Running.{Unmoved, doc-same, answered-running}
+use Rattle.world_terms.specs.TermsStand.{TermsStand}
 
 -- ---- requests
 
@@ -41,17 +44,17 @@ pub record Serves (doc : Doc) (k : ℕ) (rest : List Sent) (coming : List Back) 
   pub wire : (q : Identity) (call : Call) (wrote : Option Object) → q ≡ identity x.who.0 x.incarnation → call.number ≡ x.number → WireStands (processes doc) k rest coming (entry k 2 q (Answers call r (reply_arrival q.process k h) wrote) ∷ h) v.wire
   pub told : new ≡ deeds ++ deeds_of k (actor.Proc x.who x.incarnation) (answer_act x.request r)
 
-serve-one : (doc : Doc) (k : ℕ) (before deeds new : List deed.Deed) (s : Sent) (left rest : List Sent) (coming : List Back) (h : List Entry) (w v : State) (r : Reply) → Running doc k before left coming h w deeds → IsKnown (processes doc) h s.who → SameDocument w v → v.processes ≡ w.processes →
+serve-one : (doc : Doc) (k : ℕ) (before deeds new : List deed.Deed) (s : Sent) (left rest : List Sent) (coming : List Back) (h : List Entry) (w v : State) (r : Reply) → Running doc k before left coming h w deeds → IsKnown (processes doc) h s.who → Unmoved w v → v.in_force ≡ w.in_force →
     Serves doc k rest coming h deeds new v r (as_arrived s) → Running doc k before rest coming (answered k s h) v new
-serve-one doc k before deeds new s left rest coming h w v r run known alike controllers serves =
-    answered-running doc k before deeds new rest coming s h w v run.world.rest.document run.world.rest.plain run.world.processes run.told known alike controllers
+serve-one doc k before deeds new s left rest coming h w v r run known unmoved in_force serves =
+    answered-running doc k before deeds new left rest coming s h w v run known unmoved in_force
     (serves.store (entry k 2 s.who (Answers s.call (answer s.call.request h) (reply_arrival s.who.process k h) (written s.call.request h))) refl)
     (subst (λ x. WireStands (processes doc) k rest coming (entry k 2 s.who (Answers s.call x (reply_arrival s.who.process k h) (written s.call.request h)) ∷ h) v.wire) serves.answers (serves.wire s.who s.call (written s.call.request h) refl refl))
     (serves.told ∙ ap (λ x. deeds ++ deeds_of k (actor_of s.who) (answer_act s.call.request x)) serves.answers)
 
 pub answering-more : (doc : Doc) (k : ℕ) (before deeds new : List deed.Deed) (arriving : List Sent) (coming : List Back) (h : List Entry) (w v : State) (r : Reply) (x : Arrived) → (a : Answering doc k before arriving coming h w deeds) →
-    arrived_of (first_of a.left) ≡ Some x → SameDocument w v → v.processes ≡ w.processes → Serves doc k (rest_of a.left) coming a.now deeds new v r x → Answering doc k before arriving coming h v new
-answering-more doc k before deeds new arriving coming h w v r x a first alike controllers serves = by_left a.left a.running a.known a.same first serves
+    arrived_of (first_of a.left) ≡ Some x → Unmoved w v → v.in_force ≡ w.in_force → Serves doc k (rest_of a.left) coming a.now deeds new v r x → Answering doc k before arriving coming h v new
+answering-more doc k before deeds new arriving coming h w v r x a first unmoved in_force serves = by_left a.left a.running a.known a.same first serves
   where
     by_left : (left : List Sent) → Running doc k before left coming a.now w deeds → SentByKnown (processes doc) a.now left → answer_all k left a.now ≡ answer_all k arriving h → arrived_of (first_of left) ≡ Some x →
         Serves doc k (rest_of left) coming a.now deeds new v r x → Answering doc k before arriving coming h v new
@@ -61,7 +64,7 @@ answering-more doc k before deeds new arriving coming h w v r x a first alike co
         record {
           now = answered k s a.now;
           left = rest;
-          running = serve-one doc k before deeds new s (s ∷ rest) rest coming a.now w v r run known.0 alike controllers (subst (Serves doc k rest coming a.now deeds new v r) is serves);
+          running = serve-one doc k before deeds new s (s ∷ rest) rest coming a.now w v r run known.0 unmoved in_force (subst (Serves doc k rest coming a.now deeds new v r) is serves);
           known = sent-later (processes doc) a.now (answered k s a.now) ((grows-entry (entry k 2 s.who (Answers s.call (answer s.call.request a.now) (reply_arrival s.who.process k a.now) (written s.call.request a.now))) a.now).starts) rest known.1;
           same = same;
         }
@@ -77,18 +80,20 @@ answering-done doc k before deeds arriving coming h w v a none taken = by_left a
     by_left (s ∷ rest) run same none taken = cc
 
 -- the wire gave something out
-pub rewired : (doc : Doc) (k : ℕ) (before deeds : List deed.Deed) (arriving left : List Sent) (coming rest : List Back) (h : List Entry) (w v : State) → SameDocument w v → v.processes ≡ w.processes → v.store ≡ w.store →
+pub rewired : (doc : Doc) (k : ℕ) (before deeds : List deed.Deed) (arriving left : List Sent) (coming rest : List Back) (h : List Entry) (w v : State) → Unmoved w v → v.in_force ≡ w.in_force → v.store ≡ w.store →
     WireStands (processes doc) k left rest h v.wire → Running doc k before arriving coming h w deeds → Running doc k before left rest h v deeds
-rewired doc k before deeds arriving left coming rest h w v alike controllers store wire r =
+rewired doc k before deeds arriving left coming rest h w v unmoved in_force store wire r =
     record {
       world = record {
         rest = record {
-          document = doc-same doc k w v alike (ap (λ cs. length cs.items) controllers) r.world.rest.document;
+          document = doc-same doc k w v unmoved.same (ap (λ cs. length cs.items) unmoved.processes) r.world.rest.document;
           plain = r.world.rest.plain;
           store = subst (StoreStands h) (sym store) r.world.rest.store;
           wire = wire;
+          in_force = subst (InForceStands doc h) (sym in_force) r.world.rest.in_force;
         };
-        processes = subst (λ cs. EachStands doc h cs.items) (sym controllers) r.world.processes;
+        processes = subst (λ cs. EachStands doc h cs.items) (sym unmoved.processes) r.world.processes;
+        terms = subst (TermsStand doc h) (sym unmoved.terms) r.world.terms;
       };
       told = r.told;
     }
@@ -159,10 +164,12 @@ few-starts doc i n h less few =
     let all : suc i + (n - suc i) ≡ n = omega (arith, less) in
     few-before (starts_below doc (suc i) h) (starts_below doc n h) (subst (λ m. Grows (starts_below doc (suc i) h) (starts_below doc m h)) all (grows-more_starts doc (suc i) (n - suc i) h)) few
 
-pub few-elector : (doc : Doc) (k p : ℕ) (h : List Entry) → is_controller doc p ≡ true → IsFew (turn doc k p h) → IsFew (elector_turn doc k p h)
-few-elector doc k p h is few =
-    let g = elector_turn doc k p h in
-    few-before g (ticks doc k p g) (grows-ticks doc k p g) (subst IsFew (ap (λ t. turn_as doc k p t h) is) few)
+pub few-own : (doc : Doc) (k p : ℕ) (h : List Entry) → IsFew (turn doc k p h) → IsFew (own_turn doc k p h)
+few-own doc k p h few = by_sort (is_controller doc p) few
+  where
+    by_sort : (b : Bool) → IsFew (turn_as doc k p b h) → IsFew (own_turn_as doc k p b h)
+    by_sort true few = let g = elector_turn doc k p h in few-before g (ticks doc k p g) (grows-ticks doc k p g) few
+    by_sort false few = few
 
 pub few-turns : (doc : Doc) (k i n : ℕ) (h : List Entry) → i < n → IsFew (turns doc k n h) → IsFew (turns doc k (suc i) h)
 few-turns doc k i n h less few =

@@ -1,5 +1,6 @@
 -- The ranges of a document that the world keeps.
 use Rattle.std.proofs.Common.{◌≡◌, ℕ, ◌+◌, ◌*◌, ◌<◌, ◌≤◌, Bool, true, false, nat_lt, IsTrue, ◌↔◌, List, [], ◌∷◌, All, refl, sym, ◌∙◌, arith}
+use Rattle.std.proofs.lemmas.Bool.Decides.{nat_tests}
 use Rattle.std.proofs.Math.Nat.{le-mul_of_pos_right}
 use Rattle.std.proofs.lemmas.List.Elements.{All-cons}
 use Rattle.kube_objects.specs.declared.script.Event.{Event}
@@ -31,7 +32,7 @@ all-fit doc from (e ∷ es) lawful = All-cons (λ x. IsFit x.what) e es (fit doc
 
 -- ---- whether the end is passed
 
-never : false ≡ true → ⊥
+pub never : false ≡ true → ⊥
 never is = cc
 
 pub not-over : (end at : ℕ) (b : Bool) → (IsTrue b ↔ (end < at)) → b ≡ false → at ≤ end
@@ -43,3 +44,6 @@ not-over end at b tells answer = by_test (nat_lt end at) refl
 
 pub over : (end at : ℕ) (b : Bool) → (IsTrue b ↔ (end < at)) → b ≡ true → at ≤ end + 1 → at ≡ end + 1
 over end at b tells answer within = omega (arith, tells.0 answer, within)
+
+pub not-below : (a b : ℕ) → b ≤ a → nat_lt a b ≡ false
+not-below a b most = grind (arith, nat_tests)

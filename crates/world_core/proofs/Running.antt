@@ -11,7 +11,7 @@ use Rattle.kube_objects.specs.Identities.{identity}
 use Rattle.kube_objects.specs.Process.{starts}
 use Rattle.kube_objects.specs.Wire.{Sent, Back, send, next_call, request_arrival, reply_arrival}
 use Rattle.history.specs.Printed.{printed, deeds_of, answer_act}
-use Rattle.history.specs.Steps.{answered, delivered, elector_turn, start_first, start}
+use Rattle.history.specs.Steps.{answered, delivered, start_first, start}
 use Rattle.object_store.proofs.Keeps.{store-beside}
 use Rattle.wire_calls.specs.WireStands.{WireStands}
 use Rattle.world_process.specs.declared.process.Process.{Process}
@@ -19,23 +19,38 @@ use Rattle.world_process.specs.declared.moves.Received.{Received}
 use Rattle.world_process.specs.declared.moves.Turn.{Turn}
 use Rattle.world_core.specs.declared.state.State.{State}
 use Rattle.world_process.specs.Processes.{ProcessStands, SameProcess, AsksOn, Turned, Replied, incarnation_of, clock_of, is_up_first_as}
-use Rattle.world_process.specs.Moves.{AsksOnReply, before_asking, started_deeds, ended_deeds, lead_deeds}
-use Rattle.world_process.specs.Plain.{IsKnown, IsPlain, with_deeds}
+use Rattle.world_process.specs.InForce.{InForceStands}
+use Rattle.world_process.specs.Moves.{AsksOnReply, before_asking, own_turn, started_deeds, ended_deeds, lead_deeds}
+use Rattle.world_process.specs.Plain.{IsKnown, with_deeds}
 use Rattle.world_core.specs.States.{IsFit, IsReady, SameDocument, Keeps, DocStands, EachStands, OthersStand, StateWithin, Running, SendsAsked}
-use Rattle.world_core.proofs.Around.{Around, around-world, around-own, around-deeds, around-settled, around-started}
+use Rattle.world_core.proofs.Around.{Around, around-world, around-own, around-deeds, around-before, around-started}
+use Rattle.world_core.proofs.Renewing.{fresh-started, terms-delivered}
+use Rattle.world_process.proofs.Forces.{in_force-beside}
 use Rattle.world_process.proofs.Processes.{process-incarnation, process-others, process-answered, process-up_first}
 use Rattle.world_core.proofs.Lists.{slice_get-set_same, slice_get-set_other, length-set}
 use Rattle.object_store.specs.Stands.{StoreStands}
 use Rattle.world_process.proofs.Names.{eq-is, eq-self}
 use Rattle.world_process.proofs.Plainly.{plain-entry, known-later, starts-start}
+use Rattle.world_terms.specs.TermsStand.{IsFresh, TermsStand, TermsStandBut}
+use Rattle.world_terms.proofs.Frames.{terms-beside}
 
--- the world with process i moved; its wire may have changed too
+-- the world with process i moved; its wire and its terms may have changed too
 pub record Moved (i : ℕ) (c0 c1 : Process) (w v : State) : Type 0 where
   pub was : slice_get w.processes.items i ≡ Some c0
   pub now : v.processes.items ≡ slice_set w.processes.items i c1
   pub same : SameDocument w v
   pub place : v.place ≡ w.place
   pub store : v.store ≡ w.store
+  pub in_force : v.in_force ≡ w.in_force
+
+-- the processes, their terms and what was read of the document are as before
+pub record Unmoved (w v : State) : Type 0 where
+  pub same : SameDocument w v
+  pub processes : v.processes ≡ w.processes
+  pub terms : v.terms ≡ w.terms
+
+pub unmoved-self : (w : State) → Unmoved w w
+unmoved-self w = record { same = record { beat = refl; end = refl; restart = refl; epoch = refl; micros = refl; events = refl; names = refl }; processes = refl; terms = refl }
 
 each-set : (doc : Doc) (i : ℕ) (h : List Entry) (cs : List Process) (c0 c1 : Process) → slice_get cs i ≡ Some c0 → OthersStand doc i h cs → ProcessStands doc i h c1 → EachStands doc h (slice_set cs i c1)
 each-set doc i h cs c0 c1 was others own p c is = by_place (p == i) refl
@@ -60,31 +75,31 @@ doc-same doc k w v same count s =
       epoch = same.epoch ∙ s.epoch;
       micros = same.micros ∙ s.micros;
       events = same.events ∙ s.events;
-      kubelets = s.kubelets;
-      leases = s.leases;
     }
 
 doc-moved : (doc : Doc) (k i : ℕ) (c0 c1 : Process) (w v : State) → Moved i c0 c1 w v → DocStands doc k w → DocStands doc k v
 doc-moved doc k i c0 c1 w v m s = doc-same doc k w v m.same (ap length m.now ∙ length-set w.processes.items i c1) s
 
 -- nothing was sent
-pub within-moved : (doc : Doc) (k i : ℕ) (arriving : List Sent) (coming : List Back) (h : List Entry) (c0 c1 : Process) (w v : State) → Moved i c0 c1 w v → v.wire ≡ w.wire → Around doc k i arriving coming h w → ProcessStands doc i h c1 →
+pub within-moved : (doc : Doc) (k i : ℕ) (arriving : List Sent) (coming : List Back) (h : List Entry) (c0 c1 : Process) (w v : State) → Moved i c0 c1 w v → v.wire ≡ w.wire → Around doc k i arriving coming h w → ProcessStands doc i h c1 → TermsStand doc h v.terms →
     StateWithin doc k arriving coming h v
-within-moved doc k i arriving coming h c0 c1 w v m wire a own =
+within-moved doc k i arriving coming h c0 c1 w v m wire a own terms =
     record {
       rest = record {
         document = doc-moved doc k i c0 c1 w v m a.rest.document;
         plain = a.rest.plain;
         store = subst (λ s. StoreStands h s) (sym m.store) a.rest.store;
         wire = subst (λ x. WireStands (processes doc) k arriving coming h x) (sym wire) a.rest.wire;
+        in_force = subst (InForceStands doc h) (sym m.in_force) a.rest.in_force;
       };
       processes = subst (EachStands doc h) (sym m.now) (each-set doc i h w.processes.items c0 c1 m.was a.others own);
+      terms = terms;
     }
 
 -- a request was sent
 within-sent : (doc : Doc) (k step i : ℕ) (arriving : List Sent) (coming : List Back) (h next : List Entry) (c0 c1 : Process) (w v : State) (ask : Ask) → Moved i c0 c1 w v → SendsAsked k (identity i (incarnation_of c1)) (Some ask) w.wire v.wire →
-    Around doc k i arriving coming h w → i < processes doc → AsksOn doc k step i h next c1 (Some ask) → StateWithin doc k arriving coming next v
-within-sent doc k step i arriving coming h next c0 c1 w v ask m sends a within asked =
+    Around doc k i arriving coming h w → i < processes doc → AsksOn doc k step i h next c1 (Some ask) → TermsStand doc h v.terms → StateWithin doc k arriving coming next v
+within-sent doc k step i arriving coming h next c0 c1 w v ask m sends a within asked terms =
     let q = identity i (incarnation_of c1) in
     let call = next_call q k asked.kind ask.request h in
     let d = Sends call (request_arrival i k h) in
@@ -98,17 +113,20 @@ within-sent doc k step i arriving coming h next c0 c1 w v ask m sends a within a
         plain = plain-entry (processes doc) k step q d h (known-later (processes doc) e h q known) a.rest.plain;
         store = subst (λ s. StoreStands (e ∷ h) s) (sym m.store) (store-beside h e w.store a.rest.store refl);
         wire = sends (processes doc) step arriving coming h call a.rest.wire (sym asked.number) refl;
+        in_force = subst (InForceStands doc (e ∷ h)) (sym m.in_force) (in_force-beside doc e h w.in_force refl a.rest.in_force);
       };
       processes = subst (EachStands doc (e ∷ h)) (sym m.now)
           (each-set doc i (e ∷ h) w.processes.items c0 c1 m.was (λ p c other is. process-others doc p k step q d h c (λ same. other (sym same)) refl (a.others p c other is)) (asked.stands (request_arrival i k h)));
+      terms = terms-beside doc h e v.terms refl terms;
     })
 
 -- what a process asks was sent, where it asks
 pub within-asked : (doc : Doc) (k step i : ℕ) (arriving : List Sent) (coming : List Back) (h next : List Entry) (c0 c1 : Process) (w v : State) (ask : Option Ask) → Moved i c0 c1 w v → SendsAsked k (identity i (incarnation_of c1)) ask w.wire v.wire →
-    Around doc k i arriving coming h w → i < processes doc → AsksOn doc k step i h next c1 ask → StateWithin doc k arriving coming next v
-within-asked doc k step i arriving coming h next c0 c1 w v None m same a within asks =
-    subst (λ g. StateWithin doc k arriving coming g v) (sym asks.0) (within-moved doc k i arriving coming h c0 c1 w v m same a asks.1)
-within-asked doc k step i arriving coming h next c0 c1 w v (Some ask) m sends a within asked = within-sent doc k step i arriving coming h next c0 c1 w v ask m sends a within asked
+    Around doc k i arriving coming h w → i < processes doc → AsksOn doc k step i h next c1 ask → TermsStand doc h v.terms → StateWithin doc k arriving coming next v
+within-asked doc k step i arriving coming h next c0 c1 w v None m same a within asks terms =
+    subst (λ g. StateWithin doc k arriving coming g v) (sym asks.0) (within-moved doc k i arriving coming h c0 c1 w v m same a asks.1 terms)
+within-asked doc k step i arriving coming h next c0 c1 w v (Some ask) m sends a within asked terms =
+    within-sent doc k step i arriving coming h next c0 c1 w v ask m sends a within asked terms
 
 printed-sent : (k step : ℕ) (q : Identity) (kind : CallKind) (ask : Ask) (h next : List Entry) → next ≡ send k step q kind ask.request h → printed next ≡ printed h
 printed-sent k step q kind ask h next is = ap printed is ∙ append-nil (printed h)
@@ -123,9 +141,6 @@ told-more before deeds new more h next told new_is is = ap (λ ds. before ++ ds)
 
 -- ---- a turn
 
-around-before : (doc : Doc) (k i : ℕ) (arriving : List Sent) (coming : List Back) (h : List Entry) (w : State) → i < processes doc → Around doc k i arriving coming h w → Around doc k i arriving coming (before_asking doc k i h) w
-around-before doc k i arriving coming h w within a = around-settled doc k i arriving coming h w within a
-
 abbrev pub turn_told : ℕ → Identity → Turn → List deed.Deed → List deed.Deed
 turn_told k q t deeds = deeds ++ started_deeds k q t.started ++ ended_deeds k q t.ended
 
@@ -137,13 +152,14 @@ told-turn doc k i before deeds h c t told turned =
     sym (append_assoc before (deeds ++ s) e) ∙ ap (λ x. x ++ e) (sym (append_assoc before deeds s)) ∙ ap (λ x. x ++ s ++ e) told ∙ sym turned.told
 
 pub running-turned : (doc : Doc) (k i : ℕ) (before deeds new : List deed.Deed) (arriving : List Sent) (coming : List Back) (h : List Entry) (c0 c1 : Process) (w v : State) (t : Turn) → Running doc k before arriving coming h w deeds →
-    i < processes doc → Moved i c0 c1 w v → SendsAsked k (identity i (incarnation_of c1)) t.ask w.wire v.wire → Turned doc k i h c1 t → new ≡ turn_told k (identity i (incarnation_of c1)) t deeds → Running doc k before arriving coming (elector_turn doc k i h) v new
-running-turned doc k i before deeds new arriving coming h c0 c1 w v t r within m sends turned new_is =
+    i < processes doc → Moved i c0 c1 w v → SendsAsked k (identity i (incarnation_of c1)) t.ask w.wire v.wire → Turned doc k i h c1 t → TermsStand doc (before_asking doc k i h) v.terms → new ≡ turn_told k (identity i (incarnation_of c1)) t deeds →
+    Running doc k before arriving coming (own_turn doc k i h) v new
+running-turned doc k i before deeds new arriving coming h c0 c1 w v t r within m sends turned terms new_is =
     let base = before_asking doc k i h in
     let around = around-before doc k i arriving coming h w within (around-world doc k i arriving coming h w r.world) in
     record {
-      world = within-asked doc k 4 i arriving coming base (elector_turn doc k i h) c0 c1 w v t.ask m sends around within turned.asks;
-      told = ap (λ ds. before ++ ds) new_is ∙ told-turn doc k i before deeds h c1 t r.told turned ∙ sym (printed-asked doc k 4 i base (elector_turn doc k i h) c1 t.ask turned.asks);
+      world = within-asked doc k 4 i arriving coming base (own_turn doc k i h) c0 c1 w v t.ask m sends around within turned.asks terms;
+      told = ap (λ ds. before ++ ds) new_is ∙ told-turn doc k i before deeds h c1 t r.told turned ∙ sym (printed-asked doc k 4 i base (own_turn doc k i h) c1 t.ask turned.asks);
     }
 
 -- ---- a reply
@@ -152,47 +168,49 @@ abbrev pub reply_told : ℕ → Identity → Received → List deed.Deed → Lis
 reply_told k q r deeds = deeds ++ lead_deeds k q r.lead
 
 within-replied : (doc : Doc) (k i : ℕ) (arriving : List Sent) (coming : List Back) (b : Back) (h : List Entry) (c0 c1 : Process) (w v : State) (ask : Option Ask) → b.who.process ≡ i → i < processes doc → IsKnown (processes doc) h b.who →
-    Moved i c0 c1 w v → SendsAsked k (identity i (incarnation_of c1)) ask w.wire v.wire → Around doc k i arriving coming h w → AsksOnReply doc k (identity i (incarnation_of c1)) b h (λ g. ProcessStands doc i g c1) ask →
+    Moved i c0 c1 w v → SendsAsked k (identity i (incarnation_of c1)) ask w.wire v.wire → Around doc k i arriving coming h w → AsksOnReply doc k (identity i (incarnation_of c1)) b h (λ g. ProcessStands doc i g c1) ask → TermsStand doc h v.terms →
     StateWithin doc k arriving coming (delivered doc k b h) v
-within-replied doc k i arriving coming b h c0 c1 w v None process within known m same a on =
+within-replied doc k i arriving coming b h c0 c1 w v None process within known m same a on terms =
     let next = with_deeds k 3 b.who on.deeds h in
     subst (λ g. StateWithin doc k arriving coming g v) (sym on.adds)
-    (within-moved doc k i arriving coming next c0 c1 w v m same (around-deeds doc k i k 3 arriving coming b.who on.deeds h w process on.quiet known a) (subst (λ g. ProcessStands doc i g c1) on.adds on.stands))
-within-replied doc k i arriving coming b h c0 c1 w v (Some ask) process within known m sends a on =
+    (within-moved doc k i arriving coming next c0 c1 w v m same (around-deeds doc k i k 3 arriving coming b.who on.deeds h w process on.quiet known a) (subst (λ g. ProcessStands doc i g c1) on.adds on.stands)
+    (subst (λ g. TermsStand doc g v.terms) on.adds (terms-delivered doc k v.terms b h terms)))
+within-replied doc k i arriving coming b h c0 c1 w v (Some ask) process within known m sends a on terms =
     let q = identity i (incarnation_of c1) in
     let d = Delivers on.call b.reply true in
     let g = entry k 3 q d ∷ h in
     let known_q : IsKnown (processes doc) h q = subst (IsKnown (processes doc) h) on.who known in
     let known_g : IsKnown (processes doc) g q = known-later (processes doc) (entry k 3 q d) h q known_q in
-    within-sent doc k 3 i arriving coming g (delivered doc k b h) c0 c1 w v ask m sends (around-own doc k i k 3 arriving coming q d h w refl refl known_g a) within on.asked
+    within-sent doc k 3 i arriving coming g (delivered doc k b h) c0 c1 w v ask m sends (around-own doc k i k 3 arriving coming q d h w refl refl known_g a) within on.asked (terms-beside doc h (entry k 3 q d) v.terms refl terms)
 
 pub running-replied : (doc : Doc) (k i : ℕ) (before deeds new : List deed.Deed) (arriving : List Sent) (coming : List Back) (b : Back) (h : List Entry) (c0 c1 : Process) (w v : State) (x : Received) → Running doc k before arriving coming h w deeds →
-    b.who.process ≡ i → i < processes doc → IsKnown (processes doc) h b.who → Moved i c0 c1 w v → SendsAsked k (identity i (incarnation_of c1)) x.ask w.wire v.wire → Replied doc k i b h c1 x → new ≡ reply_told k (identity i (incarnation_of c1)) x deeds →
+    b.who.process ≡ i → i < processes doc → IsKnown (processes doc) h b.who → Moved i c0 c1 w v → v.terms ≡ w.terms → SendsAsked k (identity i (incarnation_of c1)) x.ask w.wire v.wire → Replied doc k i b h c1 x → new ≡ reply_told k (identity i (incarnation_of c1)) x deeds →
     Running doc k before arriving coming (delivered doc k b h) v new
-running-replied doc k i before deeds new arriving coming b h c0 c1 w v x r process within known m sends replied new_is =
+running-replied doc k i before deeds new arriving coming b h c0 c1 w v x r process within known m terms sends replied new_is =
     record {
-      world = within-replied doc k i arriving coming b h c0 c1 w v x.ask process within known m sends (around-world doc k i arriving coming h w r.world) replied.asks;
+      world = within-replied doc k i arriving coming b h c0 c1 w v x.ask process within known m sends (around-world doc k i arriving coming h w r.world) replied.asks (subst (TermsStand doc h) (sym terms) r.world.terms);
       told = told-more before deeds new (lead_deeds k (identity i (incarnation_of c1)) x.lead) h (delivered doc k b h) r.told new_is replied.told;
     }
 
 -- ---- what stays plain
 
 -- the ranges stand as before
-pub ready-same : (w v : State) → SameDocument w v → ((i : ℕ) (c : Process) → slice_get v.processes.items i ≡ Some c → (clock_of c).end ≡ w.end.0) → IsReady w → IsReady v
-ready-same w v same clocks ready =
+pub ready-same : (w v : State) → SameDocument w v → vec_len v.processes ≡ vec_len w.processes → ((i : ℕ) (c : Process) → slice_get v.processes.items i ≡ Some c → (clock_of c).end ≡ w.end.0) → IsReady w → IsReady v
+ready-same w v same count clocks ready =
     record {
       end = subst (λ e. e.0 ≤ 604800000) (sym same.end) ready.end;
       restart = subst (λ n. n ≤ 86400000000000000) (sym same.restart) ready.restart;
       epoch = subst (λ e. e.0 < 7258118400000000) (sym same.epoch) ready.epoch;
       micros = subst (λ n. n ≤ 1000000) (sym same.micros) ready.micros;
       events = subst (All (λ e. IsFit e.what)) (sym same.events) ready.events;
+      few = subst (λ n. n ≤ 1016) (sym count) ready.few;
       clocks = λ i c is. clocks i c is ∙ ap (λ e. e.0) (sym same.end);
     }
 
 pub keeps-moved : (i : ℕ) (c0 c1 : Process) (w v : State) → IsReady w → Moved i c0 c1 w v → vec_len v.processes ≡ vec_len w.processes → SameProcess c0 c1 → Keeps w v
 keeps-moved i c0 c1 w v ready m count same =
     record {
-      ready = ready-same w v m.same (λ j c is. by_place j c is (j == i) refl) ready;
+      ready = ready-same w v m.same count (λ j c is. by_place j c is (j == i) refl) ready;
       same = m.same;
       place = m.place;
       count = count;
@@ -210,23 +228,24 @@ keeps-moved i c0 c1 w v ready m count same =
 
 -- ---- a first start
 
-pub first-not : (doc : Doc) (i : ℕ) (before deeds : List deed.Deed) (arriving : List Sent) (coming : List Back) (h : List Entry) (c0 : Process) (w v : State) → Running doc 0 before arriving coming h w deeds → Moved i c0 c0 w v → v.wire ≡ w.wire → is_up_first_as c0 ≡ false →
+pub first-not : (doc : Doc) (i : ℕ) (before deeds : List deed.Deed) (arriving : List Sent) (coming : List Back) (h : List Entry) (c0 : Process) (w v : State) → Running doc 0 before arriving coming h w deeds → Moved i c0 c0 w v → v.wire ≡ w.wire → v.terms ≡ w.terms → is_up_first_as c0 ≡ false →
     Running doc 0 before arriving coming (start_first i (is_up_first doc i) h) v deeds
-first-not doc i before deeds arriving coming h c0 w v r m wire down =
+first-not doc i before deeds arriving coming h c0 w v r m wire terms down =
     let s = r.world.processes i c0 m.was in
     let same : h ≡ start_first i (is_up_first doc i) h = ap (λ b. start_first i b h) (sym down ∙ process-up_first doc i h c0 s) in
     subst (λ g. Running doc 0 before arriving coming g v deeds) same
-    (record { world = within-moved doc 0 i arriving coming h c0 c0 w v m wire (around-world doc 0 i arriving coming h w r.world) s; told = r.told })
+    (record { world = within-moved doc 0 i arriving coming h c0 c0 w v m wire (around-world doc 0 i arriving coming h w r.world) s (subst (TermsStand doc h) (sym terms) r.world.terms); told = r.told })
 
 pub first-started : (doc : Doc) (i : ℕ) (before deeds new : List deed.Deed) (arriving : List Sent) (coming : List Back) (h : List Entry) (c0 c1 : Process) (w v : State) → Running doc 0 before arriving coming h w deeds → i < processes doc → Moved i c0 c1 w v → v.wire ≡ w.wire → is_up_first_as c0 ≡ true →
-    ProcessStands doc i (start 0 1 i h) c1 → new ≡ deeds ++ deeds_of 0 (actor_of (identity i (incarnation_of c1))) (Some act.Start) → Running doc 0 before arriving coming (start_first i (is_up_first doc i) h) v new
-first-started doc i before deeds new arriving coming h c0 c1 w v r within m wire up stands new_is =
+    ProcessStands doc i (start 0 1 i h) c1 → (TermsStandBut doc i (start 0 1 i h) w.terms → IsFresh i (start 0 1 i h) → TermsStand doc (start 0 1 i h) v.terms) → new ≡ deeds ++ deeds_of 0 (actor_of (identity i (incarnation_of c1))) (Some act.Start) → Running doc 0 before arriving coming (start_first i (is_up_first doc i) h) v new
+first-started doc i before deeds new arriving coming h c0 c1 w v r within m wire up stands anew new_is =
     let s = r.world.processes i c0 m.was in
     let same : start 0 1 i h ≡ start_first i (is_up_first doc i) h = ap (λ b. start_first i b h) (sym up ∙ process-up_first doc i h c0 s) in
+    let around = around-started doc 0 i 0 1 arriving coming h w within (around-world doc 0 i arriving coming h w r.world) in
     let last : (incarnation_of c1) ≡ starts i h + 1 = process-incarnation doc i (start 0 1 i h) c1 stands ∙ starts-start 0 1 (identity i (starts i h + 1)) h in
     subst (λ g. Running doc 0 before arriving coming g v new) same
     (record {
-      world = within-moved doc 0 i arriving coming (start 0 1 i h) c0 c1 w v m wire (around-started doc 0 i 0 1 arriving coming h w within (around-world doc 0 i arriving coming h w r.world)) stands;
+      world = within-moved doc 0 i arriving coming (start 0 1 i h) c0 c1 w v m wire around stands (anew around.terms (fresh-started (processes doc) 0 1 i h r.world.rest.plain));
       told = ap (λ ds. before ++ ds) new_is ∙ sym (append_assoc before deeds (deeds_of 0 (actor_of (identity i (incarnation_of c1))) (Some act.Start)))
           ∙ ap (λ ds. ds ++ deeds_of 0 (actor_of (identity i (incarnation_of c1))) (Some act.Start)) r.told
           ∙ ap (λ n. printed h ++ deeds_of 0 (actor_of (identity i n)) (Some act.Start)) last;
@@ -234,21 +253,24 @@ first-started doc i before deeds new arriving coming h c0 c1 w v r within m wire
 
 -- ---- an answer of the store
 
-pub answered-running : (doc : Doc) (k : ℕ) (before deeds new : List deed.Deed) (rest : List Sent) (coming : List Back) (s : Sent) (h : List Entry) (w v : State) → DocStands doc k w → IsPlain (processes doc) h → EachStands doc h w.processes.items → before ++ deeds ≡ printed h →
-    IsKnown (processes doc) h s.who → SameDocument w v → v.processes ≡ w.processes → StoreStands (answered k s h) v.store → WireStands (processes doc) k rest coming (answered k s h) v.wire →
+pub answered-running : (doc : Doc) (k : ℕ) (before deeds new : List deed.Deed) (left rest : List Sent) (coming : List Back) (s : Sent) (h : List Entry) (w v : State) → Running doc k before left coming h w deeds →
+    IsKnown (processes doc) h s.who → Unmoved w v → v.in_force ≡ w.in_force → StoreStands (answered k s h) v.store → WireStands (processes doc) k rest coming (answered k s h) v.wire →
     new ≡ deeds ++ deeds_of k (actor_of s.who) (answer_act s.call.request (answer s.call.request h)) → Running doc k before rest coming (answered k s h) v new
-answered-running doc k before deeds new rest coming s h w v ds plain each told known same controllers store wire new_is =
+answered-running doc k before deeds new left rest coming s h w v run known unmoved in_force store wire new_is =
     let d = Answers s.call (answer s.call.request h) (reply_arrival s.who.process k h) (written s.call.request h) in
     let e = entry k 2 s.who d in
     record {
       world = record {
         rest = record {
-          document = doc-same doc k w v same (ap (λ cs. length cs.items) controllers) ds;
-          plain = plain-entry (processes doc) k 2 s.who d h (known-later (processes doc) e h s.who known) plain;
+          document = doc-same doc k w v unmoved.same (ap (λ cs. length cs.items) unmoved.processes) run.world.rest.document;
+          plain = plain-entry (processes doc) k 2 s.who d h (known-later (processes doc) e h s.who known) run.world.rest.plain;
           store = store;
           wire = wire;
+          in_force = subst (InForceStands doc (e ∷ h)) (sym in_force) (in_force-beside doc e h w.in_force refl run.world.rest.in_force);
         };
-        processes = subst (λ cs. EachStands doc (e ∷ h) cs.items) (sym controllers) (λ p c is. process-answered doc p k 2 s.who s.call (answer s.call.request h) (reply_arrival s.who.process k h) (written s.call.request h) h c (each p c is));
+        processes = subst (λ cs. EachStands doc (e ∷ h) cs.items) (sym unmoved.processes)
+            (λ p c is. process-answered doc p k 2 s.who s.call (answer s.call.request h) (reply_arrival s.who.process k h) (written s.call.request h) h c (run.world.processes p c is));
+        terms = subst (TermsStand doc (e ∷ h)) (sym unmoved.terms) (terms-beside doc h e w.terms refl run.world.terms);
       };
-      told = ap (λ ds. before ++ ds) new_is ∙ sym (append_assoc before deeds _) ∙ ap (λ ds. ds ++ deeds_of k (actor_of s.who) (answer_act s.call.request (answer s.call.request h))) told;
+      told = ap (λ ds. before ++ ds) new_is ∙ sym (append_assoc before deeds _) ∙ ap (λ ds. ds ++ deeds_of k (actor_of s.who) (answer_act s.call.request (answer s.call.request h))) run.told;
     }

@@ -23,14 +23,18 @@ use Rattle.wire_calls.proofs.Frames.{wire-beside}
 use Rattle.world_process.specs.declared.process.Process.{Process}
 use Rattle.world_core.specs.declared.state.State.{State}
 use Rattle.world_process.specs.Processes.{ProcessStands, AsksOn, incarnation_of}
+use Rattle.world_process.specs.InForce.{InForceStands}
 use Rattle.world_process.specs.Moves.{stop_in, stopped}
-use Rattle.world_core.specs.States.{SameDocument, EachStands, Running, SendsAsked}
+use Rattle.world_core.specs.States.{EachStands, Running, SendsAsked}
 use Rattle.world_core.proofs.Around.{Around, around-own, around-started, alive-known}
+use Rattle.world_process.proofs.Forces.{sets_standing, in_force-beside}
 use Rattle.world_process.proofs.Names.{lt-from, eq-isnt}
 use Rattle.world_process.proofs.Plainly.{known-later}
 use Rattle.world_process.proofs.Processes.{process-event}
 use Rattle.world_process.proofs.Scripted.{plain-script}
-use Rattle.world_core.proofs.Running.{Moved, doc-same, within-asked, within-moved, printed-asked, told-more}
+use Rattle.world_core.proofs.Running.{Moved, Unmoved, doc-same, within-asked, within-moved, printed-asked, told-more, unmoved-self}
+use Rattle.world_terms.specs.TermsStand.{TermsStand}
+use Rattle.world_terms.proofs.Frames.{but-beside, terms-beside}
 
 pub controller-within : (doc : Doc) (p : ℕ) → is_controller doc p ≡ true → p < processes doc
 controller-within doc p is = let less = lt-from p (length doc.controllers) is in omega (arith, less, length-append doc.controllers doc.kubelets)
@@ -42,43 +46,47 @@ abbrev pub scripted : ℕ → What → Option Version → List Entry → List En
 scripted k event version h = script_entry k 1 (Event event version) ∷ h
 
 pub running-event : (doc : Doc) (k : ℕ) (before deeds new : List deed.Deed) (arriving : List Sent) (coming : List Back) (h : List Entry) (w v : State) (event : What) (version : Option Version) → Running doc k before arriving coming h w deeds →
-    ((p : ℕ) → cancels p event ≡ false) → SameDocument w v → v.processes ≡ w.processes → StoreStands (scripted k event version h) v.store → WireStands (processes doc) k arriving coming (scripted k event version h) v.wire →
+    ((p : ℕ) → cancels p event ≡ false) → Unmoved w v → InForceStands doc (scripted k event version h) v.in_force → StoreStands (scripted k event version h) v.store → WireStands (processes doc) k arriving coming (scripted k event version h) v.wire →
     new ≡ deeds ++ deeds_of k actor.Script (event_act event version) → Running doc k before arriving coming (scripted k event version h) v new
-running-event doc k before deeds new arriving coming h w v event version r beside same controllers store wire new_is =
+running-event doc k before deeds new arriving coming h w v event version r beside unmoved in_force store wire new_is =
     record {
       world = record {
         rest = record {
-          document = doc-same doc k w v same (ap (λ cs. length cs.items) controllers) r.world.rest.document;
+          document = doc-same doc k w v unmoved.same (ap (λ cs. length cs.items) unmoved.processes) r.world.rest.document;
           plain = plain-script (processes doc) k 1 (Event event version) h r.world.rest.plain;
           store = store;
           wire = wire;
+          in_force = in_force;
         };
-        processes = subst (λ cs. EachStands doc (scripted k event version h) cs.items) (sym controllers) (λ p c is. process-event doc p k 1 event version h c (beside p) (r.world.processes p c is));
+        processes = subst (λ cs. EachStands doc (scripted k event version h) cs.items) (sym unmoved.processes) (λ p c is. process-event doc p k 1 event version h c (beside p) (r.world.processes p c is));
+        terms = subst (TermsStand doc (scripted k event version h)) (sym unmoved.terms) (terms-beside doc h (script_entry k 1 (Event event version)) w.terms refl r.world.terms);
       };
       told = ap (λ ds. before ++ ds) new_is ∙ sym (append_assoc before deeds (deeds_of k actor.Script (event_act event version))) ∙ ap (λ ds. ds ++ deeds_of k actor.Script (event_act event version)) r.told;
     }
 
 -- it changes nothing in the world and is not printed
-pub running-plain : (doc : Doc) (k : ℕ) (before deeds : List deed.Deed) (arriving : List Sent) (coming : List Back) (h : List Entry) (w : State) (event : What) → Running doc k before arriving coming h w deeds → is_of_wire (Event event None) ≡ false → write_of (Event event None) ≡ None →
+pub running-plain : (doc : Doc) (k : ℕ) (before deeds : List deed.Deed) (arriving : List Sent) (coming : List Back) (h : List Entry) (w : State) (event : What) → Running doc k before arriving coming h w deeds → is_of_wire (Event event None) ≡ false → write_of (Event event None) ≡ None → sets_standing event ≡ false →
     ((p : ℕ) → cancels p event ≡ false) → Running doc k before arriving coming (scripted k event None h) w deeds
-running-plain doc k before deeds arriving coming h w event r wire write beside =
+running-plain doc k before deeds arriving coming h w event r wire write standing beside =
     let e = script_entry k 1 (Event event None) in
-    running-event doc k before deeds deeds arriving coming h w w event None r beside (record { beat = refl; end = refl; restart = refl; epoch = refl; micros = refl; events = refl; names = refl }) refl
+    running-event doc k before deeds deeds arriving coming h w w event None r beside (unmoved-self w) (in_force-beside doc e h w.in_force standing r.world.rest.in_force)
     (store-beside h e w.store r.world.rest.store write) (wire-beside (processes doc) k arriving coming h e w.wire wire r.world.rest.wire) (sym (append-nil deeds))
 
 -- ---- an event on a controller
 
-around-event : (doc : Doc) (k i : ℕ) (arriving : List Sent) (coming : List Back) (event : What) (h : List Entry) (w : State) → is_of_wire (Event event None) ≡ false → write_of (Event event None) ≡ None → ((p : ℕ) → ¬ (p ≡ i) → cancels p event ≡ false) →
+around-event : (doc : Doc) (k i : ℕ) (arriving : List Sent) (coming : List Back) (event : What) (h : List Entry) (w : State) → is_of_wire (Event event None) ≡ false → write_of (Event event None) ≡ None → sets_standing event ≡ false → ((p : ℕ) → ¬ (p ≡ i) → cancels p event ≡ false) →
     Around doc k i arriving coming h w → Around doc k i arriving coming (scripted k event None h) w
-around-event doc k i arriving coming event h w wire write beside a =
+around-event doc k i arriving coming event h w wire write standing beside a =
     record {
       rest = record {
         document = a.rest.document;
         plain = plain-script (processes doc) k 1 (Event event None) h a.rest.plain;
         store = store-beside h (script_entry k 1 (Event event None)) w.store a.rest.store write;
         wire = wire-beside (processes doc) k arriving coming h (script_entry k 1 (Event event None)) w.wire wire a.rest.wire;
+        in_force = in_force-beside doc (script_entry k 1 (Event event None)) h w.in_force standing a.rest.in_force;
       };
       others = λ p c other is. process-event doc p k 1 event None h c (beside p other) (a.others p c other is);
+      terms = but-beside doc i h (script_entry k 1 (Event event None)) w.terms refl a.terms;
     }
 
 apart : (i p : ℕ) → ¬ (p ≡ i) → ¬ (i ≡ p)
@@ -91,7 +99,7 @@ around-crash doc k id arriving coming h w within a = by_life (alive id.0 h) refl
     g = scripted k (what.Crash id) None h
 
     base : Around doc k id.0 arriving coming g w
-    base = around-event doc k id.0 arriving coming (what.Crash id) h w refl refl (λ p other. eq-isnt id.0 p (apart id.0 p other)) a
+    base = around-event doc k id.0 arriving coming (what.Crash id) h w refl refl refl (λ p other. eq-isnt id.0 p (apart id.0 p other)) a
 
     by_life : (up : Option ℕ) → alive id.0 h ≡ up → Around doc k id.0 arriving coming (crash k id.0 up g) w
     by_life None is = base
@@ -106,7 +114,7 @@ around-begin doc k id arriving coming h w within a = by_life (alive id.0 h)
     g = scripted k (what.Start id) None h
 
     base : Around doc k id.0 arriving coming g w
-    base = around-event doc k id.0 arriving coming (what.Start id) h w refl refl (λ p other. eq-isnt id.0 p (apart id.0 p other)) a
+    base = around-event doc k id.0 arriving coming (what.Start id) h w refl refl refl (λ p other. eq-isnt id.0 p (apart id.0 p other)) a
 
     by_life : (up : Option ℕ) → Around doc k id.0 arriving coming (start_if_down k 1 id.0 up g) w
     by_life None = around-started doc k id.0 k 1 arriving coming g w within base
@@ -119,7 +127,7 @@ around-stop doc k id arriving coming h w within a = by_life (alive id.0 h) refl
     g = scripted k (what.Stop id) None h
 
     base : Around doc k id.0 arriving coming g w
-    base = around-event doc k id.0 arriving coming (what.Stop id) h w refl refl (λ p other. eq-isnt id.0 p (apart id.0 p other)) a
+    base = around-event doc k id.0 arriving coming (what.Stop id) h w refl refl refl (λ p other. eq-isnt id.0 p (apart id.0 p other)) a
 
     by_life : (up : Option ℕ) → alive id.0 h ≡ up → Around doc k id.0 arriving coming (stop_in k id.0 up g) w
     by_life None is = base
@@ -129,16 +137,16 @@ around-stop doc k id arriving coming h w within a = by_life (alive id.0 h) refl
 
 -- the process stands for the history with the event, and sends nothing
 pub running-moved : (doc : Doc) (k i : ℕ) (before deeds new more : List deed.Deed) (arriving : List Sent) (coming : List Back) (h next : List Entry) (c0 c1 : Process) (w v : State) → Running doc k before arriving coming h w deeds → Moved i c0 c1 w v → v.wire ≡ w.wire →
-    Around doc k i arriving coming next w → ProcessStands doc i next c1 → printed next ≡ printed h ++ more → new ≡ deeds ++ more → Running doc k before arriving coming next v new
-running-moved doc k i before deeds new more arriving coming h next c0 c1 w v r m wire around stands printed_is new_is =
-    record { world = within-moved doc k i arriving coming next c0 c1 w v m wire around stands; told = told-more before deeds new more h next r.told new_is printed_is }
+    Around doc k i arriving coming next w → ProcessStands doc i next c1 → TermsStand doc next v.terms → printed next ≡ printed h ++ more → new ≡ deeds ++ more → Running doc k before arriving coming next v new
+running-moved doc k i before deeds new more arriving coming h next c0 c1 w v r m wire around stands terms printed_is new_is =
+    record { world = within-moved doc k i arriving coming next c0 c1 w v m wire around stands terms; told = told-more before deeds new more h next r.told new_is printed_is }
 
 -- what it asks was sent, where it asks
 pub running-asked : (doc : Doc) (k i : ℕ) (before deeds new more : List deed.Deed) (arriving : List Sent) (coming : List Back) (h base next : List Entry) (c0 c1 : Process) (w v : State) (ask : Option Ask) → Running doc k before arriving coming h w deeds →
-    i < processes doc → Moved i c0 c1 w v → SendsAsked k (identity i (incarnation_of c1)) ask w.wire v.wire → Around doc k i arriving coming base w → AsksOn doc k 1 i base next c1 ask → printed base ≡ printed h ++ more → new ≡ deeds ++ more →
+    i < processes doc → Moved i c0 c1 w v → SendsAsked k (identity i (incarnation_of c1)) ask w.wire v.wire → Around doc k i arriving coming base w → AsksOn doc k 1 i base next c1 ask → TermsStand doc base v.terms → printed base ≡ printed h ++ more → new ≡ deeds ++ more →
     Running doc k before arriving coming next v new
-running-asked doc k i before deeds new more arriving coming h base next c0 c1 w v ask r within m sends around asks printed_is new_is =
+running-asked doc k i before deeds new more arriving coming h base next c0 c1 w v ask r within m sends around asks terms printed_is new_is =
     record {
-      world = within-asked doc k 1 i arriving coming base next c0 c1 w v ask m sends around within asks;
+      world = within-asked doc k 1 i arriving coming base next c0 c1 w v ask m sends around within asks terms;
       told = told-more before deeds new more h base r.told new_is printed_is ∙ sym (printed-asked doc k 1 i base next c1 ask asks);
     }

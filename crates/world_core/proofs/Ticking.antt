@@ -1,145 +1,192 @@
--- Ticks beside the world: where Leases alone were written a tick only syncs and passes, and the world stands as before.
-use Rattle.std.proofs.Common.{◌≡◌, ℕ, zero, suc, ◌+◌, ◌<◌, ◌≤◌, ◌==◌, Bool, true, false, List, [], ◌++◌, Option, Some, None, length, refl, sym, ap, ◌∙◌, subst, arith}
-use Rattle.std.proofs.lemmas.Bool.{le-leb}
-use Rattle.std.proofs.lemmas.Bool.Decides.{nat_tests}
-use Rattle.std.proofs.lemmas.List.{append-nil}
+-- Ticks beside the world: the entries of a tick change the store and the terms alone.
+use Rattle.std.proofs.Common.{◌≡◌, ℕ, ◌<◌, ◌++◌, not, Bool, true, false, List, Option, Some, None, length, refl, sym, ap, ◌∙◌, subst, append_assoc, arith}
+use Rattle.std.proofs.lemmas.Bool.{ltb-true}
+use Rattle.kube_base.specs.declared.numbers.Beat.{Beat}
 use Rattle.kube_objects.specs.declared.deed.Deed as deed
+use Rattle.kube_objects.specs.Clocks.{local}
 use Rattle.kube_objects.specs.Document.{Doc, is_controller, processes}
 use Rattle.kube_objects.specs.Elector.{acts}
-use Rattle.kube_objects.specs.Entry.{Entry, Identity, Tick, Sync, Pass, Mark, Mode, Zone, Untaint, Swap, Head, Delete, Ticks, entry}
+use Rattle.kube_objects.specs.Entry.{Entry, Identity, Tick, Ticks, entry}
 use Rattle.kube_objects.specs.Identities.{identity}
-use Rattle.kube_objects.specs.InFlight.{requests_due, replies_due}
+use Rattle.kube_objects.specs.InForce.{watches}
+use Rattle.kube_objects.specs.Modes.{nodes}
 use Rattle.kube_objects.specs.Process.{alive}
-use Rattle.kube_objects.specs.Stored.{write_of}
-use Rattle.kube_objects.specs.Tick.{add}
-use Rattle.kube_objects.specs.Wire.{Sent, Back}
-use Rattle.history.specs.Printed.{printed}
-use Rattle.history.specs.Steps.{elector_turn, if_up, tick_as, ticks, turn, turn_as, turns}
-use Rattle.history_laws.specs.Bare.{IsBare, is_silent}
-use Rattle.history_laws.proofs.Bare.{bare_elector, tick_keeps}
-use Rattle.object_store.proofs.Keeps.{store-beside}
+use Rattle.kube_objects.specs.Tick.{add, sync, tick}
+use Rattle.kube_objects.specs.Wire.{Sent, Back, loses_requests}
+use Rattle.history.specs.Steps.{if_up, tick_as, turn, turn_as}
+use Rattle.history_laws.proofs.Ticks.{walk_tick}
+use Rattle.beat_laws.specs.Unticked.{IsUntickedFrom}
+use Rattle.beat_laws.proofs.Names.{nodes_are_named}
+use Rattle.beat_laws.proofs.Unticked.{elector_unticked}
+use Rattle.skew_clock.specs.Clocking.{Clocking, reading, wall_when}
+use Rattle.term_state.specs.declared.view.View.{View}
+use Rattle.term_state.specs.Running.{IsView}
+use Rattle.wire_calls.specs.WireStands.{WireStands}
 use Rattle.wire_calls.proofs.Frames.{wire-beside}
-use Rattle.world_process.specs.Plain.{IsKnown}
-use Rattle.world_process.proofs.Names.{eq-is}
+use Rattle.world_process.specs.Clocked.{ClockStands}
+use Rattle.world_process.specs.InForce.{InForceStands}
+use Rattle.world_process.specs.Moves.{own_turn, own_turn_as}
+use Rattle.world_process.specs.Plain.{IsFew, IsKnown, IsPlain}
+use Rattle.world_process.specs.Processes.{acts_as, acts_if_up, acts_now}
+use Rattle.world_process.proofs.Forces.{in_force-beside}
+use Rattle.world_process.proofs.Grows.{Grows, few-before, grows-same, grows-ticks}
 use Rattle.world_process.proofs.Plainly.{known-later, plain-entry}
 use Rattle.world_process.proofs.Processes.{process-ticked}
+use Rattle.world_process.proofs.Readings.{reading-local, wall-when}
+use Rattle.world_terms.specs.TermsStand.{IsUpAs, Ticked}
 use Rattle.world_core.specs.declared.state.State.{State}
-use Rattle.world_core.specs.States.{Running, StateWithin}
+use Rattle.world_core.specs.States.{EachStands, Running, StateWithin}
+use Rattle.world_core.specs.Waits.{own_ticks, own_ticks_as}
 use Rattle.world_core.proofs.Around.{alive-known}
 
--- ---- the processes of a document without kubelets
+-- ---- all of the world but its store and its terms
 
-pub controls : (doc : Doc) (p : ℕ) → doc.kubelets ≡ [] → p < processes doc → is_controller doc p ≡ true
-controls doc p none within =
-    let count : processes doc ≡ length doc.controllers = ap (λ ks. length (doc.controllers ++ ks)) none ∙ ap (λ ps. length ps) (append-nil doc.controllers) in
-    let less : p < length doc.controllers = omega (arith, within, count) in
-    le-leb _ _ less
+pub record Beside (doc : Doc) (k : ℕ) (arriving : List Sent) (coming : List Back) (h : List Entry) (w : State) : Type 0 where
+  pub plain : IsPlain (processes doc) h
+  pub wire : WireStands (processes doc) k arriving coming h w.wire
+  pub in_force : InForceStands doc h w.in_force
+  pub processes : EachStands doc h w.processes.items
 
--- what holds below a place and at it holds of all up to it
-pub last-too : (P : ℕ → Type 0) (i p : ℕ) → p < i + 1 → ((p : ℕ) → p < i → P p) → P i → P p
-last-too P i p below earlier last = by_place (p == i) refl
-  where
-    by_place : (b : Bool) → (p == i) ≡ b → P p
-    by_place true same = subst P (sym (eq-is p i same)) last
-    by_place false other = earlier p (grind (arith, nat_tests))
+pub beside-world : (doc : Doc) (k : ℕ) (arriving : List Sent) (coming : List Back) (h : List Entry) (w : State) → StateWithin doc k arriving coming h w → Beside doc k arriving coming h w
+beside-world doc k arriving coming h w s = record { plain = s.rest.plain; wire = s.rest.wire; in_force = s.rest.in_force; processes = s.processes }
 
--- ---- an entry of a tick
-
-silent-write : (t : Tick) → is_silent t ≡ true → write_of (Ticks t) ≡ None
-silent-write Sync is = refl
-silent-write Pass is = refl
-silent-write (Mark name given written tried) is = cc
-silent-write (Mode on) is = cc
-silent-write (Zone place state rate) is = cc
-silent-write (Untaint name given written tried) is = cc
-silent-write (Swap name wanted given written tried) is = cc
-silent-write (Head place name wanted given written tried) is = cc
-silent-write (Delete pod given node_given due tried) is = cc
-
-silent-prints : (k : ℕ) (q : Identity) (t : Tick) (h : List Entry) → is_silent t ≡ true → printed (add k q t h) ≡ printed h
-silent-prints k q Sync h is = append-nil (printed h)
-silent-prints k q Pass h is = append-nil (printed h)
-silent-prints k q (Mark name given written tried) h is = cc
-silent-prints k q (Mode on) h is = cc
-silent-prints k q (Zone place state rate) h is = cc
-silent-prints k q (Untaint name given written tried) h is = cc
-silent-prints k q (Swap name wanted given written tried) h is = cc
-silent-prints k q (Head place name wanted given written tried) h is = cc
-silent-prints k q (Delete pod given node_given due tried) h is = cc
-
--- the history h with entries of ticks, for which the world still stands
-pub record Ticked (doc : Doc) (k : ℕ) (arriving : List Sent) (coming : List Back) (w : State) (h g : List Entry) : Type 0 where
-  pub world : StateWithin doc k arriving coming g w
-  pub bare : IsBare g
-  pub same : printed g ≡ printed h
-  pub requests : (j : ℕ) → requests_due j g ≡ requests_due j h
-  pub replies : (j : ℕ) → replies_due j g ≡ replies_due j h
-
-module _ (doc : Doc) (k : ℕ) (arriving : List Sent) (coming : List Back) (w : State) (h : List Entry) where
-  pub unticked : StateWithin doc k arriving coming h w → IsBare h → Ticked doc k arriving coming w h h
-  unticked s bare = record { world = s; bare = bare; same = refl; requests = λ j. refl; replies = λ j. refl }
-
+module _ (doc : Doc) (k : ℕ) (arriving : List Sent) (coming : List Back) (w : State) where
   -- one entry more
-  ticked-more : (at : ℕ) (q : Identity) (t : Tick) (g : List Entry) → is_silent t ≡ true → Ticked doc k arriving coming w h g × IsKnown (processes doc) g q
-      → Ticked doc k arriving coming w h (add at q t g) × IsKnown (processes doc) (add at q t g) q
-  ticked-more at q t g is s =
+  beside-entry : (at : ℕ) (q : Identity) (t : Tick) (g : List Entry) → Beside doc k arriving coming g w × IsKnown (processes doc) g q
+      → Beside doc k arriving coming (add at q t g) w × IsKnown (processes doc) (add at q t g) q
+  beside-entry at q t g s =
       let e = entry at 4 q (Ticks t) in
-      let rest = s.0.world.rest in
+      let b = s.0 in
       let known = known-later (processes doc) e g q s.1 in (
         record {
-          world = record {
-            rest = record {
-              document = rest.document;
-              plain = plain-entry (processes doc) at 4 q (Ticks t) g known rest.plain;
-              store = store-beside g e w.store rest.store (silent-write t is);
-              wire = wire-beside (processes doc) k arriving coming g e w.wire refl rest.wire;
-            };
-            processes = λ p x place. process-ticked doc p at 4 q t g x (s.0.world.processes p x place);
-          };
-          bare = (is, s.0.bare);
-          same = silent-prints at q t g is ∙ s.0.same;
-          requests = s.0.requests;
-          replies = s.0.replies;
+          plain = plain-entry (processes doc) at 4 q (Ticks t) g known b.plain;
+          wire = wire-beside (processes doc) k arriving coming g e w.wire refl b.wire;
+          in_force = in_force-beside doc e g w.in_force refl b.in_force;
+          processes = λ p x place. process-ticked doc p at 4 q t g x (b.processes p x place);
         },
         known,
       )
 
-  -- a whole tick, where one acts
-  pub ticked-ticks : (at p : ℕ) (g : List Entry) → p < processes doc → Ticked doc k arriving coming w h g → Ticked doc k arriving coming w h (ticks doc at p g)
-  ticked-ticks at p g within s = by_life (alive p g) refl
-    where
-      by_acts : (q : Identity) → IsKnown (processes doc) g q → (b : Bool) → Ticked doc k arriving coming w h (tick_as doc at q b g)
-      by_acts q known false = s
-      by_acts q known true =
-          (tick_keeps doc at q (λ f. Ticked doc k arriving coming w h f × IsKnown (processes doc) f q) (λ t f is r. ticked-more at q t f is r) g s.bare (s, known)).0
+  -- a whole tick
+  pub beside-tick : (at : ℕ) (q : Identity) (g : List Entry) → IsKnown (processes doc) g q → Beside doc k arriving coming g w → Beside doc k arriving coming (tick doc at q g) w
+  beside-tick at q g known s =
+      (walk_tick doc at q (λ f. Beside doc k arriving coming f w × IsKnown (processes doc) f q) (λ t f made r. beside-entry at q t f r) g (s, known)).0
 
-      by_life : (up : Option ℕ) → alive p g ≡ up → Ticked doc k arriving coming w h (if_up p (λ q T. tick_as doc at q (acts doc q at T) T) up g)
-      by_life None up = s
-      by_life (Some i) up = by_acts (identity p i) (alive-known (processes doc) p i g s.world.rest.plain within up) (acts doc (identity p i) at g)
+-- ---- whose tick it is
 
--- ---- turns
+-- without a leader that acts there is none
+pub ticks-none : (doc : Doc) (k p : ℕ) (h : List Entry) → acts_now doc k p h ≡ false → own_ticks doc k p h ≡ h
+ticks-none doc k p h none = by_sort (is_controller doc p) none
+  where
+    by_life : (o : Option ℕ) → acts_if_up doc k p o h ≡ false → if_up p (λ q T. tick_as doc k q (acts doc q k T) T) o h ≡ h
+    by_life None is = refl
+    by_life (Some i) is = ap (λ b. tick_as doc k (identity p i) b h) is
 
-turn-is : (doc : Doc) (k p : ℕ) (h : List Entry) → is_controller doc p ≡ true → turn doc k p h ≡ ticks doc k p (elector_turn doc k p h)
-turn-is doc k p h is = ap (λ t. turn_as doc k p t h) is
+    by_sort : (b : Bool) → acts_as doc k p b h ≡ false → own_ticks_as doc k p b h ≡ h
+    by_sort true is = by_life (alive p h) is
+    by_sort false is = refl
 
--- after the rest of a controller's turn comes its tick
-pub running-ticked : (doc : Doc) (k i : ℕ) (before deeds : List deed.Deed) (arriving : List Sent) (coming : List Back) (h : List Entry) (w : State) → i < processes doc → IsBare h → Running doc k before arriving coming (elector_turn doc k i h) w deeds
-    → Running doc k before arriving coming (turn doc k i h) w deeds
-running-ticked doc k i before deeds arriving coming h w within bare r =
-    let is = controls doc i r.world.rest.document.kubelets within in
-    let g = elector_turn doc k i h in
-    let s = ticked-ticks doc k arriving coming w g k i g within (unticked doc k arriving coming w g r.world (bare_elector doc k i is h bare)) in
-    subst (λ f. Running doc k before arriving coming f w deeds) (sym (turn-is doc k i h is)) (record { world = s.world; told = r.told ∙ sym s.same })
+-- whoever acts is a controller, and acts in the incarnation in which it is up
+pub record ActsAs (doc : Doc) (k p i : ℕ) (h : List Entry) : Type 0 where
+  pub sort : is_controller doc p ≡ true
+  pub acting : acts doc (identity p i) k h ≡ true
 
--- the turns of a beat at which each process does nothing but its tick
-pub ticked-turns : (doc : Doc) (k j n : ℕ) (arriving : List Sent) (coming : List Back) (w : State) (h g : List Entry) → n ≤ processes doc
-    → ((p : ℕ) (f : List Entry) → p < processes doc → StateWithin doc k arriving coming f w → elector_turn doc j p f ≡ f)
-    → Ticked doc k arriving coming w h g → Ticked doc k arriving coming w h (turns doc j n g)
-ticked-turns doc k j zero arriving coming w h g most still s = s
-ticked-turns doc k j (suc p) arriving coming w h g most still s =
-    let f = turns doc j p g in
-    let t = ticked-turns doc k j p arriving coming w h g (omega (arith, most)) still s in
-    let within : p < processes doc = omega (arith, most) in
-    let is = controls doc p t.world.rest.document.kubelets within in
-    subst (Ticked doc k arriving coming w h) (sym (turn-is doc j p f is ∙ ap (ticks doc j p) (still p f within t.world)))
-    (ticked-ticks doc k arriving coming w h j p f within t)
+pub acts-is : (doc : Doc) (k p i : ℕ) (h : List Entry) → alive p h ≡ Some i → acts_now doc k p h ≡ true → ActsAs doc k p i h
+acts-is doc k p i h up acts = by_sort (is_controller doc p) refl acts
+  where
+    by_sort : (b : Bool) → is_controller doc p ≡ b → acts_as doc k p b h ≡ true → ActsAs doc k p i h
+    by_sort true sort is = record { sort = sort; acting = sym (ap (λ o. acts_if_up doc k p o h) up) ∙ is }
+    by_sort false sort is = cc
+
+pub up-as : (doc : Doc) (k p i : ℕ) (h : List Entry) → alive p h ≡ Some i → ActsAs doc k p i h → IsUpAs doc p (identity p i) h
+up-as doc k p i h up s = record { process = refl; inside = ltb-true _ _ s.sort; up = up }
+
+pub ticks-acting : (doc : Doc) (k p i : ℕ) (h : List Entry) → alive p h ≡ Some i → ActsAs doc k p i h → own_ticks doc k p h ≡ tick doc k (identity p i) h
+ticks-acting doc k p i h up s =
+    ap (λ b. own_ticks_as doc k p b h) s.sort
+    ∙ ap (λ o. if_up p (λ q T. tick_as doc k q (acts doc q k T) T) o h) up
+    ∙ ap (λ b. tick_as doc k (identity p i) b h) s.acting
+
+-- ---- what a tick is given
+
+pub view-is : (doc : Doc) (k : ℕ) (q : Identity) (h : List Entry) (c : Clocking) (v : View) → ClockStands doc q.process c → v.watch ≡ watches doc q.process h → v.passes ≡ not (loses_requests q.process h) → v.beat.0 ≡ k
+    → v.now.0 ≡ reading c v.beat.0 → v.wall.0 ≡ wall_when c v.now.0 → IsView doc k q h v
+view-is doc k q h c v clock watch passes beat now wall =
+    let read : v.now.0 ≡ local doc q.process k = now ∙ ap (reading c) beat ∙ reading-local doc q.process k c clock in
+    record { watch = watch; passes = passes; beat = beat; reading = read; time = wall ∙ wall-when doc q.process k v.now.0 c clock read }
+
+grows-own_ticks : (doc : Doc) (k p : ℕ) (h : List Entry) → Grows h (own_ticks doc k p h)
+grows-own_ticks doc k p h = by_sort (is_controller doc p)
+  where
+    by_sort : (b : Bool) → Grows h (own_ticks_as doc k p b h)
+    by_sort true = grows-ticks doc k p h
+    by_sort false = grows-same h
+
+-- a term has no more nodes than names
+pub few-ticks : (doc : Doc) (k p : ℕ) (q : Identity) (h : List Entry) → IsFew (own_ticks doc k p h) → length (nodes q (sync doc k q h)) < 4294967296
+few-ticks doc k p q h few =
+    let most = (few-before h (own_ticks doc k p h) (grows-own_ticks doc k p h) few).nodes in
+    let least = nodes_are_named doc k q h in
+    omega (arith, most, least)
+
+-- ---- the world after a tick
+
+-- v is the world w with another store and other terms
+pub record SameButTicked (w v : State) : Type 0 where
+  pub beat : v.beat ≡ w.beat
+  pub restart : v.restart ≡ w.restart
+  pub epoch : v.epoch ≡ w.epoch
+  pub micros : v.micros ≡ w.micros
+  pub events : v.events ≡ w.events
+  pub wire : v.wire ≡ w.wire
+  pub in_force : v.in_force ≡ w.in_force
+  pub processes : v.processes ≡ w.processes
+
+pub running-ticked : (doc : Doc) (k p i : ℕ) (before deeds told : List deed.Deed) (arriving : List Sent) (coming : List Back) (h : List Entry) (w v : State) → p < processes doc → alive p h ≡ Some i → ActsAs doc k p i h → SameButTicked w v
+    → Running doc k before arriving coming h w deeds → Ticked doc k (identity p i) h told v.terms v.store → Running doc k before arriving coming (own_ticks doc k p h) v (deeds ++ told)
+running-ticked doc k p i before deeds told arriving coming h w v within up acts same r t =
+    let q = identity p i in
+    let d = r.world.rest.document in
+    let known = alive-known (processes doc) p i h r.world.rest.plain within up in
+    let b = beside-tick doc k arriving coming w k q h known (beside-world doc k arriving coming h w r.world) in
+    let is = ticks-acting doc k p i h up acts in
+    subst (λ g. Running doc k before arriving coming g v (deeds ++ told)) (sym is)
+    (record {
+      world = record {
+        rest = record {
+          document = record {
+            at = ap (λ (b : Beat). b.0) same.beat ∙ d.at;
+            restart = same.restart ∙ d.restart;
+            count = ap (λ xs. length xs.items) same.processes ∙ d.count;
+            epoch = same.epoch ∙ d.epoch;
+            micros = same.micros ∙ d.micros;
+            events = same.events ∙ d.events;
+          };
+          plain = b.plain;
+          store = t.store;
+          wire = subst (WireStands (processes doc) k arriving coming (tick doc k q h)) (sym same.wire) b.wire;
+          in_force = subst (InForceStands doc (tick doc k q h)) (sym same.in_force) b.in_force;
+        };
+        processes = subst (λ xs. EachStands doc (tick doc k q h) xs.items) (sym same.processes) b.processes;
+        terms = t.terms;
+      };
+      told = sym (append_assoc before deeds told) ∙ ap (λ ds. ds ++ told) r.told ∙ t.told;
+    })
+
+-- no tick
+pub running-unticked : (doc : Doc) (k p : ℕ) (before deeds : List deed.Deed) (arriving : List Sent) (coming : List Back) (h : List Entry) (w : State) → acts_now doc k p h ≡ false
+    → Running doc k before arriving coming h w deeds → Running doc k before arriving coming (own_ticks doc k p h) w deeds
+running-unticked doc k p before deeds arriving coming h w none r = subst (λ g. Running doc k before arriving coming g w deeds) (sym (ticks-none doc k p h none)) r
+
+-- ---- a turn is its tick after the rest
+
+pub turn-is : (doc : Doc) (k p : ℕ) (h : List Entry) → turn doc k p h ≡ own_ticks doc k p (own_turn doc k p h)
+turn-is doc k p h = by_sort (is_controller doc p)
+  where
+    by_sort : (b : Bool) → turn_as doc k p b h ≡ own_ticks_as doc k p b (own_turn_as doc k p b h)
+    by_sort true = refl
+    by_sort false = refl
+
+-- a process whose turn comes finds no tick of its own on top, and none is added before its tick
+pub own-unticked : (doc : Doc) (k p : ℕ) (h : List Entry) → is_controller doc p ≡ true → IsUntickedFrom k p h → IsUntickedFrom k p (own_turn doc k p h)
+own-unticked doc k p h sort s = subst (λ b. IsUntickedFrom k p (own_turn_as doc k p b h)) (sym sort) (elector_unticked doc k p p h s)

@@ -1,3 +1,3 @@
-pub mod Forms
 pub mod States
+pub mod Waits
 pub mod Worlds

@@ -1,5 +1,5 @@
 -- The world stands for a document before a beat, or within one.
-use Rattle.std.specs.Prelude.{◌≡◌, ℕ, zero, suc, ◌+◌, ◌-◌, ◌<◌, ◌≤◌, ◌++◌, List, [], ◌∷◌, Option, Some, None, slice_get, length, vec_len, drop, All}
+use Rattle.std.specs.Prelude.{◌≡◌, ℕ, ◌+◌, ◌<◌, ◌≤◌, ◌++◌, List, ◌∷◌, Option, Some, None, slice_get, length, vec_len, drop, All}
 use Rattle.kube_objects.specs.declared.call.Ask.{Ask}
 use Rattle.kube_objects.specs.declared.deed.Deed as deed
 use Rattle.kube_objects.specs.declared.script.Event.{Event}
@@ -15,15 +15,17 @@ use Rattle.kube_objects.specs.Wire.{Sent, Back, request_arrival}
 use Rattle.history.specs.History.{beat}
 use Rattle.history.specs.Printed.{printed}
 use Rattle.history.specs.Steps.{happens, happen_all}
-use Rattle.history_laws.specs.Bare.{IsBare, IsBareDocument}
+use Rattle.beat_laws.specs.Unticked.{IsUnticked}
 use Rattle.object_store.specs.Stands.{StoreStands}
 use Rattle.script_reader.specs.Lawful.{IsLawfulWhat, AreLawfulFrom}
 use Rattle.wire_calls.specs.declared.wire.Wire.{Wire}
 use Rattle.wire_calls.specs.WireStands.{WireStands}
 use Rattle.world_process.specs.declared.process.Process.{Process}
 use Rattle.world_core.specs.declared.state.State.{State}
-use Rattle.world_process.specs.Processes.{ProcessStands, clock_of}
+use Rattle.world_process.specs.InForce.{InForceStands}
 use Rattle.world_process.specs.Plain.{IsFew, IsPlain}
+use Rattle.world_process.specs.Processes.{ProcessStands, clock_of}
+use Rattle.world_terms.specs.TermsStand.{TermsStand}
 
 -- ---- plain facts, that callers see
 
@@ -35,6 +37,10 @@ end_of w = w.end.0
 
 abbrev pub names_of : State → List (List ℕ)
 names_of w = w.names
+
+-- how many processes it has
+abbrev pub count_of : State → ℕ
+count_of w = vec_len w.processes
 
 -- the ranges of an event's delays, in beats; an object that it puts is of its key's kind
 abbrev pub IsFit : What → Type 0
@@ -53,6 +59,7 @@ pub record IsReady (w : State) : Type 0 where
   pub epoch : w.epoch.0 < 7258118400000000
   pub micros : w.micros ≤ 1000000
   pub events : All (λ e. IsFit e.what) w.events
+  pub few : vec_len w.processes ≤ 1016
   pub clocks : GoOnTo w.end.0 w.processes.items
 
 -- the beat and what was read of the document, but for the place among the events
@@ -82,20 +89,19 @@ pub record DocStands (doc : Doc) (k : ℕ) (w : State) : Type 0 where
   pub epoch : w.epoch ≡ doc.settings.epoch
   pub micros : w.micros ≡ beat_micros doc
   pub events : w.events ≡ doc.events
-  pub kubelets : doc.kubelets ≡ []
-  pub leases : IsBareDocument doc
 
 -- the events before a place were of earlier beats, and those from it on are of this beat or later
 pub record IsPlaced (doc : Doc) (k place : ℕ) : Type 0 where
   pub earlier : (i : ℕ) (e : Event) → i < place → slice_get doc.events i ≡ Some e → e.beat.0 < k
   pub later : AreLawfulFrom doc k (drop place doc.events)
 
--- all but the processes; these requests and replies have still to be taken at the beat
+-- all but the processes and their terms; these requests and replies have still to be taken at the beat
 pub record RestStands (doc : Doc) (k : ℕ) (arriving : List Sent) (coming : List Back) (h : List Entry) (w : State) : Type 0 where
   pub document : DocStands doc k w
   pub plain : IsPlain (processes doc) h
   pub store : StoreStands h w.store
   pub wire : WireStands (processes doc) k arriving coming h w.wire
+  pub in_force : InForceStands doc h w.in_force
 
 abbrev pub EachStands : Doc → List Entry → List Process → Type 0
 EachStands doc h xs = (p : ℕ) (x : Process) → slice_get xs p ≡ Some x → ProcessStands doc p h x
@@ -104,44 +110,35 @@ EachStands doc h xs = (p : ℕ) (x : Process) → slice_get xs p ≡ Some x → 
 abbrev pub OthersStand : Doc → ℕ → List Entry → List Process → Type 0
 OthersStand doc q h xs = (p : ℕ) (x : Process) → ¬ (p ≡ q) → slice_get xs p ≡ Some x → ProcessStands doc p h x
 
--- what processes are made of is what the document has, which has controllers alone
-pub record AreMadeOf (doc : Doc) (s : Settings) (ps : List Proc) (es : List Event) : Type 0 where
+-- what processes are made of is what the document has
+pub record AreMadeOf (doc : Doc) (s : Settings) (cs ks : List Proc) (es : List Event) : Type 0 where
   pub settings : doc.settings ≡ s
-  pub controllers : doc.controllers ≡ ps
-  pub kubelets : doc.kubelets ≡ []
+  pub controllers : doc.controllers ≡ cs
+  pub kubelets : doc.kubelets ≡ ks
   pub events : doc.events ≡ es
 
 pub record StateWithin (doc : Doc) (k : ℕ) (arriving : List Sent) (coming : List Back) (h : List Entry) (w : State) : Type 0 where
   pub rest : RestStands doc k arriving coming h w
   pub processes : EachStands doc h w.processes.items
+  pub terms : TermsStand doc h w.terms
 
 -- the world before beat k, whose history is h
 pub record StateStands (doc : Doc) (k : ℕ) (h : List Entry) (w : State) : Type 0 where
   pub within : StateWithin doc k (requests_due k h) (replies_due k h) h w
   pub placed : IsPlaced doc k w.place
-  pub bare : IsBare h
+  pub unticked : IsUnticked k h
 
 -- within a beat, with what was printed before the beat and in it
-pub record Running (doc : Doc) (k : ℕ) (before : List deed.Deed) (arriving : List Sent) (coming : List Back) (h : List Entry) (w : State) (deeds : List deed.Deed) : Type 0 where
+pub record Running (doc : Doc) (k : ℕ) (before : List deed.Deed) (arriving : List Sent) (coming : List Back) (h : List Entry) (w : State)
+    (deeds : List deed.Deed) : Type 0 where
   pub world : StateWithin doc k arriving coming h w
   pub told : before ++ deeds ≡ printed h
 
--- ---- quiet beats
+-- ---- beats without entries
 
--- nothing in flight arrives at the beats from k to before n
-pub record AreSilent (k n : ℕ) (h : List Entry) : Type 0 where
-  pub requests : (j : ℕ) → k ≤ j → j < n → requests_due j h ≡ []
-  pub replies : (j : ℕ) → k ≤ j → j < n → replies_due j h ≡ []
-
--- the history with n beats from k on
-abbrev pub beats_from : Doc → ℕ → ℕ → List Entry → List Entry
-beats_from doc k zero h = h
-beats_from doc k (suc n) h = beat doc (beats_from doc k n h) (k + n)
-
--- the world went on to a later beat: those between are done, and nothing of them is printed
-pub record Skipped (doc : Doc) (k : ℕ) (h : List Entry) (w : State) : Type 0 where
-  pub stands : StateStands doc w.beat.0 (beats_from doc k (w.beat.0 - k) h) w
-  pub silent : printed (beats_from doc k (w.beat.0 - k) h) ≡ printed h
+-- no entry stands at the beats from k to before n: each, done on the history before them, adds none
+abbrev pub AreQuiet : Doc → ℕ → ℕ → List Entry → Type 0
+AreQuiet doc k n h = (j : ℕ) → k ≤ j → j < n → beat doc h j ≡ h
 
 -- ---- what is asked
 
@@ -161,7 +158,8 @@ Happens w deeds v new what = (doc : Doc) (k : ℕ) (before : List deed.Deed) (ar
     → Running doc k before arriving coming (happens doc k what h) v new
 
 -- all events of the beat have happened; what they sent arrives later
-pub record Scripted (doc : Doc) (k : ℕ) (before : List deed.Deed) (arriving : List Sent) (coming : List Back) (h : List Entry) (w : State) (deeds : List deed.Deed) : Type 0 where
+pub record Scripted (doc : Doc) (k : ℕ) (before : List deed.Deed) (arriving : List Sent) (coming : List Back) (h : List Entry) (w : State)
+    (deeds : List deed.Deed) : Type 0 where
   pub running : Running doc k before arriving coming (happen_all doc k doc.events h) w deeds
   pub placed : IsPlaced doc (k + 1) w.place
   pub requests : requests_due k (happen_all doc k doc.events h) ≡ requests_due k h

@@ -20,6 +20,10 @@ end_of w = state.end_of w.state.value
 abbrev pub names_of : World → List (List ℕ)
 names_of w = state.names_of w.state.value
 
+-- how many processes it has
+abbrev pub count_of : World → ℕ
+count_of w = state.count_of w.state.value
+
 -- the ranges of a world that was made of a document
 abbrev pub IsReady : World → Type 0
 IsReady w = state.IsReady w.state.value
@@ -38,6 +42,6 @@ pub record AreWritable (names : List (List ℕ)) (controllers : ℕ) (items : Li
 abbrev pub WorldStands : Doc → ℕ → List Entry → World → Type 0
 WorldStands doc k h w = state.StateStands doc k h w.state.value
 
--- the world went on to a later beat: those between are done, and nothing of them is printed
-abbrev pub Skipped : Doc → ℕ → List Entry → World → Type 0
-Skipped doc k h w = state.Skipped doc k h w.state.value
+-- each of the beats from k to before n, done on the history before them, adds no entry
+abbrev pub AreQuiet : Doc → ℕ → ℕ → List Entry → Type 0
+AreQuiet doc k n h = state.AreQuiet doc k n h

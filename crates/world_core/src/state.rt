@@ -1,5 +1,5 @@
 // What a world keeps, and how it does one beat.
-ghost use Rattle.std.specs.Prelude.{◌≡◌, ◌∷◌, ◌+◌, ◌*◌, ◌<◌, ◌≤◌, ◌++◌, ℕ, List, [], true, false, IfOk, OnOk, IsTrue, ◌↔◌, vec_len, length, drop, All, Option, Some};
+ghost use Rattle.std.specs.Prelude.{◌≡◌, ◌∷◌, ◌||◌, ◌+◌, ◌*◌, ◌<◌, ◌≤◌, ◌++◌, ℕ, List, [], true, false, IfOk, OnOk, IsTrue, ◌↔◌, vec_len, length, drop, All, Option, Some};
 ghost use Rattle.std.specs.List.Sorted.{IsStrictlySortedBy};
 ghost use Rattle.std.specs.Map.{keys_of, lookup};
 ghost use Rattle.kube_objects.specs.declared.deed.Deed.{Deed};
@@ -18,32 +18,46 @@ ghost use Rattle.kube_objects.specs.InFlight.{requests_due, replies_due};
 ghost use Rattle.kube_objects.specs.Wire.{Sent, Back, reply_arrival};
 ghost use Rattle.history.specs.History.{history, beat, put_all};
 ghost use Rattle.history.specs.Printed.{printed};
-ghost use Rattle.history.specs.Steps.{first_starts, start_first, happen_all, delivered, elector_turn, turn, turns};
-ghost use Rattle.history_laws.specs.Bare.{IsBare};
-ghost use Rattle.kube_objects.specs.Document.{is_up_first, processes};
+ghost use Rattle.history.specs.Steps.{first_starts, start_first, happen_all, delivered, turns};
+ghost use Rattle.kube_objects.specs.Clocks.{local};
+ghost use Rattle.kube_objects.specs.Document.{end_beat, is_controller, is_up_first, processes};
 ghost use Rattle.wire_calls.specs.WireStands.{WireStands, as_delivered, replies_at, requests_at};
 ghost use Rattle.script_reader.specs.Documents.{doc_of};
 ghost use Rattle.script_reader.specs.Lawful.{AreLawful, AreLawfulFrom, IsLawful, IsLawfulDoc};
 ghost use Rattle.world_process.specs.Clocked.{AreEventsFrom};
 ghost use Rattle.world_process.specs.Processes.{is_up_first_as};
-ghost use Rattle.world_core.specs.Forms.{is_run};
+ghost use Rattle.agenda_laws.specs.Ahead.{IsNextEvent, IsNextMessage};
+ghost use Rattle.agenda_laws.specs.Ticking.{term_reading};
+ghost use Rattle.agenda_laws.specs.Times.{is_early, sooner as soonest};
+ghost use Rattle.beat_laws.specs.Unticked.{IsUnticked, IsUntickedFrom};
+ghost use Rattle.kube_base.specs.Steps.{counted};
+ghost use Rattle.world_process.specs.Clocked.{ClockStands};
+ghost use Rattle.world_process.specs.Moves.{own_turn};
+ghost use Rattle.world_terms.specs.TermsStand.{IsFresh, IsUpAs, TermsStand, TermsStandBut};
+ghost use Rattle.world_core.specs.Waits.{IsTurnBeat, WakesStand, beat_of, local_of, own_ticks};
 ghost use Rattle.world_process.specs.Plain.{IsFew, IsKnown, SentByKnown, BackToKnown};
 ghost use Rattle.history.specs.Due.{answer_all, deliver_all};
-ghost use Rattle.world_core.specs.States.{Skipped, AreSilent, EachStands, at_of, end_of, names_of, GoOnTo, AreMadeOf, SendsAsked, IsFit, IsReady, IsPlaced, SameDocument, Keeps, StateStands, StateWithin, Running, Happens, Scripted};
+ghost use Rattle.world_core.specs.States.{AreQuiet, EachStands, at_of, count_of, end_of, names_of, GoOnTo, AreMadeOf, SendsAsked, IsFit, IsReady, IsPlaced, SameDocument, Keeps, StateStands, StateWithin, Running, Happens, Scripted};
 
 use crate::printing::{
     answer_act, crash_act, end_act, lead_act, remove_act, start_act, stop_act, tell,
 };
-use kube_base::{Beat, Names, NoMemory, ProcId, Wall};
+use crate::wakes::Wakes;
+use kube_base::{Beat, Local, Names, NoMemory, ProcId, Steps, Wall};
 use kube_objects::{
     Act, Actor, Ask, Deeds, Event, Events, Items, Key, Object, Procs, Reply, Request, Settings,
     What,
 };
 use object_store::Store;
 use script_reader::Document;
+use skew_clock::Clock;
 use std::alloc::Global;
+use std::sync::ledger::Blank;
+use term_state::View;
 use wire_calls::{Arrived, Delivered, Wire};
-use world_process::{Controller, Process, picoseconds};
+use world_process::{Controller, InForce, Kubelet, Process, first_beat, picoseconds};
+use world_terms::Terms;
+use zone_state::Policies;
 
 /// Processes, the store and the wire between them, before a beat. The events before the place have happened.
 #[derive(Drop)]
@@ -57,6 +71,8 @@ pub struct State {
     store: Store,
     wire: Wire,
     processes: Vec<Process>,
+    in_force: InForce,
+    terms: Terms,
     place: usize,
     events: Events,
     names: Names,
@@ -66,7 +82,6 @@ impl State {
     /// The world of a document before beat 0, with the document's objects in its store.
     pub fn new(alloc: Global, document: Document) -> Result<State, NoMemory>
         requires lawful { IsLawfulDoc (doc_of document) }
-        requires form { is_run (doc_of document) ≡ true }
         ensures ready { IfOk result (λ w. IsReady w × (at_of w ≡ 0) × (end_of w ≡ document.settings.end_beat.0)) }
         ensures names { IfOk result (λ w. names_of w ≡ document.names) }
         ensures stands { IfOk result (StateStands (doc_of document) 0 (history (doc_of document) 0)) }
@@ -76,8 +91,11 @@ impl State {
             alloc,
             &settings,
             &document.controllers,
+            &document.kubelets,
             document.events.as_slice(),
         )?;
+        let in_force = InForce::new(alloc, &document.controllers, &document.kubelets)?;
+        let terms = Terms::new(alloc, &settings, document.controllers.as_slice().len())?;
         let wire = Wire::new(alloc, processes.len() as u32)?;
         let store = store_of(alloc, &document.objects.items, settings.epoch)?;
         Ok(State {
@@ -90,6 +108,8 @@ impl State {
             store,
             wire,
             processes,
+            in_force,
+            terms,
             place: 0,
             events: document.events,
             names: document.names,
@@ -127,114 +147,130 @@ impl State {
     }
 
     /// Does one beat, and answers its printed entries.
-    pub fn beat(&mut self) -> Result<Deeds, NoMemory>
+    pub fn beat<L>(&mut self, policies: &Policies, steps: &mut Steps<L>) -> Result<Deeds, NoMemory>
         requires ready { IsReady self.old }
         requires within { at_of self.old ≤ end_of self.old }
         ensures kept { OnOk result (IsReady self.new × (at_of self.new ≡ at_of self.old + 1) × (end_of self.new ≡ end_of self.old)
             × (names_of self.new ≡ names_of self.old)) }
         ensures stands { (doc : Doc) (k : ℕ) (h : List Entry) → IsFew (beat doc h k) → StateStands doc k h self.old
             → IfOk result (λ deeds. StateStands doc (k + 1) (beat doc h k) self.new × (printed h ++ deeds ≡ printed (beat doc h k))) }
+        ensures counted { steps.new ≡ counted steps.old 1 }
     {
+        steps.tick();
         let mut deeds = Deeds::new(self.alloc);
         self.first_starts(&mut deeds)?;
         self.script(&mut deeds)?;
         self.arrivals(&mut deeds)?;
         self.deliveries(&mut deeds)?;
-        self.turns(&mut deeds)?;
+        self.turns(policies, &mut deeds)?;
         self.beat = Beat(self.beat.0 + 1);
         Ok(deeds)
     }
 
-    /// Goes on to the next beat at which something may happen, at most to the one after the end. Nothing is printed of the
-    /// beats between.
-    pub fn skip_quiet(&mut self)
+    /// Goes on to a later beat, where no entry stands at the beats between.
+    pub fn skip_to(&mut self, beat: Beat)
         requires ready { IsReady self.old }
-        requires within { at_of self.old ≤ end_of self.old + 1 }
-        ensures kept { IsReady self.new × (at_of self.old ≤ at_of self.new) × (at_of self.new ≤ end_of self.new + 1)
-            × (end_of self.new ≡ end_of self.old) × (names_of self.new ≡ names_of self.old) }
-        ensures stands { (doc : Doc) (k : ℕ) (h : List Entry) → StateStands doc k h self.old → Skipped doc k h self.new }
+        requires ahead { (at_of self.old ≤ beat.0) × (beat.0 ≤ end_of self.old + 1) }
+        ensures kept { IsReady self.new × (at_of self.new ≡ beat.0) × (end_of self.new ≡ end_of self.old) × (names_of self.new ≡ names_of self.old) }
+        ensures stands { (doc : Doc) (k : ℕ) (h : List Entry) → StateStands doc k h self.old → AreQuiet doc k beat.0 h
+            → StateStands doc beat.0 h self.new }
     {
-        let last = self.next_start(Beat(self.end.0 + 1));
-        let outside = self.next_message(self.next_event(last));
-        if outside.0 <= self.beat.0 {
-            return;
-        }
-        let busy = self.next_turns(outside);
-        self.beat = later(self.beat, busy);
+        self.beat = beat;
     }
 
-    // Beat 0 where a process starts in it that is still to be done, or the bound.
-    fn next_start(&self, bound: Beat) -> Beat
-        ensures bound { result.0 ≤ bound.0 }
-        ensures starts { (doc : Doc) (k j : ℕ) (h : List Entry) → at_of self.now ≡ k → length self.now.processes.items ≡ processes doc
-            → EachStands doc h self.now.processes.items → k ≤ j → j < result.0 → first_starts doc j h ≡ h }
-    {
-        if self.beat.0 != 0 {
-            return bound;
-        }
-        if starts_any(self.processes.as_slice()) {
-            Beat(0)
-        } else {
-            bound
-        }
-    }
-
-    // The beat of the next event, or the bound where that is earlier.
-    fn next_event(&self, bound: Beat) -> Beat
-        ensures bound { result.0 ≤ bound.0 }
-        ensures events { (doc : Doc) (k : ℕ) → self.now.events ≡ doc.events → IsPlaced doc k self.now.place
-            → AreLawfulFrom doc result.0 (drop self.now.place doc.events) }
+    /// The beat of the first event not yet done; None exactly where none is left.
+    pub fn next_event(&self) -> Option<Beat>
+        ensures { (doc : Doc) (k : ℕ) (h : List Entry) → StateStands doc k h self.now → AreLawfulFrom doc 0 doc.events
+            → IsNextEvent doc k (beat_of result) }
     {
         match self.events.as_slice().get(self.place) {
-            Some(event) => earlier(event.beat, bound),
-            None => bound,
+            Some(event) => Some(event.beat),
+            None => None,
         }
     }
 
-    // The next beat at which something in flight arrives, or the bound where that is earlier.
-    fn next_message(&self, bound: Beat) -> Beat
-        ensures bound { result.0 ≤ bound.0 }
-        ensures silent { (processes k : ℕ) (h : List Entry)
-            → WireStands processes k (requests_due k h) (replies_due k h) h self.now.wire → AreSilent k result.0 h }
+    /// The least beat of anything in flight that isn't past the end; None exactly where there is none.
+    pub fn next_wire(&self) -> Option<Beat>
+        ensures { (doc : Doc) (k : ℕ) (h : List Entry) → StateStands doc k h self.now → end_of self.now ≡ end_beat doc
+            → IsNextMessage doc k h (beat_of result) }
     {
-        match self.wire.next() {
-            Some(arrives) => earlier(arrives, bound),
-            None => bound,
+        let arrives = self.wire.next()?;
+        if arrives.0 > self.end.0 {
+            return None;
         }
+        Some(arrives)
     }
 
-    // The next beat at which a turn may do something but for its tick, or the bound where that is earlier.
-    fn next_turns(&mut self, bound: Beat) -> Beat
-        requires ready { IsReady self.old }
-        ensures kept { Keeps self.old self.new }
-        ensures bound { result.0 ≤ bound.0 }
-        ensures stands { (doc : Doc) (k : ℕ) (arriving : List Sent) (coming : List Back) (h : List Entry)
-            → StateWithin doc k arriving coming h self.old → StateWithin doc k arriving coming h self.new }
-        ensures still { (doc : Doc) (k j : ℕ) (arriving : List Sent) (coming : List Back) (h : List Entry)
-            → StateWithin doc k arriving coming h self.old → j ≤ end_of self.old → j < result.0 → (p : ℕ) → p < processes doc
-            → elector_turn doc j p h ≡ h }
+    /// How many processes there are.
+    pub fn processes(&self) -> u32
+        requires { IsReady self.now }
+        ensures count { result ≡ count_of self.now }
+        ensures stands { (doc : Doc) (k : ℕ) (h : List Entry) → StateStands doc k h self.now → result ≡ processes doc }
     {
-        let mut next = bound;
-        for i in 0..self.processes.len() {
-            next = self.next_turn(i, next);
-        }
-        next
+        self.processes.len() as u32
     }
 
-    // The next beat at which a process's turn may do something but for its tick, or the bound where that is earlier.
-    fn next_turn(&mut self, i: usize, bound: Beat) -> Beat
-        requires index { i < vec_len self.old.processes }
-        requires ready { IsReady self.old }
-        ensures kept { Keeps self.old self.new }
-        ensures bound { result.0 ≤ bound.0 }
-        ensures stands { (doc : Doc) (k : ℕ) (arriving : List Sent) (coming : List Back) (h : List Entry)
-            → StateWithin doc k arriving coming h self.old → StateWithin doc k arriving coming h self.new }
-        ensures still { (doc : Doc) (k j : ℕ) (arriving : List Sent) (coming : List Back) (h : List Entry)
-            → StateWithin doc k arriving coming h self.old → j ≤ end_of self.old → j < result.0 → elector_turn doc j i h ≡ h }
+    /// A process's clock.
+    pub fn clock(&self, who: ProcId) -> &Clock
+        requires { who.0 < count_of self.now }
+        ensures end { IsReady self.now → result.now.end ≡ end_of self.now }
+        ensures stands { (doc : Doc) (k : ℕ) (h : List Entry) → StateStands doc k h self.now → ClockStands doc who.0 result.now }
     {
-        let process = &mut self.processes[i];
-        let wakes = process.wakes_from(self.beat);
-        earlier(wakes, bound)
+        self.processes[who.0 as usize].clock()
+    }
+
+    /// What a process waits for.
+    pub fn wakes(&self, who: ProcId) -> Wakes
+        requires ready { IsReady self.now }
+        requires within { at_of self.now ≤ end_of self.now }
+        requires process { who.0 < count_of self.now }
+        ensures { (doc : Doc) (k : ℕ) (h : List Entry) → StateStands doc k h self.now → end_of self.now ≡ end_beat doc
+            → WakesStand doc k who.0 h result }
+    {
+        let process = &self.processes[who.0 as usize];
+        if self.beat.0 == 0 && process.is_up_first() {
+            return Wakes::at_once();
+        }
+        let wake = process.wake();
+        if process.acting(self.beat).is_none() {
+            return Wakes::with(false, wake, None);
+        }
+        let watch = self.in_force.watch(who);
+        Wakes::with(
+            self.terms.at_once(who, &self.store, watch),
+            sooner(wake, self.term_wake(who)),
+            self.terms.least_due(who),
+        )
+    }
+
+    /// The first beat up to the end at which a process's clock has the reading that it waits for; None where there is none.
+    pub fn turn_beat(&self, who: ProcId) -> Option<Beat>
+        requires ready { IsReady self.now }
+        requires within { at_of self.now ≤ end_of self.now }
+        requires process { who.0 < count_of self.now }
+        ensures { (doc : Doc) (k : ℕ) (h : List Entry) (w : Wakes) → StateStands doc k h self.now → end_of self.now ≡ end_beat doc
+            → WakesStand doc k who.0 h w → IsTurnBeat doc k who.0 w result }
+    {
+        let process = &self.processes[who.0 as usize];
+        let own = process.turn_beat();
+        if process.acting(self.beat).is_none() {
+            return own;
+        }
+        let ticks = first_beat(process.clock(), self.term_wake(who));
+        sooner_beat(own, ticks)
+    }
+
+    // The reading that a controller's term waits for.
+    fn term_wake(&self, who: ProcId) -> Option<Local>
+        requires ready { IsReady self.now }
+        requires process { who.0 < count_of self.now }
+        ensures { (doc : Doc) (k : ℕ) (h : List Entry) (q : Identity) → StateStands doc k h self.now → end_of self.now ≡ end_beat doc
+            → IsUpAs doc who.0 q h
+            → (j : ℕ) → j ≤ end_beat doc → is_early (local doc who.0 j) (local_of result) ≡ is_early (local doc who.0 j) (term_reading doc q h) }
+    {
+        // No reading up to the last one is out of a term's range.
+        let _last = self.processes[who.0 as usize].clock().local(self.end);
+        self.terms.wake(who)
     }
 
     // In beat 0 each process starts that is up at first.
@@ -271,6 +307,8 @@ impl State {
         }
         process.start(self.beat);
         let actor = process.actor();
+        let who = process.me();
+        self.terms.renew(who);
         tell(deeds, self.beat, actor, Some(Act::Start))
     }
 
@@ -316,8 +354,14 @@ impl State {
                 self.wire.set_loss(who, requests, replies);
                 Ok(())
             }
-            What::Watch(_, _) => Ok(()),
-            What::Ready(_, _) => Ok(()),
+            What::Watch(who, on) => {
+                self.in_force.set_watch(who, on);
+                Ok(())
+            }
+            What::Ready(who, status) => {
+                self.in_force.set_status(who, status);
+                Ok(())
+            }
             What::Crash(who) => self.crash(who, deeds),
             What::Start(who) => self.start(who, deeds),
             What::Stop(who) => self.stop(who, deeds),
@@ -339,6 +383,7 @@ impl State {
         let process = &mut self.processes[i];
         let crashed = process.crash();
         let actor = process.actor();
+        self.terms.renew(who);
         tell(deeds, self.beat, actor, crash_act(crashed))
     }
 
@@ -355,6 +400,9 @@ impl State {
         let process = &mut self.processes[i];
         let started = process.begin(self.beat);
         let actor = process.actor();
+        if started {
+            self.terms.renew(who);
+        }
         tell(deeds, self.beat, actor, start_act(started))
     }
 
@@ -374,6 +422,7 @@ impl State {
         let actor = process.actor();
         let who = process.me();
         let incarnation = process.incarnation();
+        self.terms.renew(who);
         tell(deeds, self.beat, actor, stop_act(stopped.stopped))?;
         send_asked(&mut self.wire, who, incarnation, stopped.ask, self.beat)
     }
@@ -506,38 +555,40 @@ impl State {
 
     // Each process has its turn, in order.
     #[inline(never)]
-    fn turns(&mut self, deeds: &mut Deeds) -> Result<(), NoMemory>
+    fn turns(&mut self, policies: &Policies, deeds: &mut Deeds) -> Result<(), NoMemory>
         requires ready { IsReady self.old }
         requires within { at_of self.old ≤ end_of self.old }
         ensures kept { OnOk result (Keeps self.old self.new) }
         ensures stands { (doc : Doc) (k : ℕ) (before : List Deed) (arriving : List Sent) (coming : List Back) (h : List Entry)
-            → Running doc k before arriving coming h self.old deeds.old → IsBare h → IsFew (turns doc k (processes doc) h)
+            → Running doc k before arriving coming h self.old deeds.old → IsUnticked k h → IsFew (turns doc k (processes doc) h)
             → OnOk result (Running doc k before arriving coming (turns doc k (processes doc) h) self.new deeds.new) }
     {
         for i in 0..self.processes.len() {
             self.turn(i, deeds)?;
+            self.tick(i, policies, deeds)?;
         }
         Ok(())
     }
 
+    // A turn but for its tick.
     fn turn(&mut self, i: usize, deeds: &mut Deeds) -> Result<(), NoMemory>
         requires index { i < vec_len self.old.processes }
         requires ready { IsReady self.old }
         requires within { at_of self.old ≤ end_of self.old }
         ensures kept { OnOk result (Keeps self.old self.new) }
         ensures stands { (doc : Doc) (k : ℕ) (before : List Deed) (arriving : List Sent) (coming : List Back) (h : List Entry)
-            → Running doc k before arriving coming h self.old deeds.old → IsBare h → IsFew (turn doc k i h)
-            → OnOk result (Running doc k before arriving coming (turn doc k i h) self.new deeds.new) }
+            → Running doc k before arriving coming h self.old deeds.old → IsFew (own_turn doc k i h)
+            → OnOk result (Running doc k before arriving coming (own_turn doc k i h) self.new deeds.new) }
     {
-        let wakes = self.next_turn(i, Beat(self.beat.0 + 1));
-        if self.beat.0 < wakes.0 {
-            return Ok(());
+        let process = &mut self.processes[i];
+        process.keep_turn_beat();
+        match process.turn_beat() {
+            Some(wakes) if wakes.0 <= self.beat.0 => self.take_turn(i, deeds),
+            _ => Ok(()),
         }
-        self.take_turn(i, deeds)
     }
 
-    // A turn of a process that may do something, but for its tick: on documents without Nodes and Pods a tick prints nothing
-    // and changes nothing of the world.
+    // A turn of a process that does something, but for its tick.
     #[inline(never)]
     fn take_turn(&mut self, i: usize, deeds: &mut Deeds) -> Result<(), NoMemory>
         requires index { i < vec_len self.old.processes }
@@ -545,17 +596,51 @@ impl State {
         requires within { at_of self.old ≤ end_of self.old }
         ensures kept { OnOk result (Keeps self.old self.new) }
         ensures stands { (doc : Doc) (k : ℕ) (before : List Deed) (arriving : List Sent) (coming : List Back) (h : List Entry)
-            → Running doc k before arriving coming h self.old deeds.old → IsFew (elector_turn doc k i h)
-            → OnOk result (Running doc k before arriving coming (elector_turn doc k i h) self.new deeds.new) }
+            → Running doc k before arriving coming h self.old deeds.old → IsFew (own_turn doc k i h)
+            → OnOk result (Running doc k before arriving coming (own_turn doc k i h) self.new deeds.new) }
     {
         let process = &mut self.processes[i];
-        let turn = process.turn(self.beat, self.restart);
+        let status = self.in_force.status(process.me());
+        let turn = process.turn(self.beat, self.restart, status);
+        process.keep_turn_beat();
         let actor = process.actor();
         let who = process.me();
         let incarnation = process.incarnation();
+        renew_if(&mut self.terms, who, turn.started, turn.ended);
         tell(deeds, self.beat, actor, start_act(turn.started))?;
         tell(deeds, self.beat, actor, end_act(turn.ended))?;
         send_asked(&mut self.wire, who, incarnation, turn.ask, self.beat)
+    }
+
+    // The tick of a controller that acts as the leader.
+    fn tick(&mut self, i: usize, policies: &Policies, deeds: &mut Deeds) -> Result<(), NoMemory>
+        requires index { i < vec_len self.old.processes }
+        requires ready { IsReady self.old }
+        requires within { at_of self.old ≤ end_of self.old }
+        ensures kept { OnOk result (Keeps self.old self.new) }
+        ensures stands { (doc : Doc) (k : ℕ) (before : List Deed) (arriving : List Sent) (coming : List Back) (h : List Entry)
+            → Running doc k before arriving coming h self.old deeds.old → (is_controller doc i ≡ true → IsUntickedFrom k i h)
+            → IsFew (own_ticks doc k i h)
+            → OnOk result (Running doc k before arriving coming (own_ticks doc k i h) self.new deeds.new) }
+    {
+        let process = &self.processes[i];
+        let Some(acting) = process.acting(self.beat) else {
+            return Ok(());
+        };
+        let who = process.me();
+        let now = process.clock().local(self.beat);
+        let view = View {
+            watch: self.in_force.watch(who),
+            passes: self.wire.passes(who),
+            beat: self.beat,
+            now,
+            wall: process.clock().wall_at(now),
+        };
+        let mut steps = Steps::new(Blank::new(1));
+        let printed = self
+            .terms
+            .tick(who, &acting, &mut self.store, &view, policies, &mut steps)?;
+        deeds.append(&printed)
     }
 }
 
@@ -600,24 +685,37 @@ fn send_asked(
     Ok(())
 }
 
-fn starts_any(processes: &[Process]) -> bool
-    ensures { result ≡ false → All (λ x. is_up_first_as x ≡ false) processes.now }
+// A process that started or ended has a term that has seen nothing.
+fn renew_if(terms: &mut Terms, who: ProcId, started: bool, ended: bool)
+    ensures anew { (doc : Doc) (h : List Entry) → (started || ended) ≡ true → TermsStandBut doc who.0 h terms.old → IsFresh who.0 h
+        → TermsStand doc h terms.new }
+    ensures same { (started || ended) ≡ false → terms.new ≡ terms.old }
 {
-    processes.iter().any(|process| process.is_up_first())
+    if started || ended {
+        terms.renew(who);
+    }
 }
 
-fn earlier(a: Beat, b: Beat) -> Beat
-    ensures { (result.0 ≤ a.0) × (result.0 ≤ b.0) }
+// The sooner of two beats.
+fn sooner_beat(one: Option<Beat>, other: Option<Beat>) -> Option<Beat>
+    ensures { beat_of result ≡ soonest (beat_of one) (beat_of other) }
 {
-    if b.0 < a.0 { b } else { a }
+    match (one, other) {
+        (None, other) => other,
+        (Some(one), Some(other)) if other.0 < one.0 => Some(other),
+        (one, _) => one,
+    }
 }
 
-fn later(a: Beat, b: Beat) -> Beat
-    ensures least { a.0 ≤ result.0 }
-    ensures most { (n : ℕ) → a.0 ≤ n → b.0 ≤ n → result.0 ≤ n }
-    ensures between { (j : ℕ) → a.0 ≤ j → j < result.0 → j < b.0 }
+// The sooner of two readings.
+fn sooner(one: Option<Local>, other: Option<Local>) -> Option<Local>
+    ensures { local_of result ≡ soonest (local_of one) (local_of other) }
 {
-    if a.0 < b.0 { b } else { a }
+    match (one, other) {
+        (None, other) => other,
+        (Some(one), Some(other)) if other.0 < one.0 => Some(other),
+        (one, _) => one,
+    }
 }
 
 // An event's copy equals it.
@@ -650,20 +748,22 @@ fn store_of(alloc: Global, items: &Items, epoch: Wall) -> Result<Store, NoMemory
     Ok(store)
 }
 
-// The processes of a document that the world runs, in order.
+// The processes of a document, in order.
 fn processes_of(
     alloc: Global,
     settings: &Settings,
     controllers: &Procs,
+    kubelets: &Procs,
     events: &[Event],
 ) -> Result<Vec<Process>, NoMemory>
     requires settings { AreLawful settings.now }
     requires controllers { All IsLawful controllers.now }
+    requires kubelets { All IsLawful kubelets.now }
     requires events { AreEventsFrom settings.now.end_beat.0 0 events.now }
-    requires few { length controllers.now ≤ 16 }
-    ensures count { IfOk result (λ xs. length xs.items ≡ length controllers.now) }
+    requires few { (length controllers.now ≤ 16) × (length kubelets.now ≤ 1000) }
+    ensures count { IfOk result (λ xs. length xs.items ≡ length controllers.now + length kubelets.now) }
     ensures clocks { IfOk result (λ xs. GoOnTo settings.now.end_beat.0 xs.items) }
-    ensures stands { (doc : Doc) → AreMadeOf doc settings.now controllers.now events.now
+    ensures stands { (doc : Doc) → AreMadeOf doc settings.now controllers.now kubelets.now events.now
         → IfOk result (λ xs. EachStands doc [] xs.items) }
 {
     let mut processes = Vec::new(alloc);
@@ -671,6 +771,11 @@ fn processes_of(
         let me = ProcId(processes.len() as u32);
         let controller = Controller::new(alloc, me, settings, process, events)?;
         processes.push(Process::Controller(controller))?;
+    }
+    for process in kubelets.as_slice() {
+        let me = ProcId(processes.len() as u32);
+        let kubelet = Kubelet::new(alloc, me, settings, process, events)?;
+        processes.push(Process::Kubelet(kubelet))?;
     }
     Ok(processes)
 }

@@ -1,5 +1,5 @@
 // The world of a document, which does one beat at a time.
-ghost use Rattle.std.specs.Prelude.{◌≡◌, ◌+◌, ◌<◌, ◌≤◌, ◌++◌, ℕ, List, true, length, IfOk, IsTrue, ◌↔◌};
+ghost use Rattle.std.specs.Prelude.{◌≡◌, ◌+◌, ◌<◌, ◌≤◌, ◌++◌, ℕ, List, length, IfOk, IsTrue, ◌↔◌};
 ghost use Rattle.std.specs.List.{AllByRecursion};
 ghost use Rattle.std.specs.List.Sorted.{IsStrictlySortedBy};
 ghost use Rattle.std.specs.Map.{keys_of, lookup};
@@ -13,16 +13,22 @@ ghost use Rattle.history.specs.History.{history, beat};
 ghost use Rattle.history.specs.Printed.{printed};
 ghost use Rattle.object_store.specs.StoreAnswers.{object_of};
 ghost use Rattle.script_reader.specs.Documents.{doc_of};
-ghost use Rattle.script_reader.specs.Lawful.{IsLawfulDoc};
-ghost use Rattle.world_core.specs.Forms.{is_run};
+ghost use Rattle.agenda_laws.specs.Ahead.{IsNextEvent, IsNextMessage};
+ghost use Rattle.kube_base.specs.Steps.{counted};
+ghost use Rattle.script_reader.specs.Lawful.{AreLawfulFrom, IsLawfulDoc};
+ghost use Rattle.world_process.specs.Clocked.{ClockStands};
 ghost use Rattle.world_process.specs.Plain.{IsFew};
-ghost use Rattle.world_core.specs.Worlds.{AreWritable, IsOwn, IsReady, Skipped, WorldStands, at_of, end_of, names_of};
+ghost use Rattle.world_core.specs.Waits.{IsTurnBeat, WakesStand, beat_of};
+ghost use Rattle.world_core.specs.Worlds.{AreQuiet, AreWritable, IsOwn, IsReady, WorldStands, at_of, count_of, end_of, names_of};
 
 use crate::state::State;
-use kube_base::{Beat, Names, NoMemory};
+use crate::wakes::Wakes;
+use kube_base::{Beat, Names, NoMemory, ProcId, Steps};
 use kube_objects::{Deeds, Items};
 use script_reader::Document;
+use skew_clock::Clock;
 use std::alloc::Global;
+use zone_state::Policies;
 
 /// Processes, the store and the wire between them, before a beat. It is boxed, so that a beat doesn't move it.
 #[derive(Drop)]
@@ -34,7 +40,6 @@ impl World {
     /// The world of a document before beat 0, with the document's objects in its store.
     pub fn new(alloc: Global, document: Document) -> Result<World, NoMemory>
         requires lawful { IsLawfulDoc (doc_of document) }
-        requires form { is_run (doc_of document) ≡ true }
         ensures ready { IfOk result (λ w. IsReady w × (at_of w ≡ 0) × (end_of w ≡ document.settings.end_beat.0)) }
         ensures names { IfOk result (λ w. names_of w ≡ document.names) }
         ensures stands { IfOk result (WorldStands (doc_of document) 0 (history (doc_of document) 0)) }
@@ -79,8 +84,12 @@ impl World {
         self.state.finished()
     }
 
-    /// Does one beat, and answers its printed entries.
-    pub fn beat(mut self) -> Result<(World, Deeds), NoMemory>
+    /// Does one beat, and answers its printed entries. It counts one step.
+    pub fn beat<L>(
+        mut self,
+        policies: &Policies,
+        steps: &mut Steps<L>,
+    ) -> Result<(World, Deeds), NoMemory>
         requires ready { IsReady self }
         requires within { at_of self ≤ end_of self }
         ensures kept { IfOk result (λ r. IsReady r.0 × (at_of r.0 ≡ at_of self + 1) × (end_of r.0 ≡ end_of self)
@@ -89,22 +98,79 @@ impl World {
             → IfOk result (λ r. WorldStands doc (k + 1) (beat doc h k) r.0 × (printed h ++ r.1 ≡ printed (beat doc h k))) }
         ensures writable { (doc : Doc) (k : ℕ) → IsOwn doc self → WorldStands doc k (history doc k) self → k ≤ end_beat doc
             → IfOk result (λ r. AllByRecursion (IsWritable (names_of self) (processes doc)) r.1) }
+        ensures counted { steps.new ≡ counted steps.old 1 }
     {
         // The names hold what every list of names does.
         let _held = self.state.names().len();
-        let deeds = self.state.beat()?;
+        let deeds = self.state.beat(policies, steps)?;
         Ok((self, deeds))
     }
 
-    /// Goes on to the next beat at which something may happen, at most to the one after the end. Nothing is printed of the
-    /// beats between.
-    pub fn skip_quiet(&mut self)
-        requires ready { IsReady self.old }
-        requires within { at_of self.old ≤ end_of self.old + 1 }
-        ensures kept { IsReady self.new × (at_of self.old ≤ at_of self.new) × (at_of self.new ≤ end_of self.new + 1)
-            × (end_of self.new ≡ end_of self.old) × (names_of self.new ≡ names_of self.old) }
-        ensures stands { (doc : Doc) (k : ℕ) (h : List Entry) → WorldStands doc k h self.old → Skipped doc k h self.new }
+    /// Goes on to a later beat, at most to the one after the end, where no entry stands at the beats between.
+    pub fn skip_to(mut self, beat: Beat) -> World
+        requires ready { IsReady self }
+        requires ahead { (at_of self ≤ beat.0) × (beat.0 ≤ end_of self + 1) }
+        ensures kept { IsReady result × (at_of result ≡ beat.0) × (end_of result ≡ end_of self) × (names_of result ≡ names_of self) }
+        ensures stands { (doc : Doc) (k : ℕ) (h : List Entry) → WorldStands doc k h self → AreQuiet doc k beat.0 h
+            → WorldStands doc beat.0 h result }
     {
-        self.state.skip_quiet();
+        self.state.skip_to(beat);
+        self
+    }
+
+    /// The beat of the first event not yet done; None exactly where none is left.
+    pub fn next_event(&self) -> Option<Beat>
+        ensures { (doc : Doc) (k : ℕ) (h : List Entry) → WorldStands doc k h self.now → AreLawfulFrom doc 0 doc.events
+            → IsNextEvent doc k (beat_of result) }
+    {
+        self.state.next_event()
+    }
+
+    /// The least beat of anything in flight that isn't past the end; None exactly where there is none.
+    pub fn next_wire(&self) -> Option<Beat>
+        ensures { (doc : Doc) (k : ℕ) (h : List Entry) → WorldStands doc k h self.now → end_of self.now ≡ end_beat doc
+            → IsNextMessage doc k h (beat_of result) }
+    {
+        self.state.next_wire()
+    }
+
+    /// How many processes there are.
+    pub fn processes(&self) -> u32
+        requires { IsReady self.now }
+        ensures count { result ≡ count_of self.now }
+        ensures stands { (doc : Doc) (k : ℕ) (h : List Entry) → WorldStands doc k h self.now → result ≡ processes doc }
+    {
+        self.state.processes()
+    }
+
+    /// A process's clock.
+    pub fn clock(&self, who: ProcId) -> &Clock
+        requires { who.0 < count_of self.now }
+        ensures end { IsReady self.now → result.now.end ≡ end_of self.now }
+        ensures stands { (doc : Doc) (k : ℕ) (h : List Entry) → WorldStands doc k h self.now → ClockStands doc who.0 result.now }
+    {
+        self.state.clock(who)
+    }
+
+    /// What a process waits for.
+    pub fn wakes(&self, who: ProcId) -> Wakes
+        requires ready { IsReady self.now }
+        requires within { at_of self.now ≤ end_of self.now }
+        requires process { who.0 < count_of self.now }
+        ensures { (doc : Doc) (k : ℕ) (h : List Entry) → WorldStands doc k h self.now → end_of self.now ≡ end_beat doc
+            → WakesStand doc k who.0 h result }
+    {
+        self.state.wakes(who)
+    }
+
+    /// The first beat up to the end at which a process's clock has the reading that it waits for; None where there is none.
+    pub fn turn_beat(&self, who: ProcId) -> Option<Beat>
+        requires ready { IsReady self.now }
+        requires within { at_of self.now ≤ end_of self.now }
+        requires process { who.0 < count_of self.now }
+        ensures { (doc : Doc) (k : ℕ) (h : List Entry) (w : Wakes) → WorldStands doc k h self.now → end_of self.now ≡ end_beat doc
+            → WakesStand doc k who.0 h w → IsTurnBeat doc k who.0 w result }
+    {
+        self.state.turn_beat(who)
     }
 }

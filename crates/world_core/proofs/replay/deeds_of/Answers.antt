@@ -4,13 +4,13 @@ use Rattle.history.specs.History.{history}
 use Rattle.history.specs.Printed.{printed}
 use Rattle.script_reader.specs.Documents.{doc_of}
 use Rattle.world_core.specs.Worlds.{at_of, end_of, WorldStands}
-use Rattle.world_core.proofs.Fewness.{few-beat}
 use Rattle.world_core.proofs.Puts.{put-printed}
 use Rattle.world_core.proofs.Ranges.{not-over, over}
+use Rattle.world_core.proofs.Writing.{lawful-few}
 use Rattle.world_core.proofs.replay.deeds_of.Goals as goal
 
 pub beats-init : goal.beats-init
-beats-init c =
+beats-init g c =
     let doc = doc_of c.args.document in
     let w = c.in_ok-world.world in
     let ready = c.in_ok-world.ensures.ready in
@@ -23,14 +23,14 @@ beats-init c =
     }
 
 pub beats-preserved : goal.beats-preserved
-beats-preserved c =
+beats-preserved g c =
     let doc = doc_of c.args.document in
     let now = c.beats.invariant in
     let k = at_of c.beats.world in
     let next = c.in_ok-next.next in
     let kept = c.in_ok-next.ensures.kept in
     let inside = not-over (end_of c.beats.world) k c.finished.result c.finished.ensures c.beats-test.true in
-    let few = few-beat doc k c.calls_are_numbered.ensures.few c.starts_are_few.ensures (omega (arith, inside, now.ready.end)) c.requires.lawful.few_events in
+    let few = lawful-few doc k c.requires.lawful (omega (arith, inside, now.end)) in
     let done = c.in_ok-next.ensures.stands doc k (history doc k) few now.stands in
     let later : suc k ≡ at_of next = sym (kept.1 ∙ add-one k) in
     record {
@@ -42,7 +42,7 @@ beats-preserved c =
     }
 
 pub returns : goal.returns
-returns c =
+returns g c =
     let doc = doc_of c.args.document in
     let now = c.beats.invariant in
     let done = over (end_of c.beats.world) (at_of c.beats.world) c.finished.result c.finished.ensures c.beats-test.false now.within in

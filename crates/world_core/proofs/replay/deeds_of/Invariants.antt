@@ -6,7 +6,7 @@ use Rattle.world_core.specs.Worlds.{at_of, end_of, IsReady, WorldStands}
 use Rattle.world_core.proofs.replay.deeds_of.Given as goal
 
 abbrev pub invariant-beats : goal.invariant-beats
-invariant-beats l =
+invariant-beats g l =
     record {
       ready : IsReady l.world;
       end : end_of l.world ≡ l.fn.document.settings.end_beat.0;
@@ -16,4 +16,4 @@ invariant-beats l =
     }
 
 abbrev pub decreases-beats : goal.decreases-beats
-decreases-beats l = end_of l.world + 1 - at_of l.world
+decreases-beats g l = end_of l.world + 1 - at_of l.world

@@ -5,17 +5,15 @@ use Rattle.kube_objects.specs.InFlight.{requests_due, replies_due}
 use Rattle.history.specs.Due.{answer_all, deliver_all}
 use Rattle.history.specs.Printed.{printed}
 use Rattle.history.specs.Steps.{first_starts, turns}
-use Rattle.history_laws.specs.Bare.{IsBare}
-use Rattle.history_laws.proofs.Bare.{bare_steps, bare_turns}
 use Rattle.world_core.specs.declared.state.State.{State}
 use Rattle.world_process.specs.Plain.{IsFew, SentByKnown, BackToKnown}
 use Rattle.world_core.specs.States.{IsPlaced, StateStands, Running}
-use Rattle.world_core.proofs.Beats.{one, two, three, beat-is, few-three, few-one, few-starts, requests-starts, replies-starts, replies-answers, three-is, world-next}
+use Rattle.world_core.proofs.Beats.{one, two, three, beat-is, few-three, few-one, few-starts, requests-starts, replies-starts, replies-answers, unticked-three, unticked-next, world-next}
 use Rattle.world_core.proofs.Known.{requests-known, replies-known}
 use Rattle.world_core.proofs.state.State.beat.Goals as goal
 
 pub returns-clause-stands : goal.returns-clause-stands
-returns-clause-stands c doc k h few s =
+returns-clause-stands g c doc k h few s =
     let n = processes doc in
     let before = printed h in
     let h1 = one doc k h in
@@ -39,8 +37,7 @@ returns-clause-stands c doc k h few s =
     let same3 : deliver_all doc k (replies_due k h) h2 ≡ h3 = ap (λ bs. deliver_all doc k bs h2) (sym back) in
     let r3 = c.in_ok-deliveries.ensures.stands doc k before [] (replies_due k h) h2 r2' (subst (BackToKnown n h2) back (replies-known n k h2 r2'.world.rest.plain)) (subst IsFew (sym same3) few3) in
     let r3' : Running doc k before [] [] h3 c.deliveries.new.self c.deliveries.new.deeds = subst (λ g. Running doc k before [] [] g c.deliveries.new.self c.deliveries.new.deeds) same3 r3 in
-    let bare3 : IsBare h3 = subst IsBare (three-is doc k h) (bare_steps doc s.within.rest.document.leases k h s.bare) in
-    let r4 = c.in_ok-turns.ensures.stands doc k before [] [] h3 r3' bare3 few4 in
+    let r4 = c.in_ok-turns.ensures.stands doc k before [] [] h3 r3' (unticked-three doc k h s.unticked) few4 in
     let w : State = record c.turns.new.self { beat = record { 0 = c.turns.new.self.beat.0 + 1 } } in
     let place = c.in_ok-turns.ensures.kept.place ∙ c.in_ok-deliveries.ensures.kept.place ∙ c.in_ok-arrivals.ensures.kept.place in
-    (subst (λ g. StateStands doc (k + 1) g w) (sym is) (world-next doc k (turns doc k n h3) c.turns.new.self r4.world (subst (IsPlaced doc (k + 1)) (sym place) scripted.placed) (bare_turns doc k n h3 bare3)), r4.told ∙ ap printed (sym is))
+    (subst (λ g. StateStands doc (k + 1) g w) (sym is) (world-next doc k (turns doc k n h3) c.turns.new.self r4.world (subst (IsPlaced doc (k + 1)) (sym place) scripted.placed) (unticked-next doc k h s.unticked)), r4.told ∙ ap printed (sym is))

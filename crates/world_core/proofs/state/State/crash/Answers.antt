@@ -10,6 +10,7 @@ use Rattle.world_process.specs.Processes.{incarnation_of}
 use Rattle.world_process.proofs.Processes.{process-me}
 use Rattle.world_core.proofs.Around.{around-world}
 use Rattle.world_core.proofs.Moving.{read-at, actor-is, on-ok}
+use Rattle.world_core.proofs.Renewing.{fresh-crashed}
 use Rattle.world_core.proofs.Scripts.{around-crash, running-moved}
 use Rattle.world_core.proofs.state.State.crash.Goals as goal
 
@@ -24,8 +25,10 @@ returns-clause-stands c =
     let done = when c.crash-crashed.result act.Crash in
     on-ok c.tell.result _ _ (λ told doc k before arriving coming h r lawful few.
     let s = r.world.processes i c0 was in
+    let around = around-crash doc k c.args.who arriving coming h w lawful (around-world doc k i arriving coming h w r.world) in
     let crashed = c.crash-crashed.ensures.stands doc k c.args.who h s in
     let who = actor-is i c1 c.actor-actor.result c.actor-actor.ensures (ap (λ m. m.0) c.crash-crashed.ensures.same.me ∙ process-me doc i h c0 s) in
     let new_is = told ∙ ap (λ a. c.args.deeds.now ++ deeds_of w.beat.0 c.actor-actor.result a) c.crash_act.ensures ∙ ap (λ n. c.args.deeds.now ++ deeds_of n c.actor-actor.result done) r.world.rest.document.at ∙ ap (λ x. c.args.deeds.now ++ deeds_of k x done) who in
-    running-moved doc k i before c.args.deeds.now c.tell.new.deeds (crashed_deeds k (identity i (incarnation_of c1)) c.crash-crashed.result) arriving coming h (happens doc k (what.Crash c.args.who) h) c0 c1 w _ r (record { was = was; now = refl; same = (record { beat = refl; end = refl; restart = refl; epoch = refl; micros = refl; events = refl; names = refl }); place = refl; store = refl }) refl
-    (around-crash doc k c.args.who arriving coming h w lawful (around-world doc k i arriving coming h w r.world)) crashed.stands crashed.told new_is) c.tell.ensures
+    running-moved doc k i before c.args.deeds.now c.tell.new.deeds (crashed_deeds k (identity i (incarnation_of c1)) c.crash-crashed.result) arriving coming h (happens doc k (what.Crash c.args.who) h) c0 c1 w _ r (record { was = was; now = refl; same = (record { beat = refl; end = refl; restart = refl; epoch = refl; micros = refl; events = refl; names = refl }); place = refl; store = refl; in_force = refl }) refl
+    around crashed.stands
+    (c.renew.ensures.stands doc (happens doc k (what.Crash c.args.who) h) around.terms (fresh-crashed doc k c.args.who h)) crashed.told new_is) c.tell.ensures

@@ -7,7 +7,6 @@ use Rattle.world_process.proofs.Grows.{few-before, grows-delivered}
 use Rattle.world_process.proofs.Processes.{process-me}
 use Rattle.world_core.proofs.Moving.{read-at, within-processes, actor-is, on-ok, sends-as}
 use Rattle.world_core.proofs.Running.{keeps-moved, running-replied}
-use Rattle.world_core.proofs.Ticking.{controls}
 use Rattle.world_core.proofs.state.State.deliver.Goals as goal
 
 pub returns-clause-kept : goal.returns-clause-kept
@@ -16,7 +15,7 @@ returns-clause-kept c =
     let index : i < vec_len c.args.self.now.processes = omega (arith, c.if-i-len.false, c.len.ensures) in
     let w = c.args.self.now in
     let was = read-at w i c.index_mut-process.result.now index c.index_mut-process.ensures.value in
-    on-ok c.send_asked.result _ _ (λ sent. keeps-moved i c.index_mut-process.result.now c.receive-received.new.self w _ c.requires.ready (record { was = was; now = refl; same = (record { beat = refl; end = refl; restart = refl; epoch = refl; micros = refl; events = refl; names = refl }); place = refl; store = refl }) refl c.receive-received.ensures.same) c.send_asked.ensures.sends
+    on-ok c.send_asked.result _ _ (λ sent. keeps-moved i c.index_mut-process.result.now c.receive-received.new.self w _ c.requires.ready (record { was = was; now = refl; same = (record { beat = refl; end = refl; restart = refl; epoch = refl; micros = refl; events = refl; names = refl }); place = refl; store = refl; in_force = refl }) refl c.receive-received.ensures.same) c.send_asked.ensures.sends
 
 pub returns-clause-stands : goal.returns-clause-stands
 returns-clause-stands c doc k before arriving coming h b r is known few =
@@ -33,10 +32,10 @@ returns-clause-stands c doc k before arriving coming h b r is known few =
     let at : w.beat.0 ≡ k = r.world.rest.document.at in
     let process : b.who.process ≡ i = ap (λ d. d.who.0) (sym is) in
     let whose : b.who ≡ identity i back.incarnation = ap (λ n. identity n b.who.incarnation) process ∙ ap (λ n. identity i n) (ap (λ d. d.incarnation) (sym is)) in
-    let replied = c.receive-received.ensures.stands doc k i b h s (controls doc i r.world.rest.document.kubelets within) at whose (ap (λ d. d.number) (sym is)) (ap (λ d. d.reply) (sym is)) (few-before h (delivered doc k b h) (grows-delivered doc k b h) few) in
+    let replied = c.receive-received.ensures.stands doc k i b h s at whose (ap (λ d. d.number) (sym is)) (ap (λ d. d.reply) (sym is)) (few-before h (delivered doc k b h) (grows-delivered doc k b h) few) in
     let me = ap (λ m. m.0) c.receive-received.ensures.same.me ∙ process-me doc i h c0 s in
     let who = actor-is i c1 c.actor-actor.result c.actor-actor.ensures me in
     let told = c.in_ok-tell.ensures ∙ ap (λ a. c.args.deeds.now ++ deeds_of w.beat.0 c.actor-actor.result a) c.lead_act.ensures ∙ ap (λ n. c.args.deeds.now ++ deeds_of n c.actor-actor.result done) at ∙ ap (λ x. c.args.deeds.now ++ deeds_of k x done) who in
     on-ok c.send_asked.result _ _ (λ sent.
     let sends = sends-as k w.beat.0 i c.incarnation-incarnation.result c.me-who.result c1 c.receive-received.result.ask w.wire c.send_asked.new.wire at c.me-who.ensures c.incarnation-incarnation.ensures me sent in
-    running-replied doc k i before c.args.deeds.now c.tell.new.deeds arriving coming b h c0 c1 w _ c.receive-received.result r process within known (record { was = was; now = refl; same = (record { beat = refl; end = refl; restart = refl; epoch = refl; micros = refl; events = refl; names = refl }); place = refl; store = refl }) sends replied told) c.send_asked.ensures.sends
+    running-replied doc k i before c.args.deeds.now c.tell.new.deeds arriving coming b h c0 c1 w _ c.receive-received.result r process within known (record { was = was; now = refl; same = (record { beat = refl; end = refl; restart = refl; epoch = refl; micros = refl; events = refl; names = refl }); place = refl; store = refl; in_force = refl }) refl sends replied told) c.send_asked.ensures.sends

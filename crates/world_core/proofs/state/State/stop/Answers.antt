@@ -1,4 +1,4 @@
-use Rattle.std.proofs.Common.{◌≡◌, ◌<◌, ◌++◌, vec_len, refl, ap, ◌∙◌, arith}
+use Rattle.std.proofs.Common.{◌≡◌, ◌<◌, ◌++◌, vec_len, refl, ap, subst, ◌∙◌, arith}
 use Rattle.kube_objects.specs.declared.deed.Act.TheVariants as act
 use Rattle.kube_objects.specs.declared.script.What.TheVariants as what
 use Rattle.kube_objects.specs.Identities.{identity}
@@ -12,7 +12,9 @@ use Rattle.world_process.proofs.Processes.{process-me}
 use Rattle.world_core.proofs.Around.{around-world}
 use Rattle.world_core.proofs.Moving.{read-at, actor-is, on-ok, sends-as}
 use Rattle.world_core.proofs.Running.{keeps-moved}
+use Rattle.world_core.proofs.Renewing.{fresh-stopped}
 use Rattle.world_core.proofs.Scripts.{controller-within, around-stop, running-asked}
+use Rattle.world_terms.specs.TermsStand.{IsFresh, TermsStand, TermsStandBut}
 use Rattle.world_core.proofs.state.State.stop.Goals as goal
 
 pub returns-clause-kept : goal.returns-clause-kept
@@ -21,7 +23,7 @@ returns-clause-kept c =
     let index : i < vec_len c.args.self.now.processes = omega (arith, c.if-i-len.false, c.len.ensures) in
     let w = c.args.self.now in
     let was = read-at w i c.index_mut-process.result.now index c.index_mut-process.ensures.value in
-    on-ok c.send_asked.result _ _ (λ sent. keeps-moved i c.index_mut-process.result.now c.stop-stopped.new.self w _ c.requires.ready (record { was = was; now = refl; same = (record { beat = refl; end = refl; restart = refl; epoch = refl; micros = refl; events = refl; names = refl }); place = refl; store = refl }) refl c.stop-stopped.ensures.same) c.send_asked.ensures.sends
+    on-ok c.send_asked.result _ _ (λ sent. keeps-moved i c.index_mut-process.result.now c.stop-stopped.new.self w _ c.requires.ready (record { was = was; now = refl; same = (record { beat = refl; end = refl; restart = refl; epoch = refl; micros = refl; events = refl; names = refl }); place = refl; store = refl; in_force = refl }) refl c.stop-stopped.ensures.same) c.send_asked.ensures.sends
 
 pub returns-clause-stands : goal.returns-clause-stands
 returns-clause-stands c =
@@ -37,8 +39,11 @@ returns-clause-stands c =
     let at : w.beat.0 ≡ k = r.world.rest.document.at in
     let moved = c.stop-stopped.ensures.stands doc k c.args.who h s lawful at (few-before h (happens doc k (what.Stop c.args.who) h) (grows-happens doc k (what.Stop c.args.who) h) few) in
     let me = ap (λ m. m.0) c.stop-stopped.ensures.same.me ∙ process-me doc i h c0 s in
+    let around = around-stop doc k c.args.who arriving coming h w (controller-within doc i lawful) (around-world doc k i arriving coming h w r.world) in
+    let anew = subst (λ n. TermsStandBut doc n (stopped k c.args.who h) w.terms → IsFresh n (stopped k c.args.who h) → TermsStand doc (stopped k c.args.who h) c.renew.new.self) (ap (λ id. id.0) c.me-who.ensures ∙ me)
+    (c.renew.ensures.stands doc (stopped k c.args.who h)) around.terms (fresh-stopped doc k c.args.who h) in
     let who = actor-is i c1 c.actor-actor.result c.actor-actor.ensures me in
     let new_is = c.in_ok-tell.ensures ∙ ap (λ a. c.args.deeds.now ++ deeds_of w.beat.0 c.actor-actor.result a) c.stop_act.ensures ∙ ap (λ n. c.args.deeds.now ++ deeds_of n c.actor-actor.result done) at ∙ ap (λ x. c.args.deeds.now ++ deeds_of k x done) who in
     let sends = sends-as k w.beat.0 i c.incarnation-incarnation.result c.me-who.result c1 c.stop-stopped.result.ask w.wire c.send_asked.new.wire at c.me-who.ensures c.incarnation-incarnation.ensures me sent in
-    running-asked doc k i before c.args.deeds.now c.tell.new.deeds (stopped_deeds k (identity i (incarnation_of c1)) c.stop-stopped.result.stopped) arriving coming h (stopped k c.args.who h) (happens doc k (what.Stop c.args.who) h) c0 c1 w _ c.stop-stopped.result.ask r (controller-within doc i lawful) (record { was = was; now = refl; same = (record { beat = refl; end = refl; restart = refl; epoch = refl; micros = refl; events = refl; names = refl }); place = refl; store = refl }) sends
-    (around-stop doc k c.args.who arriving coming h w (controller-within doc i lawful) (around-world doc k i arriving coming h w r.world)) moved.asks moved.told new_is) c.send_asked.ensures.sends
+    running-asked doc k i before c.args.deeds.now c.tell.new.deeds (stopped_deeds k (identity i (incarnation_of c1)) c.stop-stopped.result.stopped) arriving coming h (stopped k c.args.who h) (happens doc k (what.Stop c.args.who) h) c0 c1 w _ c.stop-stopped.result.ask r (controller-within doc i lawful) (record { was = was; now = refl; same = (record { beat = refl; end = refl; restart = refl; epoch = refl; micros = refl; events = refl; names = refl }); place = refl; store = refl; in_force = refl }) sends
+    around moved.asks anew moved.told new_is) c.send_asked.ensures.sends

@@ -7,7 +7,7 @@ use Rattle.world_core.specs.Worlds.{names_of}
 use Rattle.world_core.proofs.world.World.beat.Goals as goal
 
 pub returns-clause-writable : goal.returns-clause-writable
-returns-clause-writable c doc k own stands within =
+returns-clause-writable g c doc k own stands within =
     let told = (c.in_ok-deeds.ensures.stands doc k (history doc k) (lawful-few doc k own.lawful within)
     (subst (StateStands doc k (history doc k)) (sym c.deref_mut.ensures.value) stands)).1 in
     let are : AreNames (names_of c.args.self) = subst AreNames (c.names.ensures ∙ ap (λ s. s.names) c.deref.ensures) c.len-held.ensures.names in

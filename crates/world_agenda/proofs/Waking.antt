@@ -1,0 +1,87 @@
+-- The beat at which a process is woken by a reading or a time of day.
+use Rattle.std.proofs.Common.{◌≡◌, ◌⊎◌, ℕ, ◌+◌, ◌*◌, ◌/◌, ◌<◌, ◌≤◌, ◌&&◌, nat_lt, min, max, Bool, true, false, ℤ, pos, negsuc, List, Option, Some, None, refl, sym, ap, ◌∙◌, subst, inl, inr, arith}
+use Rattle.std.proofs.Math.Nat.{div-mul-le_self}
+use Rattle.std.proofs.lemmas.Bool.{cases_lt}
+use Rattle.std.proofs.lemmas.Bool.Decides.{nat_tests}
+use Rattle.std.proofs.lemmas.Nat.{le-div}
+use Rattle.kube_base.specs.declared.numbers.Beat.{Beat}
+use Rattle.kube_objects.specs.Clocks.{local, wall}
+use Rattle.kube_objects.specs.Document.{Doc, end_beat}
+use Rattle.history_laws.proofs.Plainly.{some_is}
+use Rattle.agenda_laws.specs.Times.{is_early, sooner}
+use Rattle.skew_clock.specs.Clocking.{Clocking, reading, moved, wall_of, IsFirst}
+use Rattle.skew_clock.proofs.Readings.{reading-monotone}
+use Rattle.world_process.specs.Clocked.{ClockStands}
+use Rattle.world_process.proofs.Readings.{reading-local, wall-when}
+use Rattle.world_core.specs.declared.wakes.Wakes.{Wakes}
+use Rattle.world_core.specs.Waits.{IsTurnBeat, beat_of, reading_of, starts_now}
+use Rattle.world_agenda.specs.Woken.{IsTimeBeat, IsWoken, not_before}
+
+-- ---- the sooner of two
+
+pub sooner-early : (now : ℕ) (a b : Option ℕ) → is_early now (sooner a b) ≡ (is_early now a && is_early now b)
+sooner-early now None b = refl
+sooner-early now (Some a) None = by_test (nat_lt now a)
+  where
+    by_test : (t : Bool) → t ≡ (t && true)
+    by_test true = refl
+    by_test false = refl
+sooner-early now (Some a) (Some b) = grind (arith, nat_tests)
+
+pub sooner-within : (a b : Option ℕ) (end : ℕ) → ((n : ℕ) → a ≡ Some n → n ≤ end) → ((n : ℕ) → b ≡ Some n → n ≤ end) → (n : ℕ) → sooner a b ≡ Some n → n ≤ end
+sooner-within None b end one two n is = two n is
+sooner-within (Some a) None end one two n is = one n is
+sooner-within (Some a) (Some b) end one two n is = let least = some_is (min a b) n is in let first = one a refl in omega (arith, least, first)
+
+-- ---- times of day
+
+moved-monotone : (offset : ℤ) (a b : ℕ) → a ≤ b → moved offset a ≤ moved offset b
+moved-monotone (pos micros) a b most = omega (arith, most)
+moved-monotone (negsuc micros) a b most = omega (arith, most)
+
+wall-monotone : (c : Clocking) (j k : ℕ) → j ≤ k → wall_of c j ≤ wall_of c k
+wall-monotone c j k most =
+    let low = reading c j in
+    let high = reading c k in
+    let fits : low / 1000000 * 1000000 ≤ high = omega (arith, div-mul-le_self low 1000000, reading-monotone c j k most) in
+    let whole : low / 1000000 ≤ high / 1000000 = le-div (low / 1000000) high 1000000 (omega arith) fits in
+    moved-monotone c.offset (c.epoch + low / 1000000) (c.epoch + high / 1000000) (omega (arith, whole))
+
+time-early : (c : Clocking) (at micros b : ℕ) → IsFirst (wall_of c) c.end micros b → micros ≤ at → at ≤ wall_of c b → (j : ℕ) → nat_lt j b ≡ nat_lt (wall_of c j) at
+time-early c at micros b first most reached j = by_order (cases_lt j b)
+  where
+    by_order : (j < b) ⊎ (b ≤ j) → nat_lt j b ≡ nat_lt (wall_of c j) at
+    by_order (inl less) =
+        let before : wall_of c j < at = omega (arith, first.before j less, most) in
+        let one : nat_lt j b ≡ true = grind (arith, nat_tests) in
+        let two : nat_lt (wall_of c j) at ≡ true = grind (arith, nat_tests) in
+        one ∙ sym two
+    by_order (inr after) =
+        let later : at ≤ wall_of c j = omega (arith, wall-monotone c b j after, reached) in
+        let one : nat_lt j b ≡ false = grind (arith, nat_tests) in
+        let two : nat_lt (wall_of c j) at ≡ false = grind (arith, nat_tests) in
+        one ∙ sym two
+
+pub time-reached : (c : Clocking) (at micros : ℕ) (b : Beat) → IsFirst (wall_of c) c.end micros b.0 → micros ≤ at → at ≤ wall_of c b.0 → IsTimeBeat c (Some at) (Some b)
+time-reached c at micros b first most reached =
+    record {
+      reached = λ j within. time-early c at micros b.0 first most reached j;
+      within = λ n is. subst (λ m. m ≤ c.end) (some_is b.0 n is) first.within;
+    }
+
+wall-is : (doc : Doc) (p j : ℕ) (c : Clocking) → ClockStands doc p c → wall_of c j ≡ wall doc p j
+wall-is doc p j c s = wall-when doc p j (reading c j) c s (reading-local doc p j c s)
+
+-- ---- both
+
+pub woken-both : (doc : Doc) (k p : ℕ) (w : Wakes) (c : Clocking) (turn time both : Option Beat) → IsTurnBeat doc k p w turn → starts_now doc k p ≡ false → IsTimeBeat c w.wall time → ClockStands doc p c
+    → c.end ≡ end_beat doc → beat_of both ≡ sooner (beat_of turn) (beat_of time) → IsWoken doc p w both
+woken-both doc k p w c turn time both t idle d s ends is =
+    record {
+      reached = λ j within.
+          ap (is_early j) is
+          ∙ sooner-early j (beat_of turn) (beat_of time)
+          ∙ ap (λ b. b && is_early j (beat_of time)) (t.reached idle j within)
+          ∙ ap (λ b. is_early (local doc p j) (reading_of w) && b) (d.reached j (omega (arith, within, ends)) ∙ ap (λ n. is_early n w.wall) (wall-is doc p j c s));
+      within = λ n at. sooner-within (beat_of turn) (beat_of time) (end_beat doc) t.within (λ m same. omega (arith, d.within m same, ends)) n (sym is ∙ at);
+    }

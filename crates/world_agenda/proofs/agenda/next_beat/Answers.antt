@@ -1,0 +1,43 @@
+use Rattle.std.proofs.Common.{◌≡◌, ◌<◌, ◌≤◌, ap, ◌∙◌, arith}
+use Rattle.kube_objects.specs.Document.{processes, end_beat}
+use Rattle.history.specs.History.{history}
+use Rattle.world_core.specs.Waits.{beat_of}
+use Rattle.world_core.specs.Worlds.{at_of}
+use Rattle.world_agenda.specs.Woken.{not_before}
+use Rattle.world_agenda.proofs.Looking.{at-once, idle-one, looked-first, looked-next, looked-all}
+use Rattle.world_agenda.proofs.agenda.next_beat.Goals as goal
+
+pub loop-i-init : goal.loop-i-init
+loop-i-init c doc events stands end =
+    let k = at_of c.args.world.now in
+    looked-first doc k (history doc k) c.next_event.result c.next_wire.result c.sooner-next.result c.next_beats_are_soonest.ensures.first
+    (c.next_event.ensures doc k (history doc k) stands events) (c.next_wire.ensures doc k (history doc k) stands end) c.sooner-next.ensures
+
+pub returns-then-wakes : goal.returns-then-wakes
+returns-then-wakes c doc events stands end =
+    let k = at_of c.args.world.now in
+    let start : k ≤ end_beat doc = omega (arith, c.requires.within, end) in
+    let count = c.processes-i-end.ensures.stands doc k (history doc k) stands in
+    let inside : c.loop-i.i < processes doc = omega (arith, c.loop-i-test.true, count) in
+    at-once doc k c.loop-i.i c.wakes-wakes.result c.at-at.result c.beats_wake_by_causes.ensures.ends c.beats_wake_by_causes.ensures.next start inside
+    (c.wakes-wakes.ensures doc k (history doc k) stands end) c.if-wakes.true c.at-at.ensures
+
+pub loop-i-preserved : goal.loop-i-preserved
+loop-i-preserved c doc events stands end =
+    let k = at_of c.args.world.now in
+    let h = history doc k in
+    let start : k ≤ end_beat doc = omega (arith, c.requires.within, end) in
+    let count = c.processes-i-end.ensures.stands doc k h stands in
+    let inside : c.loop-i.i < processes doc = omega (arith, c.loop-i-test.true, count) in
+    let wakes = c.wakes-wakes.ensures doc k h stands end in
+    looked-next doc k c.loop-i.i h c.wakes-wakes.result c.loop-i.next c.woken.result c.sooner-next-in-loop-i.result c.next_beats_are_soonest.ensures.more start inside
+    (c.loop-i.invariant doc events stands end) wakes c.if-wakes.false (c.woken.ensures doc k h stands end wakes (idle-one doc k c.loop-i.i h c.wakes-wakes.result wakes c.if-wakes.false)) c.sooner-next-in-loop-i.ensures
+
+pub returns : goal.returns
+returns c doc events stands end =
+    let k = at_of c.args.world.now in
+    let start : k ≤ end_beat doc = omega (arith, c.requires.within, end) in
+    let count = c.processes-i-end.ensures.stands doc k (history doc k) stands in
+    let all : c.loop-i.i ≡ processes doc = omega (arith, c.loop-i-test.false, c.loop-i.auto.i-end, count) in
+    looked-all doc k c.loop-i.i c.loop-i.next c.not_before.result c.next_beats_are_soonest.ensures.next start all (c.loop-i.invariant doc events stands end)
+    (c.not_before.ensures ∙ ap (λ n. not_before n (beat_of c.loop-i.next)) c.at-at.ensures)

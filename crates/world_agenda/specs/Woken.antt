@@ -1,0 +1,31 @@
+-- The beats at which processes are woken.
+use Rattle.std.specs.Prelude.{◌≡◌, ℕ, max, ◌&&◌, ◌<◌, ◌≤◌, false, List, Option, Some, None}
+use Rattle.kube_base.specs.declared.numbers.Beat.{Beat}
+use Rattle.kube_objects.specs.Clocks.{local, wall}
+use Rattle.kube_objects.specs.Document.{Doc, processes, end_beat}
+use Rattle.kube_objects.specs.Entry.{Entry}
+use Rattle.agenda_laws.specs.Ahead.{IsNextBelow}
+use Rattle.agenda_laws.specs.Times.{is_early}
+use Rattle.skew_clock.specs.Clocking.{Clocking, wall_of}
+use Rattle.world_core.specs.declared.wakes.Wakes.{Wakes}
+use Rattle.world_core.specs.Waits.{beat_of, reading_of, starts_now}
+
+-- a beat before the next one is the next one
+abbrev pub not_before : ℕ → Option ℕ → Option ℕ
+not_before k None = None
+not_before k (Some n) = Some (max k n)
+
+-- the beat is the first up to a clock's end at which its time of day has come to this
+pub record IsTimeBeat (clock : Clocking) (at : Option ℕ) (b : Option Beat) : Type 0 where
+  pub reached : (j : ℕ) → j ≤ clock.end → is_early j (beat_of b) ≡ is_early (wall_of clock j) at
+  pub within : (n : ℕ) → beat_of b ≡ Some n → n ≤ clock.end
+
+-- the beat is the first up to the end at which the reading or the time of day is there that the process waits for
+pub record IsWoken (doc : Doc) (p : ℕ) (w : Wakes) (b : Option Beat) : Type 0 where
+  pub reached : (j : ℕ) → j ≤ end_beat doc → is_early j (beat_of b) ≡ (is_early (local doc p j) (reading_of w) && is_early (wall doc p j) w.wall)
+  pub within : (n : ℕ) → beat_of b ≡ Some n → n ≤ end_beat doc
+
+-- none of the processes below p starts now; where none at all does, this is the next beat but for the turns from p on
+pub record IsLooked (doc : Doc) (k p : ℕ) (h : List Entry) (b : Option Beat) : Type 0 where
+  pub idle : (i : ℕ) → i < p → starts_now doc k i ≡ false
+  pub below : ((i : ℕ) → i < processes doc → starts_now doc k i ≡ false) → IsNextBelow doc k p h (not_before k (beat_of b))

@@ -1,0 +1,96 @@
+// The next beat of a world at which something happens.
+ghost use Rattle.std.specs.Prelude.{◌≡◌, ◌<◌, ◌≤◌, ℕ, List, false, min};
+ghost use Rattle.kube_objects.specs.Document.{Doc, end_beat};
+ghost use Rattle.kube_objects.specs.Entry.{Entry};
+ghost use Rattle.history.specs.History.{history};
+ghost use Rattle.agenda_laws.specs.Ahead.{IsNextBeat};
+ghost use Rattle.agenda_laws.specs.Times.{sooner as soonest};
+ghost use Rattle.script_reader.specs.Lawful.{AreLawfulFrom};
+ghost use Rattle.world_core.specs.Waits.{WakesStand, beat_of, starts_now};
+ghost use Rattle.world_core.specs.Worlds.{IsReady, WorldStands, at_of, count_of, end_of};
+ghost use Rattle.world_agenda.specs.Woken.{IsTimeBeat, IsWoken, not_before as since};
+
+use agenda_laws::{beats_wake_by_causes, next_beats_are_soonest};
+use kube_base::{Beat, ProcId, Wall};
+use skew_clock::Clock;
+use world_core::{Wakes, World};
+
+/// The least beat from the world's next one to the end at which an entry of the history stands. None exactly where there is no such
+/// beat. It takes no memory.
+pub fn next_beat(world: &World) -> Option<Beat>
+    requires ready { IsReady world.now }
+    requires within { at_of world.now ≤ end_of world.now }
+    ensures { (doc : Doc) → AreLawfulFrom doc 0 doc.events → WorldStands doc (at_of world.now) (history doc (at_of world.now)) world.now
+        → end_of world.now ≡ end_beat doc → IsNextBeat doc (at_of world.now) (beat_of result) }
+{
+    beats_wake_by_causes();
+    next_beats_are_soonest();
+    let at = world.at();
+    let mut next = sooner(world.next_event(), world.next_wire());
+    for i in 0..world.processes() {
+        let who = ProcId(i);
+        let wakes = world.wakes(who);
+        if wakes.at_once {
+            return Some(at);
+        }
+        next = sooner(next, woken(world, who, wakes));
+    }
+    not_before(next, at)
+}
+
+// The first beat at which the reading or the time of day is there for which a process waits that doesn't start now.
+fn woken(world: &World, who: ProcId, wakes: Wakes) -> Option<Beat>
+    requires ready { IsReady world.now }
+    requires within { at_of world.now ≤ end_of world.now }
+    requires process { who.0 < count_of world.now }
+    ensures { (doc : Doc) (k : ℕ) (h : List Entry) → WorldStands doc k h world.now → end_of world.now ≡ end_beat doc
+        → WakesStand doc k who.0 h wakes → starts_now doc k who.0 ≡ false → IsWoken doc who.0 wakes result }
+{
+    sooner(world.turn_beat(who), at_time(world.clock(who), wakes.wall))
+}
+
+// The first beat at which a clock's time of day is this, in microseconds since 1970.
+fn at_time(clock: &Clock, at: Option<u128>) -> Option<Beat>
+    ensures { IsTimeBeat clock.now at result }
+{
+    let at = at?;
+    let beat = clock.first_wall(Wall(shown(at)))?;
+    if u128::from(clock.wall(beat).0) < at {
+        return None;
+    }
+    Some(beat)
+}
+
+// No clock shows a time of day as late as this.
+const NEVER: u64 = 10_000_000_000_000_001;
+
+fn shown(at: u128) -> u64
+    ensures { result ≡ min at 10000000000000001 }
+{
+    if at < u128::from(NEVER) {
+        at as u64
+    } else {
+        NEVER
+    }
+}
+
+fn sooner(one: Option<Beat>, other: Option<Beat>) -> Option<Beat>
+    ensures { beat_of result ≡ soonest (beat_of one) (beat_of other) }
+{
+    match (one, other) {
+        (None, other) => other,
+        (Some(one), Some(other)) if other.0 < one.0 => Some(other),
+        (one, _) => one,
+    }
+}
+
+fn not_before(next: Option<Beat>, least: Beat) -> Option<Beat>
+    ensures { beat_of result ≡ since least.0 (beat_of next) }
+{
+    let next = next?;
+    if next.0 < least.0 {
+        Some(least)
+    } else {
+        Some(next)
+    }
+}

@@ -1,0 +1,354 @@
+-- What a process waits for, by what is kept of it and of its term.
+use Rattle.std.proofs.Common.{◌≡◌, ◌↔◌, ℕ, ◌≤◌, ◌==◌, ◌&&◌, ◌||◌, nat_lt, min, Bool, true, false, List, Option, Some, None, IfSome, refl, sym, ap, ◌∙◌, subst, arith}
+use Rattle.std.specs.Prelude.{is_some}
+use Rattle.std.proofs.lemmas.Bool.Decides.{nat_tests}
+use Rattle.kube_base.specs.declared.numbers.Beat.{Beat}
+use Rattle.kube_base.specs.declared.numbers.Local.{Local}
+use Rattle.kube_objects.specs.Clocks.{local, wall}
+use Rattle.kube_objects.specs.Document.{Doc, end_beat, is_controller, is_up_first}
+use Rattle.kube_objects.specs.Elector.{acts, deadline, is_before}
+use Rattle.kube_objects.specs.Entry.{Entry}
+use Rattle.kube_objects.specs.Identities.{identity}
+use Rattle.kube_objects.specs.Newest.{has, only_if}
+use Rattle.kube_objects.specs.Process.{alive, is_present}
+use Rattle.agenda_laws.specs.Ticking.{is_due_at_once, term_reading, term_time}
+use Rattle.agenda_laws.specs.Times.{is_early, sooner, if_up, elector_reading, kubelet_reading}
+use Rattle.agenda_laws.specs.Waking as waking
+use Rattle.agenda_laws.specs.Waking.{IsAsleep, acts_at_once, leads_at_once, wakes_as, wakes_of}
+use Rattle.agenda_laws.proofs.Between.{sooner_both}
+use Rattle.agenda_laws.proofs.Times.{before_deadline}
+use Rattle.skew_clock.specs.Clocking.{Clocking, reading}
+use Rattle.skew_clock.proofs.Readings.{reading-monotone}
+use Rattle.world_process.specs.Beats as beats
+use Rattle.world_process.specs.Beats.{IsBeatOf, beat_in, own_reading, own_reading_as}
+use Rattle.world_process.specs.Clocked.{ClockStands}
+use Rattle.world_process.specs.declared.process.Process.{Process}
+use Rattle.world_process.specs.declared.process.Process.TheVariants.{Controller, Kubelet}
+use Rattle.world_process.specs.Processes.{ProcessStands, acts_now, acts_if_up, clock_of, is_up_first_as}
+use Rattle.world_process.specs.Processes as processes
+use Rattle.world_process.proofs.Names.{eq-self, eq-isnt, le-from}
+use Rattle.world_process.proofs.Processes.{process-up_first}
+use Rattle.world_process.proofs.Readings.{reading-local}
+use Rattle.world_core.specs.declared.wakes.Wakes.{Wakes}
+use Rattle.world_core.specs.Waits.{IsTurnBeat, WakesStand, acting_reading, acting_time, beat_of, local_of, reading_at, reading_of, starts_now, time_at}
+use Rattle.world_core.proofs.Ticking.{ActsAs}
+
+-- ---- beats and readings as numbers
+
+pub beats-alike : (b : Option Beat) → beat_of b ≡ beat_in b
+beats-alike None = refl
+beats-alike (Some b) = refl
+
+pub readings-alike : (at : Option Local) → local_of at ≡ beats.reading_of at
+readings-alike None = refl
+readings-alike (Some at) = refl
+
+-- a reading, from its number
+abbrev at_reading : Option ℕ → Option Local
+at_reading None = None
+at_reading (Some n) = Some (record { 0 = n })
+
+at-reading : (o : Option ℕ) → beats.reading_of (at_reading o) ≡ o
+at-reading None = refl
+at-reading (Some n) = refl
+
+-- ---- the sooner of two
+
+and-true : (b : Bool) → (b && true) ≡ b
+and-true true = refl
+and-true false = refl
+
+lt-min : (now a b : ℕ) → nat_lt now (min a b) ≡ (nat_lt now a && nat_lt now b)
+lt-min now a b = by_tests (nat_lt now a) (nat_lt now b) refl refl
+  where
+    by_tests : (x y : Bool) → nat_lt now a ≡ x → nat_lt now b ≡ y → nat_lt now (min a b) ≡ (x && y)
+    by_tests true true one other = grind (arith, nat_tests)
+    by_tests true false one other = grind (arith, nat_tests)
+    by_tests false true one other = grind (arith, nat_tests)
+    by_tests false false one other = grind (arith, nat_tests)
+
+early-sooner : (now : ℕ) (a b : Option ℕ) → is_early now (sooner a b) ≡ (is_early now a && is_early now b)
+early-sooner now None b = refl
+early-sooner now (Some a) None = sym (and-true (nat_lt now a))
+early-sooner now (Some a) (Some b) = lt-min now a b
+
+early-both : (now : ℕ) (a b c d : Option ℕ) → is_early now a ≡ is_early now c → is_early now b ≡ is_early now d → is_early now (sooner a b) ≡ is_early now (sooner c d)
+early-both now a b c d one other =
+    early-sooner now a b ∙ ap (λ x. x && is_early now b) one ∙ ap (λ x. is_early now c && x) other ∙ sym (early-sooner now c d)
+
+early-alone : (now : ℕ) (a : Option ℕ) → is_early now (sooner a None) ≡ is_early now a
+early-alone now a = early-sooner now a None ∙ and-true (is_early now a)
+
+sooner-within : (most : ℕ) (a b : Option ℕ) → ((n : ℕ) → a ≡ Some n → n ≤ most) → ((n : ℕ) → b ≡ Some n → n ≤ most) → (n : ℕ) → sooner a b ≡ Some n → n ≤ most
+sooner-within most None b one other n is = other n is
+sooner-within most (Some a) None one other n is = one n is
+sooner-within most (Some a) (Some b) one other n is =
+    let same : min a b ≡ n = cc in
+    let least = one a refl in
+    omega (arith, same, least)
+
+-- ---- a clock only goes on
+
+pub local-later : (doc : Doc) (p k j : ℕ) (c : Clocking) → ClockStands doc p c → k ≤ j → local doc p k ≤ local doc p j
+local-later doc p k j c s from =
+    let later = reading-monotone c k j from in
+    omega (arith, later, reading-local doc p k c s, reading-local doc p j c s)
+
+-- ---- what is known of a process
+
+pub its-clock : (doc : Doc) (p : ℕ) (h : List Entry) (x : Process) → ProcessStands doc p h x → ClockStands doc p (clock_of x)
+its-clock doc p h (Controller c) s = s.clock
+its-clock doc p h (Kubelet b) s = s.clock
+
+pub starts-is : (doc : Doc) (k p : ℕ) (h : List Entry) (x : Process) → k ≡ 0 → is_up_first_as x ≡ true → ProcessStands doc p h x → starts_now doc k p ≡ true
+starts-is doc k p h x zero up s = ap (λ n. (n == 0) && is_up_first doc p) zero ∙ sym (process-up_first doc p h x s) ∙ up
+
+and-false : (b : Bool) → (b && false) ≡ false
+and-false true = refl
+and-false false = refl
+
+pub down-is : (doc : Doc) (k p : ℕ) (h : List Entry) (x : Process) → is_up_first_as x ≡ false → ProcessStands doc p h x → starts_now doc k p ≡ false
+down-is doc k p h x down s = ap (λ b. (k == 0) && b) (sym (process-up_first doc p h x s) ∙ down) ∙ and-false (k == 0)
+
+pub begun-is : (doc : Doc) (k p : ℕ) → ¬ (k ≡ 0) → starts_now doc k p ≡ false
+begun-is doc k p later = ap (λ b. b && is_up_first doc p) (eq-isnt k 0 later)
+
+pub some-holds : {A : Type 0} (o : Option A) (P : Type 0) → is_some o ≡ true → IfSome o (λ x. P) → P
+some-holds None P some holds = cc
+some-holds (Some x) P some holds = holds
+
+-- ---- who acts at beat k sleeps later as the history says
+
+module _ (doc : Doc) (k j p : ℕ) (h : List Entry) (later : local doc p k ≤ local doc p j) where
+  -- what an incarnation that is up waits for, where led says that its term counts
+  abbrev with_term : ℕ → Bool → waking.Wakes
+  with_term i led =
+      record {
+        at_once = led && is_due_at_once doc (identity p i) h;
+        local = sooner (elector_reading doc p h) (only_if led (term_reading doc (identity p i) h));
+        wall = only_if led (term_time (identity p i) h);
+      }
+
+  -- it acts exactly where it leads, or its deadline is reached at beat j
+  data Reaches (i : ℕ) : Type 0 where
+    Alike : acts doc (identity p i) k h ≡ has (deadline doc (identity p i) h) → Reaches i
+    Reached : is_early (local doc p j) (deadline doc (identity p i) h) ≡ false → Reaches i
+
+  acts-before : (i : ℕ) → alive p h ≡ Some i → acts doc (identity p i) k h ≡ is_before (local doc p k) (deadline doc (identity p i) h)
+  acts-before i up =
+      ap (λ o. is_present o i && is_before (local doc p k) (deadline doc (identity p i) h)) up
+      ∙ ap (λ b. b && is_before (local doc p k) (deadline doc (identity p i) h)) (eq-self i)
+
+  reaches : (i : ℕ) → alive p h ≡ Some i → Reaches i
+  reaches i up = by_deadline (deadline doc (identity p i) h) refl
+    where
+      by_time : (d : ℕ) → deadline doc (identity p i) h ≡ Some d → (b : Bool) → nat_lt (local doc p k) d ≡ b → Reaches i
+      by_time d is true before =
+          Alike (acts-before i up ∙ ap (is_before (local doc p k)) is ∙ before ∙ sym (ap (λ (o : Option ℕ). has o) is))
+      by_time d is false before =
+          let least = le-from (local doc p k) d before in
+          let past : nat_lt (local doc p j) d ≡ false = grind (arith, nat_tests) in
+          Reached (ap (is_early (local doc p j)) is ∙ past)
+
+      by_deadline : (o : Option ℕ) → deadline doc (identity p i) h ≡ o → Reaches i
+      by_deadline None is = Alike (acts-before i up ∙ ap (is_before (local doc p k)) is ∙ sym (ap (λ (o : Option ℕ). has o) is))
+      by_deadline (Some d) is = by_time d is (nat_lt (local doc p k) d) refl
+
+  ended : (i : ℕ) → alive p h ≡ Some i → is_early (local doc p j) (deadline doc (identity p i) h) ≡ false → (led : Bool) → IsAsleep doc j p (with_term i led) → ⊥
+  ended i up reached led s =
+      let own = (sooner_both (local doc p j) (elector_reading doc p h) (only_if led (term_reading doc (identity p i) h)) s.local).0 in
+      let early : is_early (local doc p j) (deadline doc (identity p i) h) ≡ true = sym (ap (λ o. is_early (local doc p j) (if_up p (λ q. deadline doc q h) o)) up) ∙ before_deadline doc j p h own in
+      cc
+
+  up-same : (i : ℕ) → alive p h ≡ Some i → IsAsleep doc j p (with_term i (acts doc (identity p i) k h)) ↔ IsAsleep doc j p (with_term i (has (deadline doc (identity p i) h)))
+  up-same i up = by_case (reaches i up)
+    where
+      by_case : Reaches i → IsAsleep doc j p (with_term i (acts doc (identity p i) k h)) ↔ IsAsleep doc j p (with_term i (has (deadline doc (identity p i) h)))
+      by_case (Alike same) = (λ s. subst (λ b. IsAsleep doc j p (with_term i b)) same s, λ s. subst (λ b. IsAsleep doc j p (with_term i b)) (sym same) s)
+      by_case (Reached reached) = (λ s. absurd (ended i up reached (acts doc (identity p i) k h) s), λ s. absurd (ended i up reached (has (deadline doc (identity p i) h)) s))
+
+  -- what is waited for at the next beat, by the sort of the process and the incarnation in which it is up
+  abbrev acting_up : Option ℕ → waking.Wakes
+  acting_up o =
+      record {
+        at_once = acts_at_once doc k p o h;
+        local = sooner (elector_reading doc p h) (if_up p (λ q. only_if (acts doc q k h) (term_reading doc q h)) o);
+        wall = if_up p (λ q. only_if (acts doc q k h) (term_time q h)) o;
+      }
+
+  abbrev leading_up : Option ℕ → waking.Wakes
+  leading_up o =
+      record {
+        at_once = leads_at_once doc p o h;
+        local = sooner (elector_reading doc p h) (if_up p (λ q. only_if (has (deadline doc q h)) (term_reading doc q h)) o);
+        wall = if_up p (λ q. only_if (has (deadline doc q h)) (term_time q h)) o;
+      }
+
+  life-same : (o : Option ℕ) → alive p h ≡ o → IsAsleep doc j p (acting_up o) ↔ IsAsleep doc j p (leading_up o)
+  life-same None up = (λ s. record { at_once = refl; local = s.local; wall = refl }, λ s. record { at_once = refl; local = s.local; wall = refl })
+  life-same (Some i) up = up-same i up
+
+  abbrev waits_as : Bool → waking.Wakes
+  waits_as b = record { at_once = waking.acts_as doc k p b h; local = sooner (own_reading_as doc p b h) (acting_reading doc k p b h); wall = acting_time doc k p b h }
+
+  sort-same : (b : Bool) → IsAsleep doc j p (waits_as b) ↔ IsAsleep doc j p (wakes_as doc p b h)
+  sort-same true = life-same (alive p h) refl
+  sort-same false = (
+    λ s. record { at_once = refl; local = sym (early-alone (local doc p j) (kubelet_reading doc p h)) ∙ s.local; wall = refl },
+    λ s. record { at_once = refl; local = early-alone (local doc p j) (kubelet_reading doc p h) ∙ s.local; wall = refl },
+  )
+
+  pub waits-same : IsAsleep doc j p (waits_as (is_controller doc p)) ↔ IsAsleep doc j p (wakes_of doc p h)
+  waits-same = sort-same (is_controller doc p)
+
+-- ---- what the world answers
+
+true-false : {A : Type 0} → true ≡ false → A
+true-false is = cc
+
+-- who starts in beat 0 is there at once
+pub starting-stands : (doc : Doc) (k p : ℕ) (h : List Entry) (w : Wakes) → starts_now doc k p ≡ true → w.at_once ≡ true → WakesStand doc k p h w
+starting-stands doc k p h w starts at_once =
+    record {
+      at_once = at_once ∙ sym (ap (λ b. b || waking.acts_as doc k p (is_controller doc p) h) starts);
+      reading = λ none. true-false (sym starts ∙ none);
+      time = λ none. true-false (sym starts ∙ none);
+      asleep = λ none. true-false (sym starts ∙ none);
+    }
+
+pub waiting-stands : (doc : Doc) (k p : ℕ) (h : List Entry) (w : Wakes) (c : Clocking) → ClockStands doc p c → starts_now doc k p ≡ false → w.at_once ≡ waking.acts_as doc k p (is_controller doc p) h
+    → ((j : ℕ) → j ≤ end_beat doc → is_early (local doc p j) (reading_of w) ≡ is_early (local doc p j) (reading_at doc k p h)) → ((now : ℕ) → is_early now w.wall ≡ is_early now (time_at doc k p h)) → WakesStand doc k p h w
+waiting-stands doc k p h w c clock starts at_once reading time =
+    record {
+      at_once = at_once ∙ sym (ap (λ b. b || waking.acts_as doc k p (is_controller doc p) h) starts);
+      reading = λ none. reading;
+      time = λ none. time;
+      asleep = λ none j from within. (let same = waits-same doc k j p h (local-later doc p k j c clock from) in (
+        λ s. same.0 (record { at_once = sym at_once ∙ s.at_once; local = sym (reading j within) ∙ s.local; wall = sym (time (wall doc p j)) ∙ s.wall }),
+        λ s. (let t = same.1 s in record { at_once = at_once ∙ t.at_once; local = reading j within ∙ t.local; wall = time (wall doc p j) ∙ t.wall }),
+      ));
+    }
+
+-- ---- who doesn't act waits for nothing of a term
+
+pub record NoTerm (doc : Doc) (k p : ℕ) (h : List Entry) : Type 0 where
+  pub at_once : waking.acts_as doc k p (is_controller doc p) h ≡ false
+  pub reading : acting_reading doc k p (is_controller doc p) h ≡ None
+  pub time : time_at doc k p h ≡ None
+
+pub no-term : (doc : Doc) (k p : ℕ) (h : List Entry) → acts_now doc k p h ≡ false → NoTerm doc k p h
+no-term doc k p h none = record { at_once = at-once (is_controller doc p) none; reading = no-reading (is_controller doc p) none; time = no-time (is_controller doc p) none }
+  where
+    at-once : (b : Bool) → processes.acts_as doc k p b h ≡ false → waking.acts_as doc k p b h ≡ false
+    at-once false is = refl
+    at-once true is = by_life (alive p h) is
+      where
+        by_life : (o : Option ℕ) → acts_if_up doc k p o h ≡ false → acts_at_once doc k p o h ≡ false
+        by_life None is = refl
+        by_life (Some i) is = ap (λ b. b && is_due_at_once doc (identity p i) h) is
+
+    no-reading : (b : Bool) → processes.acts_as doc k p b h ≡ false → acting_reading doc k p b h ≡ None
+    no-reading false is = refl
+    no-reading true is = by_life (alive p h) is
+      where
+        by_life : (o : Option ℕ) → acts_if_up doc k p o h ≡ false → if_up p (λ q. only_if (acts doc q k h) (term_reading doc q h)) o ≡ None
+        by_life None is = refl
+        by_life (Some i) is = ap (λ b. only_if b (term_reading doc (identity p i) h)) is
+
+    no-time : (b : Bool) → processes.acts_as doc k p b h ≡ false → acting_time doc k p b h ≡ None
+    no-time false is = refl
+    no-time true is = by_life (alive p h) is
+      where
+        by_life : (o : Option ℕ) → acts_if_up doc k p o h ≡ false → if_up p (λ q. only_if (acts doc q k h) (term_time q h)) o ≡ None
+        by_life None is = refl
+        by_life (Some i) is = ap (λ b. only_if b (term_time (identity p i) h)) is
+
+own-alone : (doc : Doc) (k p : ℕ) (h : List Entry) (now : ℕ) → NoTerm doc k p h → is_early now (reading_at doc k p h) ≡ is_early now (own_reading doc p h)
+own-alone doc k p h now none = ap (λ o. is_early now (sooner (own_reading doc p h) o)) none.reading ∙ early-alone now (own_reading doc p h)
+
+pub idle-stands : (doc : Doc) (k p : ℕ) (h : List Entry) (c : Clocking) (wake : Option Local) → ClockStands doc p c → starts_now doc k p ≡ false → acts_now doc k p h ≡ false → beats.reading_of wake ≡ own_reading doc p h
+    → WakesStand doc k p h (record { at_once = false; local = wake; wall = None })
+idle-stands doc k p h c wake clock starts none own =
+    let nothing = no-term doc k p h none in
+    waiting-stands doc k p h (record { at_once = false; local = wake; wall = None }) c clock starts (sym nothing.at_once)
+    (λ j within. ap (is_early (local doc p j)) (readings-alike wake ∙ own) ∙ sym (own-alone doc k p h (local doc p j) nothing))
+    (λ now. sym (ap (is_early now) nothing.time))
+
+-- ---- who acts waits for its term too
+
+pub record ItsTerm (doc : Doc) (k p i : ℕ) (h : List Entry) : Type 0 where
+  pub at_once : waking.acts_as doc k p (is_controller doc p) h ≡ is_due_at_once doc (identity p i) h
+  pub reading : acting_reading doc k p (is_controller doc p) h ≡ term_reading doc (identity p i) h
+  pub time : time_at doc k p h ≡ term_time (identity p i) h
+
+pub its-term : (doc : Doc) (k p i : ℕ) (h : List Entry) → alive p h ≡ Some i → ActsAs doc k p i h → ItsTerm doc k p i h
+its-term doc k p i h up s =
+    record {
+      at_once = ap (λ b. waking.acts_as doc k p b h) s.sort ∙ ap (λ o. acts_at_once doc k p o h) up ∙ ap (λ b. b && is_due_at_once doc (identity p i) h) s.acting;
+      reading = ap (λ b. acting_reading doc k p b h) s.sort ∙ ap (if_up p (λ q. only_if (acts doc q k h) (term_reading doc q h))) up ∙ ap (λ b. only_if b (term_reading doc (identity p i) h)) s.acting;
+      time = ap (λ b. acting_time doc k p b h) s.sort ∙ ap (if_up p (λ q. only_if (acts doc q k h) (term_time q h))) up ∙ ap (λ b. only_if b (term_time (identity p i) h)) s.acting;
+    }
+
+-- of two readings, one is that of the process's own turn, and the other that of its term
+both-is : (doc : Doc) (k p i j : ℕ) (h : List Entry) (own term : Option ℕ) → ItsTerm doc k p i h → is_early (local doc p j) own ≡ is_early (local doc p j) (own_reading doc p h)
+    → is_early (local doc p j) term ≡ is_early (local doc p j) (term_reading doc (identity p i) h) → is_early (local doc p j) (sooner own term) ≡ is_early (local doc p j) (reading_at doc k p h)
+both-is doc k p i j h own term t one other =
+    early-both (local doc p j) own term (own_reading doc p h) (acting_reading doc k p (is_controller doc p) h) one (other ∙ sym (ap (is_early (local doc p j)) t.reading))
+
+pub acting-stands : (doc : Doc) (k p i : ℕ) (h : List Entry) (c : Clocking) (wake term : Option Local) (w : Wakes) → ClockStands doc p c → starts_now doc k p ≡ false → ItsTerm doc k p i h → beats.reading_of wake ≡ own_reading doc p h
+    → w.at_once ≡ is_due_at_once doc (identity p i) h → reading_of w ≡ sooner (local_of wake) (local_of term)
+    → ((j : ℕ) → j ≤ end_beat doc → is_early (local doc p j) (local_of term) ≡ is_early (local doc p j) (term_reading doc (identity p i) h)) → ((now : ℕ) → is_early now w.wall ≡ is_early now (term_time (identity p i) h))
+    → WakesStand doc k p h w
+acting-stands doc k p i h c wake term w clock starts t own at_once local_is term_is time =
+    waiting-stands doc k p h w c clock starts (at_once ∙ sym t.at_once)
+    (λ j within. ap (is_early (local doc p j)) local_is ∙ both-is doc k p i j h (local_of wake) (local_of term) t (ap (is_early (local doc p j)) (readings-alike wake ∙ own)) (term_is j within))
+    (λ now. time now ∙ sym (ap (is_early now) t.time))
+
+-- ---- the beat of a turn
+
+-- a beat of the clock tells what the reading tells
+pub beat-tells : (doc : Doc) (p j : ℕ) (c : Clocking) (b : Option Beat) (at : Option Local) → ClockStands doc p c → IsBeatOf c b at → j ≤ c.end → is_early j (beat_of b) ≡ is_early (local doc p j) (local_of at)
+beat-tells doc p j c b at clock is within =
+    ap (is_early j) (beats-alike b) ∙ is.tells j within ∙ ap (λ n. is_early n (beats.reading_of at)) (reading-local doc p j c clock) ∙ sym (ap (is_early (local doc p j)) (readings-alike at))
+
+pub beat-within : (c : Clocking) (b : Option Beat) (at : Option Local) → IsBeatOf c b at → (n : ℕ) → beat_of b ≡ Some n → n ≤ c.end
+beat-within c b at is n some = by_beat b is.within some
+  where
+    by_beat : (b : Option Beat) → IfSome b (λ x. x.0 ≤ c.end) → beat_of b ≡ Some n → n ≤ c.end
+    by_beat None within some = cc
+    by_beat (Some x) within some = let same : x.0 ≡ n = cc in subst (λ m. m ≤ c.end) same within
+
+-- the beat of the process's own turn, for the reading that it has
+abbrev pub OwnBeat : Doc → ℕ → List Entry → Clocking → Option Beat → Type 0
+OwnBeat doc p h c b = (at : Option Local) → beats.reading_of at ≡ own_reading doc p h → IsBeatOf c b at
+
+own-beat : (doc : Doc) (p : ℕ) (h : List Entry) (c : Clocking) (b : Option Beat) → OwnBeat doc p h c b → IsBeatOf c b (at_reading (own_reading doc p h))
+own-beat doc p h c b own = own (at_reading (own_reading doc p h)) (at-reading (own_reading doc p h))
+
+own-tells : (doc : Doc) (p j : ℕ) (h : List Entry) (c : Clocking) (b : Option Beat) → ClockStands doc p c → OwnBeat doc p h c b → j ≤ c.end → is_early j (beat_of b) ≡ is_early (local doc p j) (own_reading doc p h)
+own-tells doc p j h c b clock own within =
+    beat-tells doc p j c b (at_reading (own_reading doc p h)) clock (own-beat doc p h c b own) within
+    ∙ ap (is_early (local doc p j)) (readings-alike (at_reading (own_reading doc p h)) ∙ at-reading (own_reading doc p h))
+
+pub idle-beat : (doc : Doc) (k p : ℕ) (h : List Entry) (c : Clocking) (w : Wakes) (b : Option Beat) → ClockStands doc p c → c.end ≡ end_beat doc → WakesStand doc k p h w → acts_now doc k p h ≡ false → OwnBeat doc p h c b → IsTurnBeat doc k p w b
+idle-beat doc k p h c w b clock end s none own =
+    record {
+      reached = λ starts j within.
+          own-tells doc p j h c b clock own (omega (arith, within, end)) ∙ sym (own-alone doc k p h (local doc p j) (no-term doc k p h none)) ∙ sym (s.reading starts j within);
+      within = λ n some. (let most = beat-within c b (at_reading (own_reading doc p h)) (own-beat doc p h c b own) n some in omega (arith, most, end));
+    }
+
+pub acting-beat : (doc : Doc) (k p i : ℕ) (h : List Entry) (c : Clocking) (w : Wakes) (own ticks both : Option Beat) (term : Option Local) → ClockStands doc p c → c.end ≡ end_beat doc → WakesStand doc k p h w → ItsTerm doc k p i h → OwnBeat doc p h c own → IsBeatOf c ticks term
+    → ((j : ℕ) → j ≤ end_beat doc → is_early (local doc p j) (local_of term) ≡ is_early (local doc p j) (term_reading doc (identity p i) h)) → beat_of both ≡ sooner (beat_of own) (beat_of ticks) → IsTurnBeat doc k p w both
+acting-beat doc k p i h c w own ticks both term clock end s t own_is ticks_is term_is both_is =
+    record {
+      reached = λ starts j within. (let inside : j ≤ c.end = omega (arith, within, end) in
+          ap (is_early j) both_is
+          ∙ early-sooner j (beat_of own) (beat_of ticks)
+          ∙ ap (λ x. x && is_early j (beat_of ticks)) (own-tells doc p j h c own clock own_is inside)
+          ∙ ap (λ x. is_early (local doc p j) (own_reading doc p h) && x) (beat-tells doc p j c ticks term clock ticks_is inside ∙ term_is j within ∙ sym (ap (is_early (local doc p j)) t.reading))
+          ∙ sym (early-sooner (local doc p j) (own_reading doc p h) (acting_reading doc k p (is_controller doc p) h))
+          ∙ sym (s.reading starts j within));
+      within = λ n some. (let most = sooner-within c.end (beat_of own) (beat_of ticks) (beat-within c own (at_reading (own_reading doc p h)) (own-beat doc p h c own own_is)) (beat-within c ticks term ticks_is) n (sym both_is ∙ some) in
+          omega (arith, most, end));
+    }

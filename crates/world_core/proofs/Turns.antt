@@ -1,0 +1,59 @@
+-- The turn of a process that keeps the beat of its next turn.
+use Rattle.std.proofs.Common.{◌≡◌, ℕ, List, ◌∷◌, Option, Some, None, sym, ◌∙◌, subst}
+use Rattle.kube_objects.specs.declared.call.Ask.{Ask}
+use Rattle.kube_objects.specs.declared.deed.Deed as deed
+use Rattle.kube_objects.specs.Document.{Doc, is_controller}
+use Rattle.kube_objects.specs.Entry.{Entry, Identity, Sends, entry}
+use Rattle.kube_objects.specs.Identities.{identity}
+use Rattle.kube_objects.specs.Wire.{Back, Sent, next_call}
+use Rattle.world_process.specs.declared.moves.Turn.{Turn}
+use Rattle.world_process.specs.declared.process.Process.{Process}
+use Rattle.world_process.specs.Moves as moves
+use Rattle.world_process.specs.Moves.{own_turn}
+use Rattle.world_process.specs.Processes.{AsksOn, ProcessStands, SameProcess, Turned, incarnation_of}
+use Rattle.world_process.proofs.Processes.{process-incarnation}
+use Rattle.world_terms.specs.TermsStand.{TermsStand}
+use Rattle.world_core.specs.declared.state.State.{State}
+use Rattle.world_core.specs.States.{Running}
+use Rattle.world_core.proofs.Around.{around-world}
+use Rattle.world_core.proofs.Running.{Moved, within-moved}
+
+pub same-twice : (x y z : Process) → SameProcess x y → SameProcess y z → SameProcess x z
+same-twice x y z a b = record { me = b.me ∙ a.me; clock = b.clock ∙ a.clock }
+
+asks-kept : (k step : ℕ) (q : Identity) (h next : List Entry) (S T : List Entry → Type 0) → ((g : List Entry) → S g → T g) → (ask : Option Ask) → moves.AsksOn k step q h next S ask → moves.AsksOn k step q h next T ask
+asks-kept k step q h next S T keeps None s = (s.0, keeps h s.1)
+asks-kept k step q h next S T keeps (Some ask) s = record { kind = s.kind; sent = s.sent; number = s.number; stands = λ arrives. keeps _ (s.stands arrives) }
+
+-- a history for which it stands
+stands-for : (doc : Doc) (k step p : ℕ) (h next : List Entry) (x : Process) (ask : Option Ask) → AsksOn doc k step p h next x ask → (g : List Entry) × ProcessStands doc p g x
+stands-for doc k step p h next x None s = (h, s.1)
+stands-for doc k step p h next x (Some ask) s = let q = identity p (incarnation_of x) in (entry k step q (Sends (next_call q k s.kind ask.request h) None) ∷ h, s.stands None)
+
+same-incarnation : (doc : Doc) (p : ℕ) (x y : Process) → ((g : List Entry) → ProcessStands doc p g x → ProcessStands doc p g y) → (g : List Entry) × ProcessStands doc p g x → incarnation_of x ≡ incarnation_of y
+same-incarnation doc p x y keeps t = process-incarnation doc p t.0 x t.1 ∙ sym (process-incarnation doc p t.0 y (keeps t.0 t.1))
+
+pub turned-kept : (doc : Doc) (k p : ℕ) (h : List Entry) (x y : Process) (t : Turn) → ((g : List Entry) → ProcessStands doc p g x → ProcessStands doc p g y) → Turned doc k p h x t → Turned doc k p h y t
+turned-kept doc k p h x y t keeps turned =
+    let sort = is_controller doc p in
+    let base = moves.before_asking_as doc k p sort h in
+    let next = moves.own_turn_as doc k p sort h in
+    let same = same-incarnation doc p x y keeps (stands-for doc k 4 p base next x t.ask turned.asks) in
+    subst (λ i. moves.TurnedAs doc k p sort h i (λ g. ProcessStands doc p g y) t) same
+    (record { told = turned.told; asks = asks-kept k 4 (identity p (incarnation_of x)) base next (λ g. ProcessStands doc p g x) (λ g. ProcessStands doc p g y) keeps t.ask turned.asks })
+
+-- ---- the world with a process that did nothing but to keep that beat
+
+pub running-kept : (doc : Doc) (k i : ℕ) (before deeds : List deed.Deed) (arriving : List Sent) (coming : List Back) (h : List Entry) (x y : Process) (w v : State) → Moved i x y w v → v.wire ≡ w.wire → v.terms ≡ w.terms → ProcessStands doc i h y
+    → Running doc k before arriving coming h w deeds → Running doc k before arriving coming h v deeds
+running-kept doc k i before deeds arriving coming h x y w v m wire terms stands r =
+    record {
+      world = within-moved doc k i arriving coming h x y w v m wire (around-world doc k i arriving coming h w r.world) stands (subst (TermsStand doc h) (sym terms) r.world.terms);
+      told = r.told;
+    }
+
+-- its turn adds nothing
+pub running-still : (doc : Doc) (k i : ℕ) (before deeds : List deed.Deed) (arriving : List Sent) (coming : List Back) (h : List Entry) (x y : Process) (w v : State) → own_turn doc k i h ≡ h → Moved i x y w v → v.wire ≡ w.wire → v.terms ≡ w.terms → ProcessStands doc i h y
+    → Running doc k before arriving coming h w deeds → Running doc k before arriving coming (own_turn doc k i h) v deeds
+running-still doc k i before deeds arriving coming h x y w v still m wire terms stands r =
+    subst (λ g. Running doc k before arriving coming g v deeds) (sym still) (running-kept doc k i before deeds arriving coming h x y w v m wire terms stands r)

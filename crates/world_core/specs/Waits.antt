@@ -1,0 +1,76 @@
+-- What a process of the world waits for, and the beats at which it is there.
+use Rattle.std.specs.Prelude.{◌≡◌, ◌↔◌, ℕ, ◌==◌, ◌&&◌, ◌||◌, ◌≤◌, Bool, true, false, List, Option, Some, None, option_map}
+use Rattle.kube_base.specs.declared.numbers.Beat.{Beat}
+use Rattle.kube_base.specs.declared.numbers.Local.{Local}
+use Rattle.kube_objects.specs.Clocks.{local, wall}
+use Rattle.kube_objects.specs.Document.{Doc, end_beat, is_controller, is_up_first}
+use Rattle.kube_objects.specs.Elector.{acts}
+use Rattle.kube_objects.specs.Entry.{Entry}
+use Rattle.kube_objects.specs.Newest.{only_if}
+use Rattle.kube_objects.specs.Process.{alive}
+use Rattle.history.specs.Steps.{ticks}
+use Rattle.agenda_laws.specs.Ticking.{term_reading, term_time}
+use Rattle.agenda_laws.specs.Times.{is_early, sooner, if_up}
+use Rattle.agenda_laws.specs.Waking.{IsAsleep, acts_as, wakes_of}
+use Rattle.world_process.specs.Beats.{own_reading}
+use Rattle.world_core.specs.declared.wakes.Wakes.{Wakes}
+
+abbrev pub local_of : Option Local → Option ℕ
+local_of = option_map (λ at. at.0)
+
+abbrev pub reading_of : Wakes → Option ℕ
+reading_of w = local_of w.local
+
+abbrev pub beat_of : Option Beat → Option ℕ
+beat_of = option_map (λ beat. beat.0)
+
+-- the tick of a controller's turn; a kubelet has none
+abbrev pub own_ticks_as : Doc → ℕ → ℕ → Bool → List Entry → List Entry
+own_ticks_as doc k p true h = ticks doc k p h
+own_ticks_as doc k p false h = h
+
+abbrev pub own_ticks : Doc → ℕ → ℕ → List Entry → List Entry
+own_ticks doc k p h = own_ticks_as doc k p (is_controller doc p) h
+
+-- the process starts in beat 0, which is the next beat
+abbrev pub starts_now : Doc → ℕ → ℕ → Bool
+starts_now doc k p = (k == 0) && is_up_first doc p
+
+-- nothing that is waited for is there at beat j
+pub record IsAsleepBy (doc : Doc) (j p : ℕ) (w : Wakes) : Type 0 where
+  pub at_once : w.at_once ≡ false
+  pub local : is_early (local doc p j) (reading_of w) ≡ true
+  pub wall : is_early (wall doc p j) w.wall ≡ true
+
+-- ---- k is the next beat: a controller that acts at it waits for its term too
+
+abbrev pub acting_reading : Doc → ℕ → ℕ → Bool → List Entry → Option ℕ
+acting_reading doc k p true h = if_up p (λ q. only_if (acts doc q k h) (term_reading doc q h)) (alive p h)
+acting_reading doc k p false h = None
+
+abbrev pub acting_time : Doc → ℕ → ℕ → Bool → List Entry → Option ℕ
+acting_time doc k p true h = if_up p (λ q. only_if (acts doc q k h) (term_time q h)) (alive p h)
+acting_time doc k p false h = None
+
+-- the least reading from which on the turn adds an entry for another cause than a sync, an untaint, a swap or a delete
+abbrev pub reading_at : Doc → ℕ → ℕ → List Entry → Option ℕ
+reading_at doc k p h = sooner (own_reading doc p h) (acting_reading doc k p (is_controller doc p) h)
+
+-- the least due of the pods of an acting controller
+abbrev pub time_at : Doc → ℕ → ℕ → List Entry → Option ℕ
+time_at doc k p h = acting_time doc k p (is_controller doc p) h
+
+-- There at once: a start in beat 0, or a sync, an untaint or a swap of a controller that acts at the next beat. Who doesn't start
+-- waits for these readings and times of day, and sleeps at the beats from k on exactly as the history says
+pub record WakesStand (doc : Doc) (k p : ℕ) (h : List Entry) (w : Wakes) : Type 0 where
+  pub at_once : w.at_once ≡ (starts_now doc k p || acts_as doc k p (is_controller doc p) h)
+  pub reading : starts_now doc k p ≡ false → (j : ℕ) → j ≤ end_beat doc
+      → is_early (local doc p j) (reading_of w) ≡ is_early (local doc p j) (reading_at doc k p h)
+  pub time : starts_now doc k p ≡ false → (now : ℕ) → is_early now w.wall ≡ is_early now (time_at doc k p h)
+  pub asleep : starts_now doc k p ≡ false → (j : ℕ) → k ≤ j → j ≤ end_beat doc → IsAsleepBy doc j p w ↔ IsAsleep doc j p (wakes_of doc p h)
+
+-- the beat is the first up to the end at which the clock of a process that doesn't start has the reading that is waited for
+pub record IsTurnBeat (doc : Doc) (k p : ℕ) (w : Wakes) (b : Option Beat) : Type 0 where
+  pub reached : starts_now doc k p ≡ false → (j : ℕ) → j ≤ end_beat doc
+      → is_early j (beat_of b) ≡ is_early (local doc p j) (reading_of w)
+  pub within : (n : ℕ) → beat_of b ≡ Some n → n ≤ end_beat doc
