@@ -1,0 +1,4 @@
+pub mod AloneLaws
+pub mod LineLaws
+pub mod PassLaws
+pub mod VerdictLaws

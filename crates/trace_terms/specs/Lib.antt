@@ -1,0 +1,6 @@
+pub mod Entries
+pub mod Findings
+pub mod Near
+pub mod Reviews
+pub mod Seats
+pub mod Terms
