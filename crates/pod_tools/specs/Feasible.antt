@@ -1,6 +1,7 @@
 -- On which nodes a pod may run. Sources: Kubernetes, "Taints and Tolerations"; the admission plugin DefaultTolerationSeconds.
 use Rattle.std.specs.Prelude.{ℕ, ◌+◌, ◌≤◌, ◌==◌, ◌&&◌, ◌||◌, not, Bool, true, false, List, [], ◌∷◌, ◌++◌, length, Option, Some, None, pos, if◌then◌else◌}
 use Rattle.std.specs.List.{All, list_any, list_all}
+use Rattle.kube_base.specs.declared.fixed.TheConstants.{NOT_READY, UNREACHABLE}
 use Rattle.kube_objects.specs.declared.node.Effect.{Effect}
 use Rattle.kube_objects.specs.declared.node.Effect.TheVariants as effects
 use Rattle.kube_objects.specs.declared.node.Taint.{Taint}
@@ -32,9 +33,9 @@ default_of key = record { key = key; operator = operators.Exists; value = 0; eff
 abbrev pub default_for : ℕ → List Toleration → List Toleration
 default_for key tolerations = if list_any (speaks_of key) tolerations then [] else default_of key ∷ []
 
--- the tolerations with the defaults for `node.kubernetes.io/not-ready` and `node.kubernetes.io/unreachable`, whose numbers are fixed
+-- the tolerations with the defaults for `node.kubernetes.io/not-ready` and `node.kubernetes.io/unreachable`
 abbrev pub defaulted : List Toleration → List Toleration
-defaulted tolerations = (tolerations ++ default_for 5 tolerations) ++ default_for 6 tolerations
+defaulted tolerations = (tolerations ++ default_for NOT_READY tolerations) ++ default_for UNREACHABLE tolerations
 
 -- ---- feasible nodes
 

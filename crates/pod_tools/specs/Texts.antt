@@ -1,5 +1,5 @@
 -- The lines of the two answers.
-use Rattle.std.specs.Prelude.{ℕ, ◌+◌, ◌==◌, List, [], ◌∷◌, ◌++◌, length, map, flat_map, not, Bool, codes, decimal, slice_get, Option, Some, None, unwrap_or}
+use Rattle.std.specs.Prelude.{ℕ, ◌==◌, List, [], ◌∷◌, ◌++◌, length, flat_map, not, Bool, codes, decimal, slice_get, Option, Some, None, unwrap_or}
 use Rattle.std.specs.List.{filter}
 use Rattle.pod_tools.specs.declared.collecting.Cause.{Cause}
 use Rattle.pod_tools.specs.declared.collecting.Cause.TheVariants as causes

@@ -1,0 +1,159 @@
+// Taints that follow from a Node's conditions.
+ghost use Rattle.std.specs.Prelude.{◌≡◌, [], option_and_then};
+ghost use Rattle.std.specs.Option.{option_map};
+ghost use Rattle.serde_json.specs.Find.{as_str};
+ghost use Rattle.serde_json.specs.View.{view, items_view};
+ghost use Rattle.manifest_json.specs.Faults.{Gives};
+ghost use Rattle.manifest_json.specs.Walk.{is_text};
+ghost use Rattle.pod_inputs.specs.Rows as spec;
+
+use kube_base::Names;
+use kube_objects::{Effect, Ready, ReadyStatus, Taint, Taints};
+use manifest_json::{ReadFault, number};
+use serde_json::Value;
+use std::alloc::Global;
+
+/// The NoSchedule taints that follow from a Node's conditions and from `spec.unschedulable`.
+#[tactic(auto, unfolding(crate::specs::Rows::derived_at))]
+pub(crate) fn derived(
+    alloc: Global,
+    names: &mut Names,
+    ready: Option<Ready>,
+    conditions: &[Value],
+    unschedulable: bool,
+) -> Result<Taints, ReadFault>
+    ensures { Gives (λ taints. (taints, names.new)) result
+        (spec.derived_at names.old ready (items_view conditions.now) unschedulable) }
+{
+    let mut taints = ready_marks(alloc, names, ready)?;
+    pressure_marks(names, &mut taints, conditions)?;
+    mark(
+        names,
+        &mut taints,
+        unschedulable,
+        "node.kubernetes.io/unschedulable",
+    )?;
+    Ok(taints)
+}
+
+#[tactic(auto, unfolding(crate::specs::Rows::ready_marks_at))]
+fn ready_marks(alloc: Global, names: &mut Names, ready: Option<Ready>) -> Result<Taints, ReadFault>
+    ensures { Gives (λ taints. (taints, names.new)) result (spec.ready_marks_at names.old ready) }
+{
+    let mut taints = Taints::new(alloc);
+    mark(
+        names,
+        &mut taints,
+        is_not_ready(ready),
+        "node.kubernetes.io/not-ready",
+    )?;
+    mark(
+        names,
+        &mut taints,
+        is_unreachable(ready),
+        "node.kubernetes.io/unreachable",
+    )?;
+    Ok(taints)
+}
+
+#[tactic(auto, unfolding(crate::specs::Rows::pressure_marks_at))]
+fn pressure_marks(
+    names: &mut Names,
+    taints: &mut Taints,
+    conditions: &[Value],
+) -> Result<(), ReadFault>
+    ensures { Gives (λ _. (taints.new, names.new)) result
+        (spec.pressure_marks_at names.old taints.old (items_view conditions.now)) }
+{
+    mark(
+        names,
+        taints,
+        condition_holds("MemoryPressure", conditions),
+        "node.kubernetes.io/memory-pressure",
+    )?;
+    mark(
+        names,
+        taints,
+        condition_holds("DiskPressure", conditions),
+        "node.kubernetes.io/disk-pressure",
+    )?;
+    mark(
+        names,
+        taints,
+        condition_holds("PIDPressure", conditions),
+        "node.kubernetes.io/pid-pressure",
+    )?;
+    mark(
+        names,
+        taints,
+        condition_holds("NetworkUnavailable", conditions),
+        "node.kubernetes.io/network-unavailable",
+    )
+}
+
+/// Adds a taint with this key, where its cause holds.
+#[tactic(auto, unfolding(crate::specs::Rows::mark_at))]
+fn mark(names: &mut Names, taints: &mut Taints, holds: bool, key: &str) -> Result<(), ReadFault>
+    ensures { Gives (λ _. (taints.new, names.new)) result
+        (spec.mark_at names.old taints.old holds key.now) }
+{
+    if !holds {
+        return Ok(());
+    }
+    let key = number(names, key)?;
+    taints.push(Taint {
+        key,
+        value: 0,
+        effect: Effect::NoSchedule,
+        added: None,
+    })?;
+    Ok(())
+}
+
+fn is_not_ready(ready: Option<Ready>) -> bool
+    ensures { result ≡ spec.is_not_ready ready }
+{
+    match ready {
+        Some(ready) => match ready.status {
+            ReadyStatus::True => false,
+            ReadyStatus::False => true,
+            ReadyStatus::Unknown => false,
+        },
+        None => false,
+    }
+}
+
+fn is_unreachable(ready: Option<Ready>) -> bool
+    ensures { result ≡ spec.is_unreachable ready }
+{
+    match ready {
+        Some(ready) => match ready.status {
+            ReadyStatus::True => false,
+            ReadyStatus::False => false,
+            ReadyStatus::Unknown => true,
+        },
+        None => false,
+    }
+}
+
+/// Whether the first condition of this type has the status True.
+fn condition_holds(kind: &str, conditions: &[Value]) -> bool
+    ensures { result ≡ spec.condition_holds kind.now (items_view conditions.now) }
+{
+    for condition in conditions {
+        if is_text(kind, condition.get("type")) {
+            return is_text("True", condition.get("status"));
+        }
+    }
+    false
+}
+
+/// Whether a value is this text.
+fn is_text(wanted: &str, value: Option<&Value>) -> bool
+    ensures { result ≡ is_text wanted.now (option_and_then as_str (option_map (λ v. view v.now) value.entry)) }
+{
+    match value.and_then(Value::as_str) {
+        Some(text) => text == wanted,
+        None => false,
+    }
+}
