@@ -32,7 +32,8 @@ fn case_holds(
     match kind {
         Kind::Both => both_write(alloc, input.as_bytes(), line.as_str()),
         Kind::Check => writes(alloc, "check", input.as_bytes(), line.as_str()),
-        Kind::CheckOnly => check_only(alloc, input.as_bytes(), line.as_str()),
+        Kind::Collect => writes(alloc, "collect", input.as_bytes(), line.as_str()),
+        Kind::Place => writes(alloc, "place", input.as_bytes(), line.as_str()),
         Kind::Many => many_hold(alloc, case, line.as_str()),
         Kind::Read => is_text(Some(read_text(alloc, input.as_str())?), wanted),
         Kind::Holder => is_text(holder_in(alloc, input.as_str())?, wanted),
@@ -58,13 +59,6 @@ fn is_text(text: Option<String>, wanted: &str) -> Result<bool, NoMemory> {
         Some(text) => Ok(text.as_str() == wanted),
         None => Ok(false),
     }
-}
-
-/// Whether `check` writes the line, and `replay` refuses the document as not run.
-fn check_only(alloc: Global, document: &[u8], line: &str) -> Result<bool, NoMemory> {
-    let checked = writes(alloc, "check", document, line)?;
-    let refused = writes(alloc, "replay", document, "refused 99 /\n")?;
-    Ok(checked && refused)
 }
 
 fn many_hold(alloc: Global, parts: &str, line: &str) -> Result<bool, NoMemory> {

@@ -7,8 +7,10 @@ pub(crate) enum Kind {
     Both,
     /// What `check` writes, and the document.
     Check,
-    /// What `check` writes, and a document that `replay` refuses as not run.
-    CheckOnly,
+    /// What `collect` writes, and its input.
+    Collect,
+    /// What `place` writes, and its input.
+    Place,
     /// What both commands write, and a document with many members, in parts.
     Many,
     /// The words of a run that writes the second line.
@@ -44,7 +46,8 @@ fn kind_of(line: &str) -> Option<Kind> {
     match line {
         "both" => Some(Kind::Both),
         "check" => Some(Kind::Check),
-        "check only" => Some(Kind::CheckOnly),
+        "collect" => Some(Kind::Collect),
+        "place" => Some(Kind::Place),
         "many" => Some(Kind::Many),
         "words" => Some(Kind::Words),
         "read" => Some(Kind::Read),

@@ -1,8 +1,11 @@
 // Runs over memory.
 use byte_edge::{MemSink, MemSource};
-use kube_base::NoMemory;
+use kube_base::{NoMemory, Steps};
+use rate_policies::{full, partial};
 use replay_top::{Status, run};
 use std::alloc::Global;
+use std::sync::ledger::Blank;
+use zone_state::Policies;
 
 /// What is given to a run beside its words: the bytes of the source, how many it gives at once and its calls that fail;
 /// the room of the sink, and how many bytes it takes at once.
@@ -38,7 +41,15 @@ pub(crate) fn ends(
     let fails = trial.fails.to_vec(alloc)?;
     let mut source = MemSource::new(bytes, trial.source_chunk.max(1), fails);
     let mut sink = MemSink::new(alloc, trial.room, trial.sink_chunk.max(1), Vec::new(alloc))?;
-    let ended = run(alloc, words, &mut source, &mut sink);
+    let mut steps = Steps::new(Blank::new(1));
+    let ended = run(
+        alloc,
+        words,
+        &mut source,
+        &mut sink,
+        &Policies::new(partial, full),
+        &mut steps,
+    );
     Ok(ended == status && sink.held() == text)
 }
 

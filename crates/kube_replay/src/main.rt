@@ -5,10 +5,14 @@ ghost use Rattle.std.specs.Prelude.{◌≡◌};
 ghost use Rattle.kube_replay.specs.Exits.{exit_status_of};
 
 use byte_edge::{StdSink, StdSource};
+use kube_base::Steps;
+use rate_policies::{full, partial};
 use replay_top::{Status, run};
 use std::io::ErrorKind;
 use std::process::ExitCode;
+use std::sync::ledger::Blank;
 use std::{env, io};
+use zone_state::Policies;
 
 /// Want of memory while the arguments are gathered.
 const OUT_OF_MEMORY: u8 = 5;
@@ -30,7 +34,15 @@ fn main(rt: HostRuntime) -> ExitCode {
     };
     let mut source = StdSource::new(rt.stdin());
     let mut sink = StdSink::new(rt.stdout());
-    let status = run(rt.alloc(), &words, &mut source, &mut sink);
+    let mut steps = Steps::new(Blank::new(1));
+    let status = run(
+        rt.alloc(),
+        &words,
+        &mut source,
+        &mut sink,
+        &Policies::new(partial, full),
+        &mut steps,
+    );
     ExitCode::from(exit_status(status))
 }
 

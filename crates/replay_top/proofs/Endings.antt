@@ -1,31 +1,41 @@
 -- How a run ends, by the outcome of its words and bytes.
-use Rattle.std.proofs.Common.{◌≡◌, ◌⊎◌, ℕ, Bool, true, false, cond, List, [], Option, sym, ap, ◌∙◌, subst, inl, inr, refl}
+use Rattle.std.proofs.Common.{◌≡◌, ◌⊎◌, ℕ, List, Option, Result, Ok, Err, sym, ap, ◌∙◌, subst, inl, inr, refl}
 use Rattle.replay_top.specs.declared.status.Status.{Status}
 use Rattle.replay_top.specs.declared.status.Status.TheVariants.{Done, Refused, Usage, SourceFault, SinkFault, OutOfMemory}
+use Rattle.manifest_json.specs.declared.fault.Refusal.{Refusal}
 use Rattle.script_reader.specs.declared.document.Document.{Document}
-use Rattle.script_reader.specs.Documents.{doc_of}
-use Rattle.world_core.specs.Forms.{is_run}
+use Rattle.script_reader.specs.Walk.{document_walk}
 use Rattle.replay_top.specs.declared.command.Command.{Command}
 use Rattle.replay_top.specs.declared.command.Command.TheVariants.{Replay, Check}
-use Rattle.replay_top.specs.Commands.{command_of}
+use Rattle.replay_top.specs.declared.task.Task.{Task}
+use Rattle.replay_top.specs.Tasks.{task_of}
 use Rattle.replay_top.specs.Traces.{trace}
 use Rattle.replay_top.specs.Summary.{summary}
-use Rattle.replay_top.specs.Outcome.{Outcome, outcome, outcome_of, answer_to, done, refused, of_whole, Ends, IsWhole}
+use Rattle.replay_top.specs.Outcome.{Outcome, outcome, outcome_of, answer_to, done, Ends, IsWhole}
 
 pub ends-moved : (o p : Outcome) (now left before after : Option (List ℕ)) (s : Status) → p ≡ o → left ≡ now → Ends o now before after s → Ends p left before after s
 ends-moved o p now left before after s same rest ends =
     subst (λ x. Ends x left before after s) (sym same) (subst (λ l. Ends o l before after s) (sym rest) ends)
 
-pub outcome-of : (words : List (List ℕ)) (bytes : List ℕ) (found command : Option Command) → found ≡ command_of words → found ≡ command → outcome words bytes ≡ outcome_of command bytes
-outcome-of words bytes found command tells is = ap (λ c. outcome_of c bytes) (sym tells ∙ is)
+pub outcome-of : (words : List (List ℕ)) (bytes : List ℕ) (found task : Option Task) → found ≡ task_of words → found ≡ task → outcome words bytes ≡ outcome_of task bytes
+outcome-of words bytes found task tells is = ap (λ t. outcome_of t bytes) (sym tells ∙ is)
 
-pub answer-trace : (command : Command) (d : Document) (b : Bool) → command ≡ Replay → b ≡ is_run (doc_of d) → b ≡ true → answer_to command d ≡ done (trace d)
-answer-trace command d b is tells answer =
-    ap (λ c. answer_to c d) is ∙ ap (λ t. cond t (done (trace d)) (refused (of_whole 99) [])) (sym tells ∙ answer)
+pub answer-trace : (command : Command) (d : Document) → command ≡ Replay → answer_to command d ≡ done (trace d)
+answer-trace command d is = ap (λ c. answer_to c d) is
 
-pub answer-refused : (command : Command) (d : Document) (b : Bool) → command ≡ Replay → b ≡ is_run (doc_of d) → b ≡ false → answer_to command d ≡ refused (of_whole 99) []
-answer-refused command d b is tells answer =
-    ap (λ c. answer_to c d) is ∙ ap (λ t. cond t (done (trace d)) (refused (of_whole 99) [])) (sym tells ∙ answer)
+abbrev document_in : Result Document Refusal → Document → Document
+document_in (Ok d) other = d
+document_in (Err r) other = other
+
+-- a walk gives one document
+pub same-read : (bytes : List ℕ) (a b : Document) → document_walk bytes ≡ Ok a → document_walk bytes ≡ Ok b → a ≡ b
+same-read bytes a b one two = ap (λ x. document_in x a) (sym one ∙ two)
+
+pub read-refused : (bytes : List ℕ) (d : Document) (r : Refusal) → document_walk bytes ≡ Ok d → document_walk bytes ≡ Err r → ⊥
+read-refused bytes d r one two = never (sym one ∙ two)
+  where
+    never : Ok d ≡ Err r → ⊥
+    never same = cc
 
 pub answer-checked : (command : Command) (d : Document) → command ≡ Check → answer_to command d ≡ done (summary d)
 answer-checked command d is = ap (λ c. answer_to c d) is

@@ -1,8 +1,13 @@
+pub mod Answerings
+pub mod Audited
 pub mod Commands
 pub mod Names
 pub mod Outcome
+pub mod Questions
 pub mod Readings
+pub mod Replays
 pub mod Runs
 pub mod Spoken
 pub mod Summary
+pub mod Tasks
 pub mod Traces

@@ -3,14 +3,19 @@ use Rattle.std.specs.Prelude.{◌≡◌, ℕ, ◌++◌, nat_le, List, [], length
 use Rattle.byte_edge.specs.Bytes.{Gives, Gave}
 use Rattle.manifest_json.specs.declared.fault.Refusal.{Refusal}
 use Rattle.script_reader.specs.declared.document.Document.{Document}
-use Rattle.script_reader.specs.Documents.{doc_of}
 use Rattle.script_reader.specs.Walk.{document_walk}
-use Rattle.world_core.specs.Forms.{is_run}
+use Rattle.trace_audit.specs.declared.audit_of.Report.{Report}
+use Rattle.trace_audit.specs.Verdict.{Fault, verdict}
 use Rattle.replay_top.specs.declared.command.Command.{Command}
 use Rattle.replay_top.specs.declared.command.Command.TheVariants.{Replay, Check}
 use Rattle.replay_top.specs.declared.status.Status.{Status}
 use Rattle.replay_top.specs.declared.status.Status.TheVariants.{Done, Refused, Usage, SourceFault, SinkFault, OutOfMemory}
-use Rattle.replay_top.specs.Commands.{command_of}
+use Rattle.replay_top.specs.declared.question.Question.{Question}
+use Rattle.replay_top.specs.declared.task.Task.{Task}
+use Rattle.replay_top.specs.declared.task.Task.TheVariants as task
+use Rattle.replay_top.specs.Tasks.{task_of}
+use Rattle.replay_top.specs.Audited.{report_text, refusal_of}
+use Rattle.replay_top.specs.Questions.{answer_of}
 use Rattle.replay_top.specs.Traces.{trace}
 use Rattle.replay_top.specs.Summary.{summary}
 
@@ -33,9 +38,9 @@ of_whole code = record { code = code; path = codes "/" }
 abbrev pub done : List ℕ → Outcome
 done text = record { status = Done; text = text; left = [] }
 
--- `replay` writes the trace of the documents that are run, and `check` the line on any document
+-- `replay` writes a document's trace, and `check` the line on it
 abbrev pub answer_to : Command → Document → Outcome
-answer_to Replay d = if is_run (doc_of d) then done (trace d) else refused (of_whole 99) []
+answer_to Replay d = done (trace d)
 answer_to Check d = done (summary d)
 
 abbrev pub answered : Command → Result Document Refusal → Outcome
@@ -46,16 +51,39 @@ answered command (Err r) = refused r []
 unfoldable pub obeyed : Command → List ℕ → Outcome
 obeyed command bytes = if nat_le (length bytes) 16777216 then answered command (document_walk bytes) else refused (of_whole 33) (drop 16777217 bytes)
 
+-- a trace gets a report, or is refused at its first line at fault
+abbrev pub audit_answer : Result Report Fault → Outcome
+audit_answer (Ok report) = done (report_text report)
+audit_answer (Err fault) = refused (refusal_of fault) []
+
+-- of the text of a trace too at most 16,777,216 bytes are read, and one more
+unfoldable pub audited : List ℕ → Outcome
+audited bytes = if nat_le (length bytes) 16777216 then audit_answer (verdict bytes) else refused (of_whole 33) (drop 16777217 bytes)
+
+-- a question on pods gets its lines, or the refusal of its input
+abbrev pub told : Result (List ℕ) Refusal → Outcome
+told (Ok text) = done text
+told (Err r) = refused r []
+
+-- of the input of a question too at most 16,777,216 bytes are read, and one more
+unfoldable pub asked : Question → List ℕ → Outcome
+asked question bytes = if nat_le (length bytes) 16777216 then told (answer_of question bytes) else refused (of_whole 33) (drop 16777217 bytes)
+
+abbrev pub performed : Task → List ℕ → Outcome
+performed (task.Document command) bytes = obeyed command bytes
+performed (task.Pods question) bytes = asked question bytes
+performed task.Audit bytes = audited bytes
+
 abbrev pub usage : List ℕ → Outcome
 usage bytes = record { status = Usage; text = codes "usage: kube_replay COMMAND\n"; left = bytes }
 
-abbrev pub outcome_of : Option Command → List ℕ → Outcome
+abbrev pub outcome_of : Option Task → List ℕ → Outcome
 outcome_of None bytes = usage bytes
-outcome_of (Some command) bytes = obeyed command bytes
+outcome_of (Some task) bytes = performed task bytes
 
 -- by the words after the program's name and all bytes of the source
 abbrev pub outcome : List (List ℕ) → List ℕ → Outcome
-outcome words bytes = outcome_of (command_of words) bytes
+outcome words bytes = outcome_of (task_of words) bytes
 
 -- the run ends so, all its text was taken, and this is left of the source
 pub record IsWhole (o : Outcome) (rest before after : Option (List ℕ)) (ended : Status) : Type 0 where

@@ -5,7 +5,7 @@ ghost use Rattle.replay_top.specs.Commands.{command_of};
 /// What is done with the document that the source has.
 #[derive(Clone, Copy, Debug, PartialEq, Eq)]
 pub enum Command {
-    /// Its trace is written, where it is of a form that is run.
+    /// Its trace is written.
     Replay,
     /// One line on it is written.
     Check,

@@ -27,8 +27,8 @@ pub enum Reading {
     NoMemory,
 }
 
-/// The most bytes that a document may have.
-const LARGEST: usize = 16_777_216;
+/// The most bytes that a document, a trace or another input may have.
+pub(crate) const LARGEST: usize = 16_777_216;
 
 /// Takes all that the source has and reads the document in it. The bytes are dropped.
 pub(crate) fn read<S: Source>(alloc: Global, source: &mut S) -> Reading

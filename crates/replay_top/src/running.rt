@@ -1,53 +1,64 @@
 // The commands.
-ghost use Rattle.std.specs.Prelude.{◌≡◌, ◌≢◌, ◌⊎◌, ℕ, List, [], Option, Some, None, Ok, true, ◌++◌, OnOk, map, string_bytes};
+ghost use Rattle.std.specs.Prelude.{◌≡◌, ◌≢◌, ◌⊎◌, ◌≤◌, ◌+◌, ℕ, List, [], Option, Some, None, Ok, Err, true, ◌++◌, OnOk, map, string_bytes};
+ghost use Rattle.agenda_laws.specs.Standing.{standing_beats};
 ghost use Rattle.byte_edge.specs.Bytes.{Rose};
+ghost use Rattle.history.specs.Evictions.{NotEarly, Prompt};
 ghost use Rattle.history.specs.Premise.{lease_premise};
 ghost use Rattle.history.specs.Safe.{Holder, Exclusive};
+ghost use Rattle.history.specs.Spacing.{Spacing};
+ghost use Rattle.manifest_json.specs.declared.fault.Refusal.{Refusal};
 ghost use Rattle.script_reader.specs.declared.document.Document.{Document};
 ghost use Rattle.script_reader.specs.Documents.{doc_of};
 ghost use Rattle.script_reader.specs.Lawful.{IsLawfulDoc, IsWellNamed};
 ghost use Rattle.script_reader.specs.Walk.{document_walk};
-ghost use Rattle.world_core.specs.Forms.{is_run};
+ghost use Rattle.trace_audit.specs.Alone.{entries_in, OneActs};
 ghost use Rattle.replay_top.specs.Commands.{command_of};
-ghost use Rattle.replay_top.specs.Outcome.{outcome, usage, obeyed, answer_to, refused, refusal_text, done, Ends, IsWhole};
+ghost use Rattle.replay_top.specs.Tasks.{task_of};
+ghost use Rattle.replay_top.specs.Outcome.{outcome, usage, performed, obeyed, answer_to, refused, refusal_text, done, Ends, IsWhole};
+ghost use Rattle.replay_top.specs.Replays.{Replays, IsUndone};
 ghost use Rattle.replay_top.specs.Traces.{trace};
 ghost use Rattle.replay_top.specs.Summary.{summary};
 
-use crate::command::{Command, command_in};
+use crate::asking::ask;
+use crate::auditing::audit_trace;
+use crate::command::Command;
 use crate::reading::{Reading, read};
 use crate::status::Status;
 use crate::summary::add_summary;
+use crate::task::{Task, task_in};
 use crate::texts::{add, add_number};
 use crate::trace::write_trace;
 use byte_edge::{Failed, Sink, Source, give_all};
 use document_laws::{documents_are_lawful, lawful_documents_are_sound};
-use kube_base::NoMemory;
+use eviction_laws::evictions_are_timely;
+use kube_base::{NoMemory, Steps};
 use lease_laws::lease_is_safe;
 use script_reader::Document;
+use spacing_laws::taints_are_spaced;
 use std::alloc::Global;
 use trace_writer::WriteFault;
-use world_core::runs;
+use zone_state::Policies;
 
-/// The code of documents that have more bytes than a document may have.
-const TOO_LARGE: u32 = 33;
-
-/// The code of documents that are of no form that is run.
-const NOT_RUN: u32 = 99;
+/// The code of documents, traces and other inputs that have more bytes than they may have.
+pub(crate) const TOO_LARGE: u32 = 33;
 
 /// Does what the words after the program's name say: `replay` reads a document from the source and writes its trace to
-/// the sink, and `check` writes one line on it. A refused document is answered by the line of its refusal, and words that
-/// are no command by a line on the usage, for which the source isn't read and no memory is taken.
-pub fn run<S: Source, K: Sink>(
+/// the sink, and `check` writes one line on it. `audit` reads the text of a trace and writes one line on it, and `collect` and `place`
+/// read Nodes and Pods and write lines on the pods. A refused document, trace or input is answered by the line of its refusal, and
+/// words that are no command by a line on the usage, for which the source isn't read and no memory is taken.
+pub fn run<S: Source, K: Sink, L>(
     alloc: Global,
     words: &Vec<String>,
     source: &mut S,
     sink: &mut K,
+    policies: &Policies,
+    steps: &mut Steps<L>,
 ) -> Status
     ensures text { (bytes : List ℕ) → S.left source.old ≡ Some bytes
         → Ends (outcome (map string_bytes words.now.items) bytes) (S.left source.new) (K.taken sink.old) (K.taken sink.new) result }
 
     // Words that are no command are answered whether or not the source tells its bytes, with no want of memory.
-    ensures usage { command_of (map string_bytes words.now.items) ≡ None
+    ensures usage { task_of (map string_bytes words.now.items) ≡ None
         → (S.left source.new ≡ S.left source.old) × ((result ≡ Status.Usage) ⊎ (result ≡ Status.SinkFault))
         × Ends (usage []) (Some []) (K.taken sink.old) (K.taken sink.new) result }
 
@@ -60,28 +71,76 @@ pub fn run<S: Source, K: Sink>(
     ensures sink_fault { result ≡ Status.SinkFault → Rose (K.faults sink.old) (K.faults sink.new) }
 
     // In the history whose trace is written, where the lease premise holds, whoever acts is the stored holder and wasn't stopped.
-    ensures holder { (bytes : List ℕ) (document : Document) → S.left source.old ≡ Some bytes → command_of (map string_bytes words.now.items) ≡ Some Command.Replay
-        → document_walk bytes ≡ Ok document → is_run (doc_of document) ≡ true → lease_premise (doc_of document) ≡ true → Holder (doc_of document) }
+    ensures holder { (d : Document) → Replays (map string_bytes words.now.items) (S.left source.old) d → lease_premise (doc_of d) ≡ true → Holder (doc_of d) }
 
-    // And only one identity acts at a beat.
-    ensures exclusive { (bytes : List ℕ) (document : Document) → S.left source.old ≡ Some bytes → command_of (map string_bytes words.now.items) ≡ Some Command.Replay
-        → document_walk bytes ≡ Ok document → is_run (doc_of document) ≡ true → lease_premise (doc_of document) ≡ true → Exclusive (doc_of document) }
+    // Only one identity acts at a beat.
+    ensures exclusive { (d : Document) → Replays (map string_bytes words.now.items) (S.left source.old) d → lease_premise (doc_of d) ≡ true → Exclusive (doc_of d) }
+
+    // And from each queued taint of a zone to each in a later beat a token of the zone grows.
+    ensures spacing { (d : Document) → Replays (map string_bytes words.now.items) (S.left source.old) d → lease_premise (doc_of d) ≡ true → Spacing (doc_of d) }
+
+    // Always, a controller evicts a pod only when it is due on the controller's clock.
+    ensures not_early { (d : Document) → Replays (map string_bytes words.now.items) (S.left source.old) d → NotEarly (doc_of d) }
+
+    // And by its first tick that reaches the store.
+    ensures prompt { (d : Document) → Replays (map string_bytes words.now.items) (S.left source.old) d → Prompt (doc_of d) }
+
+    // No more beats are done than have entries, and none where there is no document, or with other words.
+    ensures counted { (d : Document) → Replays (map string_bytes words.now.items) (S.left source.old) d → steps.new ≤ steps.old + standing_beats (doc_of d) }
+    ensures unread { (bytes : List ℕ) (r : Refusal) → S.left source.old ≡ Some bytes → document_walk bytes ≡ Err r → steps.new ≡ steps.old }
+    ensures undone { IsUndone result → steps.new ≡ steps.old }
+    ensures unasked { command_of (map string_bytes words.now.items) ≢ Some Command.Replay → steps.new ≡ steps.old }
+
+    // In a trace that `audit` lets pass all acting lines of a beat are by one identity.
+    ensures alone { (bytes : List ℕ) → S.left source.old ≡ Some bytes → task_of (map string_bytes words.now.items) ≡ Some Task.Audit → result ≡ Status.Done
+        → OneActs (entries_in bytes) }
 {
     documents_are_safe();
-    match command_in(words) {
-        Some(command) => obey(alloc, command, source, sink),
+    match task_in(words) {
+        Some(task) => perform(alloc, task, source, sink, policies, steps),
         None => tell_usage(sink),
+    }
+}
+
+/// Does what the words ask for with the bytes of the source.
+fn perform<S: Source, K: Sink, L>(
+    alloc: Global,
+    task: Task,
+    source: &mut S,
+    sink: &mut K,
+    policies: &Policies,
+    steps: &mut Steps<L>,
+) -> Status
+    ensures text { (bytes : List ℕ) → S.left source.old ≡ Some bytes → Ends (performed task bytes) (S.left source.new) (K.taken sink.old) (K.taken sink.new) result }
+    ensures source_fault { result ≡ Status.SourceFault → Rose (S.faults source.old) (S.faults source.new) }
+    ensures source_silent { result ≡ Status.SourceFault → K.taken sink.new ≡ K.taken sink.old }
+    ensures sink_fault { result ≡ Status.SinkFault → Rose (K.faults sink.old) (K.faults sink.new) }
+    ensures counted { (bytes : List ℕ) (d : Document) → S.left source.old ≡ Some bytes → document_walk bytes ≡ Ok d → steps.new ≤ steps.old + standing_beats (doc_of d) }
+    ensures unread { (bytes : List ℕ) (r : Refusal) → S.left source.old ≡ Some bytes → document_walk bytes ≡ Err r → steps.new ≡ steps.old }
+    ensures undone { IsUndone result → steps.new ≡ steps.old }
+    ensures unasked { task ≢ Task.Document Command.Replay → steps.new ≡ steps.old }
+    ensures alone { (bytes : List ℕ) → S.left source.old ≡ Some bytes → task ≡ Task.Audit → result ≡ Status.Done → OneActs (entries_in bytes) }
+{
+    match task {
+        Task::Document(command) => obey(alloc, command, source, sink, policies, steps),
+        Task::Audit => audit_trace(alloc, source, sink),
+        Task::Pods(question) => ask(alloc, question, source, sink),
     }
 }
 
 /// What was proved of every document that can be read, for which nothing is done.
 fn documents_are_safe()
-    ensures holder { (bytes : List ℕ) (document : Document) → document_walk bytes ≡ Ok document → lease_premise (doc_of document) ≡ true → Holder (doc_of document) }
-    ensures exclusive { (bytes : List ℕ) (document : Document) → document_walk bytes ≡ Ok document → lease_premise (doc_of document) ≡ true → Exclusive (doc_of document) }
+    ensures holder { (bytes : List ℕ) (d : Document) → document_walk bytes ≡ Ok d → lease_premise (doc_of d) ≡ true → Holder (doc_of d) }
+    ensures exclusive { (bytes : List ℕ) (d : Document) → document_walk bytes ≡ Ok d → lease_premise (doc_of d) ≡ true → Exclusive (doc_of d) }
+    ensures spacing { (bytes : List ℕ) (d : Document) → document_walk bytes ≡ Ok d → lease_premise (doc_of d) ≡ true → Spacing (doc_of d) }
+    ensures not_early { (d : Document) → NotEarly (doc_of d) }
+    ensures prompt { (d : Document) → Prompt (doc_of d) }
 {
     documents_are_lawful();
     lawful_documents_are_sound();
     lease_is_safe();
+    taints_are_spaced();
+    evictions_are_timely();
 }
 
 fn tell_usage<K: Sink>(sink: &mut K) -> Status
@@ -96,11 +155,22 @@ fn tell_usage<K: Sink>(sink: &mut K) -> Status
 }
 
 /// Reads the document and does what the command says.
-fn obey<S: Source, K: Sink>(alloc: Global, command: Command, source: &mut S, sink: &mut K) -> Status
+fn obey<S: Source, K: Sink, L>(
+    alloc: Global,
+    command: Command,
+    source: &mut S,
+    sink: &mut K,
+    policies: &Policies,
+    steps: &mut Steps<L>,
+) -> Status
     ensures text { (bytes : List ℕ) → S.left source.old ≡ Some bytes → Ends (obeyed command bytes) (S.left source.new) (K.taken sink.old) (K.taken sink.new) result }
     ensures source_fault { result ≡ Status.SourceFault → Rose (S.faults source.old) (S.faults source.new) }
     ensures source_silent { result ≡ Status.SourceFault → K.taken sink.new ≡ K.taken sink.old }
     ensures sink_fault { result ≡ Status.SinkFault → Rose (K.faults sink.old) (K.faults sink.new) }
+    ensures counted { (bytes : List ℕ) (d : Document) → S.left source.old ≡ Some bytes → document_walk bytes ≡ Ok d → steps.new ≤ steps.old + standing_beats (doc_of d) }
+    ensures unread { (bytes : List ℕ) (r : Refusal) → S.left source.old ≡ Some bytes → document_walk bytes ≡ Err r → steps.new ≡ steps.old }
+    ensures undone { IsUndone result → steps.new ≡ steps.old }
+    ensures unasked { command ≢ Command.Replay → steps.new ≡ steps.old }
 {
     match read(alloc, source) {
         Reading::Document(document, value) => {
@@ -113,7 +183,7 @@ fn obey<S: Source, K: Sink>(alloc: Global, command: Command, source: &mut S, sin
                 }
                 Command::Check => Some(value),
             };
-            answer(alloc, command, sink, document)
+            answer(alloc, command, sink, document, policies, steps)
         }
         Reading::Refused(refusal) => refuse(alloc, sink, refusal.code, refusal.path.as_slice()),
         Reading::TooLarge => refuse(alloc, sink, TOO_LARGE, b"/"),
@@ -123,35 +193,46 @@ fn obey<S: Source, K: Sink>(alloc: Global, command: Command, source: &mut S, sin
 }
 
 /// Does what the command says with a document.
-fn answer<K: Sink>(alloc: Global, command: Command, sink: &mut K, document: Document) -> Status
+fn answer<K: Sink, L>(
+    alloc: Global,
+    command: Command,
+    sink: &mut K,
+    document: Document,
+    policies: &Policies,
+    steps: &mut Steps<L>,
+) -> Status
     requires lawful { IsLawfulDoc (doc_of document) }
     requires named { IsWellNamed document.names (doc_of document) }
     ensures text { Ends (answer_to command document) (Some []) (K.taken sink.old) (K.taken sink.new) result }
     ensures silent { result ≢ Status.SourceFault }
+    ensures done { IsUndone result → ⊥ }
     ensures sink_fault { result ≡ Status.SinkFault → Rose (K.faults sink.old) (K.faults sink.new) }
+    ensures counted { steps.new ≤ steps.old + standing_beats (doc_of document) }
+    ensures unasked { command ≢ Command.Replay → steps.new ≡ steps.old }
 {
     match command {
-        Command::Replay => {
-            if runs(&document) {
-                replay(alloc, sink, document)
-            } else {
-                refuse(alloc, sink, NOT_RUN, b"/")
-            }
-        }
+        Command::Replay => replay(alloc, sink, document, policies, steps),
         Command::Check => check(alloc, sink, &document),
     }
 }
 
 /// Writes the trace of a document.
-fn replay<K: Sink>(alloc: Global, sink: &mut K, document: Document) -> Status
+fn replay<K: Sink, L>(
+    alloc: Global,
+    sink: &mut K,
+    document: Document,
+    policies: &Policies,
+    steps: &mut Steps<L>,
+) -> Status
     requires lawful { IsLawfulDoc (doc_of document) }
     requires named { IsWellNamed document.names (doc_of document) }
-    requires form { is_run (doc_of document) ≡ true }
     ensures text { Ends (done (trace document)) (Some []) (K.taken sink.old) (K.taken sink.new) result }
     ensures silent { result ≢ Status.SourceFault }
+    ensures done { IsUndone result → ⊥ }
     ensures sink_fault { result ≡ Status.SinkFault → Rose (K.faults sink.old) (K.faults sink.new) }
+    ensures counted { steps.new ≤ steps.old + standing_beats (doc_of document) }
 {
-    match write_trace(alloc, sink, document) {
+    match write_trace(alloc, sink, document, policies, steps) {
         Ok(()) => Status::Done,
         Err(WriteFault::Sink) => Status::SinkFault,
         Err(WriteFault::NoMemory) => Status::OutOfMemory,
@@ -162,6 +243,7 @@ fn replay<K: Sink>(alloc: Global, sink: &mut K, document: Document) -> Status
 fn check<K: Sink>(alloc: Global, sink: &mut K, document: &Document) -> Status
     ensures text { Ends (done (summary document.now)) (Some []) (K.taken sink.old) (K.taken sink.new) result }
     ensures silent { result ≢ Status.SourceFault }
+    ensures done { IsUndone result → ⊥ }
     ensures sink_fault { result ≡ Status.SinkFault → Rose (K.faults sink.old) (K.faults sink.new) }
 {
     let mut text = Vec::new(alloc);
@@ -175,9 +257,10 @@ fn check<K: Sink>(alloc: Global, sink: &mut K, document: &Document) -> Status
 }
 
 /// Writes the line of a refusal.
-fn refuse<K: Sink>(alloc: Global, sink: &mut K, code: u32, path: &[u8]) -> Status
+pub(crate) fn refuse<K: Sink>(alloc: Global, sink: &mut K, code: u32, path: &[u8]) -> Status
     ensures text { (left : List ℕ) → Ends (refused (record { code = code; path = path.now }) left) (Some left) (K.taken sink.old) (K.taken sink.new) result }
     ensures silent { result ≢ Status.SourceFault }
+    ensures not_done { result ≢ Status.Done }
     ensures sink_fault { result ≡ Status.SinkFault → Rose (K.faults sink.old) (K.faults sink.new) }
 {
     let mut text = Vec::new(alloc);

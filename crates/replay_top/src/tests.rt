@@ -2,9 +2,13 @@
 
 use crate::{Status, run};
 use byte_edge::{MemSink, MemSource};
+use kube_base::Steps;
+use rate_policies::{full, partial};
 use std::alloc::Global;
 use std::process::Abort;
+use std::sync::ledger::Blank;
 use std::test::Fail;
+use zone_state::Policies;
 
 const DOCUMENT: &str = r#"{"version":1,"settings":{"endBeat":4},"controllers":[{"name":"c1"}]}"#;
 
@@ -32,7 +36,15 @@ fn expect(
         Ok(sink) => sink,
         Err(_) => return Err(Fail::from("no memory")),
     };
-    let status = run(alloc, &words, &mut source, &mut sink);
+    let mut steps = Steps::new(Blank::new(1));
+    let status = run(
+        alloc,
+        &words,
+        &mut source,
+        &mut sink,
+        &Policies::new(partial, full),
+        &mut steps,
+    );
     assert_eq!(rt; sink.held(), ended.1.as_bytes());
     assert_eq!(rt; status, ended.0);
     Ok(())
@@ -46,7 +58,15 @@ fn runs_each_command(rt: HostRuntime) -> Result<(), Fail> {
     let alloc = rt.alloc();
     expect(&rt, alloc, "replay", 9, 200, (Status::Done, TRACE))?;
     expect(&rt, alloc, "check", 9, 200, (Status::Done, line))?;
-    expect(&rt, alloc, "audit", 9, 200, (Status::Usage, usage))
+    expect(
+        &rt,
+        alloc,
+        "audit",
+        9,
+        200,
+        (Status::Refused, "refused 40 /1\n"),
+    )?;
+    expect(&rt, alloc, "sweep", 9, 200, (Status::Usage, usage))
 }
 
 /// Where the source fails in mid-stream nothing is written, and a sink that is full holds the front of the trace.

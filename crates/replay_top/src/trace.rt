@@ -1,14 +1,19 @@
 // A document is run, and its trace is written as the beats are done.
-ghost use Rattle.std.specs.Prelude.{◌≡◌, ◌≤◌, ◌++◌, ℕ, List, Option, true, length, All, OnOk, OnErr, IfOk, IfErr, IsErr};
+ghost use Rattle.std.specs.Prelude.{◌≡◌, ◌≤◌, ◌+◌, ◌++◌, ℕ, List, Option, Some, length, All, OnOk, OnErr, IfOk, IfErr, IsErr};
+ghost use Rattle.std.specs.List.{AllByRecursion};
+ghost use Rattle.agenda_laws.specs.Ahead.{IsNextBeat};
+ghost use Rattle.agenda_laws.specs.Standing.{standing_beats};
 ghost use Rattle.byte_edge.specs.Bytes.{Rose, Gives, Gave};
-ghost use Rattle.kube_objects.specs.Document.{Doc, end_beat};
+ghost use Rattle.kube_base.specs.Steps.{counted};
+ghost use Rattle.kube_objects.specs.Document.{Doc, end_beat, processes as process_count};
 ghost use Rattle.kube_objects.specs.Writable.{IsWritable};
 ghost use Rattle.history.specs.History.{history};
+ghost use Rattle.history.specs.Printed.{printed};
 ghost use Rattle.script_reader.specs.Documents.{doc_of};
-ghost use Rattle.script_reader.specs.Lawful.{IsLawfulDoc, IsWellNamed};
+ghost use Rattle.script_reader.specs.Lawful.{AreLawfulFrom, IsLawfulDoc, IsWellNamed};
 ghost use Rattle.trace_writer.specs.Lines.{lines_of};
-ghost use Rattle.world_core.specs.Forms.{is_run};
-ghost use Rattle.world_core.specs.Worlds.{at_of, end_of, names_of, IsReady, WorldStands};
+ghost use Rattle.world_core.specs.Waits.{beat_of};
+ghost use Rattle.world_core.specs.Worlds.{at_of, end_of, names_of, IsOwn, IsReady, WorldStands};
 ghost use Rattle.replay_top.specs.Traces.{trace, trace_of, trace_before, first_of};
 ghost use Rattle.replay_top.specs.Names.{process_names as names_in_order};
 ghost use Rattle.replay_top.specs.Runs.{Runs};
@@ -16,33 +21,49 @@ ghost use Rattle.replay_top.specs.Spoken.{Spoken, Written};
 
 use crate::buffer::Buffer;
 use crate::texts::process_names;
+use beat_laws::nodes_are_few;
 use byte_edge::{Failed, Sink, give_all};
-use kube_base::{ListOf, Name, Names, NoMemory};
-use kube_objects::Deed;
+use history_laws::{calls_are_numbered, starts_are_few};
+use kube_base::{Beat, ListOf, Name, Names, NoMemory, Steps};
+use kube_objects::{Deed, Deeds};
 use script_reader::{Document, lease_premise};
 use std::alloc::Global;
 use trace_writer::{Settings1, WriteFault, write_deed, write_first};
+use world_agenda::next_beat;
 use world_core::World;
+use zone_state::Policies;
 
 /// The text that is held before it is given to the sink, in bytes.
 const PIECE: usize = 16_384;
 
 /// Runs the document and writes its trace. After a fault or want of memory a prefix of it was written.
-pub(crate) fn write_trace<K: Sink>(
+pub(crate) fn write_trace<K: Sink, L>(
     alloc: Global,
     sink: &mut K,
     document: Document,
+    policies: &Policies,
+    steps: &mut Steps<L>,
 ) -> Result<(), WriteFault>
     requires lawful { IsLawfulDoc (doc_of document) }
     requires named { IsWellNamed document.names (doc_of document) }
-    requires form { is_run (doc_of document) ≡ true }
     ensures all { OnOk result (Gives (K.taken sink.old) (K.taken sink.new) (trace document)) }
     ensures front { OnErr result (Gave (K.taken sink.old) (K.taken sink.new) (trace document)) }
     ensures failed { IfErr result (λ e. e ≡ WriteFault.Sink → Rose (K.faults sink.old) (K.faults sink.new)) }
+    ensures counted { steps.new ≤ steps.old + standing_beats (doc_of document) }
 {
     let mut buffer = Buffer::new(alloc);
     match start(alloc, &mut buffer, document) {
-        Ok((world, processes)) => write_beats(alloc, sink, world, processes.as_slice(), buffer),
+        Ok((world, processes)) => {
+            write_beats(
+                alloc,
+                sink,
+                world,
+                processes.as_slice(),
+                buffer,
+                policies,
+                steps,
+            )
+        }
         Err(NoMemory) => Err(WriteFault::NoMemory),
     }
 }
@@ -55,7 +76,6 @@ fn start(
 ) -> Result<(World, ListOf<Name>), NoMemory>
     requires lawful { IsLawfulDoc (doc_of document) }
     requires named { IsWellNamed document.names (doc_of document) }
-    requires form { is_run (doc_of document) ≡ true }
     ensures text { OnOk result (buffer.new.text.items ≡ buffer.old.text.items ++ first_of (doc_of document)) }
     ensures processes { IfOk result (λ r. r.1 ≡ names_in_order document.names (doc_of document)) }
     ensures names { IfOk result (λ r. names_of r.0 ≡ document.names) }
@@ -103,31 +123,34 @@ fn add_lines(
     Ok(())
 }
 
-/// Does all beats and writes their lines, after the text so far.
-fn write_beats<K: Sink>(
+/// Does all beats that have entries and writes their lines, after the text so far.
+fn write_beats<K: Sink, L>(
     alloc: Global,
     sink: &mut K,
     mut world: World,
     processes: &[Name],
     mut buffer: Buffer,
+    policies: &Policies,
+    steps: &mut Steps<L>,
 ) -> Result<(), WriteFault>
     requires ready { IsReady world }
     requires first { at_of world ≡ 0 }
     requires runs { Runs world (length processes.now) }
-    ensures written { (doc : Doc) → (before : Option (List ℕ)) → length doc.events ≤ 100000 → WorldStands doc 0 (history doc 0) world → end_of world ≡ end_beat doc
+    ensures written { (doc : Doc) (before : Option (List ℕ)) → IsLawfulDoc doc → WorldStands doc 0 (history doc 0) world → end_of world ≡ end_beat doc
         → Spoken before (K.taken sink.old) buffer.text.items (trace_before doc (names_of world) processes.now 0)
         → Written before (K.taken sink.new) (trace_of doc (names_of world) processes.now) result }
     ensures failed { IfErr result (λ e. e ≡ WriteFault.Sink → Rose (K.faults sink.old) (K.faults sink.new)) }
+    ensures counted { (doc : Doc) → IsLawfulDoc doc → WorldStands doc 0 (history doc 0) world → end_of world ≡ end_beat doc
+        → steps.new ≤ steps.old + standing_beats doc }
 {
-    'beats: while !world.finished() {
+    'beats: while let Some(beat) = next_of(&world) {
         match give_long(sink, &mut buffer.text) {
             Ok(()) => {}
             Err(Failed) => return Err(WriteFault::Sink),
         }
-        let deeds = match world.beat() {
+        let deeds = match beat_at(world, beat, policies, steps) {
             Ok((next, deeds)) => {
                 world = next;
-                world.skip_quiet();
                 deeds
             }
             Err(NoMemory) => return Err(WriteFault::NoMemory),
@@ -147,6 +170,44 @@ fn write_beats<K: Sink>(
         Ok(()) => Ok(()),
         Err(Failed) => Err(WriteFault::Sink),
     }
+}
+
+/// The next beat with an entry; None where there is none up to the end.
+fn next_of(world: &World) -> Option<Beat>
+    requires ready { IsReady world.now }
+    ensures { (doc : Doc) → AreLawfulFrom doc 0 doc.events → WorldStands doc (at_of world.now) (history doc (at_of world.now)) world.now
+        → end_of world.now ≡ end_beat doc → IsNextBeat doc (at_of world.now) (beat_of result) }
+{
+    if world.finished() {
+        return None;
+    }
+    next_beat(world)
+}
+
+/// Does the next beat with an entry, and answers what of it is printed.
+fn beat_at<L>(
+    world: World,
+    beat: Beat,
+    policies: &Policies,
+    steps: &mut Steps<L>,
+) -> Result<(World, Deeds), NoMemory>
+    requires ready { IsReady world }
+    requires ahead { (at_of world ≤ beat.0) × (beat.0 ≤ end_of world) }
+    ensures kept { IfOk result (λ r. IsReady r.0 × (at_of r.0 ≡ beat.0 + 1) × (end_of r.0 ≡ end_of world) × (names_of r.0 ≡ names_of world)) }
+    ensures stands { (doc : Doc) → IsLawfulDoc doc → WorldStands doc (at_of world) (history doc (at_of world)) world → end_of world ≡ end_beat doc
+        → IsNextBeat doc (at_of world) (Some beat.0)
+        → IfOk result (λ r. WorldStands doc (at_of r.0) (history doc (at_of r.0)) r.0
+        × (printed (history doc (at_of world)) ++ r.1 ≡ printed (history doc (at_of r.0)))) }
+    ensures writable { (doc : Doc) → IsOwn doc world → WorldStands doc (at_of world) (history doc (at_of world)) world → end_of world ≡ end_beat doc
+        → IsNextBeat doc (at_of world) (Some beat.0)
+        → IfOk result (λ r. AllByRecursion (IsWritable (names_of world) (process_count doc)) r.1) }
+    ensures counted { steps.new ≡ counted steps.old 1 }
+{
+    calls_are_numbered();
+    starts_are_few();
+    nodes_are_few();
+    let (next, deeds) = world.skip_to(beat).beat(policies, steps)?;
+    Ok((next, deeds))
 }
 
 /// Gives the text so far, where it is long.

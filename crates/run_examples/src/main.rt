@@ -2,11 +2,14 @@
 #![tactic(auto)]
 
 use byte_edge::{MemSink, MemSource};
-use kube_base::NoMemory;
+use kube_base::{NoMemory, Steps};
+use rate_policies::{full, partial};
 use replay_top::{Status, run};
 use std::alloc::Global;
 use std::io::ErrorKind;
+use std::sync::ledger::Blank;
 use std::{env, fs, io};
+use zone_state::Policies;
 
 /// How many bytes a source gives, and a sink takes, at once.
 const CHUNK: usize = 100;
@@ -34,6 +37,14 @@ fn replays(alloc: Global, document: Vec<u8>, trace: &[u8]) -> Result<bool, NoMem
     words.push(String::from_str(alloc, "replay")?)?;
     let mut source = MemSource::new(document, CHUNK, Vec::new(alloc));
     let mut sink = MemSink::new(alloc, trace.len().saturating_add(1), CHUNK, Vec::new(alloc))?;
-    let ended = run(alloc, &words, &mut source, &mut sink);
+    let mut steps = Steps::new(Blank::new(1));
+    let ended = run(
+        alloc,
+        &words,
+        &mut source,
+        &mut sink,
+        &Policies::new(partial, full),
+        &mut steps,
+    );
     Ok(ended == Status::Done && sink.held() == trace)
 }

@@ -1,7 +1,9 @@
-use Rattle.std.proofs.Common.{[], Some, subst}
+use Rattle.std.proofs.Common.{◌≤◌, ◌+◌, [], Some, subst}
 use Rattle.byte_edge.proofs.Fronts.{gave-nothing}
 use Rattle.replay_top.specs.Outcome.{obeyed, answer_to, refused, of_whole, Ends}
-use Rattle.replay_top.proofs.Endings.{ends-moved}
+use Rattle.agenda_laws.specs.Standing.{standing_beats}
+use Rattle.script_reader.specs.Documents.{doc_of}
+use Rattle.replay_top.proofs.Endings.{ends-moved, same-read, read-refused}
 use Rattle.replay_top.proofs.running.obey.Goals as goal
 
 pub returns-after-command-clause-text : goal.returns-after-command-clause-text
@@ -11,6 +13,17 @@ returns-after-command-clause-text g c bytes told =
     let taken = g.K.Sink.taken in
     ends-moved (answer_to command c.in-Document.document) (obeyed command bytes) (Some []) (g.S.Source.left c.read.new.source) (taken c.args.sink.now) (taken c.answer.new.sink) c.answer.result
     (reads.1 command) reads.0 c.answer.ensures.text
+
+pub returns-after-command-clause-counted : goal.returns-after-command-clause-counted
+returns-after-command-clause-counted g c bytes d told read =
+    let reads = c.in-Document.ensures.told bytes told in
+    subst (λ x. c.answer.new.steps ≤ c.args.steps.now + standing_beats (doc_of x)) (same-read bytes c.in-Document.document d reads.2 read) c.answer.ensures.counted
+
+pub returns-after-command-clause-unread : goal.returns-after-command-clause-unread
+returns-after-command-clause-unread g c bytes r told read = absurd (read-refused bytes c.in-Document.document r (c.in-Document.ensures.told bytes told).2 read)
+
+pub returns-after-command-clause-undone : goal.returns-after-command-clause-undone
+returns-after-command-clause-undone g c undone = absurd (c.answer.ensures.done undone)
 
 pub returns-in-Refused-clause-text : goal.returns-in-Refused-clause-text
 returns-in-Refused-clause-text g c bytes told =

@@ -1,40 +1,61 @@
-use Rattle.std.proofs.Common.{List, ℕ, [], Some, None, map, string_bytes, refl}
-use Rattle.replay_top.specs.Outcome.{outcome, obeyed, usage}
+use Rattle.std.proofs.Common.{List, ℕ, [], Some, None, map, string_bytes, refl, sym, ap, ◌∙◌, ◌≡◌}
+use Rattle.replay_top.specs.declared.command.Command.TheVariants.{Replay}
+use Rattle.replay_top.specs.declared.task.Task.{Task}
+use Rattle.replay_top.specs.declared.task.Task.TheVariants.{Audit}
+use Rattle.replay_top.specs.Outcome.{outcome, performed, usage}
+use Rattle.replay_top.proofs.Asked.{task-command}
 use Rattle.replay_top.proofs.Endings.{ends-moved, outcome-of, ends-whole, not-source}
 use Rattle.replay_top.proofs.running.run.Goals as goal
 
 pub returns-in-Some-clause-text : goal.returns-in-Some-clause-text
 returns-in-Some-clause-text g c bytes told =
     let words : List (List ℕ) = map string_bytes c.args.words.now.items in
-    let left = g.S.Source.left c.obey.new.source in
-    let command = c.in-Some.command in
-    ends-moved (obeyed command bytes) (outcome words bytes) left left (g.K.Sink.taken c.args.sink.now) (g.K.Sink.taken c.obey.new.sink) c.obey.result
-    (outcome-of words bytes c.command_in.result (Some command) c.command_in.ensures c.in-Some.is) refl (c.obey.ensures.text bytes told)
+    let left = g.S.Source.left c.perform.new.source in
+    let task = c.in-Some.task in
+    ends-moved (performed task bytes) (outcome words bytes) left left (g.K.Sink.taken c.args.sink.now) (g.K.Sink.taken c.perform.new.sink) c.perform.result
+    (outcome-of words bytes c.task_in.result (Some task) c.task_in.ensures c.in-Some.is) refl (c.perform.ensures.text bytes told)
 
 pub returns-in-Some-clause-complete : goal.returns-in-Some-clause-complete
 returns-in-Some-clause-complete g c bytes told calm open_sink =
     let words : List (List ℕ) = map string_bytes c.args.words.now.items in
-    let left = g.S.Source.left c.obey.new.source in
-    let command = c.in-Some.command in
+    let left = g.S.Source.left c.perform.new.source in
+    let task = c.in-Some.task in
     let before = g.K.Sink.taken c.args.sink.now in
-    let after = g.K.Sink.taken c.obey.new.sink in
-    ends-whole (outcome words bytes) left before after c.obey.result
-    (λ fault. calm (c.obey.ensures.source_fault fault)) (λ fault. open_sink (c.obey.ensures.sink_fault fault))
-    (ends-moved (obeyed command bytes) (outcome words bytes) left left before after c.obey.result
-    (outcome-of words bytes c.command_in.result (Some command) c.command_in.ensures c.in-Some.is) refl (c.obey.ensures.text bytes told))
+    let after = g.K.Sink.taken c.perform.new.sink in
+    ends-whole (outcome words bytes) left before after c.perform.result
+    (λ fault. calm (c.perform.ensures.source_fault fault)) (λ fault. open_sink (c.perform.ensures.sink_fault fault))
+    (ends-moved (performed task bytes) (outcome words bytes) left left before after c.perform.result
+    (outcome-of words bytes c.task_in.result (Some task) c.task_in.ensures c.in-Some.is) refl (c.perform.ensures.text bytes told))
 
 pub returns-in-Some-clause-holder : goal.returns-in-Some-clause-holder
-returns-in-Some-clause-holder g c bytes document told replays read runs premise = c.documents_are_safe.ensures.holder bytes document read premise
+returns-in-Some-clause-holder g c d replays premise = c.documents_are_safe.ensures.holder replays.bytes d replays.read premise
+
+pub returns-in-Some-clause-spacing : goal.returns-in-Some-clause-spacing
+returns-in-Some-clause-spacing g c d replays premise = c.documents_are_safe.ensures.spacing replays.bytes d replays.read premise
+
+pub returns-in-Some-clause-not_early : goal.returns-in-Some-clause-not_early
+returns-in-Some-clause-not_early g c d replays = c.documents_are_safe.ensures.not_early d
+
+pub returns-in-Some-clause-prompt : goal.returns-in-Some-clause-prompt
+returns-in-Some-clause-prompt g c d replays = c.documents_are_safe.ensures.prompt d
 
 pub returns-in-Some-clause-exclusive : goal.returns-in-Some-clause-exclusive
-returns-in-Some-clause-exclusive g c bytes document told replays read runs premise = c.documents_are_safe.ensures.exclusive bytes document read premise
+returns-in-Some-clause-exclusive g c d replays premise = c.documents_are_safe.ensures.exclusive replays.bytes d replays.read premise
+
+pub returns-in-Some-clause-counted : goal.returns-in-Some-clause-counted
+returns-in-Some-clause-counted g c d replays = c.perform.ensures.counted replays.bytes d replays.told replays.read
+
+pub returns-in-Some-clause-unasked : goal.returns-in-Some-clause-unasked
+returns-in-Some-clause-unasked g c other =
+    let words : List (List ℕ) = map string_bytes c.args.words.now.items in
+    c.perform.ensures.unasked (λ is. other (task-command words Replay (sym c.task_in.ensures ∙ c.in-Some.is ∙ ap (λ (x : Task). Some x) is)))
 
 pub returns-in-None-clause-text : goal.returns-in-None-clause-text
 returns-in-None-clause-text g c bytes told =
     let words : List (List ℕ) = map string_bytes c.args.words.now.items in
     let left = g.S.Source.left c.args.source.now in
     ends-moved (usage bytes) (outcome words bytes) (Some bytes) left (g.K.Sink.taken c.args.sink.now) (g.K.Sink.taken c.tell_usage.new.sink) c.tell_usage.result
-    (outcome-of words bytes c.command_in.result None c.command_in.ensures c.in-None.is) told (c.tell_usage.ensures.text bytes)
+    (outcome-of words bytes c.task_in.result None c.task_in.ensures c.in-None.is) told (c.tell_usage.ensures.text bytes)
 
 pub returns-in-None-clause-usage : goal.returns-in-None-clause-usage
 returns-in-None-clause-usage g c other = (refl, c.tell_usage.ensures.usage, c.tell_usage.ensures.text [])
@@ -48,7 +69,7 @@ returns-in-None-clause-complete g c bytes told calm open_sink =
     ends-whole (outcome words bytes) left before after c.tell_usage.result
     (not-source c.tell_usage.result c.tell_usage.ensures.usage) (λ fault. open_sink (c.tell_usage.ensures.sink_fault fault))
     (ends-moved (usage bytes) (outcome words bytes) (Some bytes) left before after c.tell_usage.result
-    (outcome-of words bytes c.command_in.result None c.command_in.ensures c.in-None.is) told (c.tell_usage.ensures.text bytes))
+    (outcome-of words bytes c.task_in.result None c.task_in.ensures c.in-None.is) told (c.tell_usage.ensures.text bytes))
 
 pub returns-in-None-clause-source_fault : goal.returns-in-None-clause-source_fault
 returns-in-None-clause-source_fault g c fault = absurd (not-source c.tell_usage.result c.tell_usage.ensures.usage fault)
@@ -57,7 +78,25 @@ pub returns-in-None-clause-source_silent : goal.returns-in-None-clause-source_si
 returns-in-None-clause-source_silent g c fault = absurd (not-source c.tell_usage.result c.tell_usage.ensures.usage fault)
 
 pub returns-in-None-clause-holder : goal.returns-in-None-clause-holder
-returns-in-None-clause-holder g c bytes document told replays read runs premise = c.documents_are_safe.ensures.holder bytes document read premise
+returns-in-None-clause-holder g c d replays premise = c.documents_are_safe.ensures.holder replays.bytes d replays.read premise
+
+pub returns-in-None-clause-spacing : goal.returns-in-None-clause-spacing
+returns-in-None-clause-spacing g c d replays premise = c.documents_are_safe.ensures.spacing replays.bytes d replays.read premise
+
+pub returns-in-None-clause-not_early : goal.returns-in-None-clause-not_early
+returns-in-None-clause-not_early g c d replays = c.documents_are_safe.ensures.not_early d
+
+pub returns-in-None-clause-prompt : goal.returns-in-None-clause-prompt
+returns-in-None-clause-prompt g c d replays = c.documents_are_safe.ensures.prompt d
 
 pub returns-in-None-clause-exclusive : goal.returns-in-None-clause-exclusive
-returns-in-None-clause-exclusive g c bytes document told replays read runs premise = c.documents_are_safe.ensures.exclusive bytes document read premise
+returns-in-None-clause-exclusive g c d replays premise = c.documents_are_safe.ensures.exclusive replays.bytes d replays.read premise
+
+pub returns-in-Some-clause-alone : goal.returns-in-Some-clause-alone
+returns-in-Some-clause-alone g c bytes told asked done =
+    let found : Some c.in-Some.task ≡ Some Audit = sym c.in-Some.is ∙ c.task_in.ensures ∙ asked in
+    c.perform.ensures.alone bytes told (cc) done
+
+pub returns-in-None-clause-alone : goal.returns-in-None-clause-alone
+returns-in-None-clause-alone g c bytes told asked done =
+    absurd (let found : None ≡ Some Audit = sym c.in-None.is ∙ c.task_in.ensures ∙ asked in cc)

@@ -1,6 +1,8 @@
 use Rattle.std.proofs.Common.{◌≡◌, ℕ, ◌≤◌, ◌+◌, ◌-◌, List, Option, length}
 use Rattle.kube_objects.specs.Document.{Doc, end_beat}
+use Rattle.agenda_laws.specs.Standing.{standing_below}
 use Rattle.history.specs.History.{history}
+use Rattle.script_reader.specs.Lawful.{IsLawfulDoc}
 use Rattle.world_core.specs.Worlds.{at_of, end_of, names_of, IsReady, WorldStands}
 use Rattle.replay_top.specs.Traces.{trace_before}
 use Rattle.replay_top.specs.Runs.{Runs}
@@ -17,10 +19,11 @@ invariant-beats g l =
       names : names_of l.world ≡ names_of l.fn.world;
       runs : Runs l.world (length l.processes);
       counted : sink.faults l.fn.sink ≤ sink.faults l.sink;
-      stands : (doc : Doc) (before : Option (List ℕ)) → length doc.events ≤ 100000 → WorldStands doc 0 (history doc 0) l.fn.world → end_of l.fn.world ≡ end_beat doc
+      stands : (doc : Doc) → IsLawfulDoc doc → WorldStands doc 0 (history doc 0) l.fn.world → end_of l.fn.world ≡ end_beat doc
+          → WorldStands doc (at_of l.world) (history doc (at_of l.world)) l.world × (l.steps ≤ l.fn.steps + standing_below doc (at_of l.world));
+      said : (doc : Doc) (before : Option (List ℕ)) → IsLawfulDoc doc → WorldStands doc 0 (history doc 0) l.fn.world → end_of l.fn.world ≡ end_beat doc
           → Spoken before (sink.taken l.fn.sink) l.fn.buffer.text.items (trace_before doc (names_of l.fn.world) l.processes 0)
-          → WorldStands doc (at_of l.world) (history doc (at_of l.world)) l.world
-          × Spoken before (sink.taken l.sink) l.buffer.text.items (trace_before doc (names_of l.fn.world) l.processes (at_of l.world));
+          → Spoken before (sink.taken l.sink) l.buffer.text.items (trace_before doc (names_of l.fn.world) l.processes (at_of l.world));
     }
 
 abbrev pub decreases-beats : goal.decreases-beats

@@ -37,7 +37,7 @@ returns-in-Ok-clause-all g c =
     let first = trace-first (doc_of d) names processes c.new-buffer.result.text.items c.start.new.buffer.text.items c.new-buffer.ensures c.in-Ok.ensures.text in
     let s = spoken-first before c.start.new.buffer.text.items (trace_before (doc_of d) names processes 0) first in
     let w : Written before after (trace_of (doc_of d) names processes) c.write_beats.result
-    = c.write_beats.ensures.written (doc_of d) before c.requires.lawful.few_events c.in-Ok.ensures.stands c.in-Ok.ensures.kept.2 s in
+    = c.write_beats.ensures.written (doc_of d) before c.requires.lawful c.in-Ok.ensures.stands c.in-Ok.ensures.kept.2 s in
     let named = trace-named d names processes c.in-Ok.ensures.names (c.as_slice.ensures ∙ c.in-Ok.ensures.processes) in
     written-all before after (trace d) c.write_beats.result (subst (λ l. Written before after l c.write_beats.result) named w)
 
@@ -51,9 +51,12 @@ returns-in-Ok-clause-front g c =
     let first = trace-first (doc_of d) names processes c.new-buffer.result.text.items c.start.new.buffer.text.items c.new-buffer.ensures c.in-Ok.ensures.text in
     let s = spoken-first before c.start.new.buffer.text.items (trace_before (doc_of d) names processes 0) first in
     let w : Written before after (trace_of (doc_of d) names processes) c.write_beats.result
-    = c.write_beats.ensures.written (doc_of d) before c.requires.lawful.few_events c.in-Ok.ensures.stands c.in-Ok.ensures.kept.2 s in
+    = c.write_beats.ensures.written (doc_of d) before c.requires.lawful c.in-Ok.ensures.stands c.in-Ok.ensures.kept.2 s in
     let named = trace-named d names processes c.in-Ok.ensures.names (c.as_slice.ensures ∙ c.in-Ok.ensures.processes) in
     written-front before after (trace d) c.write_beats.result (subst (λ l. Written before after l c.write_beats.result) named w)
 
 pub returns-in-Err-clause-front : goal.returns-in-Err-clause-front
 returns-in-Err-clause-front g c = gave-nothing (g.K.Sink.taken c.args.sink.now) (trace c.args.document)
+
+pub returns-in-Ok-clause-counted : goal.returns-in-Ok-clause-counted
+returns-in-Ok-clause-counted g c = c.write_beats.ensures.counted (doc_of c.args.document) c.requires.lawful c.in-Ok.ensures.stands c.in-Ok.ensures.kept.2

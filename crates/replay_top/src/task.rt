@@ -1,0 +1,46 @@
+// What the words after the program's name ask for.
+ghost use Rattle.std.specs.Prelude.{◌≡◌, map, string_bytes};
+ghost use Rattle.replay_top.specs.Tasks.{is_word, task_of};
+
+use crate::command::{Command, command_in};
+use crate::question::Question;
+
+/// What a run does with the bytes of its source.
+#[derive(Clone, Copy, Debug, PartialEq, Eq)]
+pub enum Task {
+    /// They are read as a document, with which this is done.
+    Document(Command),
+    /// They are read as Nodes and Pods, of which this is asked.
+    Pods(Question),
+    /// They are audited as the text of a trace.
+    Audit,
+}
+
+/// The task that the words after the program's name are, if any.
+pub(crate) fn task_in(words: &Vec<String>) -> Option<Task>
+    ensures { result ≡ task_of (map string_bytes words.now.items) }
+{
+    if is_word("collect", words) {
+        return Some(Task::Pods(Question::Collect));
+    }
+    if is_word("place", words) {
+        return Some(Task::Pods(Question::Place));
+    }
+    if is_word("audit", words) {
+        return Some(Task::Audit);
+    }
+    match command_in(words) {
+        Some(command) => Some(Task::Document(command)),
+        None => None,
+    }
+}
+
+/// Whether this word is given alone.
+fn is_word(text: &str, words: &Vec<String>) -> bool
+    ensures { result ≡ is_word text.now (map string_bytes words.now.items) }
+{
+    match words.as_slice() {
+        [word] => word.as_str() == text,
+        _ => false,
+    }
+}
