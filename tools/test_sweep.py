@@ -155,23 +155,12 @@ def test_two_values(given, folder):
 
 def test_document_with_nodes(given, folder):
     """The trace of view/data that stands beside its document is the program's."""
-    if not runs_kubelets(given):
-        return
     trace = single(given, folder, 0, load(os.path.join(TOP, 'view', 'data', 'zone-outage.json')))
     same('zone-outage', read_bytes(trace), read_bytes(os.path.join(TOP, 'view', 'data', 'zone-outage.txt')))
 
 
-def runs_kubelets(given):
-    probe = subprocess.run([*shlex.split(given.program), 'replay'], input=json.dumps(load(SILENT)), stdout=subprocess.PIPE, text=True)
-    if probe.stdout.startswith('refused 99'):
-        print('LEFT OUT, since this program answers %s to kubelets:' % probe.stdout.strip())
-    return not probe.stdout.startswith('refused 99')
-
-
 def test_grace_period(given, folder):
     """Evictions against the grace period."""
-    if not runs_kubelets(given):
-        return
     sweep('all', SILENT, 'grace', '--vary', '/settings/gracePeriodMillis=20000..200000..10000', '--ask', 'evictions',
           '--ask', 'taints-a-minute', '--program', given.program, folder=folder)
     documents = [with_settings(SILENT, gracePeriodMillis=millis) for millis in range(20_000, 200_001, 10_000)]
