@@ -1,0 +1,7 @@
+mod Fresh
+mod Held
+mod Items
+mod Lawful
+mod Ranges
+mod Sorting
+mod Steps
