@@ -5,8 +5,6 @@ use Rattle.std.specs.Ordering.{nat_cmp, ordering_then, is_eq, is_gt}
 use Rattle.std.specs.declared.cmp.Ordering.{Ordering}
 use Rattle.std.specs.BTreeSet as set
 use Rattle.std.specs.BTreeSet.{BTreeSet}
-use Rattle.std.specs.BTreeMap as tree
-use Rattle.std.specs.BTreeMap.{BTreeMap}
 use Rattle.std.specs.Prelude.{Option, IsTrue, IsSome, is_some, unwrap_or}
 use Rattle.kube_objects.specs.declared.key.Key.{Key}
 use Rattle.kube_objects.specs.declared.key.Kind.{Kind}
@@ -16,7 +14,9 @@ use Rattle.kube_objects.specs.declared.pod.Due.TheVariants.{Never}
 use Rattle.kube_objects.specs.contracts.key.KeyOrd.TheImpl as key_ord
 use Rattle.kube_objects.specs.contracts.key.KindOrd.TheImpl as kind_ord
 use Rattle.kube_objects.specs.Keys.{key_cmp, key_eq, kind_rank}
-use Rattle.kube_objects.proofs.KeyOrder.{same_key}
+use Rattle.kube_objects.proofs.KeyOrder.{key_itself, same_key}
+use Rattle.key_map.specs.Values.{value_at}
+use Rattle.key_map.specs.declared.map.KeyMap.{KeyMap}
 use Rattle.evict_queue.specs.Order.{timed_cmp, is_entry}
 
 kind_order : (a b : Kind) → (kind_ord.cmp-value).it a b ≡ nat_cmp (kind_rank a) (kind_rank b)
@@ -91,15 +91,6 @@ time_of_first a b k l h = by_order (nat_cmp a b) (key_cmp k l) h (grind (arith, 
     by_order Equal p h f = f refl
     by_order Greater p h f = f h
 
--- a map's value was set, or taken out
-pub updated : (m n : BTreeMap Key Due) (key : Key) (w : Option Due) → tree.Updates (key_ord.cmp-value).it m n key w
-    → (k : Key) → tree.get key_cmp n k ≡ cond (key_eq key k) w (tree.get key_cmp m k)
-updated m n key w u k = (subst (λ cmp. tree.Updates cmp m n key w) key_order u).0 k
-
--- what a map has, by either order
-pub got : (m : BTreeMap Key Due) (key : Key) → tree.get (key_ord.cmp-value).it m key ≡ tree.get key_cmp m key
-got m key = ap (λ cmp. tree.get cmp m key) key_order
-
 -- the first entry is there
 pub member : (m : BTreeSet (ℕ × Key)) (p : ℕ × Key) → IsTrue (set.contains (pairs_by (key_ord.cmp-value).it) m p) → set.contains timed_cmp m p ≡ true
 member m p there = subst (λ cmp. set.contains (pairs_by cmp) m p ≡ true) key_order there
@@ -109,17 +100,21 @@ pub room_kept : (b : Bool) (old : Option Due) → IsSome old → IsSome (cond b 
 room_kept true old h = refl
 room_kept false old h = h
 
-no_due : (o : Option Due) → is_some o ≡ false → unwrap_or o Never ≡ Never
-no_due None h = refl
-no_due (Some x) h = cc
-
-pub room_same : (m n : BTreeMap Key Due) (key : Key) → tree.Updates (key_ord.cmp-value).it m n key (Some Never) → is_some (tree.get (key_ord.cmp-value).it m key) ≡ false
-    → (k : Key) → unwrap_or (tree.get key_cmp n k) Never ≡ unwrap_or (tree.get key_cmp m k) Never
-room_same m n key u absent k = ap (λ o. unwrap_or o Never) (updated m n key (Some Never) u k) ∙ by_key (key_eq key k) (λ same. subst (λ q. unwrap_or (tree.get key_cmp m q) Never ≡ Never) (same_key key k same) gone)
+-- room was made for a key that had none
+pub room_same : (m n : KeyMap Due) (key : Key) → ((k : Key) → value_at n k ≡ cond (key_eq key k) (Some Never) (value_at m k))
+    → value_at m key ≡ None
+    → (k : Key) → unwrap_or (value_at n k) Never ≡ unwrap_or (value_at m k) Never
+room_same m n key put none k =
+    ap (λ o. unwrap_or o Never) (put k)
+    ∙ by_key (key_eq key k)
+    (λ same. subst (λ q. unwrap_or (value_at m q) Never ≡ Never) (same_key key k same) (ap (λ o. unwrap_or o Never) none))
   where
-    gone : unwrap_or (tree.get key_cmp m key) Never ≡ Never
-    gone = no_due (tree.get key_cmp m key) (ap is_some (sym (got m key)) ∙ absent)
-
-    by_key : (b : Bool) → (b ≡ true → unwrap_or (tree.get key_cmp m k) Never ≡ Never) → unwrap_or (cond b (Some Never) (tree.get key_cmp m k)) Never ≡ unwrap_or (tree.get key_cmp m k) Never
+    by_key : (b : Bool) → (b ≡ true → unwrap_or (value_at m k) Never ≡ Never)
+        → unwrap_or (cond b (Some Never) (value_at m k)) Never ≡ unwrap_or (value_at m k) Never
     by_key true f = sym (f refl)
     by_key false f = refl
+
+-- what was put is there
+pub room_there : (m n : KeyMap Due) (key : Key) → ((k : Key) → value_at n k ≡ cond (key_eq key k) (Some Never) (value_at m k))
+    → IsSome (value_at n key)
+room_there m n key put = ap is_some (put key ∙ ap (λ b. cond b (Some Never) (value_at m key)) (key_itself key))

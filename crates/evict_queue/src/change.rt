@@ -72,13 +72,10 @@ pub(crate) fn settle(dues: &mut Dues, timed: &mut Timed, key: Key, due: Due)
     ensures rooms { (k : Key) → key_eq key k ≡ false → room_of dues.new k ≡ room_of dues.old k }
     ensures timed { (time : ℕ) (k : Key) → has_entry timed.new time k ≡ (not (key_eq key k && (is_time time (due_of dues.old key) && not (is_time time due))) && has_entry timed.old time k) }
 {
-    let old = dues.get(&key);
-    match due {
+    let old = match due {
         Due::At(_) => dues.put(key, due),
-        Due::Never => {
-            let _ = dues.remove(&key);
-        }
-    }
+        Due::Never => dues.remove(&key),
+    };
     if let Due::At(time) = old {
         if old != due {
             timed.remove(time, key);

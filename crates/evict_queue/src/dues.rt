@@ -1,15 +1,15 @@
 // The due of each pod, by its key.
 ghost use Rattle.std.specs.Prelude.{◌≡◌, None, Some, IsSome, OnOk, OnErr, if◌then◌else◌};
 
+use key_map::KeyMap;
 use kube_base::NoMemory;
 use kube_objects::{Due, Key};
 use std::alloc::Global;
-use std::collections::BTreeMap;
 
 /// The due of each pod. A pod whose due is Never may have room or none.
-#[derive(Debug, Drop)]
+#[derive(Drop)]
 pub(crate) struct Dues {
-    map: BTreeMap<Key, Due>,
+    map: KeyMap<Due>,
 }
 
 impl Dues {
@@ -23,7 +23,7 @@ impl Dues {
         ensures { (k : Key) → room_of result k ≡ None }
     {
         Dues {
-            map: BTreeMap::new(alloc),
+            map: KeyMap::new(alloc),
         }
     }
 
@@ -53,21 +53,26 @@ impl Dues {
         ensures rooms { (k : Key) → IsSome (room_of self.old k) → IsSome (room_of self.new k) }
         ensures same { (k : Key) → due_of self.new k ≡ due_of self.old k }
     {
-        if self.map.contains_key(&key) {
-            return Ok(());
+        match self.map.get(&key) {
+            Some(_) => Ok(()),
+            None => {
+                self.map.insert(key, Due::Never)?;
+                Ok(())
+            }
         }
-        self.map.insert(key, Due::Never)?;
-        Ok(())
     }
 
-    /// Sets the due of a pod for which there is room.
-    pub(crate) fn put(&mut self, key: Key, due: Due)
+    /// Sets the due of a pod for which there is room, and answers the due before.
+    pub(crate) fn put(&mut self, key: Key, due: Due) -> Due
         requires { IsSome (room_of self.old key) }
-        ensures { (k : Key) → room_of self.new k ≡ (if key_eq key k then Some due else room_of self.old k) }
+        ensures due { result ≡ due_of self.old key }
+        ensures put { (k : Key) → room_of self.new k ≡ (if key_eq key k then Some due else room_of self.old k) }
     {
-        let Ok(_) = self.map.insert(key, due) else {
-            unreachable!()
-        };
+        match self.map.insert(key, due) {
+            Ok(Some(old)) => old,
+            Ok(None) => Due::Never,
+            Err(NoMemory) => unreachable!(),
+        }
     }
 
     /// Takes a pod's due out, with its room.

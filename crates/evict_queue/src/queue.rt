@@ -12,7 +12,7 @@ use std::alloc::Global;
 /// The due of each pod, and the pods with a due time in the order of these times. A pod that was never set is due never.
 ///
 /// Each call costs the logarithm of the pods that have a due time, `node_changed` once for each pod of its list.
-#[derive(Debug, Drop)]
+#[derive(Drop)]
 pub struct EvictQueue {
     dues: Dues,
     timed: Timed,

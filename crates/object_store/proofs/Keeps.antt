@@ -1,21 +1,20 @@
 -- How a write of the map is a write of the history.
 use Rattle.std.proofs.Common.{◌≡◌, ℕ, ◌+◌, Bool, true, false, cond, List, [], ◌∷◌, ◌++◌, Option, Some, None, Result, Ok, Err, IfOk, IfErr, OnOk, refl, sym, ap, ◌∙◌, vec_len, subst}
-use Rattle.std.specs.BTreeMap.{get, Updates}
 use Rattle.kube_base.specs.declared.numbers.Version.{Version}
-use Rattle.kube_objects.specs.contracts.key.KeyOrd.TheImpl as key_ord
 use Rattle.kube_objects.specs.declared.call.Reply.TheVariants as reply
 use Rattle.kube_objects.specs.declared.key.Key.{Key}
 use Rattle.kube_objects.specs.declared.object.Object.{Object}
 use Rattle.kube_objects.specs.Entry.{Entry}
-use Rattle.kube_objects.specs.Keys.{key_cmp, key_eq}
+use Rattle.kube_objects.specs.Keys.{key_eq}
 use Rattle.kube_objects.specs.Newest.{added, has, when, join}
 use Rattle.kube_objects.specs.Stored.{Held, Write, stored, writes, write_of, next_version, holds, at_key, last_write}
-use Rattle.kube_objects.proofs.KeyOrder.{key_order}
+use Rattle.key_map.specs.Values.{value_at}
 use Rattle.object_store.specs.declared.faults.StoreFault.{StoreFault}
 use Rattle.object_store.specs.declared.faults.StoreFault.TheVariants as fault
 use Rattle.object_store.specs.declared.store.Store.{Store}
-use Rattle.object_store.specs.Stands.{StoreStands, Writes, SameStore, kept_as, shown_in}
+use Rattle.object_store.specs.Stands.{StoreStands, Writes, SameStore, kept_as}
 use Rattle.object_store.specs.StoreAnswers.{and_key, changed_keys, kept_of, Told}
+use Rattle.object_store.proofs.KeptLaws.{IsAfter}
 
 -- ---- the history's words at one more entry
 
@@ -39,7 +38,7 @@ stands_after h e old new key content s w is =
     record {
       objects = λ q.
           w.objects q
-          ∙ ap (λ n. cond (key_eq key q) (kept_as (n + 1) content) (get key_cmp old.objects q)) s.count
+          ∙ ap (λ n. cond (key_eq key q) (kept_as (n + 1) content) (value_at old.objects q)) s.count
           ∙ ap (λ x. cond (key_eq key q) (kept_as (writes h + 1) content) x) (s.objects q)
           ∙ sym (kept-write q h e key content is);
       changes = w.changes ∙ ap (λ keys. keys ++ key ∷ []) s.changes ∙ ap (λ w. and_key w (changed_keys h)) (sym is);
@@ -61,16 +60,28 @@ store-beside h e s stands none =
 
 -- ---- the map's own clauses, in the words of the store
 
-pub writes_map : (old new : Store) (key : Key) (content : Option Object) (n : ℕ) → n ≡ vec_len old.changes + 1 → vec_len new.changes ≡ n → new.changes.items ≡ old.changes.items ++ key ∷ [] → Updates (key_ord.cmp-value).it old.objects new.objects key (kept_as n content) → Writes old new key content
-writes_map old new key content n is len items u =
+pub writes_map : (old new : Store) (key : Key) (content : Option Object) (n : ℕ) → n ≡ vec_len old.changes + 1
+    → vec_len new.changes ≡ n → new.changes.items ≡ old.changes.items ++ key ∷ []
+    → IsAfter old.objects new.objects key (kept_as n content) → Writes old new key content
+writes_map old new key content n is len items after =
     record {
-      objects = λ q. (subst (λ cmp. Updates cmp old.objects new.objects key (kept_as n content)) key_order u).0 q ∙ ap (λ m. cond (key_eq key q) (kept_as m content) (get key_cmp old.objects q)) is;
+      objects = λ q. after q ∙ ap (λ m. cond (key_eq key q) (kept_as m content) (value_at old.objects q)) is;
       changes = items;
       count = len ∙ is;
     }
 
-pub found_at : (s : Store) (key : Key) → get (key_ord.cmp-value).it s.objects key ≡ shown_in s key
-found_at s key = ap (λ cmp. get cmp s.objects key) key_order
+-- where a write was refused, nothing is said of its version
+pub written : {E : Type 0} (old new found : Store) (key : Key) (content : Option Object) (r : Result Version E) (v : Version)
+    → r ≡ Ok v → found ≡ new → Writes old new key content × (v.0 ≡ vec_len old.changes + 1)
+    → IfOk r (λ v. Writes old found key content × (v.0 ≡ vec_len old.changes + 1))
+written old new found key content r v is same w =
+    subst (λ r. IfOk r (λ v. Writes old found key content × (v.0 ≡ vec_len old.changes + 1))) (sym is)
+    (subst (λ s. Writes old s key content × (v.0 ≡ vec_len old.changes + 1)) (sym same) w)
+
+pub not_written : {E : Type 0} (old found : Store) (key : Key) (content : Option Object) (r : Result Version E) (e : E) → r ≡ Err e
+    → IfOk r (λ v. Writes old found key content × (v.0 ≡ vec_len old.changes + 1))
+not_written old found key content r e is =
+    subst (λ r. IfOk r (λ v. Writes old found key content × (v.0 ≡ vec_len old.changes + 1))) (sym is) tt
 
 -- ---- answers
 

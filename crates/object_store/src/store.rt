@@ -1,7 +1,7 @@
 // The store: a map from keys to objects with their versions, and the key of each accepted write.
 ghost use Rattle.std.specs.Prelude.{◌≡◌, ◌+◌, ◌≤◌, ◌∷◌, [], true, length, List, Option, Some, None, IfOk, OnOk, IfErr, OnErr};
-ghost use Rattle.std.specs.Prelude.{option_copied, vec_len, drop};
-ghost use Rattle.std.specs.BTreeMap.{get};
+ghost use Rattle.std.specs.Prelude.{option_copied, vec_len, drop, if◌then◌else◌};
+ghost use Rattle.std.specs.BTreeSet.{contains};
 ghost use Rattle.std.specs.List.Sorted.{IsStrictlySortedBy};
 ghost use Rattle.std.specs.Map.{keys_of, lookup};
 ghost use Rattle.kube_objects.specs.Answers.{answer, written};
@@ -9,7 +9,7 @@ ghost use Rattle.kube_objects.specs.Answers as answers;
 ghost use Rattle.kube_objects.specs.Clocks.{whole_second};
 ghost use Rattle.kube_objects.specs.Deletes.{answer_delete};
 ghost use Rattle.kube_objects.specs.Entry.{Entry};
-ghost use Rattle.kube_objects.specs.Feeds.{shown_pair};
+ghost use Rattle.kube_objects.specs.Feeds.{is_among, shown_pair};
 ghost use Rattle.kube_objects.specs.Keys.{key_cmp, key_eq};
 ghost use Rattle.kube_objects.specs.Kinds.{IsOfKind, keeps_kind};
 ghost use Rattle.object_store.specs.Kept.{AreAmong, AreOfKinds};
@@ -22,15 +22,16 @@ ghost use Rattle.kube_objects.specs.declared.key.Key.{Key};
 
 use crate::replies::{found, told, told_post};
 use crate::{Posted, Since, StoreFault, stamp, status};
+use key_map::KeyMap;
 use kube_base::{NoMemory, Version, Wall, whole_second};
 use kube_objects::{Feed, Items, Key, Kind, Node, Object, ReadyStatus, Reply, Request};
 use std::alloc::Global;
-use std::collections::BTreeMap;
+use std::collections::BTreeSet;
 
 /// Objects under their keys, each with the version of its last write. The store's version is the number of accepted writes.
 #[derive(Drop)]
 pub struct Store {
-    objects: BTreeMap<Key, (Version, Object)>,
+    objects: KeyMap<(Version, Object)>,
     changes: Vec<Key>,
     ghost kinds: { AreOfKinds objects },
     ghost among: { AreAmong changes.items objects },
@@ -38,15 +39,15 @@ pub struct Store {
 
 impl Store {
     ghost use Rattle.object_store.specs.StoreAnswers.{Told, ToldPost, UnlessPosted, answer_remove, kept_of, object_of, changed_keys};
-    ghost use Rattle.object_store.specs.Stands.{StoreStands, Writes, SameStore, shown_in, version_in, node_in_pair, changed_in};
-    ghost use Rattle.object_store.specs.Stands.{start_since, keys_since, shown_since};
+    ghost use Rattle.object_store.specs.Stands.{StoreStands, Writes, SameStore, shown_in, version_in, changed_in};
+    ghost use Rattle.object_store.specs.Stands.{node_in_pair, object_in_pair, start_since, keys_since, shown_since};
 
     /// Holds nothing; its version is 0.
     pub fn new(alloc: Global) -> Store
         ensures { StoreStands [] result }
     {
         Store {
-            objects: BTreeMap::new(alloc),
+            objects: KeyMap::new(alloc),
             changes: Vec::new(alloc),
         }
     }
@@ -210,17 +211,41 @@ impl Store {
         }
     }
 
-    /// All objects with their keys, in the order of keys. Each is a copy.
+    /// All objects with their keys, in the order of keys. Each is a copy. It looks at each change once and orders the keys
+    /// of all changes, and so costs more than there are objects where keys were removed or written often.
     pub fn objects(&self) -> Result<Items, NoMemory>
         ensures ascend { IfOk result (λ items. IsStrictlySortedBy key_cmp (keys_of items)) }
         ensures stored { (h : List Entry) (key : Key) → StoreStands h self.now
             → IfOk result (λ items. lookup (key_eq key) items ≡ object_of (stored key h)) }
     {
+        let keys = self.keys_in_order()?;
+        self.stored_under(&keys)
+    }
+
+    /// Copies of what is stored under these keys, in their order.
+    fn stored_under(&self, keys: &BTreeSet<Key>) -> Result<Items, NoMemory>
+        ensures ascend { IfOk result (λ items. IsStrictlySortedBy key_cmp (keys_of items)) }
+        ensures stored { (key : Key) → IfOk result (λ items. lookup (key_eq key) items
+            ≡ (if contains key_cmp keys.now key then object_in_pair (shown_in self.now key) else None)) }
+    {
         let mut items = Items::new(*self.changes.allocator());
-        for (key, kept) in self.objects.iter() {
-            items.push((*key, kept.1.copy()?))?;
+        for key in keys.iter() {
+            if let Some(kept) = self.objects.get(key) {
+                items.push((*key, kept.1.copy()?))?;
+            }
         }
         Ok(items)
+    }
+
+    /// The keys of all changes, each once.
+    fn keys_in_order(&self) -> Result<BTreeSet<Key>, NoMemory>
+        ensures { IfOk result (λ keys. (key : Key) → contains key_cmp keys key ≡ is_among (changed_in self.now) key) }
+    {
+        let mut keys = BTreeSet::new(*self.changes.allocator());
+        for key in self.changes.iter() {
+            keys.insert(*key)?;
+        }
+        Ok(keys)
     }
 
     /// The changes from a position on. Costs nothing.

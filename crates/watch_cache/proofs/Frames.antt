@@ -9,7 +9,7 @@ use Rattle.kube_objects.specs.Entry.{Entry, Identity, Deed, Ticks, Tick, Sync, a
 use Rattle.kube_objects.specs.Identities.{is_by}
 use Rattle.kube_objects.specs.Keys.{key_eq}
 use Rattle.kube_objects.specs.Newest.{newest, added, when, only_if, join, or_else, or_zero}
-use Rattle.kube_objects.specs.Seen.{tick_shows, seen_says, seen, synced_says, stale_tick, stale_says}
+use Rattle.kube_objects.specs.Seen.{tick_shows, seen_says, synced_says, stale_tick, stale_says}
 use Rattle.kube_objects.specs.Stored.{Held, holds, at_key, tick_write, writes, next_version}
 use Rattle.kube_objects.specs.Tick.{add}
 use Rattle.watch_cache.specs.declared.cache.Cache.{Cache}

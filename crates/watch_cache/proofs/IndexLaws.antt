@@ -41,45 +41,44 @@ in_one test objects w k true none = ap (λ x. test w || x) none ∙ or_false (te
     or_false false = refl
 in_one test objects w k false none = refl
 
+-- the index without what is under a key
+out_node : (objects : Shown) (old : Index) (key : Key) (n : ℕ) → IsIndexed objects old
+    → (not (key_eq key (node_key n) && is_node_in (objects key)) && has_node old n) ≡ is_node_in (with key None objects (node_key n))
+out_node objects old key n s =
+    ap (λ x. not (key_eq key (node_key n) && is_node_in (objects key)) && x) (s.nodes n)
+    ∙ out_one is_node_in objects key (node_key n) (key_eq key (node_key n)) refl (same_key key (node_key n))
+
+out_pod : (objects : Shown) (old : Index) (key : Key) (n : ℕ) (k : Key) → IsIndexed objects old
+    → (not (is_pod_in n (objects key) && key_eq key k) && has_pod old n k) ≡ is_pod_in n (with key None objects k)
+out_pod objects old key n k s =
+    ap (λ x. not (is_pod_in n (objects key) && key_eq key k) && x) (s.pods n k)
+    ∙ ap (λ x. not x && is_pod_in n (objects k)) (swapped (is_pod_in n (objects key)) (key_eq key k))
+    ∙ out_one (is_pod_in n) objects key k (key_eq key k) refl (same_key key k)
+
 -- what is under a key was taken out
 pub indexed_out : (objects : Shown) (old new : Index) (key : Key) → IsIndexed objects old
     → ((n : ℕ) → has_node new n ≡ (not (key_eq key (node_key n) && is_node_in (objects key)) && has_node old n))
     → ((n : ℕ) (k : Key) → has_pod new n k ≡ (not (is_pod_in n (objects key) && key_eq key k) && has_pod old n k))
     → IsIndexed (with key None objects) new
-indexed_out objects old new key s nodes pods =
-    record {
-      nodes = λ n.
-          nodes n
-          ∙ ap (λ x. not (key_eq key (node_key n) && is_node_in (objects key)) && x) (s.nodes n)
-          ∙ out_one is_node_in objects key (node_key n) (key_eq key (node_key n)) refl (same_key key (node_key n));
-      pods = λ n k.
-          pods n k
-          ∙ ap (λ x. not (is_pod_in n (objects key) && key_eq key k) && x) (s.pods n k)
-          ∙ ap (λ x. not x && is_pod_in n (objects k)) (swapped (is_pod_in n (objects key)) (key_eq key k))
-          ∙ out_one (is_pod_in n) objects key k (key_eq key k) refl (same_key key k);
-    }
+indexed_out objects old new key s nodes pods = record { nodes = λ n. nodes n ∙ out_node objects old key n s; pods = λ n k. pods n k ∙ out_pod objects old key n k s }
 
--- an object was put under a key where there was none
-pub indexed_in : (objects : Shown) (old new : Index) (key : Key) (w : Option (Version × Object)) → IsIndexed (with key None objects) old
-    → ((n : ℕ) → has_node new n ≡ ((key_eq key (node_key n) && is_node_in w) || has_node old n))
-    → ((n : ℕ) (k : Key) → has_pod new n k ≡ ((is_pod_in n w && key_eq key k) || has_pod old n k))
+-- an object was put under a key, in the place of what was there
+pub indexed_over : (objects : Shown) (old new : Index) (key : Key) (w : Option (Version × Object)) → IsIndexed objects old
+    → ((n : ℕ) → has_node new n ≡ ((key_eq key (node_key n) && is_node_in w) || (not (key_eq key (node_key n) && is_node_in (objects key)) && has_node old n)))
+    → ((n : ℕ) (k : Key) → has_pod new n k ≡ ((is_pod_in n w && key_eq key k) || (not (is_pod_in n (objects key) && key_eq key k) && has_pod old n k)))
     → IsIndexed (with key w objects) new
-indexed_in objects old new key w s nodes pods =
+indexed_over objects old new key w s nodes pods =
     record {
       nodes = λ n.
           nodes n
-          ∙ ap (λ x. (key_eq key (node_key n) && is_node_in w) || x) (s.nodes n)
+          ∙ ap (λ x. (key_eq key (node_key n) && is_node_in w) || x) (out_node objects old key n s)
           ∙ in_one is_node_in objects w (node_key n) (key_eq key (node_key n)) refl;
       pods = λ n k.
           pods n k
-          ∙ ap (λ x. (is_pod_in n w && key_eq key k) || x) (s.pods n k)
+          ∙ ap (λ x. (is_pod_in n w && key_eq key k) || x) (out_pod objects old key n k s)
           ∙ ap (λ x. x || is_pod_in n (cond (key_eq key k) None (objects k))) (swapped (is_pod_in n w) (key_eq key k))
           ∙ in_one (is_pod_in n) objects w k (key_eq key k) refl;
     }
-
--- an index that lists the same
-pub indexed_same : (objects : Shown) (old new : Index) → IsIndexed objects old → ((n : ℕ) → has_node new n ≡ has_node old n) → ((n : ℕ) (k : Key) → has_pod new n k ≡ has_pod old n k) → IsIndexed objects new
-indexed_same objects old new s nodes pods = record { nodes = λ n. nodes n ∙ s.nodes n; pods = λ n k. pods n k ∙ s.pods n k }
 
 -- the same objects
 pub indexed_as : (one other : Shown) (index : Index) → IsIndexed one index → ((k : Key) → other k ≡ one k) → IsIndexed other index
@@ -92,3 +91,35 @@ with_with objects key k w = by_test (key_eq key k)
     by_test : (b : Bool) → cond b None (cond b w (objects k)) ≡ cond b None (objects k)
     by_test true = refl
     by_test false = refl
+
+-- what is listed already, and stays
+pub stays : (listed test has : Bool) → listed ≡ test → (test ≡ true → has ≡ true) → has ≡ (listed || (not test && has))
+stays true true has is there = there refl
+stays true false has is there = absurd (cc)
+stays false true has is there = absurd (cc)
+stays false false has is there = refl
+
+first_of : (b c : Bool) → (b && c) ≡ true → b ≡ true
+first_of true c is = refl
+first_of false c is = is
+
+second_of : (b c : Bool) → (b && c) ≡ true → c ≡ true
+second_of true c is = is
+second_of false c is = absurd (cc)
+
+-- what is under a key is listed
+pub node_there : (objects : Shown) (index : Index) (key : Key) (was : Option (Version × Object)) (n : ℕ) → IsIndexed objects index → was ≡ objects key
+    → (key_eq key (node_key n) && is_node_in was) ≡ true → has_node index n ≡ true
+node_there objects index key was n s old there =
+    s.nodes n
+    ∙ ap (λ k. is_node_in (objects k)) (sym (same_key key (node_key n) (first_of (key_eq key (node_key n)) (is_node_in was) there)))
+    ∙ ap is_node_in (sym old)
+    ∙ second_of (key_eq key (node_key n)) (is_node_in was) there
+
+pub pod_there : (objects : Shown) (index : Index) (key : Key) (was : Option (Version × Object)) (n : ℕ) (k : Key) → IsIndexed objects index → was ≡ objects key
+    → (is_pod_in n was && key_eq key k) ≡ true → has_pod index n k ≡ true
+pod_there objects index key was n k s old there =
+    s.pods n k
+    ∙ ap (λ x. is_pod_in n (objects x)) (sym (same_key key k (second_of (is_pod_in n was) (key_eq key k) there)))
+    ∙ ap (is_pod_in n) (sym old)
+    ∙ first_of (is_pod_in n was) (key_eq key k) there

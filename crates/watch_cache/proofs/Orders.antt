@@ -1,15 +1,11 @@
--- The derived orders of the maps' keys are those that the definitions name.
-use Rattle.std.proofs.Common.{◌≡◌, ℕ, Bool, true, false, cond, not, ◌&&◌, ◌||◌, ◌==◌, Option, refl, ap, ◌∙◌, subst, arith, Less, Equal, Greater}
+-- The derived orders of the sets' keys are those that the definitions name.
+use Rattle.std.proofs.Common.{◌≡◌, ℕ, Bool, true, false, cond, not, ◌&&◌, ◌||◌, ◌==◌, refl, ap, ◌∙◌, subst, arith, Less, Equal, Greater}
 use Rattle.std.proofs.lemmas.Bool.Decides.{nat_tests}
 use Rattle.std.specs.Ordering.{nat_cmp, ordering_then, is_eq}
 use Rattle.std.specs.declared.cmp.Ordering.{Ordering}
-use Rattle.std.specs.BTreeMap as tree
-use Rattle.std.specs.BTreeMap.{BTreeMap}
 use Rattle.std.specs.BTreeSet as set
 use Rattle.std.specs.BTreeSet.{BTreeSet}
-use Rattle.kube_base.specs.declared.numbers.Version.{Version}
 use Rattle.kube_objects.specs.declared.key.Key.{Key}
-use Rattle.kube_objects.specs.declared.object.Object.{Object}
 use Rattle.kube_objects.specs.contracts.key.KeyOrd.TheImpl as key_ord
 use Rattle.kube_objects.specs.Keys.{key_cmp, key_eq}
 use Rattle.kube_objects.proofs.KeyOrder.{key_order}
@@ -59,11 +55,3 @@ added_key s n key u k = (subst (λ cmp. set.Updates cmp s n key true) key_order 
 -- what a set has, by either order
 pub key_there : (s : BTreeSet Key) (key : Key) → set.contains (key_ord.cmp-value).it s key ≡ set.contains key_cmp s key
 key_there s key = ap (λ cmp. set.contains cmp s key) key_order
-
--- an object was put, or taken out
-pub updated : (m n : BTreeMap Key (Version × Object)) (key : Key) (w : Option (Version × Object)) → tree.Updates (key_ord.cmp-value).it m n key w → (k : Key) → tree.get key_cmp n k ≡ cond (key_eq key k) w (tree.get key_cmp m k)
-updated m n key w u k = (subst (λ cmp. tree.Updates cmp m n key w) key_order u).0 k
-
--- what a map has, by either order
-pub got : (m : BTreeMap Key (Version × Object)) (key : Key) → tree.get (key_ord.cmp-value).it m key ≡ tree.get key_cmp m key
-got m key = ap (λ cmp. tree.get cmp m key) key_order

@@ -17,9 +17,12 @@ use std::collections::BTreeSet;
 
 /// What a term has seen of the store: what was stored at its last sync, and its own accepted writes since.
 ///
-/// A sync takes over what changed since the last one and looks at nothing else. Each other call costs the logarithm of
-/// the objects that are kept, and a list besides the names or keys that it gives. A pod is listed for the node that
-/// its latest version names. Where an answer is `NoMemory` of a call that changes the cache, the cache may only be dropped.
+/// A sync takes over what changed since the last one and looks at nothing else. A look-up costs the same however many
+/// objects are kept, and so does an own write that moves no object in the lists; one that moves an object costs the
+/// logarithm of the nodes or pods. A list of pods costs that logarithm and the keys that it gives, and the names of the
+/// nodes cost as many as they are. To make a key stale, or to ask whether it is, costs the logarithm of the stale keys.
+/// A pod is listed for the node that its latest version names. Where an answer is `NoMemory` of a call that changes the
+/// cache, the cache may only be dropped.
 #[derive(Drop)]
 pub struct Cache {
     objects: Objects,

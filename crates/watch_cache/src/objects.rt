@@ -1,29 +1,30 @@
 // Objects with their versions, and the index of them.
-ghost use Rattle.std.specs.Prelude.{◌≡◌, ℕ, ◌&&◌, not, Some, None, IfOk, OnOk, length, if◌then◌else◌};
+ghost use Rattle.std.specs.Prelude.{◌≡◌, ℕ, ◌&&◌, ◌||◌, not, true, Some, None, IfOk, OnOk, OnErr, length, if◌then◌else◌};
 ghost use Rattle.std.specs.List.Sorted.{IsStrictlySortedBy};
 ghost use Rattle.std.specs.Ordering.{nat_cmp};
 ghost use Rattle.kube_objects.specs.Feeds.{shown_pair};
-ghost use Rattle.std.specs.BTreeMap.{get};
 ghost use Rattle.kube_objects.specs.Keys.{key_cmp, key_eq};
 ghost use Rattle.kube_objects.specs.Stored.{node_key};
 ghost use Rattle.kube_objects.specs.declared.key.Key.{Key};
+ghost use Rattle.key_map.specs.Values.{value_at};
 ghost use Rattle.watch_cache.specs.Indexed.{IsIndexed};
 ghost use Rattle.watch_cache.specs.Kept.{is_node_in, is_pod_in};
-ghost use Rattle.watch_cache.specs.Listed.{has_node, has_pod};
+ghost use Rattle.watch_cache.specs.Listed.{has_node, has_pod, lists_node, lists_pod};
 
 use crate::index::Index;
-use crate::listing::listed_as;
+use crate::listing::{Listing, listed_as};
+use key_map::KeyMap;
 use kube_base::{NoMemory, Steps, Version};
 use kube_objects::{Changed, Key, KeyList, NumberList, Object};
 use std::alloc::Global;
-use std::collections::BTreeMap;
 
-/// Objects under their keys, each with a version. The index lists just these.
+/// Objects under their keys, each with a version. The index lists just these. It is changed only where an object comes,
+/// goes or moves, so that to put an object where it was costs the same however many there are.
 #[derive(Drop)]
 pub(crate) struct Objects {
-    map: BTreeMap<Key, (Version, Object)>,
+    map: KeyMap<(Version, Object)>,
     index: Index,
-    ghost indexed: { IsIndexed (get key_cmp map) index },
+    ghost indexed: { IsIndexed (value_at map) index },
 }
 
 // A copy of what is shown.
@@ -46,6 +47,34 @@ fn unlist(index: &mut Index, key: Key, old: Option<(Version, Object)>)
     }
 }
 
+// The index lists an object's listing in the place of the old object's. Where they are one it is left as it is.
+fn relist(
+    index: &mut Index,
+    key: Key,
+    old: Option<(Version, Object)>,
+    entered: Listing,
+) -> Result<(), NoMemory>
+    requires nodes { (n : ℕ) → (key_eq key (node_key n) && is_node_in old) ≡ true → has_node index.old n ≡ true }
+    requires pods { (n : ℕ) (k : Key) → (is_pod_in n old && key_eq key k) ≡ true → has_pod index.old n k ≡ true }
+    ensures nodes { OnOk result ((n : ℕ)
+        → has_node index.new n ≡ (lists_node entered n || (not (key_eq key (node_key n) && is_node_in old) && has_node index.old n))) }
+    ensures pods { OnOk result ((n : ℕ) (k : Key)
+        → has_pod index.new n k ≡ (lists_pod entered n k || (not (is_pod_in n old && key_eq key k) && has_pod index.old n k))) }
+    ensures left_nodes { OnErr result ((n : ℕ)
+        → has_node index.new n ≡ (not (key_eq key (node_key n) && is_node_in old) && has_node index.old n)) }
+    ensures left_pods { OnErr result ((n : ℕ) (k : Key)
+        → has_pod index.new n k ≡ (not (is_pod_in n old && key_eq key k) && has_pod index.old n k)) }
+{
+    if let Some(old) = old {
+        let left = listed_as(key, &old.1);
+        if left == entered {
+            return Ok(());
+        }
+        index.leave(left);
+    }
+    index.enter(entered)
+}
+
 impl Objects {
     ghost use Rattle.kube_base.specs.Steps.{counted};
     ghost use Rattle.kube_objects.specs.Feeds.{is_among};
@@ -57,7 +86,7 @@ impl Objects {
         ensures { (k : Key) → object_at result k ≡ None }
     {
         Objects {
-            map: BTreeMap::new(alloc),
+            map: KeyMap::new(alloc),
             index: Index::new(alloc),
         }
     }
@@ -103,8 +132,7 @@ impl Objects {
     {
         let entered = listed_as(key, &object);
         let old = self.map.insert(key, (version, object))?;
-        unlist(&mut self.index, key, old);
-        match self.index.enter(entered) {
+        match relist(&mut self.index, key, old, entered) {
             Ok(()) => Ok(()),
             Err(NoMemory) => {
                 let _ = self.map.remove(&key);

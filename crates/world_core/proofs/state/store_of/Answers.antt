@@ -1,5 +1,5 @@
 use Rattle.std.proofs.Common.{All, ◌≡◌, ◌+◌, ◌*◌, ◌++◌, ℕ, [], ◌∷◌, Some, take, sym, ap, ◌∙◌, subst, arith}
-use Rattle.std.proofs.lemmas.List.{take_more}
+use Rattle.std.proofs.lemmas.List.{take_more, take_all}
 use Rattle.std.proofs.lemmas.List.Elements.{All-get_or}
 use Rattle.kube_objects.specs.declared.key.Key.{Key}
 use Rattle.kube_objects.specs.declared.object.Object.{Object}
@@ -34,3 +34,9 @@ loop-item-preserved c = λ doc epoch. (
     let write = ap (λ n. Some (as_write n x.1)) wall ∙ ap (λ o. Some (as_write c.args.epoch.0 o)) (sym c.in_ok-copy.ensures) in
     let more : put_all doc (take (i + 1) xs) [] ≡ put_first doc x ∷ put_all doc (take i xs) [] = ap (λ ys. put_all doc ys []) (take_more xs i x c.loop-item-test.true ∙ ap (λ y. take i xs ++ y ∷ []) (sym c.item-item.is)) ∙ put-more doc (take i xs) x [] in
     subst (λ g. StoreStands g c.put.new.self) (sym more) (c.in_ok-put.ensures.ok (put_all doc (take i xs) []) (put_first doc x) (c.loop-item.invariant doc epoch) write))
+
+pub returns : goal.returns
+returns c = λ doc epoch. (
+    let xs = c.as_slice-item-items.result.now in
+    let end = take_all c.loop-item.item-index xs (omega (arith, c.loop-item-test.false)) ∙ c.as_slice-item-items.ensures in
+    subst (λ ys. StoreStands (put_all doc ys []) c.loop-item.store) end (c.loop-item.invariant doc epoch))

@@ -1,4 +1,4 @@
-use Rattle.std.proofs.Common.{◌≡◌, ◌+◌, ◌++◌, length}
+use Rattle.std.proofs.Common.{◌≡◌, ◌++◌, length}
 use Rattle.kube_base.specs.Steps.{counted}
 use Rattle.watch_cache.proofs.Lists.{front_of, ranged}
 use Rattle.watch_cache.proofs.index.Index.pods_of.Given as goal

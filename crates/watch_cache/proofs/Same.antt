@@ -1,0 +1,58 @@
+-- Listings that the derived test tells equal are one.
+use Rattle.std.proofs.Common.{◌≡◌, ℕ, ◌&&◌, ◌==◌, Bool, true, false, refl, ap, arith}
+use Rattle.std.proofs.lemmas.Bool.Decides.{nat_tests}
+use Rattle.kube_objects.specs.declared.key.Key.{Key}
+use Rattle.kube_objects.specs.declared.key.Kind.{Kind}
+use Rattle.kube_objects.specs.declared.key.Kind.TheVariants as kind
+use Rattle.kube_objects.specs.contracts.key.KeyPartialEq.TheImpl as keys
+use Rattle.kube_objects.specs.contracts.key.KindPartialEq.TheImpl as kinds
+use Rattle.watch_cache.specs.declared.listing.Listing.{Listing}
+use Rattle.watch_cache.specs.declared.listing.Listing.TheVariants.{Nowhere, Node, Pod}
+use Rattle.watch_cache.specs.contracts.listing.ListingPartialEq.TheImpl as listings
+
+same_kind : (a b : Kind) → (kinds.eq-value).it a b ≡ true → a ≡ b
+same_kind kind.Node kind.Node is = refl
+same_kind kind.Node kind.Lease is = absurd (cc)
+same_kind kind.Node kind.Pod is = absurd (cc)
+same_kind kind.Lease kind.Node is = absurd (cc)
+same_kind kind.Lease kind.Lease is = refl
+same_kind kind.Lease kind.Pod is = absurd (cc)
+same_kind kind.Pod kind.Node is = absurd (cc)
+same_kind kind.Pod kind.Lease is = absurd (cc)
+same_kind kind.Pod kind.Pod is = refl
+
+first_of : (b c : Bool) → (b && c) ≡ true → b ≡ true
+first_of true c is = refl
+first_of false c is = is
+
+second_of : (b c : Bool) → (b && c) ≡ true → c ≡ true
+second_of true c is = is
+second_of false c is = absurd (cc)
+
+same_number : (a b : ℕ) → (a == b) ≡ true → a ≡ b
+same_number a b is = grind (arith, nat_tests)
+
+key_parts : (a b : Key) → (keys.eq-value).it a b ≡ ((kinds.eq-value).it a.kind b.kind && ((a.space == b.space) && (a.name == b.name)))
+key_parts a b = refl
+
+same_key : (a b : Key) → (keys.eq-value).it a b ≡ true → a ≡ b
+same_key a b is =
+    let kind : a.kind ≡ b.kind = same_kind a.kind b.kind (first_of ((kinds.eq-value).it a.kind b.kind) ((a.space == b.space) && (a.name == b.name)) is) in
+    let rest : ((a.space == b.space) && (a.name == b.name)) ≡ true = second_of ((kinds.eq-value).it a.kind b.kind) ((a.space == b.space) && (a.name == b.name)) is in
+    let space : a.space ≡ b.space = same_number a.space b.space (first_of (a.space == b.space) (a.name == b.name) rest) in
+    let name : a.name ≡ b.name = same_number a.name b.name (second_of (a.space == b.space) (a.name == b.name) rest) in
+    λ i. record { kind = kind i; space = space i; name = name i }
+
+pub same_listing : (a b : Listing) → (listings.eq-value).it a b ≡ true → a ≡ b
+same_listing Nowhere Nowhere is = refl
+same_listing Nowhere (Node m) is = absurd (cc)
+same_listing Nowhere (Pod m k) is = absurd (cc)
+same_listing (Node m) Nowhere is = absurd (cc)
+same_listing (Node m) (Node n) is = ap Node (same_number m n is)
+same_listing (Node m) (Pod n k) is = absurd (cc)
+same_listing (Pod m k) Nowhere is = absurd (cc)
+same_listing (Pod m k) (Node n) is = absurd (cc)
+same_listing (Pod m k) (Pod n l) is =
+    let name : m ≡ n = same_number m n (first_of (m == n) ((keys.eq-value).it k l) is) in
+    let key : k ≡ l = same_key k l (second_of (m == n) ((keys.eq-value).it k l) is) in
+    λ i. Pod (name i) (key i)
