@@ -1,0 +1,9 @@
+mod Fresh
+mod Held
+mod Items
+mod Lawful
+mod Named
+mod Premised
+mod Ranges
+mod Sorting
+mod Steps

@@ -1,0 +1,12 @@
+//! Documents of a seed: a cluster with its kubelets and Pods, and crashes.
+#![tactic(auto)]
+
+mod crash;
+mod draw;
+mod generating;
+mod names;
+mod node;
+mod pod;
+mod process;
+
+pub use generating::generate;
