@@ -3,7 +3,7 @@ use crate::document::read_text;
 use crate::manifest::{holder_in, written_of};
 use crate::repeated::repeated;
 use crate::table::Kind;
-use crate::trial::{ample, both_write, ends, writes};
+use crate::trial::{Trial, ample, both_write, ends, writes};
 use kube_base::NoMemory;
 use replay_top::Status;
 use std::alloc::Global;
@@ -11,7 +11,8 @@ use std::alloc::Global;
 /// Whether a row holds, in a table of this kind with this form.
 pub(crate) fn holds(alloc: Global, kind: Kind, form: &str, row: &str) -> Result<bool, NoMemory> {
     match kind {
-        Kind::Words => usage_holds(alloc, form, row),
+        Kind::Words => words_hold(alloc, form, row, Status::Usage),
+        Kind::Lines => line_holds(alloc, row),
         _ => match row.split_once('\t') {
             Some((wanted, case)) => case_holds(alloc, kind, form, wanted, case),
             None => Ok(false),
@@ -68,13 +69,25 @@ fn many_hold(alloc: Global, parts: &str, line: &str) -> Result<bool, NoMemory> {
     }
 }
 
-/// Whether a run with the words of the row, each after a tab, writes the usage.
-fn usage_holds(alloc: Global, usage: &str, row: &str) -> Result<bool, NoMemory> {
+/// Whether a run with the words of the row writes what stands in front of them.
+fn line_holds(alloc: Global, row: &str) -> Result<bool, NoMemory> {
+    match row.split_once('\t') {
+        Some((wanted, _)) => words_hold(alloc, wanted, row, Status::Done),
+        None => Ok(false),
+    }
+}
+
+/// Whether a run with the words of the row, each after a tab, writes this and ends so, over a source that fails where it
+/// is read.
+fn words_hold(alloc: Global, wanted: &str, row: &str, status: Status) -> Result<bool, NoMemory> {
     let mut words = Vec::new(alloc);
     for word in row.split('\t').skip(1) {
         words.push(String::from_str(alloc, word)?)?;
     }
-    let line = line_of(alloc, usage)?;
-    let trial = ample(b"{}", line.len());
-    ends(alloc, &words, &trial, Status::Usage, line.as_bytes())
+    let line = line_of(alloc, wanted)?;
+    let trial = Trial {
+        fails: &[0],
+        ..ample(b"{}", line.len())
+    };
+    ends(alloc, &words, &trial, status, line.as_bytes())
 }

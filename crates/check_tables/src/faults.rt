@@ -1,4 +1,5 @@
 // One document over sources and sinks of all sorts.
+use crate::by_beats::is_trace;
 use crate::tally::Tally;
 use crate::trial::{Trial, ample, ends, one_word, writes};
 use kube_base::NoMemory;
@@ -10,9 +11,11 @@ const LARGEST: usize = 16_777_216;
 
 const COMMANDS: [&str; 2] = ["replay", "check"];
 
-/// Whether `replay` writes this trace of the document.
+/// Whether `replay` writes this trace of the document, and whether it is the trace where each beat is done.
 pub(crate) fn replays(alloc: Global, document: &str, trace: &str) -> Result<Tally, NoMemory> {
-    Ok(Tally::of(writes(alloc, "replay", document.as_bytes(), trace)?))
+    let mut tally = Tally::of(writes(alloc, "replay", document.as_bytes(), trace)?);
+    tally.add(is_trace(alloc, document, trace)?);
+    Ok(tally)
 }
 
 /// Runs a document that has this trace over sources and sinks that fail, cut and with blanks behind it.

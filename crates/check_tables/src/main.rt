@@ -1,6 +1,7 @@
 //! Runs the cases of the tables that the arguments name, and tells each that ends otherwise than its table says.
 #![tactic(auto)]
 
+mod by_beats;
 mod case;
 mod document;
 mod faults;

@@ -15,6 +15,8 @@ pub(crate) enum Kind {
     Many,
     /// The words of a run that writes the second line.
     Words,
+    /// What a run writes that needs no source, and its words.
+    Lines,
     /// What a document says, and the document.
     Read,
     /// Who the holder is, and a Lease's identity.
@@ -50,6 +52,7 @@ fn kind_of(line: &str) -> Option<Kind> {
         "place" => Some(Kind::Place),
         "many" => Some(Kind::Many),
         "words" => Some(Kind::Words),
+        "lines" => Some(Kind::Lines),
         "read" => Some(Kind::Read),
         "holder" => Some(Kind::Holder),
         "written" => Some(Kind::Written),

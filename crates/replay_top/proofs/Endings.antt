@@ -11,7 +11,8 @@ use Rattle.replay_top.specs.declared.task.Task.{Task}
 use Rattle.replay_top.specs.Tasks.{task_of}
 use Rattle.replay_top.specs.Traces.{trace}
 use Rattle.replay_top.specs.Summary.{summary}
-use Rattle.replay_top.specs.Outcome.{Outcome, outcome, outcome_of, answer_to, done, Ends, IsWhole}
+use Rattle.replay_top.specs.Outcome.{Outcome, outcome, outcome_of, answer_to, done, Ends, IsRunEnd, IsWhole}
+use Rattle.replay_top.specs.Replays.{IsUndone}
 
 pub ends-moved : (o p : Outcome) (now left before after : Option (List ℕ)) (s : Status) → p ≡ o → left ≡ now → Ends o now before after s → Ends p left before after s
 ends-moved o p now left before after s same rest ends =
@@ -51,3 +52,19 @@ ends-whole o left before after OutOfMemory calm taken ends = inr refl
 pub not-source : (s : Status) → (s ≡ Usage) ⊎ (s ≡ SinkFault) → ¬ (s ≡ SourceFault)
 not-source s (inl is) fault = let never : Usage ≡ SourceFault = sym is ∙ fault in cc
 not-source s (inr is) fault = let never : SinkFault ≡ SourceFault = sym is ∙ fault in cc
+
+pub run-end : (s : Status) → IsRunEnd s → ¬ (s ≡ SourceFault)
+run-end Done ended fault = let never : Done ≡ SourceFault = fault in cc
+run-end Refused ended fault = absurd ended
+run-end Usage ended fault = absurd ended
+run-end SourceFault ended fault = absurd ended
+run-end SinkFault ended fault = let never : SinkFault ≡ SourceFault = fault in cc
+run-end OutOfMemory ended fault = let never : OutOfMemory ≡ SourceFault = fault in cc
+
+pub run-undone : (s : Status) → IsRunEnd s → ¬ IsUndone s
+run-undone Done ended undone = absurd undone
+run-undone Refused ended undone = absurd ended
+run-undone Usage ended undone = absurd ended
+run-undone SourceFault ended undone = absurd ended
+run-undone SinkFault ended undone = absurd undone
+run-undone OutOfMemory ended undone = absurd undone

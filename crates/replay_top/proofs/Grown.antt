@@ -145,7 +145,7 @@ trace-next doc names processes k n deeds told =
     lines-more doc names processes (printed (history doc k)) deeds ∙ ap (λ x. first_of doc ++ lines_of names processes x) told
 
 -- the putting of the objects isn't printed
-put-silent : (doc : Doc) (items : List (Key × Object)) (h : List Entry) → printed (put_all doc items h) ≡ printed h
+pub put-silent : (doc : Doc) (items : List (Key × Object)) (h : List Entry) → printed (put_all doc items h) ≡ printed h
 put-silent doc [] h = refl
 put-silent doc (x ∷ xs) h =
     put-silent doc xs (script_entry 0 0 (First x.0 (stamped (whole_second (store_wall doc 0)) x.1)) ∷ h) ∙ append-nil (printed h)

@@ -5,3 +5,6 @@ pub mod Readings
 pub mod Askings
 pub mod Writables
 pub mod Endings
+pub mod Numbers
+pub mod Counted
+pub mod Added

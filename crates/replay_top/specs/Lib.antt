@@ -1,12 +1,15 @@
 pub mod Answerings
 pub mod Audited
 pub mod Commands
+pub mod Counts
+pub mod Generated
 pub mod Names
 pub mod Outcome
 pub mod Questions
 pub mod Readings
 pub mod Replays
 pub mod Runs
+pub mod Sizes
 pub mod Spoken
 pub mod Summary
 pub mod Tasks

@@ -15,6 +15,7 @@ use Rattle.replay_top.specs.declared.task.Task.{Task}
 use Rattle.replay_top.specs.declared.task.Task.TheVariants as task
 use Rattle.replay_top.specs.Tasks.{task_of}
 use Rattle.replay_top.specs.Audited.{report_text, refusal_of}
+use Rattle.replay_top.specs.Generated.{generated_line}
 use Rattle.replay_top.specs.Questions.{answer_of}
 use Rattle.replay_top.specs.Traces.{trace}
 use Rattle.replay_top.specs.Summary.{summary}
@@ -69,10 +70,15 @@ told (Err r) = refused r []
 unfoldable pub asked : Question → List ℕ → Outcome
 asked question bytes = if nat_le (length bytes) 16777216 then told (answer_of question bytes) else refused (of_whole 33) (drop 16777217 bytes)
 
+-- the source isn't read
+abbrev pub unread : List ℕ → List ℕ → Outcome
+unread text bytes = record { status = Done; text = text; left = bytes }
+
 abbrev pub performed : Task → List ℕ → Outcome
 performed (task.Document command) bytes = obeyed command bytes
 performed (task.Pods question) bytes = asked question bytes
 performed task.Audit bytes = audited bytes
+performed (task.Generate sizes) bytes = unread (generated_line sizes) bytes
 
 abbrev pub usage : List ℕ → Outcome
 usage bytes = record { status = Usage; text = codes "usage: kube_replay COMMAND\n"; left = bytes }
@@ -99,3 +105,10 @@ Ends o left before after Usage = IsWhole o left before after Usage
 Ends o left before after SourceFault = after ≡ before
 Ends o left before after SinkFault = Gave before after o.text
 Ends o left before after OutOfMemory = Gave before after o.text
+
+-- a run that needs no source was done, the sink failed, or memory was wanted
+abbrev pub IsRunEnd : Status → Type 0
+IsRunEnd Done = Unit {0}
+IsRunEnd SinkFault = Unit {0}
+IsRunEnd OutOfMemory = Unit {0}
+IsRunEnd _ = ⊥

@@ -1,14 +1,17 @@
 //! The commands: from bytes to the trace of a document, the line on it, the audit of a trace, the lines on some pods, or the one
-//! refusal.
+//! refusal, and from a seed to the line on the run of its document.
 #![tactic(auto)]
 
 mod asking;
 mod auditing;
 mod buffer;
 mod command;
+mod counts;
+mod generating;
 mod question;
 mod reading;
 mod running;
+mod sizes;
 mod status;
 mod summary;
 mod task;
@@ -17,6 +20,7 @@ mod trace;
 
 pub use running::run;
 pub use status::Status;
+pub use texts::process_names;
 
 #[cfg(test)]
 mod tests;

@@ -13,8 +13,11 @@ ghost use Rattle.script_reader.specs.Lawful.{IsLawfulDoc, IsWellNamed};
 ghost use Rattle.script_reader.specs.Walk.{document_walk};
 ghost use Rattle.trace_audit.specs.Alone.{entries_in, OneActs};
 ghost use Rattle.replay_top.specs.Commands.{command_of};
-ghost use Rattle.replay_top.specs.Tasks.{task_of};
-ghost use Rattle.replay_top.specs.Outcome.{outcome, usage, performed, obeyed, answer_to, refused, refusal_text, done, Ends, IsWhole};
+ghost use Rattle.replay_top.specs.Generated.{document_of, generated_line};
+ghost use Rattle.replay_top.specs.Sizes.{sizes_of};
+ghost use Rattle.replay_top.specs.Tasks.{IsRead, IsWithin, task_of};
+ghost use Rattle.replay_top.specs.Outcome.{outcome, usage, performed, obeyed, answer_to, refused, refusal_text, done};
+ghost use Rattle.replay_top.specs.Outcome.{Ends, IsWhole, IsRunEnd};
 ghost use Rattle.replay_top.specs.Replays.{Replays, IsUndone};
 ghost use Rattle.replay_top.specs.Traces.{trace};
 ghost use Rattle.replay_top.specs.Summary.{summary};
@@ -22,7 +25,9 @@ ghost use Rattle.replay_top.specs.Summary.{summary};
 use crate::asking::ask;
 use crate::auditing::audit_trace;
 use crate::command::Command;
+use crate::generating::write_generated;
 use crate::reading::{Reading, read};
+use crate::sizes::Sizes;
 use crate::status::Status;
 use crate::summary::add_summary;
 use crate::task::{Task, task_in};
@@ -44,8 +49,9 @@ pub(crate) const TOO_LARGE: u32 = 33;
 
 /// Does what the words after the program's name say: `replay` reads a document from the source and writes its trace to
 /// the sink, and `check` writes one line on it. `audit` reads the text of a trace and writes one line on it, and `collect` and `place`
-/// read Nodes and Pods and write lines on the pods. A refused document, trace or input is answered by the line of its refusal, and
-/// words that are no command by a line on the usage, for which the source isn't read and no memory is taken.
+/// read Nodes and Pods and write lines on the pods. `generate` runs the document of a seed and writes one line, and the source isn't
+/// read. A refused document, trace or input is answered by the line of its refusal, and words that are no command by a line on the
+/// usage, for which the source isn't read and no memory is taken.
 pub fn run<S: Source, K: Sink, L>(
     alloc: Global,
     words: &Vec<String>,
@@ -61,6 +67,12 @@ pub fn run<S: Source, K: Sink, L>(
     ensures usage { task_of (map string_bytes words.now.items) ≡ None
         → (S.left source.new ≡ S.left source.old) × ((result ≡ Status.Usage) ⊎ (result ≡ Status.SinkFault))
         × Ends (usage []) (Some []) (K.taken sink.old) (K.taken sink.new) result }
+
+    // A generated document is run whether or not the source tells its bytes: it isn't read.
+    ensures generated { (sizes : Sizes) → task_of (map string_bytes words.now.items) ≡ Some (Task.Generate sizes)
+        → (S.left source.new ≡ S.left source.old) × (S.faults source.new ≡ S.faults source.old) × IsRunEnd result
+        × Ends (done (generated_line sizes)) (Some []) (K.taken sink.old) (K.taken sink.new) result
+        × (steps.new ≤ steps.old + standing_beats (document_of sizes)) }
 
     // Where neither count of faults rose, the run ends as it should with all its text, or memory ran out.
     ensures complete { (bytes : List ℕ) → S.left source.old ≡ Some bytes → ¬ Rose (S.faults source.old) (S.faults source.new) → ¬ Rose (K.faults sink.old) (K.faults sink.new)
@@ -87,9 +99,11 @@ pub fn run<S: Source, K: Sink, L>(
 
     // No more beats are done than have entries, and none where there is no document, or with other words.
     ensures counted { (d : Document) → Replays (map string_bytes words.now.items) (S.left source.old) d → steps.new ≤ steps.old + standing_beats (doc_of d) }
-    ensures unread { (bytes : List ℕ) (r : Refusal) → S.left source.old ≡ Some bytes → document_walk bytes ≡ Err r → steps.new ≡ steps.old }
+    ensures unread { (bytes : List ℕ) (r : Refusal) → S.left source.old ≡ Some bytes → document_walk bytes ≡ Err r
+        → sizes_of (map string_bytes words.now.items) ≡ None → steps.new ≡ steps.old }
     ensures undone { IsUndone result → steps.new ≡ steps.old }
-    ensures unasked { command_of (map string_bytes words.now.items) ≢ Some Command.Replay → steps.new ≡ steps.old }
+    ensures unasked { command_of (map string_bytes words.now.items) ≢ Some Command.Replay
+        → sizes_of (map string_bytes words.now.items) ≡ None → steps.new ≡ steps.old }
 
     // In a trace that `audit` lets pass all acting lines of a beat are by one identity.
     ensures alone { (bytes : List ℕ) → S.left source.old ≡ Some bytes → task_of (map string_bytes words.now.items) ≡ Some Task.Audit → result ≡ Status.Done
@@ -111,20 +125,28 @@ fn perform<S: Source, K: Sink, L>(
     policies: &Policies,
     steps: &mut Steps<L>,
 ) -> Status
+    requires { IsWithin task }
     ensures text { (bytes : List ℕ) → S.left source.old ≡ Some bytes → Ends (performed task bytes) (S.left source.new) (K.taken sink.old) (K.taken sink.new) result }
     ensures source_fault { result ≡ Status.SourceFault → Rose (S.faults source.old) (S.faults source.new) }
     ensures source_silent { result ≡ Status.SourceFault → K.taken sink.new ≡ K.taken sink.old }
     ensures sink_fault { result ≡ Status.SinkFault → Rose (K.faults sink.old) (K.faults sink.new) }
-    ensures counted { (bytes : List ℕ) (d : Document) → S.left source.old ≡ Some bytes → document_walk bytes ≡ Ok d → steps.new ≤ steps.old + standing_beats (doc_of d) }
-    ensures unread { (bytes : List ℕ) (r : Refusal) → S.left source.old ≡ Some bytes → document_walk bytes ≡ Err r → steps.new ≡ steps.old }
+    ensures counted { (bytes : List ℕ) (d : Document) → S.left source.old ≡ Some bytes → document_walk bytes ≡ Ok d → IsRead task
+        → steps.new ≤ steps.old + standing_beats (doc_of d) }
+    ensures unread { (bytes : List ℕ) (r : Refusal) → S.left source.old ≡ Some bytes → document_walk bytes ≡ Err r → IsRead task
+        → steps.new ≡ steps.old }
     ensures undone { IsUndone result → steps.new ≡ steps.old }
-    ensures unasked { task ≢ Task.Document Command.Replay → steps.new ≡ steps.old }
+    ensures unasked { task ≢ Task.Document Command.Replay → IsRead task → steps.new ≡ steps.old }
+    ensures generated { (sizes : Sizes) → task ≡ Task.Generate sizes
+        → (S.left source.new ≡ S.left source.old) × (S.faults source.new ≡ S.faults source.old) × IsRunEnd result
+        × Ends (done (generated_line sizes)) (Some []) (K.taken sink.old) (K.taken sink.new) result
+        × (steps.new ≤ steps.old + standing_beats (document_of sizes)) }
     ensures alone { (bytes : List ℕ) → S.left source.old ≡ Some bytes → task ≡ Task.Audit → result ≡ Status.Done → OneActs (entries_in bytes) }
 {
     match task {
         Task::Document(command) => obey(alloc, command, source, sink, policies, steps),
         Task::Audit => audit_trace(alloc, source, sink),
         Task::Pods(question) => ask(alloc, question, source, sink),
+        Task::Generate(sizes) => write_generated(alloc, sizes, sink, policies, steps),
     }
 }
 

@@ -1,11 +1,12 @@
 // What the words after the program's name ask for.
-ghost use Rattle.std.specs.Prelude.{◌≡◌, map, string_bytes};
-ghost use Rattle.replay_top.specs.Tasks.{is_word, task_of};
+ghost use Rattle.std.specs.Prelude.{◌≡◌, IfSome, map, string_bytes};
+ghost use Rattle.replay_top.specs.Tasks.{IsWithin, is_word, task_of};
 
 use crate::command::{Command, command_in};
 use crate::question::Question;
+use crate::sizes::{Sizes, sizes_in};
 
-/// What a run does with the bytes of its source.
+/// What a run does, mostly with the bytes of its source.
 #[derive(Clone, Copy, Debug, PartialEq, Eq)]
 pub enum Task {
     /// They are read as a document, with which this is done.
@@ -14,11 +15,14 @@ pub enum Task {
     Pods(Question),
     /// They are audited as the text of a trace.
     Audit,
+    /// They are left alone: a document of these sizes is generated and run.
+    Generate(Sizes),
 }
 
 /// The task that the words after the program's name are, if any.
 pub(crate) fn task_in(words: &Vec<String>) -> Option<Task>
-    ensures { result ≡ task_of (map string_bytes words.now.items) }
+    ensures task { result ≡ task_of (map string_bytes words.now.items) }
+    ensures within { IfSome result IsWithin }
 {
     if is_word("collect", words) {
         return Some(Task::Pods(Question::Collect));
@@ -28,6 +32,9 @@ pub(crate) fn task_in(words: &Vec<String>) -> Option<Task>
     }
     if is_word("audit", words) {
         return Some(Task::Audit);
+    }
+    if let Some(sizes) = sizes_in(words) {
+        return Some(Task::Generate(sizes));
     }
     match command_in(words) {
         Some(command) => Some(Task::Document(command)),

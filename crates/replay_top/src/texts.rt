@@ -1,6 +1,7 @@
 // Texts at the end of a buffer, and the names of processes.
 ghost use Rattle.std.specs.Prelude.{◌≡◌, ◌<◌, ◌++◌, All, IfOk, OnOk, codes, decimal, length, map};
 ghost use Rattle.script_reader.specs.Documents.{doc_of};
+ghost use Rattle.kube_objects.specs.Document.{processes as process_count};
 ghost use Rattle.script_reader.specs.Lawful.{IsWellNamed};
 ghost use Rattle.trace_writer.specs.Names.{text_of};
 ghost use Rattle.replay_top.specs.Names.{process_names as names_in_order};
@@ -29,9 +30,10 @@ pub(crate) fn add_number(text: &mut Vec<u8>, number: u64) -> Result<(), NoMemory
 }
 
 /// The names of a document's processes in order: those of the controllers, then `kubelet/NODE`.
-pub(crate) fn process_names(alloc: Global, document: &Document) -> Result<ListOf<Name>, NoMemory>
+pub fn process_names(alloc: Global, document: &Document) -> Result<ListOf<Name>, NoMemory>
     requires named { IsWellNamed document.now.names (doc_of document.now) }
-    ensures { IfOk result (λ processes. processes ≡ names_in_order document.now.names (doc_of document.now)) }
+    ensures names { IfOk result (λ processes. processes ≡ names_in_order document.now.names (doc_of document.now)) }
+    ensures count { IfOk result (λ processes. length processes ≡ process_count (doc_of document.now)) }
 {
     let mut processes = ListOf::new(alloc);
     add_controllers(

@@ -173,7 +173,7 @@ fn write_beats<K: Sink, L>(
 }
 
 /// The next beat with an entry; None where there is none up to the end.
-fn next_of(world: &World) -> Option<Beat>
+pub(crate) fn next_of(world: &World) -> Option<Beat>
     requires ready { IsReady world.now }
     ensures { (doc : Doc) → AreLawfulFrom doc 0 doc.events → WorldStands doc (at_of world.now) (history doc (at_of world.now)) world.now
         → end_of world.now ≡ end_beat doc → IsNextBeat doc (at_of world.now) (beat_of result) }
@@ -185,7 +185,7 @@ fn next_of(world: &World) -> Option<Beat>
 }
 
 /// Does the next beat with an entry, and answers what of it is printed.
-fn beat_at<L>(
+pub(crate) fn beat_at<L>(
     world: World,
     beat: Beat,
     policies: &Policies,

@@ -1,6 +1,11 @@
-use Rattle.std.proofs.Common.{refl, ap}
-use Rattle.replay_top.specs.Outcome.{asked, audited, obeyed, performed}
-use Rattle.replay_top.proofs.Endings.{ends-moved}
+use Rattle.std.proofs.Common.{◌≡◌, ◌≤◌, ◌+◌, [], Some, refl, sym, ap, ◌∙◌, subst}
+use Rattle.agenda_laws.specs.Standing.{standing_beats}
+use Rattle.replay_top.specs.declared.sizes.Sizes.{Sizes}
+use Rattle.replay_top.specs.declared.task.Task.TheVariants.{Document, Pods, Audit, Generate}
+use Rattle.replay_top.specs.Generated.{document_of, generated_line}
+use Rattle.replay_top.specs.Outcome.{asked, audited, obeyed, performed, done, unread, Ends}
+use Rattle.replay_top.specs.Tasks.{IsRead}
+use Rattle.replay_top.proofs.Endings.{ends-moved, run-end, run-undone}
 use Rattle.replay_top.proofs.running.perform.Goals as goal
 
 pub returns-in-Document-clause-text : goal.returns-in-Document-clause-text
@@ -26,3 +31,55 @@ returns-in-Pods-clause-text g c bytes told =
 
 pub returns-in-Audit-clause-alone : goal.returns-in-Audit-clause-alone
 returns-in-Audit-clause-alone g c bytes told is done = c.audit_trace.ensures.alone bytes told done
+
+pub returns-in-Generate-clause-text : goal.returns-in-Generate-clause-text
+returns-in-Generate-clause-text g c bytes told =
+    let taken = g.K.Sink.taken in
+    ends-moved (unread (generated_line c.in-Generate.sizes) bytes) (performed c.args.task bytes) (Some bytes)
+    (g.S.Source.left c.args.source.now) (taken c.args.sink.now) (taken c.write_generated.new.sink) c.write_generated.result
+    (ap (λ t. performed t bytes) c.in-Generate.is) told (c.write_generated.ensures.text bytes)
+
+pub returns-in-Generate-clause-source_fault : goal.returns-in-Generate-clause-source_fault
+returns-in-Generate-clause-source_fault g c fault = absurd (run-end c.write_generated.result c.write_generated.ensures.ended fault)
+
+pub returns-in-Generate-clause-source_silent : goal.returns-in-Generate-clause-source_silent
+returns-in-Generate-clause-source_silent g c fault = absurd (run-end c.write_generated.result c.write_generated.ensures.ended fault)
+
+pub returns-in-Generate-clause-counted : goal.returns-in-Generate-clause-counted
+returns-in-Generate-clause-counted g c bytes d told read reads = absurd (subst IsRead c.in-Generate.is reads)
+
+pub returns-in-Generate-clause-unread : goal.returns-in-Generate-clause-unread
+returns-in-Generate-clause-unread g c bytes r told read reads = absurd (subst IsRead c.in-Generate.is reads)
+
+pub returns-in-Generate-clause-undone : goal.returns-in-Generate-clause-undone
+returns-in-Generate-clause-undone g c undone = absurd (run-undone c.write_generated.result c.write_generated.ensures.ended undone)
+
+pub returns-in-Generate-clause-unasked : goal.returns-in-Generate-clause-unasked
+returns-in-Generate-clause-unasked g c other reads = absurd (subst IsRead c.in-Generate.is reads)
+
+pub returns-in-Generate-clause-alone : goal.returns-in-Generate-clause-alone
+returns-in-Generate-clause-alone g c bytes told is done =
+    absurd (let never : Generate c.in-Generate.sizes ≡ Audit = sym c.in-Generate.is ∙ is in cc)
+
+-- the sizes are those of the task, and the source is as it was
+pub returns-in-Generate-clause-generated : goal.returns-in-Generate-clause-generated
+returns-in-Generate-clause-generated g c sizes is =
+    let found : Generate c.in-Generate.sizes ≡ Generate sizes = sym c.in-Generate.is ∙ is in
+    let same : c.in-Generate.sizes ≡ sizes = cc in
+    let taken = g.K.Sink.taken in
+    let ended = c.write_generated.result in
+    let P : Sizes → Type 0
+    = λ s. Ends (done (generated_line s)) (Some []) (taken c.args.sink.now) (taken c.write_generated.new.sink) ended
+    × (c.write_generated.new.steps ≤ c.args.steps.now + standing_beats (document_of s)) in
+    let told = subst P same (c.write_generated.ensures.text [], c.write_generated.ensures.counted) in
+    (refl, refl, c.write_generated.ensures.ended, told.0, told.1)
+
+pub returns-in-Document-clause-generated : goal.returns-in-Document-clause-generated
+returns-in-Document-clause-generated g c sizes is =
+    absurd (let never : Document c.in-Document.command ≡ Generate sizes = sym c.in-Document.is ∙ is in cc)
+
+pub returns-in-Audit-clause-generated : goal.returns-in-Audit-clause-generated
+returns-in-Audit-clause-generated g c sizes is = absurd (let never : Audit ≡ Generate sizes = sym c.in-Audit.is ∙ is in cc)
+
+pub returns-in-Pods-clause-generated : goal.returns-in-Pods-clause-generated
+returns-in-Pods-clause-generated g c sizes is = absurd (let never : Pods c.in-Pods.question ≡ Generate sizes = sym c.in-Pods.is ∙ is in cc)

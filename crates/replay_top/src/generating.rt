@@ -1,0 +1,130 @@
+// A generated document is run, and one line is written of it.
+ghost use Rattle.std.specs.Prelude.{◌≡◌, ◌≤◌, ◌+◌, ◌++◌, ℕ, List, Some, IfOk, OnOk, decimal};
+ghost use Rattle.agenda_laws.specs.Standing.{standing_beats};
+ghost use Rattle.byte_edge.specs.Bytes.{Rose};
+ghost use Rattle.kube_objects.specs.Document.{Doc, end_beat};
+ghost use Rattle.history.specs.History.{history};
+ghost use Rattle.script_reader.specs.Lawful.{IsLawfulDoc};
+ghost use Rattle.world_core.specs.Worlds.{at_of, end_of, IsReady, WorldStands};
+ghost use Rattle.replay_top.specs.Generated.{counted_line, counts_text, document_of, generated_line, sizes_text, whole_counts};
+ghost use Rattle.replay_top.specs.Outcome.{Ends, IsRunEnd, unread};
+ghost use Rattle.replay_top.specs.Runs.{Runs};
+ghost use Rattle.replay_top.specs.Sizes.{AreWithin};
+
+use crate::counts::Counts;
+use crate::sizes::Sizes;
+use crate::status::Status;
+use crate::texts::add;
+use crate::trace::{beat_at, next_of};
+use byte_edge::{Failed, Sink, give_all};
+use itoa::Buffer;
+use kube_base::{NoMemory, Steps};
+use std::alloc::Global;
+use world_core::World;
+use world_gen::generate;
+use zone_state::Policies;
+
+/// Runs the generated document of these sizes and writes its line.
+pub(crate) fn write_generated<K: Sink, L>(
+    alloc: Global,
+    sizes: Sizes,
+    sink: &mut K,
+    policies: &Policies,
+    steps: &mut Steps<L>,
+) -> Status
+    requires { AreWithin sizes }
+    ensures text { (left : List ℕ) → Ends (unread (generated_line sizes) left) (Some left) (K.taken sink.old) (K.taken sink.new) result }
+    ensures ended { IsRunEnd result }
+    ensures sink_fault { result ≡ Status.SinkFault → Rose (K.faults sink.old) (K.faults sink.new) }
+    ensures counted { steps.new ≤ steps.old + standing_beats (document_of sizes) }
+{
+    match line_of(alloc, sizes, policies, steps) {
+        Ok(text) => match give_all(sink, &text) {
+            Ok(()) => Status::Done,
+            Err(Failed) => Status::SinkFault,
+        },
+        Err(NoMemory) => Status::OutOfMemory,
+    }
+}
+
+/// The line of the generated document of these sizes, which is run.
+fn line_of<L>(
+    alloc: Global,
+    sizes: Sizes,
+    policies: &Policies,
+    steps: &mut Steps<L>,
+) -> Result<Vec<u8>, NoMemory>
+    requires { AreWithin sizes }
+    ensures line { IfOk result (λ text. text.items ≡ generated_line sizes) }
+    ensures counted { steps.new ≤ steps.old + standing_beats (document_of sizes) }
+{
+    let document = generate(alloc, sizes.seed, sizes.nodes, sizes.pods, sizes.beats)?;
+    let world = World::new(alloc, document)?;
+    let counts = count_beats(world, policies, steps)?;
+    let mut text = Vec::new(alloc);
+    add_line(&mut text, sizes, counts)?;
+    Ok(text)
+}
+
+/// Does all beats that have entries and counts their lines.
+fn count_beats<L>(
+    mut world: World,
+    policies: &Policies,
+    steps: &mut Steps<L>,
+) -> Result<Counts, NoMemory>
+    requires ready { IsReady world }
+    requires first { at_of world ≡ 0 }
+    requires runs { (count : ℕ) × Runs world count }
+    ensures whole { (doc : Doc) → IsLawfulDoc doc → WorldStands doc 0 (history doc 0) world → end_of world ≡ end_beat doc
+        → IfOk result (λ counts. counts ≡ whole_counts doc) }
+    ensures counted { (doc : Doc) → IsLawfulDoc doc → WorldStands doc 0 (history doc 0) world → end_of world ≡ end_beat doc
+        → steps.new ≤ steps.old + standing_beats doc }
+{
+    let mut counts = Counts::none();
+    'beats: while let Some(beat) = next_of(&world) {
+        let deeds = match beat_at(world, beat, policies, steps) {
+            Ok((next, deeds)) => {
+                world = next;
+                deeds
+            }
+            Err(NoMemory) => return Err(NoMemory),
+        };
+        counts = counts.and(deeds.as_slice());
+    }
+    Ok(counts)
+}
+
+#[tactic(auto, unfolding(crate::specs::Generated::counted_line))]
+fn add_line(text: &mut Vec<u8>, sizes: Sizes, counts: Counts) -> Result<(), NoMemory>
+    ensures { OnOk result (text.new.items ≡ text.old.items ++ counted_line sizes counts) }
+{
+    add_sizes(text, sizes)?;
+    add_counts(text, counts)?;
+    add(text, b"\n")
+}
+
+#[tactic(auto, unfolding(crate::specs::Generated::sizes_text))]
+fn add_sizes(text: &mut Vec<u8>, sizes: Sizes) -> Result<(), NoMemory>
+    ensures { OnOk result (text.new.items ≡ text.old.items ++ sizes_text sizes) }
+{
+    add_count(text, b"generated controllers=3 nodes=", sizes.nodes as u128)?;
+    add_count(text, b" pods=", sizes.pods as u128)?;
+    add_count(text, b" beats=", sizes.beats as u128)
+}
+
+#[tactic(auto, unfolding(crate::specs::Generated::counts_text))]
+fn add_counts(text: &mut Vec<u8>, counts: Counts) -> Result<(), NoMemory>
+    ensures { OnOk result (text.new.items ≡ text.old.items ++ counts_text counts) }
+{
+    add_count(text, b" leads=", counts.leads)?;
+    add_count(text, b" taints=", counts.taints)?;
+    add_count(text, b" evictions=", counts.evictions)
+}
+
+fn add_count(text: &mut Vec<u8>, label: &[u8], count: u128) -> Result<(), NoMemory>
+    ensures { OnOk result (text.new.items ≡ text.old.items ++ (label.now ++ decimal count)) }
+{
+    let mut buffer = Buffer::new();
+    add(text, label)?;
+    add(text, buffer.format(count).as_bytes())
+}
