@@ -35,6 +35,8 @@ pub(crate) enum Change {
     NodeLease(u32, i64),
     /// A pod on a node, with tolerations of NoExecute taints, each by the taint's key and its seconds.
     Pod(u32, u32, Option<(u32, i64)>, Option<(u32, i64)>),
+    /// A pod on a node that tolerates every taint.
+    Daemon(u32, u32),
     /// The leader renews its Lease.
     Renewal,
     /// The leader's watch is on.
@@ -108,6 +110,16 @@ fn lease(renewed: Wall) -> Lease {
     }
 }
 
+fn any_taint() -> Toleration {
+    Toleration {
+        key: 0,
+        operator: Operator::Exists,
+        value: 0,
+        effect: None,
+        seconds: None,
+    }
+}
+
 /// Writes what a change writes. A watch and a loss write nothing.
 pub(crate) fn write(
     alloc: Global,
@@ -156,6 +168,17 @@ pub(crate) fn write(
             let mut tolerations = ListOf::new(alloc);
             add_toleration(&mut tolerations, first)?;
             add_toleration(&mut tolerations, second)?;
+            let pod = Pod { node, tolerations };
+            put(
+                store,
+                key(Kind::Pod, NAMESPACE, name),
+                Object::Pod(pod),
+                now,
+            )
+        }
+        Change::Daemon(name, node) => {
+            let mut tolerations = ListOf::new(alloc);
+            tolerations.push(any_taint())?;
             let pod = Pod { node, tolerations };
             put(
                 store,

@@ -3,7 +3,7 @@ ghost use Rattle.std.specs.Prelude.{◌≤◌};
 ghost use Rattle.kube_base.specs.Bounds.{most_local};
 
 use crate::change::{Change, EPOCH, write};
-use crate::rows::{Row, Span};
+use crate::rows::{Pace, Renewals, Row, Span};
 use controller_core::Term;
 use kube_base::{Beat, Local, NoMemory, ProcId, Steps, Version, Wall};
 use kube_objects::{Reply, Settings2};
@@ -24,15 +24,24 @@ const TIMING: Timing = Timing {
     fast: false,
 };
 
-// A beat is 100 ms.
-fn reading(beat: u16) -> Local
-    ensures { result.0 ≤ most_local }
+// Milliseconds from the first beat to this one.
+fn millis(pace: Pace, beat: u16) -> u64
+    ensures { result ≤ 65_535_000 }
 {
-    Local(u64::from(beat) * 100_000_000_000)
+    match pace {
+        Pace::Tenth => u64::from(beat) * 100,
+        Pace::Second => u64::from(beat) * 1_000,
+    }
 }
 
-fn time(beat: u16) -> Wall {
-    Wall(EPOCH + u64::from(beat) * 100_000)
+fn reading(pace: Pace, beat: u16) -> Local
+    ensures { result.0 ≤ most_local }
+{
+    Local(millis(pace, beat) * 1_000_000_000)
+}
+
+fn time(pace: Pace, beat: u16) -> Wall {
+    Wall(EPOCH + millis(pace, beat) * 1_000)
 }
 
 fn settings(row: &Row) -> Settings2
@@ -87,11 +96,36 @@ struct Scene {
 
 impl Scene {
     fn change(&mut self, alloc: Global, row: &Row, beat: u16) -> Result<(), NoMemory> {
+        for renewals in row.renewals {
+            self.renew(alloc, row, *renewals, beat)?;
+        }
         for change in row.changes {
             let (at, change) = *change;
             if at == beat {
-                self.make(alloc, change, time(beat))?;
+                self.make(alloc, change, time(row.pace, beat))?;
             }
+        }
+        Ok(())
+    }
+
+    // The Leases of nodes are renewed, where it is a beat for that.
+    fn renew(
+        &mut self,
+        alloc: Global,
+        row: &Row,
+        renewals: Renewals,
+        beat: u16,
+    ) -> Result<(), NoMemory> {
+        let Some(past) = beat.checked_sub(renewals.from) else {
+            return Ok(());
+        };
+        if past % 10 != 0 || beat > renewals.to {
+            return Ok(());
+        }
+        let at = millis(row.pace, beat).cast_signed();
+        for node in renewals.nodes {
+            let change = Change::NodeLease(*node, at);
+            write(alloc, &mut self.store, change, time(row.pace, beat))?;
         }
         Ok(())
     }
@@ -110,15 +144,15 @@ impl Scene {
         }
     }
 
-    fn view(&self, beat: u16) -> View
+    fn view(&self, pace: Pace, beat: u16) -> View
         ensures { result.now.0 ≤ most_local }
     {
         View {
             watch: self.watch,
             passes: self.passes,
             beat: Beat(u32::from(beat)),
-            now: reading(beat),
-            wall: time(beat),
+            now: reading(pace, beat),
+            wall: time(pace, beat),
         }
     }
 }
@@ -147,15 +181,15 @@ fn lead(rt: &HostRuntime, row: &Row, span: Span, scene: &mut Scene) -> io::Resul
     let alloc = rt.alloc();
     let policies = Policies::new(partial, full);
     let mut term = Term::new(alloc, &settings(row));
-    let Some(leading) = leader(reading(span.from), time(span.from)) else {
+    let Some(leading) = leader(reading(row.pace, span.from), time(row.pace, span.from)) else {
         return Ok(());
     };
     for beat in span.from..span.to.saturating_add(1) {
         scene.change(alloc, row, beat).map_err(out_of_memory)?;
-        let Some(acting) = leading.acting(reading(beat)) else {
+        let Some(acting) = leading.acting(reading(row.pace, beat)) else {
             return Ok(());
         };
-        let view = scene.view(beat);
+        let view = scene.view(row.pace, beat);
         let mut steps = Steps::new(Blank::new(1));
         let deeds = term
             .tick(&acting, &mut scene.store, &view, &policies, &mut steps)
