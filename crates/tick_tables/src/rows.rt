@@ -18,11 +18,11 @@ pub(crate) const P2: u32 = 21;
 
 pub(crate) const P3: u32 = 22;
 
-pub(crate) const D1: u32 = 23;
+pub(crate) const DAEMON_1: u32 = 23;
 
-pub(crate) const D2: u32 = 24;
+pub(crate) const DAEMON_2: u32 = 24;
 
-pub(crate) const D3: u32 = 25;
+pub(crate) const DAEMON_3: u32 = 25;
 
 pub(crate) const A: u32 = 32;
 
@@ -282,11 +282,11 @@ pub(crate) const ROWS: [Row; 10] = [
             (0, Change::NodeLease(N2, -5_000)),
             (0, Change::NodeLease(N3, -5_000)),
             (0, Change::Pod(P1, N1, NOT_READY_300, UNREACHABLE_300)),
-            (0, Change::Daemon(D1, N1)),
+            (0, Change::Daemon(DAEMON_1, N1)),
             (0, Change::Pod(P2, N2, NOT_READY_300, UNREACHABLE_300)),
-            (0, Change::Daemon(D2, N2)),
+            (0, Change::Daemon(DAEMON_2, N2)),
             (0, Change::Pod(P3, N3, NOT_READY_300, UNREACHABLE_300)),
-            (0, Change::Daemon(D3, N3)),
+            (0, Change::Daemon(DAEMON_3, N3)),
             (3, Change::Renewal),
             (7, Change::Renewal),
             (31, Change::Renewal),
