@@ -4,12 +4,14 @@ use Rattle.kube_base.specs.declared.numbers.Version.{Version}
 use Rattle.kube_objects.specs.declared.key.Key.{Key}
 use Rattle.kube_objects.specs.declared.node.Node.{Node}
 use Rattle.kube_objects.specs.declared.object.Object.{Object}
+use Rattle.kube_objects.specs.declared.object.Object.TheVariants as object
 use Rattle.kube_objects.specs.Entry.{Entry, Identity}
 use Rattle.kube_objects.specs.Keys.{key_eq}
 use Rattle.kube_objects.specs.Newest.{has}
 use Rattle.kube_objects.specs.Seen.{is_pod, pod_in, seen_node, seen_pod}
 use Rattle.kube_objects.specs.Stored.{node_key}
 use Rattle.kube_objects.specs.Tainting.{before_tick, waits}
+use Rattle.kube_objects.proofs.KeyOrder.{same_key}
 use Rattle.history_laws.proofs.Plainly.{false_is}
 use Rattle.tick_laws.specs.Changes.{IsChange, IsModeChange, Wrote, after_write, gone, is_that, noted}
 use Rattle.tick_laws.specs.Judged.{seen_due, shown}
@@ -17,10 +19,12 @@ use Rattle.tick_laws.proofs.Frames.{noted_pod, pod_shown, same_node, same_pod}
 use Rattle.tick_laws.proofs.Tried.{gone_dirty, gone_due, mode_dues, mode_unseen, no_pod_never, noted_dirty, noted_due, noted_waits, pod_refused_dirty, pod_refused_others, refused_dues, refused_others, refused_waits, same_dirties, same_dues}
 use Rattle.watch_cache.specs.declared.cache.Cache.{Cache}
 use Rattle.watch_cache.specs.Kept.{is_on, of_kind}
+use Rattle.watch_cache.specs.Retainted.{taints_in}
 use Rattle.watch_cache.specs.Stands.{CacheStands, kept_in, position_in, stale_in, synced_in}
 use Rattle.term_state.specs.declared.cluster.Cluster.{Cluster}
 use Rattle.term_state.specs.ClusterStands.{ClusterBut, ClusterStands, has_moved, no_node, no_pod}
 use Rattle.term_state.specs.Running.{IsMoved}
+use Rattle.term_state.proofs.Retainted.{due_retained}
 use Rattle.term_state.proofs.Widen.{first_none, second_none}
 
 abbrev pub with_cache : Cluster → Cache → Cluster
@@ -79,6 +83,28 @@ module _ (q : Identity) (h g : List Entry) (name : ℕ) (version : Version) (nod
       by_kind : (key : Key) (b : Bool) → is_pod key.kind ≡ b → is_on name (seen_pod q key g) ≡ false → seen_due q key h ≡ seen_due q key g
       by_kind key true kind off = sym (noted_due q h g name version node d key (ap (is_on name) (sym (noted_pod q h g name version node None d key kind)) ∙ off))
       by_kind key false kind off = no_pod_never q key h kind ∙ sym (no_pod_never q key g kind)
+
+  -- the same where the node's taints are as they were
+  pub noted_alone : (c : Cluster) (cache : Cache) → ClusterStands q h c → IsCacheChange (noted name version node) None c.cache cache → taints_in (kept_in c.cache (node_key name)) ≡ node.taints
+      → ClusterBut q g (λ n. name == n) no_pod (with_cache c cache)
+  noted_alone c cache s u same =
+      record {
+        cache = cache_changed q h g (noted name version node) None c.cache cache d u s.cache;
+        mode = s.mode ∙ sym d.mode;
+        unclean = λ n apart. s.unclean n refl ∙ sym (noted_dirty q h g name version node d n apart);
+        dues = λ key out. s.dues key refl ∙ by_kind key (is_pod key.kind) refl;
+        kinds = kinds_changed q h g (noted name version node) None d refl s.kinds;
+      }
+    where
+      by_test : (n : ℕ) (b : Bool) → key_eq (node_key name) (node_key n) ≡ b → taints_in (cond b (Some (version, object.Node node)) (shown q (node_key n) h)) ≡ taints_in (shown q (node_key n) h)
+      by_test n true is = sym same ∙ ap taints_in (s.cache.objects (node_key name) ∙ ap (λ k. shown q k h) (same_key (node_key name) (node_key n) is))
+      by_test n false is = refl
+
+      by_kind : (key : Key) (b : Bool) → is_pod key.kind ≡ b → seen_due q key h ≡ seen_due q key g
+      by_kind key true kind =
+          sym (due_retained q key h g (noted_pod q h g name version node None d key kind) (d.stale key)
+          (λ n on. ap taints_in (d.shown (node_key n)) ∙ by_test n (key_eq (node_key name) (node_key n)) refl))
+      by_kind key false kind = no_pod_never q key h kind ∙ sym (no_pod_never q key g kind)
 
   pub noted_moved : (k : ℕ) (old new : Cluster) → before_tick q k g ≡ before_tick q k h → ((n : ℕ) → has_moved new n ≡ ((name == n) || has_moved old n)) → IsMoved q k h old → IsMoved q k g new
   noted_moved k old new beneath more s n out place =

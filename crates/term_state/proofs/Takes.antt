@@ -1,5 +1,6 @@
 -- A sync takes over what was written.
-use Rattle.std.proofs.Common.{◌≡◌, ◌∙◌, ℕ, ◌&&◌, ◌||◌, Bool, true, false, cond, List, [], ◌∷◌, Option, Some, None, refl, sym, ap, drop}
+use Rattle.std.proofs.Common.{◌≡◌, ◌∙◌, ℕ, ◌&&◌, ◌||◌, Bool, true, false, cond, List, [], ◌∷◌, Option, Some, None, refl, sym, ap, subst, drop}
+use Rattle.std.proofs.lemmas.Bool.{eqb-true}
 use Rattle.kube_base.specs.declared.numbers.Version.{Version}
 use Rattle.kube_objects.specs.declared.key.Key.{Key}
 use Rattle.kube_objects.specs.declared.object.Object.{Object}
@@ -23,12 +24,14 @@ use Rattle.tick_laws.proofs.Frames.{pod_shown}
 use Rattle.tick_laws.proofs.Syncing.{keys_since_is, sync_dirty, sync_due, sync_keeps, sync_pod, sync_position, sync_shows, sync_stale, sync_synced}
 use Rattle.tick_laws.proofs.Tried.{no_pod_never}
 use Rattle.watch_cache.specs.declared.cache.Cache.{Cache}
-use Rattle.watch_cache.specs.Kept.{kept, of_kind}
+use Rattle.watch_cache.specs.Kept.{is_on, kept, of_kind}
+use Rattle.watch_cache.specs.Retainted.{IsSettled, taints_in}
 use Rattle.watch_cache.specs.Stands.{and_key, kept_in, position_in, stale_in, synced_in, synced_writes, written_keys}
 use Rattle.term_state.specs.declared.cluster.Cluster.{Cluster}
 use Rattle.term_state.specs.ClusterStands.{ClusterBut, ClusterStands}
-use Rattle.term_state.specs.Taking.{is_open}
+use Rattle.term_state.specs.Taking.{is_on_open, is_open}
 use Rattle.term_state.proofs.Aside.{with_cache}
+use Rattle.term_state.proofs.Retainted.{due_retained}
 use Rattle.term_state.proofs.Widen.{first_none, second_none}
 
 -- the store's words and the cache's say the same
@@ -81,10 +84,11 @@ stored_kind h store key (Some x) is there = by_object x.object (λ other at. kin
     by_object (object.Pod pod) kind there = ap is_pod (kind (object.Pod pod) refl)
 
 module _ (q : Identity) (k : ℕ) (h : List Entry) (c : Cluster) (cache : Cache) (store : Store) (s : ClusterStands q h c) (st : StoreStands h store) (r : AreReached q h) where
-  pub taken_over : ((key : Key) → kept_in cache key ≡ cond (is_among (keys_since q h) key) (kept_of (stored key h)) (kept_in c.cache key))
+  pub taken_over : (names : ℕ → Bool) → ((n : ℕ) → is_among (keys_since q h) (node_key n) ≡ true → names n ≡ false → IsSettled c.cache n (kept_of (stored (node_key n) h)))
+      → ((key : Key) → kept_in cache key ≡ cond (is_among (keys_since q h) key) (kept_of (stored key h)) (kept_in c.cache key))
       → ((key : Key) → stale_in cache key ≡ false) → synced_in cache ≡ true → position_in cache ≡ writes h
-      → ClusterBut q (add k q Sync h) (λ n. is_among (keys_since q h) (node_key n)) (is_open q (add k q Sync h) (keys_since q h)) (with_cache c cache)
-  taken_over objects stale synced position =
+      → ClusterBut q (add k q Sync h) (λ n. is_among (keys_since q h) (node_key n)) (is_open q (add k q Sync h) (keys_since q h) names) (with_cache c cache)
+  taken_over names settled objects stale synced position =
       record {
         cache = record {
           objects = λ key. objects key ∙ by_test key (is_among (keys_since q h) key) refl;
@@ -94,8 +98,8 @@ module _ (q : Identity) (k : ℕ) (h : List Entry) (c : Cluster) (cache : Cache)
         };
         mode = s.mode;
         unclean = λ n out. s.unclean n refl ∙ sym (sync_dirty q k h n out (fresh_node q h s.kinds r n out));
-        dues = λ key out. s.dues key refl ∙ by_kind key (is_pod key.kind) refl (first_none (is_pod key.kind && is_among (keys_since q h) key) (is_node_among (keys_since q h) (seen_pod q key (add k q Sync h))) out)
-            (second_none (is_pod key.kind && is_among (keys_since q h) key) (is_node_among (keys_since q h) (seen_pod q key (add k q Sync h))) out);
+        dues = λ key out. s.dues key refl ∙ by_kind key (is_pod key.kind) refl (first_none (is_pod key.kind && is_among (keys_since q h) key) (is_on_open (keys_since q h) names (seen_pod q key (add k q Sync h))) out)
+            (second_none (is_pod key.kind && is_among (keys_since q h) key) (is_on_open (keys_since q h) names (seen_pod q key (add k q Sync h))) out);
         kinds = λ key there. stored_kind h store key (stored key h) (st.objects key) (sym (ap has (sym (pod_shown q key (add k q Sync h)) ∙ ap (of_kind pod_in) (sync_shows q k h key))) ∙ there);
       }
     where
@@ -103,9 +107,32 @@ module _ (q : Identity) (k : ℕ) (h : List Entry) (c : Cluster) (cache : Cache)
       by_test key true written = kept_same (stored key h) ∙ sym (sync_shows q k h key)
       by_test key false out = s.cache.objects key ∙ sym (sync_keeps q k h key out)
 
-      due_stays : (key : Key) → is_among (keys_since q h) key ≡ false → is_node_among (keys_since q h) (seen_pod q key (add k q Sync h)) ≡ false → seen_due q key (add k q Sync h) ≡ seen_due q key h
-      due_stays key out on = sync_due q k h key out (fresh_pod q h s.kinds r key out (ap (is_node_among (keys_since q h)) (sym (sync_pod q k h key out)) ∙ on)) on
+      -- a pod that nobody wrote, by whether its node was
+      due_stays : (key : Key) → is_among (keys_since q h) key ≡ false → is_on_open (keys_since q h) names (seen_pod q key h) ≡ false → seen_due q key (add k q Sync h) ≡ seen_due q key h
+      due_stays key out on = by_pod (seen_pod q key h) refl on
+        where
+          due_fresh : is_stale q key h ≡ false → ((name : ℕ) → is_on name (seen_pod q key h) ≡ true → taints_in (shown q (node_key name) (add k q Sync h)) ≡ taints_in (shown q (node_key name) h)) → seen_due q key (add k q Sync h) ≡ seen_due q key h
+          due_fresh fresh = due_retained q key h (add k q Sync h) (sync_pod q k h key out) (sync_stale q k h key ∙ sym fresh)
 
-      by_kind : (key : Key) (b : Bool) → is_pod key.kind ≡ b → (b && is_among (keys_since q h) key) ≡ false → is_node_among (keys_since q h) (seen_pod q key (add k q Sync h)) ≡ false → seen_due q key h ≡ seen_due q key (add k q Sync h)
-      by_kind key true kind out on = sym (due_stays key out on)
+          kept_taints : (name : ℕ) → IsSettled c.cache name (kept_of (stored (node_key name) h)) → taints_in (shown q (node_key name) (add k q Sync h)) ≡ taints_in (shown q (node_key name) h)
+          kept_taints name x =
+              ap taints_in (sync_shows q k h (node_key name) ∙ sym (kept_same (stored (node_key name) h)))
+              ∙ sym x.taints
+              ∙ ap taints_in (s.cache.objects (node_key name))
+
+          by_node : (x : Version × Pod) → seen_pod q key h ≡ Some x → (b : Bool) → is_among (keys_since q h) (node_key x.1.node) ≡ b → (b && names x.1.node) ≡ false → seen_due q key (add k q Sync h) ≡ seen_due q key h
+          by_node x sees true written out_names =
+              let all = settled x.1.node written out_names in
+              due_fresh (sym (s.cache.stale key) ∙ all.fresh key)
+              (λ name on. kept_taints name (subst (λ n. IsSettled c.cache n (kept_of (stored (node_key n) h))) (eqb-true x.1.node name (sym (ap (is_on name) sees) ∙ on)) all))
+          by_node x sees false unwritten out_names =
+              sync_due q k h key out (fresh_pod q h s.kinds r key out (ap (is_node_among (keys_since q h)) sees ∙ unwritten))
+              (ap (is_node_among (keys_since q h)) (sync_pod q k h key out ∙ sees) ∙ unwritten)
+
+          by_pod : (o : Option (Version × Pod)) → seen_pod q key h ≡ o → is_on_open (keys_since q h) names o ≡ false → seen_due q key (add k q Sync h) ≡ seen_due q key h
+          by_pod None sees on = sync_due q k h key out (fresh_pod q h s.kinds r key out (ap (is_node_among (keys_since q h)) sees)) (ap (is_node_among (keys_since q h)) (sync_pod q k h key out ∙ sees))
+          by_pod (Some x) sees on = by_node x sees (is_among (keys_since q h) (node_key x.1.node)) refl on
+
+      by_kind : (key : Key) (b : Bool) → is_pod key.kind ≡ b → (b && is_among (keys_since q h) key) ≡ false → is_on_open (keys_since q h) names (seen_pod q key (add k q Sync h)) ≡ false → seen_due q key h ≡ seen_due q key (add k q Sync h)
+      by_kind key true kind out on = sym (due_stays key out (ap (is_on_open (keys_since q h) names) (sym (sync_pod q k h key out)) ∙ on))
       by_kind key false kind out on = no_pod_never q key h kind ∙ sym (no_pod_never q key (add k q Sync h) kind)

@@ -8,6 +8,8 @@ ghost use Rattle.kube_objects.specs.Tainting.{before_tick};
 ghost use Rattle.tick_laws.specs.Changes.{IsChange, IsModeChange, gone, noted};
 ghost use Rattle.tick_laws.specs.Steps.{pods_on};
 ghost use Rattle.watch_cache.specs.Kept.{is_on};
+ghost use Rattle.watch_cache.specs.Retainted.{taints_in};
+ghost use Rattle.watch_cache.specs.Stands.{kept_in};
 
 use crate::Cluster;
 use crate::tries::node_key;
@@ -19,7 +21,8 @@ impl Cluster {
     ghost use Rattle.term_state.specs.ClusterStands.{ClusterBut, ClusterStands, but_pod, has_moved, no_node, no_pod};
     ghost use Rattle.term_state.specs.Running.{IsMoved};
 
-    /// The node is seen as it was written. It counts two steps for each pod on the node.
+    /// The node is seen as it was written. It counts two steps for each pod on the node, where its taints changed, and else
+    /// none.
     pub fn note_node<L>(
         &mut self,
         name: u32,
@@ -34,8 +37,13 @@ impl Cluster {
         ensures counted { (q : Identity) (h g : List Entry) → ClusterStands q h self.old → is_synced q h ≡ true
             → IsChange q h g (noted name version written) None → OnOk result (steps.new ≤ steps.old + 2 * pods_on q name g) }
     {
+        let taints = written.taints.as_slice();
+        let retainted = self.cache.has_other_taints(&node_key(name), taints);
         self.write_node(name, version, written)?;
-        self.judge_node(name, steps)
+        if retainted {
+            return self.judge_node(name, steps);
+        }
+        self.judge_node_alone(name)
     }
 
     // The cache has the node as it was written; nothing is judged.
@@ -43,6 +51,10 @@ impl Cluster {
         ensures stands { (q : Identity) (h g : List Entry) → ClusterStands q h self.old
             → IsChange q h g (noted name version written) None
             → OnOk result (ClusterBut q g (λ n. name == n) (λ p. is_on name (seen_pod q p g)) self.new) }
+        ensures alone { (q : Identity) (h g : List Entry) → ClusterStands q h self.old
+            → IsChange q h g (noted name version written) None
+            → taints_in (kept_in self.old.cache (stored_words.node_key name)) ≡ written.taints
+            → OnOk result (ClusterBut q g (λ n. name == n) no_pod self.new) }
         ensures moved { (n : ℕ) → has_moved self.new n ≡ has_moved self.old n }
     {
         let object = Object::Node(written);

@@ -1,5 +1,7 @@
 // What a sync takes over.
-ghost use Rattle.std.specs.Prelude.{◌≡◌, ◌≤◌, ◌+◌, ℕ, true, List, length, OnOk};
+ghost use Rattle.std.specs.Prelude.{◌≡◌, ◌≤◌, ◌+◌, ℕ, true, List, length, IfOk, OnOk};
+ghost use Rattle.std.specs.BTreeSet.{contains};
+ghost use Rattle.std.specs.Ordering.{nat_cmp};
 ghost use Rattle.kube_objects.specs.Entry.{Entry, Identity, Sync};
 ghost use Rattle.kube_objects.specs.Feeds.{is_among};
 ghost use Rattle.kube_objects.specs.Seen as seen_words;
@@ -12,7 +14,7 @@ use crate::Cluster;
 use kube_base::{NoMemory, Steps};
 use kube_objects::Feed;
 use object_store::Store;
-use watch_cache::NotSynced;
+use std::collections::BTreeSet;
 
 impl Cluster {
     ghost use Rattle.watch_cache.specs.Stands.{position_in, synced_writes};
@@ -30,26 +32,30 @@ impl Cluster {
     pub fn is_synced(&self) -> bool
         ensures { (q : Identity) (h : List Entry) → ClusterStands q h self.now → result ≡ seen_words.is_synced q h }
     {
-        match self.cache.node(0) {
-            Ok(_) => true,
-            Err(NotSynced) => false,
-        }
+        self.cache.is_synced()
     }
 
-    /// Takes over what was written since the last sync, and judges nothing. Each write counts a step.
-    pub fn take_over<L>(&mut self, store: &Store, steps: &mut Steps<L>) -> Result<(), NoMemory>
+    /// Takes over what was written since the last sync, and judges nothing. Each write counts a step. It answers the nodes
+    /// whose pods are to be judged: the taints of each other node that was written are as they were.
+    pub fn take_over<L>(
+        &mut self,
+        store: &Store,
+        steps: &mut Steps<L>,
+    ) -> Result<BTreeSet<u32>, NoMemory>
         ensures stands { (q : Identity) (k : ℕ) (h : List Entry) → ClusterStands q h self.old → StoreStands h store.now → AreReached q h
-            → OnOk result (ClusterBut q (add k q Sync h) (λ n. is_among (keys_since q h) (node_key n))
-            (is_open q (add k q Sync h) (keys_since q h)) self.new) }
+            → IfOk result (λ names. ClusterBut q (add k q Sync h) (λ n. is_among (keys_since q h) (node_key n))
+            (is_open q (add k q Sync h) (keys_since q h) (contains nat_cmp names)) self.new) }
         ensures moved { (n : ℕ) → has_moved self.new n ≡ has_moved self.old n }
         ensures counted { (q : Identity) (h : List Entry) → ClusterStands q h self.old → StoreStands h store.now
             → OnOk result (steps.new ≤ steps.old + length (keys_since q h)) }
     {
         let position = self.cache.position();
         if position > store.changes() {
-            return Ok(());
+            return Ok(BTreeSet::new(self.alloc));
         }
-        self.cache.sync_since(&store.since(position), steps)?;
-        Ok(())
+        let since = store.since(position);
+        let names = self.cache.retainted(self.alloc, &since)?;
+        self.cache.sync_since(&since, steps)?;
+        Ok(names)
     }
 }

@@ -1,5 +1,7 @@
 -- What a sync has still to judge.
-use Rattle.std.specs.Prelude.{List}
+use Rattle.std.specs.Prelude.{ℕ, List}
+use Rattle.std.specs.BTreeSet.{BTreeSet, contains}
+use Rattle.std.specs.Ordering.{nat_cmp}
 use Rattle.kube_objects.specs.declared.key.Key.{Key}
 use Rattle.kube_objects.specs.Entry.{Entry, Identity}
 use Rattle.kube_objects.specs.Feeds.{is_among}
@@ -8,6 +10,6 @@ use Rattle.term_state.specs.declared.cluster.Cluster.{Cluster}
 use Rattle.term_state.specs.ClusterStands.{ClusterBut}
 use Rattle.term_state.specs.Taking.{is_open}
 
--- the nodes and pods of these keys, and the pods on these nodes
-abbrev pub LeftBut : Identity → List Entry → List Key → Cluster → Type 0
-LeftBut q g keys c = ClusterBut q g (λ n. is_among keys (node_key n)) (is_open q g keys) c
+-- the nodes and pods of these keys, and the pods on those of these nodes that are retainted
+abbrev pub LeftBut : Identity → List Entry → List Key → BTreeSet ℕ → Cluster → Type 0
+LeftBut q g keys retainted c = ClusterBut q g (λ n. is_among keys (node_key n)) (is_open q g keys (contains nat_cmp retainted)) c

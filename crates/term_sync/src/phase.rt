@@ -58,6 +58,6 @@ pub fn sync<L>(
         return Ok(());
     }
     let position = cluster.position();
-    cluster.take_over(store, steps)?;
-    judge_changes(cluster, store, position, steps)
+    let retainted = cluster.take_over(store, steps)?;
+    judge_changes(cluster, store, position, &retainted, steps)
 }

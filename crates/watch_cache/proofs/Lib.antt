@@ -3,6 +3,7 @@ pub mod IndexLaws
 pub mod Lists
 pub mod Looks
 pub mod Orders
+pub mod Retaints
 pub mod Same
 pub mod Syncs
 pub mod Takes

@@ -1,11 +1,20 @@
--- Listings that the derived test tells equal are one.
-use Rattle.std.proofs.Common.{◌≡◌, ℕ, ◌&&◌, ◌==◌, Bool, true, false, refl, ap, arith}
+-- Listings and taints that the derived tests tell equal are one.
+use Rattle.std.proofs.Common.{◌≡◌, ℕ, ◌&&◌, ◌==◌, Bool, true, false, Option, Some, None, List, [], ◌∷◌, refl, ap, arith}
 use Rattle.std.proofs.lemmas.Bool.Decides.{nat_tests}
+use Rattle.std.specs.Cmp.Lexicographic.{pointwise}
+use Rattle.std.specs.Option.{option_eq}
+use Rattle.kube_base.specs.declared.numbers.Wall.{Wall}
+use Rattle.kube_base.specs.contracts.numbers.WallPartialEq.TheImpl as walls
 use Rattle.kube_objects.specs.declared.key.Key.{Key}
 use Rattle.kube_objects.specs.declared.key.Kind.{Kind}
 use Rattle.kube_objects.specs.declared.key.Kind.TheVariants as kind
 use Rattle.kube_objects.specs.contracts.key.KeyPartialEq.TheImpl as keys
 use Rattle.kube_objects.specs.contracts.key.KindPartialEq.TheImpl as kinds
+use Rattle.kube_objects.specs.declared.node.Effect.{Effect}
+use Rattle.kube_objects.specs.declared.node.Effect.TheVariants as effect
+use Rattle.kube_objects.specs.declared.node.Taint.{Taint}
+use Rattle.kube_objects.specs.contracts.node.EffectPartialEq.TheImpl as effects
+use Rattle.kube_objects.specs.contracts.node.TaintPartialEq.TheImpl as taints
 use Rattle.watch_cache.specs.declared.listing.Listing.{Listing}
 use Rattle.watch_cache.specs.declared.listing.Listing.TheVariants.{Nowhere, Node, Pod}
 use Rattle.watch_cache.specs.contracts.listing.ListingPartialEq.TheImpl as listings
@@ -56,3 +65,41 @@ same_listing (Pod m k) (Pod n l) is =
     let name : m ≡ n = same_number m n (first_of (m == n) ((keys.eq-value).it k l) is) in
     let key : k ≡ l = same_key k l (second_of (m == n) ((keys.eq-value).it k l) is) in
     λ i. Pod (name i) (key i)
+
+-- ---- taints
+
+same_effect : (a b : Effect) → (effects.eq-value).it a b ≡ true → a ≡ b
+same_effect effect.NoSchedule effect.NoSchedule is = refl
+same_effect effect.NoSchedule effect.PreferNoSchedule is = absurd (cc)
+same_effect effect.NoSchedule effect.NoExecute is = absurd (cc)
+same_effect effect.PreferNoSchedule effect.NoSchedule is = absurd (cc)
+same_effect effect.PreferNoSchedule effect.PreferNoSchedule is = refl
+same_effect effect.PreferNoSchedule effect.NoExecute is = absurd (cc)
+same_effect effect.NoExecute effect.NoSchedule is = absurd (cc)
+same_effect effect.NoExecute effect.PreferNoSchedule is = absurd (cc)
+same_effect effect.NoExecute effect.NoExecute is = refl
+
+same_time : (a b : Option Wall) → option_eq (walls.eq-value).it a b ≡ true → a ≡ b
+same_time None None is = refl
+same_time None (Some b) is = absurd (cc)
+same_time (Some a) None is = absurd (cc)
+same_time (Some a) (Some b) is = ap (λ n. Some (record { 0 = n })) (same_number a.0 b.0 is)
+
+same_taint : (a b : Taint) → (taints.eq-value).it a b ≡ true → a ≡ b
+same_taint a b is =
+    let key : a.key ≡ b.key = same_number a.key b.key (first_of (a.key == b.key) ((a.value == b.value) && ((effects.eq-value).it a.effect b.effect && option_eq (walls.eq-value).it a.added b.added)) is) in
+    let more = second_of (a.key == b.key) ((a.value == b.value) && ((effects.eq-value).it a.effect b.effect && option_eq (walls.eq-value).it a.added b.added)) is in
+    let value : a.value ≡ b.value = same_number a.value b.value (first_of (a.value == b.value) ((effects.eq-value).it a.effect b.effect && option_eq (walls.eq-value).it a.added b.added) more) in
+    let rest = second_of (a.value == b.value) ((effects.eq-value).it a.effect b.effect && option_eq (walls.eq-value).it a.added b.added) more in
+    let effect : a.effect ≡ b.effect = same_effect a.effect b.effect (first_of ((effects.eq-value).it a.effect b.effect) (option_eq (walls.eq-value).it a.added b.added) rest) in
+    let added : a.added ≡ b.added = same_time a.added b.added (second_of ((effects.eq-value).it a.effect b.effect) (option_eq (walls.eq-value).it a.added b.added) rest) in
+    λ i. record { key = key i; value = value i; effect = effect i; added = added i }
+
+pub same_taints : (xs ys : List Taint) → pointwise (taints.eq-value).it xs ys ≡ true → xs ≡ ys
+same_taints [] [] is = refl
+same_taints [] (y ∷ ys) is = absurd (cc)
+same_taints (x ∷ xs) [] is = absurd (cc)
+same_taints (x ∷ xs) (y ∷ ys) is =
+    let one : x ≡ y = same_taint x y (first_of ((taints.eq-value).it x y) (pointwise (taints.eq-value).it xs ys) is) in
+    let rest : xs ≡ ys = same_taints xs ys (second_of ((taints.eq-value).it x y) (pointwise (taints.eq-value).it xs ys) is) in
+    λ i. one i ∷ rest i

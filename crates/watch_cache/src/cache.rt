@@ -25,8 +25,8 @@ use std::collections::BTreeSet;
 /// cache, the cache may only be dropped.
 #[derive(Drop)]
 pub struct Cache {
-    objects: Objects,
-    stale: BTreeSet<Key>,
+    pub(crate) objects: Objects,
+    pub(crate) stale: BTreeSet<Key>,
     synced: bool,
     position: u64,
 }
@@ -55,6 +55,14 @@ impl Cache {
             synced: false,
             position: 0,
         }
+    }
+
+    /// Whether there was a sync.
+    pub fn is_synced(&self) -> bool
+        ensures kept { result ≡ synced_in self.now }
+        ensures answer { (q : Identity) (h : List Entry) → CacheStands q h self.now → result ≡ seen_words.is_synced q h }
+    {
+        self.synced
     }
 
     /// How many changes of the store there were at the last sync; 0 before the first.

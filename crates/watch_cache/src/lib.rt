@@ -6,6 +6,7 @@ mod faults;
 mod index;
 mod listing;
 mod objects;
+mod retainted;
 
 pub use cache::Cache;
 pub use faults::{NotSynced, NotSynced2};

@@ -79,6 +79,7 @@ fn answers_nothing_before_its_first_sync(rt: HostRuntime) -> Result<(), Fail> {
     assert!(rt; pods(&cache, 10, &mut steps).is_none());
     cache.set_stale(lease)?;
     assert!(rt; cache.is_stale(&lease));
+    assert!(rt; cache.retainted(rt.alloc(), &Empty)?.is_empty());
     cache.sync_since(&Empty, &mut steps)?;
     assert!(rt; matches!(cache.node(10), Ok(None)));
     assert!(rt; matches!(cache.lease(&lease), Ok(None)));
@@ -113,6 +114,7 @@ fn shows_own_writes(rt: HostRuntime) -> Result<(), Fail> {
         Some((Version(2), Object::Lease(lease))),
     )?;
     assert!(rt; matches!(cache.node(10), Ok(Some((Version(1), _)))));
+    assert!(rt; !cache.has_other_taints(&key(Kind::Node, 10), &[]));
     assert!(rt;
         matches!(
             cache.lease(&key(Kind::Lease, 10)),

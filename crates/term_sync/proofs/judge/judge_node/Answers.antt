@@ -1,19 +1,32 @@
-use Rattle.std.proofs.Common.{◌∷◌, ◌&&◌, not, subst}
+use Rattle.std.proofs.Common.{◌∙◌, ◌∷◌, ◌&&◌, not, sym, subst}
 use Rattle.std.proofs.lemmas.Result.{on_ok_weaker}
+use Rattle.std.specs.BTreeSet.{contains}
+use Rattle.std.specs.Ordering.{nat_cmp}
 use Rattle.kube_objects.specs.Feeds.{is_among}
 use Rattle.kube_objects.specs.Seen.{seen_pod}
 use Rattle.kube_objects.specs.Stored.{node_key}
 use Rattle.watch_cache.specs.Kept.{is_on}
 use Rattle.term_state.specs.ClusterStands.{ClusterBut, but_node}
 use Rattle.term_state.specs.Taking.{is_open}
-use Rattle.term_sync.proofs.Rest.{next_node, node_is}
+use Rattle.term_sync.proofs.Rest.{next_alone, next_node, node_is}
 use Rattle.term_sync.proofs.judge.judge_node.Goals as goal
+
+pub returns-then-contains-clause-stands : goal.returns-then-contains-clause-stands
+returns-then-contains-clause-stands g c q g' rest s synced =
+    let key = c.args.key in
+    let new = c.judge_node.new.self in
+    let names = c.args.retainted.now in
+    on_ok_weaker c.judge_node.result
+    (λ t. next_node q g' key.name rest names new
+    (subst (λ k. ClusterBut q g' (but_node key.name (λ n. is_among (k ∷ rest) (node_key n))) (λ p. is_open q g' (k ∷ rest) (contains nat_cmp names) p && not (is_on key.name (seen_pod q p g'))) new) (node_is key c.requires.kind c.if-key-ne0.false) t))
+    (c.judge_node.ensures.stands q g' (λ n. is_among (key ∷ rest) (node_key n)) (is_open q g' (key ∷ rest) (contains nat_cmp names)) s synced)
 
 pub returns-clause-stands : goal.returns-clause-stands
 returns-clause-stands g c q g' rest s synced =
     let key = c.args.key in
-    let new = c.judge_node.new.self in
-    on_ok_weaker c.judge_node.result
-    (λ t. next_node q g' key.name rest new
-    (subst (λ k. ClusterBut q g' (but_node key.name (λ n. is_among (k ∷ rest) (node_key n))) (λ p. is_open q g' (k ∷ rest) p && not (is_on key.name (seen_pod q p g'))) new) (node_is key c.requires.kind c.if-key-ne0.false) t))
-    (c.judge_node.ensures.stands q g' (λ n. is_among (key ∷ rest) (node_key n)) (is_open q g' (key ∷ rest)) s synced)
+    let new = c.judge_node_alone.new.self in
+    let names = c.args.retainted.now in
+    on_ok_weaker c.judge_node_alone.result
+    (λ t. next_alone q g' key.name rest names new (sym c.contains.ensures ∙ c.if-contains.false)
+    (subst (λ k. ClusterBut q g' (but_node key.name (λ n. is_among (k ∷ rest) (node_key n))) (is_open q g' (k ∷ rest) (contains nat_cmp names)) new) (node_is key c.requires.kind c.if-key-ne0.false) t))
+    (c.judge_node_alone.ensures.stands q g' (λ n. is_among (key ∷ rest) (node_key n)) (is_open q g' (key ∷ rest) (contains nat_cmp names)) s synced)

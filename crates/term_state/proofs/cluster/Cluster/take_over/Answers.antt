@@ -1,12 +1,15 @@
-use Rattle.std.proofs.Common.{◌≡◌, ◌∙◌, cond, length, ap, arith}
+use Rattle.std.proofs.Common.{◌≡◌, ◌∙◌, cond, length, ap, subst, arith}
+use Rattle.std.specs.BTreeSet.{contains}
+use Rattle.std.specs.Ordering.{nat_cmp}
 use Rattle.std.proofs.lemmas.List.{length-drop}
 use Rattle.kube_objects.specs.Feeds.{is_among}
-use Rattle.kube_objects.specs.Stored.{writes}
+use Rattle.kube_objects.specs.Stored.{node_key, writes}
 use Rattle.object_store.specs.FeedLaws.{total_since}
 use Rattle.object_store.specs.Stands as feed
 use Rattle.object_store.specs.StoreAnswers.{changed_keys}
 use Rattle.tick_laws.specs.Since.{keys_since}
 use Rattle.tick_laws.proofs.Syncing.{synced_few}
+use Rattle.watch_cache.specs.Retainted.{IsSettled}
 use Rattle.watch_cache.specs.Stands.{kept_in}
 use Rattle.watch_cache.proofs.Syncs.{written-count}
 use Rattle.term_state.proofs.Takes.{keys_same, since_is, taken_over}
@@ -21,21 +24,22 @@ returns-then-position-changes-clause-stands g c q k h s st r =
 pub returns-clause-stands : goal.returns-clause-stands
 returns-clause-stands g c q k h s st r =
     let old = c.args.self.now.cache in
-    let since = c.since.result in
+    let since = c.since-since.result in
     let count : length (changed_keys h) ≡ writes h = ap length (keys_same h) ∙ written-count h in
     let position = c.position-position.ensures.kept ∙ s.cache.position in
-    let given = c.since.ensures.keys h st in
+    let given = c.since-since.ensures.keys h st in
     let keys = given ∙ since_is q h c.position-position.result position in
     let whole : length (feed.changed_since since) ≡ writes h =
-    omega (arith, total_since since, c.since.ensures.start, ap length given, length-drop c.position-position.result (changed_keys h), count, synced_few q h, position) in
-    taken_over q k h c.args.self.now c.sync_since.new.self c.args.store.now s st r
+    omega (arith, total_since since, c.since-since.ensures.start, ap length given, length-drop c.position-position.result (changed_keys h), count, synced_few q h, position) in
+    taken_over q k h c.args.self.now c.sync_since.new.self c.args.store.now s st r (contains nat_cmp c.in_ok-names.names)
+    (λ n among out. subst (IsSettled old n) (c.since-since.ensures.shown h (node_key n) st) (c.in_ok-names.ensures n (ap (λ ks. is_among ks (node_key n)) keys ∙ among) out))
     (λ key. c.in_ok-sync_since.ensures.kept key
     ∙ ap (λ ks. cond (is_among ks key) (feed.shown_since since key) (kept_in old key)) keys
-    ∙ ap (λ x. cond (is_among (keys_since q h) key) x (kept_in old key)) (c.since.ensures.shown h key st))
+    ∙ ap (λ x. cond (is_among (keys_since q h) key) x (kept_in old key)) (c.since-since.ensures.shown h key st))
     c.in_ok-sync_since.ensures.stale c.in_ok-sync_since.ensures.synced (c.in_ok-sync_since.ensures.position ∙ whole)
 
 pub returns-clause-counted : goal.returns-clause-counted
 returns-clause-counted g c q h s st =
     let position = c.position-position.ensures.kept ∙ s.cache.position in
-    let keys = c.since.ensures.keys h st ∙ since_is q h c.position-position.result position in
+    let keys = c.since-since.ensures.keys h st ∙ since_is q h c.position-position.result position in
     omega (arith, c.in_ok-sync_since.ensures.counted, ap length keys)

@@ -1,0 +1,24 @@
+-- One changed node after the other is settled, or among those whose taints change.
+use Rattle.std.proofs.Common.{◌≡◌, ◌∙◌, ℕ, ◌+◌, ◌||◌, Bool, true, false, List, take, Option, Some, slice_get, refl, sym, subst}
+use Rattle.kube_base.specs.declared.numbers.Version.{Version}
+use Rattle.kube_objects.specs.declared.key.Key.{Key}
+use Rattle.kube_objects.specs.declared.object.Object.{Object}
+use Rattle.kube_objects.specs.Feeds.{is_among}
+use Rattle.kube_objects.specs.Keys.{key_eq}
+use Rattle.kube_objects.specs.Stored.{node_key}
+use Rattle.kube_objects.proofs.KeyOrder.{same_key}
+use Rattle.watch_cache.specs.declared.cache.Cache.{Cache}
+use Rattle.watch_cache.specs.Retainted.{IsSettled}
+use Rattle.watch_cache.proofs.Takes.{among_more}
+
+pub settled_more : (cache : Cache) (shown : Key → Option (Version × Object)) (keys : List Key) (place : ℕ) (key : Key) (old new : ℕ → Bool) → slice_get keys place ≡ Some key
+    → ((n : ℕ) → is_among (take place keys) (node_key n) ≡ true → old n ≡ false → IsSettled cache n (shown (node_key n)))
+    → ((n : ℕ) → new n ≡ false → old n ≡ false) → ((n : ℕ) → key_eq key (node_key n) ≡ true → new n ≡ false → IsSettled cache n (shown key))
+    → (n : ℕ) → is_among (take (place + 1) keys) (node_key n) ≡ true → new n ≡ false → IsSettled cache n (shown (node_key n))
+settled_more cache shown keys place key old new is before more one n among out =
+    by_tests (is_among (take place keys) (node_key n)) (key_eq key (node_key n)) refl refl (sym (among_more keys place key (node_key n) is) ∙ among)
+  where
+    by_tests : (a b : Bool) → is_among (take place keys) (node_key n) ≡ a → key_eq key (node_key n) ≡ b → (a || b) ≡ true → IsSettled cache n (shown (node_key n))
+    by_tests true b there same either = before n there (more n out)
+    by_tests false true there same either = subst (λ k. IsSettled cache n (shown k)) (same_key key (node_key n) same) (one n same out)
+    by_tests false false there same either = absurd (cc)

@@ -1,0 +1,18 @@
+use Rattle.std.proofs.Common.{◌≡◌, ◌≤◌, ◌-◌, ℕ, true, false, take}
+use Rattle.std.specs.BTreeSet.{contains}
+use Rattle.std.specs.Ordering.{nat_cmp}
+use Rattle.kube_objects.specs.Feeds.{is_among}
+use Rattle.kube_objects.specs.Stored.{node_key}
+use Rattle.watch_cache.specs.Retainted.{IsSettled}
+use Rattle.watch_cache.proofs.cache.Cache.retainted.Given as goal
+
+abbrev pub invariant-loop-place : goal.invariant-loop-place
+invariant-loop-place g l =
+    record {
+      settled : (n : ℕ) → is_among (take l.place (g.C.Changed.keys l.changed)) (node_key n) ≡ true → contains nat_cmp l.names n ≡ false
+          → IsSettled l.self n (g.C.Changed.shown l.changed (node_key n));
+      within : l.place ≤ l.count;
+    }
+
+abbrev pub decreases-loop-place : goal.decreases-loop-place
+decreases-loop-place g l = l.count - l.place

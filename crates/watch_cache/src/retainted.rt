@@ -1,0 +1,97 @@
+// The nodes whose taints change with a sync.
+ghost use Rattle.std.specs.Prelude.{◌≡◌, ℕ, ◌==◌, ◌||◌, true, false, IfOk, OnOk};
+ghost use Rattle.std.specs.BTreeSet.{contains};
+ghost use Rattle.std.specs.Ordering.{nat_cmp};
+ghost use Rattle.kube_objects.specs.Feeds.{is_among, shown_pair};
+ghost use Rattle.kube_objects.specs.Keys.{key_eq};
+ghost use Rattle.kube_objects.specs.Stored.{node_key};
+ghost use Rattle.watch_cache.specs.Retainted.{taints_in};
+
+use crate::Cache;
+use kube_base::{NoMemory, Version};
+use kube_objects::{Changed, Key, Kind, Object, Taint};
+use std::alloc::Global;
+use std::collections::BTreeSet;
+
+// The taints of a node; none of what is no node.
+fn taints_of(shown: Option<(Version, &Object)>) -> &[Taint]
+    ensures { result.now ≡ taints_in (shown_pair shown.entry) }
+{
+    match shown {
+        Some((_, Object::Node(node))) => node.taints.as_slice(),
+        _ => &[],
+    }
+}
+
+fn add_name(names: &mut BTreeSet<u32>, name: u32) -> Result<(), NoMemory>
+    ensures { OnOk result ((n : ℕ) → contains nat_cmp names.new n ≡ ((name == n) || contains nat_cmp names.old n)) }
+{
+    names.insert(name)?;
+    Ok(())
+}
+
+impl Cache {
+    ghost use Rattle.kube_objects.specs.declared.key.Key.{Key};
+    ghost use Rattle.watch_cache.specs.Retainted.{IsSettled};
+    ghost use Rattle.watch_cache.specs.Stands.{kept_in, stale_in};
+
+    // Whether any key is stale.
+    fn has_stale(&self) -> bool
+        ensures { result ≡ false → (k : Key) → stale_in self.now k ≡ false }
+    {
+        match self.stale.first() {
+            None => false,
+            Some(_) => true,
+        }
+    }
+
+    /// Whether the node under a key has other taints than these. What is no node has none.
+    pub fn has_other_taints(&self, key: &Key, taints: &[Taint]) -> bool
+        ensures { result ≡ false → taints_in (kept_in self.now key.now) ≡ taints.now }
+    {
+        taints_of(self.objects.get(key)) != taints
+    }
+
+    // Adds the node of a key that changed, unless all is settled.
+    fn add_retainted(
+        &self,
+        names: &mut BTreeSet<u32>,
+        key: Key,
+        shown: Option<(Version, &Object)>,
+    ) -> Result<(), NoMemory>
+        ensures more { OnOk result ((n : ℕ) → contains nat_cmp names.new n ≡ false → contains nat_cmp names.old n ≡ false) }
+        ensures settled { OnOk result ((n : ℕ) → key_eq key (node_key n) ≡ true → contains nat_cmp names.new n ≡ false
+            → IsSettled self.now n (shown_pair shown.entry)) }
+    {
+        if key.kind == Kind::Node
+            && (self.has_stale() || self.has_other_taints(&key, taints_of(shown)))
+        {
+            return add_name(names, key.name);
+        }
+        Ok(())
+    }
+
+    /// The names of nodes that changed since the last sync: of those whose taints are others now, and of all of them where a
+    /// key is stale. On each other node no pod's due changes but by a change of the pod. The changes are those from
+    /// `position` on, and aren't taken over.
+    pub fn retainted<C: Changed>(
+        &self,
+        alloc: Global,
+        changed: &C,
+    ) -> Result<BTreeSet<u32>, NoMemory>
+        ensures { IfOk result (λ names. (n : ℕ) → is_among (C.keys changed.now) (node_key n) ≡ true → contains nat_cmp names n ≡ false
+            → IsSettled self.now n (C.shown changed.now (node_key n))) }
+    {
+        let mut names = BTreeSet::new(alloc);
+        let count = changed.count();
+        let mut place = 0;
+        while place < count {
+            let Some(key) = changed.key(place) else {
+                unreachable!()
+            };
+            self.add_retainted(&mut names, key, changed.object(place))?;
+            place += 1;
+        }
+        Ok(names)
+    }
+}
