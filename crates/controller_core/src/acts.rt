@@ -1,5 +1,6 @@
 // The phases of a tick.
 ghost use Rattle.std.specs.Prelude.{◌≡◌, ◌≤◌, ◌<◌, ◌+◌, ℕ, List, length, OnOk};
+ghost use Rattle.kube_base.specs.Bounds.{most_local};
 ghost use Rattle.kube_objects.specs.Document.{Doc};
 ghost use Rattle.kube_objects.specs.Entry.{Entry, Identity};
 ghost use Rattle.kube_objects.specs.Modes.{nodes};
@@ -33,7 +34,7 @@ impl Term {
         told: &mut Told,
         steps: &mut Steps<L>,
     ) -> Result<(), NoMemory>
-        requires { view.now.now.0 ≤ 2000000000000000000 }
+        requires { view.now.now.0 ≤ most_local }
         ensures stands { (doc : Doc) (k : ℕ) (q : Identity) (before : List Deed) (h : List Entry) → TermStands doc q h self.old
             → StoreStands h store.old → IsTold q k before h told.old → IsView doc k q h view.entry.now → before_tick q k h ≡ h
             → length (nodes q (model.sync doc k q h)) < 4294967296
@@ -59,7 +60,7 @@ impl Term {
         told: &mut Told,
         steps: &mut Steps<L>,
     ) -> Result<(), NoMemory>
-        requires { view.now.now.0 ≤ 2000000000000000000 }
+        requires { view.now.now.0 ≤ most_local }
         ensures stands { (doc : Doc) (k : ℕ) (q : Identity) (before : List Deed) (h : List Entry)
             → Begun doc k q before h self.old store.old told.old → IsView doc k q h view.entry.now → length (nodes q h) < 4294967296
             → OnOk result (Acted doc k q before (acted doc k q h) self.new store.new told.new) }

@@ -1,5 +1,6 @@
 // The readings at which a tick has a pass or a queued taint.
 ghost use Rattle.std.specs.Prelude.{◌≡◌, ◌≤◌, ◌<◌, ◌⊎◌, ℕ, true, false, List, None, IfSome, IfNone};
+ghost use Rattle.kube_base.specs.Bounds.{most_local};
 ghost use Rattle.kube_objects.specs.Clocks.{local};
 ghost use Rattle.kube_objects.specs.Document.{Doc};
 ghost use Rattle.kube_objects.specs.Entry as model;
@@ -66,16 +67,16 @@ impl Term {
     }
 
     /// The least reading at which a tick has a pass, or a queued taint of those who wait now; none exactly where there was no
-    /// pass. Readings are at most 2 * 10^18.
+    /// pass. Readings are at most `most_local`.
     pub fn wake(&self) -> Option<Local>
         ensures none { (doc : Doc) (q : Identity) (h : List Entry) → TermStands doc q h self.now → IfNone result (last_pass q h ≡ None) }
         ensures some { (doc : Doc) (q : Identity) (h : List Entry) → TermStands doc q h self.now
             → IfSome result (λ at. ¬ (last_pass q h ≡ None)) }
         ensures early { (doc : Doc) (k : ℕ) (q : Identity) (h : List Entry) → TermStands doc q h self.now
-            → local doc q.process k ≤ 2000000000000000000 → IfSome result (λ at. local doc q.process k < at.0
+            → local doc q.process k ≤ most_local → IfSome result (λ at. local doc q.process k < at.0
             → (is_pass_due doc k q h ≡ false) × ((place : model.Place) → ¬ IsHeadDue doc k q h place)) }
         ensures there { (doc : Doc) (k : ℕ) (q : Identity) (h : List Entry) → TermStands doc q h self.now
-            → local doc q.process k ≤ 2000000000000000000 → IfSome result (λ at. at.0 ≤ local doc q.process k
+            → local doc q.process k ≤ most_local → IfSome result (λ at. at.0 ≤ local doc q.process k
             → (is_pass_due doc k q h ≡ true) ⊎ ((place : model.Place) × IsHeadDue doc k q h place)) }
     {
         let last = self.last?;

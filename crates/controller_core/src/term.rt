@@ -1,5 +1,6 @@
 // A term of a leader.
 ghost use Rattle.std.specs.Prelude.{◌≡◌, ◌≤◌, ◌<◌, ◌+◌, ◌++◌, ℕ, List, length, IfOk, OnOk};
+ghost use Rattle.kube_base.specs.Bounds.{most_local};
 ghost use Rattle.history.specs.Printed.{printed};
 ghost use Rattle.kube_objects.specs.Document.{Doc};
 ghost use Rattle.kube_objects.specs.Entry.{Entry, Identity};
@@ -66,7 +67,7 @@ impl Term {
         policies: &Policies,
         steps: &mut Steps<L>,
     ) -> Result<Deeds, NoMemory>
-        requires { view.now.now.0 ≤ 2000000000000000000 }
+        requires { view.now.now.0 ≤ most_local }
         ensures stands { (doc : Doc) (k : ℕ) (q : Identity) (h : List Entry) → TermStands doc q h self.old → StoreStands h store.old
             → IsView doc k q h view.entry.now → acting_identity acting.now ≡ q → before_tick q k h ≡ h
             → length (nodes q (model.sync doc k q h)) < 4294967296

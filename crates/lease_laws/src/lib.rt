@@ -22,5 +22,6 @@ pub fn term_is_whole()
 
 /// Where the lease premise holds, a term begins only after the acting of another identity is over.
 pub fn terms_are_apart()
-    ensures { (doc : Doc) → lease_premise doc ≡ true → IsSound doc → (p q : Identity) (k m n : ℕ) → n ≤ end_beat doc → m ≤ k → k ≤ n → Acts doc p k → Acts doc q n → Acts doc q m → p ≡ q }
+    ensures { (doc : Doc) → lease_premise doc ≡ true → IsSound doc → (p q : Identity) (k m n : ℕ) → n ≤ end_beat doc → m ≤ k → k ≤ n
+        → Acts doc p k → Acts doc q n → Acts doc q m → p ≡ q }
 {}

@@ -1,5 +1,6 @@
 // The bucket and its token.
 ghost use Rattle.std.specs.Prelude.{◌≡◌, ℕ, ◌≤◌, IsTrue, IsNone, IfSome, ◌↔◌};
+ghost use Rattle.kube_base.specs.Bounds.{most_local};
 ghost use Rattle.rate_bucket.specs.Filling.{HasToken, empty_at, swapped, after_attempt};
 
 use kube_base::Local;
@@ -10,7 +11,7 @@ const TOKEN: u128 = 1_000_000_000_000_000;
 
 /// A bucket of at most one token, empty at its start and at each change of its rate. It takes no memory.
 ///
-/// Rates are whole numbers of tokens in 1,000 s. Readings are those of the controller's own clock, at most 2 * 10^18.
+/// Rates are whole numbers of tokens in 1,000 s. Readings are those of the controller's own clock, at most `most_local`.
 #[derive(Debug, Drop)]
 pub struct Bucket {
     rate: u32,
@@ -19,19 +20,20 @@ pub struct Bucket {
 
 impl Model for Bucket {
     ghost use Rattle.std.specs.Prelude.{◌≤◌};
+    ghost use Rattle.kube_base.specs.Bounds.{most_local};
     ghost use Rattle.rate_bucket.specs.Filling.{Filling, empty_at};
 
     ghost Value = { Filling };
 
     ghost view = { λ b. empty_at b.rate b.base.0 };
 
-    ghost invariant = { λ b. b.base.0 ≤ 2000000000000000000 };
+    ghost invariant = { λ b. b.base.0 ≤ most_local };
 }
 
 impl Bucket {
     /// An empty bucket.
     pub fn start(rate: u32, now: Local) -> Bucket
-        requires { now.0 ≤ 2000000000000000000 }
+        requires { now.0 ≤ most_local }
         ensures { result ≡ empty_at rate now.0 }
     {
         Bucket { rate, base: now }
@@ -39,7 +41,7 @@ impl Bucket {
 
     /// Empties the bucket where the rate differs, and does nothing where it is equal.
     pub fn swap(&mut self, rate: u32, now: Local)
-        requires { now.0 ≤ 2000000000000000000 }
+        requires { now.0 ≤ most_local }
         ensures { self.new ≡ swapped self.old rate now.0 }
     {
         if self.rate != rate {
@@ -49,7 +51,7 @@ impl Bucket {
 
     /// Takes the token, where it is there. With rate 0 it never is.
     pub fn try_take(&mut self, now: Local) -> bool
-        requires { now.0 ≤ 2000000000000000000 }
+        requires { now.0 ≤ most_local }
         ensures taken { IsTrue result ↔ HasToken self.old now.0 }
         ensures after { self.new ≡ after_attempt self.old now.0 result }
     {
@@ -80,6 +82,9 @@ impl Bucket {
 mod tests {
     use super::*;
 
+    // The greatest reading that is handed in.
+    const MOST_LOCAL: u64 = 2_000_000_000_000_000_000;
+
     // One token in 10 s, at readings in 10^-12 s.
     #[test]
     fn one_token_in_ten_seconds(rt: HostRuntime) {
@@ -92,7 +97,7 @@ mod tests {
             (20_000_000_000_000, true),
         ];
         for (now, taken) in attempts {
-            if now <= 2_000_000_000_000_000_000 {
+            if now <= MOST_LOCAL {
                 assert_eq!(rt; bucket.try_take(Local(now)), taken);
             }
         }
@@ -108,8 +113,8 @@ mod tests {
         assert_eq!(rt; bucket.ready_at(), Some(Local(30_000_000_000_000)));
         bucket.swap(0, Local(11_000_000_000_000));
         assert_eq!(rt; bucket.ready_at(), None);
-        assert_eq!(rt; bucket.try_take(Local(2_000_000_000_000_000_000)), false);
-        bucket.swap(1_000_000, Local(2_000_000_000_000_000_000));
+        assert_eq!(rt; bucket.try_take(Local(MOST_LOCAL)), false);
+        bucket.swap(1_000_000, Local(MOST_LOCAL));
         assert_eq!(rt; bucket.ready_at(), Some(Local(2_000_000_001_000_000_000)));
     }
 }

@@ -1,5 +1,6 @@
 // A clock whose rate changes at beats.
 ghost use Rattle.std.specs.Prelude.{◌≡◌, ℕ, pos, ◌+ℤ◌, ◌+◌, ◌*◌, ◌/◌, ◌^◌, ◌<◌, ◌≤◌, [], ◌∷◌, IfOk, IfSome, IfNone, OnOk, OnErr};
+ghost use Rattle.kube_base.specs.Bounds.{most_local};
 ghost use Rattle.skew_clock.specs.Clocking.{rate_at, last_set, reading, wall_of, wall_when, IsFirst, IsRate, IsEpoch, IsOffset, IsSpan};
 
 use kube_base::{Beat, Local, NoMemory, Wall};
@@ -98,7 +99,7 @@ impl Clock {
     pub fn local(&self, beat: Beat) -> Local
         requires { beat.0 ≤ self.now.end }
         ensures value { result.0 ≡ reading self.now beat.0 }
-        ensures range { result.0 ≤ 2 * 10 ^ 18 }
+        ensures range { result.0 ≤ most_local }
     {
         let segment = self.segment_at(beat);
         let beats = u64::from(beat.0 - segment.beat.0);
@@ -117,7 +118,7 @@ impl Clock {
 
     /// The time of day when the clock reads this, in microseconds.
     pub fn wall_at(&self, reading: Local) -> Wall
-        requires { reading.0 ≤ 2 * 10 ^ 18 }
+        requires { reading.0 ≤ most_local }
         ensures value { result.0 ≡ wall_when self.now reading.0 }
         ensures exact { pos result.0 ≡ pos (self.now.epoch + reading.0 / 1000000) +ℤ self.now.offset }
         ensures range { result.0 ≤ 10 ^ 16 }

@@ -102,7 +102,8 @@ impl Queues {
     fn want(&mut self, node: u32, place: Place, at: Beat) -> Result<(), NoMemory>
         requires { home self.old node ≡ Some place }
         ensures { OnOk result ((zone : Place) (other : ℕ) → since self.new zone other
-            ≡ (if node == other && zone_eq place zone then Some (unwrap_or (since self.old zone node) at.0) else since self.old zone other)) }
+            ≡ (if node == other && zone_eq place zone then Some (unwrap_or (since self.old zone node) at.0)
+            else since self.old zone other)) }
     {
         want(&mut self.zones, self.alloc, place, node, at)
     }
@@ -123,7 +124,8 @@ impl Queues {
     /// A node that waits in a zone does so since this beat from now on. Takes no memory.
     pub fn to_back(&mut self, place: Place, node: u32, at: Beat)
         ensures { (zone : Place) (other : ℕ) → since self.new zone other
-            ≡ (if node == other && zone_eq place zone then option_map (λ _. at.0) (since self.old zone node) else since self.old zone other) }
+            ≡ (if node == other && zone_eq place zone then option_map (λ _. at.0) (since self.old zone node)
+            else since self.old zone other) }
     {
         to_back(&mut self.zones, place, node, at);
     }

@@ -29,7 +29,8 @@ pub(crate) fn want(
     at: Beat,
 ) -> Result<(), NoMemory>
     ensures ok { OnOk result ((zone : Place) (other : ℕ) → since_at zones.new zone other
-        ≡ (if node == other && zone_eq place zone then Some (unwrap_or (since_at zones.old zone node) at.0) else since_at zones.old zone other)) }
+        ≡ (if node == other && zone_eq place zone then Some (unwrap_or (since_at zones.old zone node) at.0)
+        else since_at zones.old zone other)) }
     ensures err { OnErr result ((zone : Place) (other : ℕ) → since_at zones.new zone other ≡ since_at zones.old zone other) }
 {
     match zones.get_mut(&place) {
@@ -60,7 +61,8 @@ fn begin(
 // A node that waits in the zone does so since this beat from now on.
 pub(crate) fn to_back(zones: &mut BTreeMap<Place, Queue>, place: Place, node: u32, at: Beat)
     ensures { (zone : Place) (other : ℕ) → since_at zones.new zone other
-        ≡ (if node == other && zone_eq place zone then option_map (λ _. at.0) (since_at zones.old zone node) else since_at zones.old zone other) }
+        ≡ (if node == other && zone_eq place zone then option_map (λ _. at.0) (since_at zones.old zone node)
+        else since_at zones.old zone other) }
 {
     if let Some(queue) = zones.get_mut(&place) {
         queue.to_back(node, at);

@@ -1,5 +1,6 @@
 // Limiters and queues of zones.
 ghost use Rattle.std.specs.Prelude.{◌≡◌, ◌≤◌, ℕ, true, false, List, None};
+ghost use Rattle.kube_base.specs.Bounds.{most_local};
 ghost use Rattle.kube_objects.specs.Clocks.{local};
 ghost use Rattle.kube_objects.specs.Document.{Doc};
 ghost use Rattle.kube_objects.specs.Entry.{Entry, Identity};
@@ -38,11 +39,12 @@ impl Zones {
 
     /// Takes the token of a zone, where it is there.
     pub fn try_take(&mut self, place: Place, now: Local) -> bool
-        requires { now.0 ≤ 2000000000000000000 }
+        requires { now.0 ≤ most_local }
         ensures there { (doc : Doc) (q : Identity) (k : ℕ) (h : List Entry) → LimitsStand doc q h self.old → now.0 ≡ local doc q.process k
             → result ≡ tokens.has_token doc q k (entry_place place) h }
         ensures kept { result ≡ false → (zone : entry_words.Place) → limit_at self.new zone ≡ limit_at self.old zone }
-        ensures taken { result ≡ true → (zone : entry_words.Place) → limit_at self.new zone ≡ taken_at place now.0 zone (limit_at self.old zone) }
+        ensures taken { result ≡ true → (zone : entry_words.Place)
+            → limit_at self.new zone ≡ taken_at place now.0 zone (limit_at self.old zone) }
         ensures queues { (zone : Place) (node : ℕ) → since self.new.queues zone node ≡ since self.old.queues zone node }
     {
         match self.limits.get_mut(&place) {

@@ -32,11 +32,11 @@ pub(crate) fn clean_one<L>(
     steps: &mut Steps<L>,
     name: u32,
 ) -> Result<(), NoMemory>
-    ensures stands { (doc : Doc) (k : ℕ) (q : Identity) (before : List Deed) (h : List Entry) → Running q k before h cluster.old store.old told.old
-        → IsView doc k q h view.entry.now → is_dirty q name h ≡ true
+    ensures stands { (doc : Doc) (k : ℕ) (q : Identity) (before : List Deed) (h : List Entry)
+        → Running q k before h cluster.old store.old told.old → IsView doc k q h view.entry.now → is_dirty q name h ≡ true
         → OnOk result (Running q k before (tick.clean doc k q name h) cluster.new store.new told.new) }
-    ensures counted { (doc : Doc) (k : ℕ) (q : Identity) (before : List Deed) (h : List Entry) → Running q k before h cluster.old store.old told.old
-        → IsView doc k q h view.entry.now → is_dirty q name h ≡ true
+    ensures counted { (doc : Doc) (k : ℕ) (q : Identity) (before : List Deed) (h : List Entry)
+        → Running q k before h cluster.old store.old told.old → IsView doc k q h view.entry.now → is_dirty q name h ≡ true
         → OnOk result (steps.new + tick_cost q k h ≤ steps.old + tick_cost q k (tick.clean doc k q name h)) }
 {
     let Some((given, node)) = cluster.node(name) else {
@@ -74,11 +74,14 @@ fn attempt<L>(
     written: Node,
 ) -> Result<(), NoMemory>
     ensures stands { (doc : Doc) (k : ℕ) (q : Identity) (before : List Deed) (h : List Entry) (node : Node)
-        → Running q k before h cluster.old store.old told.old → IsView doc k q h view.entry.now → written ≡ cleaned_node doc k q node (wants_of wants)
-        → OnOk result (Running q k before (tick.add k q (cleaning doc k q name given node (wants_of wants) (tries.try_node q name given h)) h)
+        → Running q k before h cluster.old store.old told.old → IsView doc k q h view.entry.now
+        → written ≡ cleaned_node doc k q node (wants_of wants)
+        → OnOk result (Running q k before
+        (tick.add k q (cleaning doc k q name given node (wants_of wants) (tries.try_node q name given h)) h)
         cluster.new store.new told.new) }
     ensures counted { (doc : Doc) (k : ℕ) (q : Identity) (before : List Deed) (h : List Entry) (node : Node)
-        → Running q k before h cluster.old store.old told.old → IsView doc k q h view.entry.now → written ≡ cleaned_node doc k q node (wants_of wants)
+        → Running q k before h cluster.old store.old told.old → IsView doc k q h view.entry.now
+        → written ≡ cleaned_node doc k q node (wants_of wants)
         → OnOk result (steps.new + tick_cost q k h
         ≤ steps.old + tick_cost q k (tick.add k q (cleaning doc k q name given node (wants_of wants) (tries.try_node q name given h)) h)) }
 {
@@ -89,7 +92,8 @@ fn attempt<L>(
 
 // Tells of a try that was answered.
 fn tell(told: &mut Told, name: u32, wants: Wants, answer: Option<Answer>) -> Result<(), NoMemory>
-    ensures { (doc : Doc) (k : ℕ) (q : Identity) (before : List Deed) (h : List Entry) (given : Version) (node : Node) → IsTold q k before h told.old
+    ensures { (doc : Doc) (k : ℕ) (q : Identity) (before : List Deed) (h : List Entry) (given : Version) (node : Node)
+        → IsTold q k before h told.old
         → OnOk result (IsTold q k before (tick.add k q (cleaning doc k q name given node (wants_of wants) answer) h) told.new) }
 {
     let Some(answer) = answer else {
@@ -110,8 +114,9 @@ fn note<L>(
     written: Node,
     answer: Option<Answer>,
 ) -> Result<(), NoMemory>
-    ensures stands { (q : Identity) (k : ℕ) (h g : List Entry) → ClusterStands q h cluster.old → IsMoved q k h cluster.old → is_synced q h ≡ true
-        → before_tick q k g ≡ before_tick q k h → IsChange q h g (noted_by name written answer) (refused_by (node_key name) answer)
+    ensures stands { (q : Identity) (k : ℕ) (h g : List Entry) → ClusterStands q h cluster.old → IsMoved q k h cluster.old
+        → is_synced q h ≡ true → before_tick q k g ≡ before_tick q k h
+        → IsChange q h g (noted_by name written answer) (refused_by (node_key name) answer)
         → OnOk result (ClusterStands q g cluster.new × IsMoved q k g cluster.new) }
     ensures counted { (q : Identity) (h g : List Entry) → ClusterStands q h cluster.old → is_synced q h ≡ true
         → IsChange q h g (noted_by name written answer) (refused_by (node_key name) answer)
@@ -130,8 +135,9 @@ fn note_answer<L>(
     written: Node,
     answer: Answer,
 ) -> Result<(), NoMemory>
-    ensures stands { (q : Identity) (k : ℕ) (h g : List Entry) → ClusterStands q h cluster.old → IsMoved q k h cluster.old → is_synced q h ≡ true
-        → before_tick q k g ≡ before_tick q k h → IsChange q h g (noted_by name written (Some answer)) (refused_by (node_key name) (Some answer))
+    ensures stands { (q : Identity) (k : ℕ) (h g : List Entry) → ClusterStands q h cluster.old → IsMoved q k h cluster.old
+        → is_synced q h ≡ true → before_tick q k g ≡ before_tick q k h
+        → IsChange q h g (noted_by name written (Some answer)) (refused_by (node_key name) (Some answer))
         → OnOk result (ClusterStands q g cluster.new × IsMoved q k g cluster.new) }
     ensures counted { (q : Identity) (h g : List Entry) → ClusterStands q h cluster.old → is_synced q h ≡ true
         → IsChange q h g (noted_by name written (Some answer)) (refused_by (node_key name) (Some answer))

@@ -23,10 +23,11 @@ pub fn clean<L>(
     told: &mut Told,
     steps: &mut Steps<L>,
 ) -> Result<(), NoMemory>
-    ensures stands { (doc : Doc) (k : ℕ) (q : Identity) (before : List Deed) (h : List Entry) → Running q k before h cluster.old store.old told.old
-        → IsView doc k q h view.entry.now → OnOk result (Running q k before (tick.cleaned doc k q h) cluster.new store.new told.new) }
-    ensures counted { (doc : Doc) (k : ℕ) (q : Identity) (before : List Deed) (h : List Entry) → Running q k before h cluster.old store.old told.old
-        → IsView doc k q h view.entry.now
+    ensures stands { (doc : Doc) (k : ℕ) (q : Identity) (before : List Deed) (h : List Entry)
+        → Running q k before h cluster.old store.old told.old → IsView doc k q h view.entry.now
+        → OnOk result (Running q k before (tick.cleaned doc k q h) cluster.new store.new told.new) }
+    ensures counted { (doc : Doc) (k : ℕ) (q : Identity) (before : List Deed) (h : List Entry)
+        → Running q k before h cluster.old store.old told.old → IsView doc k q h view.entry.now
         → OnOk result (steps.new + tick_cost q k h ≤ steps.old + tick_cost q k (tick.cleaned doc k q h)) }
 {
     let mut next = cluster.next_unclean(None);

@@ -55,11 +55,13 @@ fn look<L>(
     steps: &mut Steps<L>,
 ) -> Result<(), NoMemory>
     ensures stands { (doc : Doc) (k : ℕ) (q : Identity) (before : List Deed) (h now : List Entry) (looked : ℕ → Bool)
-        → IsPassing doc k q before h now looked cluster.old health.old store.old told.old → IsView doc k q now view.entry.now → IsGraceOf doc grace.now
+        → IsPassing doc k q before h now looked cluster.old health.old store.old told.old → IsView doc k q now view.entry.now
+        → IsGraceOf doc grace.now
         → looked name ≡ false → has (seen_node q name h) ≡ true → seen_node q name now ≡ seen_node q name h
         → OnOk result (IsPassing doc k q before h (model.mark doc k q name now) (and_looked name looked) cluster.new health.new store.new told.new) }
     ensures counted { (doc : Doc) (k : ℕ) (q : Identity) (before : List Deed) (h now : List Entry) (looked : ℕ → Bool)
-        → IsPassing doc k q before h now looked cluster.old health.old store.old told.old → IsView doc k q now view.entry.now → IsGraceOf doc grace.now
+        → IsPassing doc k q before h now looked cluster.old health.old store.old told.old → IsView doc k q now view.entry.now
+        → IsGraceOf doc grace.now
         → looked name ≡ false → has (seen_node q name h) ≡ true → seen_node q name now ≡ seen_node q name h
         → OnOk result (HaveCost q k now (model.mark doc k q name now) steps.old steps.new) }
 {
@@ -90,12 +92,14 @@ pub(crate) fn look_all<L>(
     steps: &mut Steps<L>,
 ) -> Result<(), NoMemory>
     ensures stands { (doc : Doc) (k : ℕ) (q : Identity) (before : List Deed) (h : List Entry)
-        → Running q k before (add k q Pass h) cluster.old store.old told.old → HealthStands doc q h health.old → IsView doc k q h view.entry.now
+        → Running q k before (add k q Pass h) cluster.old store.old told.old → HealthStands doc q h health.old
+        → IsView doc k q h view.entry.now
         → IsGraceOf doc grace.now → AreNamed (λ n. has (seen_node q n h)) names.now
         → OnOk result (IsPassing doc k q before h (model.marks doc k q (add k q Pass h)) (λ n. spec.is_listed names.now n)
         cluster.new health.new store.new told.new) }
     ensures counted { (doc : Doc) (k : ℕ) (q : Identity) (before : List Deed) (h : List Entry)
-        → Running q k before (add k q Pass h) cluster.old store.old told.old → HealthStands doc q h health.old → IsView doc k q h view.entry.now
+        → Running q k before (add k q Pass h) cluster.old store.old told.old → HealthStands doc q h health.old
+        → IsView doc k q h view.entry.now
         → IsGraceOf doc grace.now → AreNamed (λ n. has (seen_node q n h)) names.now
         → OnOk result (HaveCost q k (add k q Pass h) (model.marks doc k q (add k q Pass h)) steps.old steps.new) }
 {

@@ -57,10 +57,12 @@ pub(crate) fn mark<L>(
     told: &mut Told,
     steps: &mut Steps<L>,
 ) -> Result<(), NoMemory>
-    ensures stands { (doc : Doc) (k : ℕ) (q : Identity) (before : List Deed) (h : List Entry) → Running q k before h cluster.old store.old told.old
+    ensures stands { (doc : Doc) (k : ℕ) (q : Identity) (before : List Deed) (h : List Entry)
+        → Running q k before h cluster.old store.old told.old
         → IsView doc k q h view.entry.now → reason ≡ reason_in written.ready
         → OnOk result (Running q k before (add k q (Mark name given written (tries.try_node q name given h)) h) cluster.new store.new told.new) }
-    ensures counted { (doc : Doc) (k : ℕ) (q : Identity) (before : List Deed) (h : List Entry) → Running q k before h cluster.old store.old told.old
+    ensures counted { (doc : Doc) (k : ℕ) (q : Identity) (before : List Deed) (h : List Entry)
+        → Running q k before h cluster.old store.old told.old
         → IsView doc k q h view.entry.now
         → OnOk result (HaveCost q k h (add k q (Mark name given written (tries.try_node q name given h)) h) steps.old steps.new) }
 {

@@ -39,7 +39,8 @@ pub(crate) fn set_mode(
     ensures { (doc : Doc) (k : ℕ) (q : Identity) (before : List Deed) (h : List Entry) (store : Store)
         → Running q k before h cluster.old store told.old → HealthStands doc q h health.old → IsView doc k q h view.entry.now
         → zones.now ≡ zone_counts (nodes q h) → percent ≡ doc.settings.unhealthy_percent
-        → OnOk result (Running q k before (model.set_mode doc k q h) cluster.new store told.new × HealthStands doc q (model.set_mode doc k q h) health.new) }
+        → OnOk result (Running q k before (model.set_mode doc k q h) cluster.new store told.new
+        × HealthStands doc q (model.set_mode doc k q h) health.new) }
 {
     let on = all_full(zones, percent);
     if on == cluster.mode() {

@@ -1,5 +1,6 @@
 // The pass.
 ghost use Rattle.std.specs.Prelude.{◌≡◌, ◌≤◌, ◌<◌, ℕ, List, length, OnOk};
+ghost use Rattle.kube_base.specs.Bounds.{most_local};
 ghost use Rattle.kube_objects.specs.Document.{Doc};
 ghost use Rattle.kube_objects.specs.Entry.{Entry, Identity};
 ghost use Rattle.kube_objects.specs.Modes.{nodes};
@@ -43,13 +44,16 @@ pub fn pass<L>(
     steps: &mut Steps<L>,
 ) -> Result<(), NoMemory>
     requires ordered { settings.now.secondary_rate ≤ settings.now.primary_rate }
-    requires reading { view.now.now.0 ≤ 2000000000000000000 }
-    ensures running { (doc : Doc) (k : ℕ) (q : Identity) (before : List Deed) (h : List Entry) → Running q k before h cluster.old store.old told.old
+    requires reading { view.now.now.0 ≤ most_local }
+    ensures running { (doc : Doc) (k : ℕ) (q : Identity) (before : List Deed) (h : List Entry)
+        → Running q k before h cluster.old store.old told.old
         → HealthStands doc q h health.old → LimitsStand doc q h zones.old → LastStands doc q h last.old → IsView doc k q h view.entry.now
         → AreSettings doc settings.now → length (nodes q h) < 4294967296
-        → OnOk result (Running q k before (model.pass doc k q h) cluster.new store.new told.new × HealthStands doc q (model.pass doc k q h) health.new
+        → OnOk result (Running q k before (model.pass doc k q h) cluster.new store.new told.new
+        × HealthStands doc q (model.pass doc k q h) health.new
         × LimitsStand doc q (model.pass doc k q h) zones.new × LastStands doc q (model.pass doc k q h) last.new) }
-    ensures counted { (doc : Doc) (k : ℕ) (q : Identity) (before : List Deed) (h : List Entry) → Running q k before h cluster.old store.old told.old
+    ensures counted { (doc : Doc) (k : ℕ) (q : Identity) (before : List Deed) (h : List Entry)
+        → Running q k before h cluster.old store.old told.old
         → HealthStands doc q h health.old → LimitsStand doc q h zones.old → LastStands doc q h last.old → IsView doc k q h view.entry.now
         → AreSettings doc settings.now → length (nodes q h) < 4294967296
         → OnOk result (HaveCost q k h (model.pass doc k q h) steps.old steps.new) }

@@ -1,5 +1,6 @@
 // The zones' states and rates.
 ghost use Rattle.std.specs.Prelude.{◌≡◌, ◌≤◌, ◌<◌, ℕ, true, false, not, List, Some, None, length, OnOk};
+ghost use Rattle.kube_base.specs.Bounds.{most_local};
 ghost use Rattle.kube_objects.specs.Clocks.{local};
 ghost use Rattle.kube_objects.specs.Document.{Doc};
 ghost use Rattle.kube_objects.specs.Entry.{Entry, Identity, Place as Zone};
@@ -27,9 +28,10 @@ use zone_counts::ZoneCount;
 use zone_state::Policies;
 
 /// The limit of a zone after a pass, by its limit before; a new zone and a new rate empty the bucket.
-fn renewed(old: Option<Limit>, state: ZoneState, rate: u32, now: Local) -> Limit
-    requires { now.0 ≤ 2000000000000000000 }
-    ensures { (doc : Doc) (k : ℕ) (q : Identity) (h : List Entry) (place : Zone) → LimitStands doc q h place old → now.0 ≡ local doc q.process k
+fn limit_after(old: Option<Limit>, state: ZoneState, rate: u32, now: Local) -> Limit
+    requires { now.0 ≤ most_local }
+    ensures { (doc : Doc) (k : ℕ) (q : Identity) (h : List Entry) (place : Zone) → LimitStands doc q h place old
+        → now.0 ≡ local doc q.process k
         → LimitStands doc q (model.zone_as k q place state rate h) place (Some result) }
 {
     match old {
@@ -90,7 +92,7 @@ pub(crate) fn set_zones(
     told: &mut Told,
 ) -> Result<(), NoMemory>
     requires ordered { settings.now.secondary_rate ≤ settings.now.primary_rate }
-    requires reading { view.now.now.0 ≤ 2000000000000000000 }
+    requires reading { view.now.now.0 ≤ most_local }
     ensures stands { (doc : Doc) (k : ℕ) (q : Identity) (before : List Deed) (h : List Entry) → IsTold q k before h told.old
         → ArePassed doc q h zones.old → counts.now ≡ zone_counts (nodes q h) → length (nodes q h) < 4294967296 → on ≡ mode q h
         → AreSettings doc settings.now → view.entry.now.now.0 ≡ local doc q.process k
@@ -104,7 +106,7 @@ pub(crate) fn set_zones(
         let state = zone.state(settings.unhealthy_percent);
         let rate = zone.rate(on, settings, policies);
         tell(is_rated(&old, state, rate), zone.place, state, rate, told)?;
-        kept.insert(zone.place, renewed(old, state, rate, view.now))?;
+        kept.insert(zone.place, limit_after(old, state, rate, view.now))?;
         rest = others;
     }
     zones.limits = kept;

@@ -1,5 +1,6 @@
 // The queued taint of one zone.
 ghost use Rattle.std.specs.Prelude.{◌≡◌, ◌≤◌, ◌+◌, ◌==◌, ℕ, true, List, Some, None, OnOk, IfOk, if◌then◌else◌};
+ghost use Rattle.kube_base.specs.Bounds.{most_local};
 ghost use Rattle.kube_objects.specs.Document.{Doc};
 ghost use Rattle.kube_objects.specs.Entry.{Entry, Head, Identity};
 ghost use Rattle.kube_objects.specs.Entry as entry_words;
@@ -38,7 +39,7 @@ pub(crate) fn taint_first<L>(
     steps: &mut Steps<L>,
     place: Place,
 ) -> Result<(), NoMemory>
-    requires { view.now.now.0 ≤ 2000000000000000000 }
+    requires { view.now.now.0 ≤ most_local }
     ensures stands { (doc : Doc) (q : Identity) (k : ℕ) (before : List Deed) (h : List Entry)
         → Heading doc q k before h zones.old cluster.old store.old told.old → IsView doc k q h view.entry.now
         → OnOk result (Heading doc q k before (tick.taint doc k q (entry_place place) h) zones.new cluster.new store.new told.new) }
@@ -77,8 +78,9 @@ struct Lacking {
 }
 
 fn lack_of(cluster: &Cluster, name: u32, now: Wall) -> Result<Option<Lacking>, NoMemory>
-    ensures { (doc : Doc) (k : ℕ) (q : Identity) (h : List Entry) (place : entry_words.Place) (wanted : ℕ) (x : Version × Node) → ClusterStands q h cluster.now
-        → is_synced q h ≡ true → now.0 ≡ wall doc q.process k → waits q place name h ≡ Some wanted → seen_node q name h ≡ Some x
+    ensures { (doc : Doc) (k : ℕ) (q : Identity) (h : List Entry) (place : entry_words.Place) (wanted : ℕ) (x : Version × Node)
+        → ClusterStands q h cluster.now → is_synced q h ≡ true → now.0 ≡ wall doc q.process k
+        → waits q place name h ≡ Some wanted → seen_node q name h ≡ Some x
         → IfOk result (λ found. found ≡ Some (lacking_of (x.0) wanted (tick.tainted_with (tick.new_taint doc k q wanted) (x.1)))) }
 {
     let Some((given, node)) = cluster.node(name) else {
@@ -113,7 +115,8 @@ fn attempt<L>(
     ensures queues { (doc : Doc) (k : ℕ) (q : Identity) (before : List Deed) (h : List Entry)
         → Running q k before h cluster.old store.old told.old → IsView doc k q h view.entry.now
         → OnOk result ((zone : Place) (other : ℕ) → since queues.new zone other
-        ≡ (if name == other then requeued (tries.try_node q name lacking.given h) place zone k (since queues.old zone name) else since queues.old zone other)) }
+        ≡ (if name == other then requeued (tries.try_node q name lacking.given h) place zone k (since queues.old zone name)
+        else since queues.old zone other)) }
     ensures counted { (doc : Doc) (k : ℕ) (q : Identity) (before : List Deed) (h : List Entry)
         → Running q k before h cluster.old store.old told.old → IsView doc k q h view.entry.now
         → OnOk result (steps.new + tick_cost q k h ≤ steps.old + tick_cost q k (headed k q (entry_place place) name lacking h)) }
@@ -167,8 +170,9 @@ fn note<L>(
     written: Node,
     answer: Option<Answer>,
 ) -> Result<(), NoMemory>
-    ensures stands { (q : Identity) (k : ℕ) (h g : List Entry) → ClusterStands q h cluster.old → IsMoved q k h cluster.old → is_synced q h ≡ true
-        → before_tick q k g ≡ before_tick q k h → IsChange q h g (noted_by name written answer) None
+    ensures stands { (q : Identity) (k : ℕ) (h g : List Entry) → ClusterStands q h cluster.old → IsMoved q k h cluster.old
+        → is_synced q h ≡ true → before_tick q k g ≡ before_tick q k h
+        → IsChange q h g (noted_by name written answer) None
         → OnOk result (ClusterStands q g cluster.new × IsMoved q k g cluster.new) }
     ensures counted { (q : Identity) (h g : List Entry) → ClusterStands q h cluster.old → is_synced q h ≡ true
         → IsChange q h g (noted_by name written answer) None
@@ -187,8 +191,9 @@ fn note_answer<L>(
     written: Node,
     answer: Answer,
 ) -> Result<(), NoMemory>
-    ensures stands { (q : Identity) (k : ℕ) (h g : List Entry) → ClusterStands q h cluster.old → IsMoved q k h cluster.old → is_synced q h ≡ true
-        → before_tick q k g ≡ before_tick q k h → IsChange q h g (noted_by name written (Some answer)) None
+    ensures stands { (q : Identity) (k : ℕ) (h g : List Entry) → ClusterStands q h cluster.old → IsMoved q k h cluster.old
+        → is_synced q h ≡ true → before_tick q k g ≡ before_tick q k h
+        → IsChange q h g (noted_by name written (Some answer)) None
         → OnOk result (ClusterStands q g cluster.new × IsMoved q k g cluster.new) }
     ensures counted { (q : Identity) (h g : List Entry) → ClusterStands q h cluster.old → is_synced q h ≡ true
         → IsChange q h g (noted_by name written (Some answer)) None

@@ -1,5 +1,6 @@
 // The queued taints of a tick.
 ghost use Rattle.std.specs.Prelude.{◌≡◌, ◌≤◌, ◌+◌, ℕ, List, OnOk};
+ghost use Rattle.kube_base.specs.Bounds.{most_local};
 ghost use Rattle.kube_objects.specs.Document.{Doc};
 ghost use Rattle.kube_objects.specs.Entry.{Entry, Identity};
 ghost use Rattle.kube_objects.specs.Tick as tick;
@@ -28,7 +29,7 @@ pub fn taint<L>(
     told: &mut Told,
     steps: &mut Steps<L>,
 ) -> Result<(), NoMemory>
-    requires { view.now.now.0 ≤ 2000000000000000000 }
+    requires { view.now.now.0 ≤ most_local }
     ensures stands { (doc : Doc) (q : Identity) (k : ℕ) (before : List Deed) (h : List Entry)
         → Heading doc q k before h zones.old cluster.old store.old told.old → IsView doc k q h view.entry.now
         → OnOk result (Heading doc q k before (tick.tainted doc k q h) zones.new cluster.new store.new told.new) }

@@ -1,5 +1,6 @@
 // A term for each controller.
 ghost use Rattle.std.specs.Prelude.{◌≡◌, ◌≤◌, ◌<◌, ◌++◌, ℕ, List, [], length, IfOk};
+ghost use Rattle.kube_base.specs.Bounds.{most_local};
 ghost use Rattle.agenda_laws.specs.Ticking.{is_due_at_once, term_reading, term_time};
 ghost use Rattle.agenda_laws.specs.Times.{is_early};
 ghost use Rattle.kube_objects.specs.Clocks.{local};
@@ -81,7 +82,7 @@ impl Terms {
         policies: &Policies,
         steps: &mut Steps<L>,
     ) -> Result<Deeds, NoMemory>
-        requires { view.now.now.0 ≤ 2000000000000000000 }
+        requires { view.now.now.0 ≤ most_local }
         ensures { (doc : Doc) (k : ℕ) (q : Identity) (h : List Entry) → TermsStand doc h self.old → StoreStands h store.old
             → IsView doc k q h view.entry.now → acting_identity acting.now ≡ q → IsUpAs doc who.0 q h → before_tick q k h ≡ h
             → length (nodes q (model.sync doc k q h)) < 4294967296
@@ -105,10 +106,10 @@ impl Terms {
     }
 
     /// The least reading at which a tick of a controller's term has a pass, or a queued taint of those who wait now. None where
-    /// there is none. Readings are at most 2 * 10^18.
+    /// there is none. Readings are at most `most_local`.
     pub fn wake(&self, who: ProcId) -> Option<Local>
         ensures { (doc : Doc) (k : ℕ) (q : Identity) (h : List Entry) → TermsStand doc h self.now → IsUpAs doc who.0 q h
-            → local doc q.process k ≤ 2000000000000000000
+            → local doc q.process k ≤ most_local
             → is_early (local doc q.process k) (picoseconds result) ≡ is_early (local doc q.process k) (term_reading doc q h) }
     {
         self.terms.get(who.0 as usize)?.wake()

@@ -95,7 +95,8 @@ impl Counts {
     // One node more in a zone.
     fn count(&mut self, place: Place, ready: bool) -> Result<(), NoMemory>
         ensures { OnOk result ((other : Zone) → counted.count_at self.new other
-            ≡ (if model.place_eq (entry_place place) other then Some (counted.and_one ready (counted.count_at self.old (entry_place place))) else counted.count_at self.old other)) }
+            ≡ (if model.place_eq (entry_place place) other then Some (counted.and_one ready (counted.count_at self.old (entry_place place)))
+            else counted.count_at self.old other)) }
     {
         let none = Count {
             ready: 0,

@@ -18,11 +18,11 @@ loop-zone-preserved g c =
       zoning = λ doc k q before h owed.
           zone_step doc k q before h _ _ _ _ _ _ owed c.loop-zone.rest.now c.in-Some.others.now c.in-Some.zone.now c.loop-zone.kept c.insert.new.self c.loop-zone.zones _ c.loop-zone.told c.tell.new.told
           (c.loop-zone.invariant.zoning doc k q before h owed) (search rules) c.remove-old.result c.remove-old.ensures.value c.remove-old.ensures.updates.0
-          c.state-state.result c.rate-rate.result c.renewed.result c.is_rated.result
+          c.state-state.result c.rate-rate.result c.limit_after.result c.is_rated.result
           (λ place is. c.state-state.ensures doc (nodes q h) place is owed.settings_are.percent)
           (λ place is. c.rate-rate.ensures doc (nodes q h) place is owed.settings_are owed.few)
           (λ g place s. c.is_rated.ensures doc q g place s)
-          (λ g place s. c.renewed.ensures doc k q g place s owed.time)
+          (λ g place s. c.limit_after.ensures doc k q g place s owed.time)
           c.in_ok-insert.ensures.updates.0
           (λ g s. c.in_ok-tell.ensures k q before g s);
       queues = c.loop-zone.invariant.queues;

@@ -2,7 +2,7 @@ use Rattle.std.proofs.Common.{◌≡◌, Some, subst, sym, rules}
 use Rattle.kube_objects.specs.Tick.{zone_as}
 use Rattle.taint_zones.specs.Limits.{LimitStands}
 use Rattle.term_pass.proofs.ZoneLimits.{went_on}
-use Rattle.term_pass.proofs.zones.renewed.Goals as goal
+use Rattle.term_pass.proofs.zones.limit_after.Goals as goal
 
 pub returns-in-Some : goal.returns-in-Some
 returns-in-Some c doc k q h place s reading =
