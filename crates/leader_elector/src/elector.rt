@@ -24,7 +24,7 @@ ghost use Rattle.leader_elector.specs.Plain.{BeginsCall, Receives, begun_in};
 ghost use Rattle.leader_elector.specs.Stands.{Wait};
 
 use crate::Timing;
-use crate::follow::{Follow, follow_write, told};
+use crate::follow::{Follow, follow_write, record_of};
 use crate::seen::Seen;
 use crate::waiting::Waiting;
 use kube_base::{Local, ProcId, Version, Wall};
@@ -123,7 +123,7 @@ impl Elector {
         Some(self.begin(led, now, wall))
     }
 
-    /// BeginsCall an attempt: a leader may renew without a Get.
+    /// Begins an attempt: a leader may renew without a Get.
     fn begin(&mut self, led: bool, now: Local, wall: Wall) -> Ask
         requires now { now.0 ≤ most_local }
         ensures same { IsSame self.old self.new }
@@ -160,7 +160,7 @@ impl Elector {
         if !self.is_renewable(&seen, now) {
             return self.ask(Request::Get(Key::ELECTION), false, now);
         }
-        let lease = self.renewed(&seen.lease, wall);
+        let lease = self.renewal(&seen.lease, wall);
         self.ask(
             Request::Update(Key::ELECTION, seen.version, lease),
             true,
@@ -168,7 +168,7 @@ impl Elector {
         )
     }
 
-    /// BeginsCall a call.
+    /// Begins a call.
     pub(crate) fn ask(&mut self, request: Request, fast: bool, now: Local) -> Ask
         requires kind { keeps_kind request ≡ true }
         requires now { now.0 ≤ most_local }
@@ -224,7 +224,7 @@ impl Elector {
         };
         self.slot.finish();
         self.waiting = None;
-        self.note(told(&waiting.request, reply), now);
+        self.note(record_of(&waiting.request, reply), now);
         let follow = self.follow(&waiting, reply, now, wall);
         self.set_timer(&follow, led, now);
         Some(follow)
@@ -239,12 +239,12 @@ impl Elector {
         let Some((version, lease)) = told else {
             return;
         };
-        let at = self.first_seen(version, now);
+        let at = self.first_sight(version, now);
         self.seen = Some(Seen { version, lease, at });
     }
 
     /// The reading at which this version was first seen.
-    fn first_seen(&self, version: Version, now: Local) -> Local
+    fn first_sight(&self, version: Version, now: Local) -> Local
         ensures { (lease : Lease)
             → result.0 ≡ or_else (observed_of self.now.seen) (newly (Some (version, lease)) (shown_of self.now.seen) now.0) }
     {
@@ -304,12 +304,12 @@ impl Elector {
             → follow_of result ≡ follow_get doc q k (observed_of self.now.seen) reply.now }
     {
         match *reply {
-            Reply::Absent => Follow::Asks(Request::Create(Key::ELECTION, self.created(wall))),
+            Reply::Absent => Follow::Asks(Request::Create(Key::ELECTION, self.new_lease(wall))),
             Reply::Found(version, lease) => {
                 if self.is_blocked(&lease, now) {
                     return Follow::Fails;
                 }
-                Follow::Asks(Request::Update(Key::ELECTION, version, self.updated(&lease, wall)))
+                Follow::Asks(Request::Update(Key::ELECTION, version, self.update_of(&lease, wall)))
             }
             _ => Follow::Fails,
         }
@@ -364,11 +364,11 @@ impl Elector {
         ensures { (q : Identity) → self.now.me.0 ≡ q.process → self.now.incarnation ≡ q.incarnation
             → result ≡ is_blocked q now.0 (observed_of self.now.seen) lease.now }
     {
-        self.is_rival(lease) && is_valid(now, self.observed(), lease)
+        self.is_rival(lease) && is_valid(now, self.observed_time(), lease)
     }
 
     /// The reading at which the version last shown was first seen, 0 before.
-    fn observed(&self) -> Local
+    fn observed_time(&self) -> Local
         ensures { result.0 ≡ observed_of self.now.seen }
     {
         match self.seen {
@@ -384,7 +384,7 @@ impl Elector {
         Holder::Proc(self.me, self.incarnation)
     }
 
-    fn created(&self, wall: Wall) -> Lease
+    fn new_lease(&self, wall: Wall) -> Lease
         ensures moment { (now : ℕ) → result ≡ created_at (identity_of self.now) (moment_of self.now now wall.0) }
         ensures history { (doc : Doc) (q : Identity) (k : ℕ) → self.now.me.0 ≡ q.process
             → self.now.incarnation ≡ q.incarnation → IsTimingOf doc q.process self.now.timing
@@ -400,7 +400,7 @@ impl Elector {
         }
     }
 
-    fn renewed(&self, lease: &Lease, wall: Wall) -> Lease
+    fn renewal(&self, lease: &Lease, wall: Wall) -> Lease
         ensures moment { (now : ℕ) → result ≡ renewed_at (identity_of self.now) (moment_of self.now now wall.0) lease.now }
         ensures history { (doc : Doc) (q : Identity) (k : ℕ) → self.now.me.0 ≡ q.process
             → self.now.incarnation ≡ q.incarnation → IsTimingOf doc q.process self.now.timing
@@ -416,7 +416,7 @@ impl Elector {
         }
     }
 
-    fn taken(&self, lease: &Lease, wall: Wall) -> Lease
+    fn takeover(&self, lease: &Lease, wall: Wall) -> Lease
         ensures moment { (now : ℕ) → result ≡ taken_at (identity_of self.now) (moment_of self.now now wall.0) lease.now }
         ensures history { (doc : Doc) (q : Identity) (k : ℕ) → self.now.me.0 ≡ q.process
             → self.now.incarnation ≡ q.incarnation → IsTimingOf doc q.process self.now.timing
@@ -432,7 +432,7 @@ impl Elector {
         }
     }
 
-    fn updated(&self, lease: &Lease, wall: Wall) -> Lease
+    fn update_of(&self, lease: &Lease, wall: Wall) -> Lease
         ensures moment { (now : ℕ) → result ≡ updated_at (identity_of self.now) (moment_of self.now now wall.0) lease.now }
         ensures history { (doc : Doc) (q : Identity) (k : ℕ) → self.now.me.0 ≡ q.process
             → self.now.incarnation ≡ q.incarnation → IsTimingOf doc q.process self.now.timing
@@ -440,9 +440,9 @@ impl Elector {
             → result ≡ updated doc q k lease.now }
     {
         if self.holds(lease) {
-            return self.renewed(lease, wall);
+            return self.renewal(lease, wall);
         }
-        self.taken(lease, wall)
+        self.takeover(lease, wall)
     }
 }
 

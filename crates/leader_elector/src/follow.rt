@@ -16,7 +16,7 @@ pub(crate) enum Follow {
 }
 
 /// The version and record that a reply to this request shows.
-pub(crate) fn told(request: &Request, reply: &Reply) -> Option<(Version, Lease)>
+pub(crate) fn record_of(request: &Request, reply: &Reply) -> Option<(Version, Lease)>
     ensures { result ≡ told request.now reply.now }
 {
     match *request {
@@ -24,14 +24,14 @@ pub(crate) fn told(request: &Request, reply: &Reply) -> Option<(Version, Lease)>
             Reply::Found(version, lease) => Some((version, lease)),
             _ => None,
         },
-        Request::Create(_, lease) => written(lease, reply),
-        Request::Update(_, _, lease) => written(lease, reply),
+        Request::Create(_, lease) => record_of_write(lease, reply),
+        Request::Update(_, _, lease) => record_of_write(lease, reply),
         Request::PostStatus(..) => None,
     }
 }
 
 /// What an accepted write shows.
-fn written(lease: Lease, reply: &Reply) -> Option<(Version, Lease)>
+fn record_of_write(lease: Lease, reply: &Reply) -> Option<(Version, Lease)>
     ensures { result ≡ done_shows lease reply.now }
 {
     match *reply {

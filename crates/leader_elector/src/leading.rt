@@ -70,7 +70,7 @@ impl Leading {
     {
         let expired = self.elector.expire(now);
         if now.0 >= self.deadline.0 {
-            return LeadingNext::End(self.ended());
+            return LeadingNext::End(self.end());
         }
         match self.elector.attempt(expired, true, now, wall) {
             Some(ask) => LeadingNext::Ask(self, ask),
@@ -175,12 +175,12 @@ impl Leading {
             _ => None,
         };
         Released {
-            ended: self.ended(),
+            ended: self.end(),
             ask,
         }
     }
 
-    fn ended(&self) -> Ended
+    fn end(&self) -> Ended
         ensures { ended_identity result ≡ leading_identity self.now }
     {
         Ended {

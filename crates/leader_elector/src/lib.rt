@@ -1,12 +1,13 @@
-//! Leader election as client-go does it, as typed states: a candidate, a leader, and the end of a term.
+//! Leader election as client-go's `leaderelection` does it, as typed states: a candidate, a leader, and the end of a term.
 //!
-//! An attempt, client-go's `tryAcquireOrRenew`, goes through `Elector`:
-//! 1. `Candidate::turn` and `Leading::on_timer` call `expire`, which forgets a call without a reply, and then `attempt`.
-//! 2. Where it is time `attempt` begins with a Get, or with the update of the fast path (`begin`, `renew`, `ask`).
-//! 3. `Candidate::hear` and `Leading::on_reply` call `receive`, which drops replies that don't count.
-//! 4. `note` keeps what was shown (`observedRecord`, `observedTime`), and `follow` says what comes next: `Create`, `Update`, an end.
-//! 5. `set_timer` is the wait of a retry period; `Candidate::lead` is the success of `acquire`, and `deadline` that of `renew`.
-//! 6. `Leading::release` is `ReleaseOnCancel`.
+//! Its `acquire` is `Candidate` (`candidate.rt`): `turn` is one round of the loop, `hear` takes a reply, `lead` is the success.
+//! Its `renew` is `Leading` (`leading.rt`), with `on_timer`, `on_reply` and the `deadline`; its `release` is `Leading::release`.
+//! An attempt of either, `tryAcquireOrRenew`, goes through `Elector` (`elector.rt`):
+//! 1. `expire` forgets a call without a reply; where it is time `attempt` begins, with a Get or, in `renew`, the fast path's update.
+//! 2. `receive` drops replies that don't count, and `note` keeps what is shown (`observedRecord`, `observedTime`).
+//! 3. `follow` says what comes next: the Create of a `new_lease`, an `update_of` what was found (`renewal` or `takeover`), the
+//!    end of the attempt, or its success (`follow.rt`).
+//! 4. `set_timer` is the wait of a retry period.
 #![tactic(auto)]
 
 mod acting;

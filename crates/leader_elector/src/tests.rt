@@ -79,14 +79,21 @@ fn lease(process: u32, acquired: u8, renewed: u8, transitions: u32) -> Lease {
     }
 }
 
+/// The first leader's: process 0 created it at 2.
+fn first(renewed: u8) -> Lease {
+    lease(0, 2, renewed, 0)
+}
+
 fn released(beat: u8, transitions: u32) -> Lease {
     Lease {
         holder: Holder::Nobody,
         duration: Some(1),
-        acquired: Some(wall(beat)),
-        renewed: Some(wall(beat)),
-        transitions: Some(transitions),
+        ..lease(0, beat, beat, transitions)
     }
+}
+
+fn get(number: u64) -> Does {
+    Does::Asks(number, GET)
 }
 
 fn create(number: u64, lease: Lease) -> Does {
@@ -98,6 +105,10 @@ fn update(number: u64, version: u64, lease: Lease) -> Does {
         number,
         Request::Update(Key::ELECTION, Version(version), lease),
     )
+}
+
+fn absent(number: u64) -> Call {
+    Call::Reply(number, Reply::Absent)
 }
 
 fn found(number: u64, version: u64, lease: Lease) -> Call {
@@ -156,14 +167,8 @@ fn after(state: State, beat: u8, call: Call) -> (State, Does) {
 }
 
 /// The state after these calls, each of which does what the table says.
-fn replay(
-    rt: &impl Abort,
-    process: u32,
-    timing: Timing,
-    start: u8,
-    calls: &[(u8, Call, Does)],
-) -> State {
-    let mut state = State::Candidate(Candidate::start(ProcId(process), 1, timing, at(start)));
+fn run(rt: &impl Abort, start: State, calls: &[(u8, Call, Does)]) -> State {
+    let mut state = start;
     for (beat, call, want) in calls {
         let (next, does) = after(state, *beat, *call);
         assert_eq!(rt; does, *want, "at beat {beat}");
@@ -172,52 +177,59 @@ fn replay(
     state
 }
 
+fn started(process: u32, timing: Timing) -> State {
+    State::Candidate(Candidate::start(ProcId(process), 1, timing, at(0)))
+}
+
+/// A candidate that was told at 2 that there is no Lease, and asked to create it.
+fn creator(rt: &impl Abort, process: u32, timing: Timing) -> State {
+    let calls = [
+        (0, Call::Turn, get(1)),
+        (1, Call::Turn, Does::Stays),
+        (2, absent(1), create(2, lease(process, 2, 2, 0))),
+    ];
+    run(rt, started(process, timing), &calls)
+}
+
+/// A leader since 4.
+fn leader(rt: &impl Abort, timing: Timing) -> State {
+    let calls = [(4, done(2, 1), Does::Leads)];
+    run(rt, creator(rt, 0, timing), &calls)
+}
+
+/// A leader since 4 whose first renewal was sent at 6.
+fn renewer(rt: &impl Abort, timing: Timing) -> State {
+    let calls = [
+        (4, Call::Turn, get(3)),
+        (6, found(3, 1, first(2)), update(4, 1, first(6))),
+    ];
+    run(rt, leader(rt, timing), &calls)
+}
+
 #[test]
 fn renews_every_two_seconds(rt: HostRuntime) {
     let calls = [
-        (0, Call::Turn, Does::Asks(1, GET)),
-        (1, Call::Turn, Does::Stays),
-        (
-            2,
-            Call::Reply(1, Reply::Absent),
-            create(2, lease(0, 2, 2, 0)),
-        ),
-        (4, done(2, 1), Does::Leads),
-        (4, Call::Turn, Does::Asks(3, GET)),
-        (
-            6,
-            found(3, 1, lease(0, 2, 2, 0)),
-            update(4, 1, lease(0, 2, 6, 0)),
-        ),
         (8, done(4, 2), Does::Stays),
         (27, Call::Turn, Does::Stays),
-        (28, Call::Turn, Does::Asks(5, GET)),
-        (
-            30,
-            found(5, 2, lease(0, 2, 6, 0)),
-            update(6, 2, lease(0, 2, 30, 0)),
-        ),
+        (28, Call::Turn, get(5)),
+        (30, found(5, 2, first(6)), update(6, 2, first(30))),
         (32, done(6, 3), Does::Stays),
         (51, Call::Turn, Does::Stays),
-        (52, Call::Turn, Does::Asks(7, GET)),
-        (
-            54,
-            found(7, 3, lease(0, 2, 30, 0)),
-            update(8, 3, lease(0, 2, 54, 0)),
-        ),
+        (52, Call::Turn, get(7)),
+        (54, found(7, 3, first(30)), update(8, 3, first(54))),
     ];
-    replay(&rt, 0, TIMING, 0, &calls);
+    run(&rt, renewer(&rt, TIMING), &calls);
 }
 
 #[test]
 fn leads_in_place(rt: HostRuntime) {
     let mut candidate = Candidate::start(ProcId(0), 1, TIMING, at(0));
-    assert_eq!(rt; asks(candidate.turn(at(0), wall(0))), Does::Asks(1, GET));
+    assert_eq!(rt; asks(candidate.turn(at(0), wall(0))), get(1));
     assert_eq!(rt; asks(candidate.turn(at(1), wall(1))), Does::Stays);
     let Heard::Asks(ask) = candidate.hear(1, &Reply::Absent, at(2), wall(2)) else {
         panic!(rt; "a create is expected");
     };
-    assert_eq!(rt; asks(Some(ask)), create(2, lease(0, 2, 2, 0)));
+    assert_eq!(rt; asks(Some(ask)), create(2, first(2)));
     let done = Reply::Done(Version(1));
     assert!(rt; matches!(candidate.hear(1, &done, at(3), wall(3)), Heard::Stays));
     assert!(rt; matches!(candidate.hear(2, &done, at(4), wall(4)), Heard::Leads));
@@ -235,12 +247,12 @@ fn finds_itself_as_the_holder(rt: HostRuntime) {
         transitions: None,
     };
     let calls = [
-        (0, Call::Turn, Does::Asks(1, GET)),
+        (0, Call::Turn, get(1)),
         (2, found(1, 1, old), update(2, 1, lease(0, 2, 2, 1))),
         (22, Call::Turn, Does::Stays),
         (23, Call::Turn, Does::Stays),
         (42, Call::Turn, Does::Stays),
-        (43, Call::Turn, Does::Asks(3, GET)),
+        (43, Call::Turn, get(3)),
         (
             45,
             found(3, 2, lease(0, 2, 2, 1)),
@@ -248,117 +260,81 @@ fn finds_itself_as_the_holder(rt: HostRuntime) {
         ),
         (47, done(4, 3), Does::Leads),
     ];
-    replay(&rt, 0, TIMING, 0, &calls);
+    run(&rt, started(0, TIMING), &calls);
 }
 
 #[test]
 fn forgets_a_renewal_that_comes_late(rt: HostRuntime) {
     // the renewal sent at 6 arrives at 66
     let calls = [
-        (0, Call::Turn, Does::Asks(1, GET)),
-        (
-            2,
-            Call::Reply(1, Reply::Absent),
-            create(2, lease(0, 2, 2, 0)),
-        ),
-        (4, done(2, 1), Does::Leads),
-        (4, Call::Turn, Does::Asks(3, GET)),
-        (
-            6,
-            found(3, 1, lease(0, 2, 2, 0)),
-            update(4, 1, lease(0, 2, 6, 0)),
-        ),
         (26, Call::Turn, Does::Stays),
         (27, Call::Turn, Does::Stays),
         (46, Call::Turn, Does::Stays),
-        (47, Call::Turn, Does::Asks(5, GET)),
-        (
-            49,
-            found(5, 1, lease(0, 2, 2, 0)),
-            update(6, 1, lease(0, 2, 49, 0)),
-        ),
+        (47, Call::Turn, get(5)),
+        (49, found(5, 1, first(2)), update(6, 1, first(49))),
         (51, done(6, 2), Does::Stays),
         (67, Call::Reply(4, Reply::Conflict(Version(2))), Does::Stays),
         (70, Call::Turn, Does::Stays),
-        (71, Call::Turn, Does::Asks(7, GET)),
-        (
-            73,
-            found(7, 2, lease(0, 2, 49, 0)),
-            update(8, 2, lease(0, 2, 73, 0)),
-        ),
+        (71, Call::Turn, get(7)),
+        (73, found(7, 2, first(49)), update(8, 2, first(73))),
     ];
-    replay(&rt, 0, TIMING, 0, &calls);
+    run(&rt, renewer(&rt, TIMING), &calls);
 }
 
 #[test]
 fn takes_over_after_its_own_observation(rt: HostRuntime) {
-    // version 2 is first seen at 26 and valid until 176
-    let rival = lease(0, 2, 6, 0);
-    let calls = [
-        (0, Call::Turn, Does::Asks(1, GET)),
-        (
-            2,
-            Call::Reply(1, Reply::Absent),
-            create(2, lease(1, 2, 2, 0)),
-        ),
+    let refused = [
         (4, Call::Reply(2, Reply::Exists), Does::Stays),
         (23, Call::Turn, Does::Stays),
-        (24, Call::Turn, Does::Asks(3, GET)),
-        (26, found(3, 2, rival), Does::Stays),
-        (46, Call::Turn, Does::Asks(4, GET)),
-        (48, found(4, 2, rival), Does::Stays),
-        (68, Call::Turn, Does::Asks(5, GET)),
-        (70, found(5, 2, rival), Does::Stays),
-        (90, Call::Turn, Does::Asks(6, GET)),
-        (92, found(6, 2, rival), Does::Stays),
-        (112, Call::Turn, Does::Asks(7, GET)),
-        (114, found(7, 2, rival), Does::Stays),
-        (134, Call::Turn, Does::Asks(8, GET)),
-        (136, found(8, 2, rival), Does::Stays),
-        (156, Call::Turn, Does::Asks(9, GET)),
-        (158, found(9, 2, rival), Does::Stays),
-        (178, Call::Turn, Does::Asks(10, GET)),
+    ];
+    let mut state = run(&rt, creator(&rt, 1, TIMING), &refused);
+    // version 2 is first seen at 26 and valid until 176
+    let blocked = [
+        (3, 24, 26),
+        (4, 46, 48),
+        (5, 68, 70),
+        (6, 90, 92),
+        (7, 112, 114),
+        (8, 134, 136),
+        (9, 156, 158),
+    ];
+    for (number, asked, answered) in blocked {
+        let calls = [
+            (asked, Call::Turn, get(number)),
+            (answered, found(number, 2, first(6)), Does::Stays),
+        ];
+        state = run(&rt, state, &calls);
+    }
+    let calls = [
+        (178, Call::Turn, get(10)),
         (
             180,
-            found(10, 2, rival),
+            found(10, 2, first(6)),
             update(11, 2, lease(1, 180, 180, 1)),
         ),
         (182, done(11, 3), Does::Leads),
-        (182, Call::Turn, Does::Asks(12, GET)),
+        (182, Call::Turn, get(12)),
         (
             184,
             found(12, 3, lease(1, 180, 180, 1)),
             update(13, 3, lease(1, 180, 184, 1)),
         ),
     ];
-    replay(&rt, 1, TIMING, 0, &calls);
+    run(&rt, state, &calls);
 }
 
 #[test]
 fn ends_at_the_deadline(rt: HostRuntime) {
     // with a timeout of 5 s the reply delivered at 55 counts; later requests are lost
     let calls = [
-        (0, Call::Turn, Does::Asks(1, GET)),
-        (
-            2,
-            Call::Reply(1, Reply::Absent),
-            create(2, lease(0, 2, 2, 0)),
-        ),
-        (4, done(2, 1), Does::Leads),
-        (4, Call::Turn, Does::Asks(3, GET)),
-        (
-            6,
-            found(3, 1, lease(0, 2, 2, 0)),
-            update(4, 1, lease(0, 2, 6, 0)),
-        ),
         (55, done(4, 2), Does::Stays),
-        (75, Call::Turn, Does::Asks(5, GET)),
+        (75, Call::Turn, get(5)),
         (125, Call::Turn, Does::Stays),
         (126, Call::Turn, Does::Stays),
-        (146, Call::Turn, Does::Asks(6, GET)),
+        (146, Call::Turn, get(6)),
         (174, Call::Turn, Does::Stays),
     ];
-    let State::Leading(leading) = replay(&rt, 0, LONG_CALLS, 0, &calls) else {
+    let State::Leading(leading) = run(&rt, renewer(&rt, LONG_CALLS), &calls) else {
         panic!(rt; "a leader is expected");
     };
     assert_eq!(rt; leading.deadline(), at(175));
@@ -376,90 +352,53 @@ fn ends_at_the_deadline(rt: HostRuntime) {
 
 #[test]
 fn gives_up_the_lead(rt: HostRuntime) {
-    let leader = [
-        (0, Call::Turn, Does::Asks(1, GET)),
-        (
-            2,
-            Call::Reply(1, Reply::Absent),
-            create(2, lease(0, 2, 2, 0)),
-        ),
-        (4, done(2, 1), Does::Leads),
-        (4, Call::Turn, Does::Asks(3, GET)),
-        (
-            6,
-            found(3, 1, lease(0, 2, 2, 0)),
-            update(4, 1, lease(0, 2, 6, 0)),
-        ),
+    let releases = [
         (8, done(4, 2), Does::Stays),
         (20, Call::Stop, update(5, 2, released(20, 0))),
     ];
-    replay(&rt, 0, TIMING, 0, &leader);
-    let other = [
-        (0, Call::Turn, Does::Asks(1, GET)),
-        (
-            2,
-            Call::Reply(1, Reply::Absent),
-            create(2, lease(1, 2, 2, 0)),
-        ),
+    run(&rt, renewer(&rt, TIMING), &releases);
+    let follows = [
         (4, Call::Reply(2, Reply::Exists), Does::Stays),
-        (24, Call::Turn, Does::Asks(3, GET)),
+        (24, Call::Turn, get(3)),
         (
             26,
             found(3, 3, released(20, 0)),
             update(4, 3, lease(1, 26, 26, 1)),
         ),
         (28, done(4, 4), Does::Leads),
-        (28, Call::Turn, Does::Asks(5, GET)),
+        (28, Call::Turn, get(5)),
         (
             30,
             found(5, 4, lease(1, 26, 26, 1)),
             update(6, 4, lease(1, 26, 30, 1)),
         ),
     ];
-    replay(&rt, 1, TIMING, 0, &other);
+    run(&rt, creator(&rt, 1, TIMING), &follows);
 }
 
 #[test]
 fn renews_without_a_get(rt: HostRuntime) {
     let calls = [
-        (0, Call::Turn, Does::Asks(1, GET)),
-        (
-            2,
-            Call::Reply(1, Reply::Absent),
-            create(2, lease(0, 2, 2, 0)),
-        ),
-        (4, done(2, 1), Does::Leads),
-        (4, Call::Turn, update(3, 1, lease(0, 2, 4, 0))),
+        (4, Call::Turn, update(3, 1, first(4))),
         (6, done(3, 2), Does::Stays),
         (25, Call::Turn, Does::Stays),
-        (26, Call::Turn, update(4, 2, lease(0, 2, 26, 0))),
+        (26, Call::Turn, update(4, 2, first(26))),
         (28, done(4, 3), Does::Stays),
-        (48, Call::Turn, update(5, 3, lease(0, 2, 48, 0))),
+        (48, Call::Turn, update(5, 3, first(48))),
     ];
-    replay(&rt, 0, FAST, 0, &calls);
+    run(&rt, leader(&rt, FAST), &calls);
 }
 
 #[test]
 fn falls_back_to_the_get(rt: HostRuntime) {
     // the reply to the update sent at 4 is lost, and its call expires at 25
     let calls = [
-        (0, Call::Turn, Does::Asks(1, GET)),
-        (
-            2,
-            Call::Reply(1, Reply::Absent),
-            create(2, lease(0, 2, 2, 0)),
-        ),
-        (4, done(2, 1), Does::Leads),
-        (4, Call::Turn, update(3, 1, lease(0, 2, 4, 0))),
+        (4, Call::Turn, update(3, 1, first(4))),
         (24, Call::Turn, Does::Stays),
-        (25, Call::Turn, Does::Asks(4, GET)),
-        (
-            27,
-            found(4, 2, lease(0, 2, 4, 0)),
-            update(5, 2, lease(0, 2, 27, 0)),
-        ),
+        (25, Call::Turn, get(4)),
+        (27, found(4, 2, first(4)), update(5, 2, first(27))),
     ];
-    replay(&rt, 0, FAST, 0, &calls);
+    run(&rt, leader(&rt, FAST), &calls);
 }
 
 /// Whether a create follows the absence that is told at a reading, to the call with that number.

@@ -9,7 +9,7 @@ use Rattle.leader_elector.proofs.elector.Elector.follow_get.Goals as goal
 pub returns-in-Absent-clause-moment : goal.returns-in-Absent-clause-moment
 returns-in-Absent-clause-moment c =
     let self = c.args.self.now in
-    ap (λ l. Asks (Create election l)) (c.created.ensures.moment c.args.now.0)
+    ap (λ l. Asks (Create election l)) (c.new_lease.ensures.moment c.args.now.0)
     ∙ ap (follow_get_at (identity_of self) (moment_of self c.args.now.0 c.args.wall.0) (observed_of self.seen)) (sym c.in-Absent.is)
 
 pub returns-else-is_blocked-clause-moment : goal.returns-else-is_blocked-clause-moment
@@ -20,6 +20,6 @@ returns-else-is_blocked-clause-moment c =
     let version = c.in-Found.version in
     let lease = c.in-Found.lease in
     let free : is_blocked q m.now (observed_of self.seen) lease ≡ false = sym (c.is_blocked.ensures q refl refl) ∙ c.if-is_blocked.false in
-    ap (λ l. Asks (Update election version l)) (c.updated.ensures.moment c.args.now.0)
+    ap (λ l. Asks (Update election version l)) (c.update_of.ensures.moment c.args.now.0)
     ∙ sym (ap (λ b. cond b Fails (Asks (Update election version (updated_at q m lease)))) free)
     ∙ ap (follow_get_at q m (observed_of self.seen)) (sym c.in-Found.is)

@@ -29,7 +29,7 @@ returns-clause-history c doc q h k s now wall room =
     let is = attempt_from-seen doc q k c.args.now.0 (observed_at doc q h) seen (shown q h) c.is_renewable.result (sym s.shown ∙ ap shown_of c.in-Some.is) (sym s.observed ∙ ap observed_of c.in-Some.is) now (c.is_renewable.ensures q s.process s.incarnation) in
     c.ask-2.ensures.history doc q h _ k 4 s now room
     (ap (λ x. send k 4 q x.0 x.1 h) (is ∙ ap (λ b. cond b (Fast, Update election seen.version (renewed doc q k seen.lease)) (Plain, Get election)) c.if-not-is_renewable.false)
-    ∙ ap (λ l. send k 4 q Fast (Update election seen.version l) h) (sym (c.renewed-lease.ensures.history doc q k s.process s.incarnation s.timing wall)))
+    ∙ ap (λ l. send k 4 q Fast (Update election seen.version l) h) (sym (c.renewal-lease.ensures.history doc q k s.process s.incarnation s.timing wall)))
 
 pub returns-clause-asks : goal.returns-clause-asks
 returns-clause-asks c =
@@ -38,8 +38,8 @@ returns-clause-asks c =
     let m = moment_of self c.args.now.0 c.args.wall.0 in
     let seen = c.in-Some.seen in
     let own : (is_own q seen.lease.holder && is_valid m.now seen.at.0 seen.lease) ≡ true = sym (c.is_renewable.ensures q refl refl) ∙ c.if-not-is_renewable.false in
-    let is : attempt_at q m (observed_of self.seen) (shown_of self.seen) ≡ (Fast, Update election seen.version c.renewed-lease.result) =
+    let is : attempt_at q m (observed_of self.seen) (shown_of self.seen) ≡ (Fast, Update election seen.version c.renewal-lease.result) =
     ap (λ s. attempt_at q m (observed_of s) (shown_of s)) c.in-Some.is
     ∙ ap (λ b. cond b (Fast, Update election seen.version (renewed_at q m seen.lease)) (Plain, Get election)) own
-    ∙ ap (λ l. (Fast, Update election seen.version l)) (sym (c.renewed-lease.ensures.moment c.args.now.0)) in
+    ∙ ap (λ l. (Fast, Update election seen.version l)) (sym (c.renewal-lease.ensures.moment c.args.now.0)) in
     subst (λ x. BeginsCall self c.args.now.0 x c.ask-2.new.self c.ask-2.result) (sym is) c.ask-2.ensures.asks

@@ -19,7 +19,7 @@ returns-then-now-self-clause-turns c doc q h k s now wall room =
     let after = c.expire-expired.ensures.stands doc q h k s.elector now in
     let over : nat_lt (local doc q.process k) c.args.self.deadline.0 ≡ false = ap (λ x. nat_lt x c.args.self.deadline.0) (sym now) ∙ reached c.args.now.0 c.args.self.deadline.0 c.if-now-self.true in
     let at : deadline doc q e ≡ Some c.args.self.deadline.0 = deadline-expiry doc k q h (call_in q h) ∙ sym s.deadline in
-    (ap (λ x. end_term doc k q x e) at ∙ ap (λ b. end_as k q b e) over, c.ended.ensures ∙ (λ i. identity (after.process i) (after.incarnation i)))
+    (ap (λ x. end_term doc k q x e) at ∙ ap (λ b. end_as k q b e) over, c.end.ensures ∙ (λ i. identity (after.process i) (after.incarnation i)))
 
 pub returns-in-Some-clause-turns : goal.returns-in-Some-clause-turns
 returns-in-Some-clause-turns c doc q h k s now wall room =

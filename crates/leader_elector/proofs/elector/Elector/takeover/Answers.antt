@@ -1,7 +1,7 @@
 use Rattle.std.proofs.Common.{refl}
 use Rattle.leader_elector.specs.Plain.{identity_of}
 use Rattle.std.proofs.Common.{Some}
-use Rattle.leader_elector.proofs.elector.Elector.created.Goals as goal
+use Rattle.leader_elector.proofs.elector.Elector.takeover.Goals as goal
 
 pub returns-clause-history : goal.returns-clause-history
 returns-clause-history c doc q k me incarnation timing wall =
@@ -10,7 +10,7 @@ returns-clause-history c doc q k me incarnation timing wall =
       duration = Some (timing.lease i);
       acquired = Some (record { 0 = wall i });
       renewed = Some (record { 0 = wall i });
-      transitions = Some 0;
+      transitions = Some (c.one_more.ensures i);
     }
 
 pub returns-clause-moment : goal.returns-clause-moment
@@ -20,5 +20,5 @@ returns-clause-moment c now =
       duration = Some c.args.self.now.timing.lease_seconds;
       acquired = Some c.args.wall;
       renewed = Some c.args.wall;
-      transitions = Some 0;
+      transitions = Some (c.one_more.ensures i);
     }
