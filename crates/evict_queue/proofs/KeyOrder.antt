@@ -1,4 +1,4 @@
--- The derived orders of the maps' keys are those that the definitions name.
+-- The derived order of a map's keys, which are a number and a key, is the one that the definitions name.
 use Rattle.std.proofs.Common.{◌≡◌, ℕ, ◌≤◌, Bool, true, false, cond, not, ◌&&◌, ◌||◌, ◌==◌, Some, None, refl, ap, sym, ◌∙◌, subst, arith, Less, Equal, Greater}
 use Rattle.std.proofs.lemmas.Bool.Decides.{nat_tests}
 use Rattle.std.specs.Ordering.{nat_cmp, ordering_then, is_eq, is_gt}
@@ -7,35 +7,14 @@ use Rattle.std.specs.BTreeSet as set
 use Rattle.std.specs.BTreeSet.{BTreeSet}
 use Rattle.std.specs.Prelude.{Option, IsTrue, IsSome, is_some, unwrap_or}
 use Rattle.kube_objects.specs.declared.key.Key.{Key}
-use Rattle.kube_objects.specs.declared.key.Kind.{Kind}
-use Rattle.kube_objects.specs.declared.key.Kind.TheVariants.{Node, Lease, Pod}
 use Rattle.kube_objects.specs.declared.pod.Due.{Due}
 use Rattle.kube_objects.specs.declared.pod.Due.TheVariants.{Never}
 use Rattle.kube_objects.specs.contracts.key.KeyOrd.TheImpl as key_ord
-use Rattle.kube_objects.specs.contracts.key.KindOrd.TheImpl as kind_ord
-use Rattle.kube_objects.specs.Keys.{key_cmp, key_eq, kind_rank}
-use Rattle.kube_objects.proofs.KeyOrder.{key_itself, same_key}
+use Rattle.kube_objects.specs.Keys.{key_cmp, key_eq}
+use Rattle.kube_objects.proofs.KeyOrder.{key_itself, key_order, same_key}
 use Rattle.key_map.specs.Values.{value_at}
 use Rattle.key_map.specs.declared.map.KeyMap.{KeyMap}
 use Rattle.evict_queue.specs.Order.{timed_cmp, is_entry}
-
-kind_order : (a b : Kind) → (kind_ord.cmp-value).it a b ≡ nat_cmp (kind_rank a) (kind_rank b)
-kind_order Node Node = refl
-kind_order Node Lease = refl
-kind_order Node Pod = refl
-kind_order Lease Node = refl
-kind_order Lease Lease = refl
-kind_order Lease Pod = refl
-kind_order Pod Node = refl
-kind_order Pod Lease = refl
-kind_order Pod Pod = refl
-
-key_order_at : (a b : Key) → (key_ord.cmp-value).it a b ≡ key_cmp a b
-key_order_at a b = ap (λ o. ordering_then o (ordering_then (nat_cmp a.space b.space) (nat_cmp a.name b.name))) (kind_order a.kind b.kind)
-
--- one function, so a map's clause by the derived order is rewritten whole, by `subst`
-pub key_order : (key_ord.cmp-value).it ≡ key_cmp
-key_order = λ i a b. key_order_at a b i
 
 -- by number and then by an order of keys
 abbrev pub pairs_by : (Key → Key → Ordering) → ℕ × Key → ℕ × Key → Ordering

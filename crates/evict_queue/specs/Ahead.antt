@@ -22,11 +22,13 @@ pub record IsWithin (dues : Dues) (timed : Timed) (pairs : List (Key × Due)) : 
 
 -- of the due times of a list only those of its rest may be missing
 abbrev pub MissesAtMost : Timed → List (Key × Due) → List (Key × Due) → Type 0
-MissesAtMost timed pairs rest = (time : ℕ) (key : Key) → sets_time pairs time key ≡ true → (has_entry timed time key || sets_time rest time key) ≡ true
+MissesAtMost timed pairs rest = (time : ℕ) (key : Key) → sets_time pairs time key ≡ true
+    → (has_entry timed time key || sets_time rest time key) ≡ true
 
 -- only for pods of the rest of a list there may be no room
 abbrev pub HasRoomsBut : Dues → List (Key × Due) → List (Key × Due) → Type 0
-HasRoomsBut dues pairs rest = (time : ℕ) (key : Key) → sets_time pairs time key ≡ true → (is_some (room_of dues key) || sets_time rest time key) ≡ true
+HasRoomsBut dues pairs rest = (time : ℕ) (key : Key) → sets_time pairs time key ≡ true
+    → (is_some (room_of dues key) || sets_time rest time key) ≡ true
 
 -- what a list sets another sets too
 abbrev pub IsPart : List (Key × Due) → List (Key × Due) → Type 0

@@ -70,7 +70,8 @@ pub(crate) fn settle(dues: &mut Dues, timed: &mut Timed, key: Key, due: Due)
     requires { (time : ℕ) → due ≡ At time → IsSome (room_of dues.old key) }
     ensures dues { (k : Key) → due_of dues.new k ≡ (if key_eq key k then due else due_of dues.old k) }
     ensures rooms { (k : Key) → key_eq key k ≡ false → room_of dues.new k ≡ room_of dues.old k }
-    ensures timed { (time : ℕ) (k : Key) → has_entry timed.new time k ≡ (not (key_eq key k && (is_time time (due_of dues.old key) && not (is_time time due))) && has_entry timed.old time k) }
+    ensures timed { (time : ℕ) (k : Key) → has_entry timed.new time k
+        ≡ (not (key_eq key k && (is_time time (due_of dues.old key) && not (is_time time due))) && has_entry timed.old time k) }
 {
     let old = match due {
         Due::At(_) => dues.put(key, due),

@@ -67,7 +67,8 @@ impl EvictQueue {
     /// none exactly where no due time is. It takes one step where any pod has a due time, and no memory.
     pub fn next_due<L>(&mut self, now: u128, steps: &mut Steps<L>) -> Option<Key>
         ensures due { IfSome result (λ pod. (time : ℕ) × (due_in self.old pod ≡ At time) × (time ≤ now)) }
-        ensures first { IfSome result (λ pod. (time other : ℕ) (key : Key) → due_in self.old pod ≡ At time → due_in self.old key ≡ At other → IsNotAfter (time, pod) (other, key)) }
+        ensures first { IfSome result (λ pod. (time other : ℕ) (key : Key)
+            → due_in self.old pod ≡ At time → due_in self.old key ≡ At other → IsNotAfter (time, pod) (other, key)) }
         ensures taken { IfSome result (λ pod. (key : Key) → due_in self.new key ≡ (if key_eq pod key then Never else due_in self.old key)) }
         ensures none { IfNone result ((time : ℕ) (key : Key) → due_in self.old key ≡ At time → now < time) }
         ensures kept { IfNone result ((key : Key) → due_in self.new key ≡ due_in self.old key) }

@@ -12,4 +12,3 @@ pub mod Once
 pub mod Numbers
 pub mod Starts
 pub mod Bounds
-pub mod Bare

@@ -1,5 +1,5 @@
 // The queue of waiting nodes.
-ghost use Rattle.std.specs.Prelude.{◌≡◌, ℕ, ◌<◌, ◌==◌, true, None, Some, IsSome, IfSome, IfNone, length, slice_set, OnOk, OnErr, unwrap_or, if◌then◌else◌};
+ghost use Rattle.std.specs.Prelude.{◌≡◌, ℕ, ◌<◌, ◌==◌, None, Some, IsSome, length, slice_set, if◌then◌else◌};
 ghost use Rattle.taint_queue.specs.Placed.{HasItsNode, IsKept, place};
 ghost use Rattle.taint_queue.specs.Slots.{slots};
 
@@ -36,6 +36,7 @@ fn fill(places: &mut BTreeMap<u32, usize>, tree: &mut Tournament, slot: usize, l
 }
 
 impl Queue {
+    ghost use Rattle.std.specs.Prelude.{true, IfSome, IfNone, OnOk, OnErr, unwrap_or};
     ghost use Rattle.std.specs.Option.{option_map};
     ghost use Rattle.kube_base.specs.declared.numbers.Beat.{Beat as Since};
     ghost use Rattle.taint_queue.specs.Order.{precedes};
@@ -53,7 +54,8 @@ impl Queue {
 
     /// The node waits since this beat. One that waits already keeps its beat.
     pub fn want(&mut self, node: u32, at: Beat) -> Result<(), NoMemory>
-        ensures ok { OnOk result ((other : ℕ) → waits_since self.new other ≡ (if node == other then Some (unwrap_or (waits_since self.old node) at) else waits_since self.old other)) }
+        ensures ok { OnOk result ((other : ℕ) → waits_since self.new other
+            ≡ (if node == other then Some (unwrap_or (waits_since self.old node) at) else waits_since self.old other)) }
         ensures err { OnErr result ((other : ℕ) → waits_since self.new other ≡ waits_since self.old other) }
     {
         if self.places.contains_key(&node) {
@@ -86,7 +88,8 @@ impl Queue {
     /// The node that waits since the least beat, and of equal ones the least; none exactly where nobody waits. Takes no
     /// memory.
     pub fn head(&self) -> Option<u32>
-        ensures first { IfSome result (λ node. (at : Since) × (waits_since self.now node ≡ Some at) × ((other : ℕ) (since : Since) → waits_since self.now other ≡ Some since → precedes at.0 node since.0 other ≡ true)) }
+        ensures first { IfSome result (λ node. (at : Since) × (waits_since self.now node ≡ Some at)
+            × ((other : ℕ) (since : Since) → waits_since self.now other ≡ Some since → precedes at.0 node since.0 other ≡ true)) }
         ensures none { IfNone result ((node : ℕ) → waits_since self.now node ≡ None) }
     {
         match self.tree.first() {
@@ -97,7 +100,8 @@ impl Queue {
 
     /// A node that waits does so since this beat from now on. Takes no memory.
     pub fn to_back(&mut self, node: u32, at: Beat)
-        ensures { (other : ℕ) → waits_since self.new other ≡ (if node == other then option_map (λ _. at) (waits_since self.old node) else waits_since self.old other) }
+        ensures { (other : ℕ) → waits_since self.new other
+            ≡ (if node == other then option_map (λ _. at) (waits_since self.old node) else waits_since self.old other) }
     {
         if let Some(slot) = self.places.get(&node) {
             self.tree.put(*slot, Waiting { at, node });

@@ -1,5 +1,5 @@
 // A tournament tree.
-ghost use Rattle.std.specs.Prelude.{◌≡◌, ◌≢◌, ℕ, ◌+◌, ◌<◌, ◌==◌, true, Some, None, IfSome, IfNone, OnOk, OnErr, length, vec_len, slice_get, if◌then◌else◌};
+ghost use Rattle.std.specs.Prelude.{◌≡◌, ℕ, ◌<◌, true, Some, IfSome, IfNone, OnOk, OnErr, length, vec_len, slice_get};
 ghost use Rattle.taint_queue.specs.Tidy.{best, IsTidy, IsTidyBut};
 
 use crate::waiting::Waiting;
@@ -121,7 +121,8 @@ impl Tournament {
     /// The earliest of all.
     pub(crate) fn first(&self) -> Option<Waiting>
         ensures there { IfSome result (λ first. (slot : ℕ) × (slice_get (slots self.now) slot ≡ Some first)) }
-        ensures first { IfSome result (λ first. (slot : ℕ) (entry : Entry) → slice_get (slots self.now) slot ≡ Some entry → comes_first first entry ≡ true) }
+        ensures first { IfSome result (λ first. (slot : ℕ) (entry : Entry)
+            → slice_get (slots self.now) slot ≡ Some entry → comes_first first entry ≡ true) }
         ensures none { IfNone result (slots self.now ≡ []) }
     {
         self.least.first().copied()

@@ -1,5 +1,6 @@
 -- What is wrong with the terms of a trace: the lines at fault, of which the first one is told.
-use Rattle.std.specs.Prelude.{ℕ, ◌-◌, ◌*◌, ◌&&◌, not, nat_le, nat_lt, Bool, true, List, [], ◌∷◌, ◌++◌, length, map, slice_get, Option, Some, None, min, max, if◌then◌else◌}
+use Rattle.std.specs.Prelude.{ℕ, ◌-◌, ◌*◌, ◌&&◌, not, nat_le, nat_lt, Bool, true, if◌then◌else◌}
+use Rattle.std.specs.Prelude.{List, [], ◌∷◌, ◌++◌, length, map, slice_get, Option, Some, None, min, max}
 use Rattle.std.specs.List.{filter, flat_map}
 use Rattle.std.specs.Str.{bytes_eq}
 use Rattle.kube_base.specs.Names.{with_name}
@@ -131,7 +132,8 @@ is_soon millis rate (Some from) to = not (is_wide millis rate from to)
 abbrev pub soon : ℕ → ℕ → ℕ → Option ℕ → List Mark → List ℕ
 soon millis rate zones start [] = []
 soon millis rate zones start (mark ∷ older) =
-    (if is_soon millis rate (or_start (slice_get (mark ∷ older) zones) start) mark.beat then mark.line ∷ [] else []) ++ soon millis rate zones start older
+    (if is_soon millis rate (or_start (slice_get (mark ∷ older) zones) start) mark.beat then mark.line ∷ [] else [])
+    ++ soon millis rate zones start older
 
 -- the taint lines of a term that break the spacing
 unfoldable pub unspaced_acts : ℕ → List Entry → List ℕ

@@ -36,7 +36,8 @@ pub record IsCounted (old new : Review) : Type 0 where
 
 -- what is found with a lead of the identity at a place, whose seat this is
 abbrev pub crossed_with : ℕ → ℕ → ℕ → Review → Option ℕ
-crossed_with place beat to r = if nat_lt beat to then earlier (begun_before to (another r.nearest place)) r.findings.crossed else r.findings.crossed
+crossed_with place beat to r =
+    if nat_lt beat to then earlier (begun_before to (another r.nearest place)) r.findings.crossed else r.findings.crossed
 
 abbrev pub findings_with : ℕ → ℕ → Seat → Review → Findings
 findings_with place beat s r = record {
@@ -47,7 +48,8 @@ findings_with place beat s r = record {
 
 abbrev pub nearest_with : ℕ → ℕ → ℕ → ℕ → Review → Nearest
 nearest_with place beat line to r =
-    if nat_lt beat to then record { first = Some (record { who = place; from = beat; line = line }); other = another r.nearest place } else r.nearest
+    if nat_lt beat to then record { first = Some (record { who = place; from = beat; line = line }); other = another r.nearest place }
+    else r.nearest
 
 -- a lead of the identity at a place
 pub record Led (place beat line : ℕ) (old new : Review) : Type 0 where
@@ -69,4 +71,5 @@ pub record Played (place beat line : ℕ) (role : Role (List ℕ)) (old new : Re
   pub findings : new.findings ≡ old.findings
   pub leads : new.leads ≡ old.leads
   pub taints : new.taints ≡ old.taints
-  pub seats : (s : Seat) → slice_get old.seats.items place ≡ Some s → new.seats.items ≡ slice_set old.seats.items place (after role beat line s)
+  pub seats : (s : Seat) → slice_get old.seats.items place ≡ Some s
+      → new.seats.items ≡ slice_set old.seats.items place (after role beat line s)

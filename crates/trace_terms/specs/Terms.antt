@@ -7,36 +7,22 @@ use Rattle.trace_terms.specs.Entries.{Entry}
 
 abbrev pub is_lead : {T : Type 0} → Role T → Bool
 is_lead Leads = true
-is_lead Ends = false
-is_lead (Zones zone rate) = false
-is_lead Taints = false
-is_lead Acts = false
-is_lead Idles = false
+is_lead _ = false
 
 abbrev pub is_end : {T : Type 0} → Role T → Bool
-is_end Leads = false
 is_end Ends = true
-is_end (Zones zone rate) = false
-is_end Taints = false
-is_end Acts = false
-is_end Idles = false
+is_end _ = false
 
 abbrev pub is_taint : {T : Type 0} → Role T → Bool
-is_taint Leads = false
-is_taint Ends = false
-is_taint (Zones zone rate) = false
 is_taint Taints = true
-is_taint Acts = false
-is_taint Idles = false
+is_taint _ = false
 
 -- `unknown`, `mode`, `zone`, `taint`, `swap`, `untaint` and `evict`
 abbrev pub is_acting : {T : Type 0} → Role T → Bool
-is_acting Leads = false
-is_acting Ends = false
 is_acting (Zones zone rate) = true
 is_acting Taints = true
 is_acting Acts = true
-is_acting Idles = false
+is_acting _ = false
 
 -- the beat of the next `end`, `crash` or `stop` line of an identity, or the one behind the last beat
 unfoldable pub ended : ℕ → List ℕ → List Entry → ℕ
@@ -46,10 +32,8 @@ ended stop who (e ∷ es) = if bytes_eq e.actor who && is_end e.role then e.beat
 abbrev pub own_with : Role (List ℕ) → Entry → List Entry → List Entry
 own_with Leads e es = []
 own_with Ends e es = es
-own_with (Zones zone rate) e es = e ∷ es
-own_with Taints e es = e ∷ es
-own_with Acts e es = e ∷ es
 own_with Idles e es = es
+own_with _ e es = e ∷ es
 
 -- the acting lines of an identity up to its next `lead` line
 unfoldable pub own : List ℕ → List Entry → List Entry

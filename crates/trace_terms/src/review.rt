@@ -78,7 +78,8 @@ impl Review {
         requires leads { self.old.leads + 1 < 2 ^ 64 }
         requires taints { self.old.taints + 1 < 2 ^ 64 }
         ensures stands { (millis end : ℕ) (es : List Entry) → ReviewStands millis end es self.old → AreAfter beat number es
-            → OnOk result (ReviewStands millis end (record { line = number; beat = beat; actor = actor.now; role = played role.entry } ∷ es) self.new) }
+            → OnOk result (ReviewStands millis end
+            (record { line = number; beat = beat; actor = actor.now; role = played role.entry } ∷ es) self.new) }
         ensures even { OnOk result (length self.new.seats.items ≡ length self.new.actors) }
         ensures end { self.new.end ≡ self.old.end }
         ensures leads { self.new.leads ≤ self.old.leads + 1 }
@@ -133,7 +134,8 @@ impl Review {
     fn place(&mut self, actor: &[u8]) -> Result<usize, NoMemory>
         requires end { self.old.end ≤ 604800000 }
         requires even { length self.old.seats.items ≡ length self.old.actors }
-        ensures stands { (millis end : ℕ) (es : List Entry) → ReviewStands millis end es self.old → OnOk result (ReviewStands millis end es self.new) }
+        ensures stands { (millis end : ℕ) (es : List Entry) → ReviewStands millis end es self.old
+            → OnOk result (ReviewStands millis end es self.new) }
         ensures at { IfOk result (λ place. slice_get self.new.actors place ≡ Some actor.now) }
         ensures within { IfOk result (λ place. place < length self.new.seats.items) }
         ensures even { OnOk result (length self.new.seats.items ≡ length self.new.actors) }
@@ -188,7 +190,8 @@ impl Review {
     /// The nearest spans with that of the term whose lead comes before.
     fn nearest_at(&self, place: usize, beat: u32, line: u64) -> Nearest
         requires { place < length self.now.seats.items }
-        ensures { (s : Seat) → slice_get self.now.seats.items place ≡ Some s → result ≡ nearest_with place beat line s.to self.now }
+        ensures { (s : Seat) → slice_get self.now.seats.items place ≡ Some s
+            → result ≡ nearest_with place beat line s.to self.now }
     {
         if beat < self.seats[place].to {
             self.nearest.with(Span {
@@ -203,7 +206,8 @@ impl Review {
 
     /// The first acting line that lies outside: in a term, or before its actor's first lead.
     pub fn outside(&self) -> Option<u64>
-        ensures { (millis end : ℕ) (es : List Entry) → ReviewStands millis end es self.now → result ≡ least (outside es (terms (end + 1) es)) }
+        ensures { (millis end : ℕ) (es : List Entry) → ReviewStands millis end es self.now
+            → result ≡ least (outside es (terms (end + 1) es)) }
     {
         earlier(self.findings.outside, first_of(&self.seats))
     }

@@ -1,5 +1,5 @@
 -- Delays and losses that are set.
-use Rattle.std.proofs.Common.{◌≡◌, ℕ, zero, suc, ◌<◌, ◌==◌, Bool, true, false, cond, List, [], ◌∷◌, length, replicate, slice_get, slice_set, get_or, Option, Some, None, refl, ap, ◌∙◌, arith}
+use Rattle.std.proofs.Common.{◌≡◌, ℕ, zero, suc, ◌<◌, ◌==◌, Bool, true, false, cond, List, [], ◌∷◌, length, length-set, replicate, slice_get, slice_set, get_or, Option, Some, None, refl, ap, ◌∙◌, arith}
 use Rattle.std.proofs.lemmas.Bool.{eqb-true}
 use Rattle.std.proofs.lemmas.Bool.Decides.{nat_tests}
 use Rattle.kube_objects.specs.Entry.{Entry}
@@ -24,7 +24,7 @@ link_at-set links i p link below = ap or_first (slice_get-set links i p link bel
     by_test true = refl
     by_test false = refl
 
-pub link_at-get_or : (links : List Link) (i : ℕ) (d : Link) → i < length links → get_or links i d ≡ link_at links i
+link_at-get_or : (links : List Link) (i : ℕ) (d : Link) → i < length links → get_or links i d ≡ link_at links i
 link_at-get_or [] i d below = absurd (omega (arith, below))
 link_at-get_or (x ∷ links) zero d below = refl
 link_at-get_or (x ∷ links) (suc i) d below = link_at-get_or links i d (omega (arith, below))
@@ -52,7 +52,7 @@ set-losses p requests replies h true = refl
 set-losses p requests replies h false = refl
 
 -- a changed link of one process, where f changes what is in force
-pub changed-link : (links : List Link) (i p : ℕ) (link : Link) (f : Link → Link) (in_force_at : ℕ → Link) → ((p : ℕ) → link_at links p ≡ in_force_at p) → i < length links → link ≡ f (link_at links i) → link_at (slice_set links i link) p ≡ cond (i == p) (f (in_force_at p)) (in_force_at p)
+changed-link : (links : List Link) (i p : ℕ) (link : Link) (f : Link → Link) (in_force_at : ℕ → Link) → ((p : ℕ) → link_at links p ≡ in_force_at p) → i < length links → link ≡ f (link_at links i) → link_at (slice_set links i link) p ≡ cond (i == p) (f (in_force_at p)) (in_force_at p)
 changed-link links i p link f in_force_at is below changed =
     link_at-set links i p link below
     ∙ ap (λ x. cond (i == p) link x) (is p)
@@ -61,6 +61,18 @@ changed-link links i p link f in_force_at is below changed =
     by_test : (b : Bool) → (b ≡ true → link ≡ f (in_force_at p)) → cond b link (in_force_at p) ≡ cond b (f (in_force_at p)) (in_force_at p)
     by_test true here = here refl
     by_test false here = refl
+
+-- the link of one process of a wire is changed
+module _ (links : List Link) (who : ℕ) (link : Link) (f : Link → Link) (processes : ℕ) (h : List Entry) (count : length links ≡ processes)
+    (stands : (p : ℕ) → link_at links p ≡ link_in p h) (below : who < processes) (was : link ≡ get_or links who link) where
+  inside : who < length links
+  inside = omega (arith, count, below)
+
+  pub same-count : length (slice_set links who (f link)) ≡ processes
+  same-count = length-set links who (f link) ∙ count
+
+  pub other-link : (p : ℕ) → link_at (slice_set links who (f link)) p ≡ cond (who == p) (f (link_in p h)) (link_in p h)
+  other-link p = changed-link links who p (f link) f (λ p. link_in p h) stands inside (ap f (was ∙ link_at-get_or links who link inside))
 
 pub delay-set : (first : ℕ) (b : Bool) (new : ℕ) (before : Option ℕ) → IsDelay new → IsDelay (or_else first before) → IsDelay (set first b new before)
 delay-set first true new before here there = here

@@ -1,7 +1,8 @@
-use Rattle.std.proofs.Common.{◌≡◌, ◌≢◌, ◌==◌, ◌<◌, [], ◌∷◌, ◌++◌, Some, None, cond, length, ap, sym, ◌∙◌, subst, rules, arith}
-use Rattle.taint_queue.specs.Placed.{beat_at, place, HasItsNode, IsKept}
+use Rattle.std.proofs.Common.{◌≡◌, ◌<◌, [], Some, None, length, sym, ◌∙◌, subst, rules, arith}
+use Rattle.taint_queue.specs.Placed.{place}
 use Rattle.taint_queue.specs.Slots.{slots}
-use Rattle.taint_queue.proofs.Places.{filled_beat, filled_kept, filled_known, last_known, left_beat, left_kept, left_known, left_slot, none_from, none_taken, nothing_popped, placed_so, same_kept, same_known, slot_within}
+use Rattle.taint_queue.proofs.Leaving.{last_has_its_place, other_beats, other_kept, other_known, own_beats, own_kept, own_known, own_slot_is_left}
+use Rattle.taint_queue.proofs.Places.{none_from, none_taken, nothing_popped, placed_so, same_kept, same_known, slot_within}
 use Rattle.taint_queue.proofs.queue.Queue.leave.Goals as goal
 
 pub invariant_of-self : goal.invariant_of-self
@@ -26,98 +27,43 @@ unreachable-requires c =
 
 pub fill-requires-clause-known : goal.fill-requires-clause-known
 fill-requires-clause-known c =
-    let q = c.args.self.now in
-    let P = place q.places in
-    let last = c.in-Some-pop.last in
-    let ys = slots c.pop.new.self in
-    let shorter : slots q.tree ≡ ys ++ last ∷ [] = c.in-Some-pop.ensures in
-    let gone = placed_so q.places c.remove.new.self c.args.node None c.remove.ensures.updates in
-    last_known P (place c.remove.new.self) ys last c.args.node (subst (IsKept P) shorter q.is_kept) gone (λ e. c.if-last-node.true e)
+    last_has_its_place c.args.self.now c.remove.new.self c.pop.new.self c.args.node c.in-Some.slot c.in-Some-pop.last (search rules)
+    c.remove.ensures.updates c.in-Some-pop.ensures (λ e. c.if-last-node.true e)
 
 pub fill-requires-clause-within : goal.fill-requires-clause-within
 fill-requires-clause-within c =
-    let q = c.args.self.now in
-    let P = place q.places in
-    let last = c.in-Some-pop.last in
-    let ys = slots c.pop.new.self in
-    let here : place q.places c.args.node ≡ Some c.in-Some.slot = search rules in
-    let shorter : slots q.tree ≡ ys ++ last ∷ [] = c.in-Some-pop.ensures in
-    let gone = placed_so q.places c.remove.new.self c.args.node None c.remove.ensures.updates in
-    left_slot P (place c.remove.new.self) ys last c.args.node c.in-Some.slot (subst (HasItsNode P) shorter q.has_its_node) (subst (IsKept P) shorter q.is_kept) here gone (λ e. c.if-last-node.true e)
+    own_slot_is_left c.args.self.now c.remove.new.self c.pop.new.self c.args.node c.in-Some.slot c.in-Some-pop.last (search rules)
+    c.remove.ensures.updates c.in-Some-pop.ensures (λ e. c.if-last-node.true e)
 
 pub invariant_of-self-then-last-node : goal.invariant_of-self-then-last-node
 invariant_of-self-then-last-node c =
-    let q = c.args.self.now in
-    let P = place q.places in
-    let Q = place c.remove.new.self in
-    let node = c.args.node in
-    let slot = c.in-Some.slot in
-    let last = c.in-Some-pop.last in
-    let ys = slots c.pop.new.self in
-    let here : place q.places node ≡ Some slot = search rules in
-    let shorter : slots q.tree ≡ ys ++ last ∷ [] = c.in-Some-pop.ensures in
-    let gone = placed_so q.places c.remove.new.self node None c.remove.ensures.updates in
-    let known = subst (HasItsNode P) shorter q.has_its_node in
-    let kept = subst (IsKept P) shorter q.is_kept in
-    let R = place c.fill.new.places in
-    let other : last.node ≢ node = λ e. c.if-last-node.true e in
+    let here : place c.args.self.now.places c.args.node ≡ Some c.in-Some.slot = search rules in
     record {
-      has_its_node = subst (HasItsNode R) (sym c.fill.ensures.filled) (filled_known P Q ys last node slot known kept here gone R other c.fill.ensures.moved);
-      is_kept = subst (IsKept R) (sym c.fill.ensures.filled) (filled_kept P Q ys last node slot known kept here gone R other c.fill.ensures.moved);
+      has_its_node = other_known c.args.self.now c.remove.new.self c.pop.new.self c.args.node c.in-Some.slot c.in-Some-pop.last here
+          c.remove.ensures.updates c.in-Some-pop.ensures (λ e. c.if-last-node.true e)
+          c.fill.new.places c.fill.new.tree c.fill.ensures.moved c.fill.ensures.filled;
+      is_kept = other_kept c.args.self.now c.remove.new.self c.pop.new.self c.args.node c.in-Some.slot c.in-Some-pop.last here
+          c.remove.ensures.updates c.in-Some-pop.ensures (λ e. c.if-last-node.true e)
+          c.fill.new.places c.fill.new.tree c.fill.ensures.moved c.fill.ensures.filled;
     }
 
 pub returns-then-last-node : goal.returns-then-last-node
-returns-then-last-node c = λ k.
-    let q = c.args.self.now in
-    let P = place q.places in
-    let Q = place c.remove.new.self in
-    let node = c.args.node in
-    let slot = c.in-Some.slot in
-    let last = c.in-Some-pop.last in
-    let ys = slots c.pop.new.self in
-    let here : place q.places node ≡ Some slot = search rules in
-    let shorter : slots q.tree ≡ ys ++ last ∷ [] = c.in-Some-pop.ensures in
-    let gone = placed_so q.places c.remove.new.self node None c.remove.ensures.updates in
-    let known = subst (HasItsNode P) shorter q.has_its_node in
-    let kept = subst (IsKept P) shorter q.is_kept in
-    let R = place c.fill.new.places in
-    let other : last.node ≢ node = λ e. c.if-last-node.true e in
-    ap (λ xs. beat_at R xs k) c.fill.ensures.filled
-    ∙ filled_beat P Q ys last node slot known kept here gone R other c.fill.ensures.moved k
-    ∙ ap (λ xs. cond (node == k) None (beat_at P xs k)) (sym shorter)
+returns-then-last-node c =
+    other_beats c.args.self.now c.remove.new.self c.pop.new.self c.args.node c.in-Some.slot c.in-Some-pop.last (search rules)
+    c.remove.ensures.updates c.in-Some-pop.ensures (λ e. c.if-last-node.true e)
+    c.fill.new.places c.fill.new.tree c.fill.ensures.moved c.fill.ensures.filled
 
 pub invariant_of-self-else-last-node : goal.invariant_of-self-else-last-node
 invariant_of-self-else-last-node c =
-    let q = c.args.self.now in
-    let P = place q.places in
-    let Q = place c.remove.new.self in
-    let node = c.args.node in
-    let slot = c.in-Some.slot in
-    let last = c.in-Some-pop.last in
-    let ys = slots c.pop.new.self in
-    let here : place q.places node ≡ Some slot = search rules in
-    let shorter : slots q.tree ≡ ys ++ last ∷ [] = c.in-Some-pop.ensures in
-    let gone = placed_so q.places c.remove.new.self node None c.remove.ensures.updates in
-    let known = subst (HasItsNode P) shorter q.has_its_node in
-    let kept = subst (IsKept P) shorter q.is_kept in
+    let here : place c.args.self.now.places c.args.node ≡ Some c.in-Some.slot = search rules in
     record {
-      has_its_node = left_known P Q ys last node slot known kept here gone c.if-last-node.false;
-      is_kept = left_kept P Q ys last node slot known kept here gone c.if-last-node.false;
+      has_its_node = own_known c.args.self.now c.remove.new.self c.pop.new.self c.args.node c.in-Some.slot c.in-Some-pop.last here
+          c.remove.ensures.updates c.in-Some-pop.ensures c.if-last-node.false;
+      is_kept = own_kept c.args.self.now c.remove.new.self c.pop.new.self c.args.node c.in-Some.slot c.in-Some-pop.last here
+          c.remove.ensures.updates c.in-Some-pop.ensures c.if-last-node.false;
     }
 
 pub returns-else-last-node : goal.returns-else-last-node
-returns-else-last-node c = λ k.
-    let q = c.args.self.now in
-    let P = place q.places in
-    let Q = place c.remove.new.self in
-    let node = c.args.node in
-    let slot = c.in-Some.slot in
-    let last = c.in-Some-pop.last in
-    let ys = slots c.pop.new.self in
-    let here : place q.places node ≡ Some slot = search rules in
-    let shorter : slots q.tree ≡ ys ++ last ∷ [] = c.in-Some-pop.ensures in
-    let gone = placed_so q.places c.remove.new.self node None c.remove.ensures.updates in
-    let known = subst (HasItsNode P) shorter q.has_its_node in
-    let kept = subst (IsKept P) shorter q.is_kept in
-    left_beat P Q ys last node slot known kept here gone c.if-last-node.false k
-    ∙ ap (λ xs. cond (node == k) None (beat_at P xs k)) (sym shorter)
+returns-else-last-node c =
+    own_beats c.args.self.now c.remove.new.self c.pop.new.self c.args.node c.in-Some.slot c.in-Some-pop.last (search rules)
+    c.remove.ensures.updates c.in-Some-pop.ensures c.if-last-node.false
