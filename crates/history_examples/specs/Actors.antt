@@ -9,7 +9,10 @@ use Rattle.history_examples.specs.Documents.{document, settings, c1, c2, alone, 
 -- The calls' timeout is five seconds. The reply to the renewal that is sent in beat 6 comes 48 beats late and
 -- still counts, while the other, which starts in beat 7, waits for one lease duration.
 abbrev pub slow_reply : Doc
-slow_reply = document (record (settings 176) { call_timeout_millis = 5000 }) (record c1 { timeout_millis = 5000 } ∷ record c2 { up = false; timeout_millis = 5000 } ∷ []) []
+slow_reply =
+    document (record (settings 176) { call_timeout_millis = 5000 })
+    (record c1 { timeout_millis = 5000 } ∷ record c2 { up = false; timeout_millis = 5000 } ∷ [])
+    []
     (at_beat 7 (start 1) ∷ at_beat 7 (delay 0 1 48) ∷ at_beat 8 (loss 0 true false) ∷ [])
 
 -- Where the premise fails, two identities can act at one beat.

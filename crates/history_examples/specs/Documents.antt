@@ -1,6 +1,8 @@
 -- The documents of the worked examples.
 use Rattle.std.specs.Prelude.{ℕ, pos, Bool, true, false, List, [], ◌∷◌, None}
+use Rattle.kube_objects.specs.declared.call.Answer.TheVariants as answer
 use Rattle.kube_objects.specs.declared.deed.Act.{Act}
+use Rattle.kube_objects.specs.declared.deed.Act.TheVariants as act
 use Rattle.kube_objects.specs.declared.deed.Deed.{Deed}
 use Rattle.kube_objects.specs.declared.deed.Actor.TheVariants as actor
 use Rattle.kube_objects.specs.declared.key.Key.{Key}
@@ -66,7 +68,8 @@ abbrev pub c2 : Proc
 c2 = controller 11
 
 abbrev pub document : Settings → List Proc → List (Key × Object) → List Event → Doc
-document set controllers objects events = record { settings = set; controllers = controllers; kubelets = []; objects = objects; events = events }
+document set controllers objects events =
+    record { settings = set; controllers = controllers; kubelets = []; objects = objects; events = events }
 
 -- one controller
 abbrev pub alone : ℕ → List (Key × Object) → List Event → Doc
@@ -78,7 +81,9 @@ pair end objects events = document (settings end) (c1 ∷ c2 ∷ []) objects eve
 
 -- the record of a holder that is no process of the document, without a duration; 12 is the number of its name
 abbrev pub old_record : List (Key × Object)
-old_record = (election, object.Lease (record { holder = holder.Foreign 12; duration = None; acquired = None; renewed = None; transitions = None })) ∷ []
+old_record =
+    (election, object.Lease (record { holder = holder.Foreign 12; duration = None; acquired = None; renewed = None; transitions = None }))
+    ∷ []
 
 -- ---- events
 
@@ -105,7 +110,8 @@ abbrev pub other : Key
 other = record { kind = kind.Lease; space = 7; name = 13 }
 
 abbrev pub put : Key → What
-put key = what.Put key (object.Lease (record { holder = holder.Nobody; duration = None; acquired = None; renewed = None; transitions = None }))
+put key =
+    what.Put key (object.Lease (record { holder = holder.Nobody; duration = None; acquired = None; renewed = None; transitions = None }))
 
 abbrev pub remove : Key → What
 remove key = what.Remove key
@@ -119,3 +125,27 @@ line k p i act = record { beat = record { 0 = k }; actor = actor_of (identity p 
 -- what the script does at a beat
 abbrev pub script_line : ℕ → Act → Deed
 script_line k act = record { beat = record { 0 = k }; actor = actor.Script; act = act }
+
+-- the election Lease is written, with the version and the transitions that it has then
+abbrev pub create : ℕ → Act
+create version = act.Create election (answer.Done (record { 0 = version })) 0
+
+abbrev pub update : ℕ → ℕ → Act
+update version transitions = act.Update election (answer.Done (record { 0 = version })) transitions
+
+abbrev pub lead : ℕ → Act
+lead version = act.Lead (record { 0 = version })
+
+-- the first process leads from beat 4 on, by this version of the Lease
+abbrev pub elected : ℕ → List Deed
+elected version = line 0 0 1 act.Start ∷ line 3 0 1 (create version) ∷ line 4 0 1 (lead version) ∷ []
+
+-- and the second, which asked for the Lease at the same time, doesn't
+abbrev pub elected_of_two : ℕ → List Deed
+elected_of_two version =
+    line 0 0 1 act.Start
+    ∷ line 0 1 1 act.Start
+    ∷ line 3 0 1 (create version)
+    ∷ line 3 1 1 (act.Create election answer.Exists 0)
+    ∷ line 4 0 1 (lead version)
+    ∷ []

@@ -16,7 +16,14 @@ me = identity 0 1
 
 -- the record that is created in beat 2, which begins 200 milliseconds after 2024-01-01T00:00:00Z
 abbrev pub first_record : Lease
-first_record = record { holder = holder_of me; duration = Some 15; acquired = Some (record { 0 = 1704067200200000 }); renewed = Some (record { 0 = 1704067200200000 }); transitions = Some 0 }
+first_record =
+    record {
+      holder = holder_of me;
+      duration = Some 15;
+      acquired = Some (record { 0 = 1704067200200000 });
+      renewed = Some (record { 0 = 1704067200200000 });
+      transitions = Some 0;
+    }
 
 abbrev pub call : ℕ → ℕ → Request → Call
 call number sent asked = record { number = number; request = asked; sent = sent; kind = Plain }
@@ -30,7 +37,8 @@ TwelveEntries = history (alone 60 [] []) 6 ≡
     ∷ entry 4 4 me (Sends (call 3 4 (request.Get election)) (Some 5))
     ∷ entry 4 3 me (Leads (record { 0 = 1 }))
     ∷ entry 4 3 me (Delivers (call 2 2 (request.Create election first_record)) (reply.Done (record { 0 = 1 })) true)
-    ∷ entry 3 2 me (Answers (call 2 2 (request.Create election first_record)) (reply.Done (record { 0 = 1 })) (Some 4) (Some (object.Lease first_record)))
+    ∷ entry 3 2 me (Answers (call 2 2 (request.Create election first_record)) (reply.Done (record { 0 = 1 })) (Some 4)
+    (Some (object.Lease first_record)))
     ∷ entry 2 3 me (Sends (call 2 2 (request.Create election first_record)) (Some 3))
     ∷ entry 2 3 me (Delivers (call 1 0 (request.Get election)) reply.Absent true)
     ∷ entry 1 2 me (Answers (call 1 0 (request.Get election)) reply.Absent (Some 2) None)

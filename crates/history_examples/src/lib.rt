@@ -1,9 +1,15 @@
 //! Worked examples: documents and the traces that the definitions give them, worked out by hand before.
 #![tactic(auto)]
 
-ghost use Rattle.history_examples.specs.Elections.{FirstElection, DoubleSpeed, SecondCreateIsRefused, SecondTakeoverIsRefused, VersionsCountEveryWrite, StormInOneBeat, ReplyToAnOldIncarnation};
-ghost use Rattle.history_examples.specs.Renewals.{LateRenewalConflicts, DeadlineEndsTheTerm, ReplyAtTheTimeoutCounts, ReplyAfterTheTimeoutIsIgnored, ReplyToAnotherCallIsIgnored, SuccessAtTheDeadline, CrashCancelsARestart, FastRenewal, FastRenewalFallsBack, StopIsFollowedByRelease, ReleaseBeforeALoss, ReleaseAfterALoss, RenewalOutrunsRelease};
-ghost use Rattle.history_examples.specs.Takeovers.{OwnRecordAfterLostReply, TakeoverAfterCrash, DurationInTheRecordCounts, CreateOutlivesItsSender, SlowReplyCounts};
+ghost use Rattle.history_examples.specs.Elections.{FirstElection, DoubleSpeed, SecondCreateIsRefused, SecondTakeoverIsRefused};
+ghost use Rattle.history_examples.specs.Elections.{VersionsCountEveryWrite, StormInOneBeat, ReplyToAnOldIncarnation};
+ghost use Rattle.history_examples.specs.Renewals.{LateRenewalConflicts, DeadlineEndsTheTerm, ReplyAtTheTimeoutCounts};
+ghost use Rattle.history_examples.specs.Renewals.{ReplyAfterTheTimeoutIsIgnored, ReplyToAnotherCallIsIgnored};
+ghost use Rattle.history_examples.specs.Renewals.{SuccessAtTheDeadline, CrashCancelsARestart, FastRenewal};
+ghost use Rattle.history_examples.specs.Renewals.{FastRenewalFallsBack, StopIsFollowedByRelease, ReleaseBeforeALoss};
+ghost use Rattle.history_examples.specs.Renewals.{ReleaseAfterALoss, RenewalOutrunsRelease};
+ghost use Rattle.history_examples.specs.Takeovers.{OwnRecordAfterLostReply, TakeoverAfterCrash, DurationInTheRecordCounts};
+ghost use Rattle.history_examples.specs.Takeovers.{CreateOutlivesItsSender, SlowReplyCounts};
 ghost use Rattle.history_examples.specs.Entries.{TwelveEntries};
 ghost use Rattle.history_examples.specs.Actors.{TwoActWithoutPremise, OneActsUnderPremise};
 

@@ -1,16 +1,19 @@
 -- What the documents of the worked examples are made of. Beats are of 100 ms unless a document says otherwise, from
 -- 2024-01-01T00:00:00Z on; a controller that leads from beat 4 has its passes at beats 4, 54, 104 and so on.
-use Rattle.std.specs.Prelude.{ℕ, ◌+◌, ◌*◌, pos, Bool, List, [], ◌∷◌, Option, Some, None}
+use Rattle.std.specs.Prelude.{ℕ, ◌+◌, ◌*◌, pos, Bool, List, [], ◌∷◌, ◌++◌, Option, Some, None}
 use Rattle.kube_base.specs.declared.numbers.Version.{Version}
 use Rattle.kube_base.specs.declared.numbers.Wall.{Wall}
 use Rattle.kube_objects.specs.declared.call.Answer.{Answer}
 use Rattle.kube_objects.specs.declared.call.Answer.TheVariants as answer
+use Rattle.kube_objects.specs.declared.deed.Act.TheVariants as act
+use Rattle.kube_objects.specs.declared.deed.Deed.{Deed}
 use Rattle.kube_objects.specs.declared.key.Key.{Key}
 use Rattle.kube_objects.specs.declared.key.Kind.TheVariants as kind
 use Rattle.kube_objects.specs.declared.lease.Holder.TheVariants as holder
 use Rattle.kube_objects.specs.declared.node.Effect.TheVariants as effect
 use Rattle.kube_objects.specs.declared.node.ReadyStatus.{ReadyStatus}
 use Rattle.kube_objects.specs.declared.node.Taint.{Taint}
+use Rattle.kube_objects.specs.declared.node.ZoneState.TheVariants as zone
 use Rattle.kube_objects.specs.declared.object.Object.{Object}
 use Rattle.kube_objects.specs.declared.object.Object.TheVariants as object
 use Rattle.kube_objects.specs.declared.pod.Operator.TheVariants as operator
@@ -22,7 +25,7 @@ use Rattle.kube_objects.specs.declared.script.What.TheVariants as what
 use Rattle.kube_objects.specs.declared.settings.Settings.{Settings}
 use Rattle.kube_objects.specs.Document.{Doc}
 use Rattle.kube_objects.specs.Stored.{node_key, node_lease}
-use Rattle.history_examples.specs.Documents.{controller, c1, document, at_beat}
+use Rattle.history_examples.specs.Documents.{controller, c1, document, at_beat, line, update, elected}
 
 -- ---- names: numbers in the order in which the examples have them
 
@@ -181,3 +184,13 @@ done n = answer.Done (version n)
 
 abbrev pub conflict : ℕ → Answer
 conflict n = answer.Conflict (version n)
+
+-- ---- lines
+
+-- one zone, which is normal at the first pass
+abbrev pub in_normal_zone : ℕ → List Deed
+in_normal_zone version =
+    elected version
+    ++ line 4 0 1 (act.Zone r1 zone_a zone.Normal 100)
+    ∷ line 7 0 1 (update (version + 1) 0)
+    ∷ []

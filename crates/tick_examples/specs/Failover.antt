@@ -15,8 +15,8 @@ use Rattle.kube_objects.specs.Stored.{election, node_key, node_lease}
 use Rattle.kube_objects.specs.Tainting.{not_ready, unreachable}
 use Rattle.history.specs.History.{whole_history}
 use Rattle.history.specs.Printed.{printed}
-use Rattle.history_examples.specs.Documents.{settings, c1, c2, at_beat, crash, line}
-use Rattle.tick_examples.specs.Clusters.{n1, n2, n3, r1, zone_a, default, kubelet, second, tolerating, pod_at, version, done}
+use Rattle.history_examples.specs.Documents.{settings, c1, c2, at_beat, crash, line, create, update, lead}
+use Rattle.tick_examples.specs.Clusters.{n1, n2, n3, r1, zone_a, default, kubelet, second, tolerating, pod_at, done}
 
 abbrev pub patient : Proc → Proc
 patient proc = record proc { lease_seconds = 120; renew_millis = 60000; retry_millis = 20000 }
@@ -97,28 +97,28 @@ DeadNodeAndFailover = printed (whole_history dead_node_and_failover) ≡
     ∷ line 0 2 1 act.Start
     ∷ line 0 3 1 act.Start
     ∷ line 0 4 1 act.Start
-    ∷ line 3 0 1 (act.Create election (done 13) 0)
+    ∷ line 3 0 1 (create 13)
     ∷ line 3 1 1 (act.Create election answer.Exists 0)
-    ∷ line 4 0 1 (act.Lead (version 13))
+    ∷ line 4 0 1 (lead 13)
     ∷ line 4 0 1 (act.Zone r1 zone_a zone.Normal 100)
-    ∷ line 7 0 1 (act.Update election (done 17) 0)
+    ∷ line 7 0 1 (update 17 0)
     ∷ line 22 4 1 act.Crash
-    ∷ line 31 0 1 (act.Update election (done 23) 0)
-    ∷ line 55 0 1 (act.Update election (done 30) 0)
+    ∷ line 31 0 1 (update 23 0)
+    ∷ line 55 0 1 (update 30 0)
     ∷ line 64 0 1 (act.Marked n3 3 (done 31))
     ∷ line 64 0 1 (act.Tainted n3 unreachable (done 32))
-    ∷ line 79 0 1 (act.Update election (done 37) 0)
+    ∷ line 79 0 1 (update 37 0)
     ∷ line 100 0 1 act.Crash
     ∷ line 181 2 1 (act.Posted n1 ready.True (done 58))
     ∷ line 181 3 1 (act.Posted n2 ready.True (done 59))
-    ∷ line 225 1 1 (act.Update election (done 70) 1)
-    ∷ line 226 1 1 (act.Lead (version 70))
+    ∷ line 225 1 1 (update 70 1)
+    ∷ line 226 1 1 (lead 70)
     ∷ line 226 1 1 (act.Zone r1 zone_a zone.Normal 100)
-    ∷ line 229 1 1 (act.Update election (done 71) 1)
-    ∷ line 253 1 1 (act.Update election (done 76) 1)
-    ∷ line 277 1 1 (act.Update election (done 83) 1)
-    ∷ line 301 1 1 (act.Update election (done 88) 1)
-    ∷ line 325 1 1 (act.Update election (done 95) 1)
-    ∷ line 349 1 1 (act.Update election (done 100) 1)
+    ∷ line 229 1 1 (update 71 1)
+    ∷ line 253 1 1 (update 76 1)
+    ∷ line 277 1 1 (update 83 1)
+    ∷ line 301 1 1 (update 88 1)
+    ∷ line 325 1 1 (update 95 1)
+    ∷ line 349 1 1 (update 100 1)
     ∷ line 364 1 1 (act.Evicted (web n3) (second 364) (done 103))
     ∷ []

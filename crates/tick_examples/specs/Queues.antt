@@ -1,16 +1,17 @@
 -- Queued taints, and swaps.
-use Rattle.std.specs.Prelude.{◌≡◌, true, false, [], ◌∷◌}
-use Rattle.kube_objects.specs.declared.call.Answer.TheVariants as answer
+use Rattle.std.specs.Prelude.{◌≡◌, true, false, [], ◌∷◌, ◌++◌}
 use Rattle.kube_objects.specs.declared.deed.Act.TheVariants as act
 use Rattle.kube_objects.specs.declared.node.ReadyStatus.TheVariants as ready
 use Rattle.kube_objects.specs.declared.node.ZoneState.TheVariants as zone
 use Rattle.kube_objects.specs.Document.{Doc}
-use Rattle.kube_objects.specs.Stored.{election, node_key}
+use Rattle.kube_objects.specs.Stored.{node_key}
 use Rattle.kube_objects.specs.Tainting.{not_ready, unreachable}
 use Rattle.history.specs.History.{whole_history}
 use Rattle.history.specs.Printed.{printed}
-use Rattle.history_examples.specs.Documents.{settings, c1, c2, at_beat, loss, crash, line, script_line}
-use Rattle.tick_examples.specs.Clusters.{n1, n2, n3, n4, m1, m2, r1, zone_a, zone_b, default, p1, cluster, second, condition_at, beating, node, tolerating, pod_at, pod, puts, version, done}
+use Rattle.history_examples.specs.Documents.{settings, c1, c2, at_beat, loss, crash, line, script_line, update, lead, elected}
+use Rattle.history_examples.specs.Documents.{elected_of_two}
+use Rattle.tick_examples.specs.Clusters.{n1, n2, n3, n4, m1, m2, r1, zone_a, zone_b, default, in_normal_zone, p1, cluster}
+use Rattle.tick_examples.specs.Clusters.{second, condition_at, beating, node, tolerating, pod_at, pod, puts, version, done}
 
 -- The second taint comes a whole interval after the first pass of the new term.
 abbrev pub taint_after_failover : Doc
@@ -28,27 +29,23 @@ taint_after_failover = record {
 
 abbrev pub TaintAfterFailover : Type 0
 TaintAfterFailover = printed (whole_history taint_after_failover) ≡
-    line 0 0 1 act.Start
-    ∷ line 0 1 1 act.Start
-    ∷ line 3 0 1 (act.Create election (done 4) 0)
-    ∷ line 3 1 1 (act.Create election answer.Exists 0)
-    ∷ line 4 0 1 (act.Lead (version 4))
-    ∷ line 4 0 1 (act.Zone r1 zone_a zone.Normal 100)
-    ∷ line 7 0 1 (act.Update election (done 5) 0)
-    ∷ line 31 0 1 (act.Update election (done 6) 0)
-    ∷ line 55 0 1 (act.Update election (done 7) 0)
-    ∷ line 79 0 1 (act.Update election (done 8) 0)
-    ∷ line 103 0 1 (act.Update election (done 9) 0)
+    elected_of_two 4
+    ++ line 4 0 1 (act.Zone r1 zone_a zone.Normal 100)
+    ∷ line 7 0 1 (update 5 0)
+    ∷ line 31 0 1 (update 6 0)
+    ∷ line 55 0 1 (update 7 0)
+    ∷ line 79 0 1 (update 8 0)
+    ∷ line 103 0 1 (update 9 0)
     ∷ line 104 0 1 (act.Tainted n1 not_ready (done 10))
     ∷ line 110 0 1 act.Crash
-    ∷ line 269 1 1 (act.Update election (done 11) 1)
-    ∷ line 270 1 1 (act.Lead (version 11))
+    ∷ line 269 1 1 (update 11 1)
+    ∷ line 270 1 1 (lead 11)
     ∷ line 270 1 1 (act.Zone r1 zone_a zone.Normal 100)
-    ∷ line 273 1 1 (act.Update election (done 12) 1)
-    ∷ line 297 1 1 (act.Update election (done 13) 1)
-    ∷ line 321 1 1 (act.Update election (done 14) 1)
-    ∷ line 345 1 1 (act.Update election (done 15) 1)
-    ∷ line 369 1 1 (act.Update election (done 16) 1)
+    ∷ line 273 1 1 (update 12 1)
+    ∷ line 297 1 1 (update 13 1)
+    ∷ line 321 1 1 (update 14 1)
+    ∷ line 345 1 1 (update 15 1)
+    ∷ line 369 1 1 (update 16 1)
     ∷ line 370 1 1 (act.Tainted n2 not_ready (done 17))
     ∷ []
 
@@ -63,12 +60,10 @@ swap_needs_no_token = cluster (settings 200)
 
 abbrev pub SwapNeedsNoToken : Type 0
 SwapNeedsNoToken = printed (whole_history swap_needs_no_token) ≡
-    line 0 0 1 act.Start
-    ∷ line 3 0 1 (act.Create election (done 4) 0)
-    ∷ line 4 0 1 (act.Lead (version 4))
-    ∷ line 4 0 1 (act.Zone r1 zone_a zone.Normal 100)
+    elected 4
+    ++ line 4 0 1 (act.Zone r1 zone_a zone.Normal 100)
     ∷ line 4 0 1 (act.Swapped n1 not_ready (done 5))
-    ∷ line 7 0 1 (act.Update election (done 6) 0)
+    ∷ line 7 0 1 (update 6 0)
     ∷ line 200 0 1 (act.Evicted (pod_at default p1) (second 20) (done 7))
     ∷ []
 
@@ -85,12 +80,10 @@ zones_apart = cluster (settings 204)
 
 abbrev pub ZonesApart : Type 0
 ZonesApart = printed (whole_history zones_apart) ≡
-    line 0 0 1 act.Start
-    ∷ line 3 0 1 (act.Create election (done 6) 0)
-    ∷ line 4 0 1 (act.Lead (version 6))
-    ∷ line 4 0 1 (act.Zone r1 zone_a zone.Normal 100)
+    elected 6
+    ++ line 4 0 1 (act.Zone r1 zone_a zone.Normal 100)
     ∷ line 4 0 1 (act.Zone r1 zone_b zone.Normal 100)
-    ∷ line 7 0 1 (act.Update election (done 7) 0)
+    ∷ line 7 0 1 (update 7 0)
     ∷ line 104 0 1 (act.Tainted n1 not_ready (done 8))
     ∷ line 104 0 1 (act.Tainted m1 not_ready (done 9))
     ∷ line 204 0 1 (act.Tainted n2 not_ready (done 10))
@@ -111,12 +104,8 @@ ready_and_marked_at_once = cluster (record (settings 120) { grace_period_millis 
 
 abbrev pub ReadyAndMarkedAtOnce : Type 0
 ReadyAndMarkedAtOnce = printed (whole_history ready_and_marked_at_once) ≡
-    line 0 0 1 act.Start
-    ∷ line 3 0 1 (act.Create election (done 4) 0)
-    ∷ line 4 0 1 (act.Lead (version 4))
-    ∷ line 4 0 1 (act.Zone r1 zone_a zone.Normal 100)
-    ∷ line 7 0 1 (act.Update election (done 5) 0)
-    ∷ script_line 60 (act.Put (node_key n2) (version 6))
+    in_normal_zone 4
+    ++ script_line 60 (act.Put (node_key n2) (version 6))
     ∷ script_line 60 (act.Put (node_key n3) (version 7))
     ∷ script_line 104 (act.Put (node_key n1) (version 8))
     ∷ line 104 0 1 (act.Marked n1 3 (done 9))
@@ -137,12 +126,10 @@ waiting_in_another_zone = cluster (settings 210)
 
 abbrev pub WaitingInAnotherZone : Type 0
 WaitingInAnotherZone = printed (whole_history waiting_in_another_zone) ≡
-    line 0 0 1 act.Start
-    ∷ line 3 0 1 (act.Create election (done 5) 0)
-    ∷ line 4 0 1 (act.Lead (version 5))
-    ∷ line 4 0 1 (act.Zone r1 zone_a zone.Normal 100)
+    elected 5
+    ++ line 4 0 1 (act.Zone r1 zone_a zone.Normal 100)
     ∷ line 4 0 1 (act.Zone r1 zone_b zone.Normal 100)
-    ∷ line 7 0 1 (act.Update election (done 6) 0)
+    ∷ line 7 0 1 (update 6 0)
     ∷ script_line 60 (act.Put (node_key n2) (version 7))
     ∷ script_line 80 (act.Put (node_key n1) (version 8))
     ∷ line 104 0 1 (act.Tainted n2 not_ready (done 9))
@@ -162,10 +149,6 @@ lost_taint_goes_back = cluster (settings 210)
 
 abbrev pub LostTaintGoesBack : Type 0
 LostTaintGoesBack = printed (whole_history lost_taint_goes_back) ≡
-    line 0 0 1 act.Start
-    ∷ line 3 0 1 (act.Create election (done 4) 0)
-    ∷ line 4 0 1 (act.Lead (version 4))
-    ∷ line 4 0 1 (act.Zone r1 zone_a zone.Normal 100)
-    ∷ line 7 0 1 (act.Update election (done 5) 0)
-    ∷ line 204 0 1 (act.Tainted n2 not_ready (done 6))
+    in_normal_zone 4
+    ++ line 204 0 1 (act.Tainted n2 not_ready (done 6))
     ∷ []

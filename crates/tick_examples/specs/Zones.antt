@@ -1,16 +1,21 @@
 -- Zones, their states and rates, and the all-Full mode.
-use Rattle.std.specs.Prelude.{◌≡◌, true, false, [], ◌∷◌, None}
+use Rattle.std.specs.Prelude.{◌≡◌, true, false, List, [], ◌∷◌, ◌++◌, None}
 use Rattle.kube_objects.specs.declared.deed.Act.TheVariants as act
+use Rattle.kube_objects.specs.declared.key.Key.{Key}
 use Rattle.kube_objects.specs.declared.node.ReadyStatus.TheVariants as ready
 use Rattle.kube_objects.specs.declared.node.ZoneState.TheVariants as zone
+use Rattle.kube_objects.specs.declared.object.Object.{Object}
 use Rattle.kube_objects.specs.declared.settings.RatePolicy.TheVariants as policy
+use Rattle.kube_objects.specs.declared.settings.Settings.{Settings}
 use Rattle.kube_objects.specs.Document.{Doc}
-use Rattle.kube_objects.specs.Stored.{election, node_key, node_lease}
+use Rattle.kube_objects.specs.Stored.{node_key, node_lease}
 use Rattle.kube_objects.specs.Tainting.{not_ready, unreachable}
 use Rattle.history.specs.History.{whole_history}
 use Rattle.history.specs.Printed.{printed}
-use Rattle.history_examples.specs.Documents.{settings, at_beat, line, script_line}
-use Rattle.tick_examples.specs.Clusters.{n1, n2, n3, n4, m1, r1, zone_a, zone_b, default, p1, p2, cluster, second, at_second, condition, beating, node, without_heartbeat, bare_node, unready_node, renewed, pod_at, pod, puts, removes, watch, version, done}
+use Rattle.history_examples.specs.Documents.{settings, at_beat, line, script_line, update, elected}
+use Rattle.tick_examples.specs.Clusters.{n1, n2, n3, n4, m1, r1, zone_a, zone_b, default, in_normal_zone, p1, p2, cluster}
+use Rattle.tick_examples.specs.Clusters.{second, at_second, condition, beating, node, without_heartbeat, bare_node}
+use Rattle.tick_examples.specs.Clusters.{unready_node, renewed, pod_at, pod, puts, removes, watch, version, done}
 
 -- Both nodes are not ready: the all-Full mode takes the taint away, and nobody is tainted. A pass ends it; the zone has a rate from then
 -- on, so its token comes an interval later.
@@ -26,13 +31,11 @@ mode_ends = cluster (settings 154)
 
 abbrev pub ModeEnds : Type 0
 ModeEnds = printed (whole_history mode_ends) ≡
-    line 0 0 1 act.Start
-    ∷ line 3 0 1 (act.Create election (done 5) 0)
-    ∷ line 4 0 1 (act.Lead (version 5))
-    ∷ line 4 0 1 (act.Mode true)
+    elected 5
+    ++ line 4 0 1 (act.Mode true)
     ∷ line 4 0 1 (act.Zone r1 zone_a zone.Full 0)
     ∷ line 4 0 1 (act.Untainted n1 (done 6))
-    ∷ line 7 0 1 (act.Update election (done 7) 0)
+    ∷ line 7 0 1 (update 7 0)
     ∷ script_line 40 (act.Put (node_key n1) (version 8))
     ∷ line 54 0 1 (act.Mode false)
     ∷ line 54 0 1 (act.Zone r1 zone_a zone.Normal 100)
@@ -50,12 +53,10 @@ gentle_policy = cluster (record (settings 1004) { grace_period_millis = 600000; 
 
 abbrev pub GentlePolicy : Type 0
 GentlePolicy = printed (whole_history gentle_policy) ≡
-    line 0 0 1 act.Start
-    ∷ line 3 0 1 (act.Create election (done 3) 0)
-    ∷ line 4 0 1 (act.Lead (version 3))
-    ∷ line 4 0 1 (act.Zone r1 zone_a zone.Full 10)
+    elected 3
+    ++ line 4 0 1 (act.Zone r1 zone_a zone.Full 10)
     ∷ line 4 0 1 (act.Zone r1 zone_b zone.Normal 100)
-    ∷ line 7 0 1 (act.Update election (done 4) 0)
+    ∷ line 7 0 1 (update 4 0)
     ∷ line 1004 0 1 (act.Tainted n1 not_ready (done 5))
     ∷ []
 
@@ -74,12 +75,8 @@ rate_changes = cluster (record (settings 210) { secondary_rate = 50; large_zone 
 
 abbrev pub RateChanges : Type 0
 RateChanges = printed (whole_history rate_changes) ≡
-    line 0 0 1 act.Start
-    ∷ line 3 0 1 (act.Create election (done 5) 0)
-    ∷ line 4 0 1 (act.Lead (version 5))
-    ∷ line 4 0 1 (act.Zone r1 zone_a zone.Normal 100)
-    ∷ line 7 0 1 (act.Update election (done 6) 0)
-    ∷ script_line 50 (act.Put (node_key n2) (version 7))
+    in_normal_zone 5
+    ++ script_line 50 (act.Put (node_key n2) (version 7))
     ∷ script_line 50 (act.Put (node_key n3) (version 8))
     ∷ line 54 0 1 (act.Zone r1 zone_a zone.Partial 50)
     ∷ script_line 100 (act.Put (node_key n2) (version 9))
@@ -100,12 +97,10 @@ zone_returns = cluster (settings 210)
 
 abbrev pub ZoneReturns : Type 0
 ZoneReturns = printed (whole_history zone_returns) ≡
-    line 0 0 1 act.Start
-    ∷ line 3 0 1 (act.Create election (done 3) 0)
-    ∷ line 4 0 1 (act.Lead (version 3))
-    ∷ line 4 0 1 (act.Zone r1 zone_a zone.Normal 100)
+    elected 3
+    ++ line 4 0 1 (act.Zone r1 zone_a zone.Normal 100)
     ∷ line 4 0 1 (act.Zone r1 zone_b zone.Full 100)
-    ∷ line 7 0 1 (act.Update election (done 4) 0)
+    ∷ line 7 0 1 (update 4 0)
     ∷ script_line 50 (act.Removed (node_key n2) (version 5))
     ∷ script_line 75 (act.Put (node_key n3) (version 6))
     ∷ script_line 80 (act.Put (node_key n2) (version 7))
@@ -127,13 +122,11 @@ swap_after_the_mode = cluster (settings 70)
 
 abbrev pub SwapAfterTheMode : Type 0
 SwapAfterTheMode = printed (whole_history swap_after_the_mode) ≡
-    line 0 0 1 act.Start
-    ∷ line 3 0 1 (act.Create election (done 3) 0)
-    ∷ line 4 0 1 (act.Lead (version 3))
-    ∷ line 4 0 1 (act.Mode true)
+    elected 3
+    ++ line 4 0 1 (act.Mode true)
     ∷ line 4 0 1 (act.Zone r1 zone_a zone.Full 0)
     ∷ line 4 0 1 (act.Untainted n1 (done 4))
-    ∷ line 7 0 1 (act.Update election (done 5) 0)
+    ∷ line 7 0 1 (update 5 0)
     ∷ script_line 20 (act.Put (node_key n1) (version 6))
     ∷ line 20 0 1 (act.Untainted n1 (done 7))
     ∷ script_line 50 (act.Put (node_key n2) (version 8))
@@ -143,14 +136,18 @@ SwapAfterTheMode = printed (whole_history swap_after_the_mode) ≡
     ∷ line 60 0 1 (act.Swapped n1 unreachable (done 10))
     ∷ []
 
+-- a node that isn't heard of for ten seconds is marked
+abbrev pub short_grace : Settings
+short_grace = record (settings 160) { grace_period_millis = 10000 }
+
+abbrev pub two_ready_nodes : List (Key × Object)
+two_ready_nodes = node n1 zone_a ready.True [] ∷ node n2 zone_a ready.True [] ∷ []
+
 -- The renew time is missing at the pass of beat 54 and back at that of 104: no news, so the node's probe stays at beat 4. The other
 -- node's heartbeat moves.
 abbrev pub renew_time_returns : Doc
-renew_time_returns = cluster (record (settings 160) { grace_period_millis = 10000 })
-    (node n1 zone_a ready.True []
-    ∷ node n2 zone_a ready.True []
-    ∷ renewed n1 (at_second 0)
-    ∷ [])
+renew_time_returns = cluster short_grace
+    (two_ready_nodes ++ renewed n1 (at_second 0) ∷ [])
     (puts 50 (renewed n1 None)
     ∷ puts 100 (renewed n1 (at_second 0))
     ∷ puts 100 (beating n2 zone_a ready.True [] 10)
@@ -158,12 +155,8 @@ renew_time_returns = cluster (record (settings 160) { grace_period_millis = 1000
 
 abbrev pub RenewTimeReturns : Type 0
 RenewTimeReturns = printed (whole_history renew_time_returns) ≡
-    line 0 0 1 act.Start
-    ∷ line 3 0 1 (act.Create election (done 4) 0)
-    ∷ line 4 0 1 (act.Lead (version 4))
-    ∷ line 4 0 1 (act.Zone r1 zone_a zone.Normal 100)
-    ∷ line 7 0 1 (act.Update election (done 5) 0)
-    ∷ script_line 50 (act.Put (node_lease n1) (version 6))
+    in_normal_zone 4
+    ++ script_line 50 (act.Put (node_lease n1) (version 6))
     ∷ script_line 100 (act.Put (node_lease n1) (version 7))
     ∷ script_line 100 (act.Put (node_key n2) (version 8))
     ∷ line 154 0 1 (act.Marked n1 3 (done 9))
@@ -172,10 +165,8 @@ RenewTimeReturns = printed (whole_history renew_time_returns) ≡
 
 -- So with a heartbeat that is missing at the pass of beat 54 and back at that of 104: neither is news.
 abbrev pub heartbeat_returns : Doc
-heartbeat_returns = cluster (record (settings 160) { grace_period_millis = 10000 })
-    (node n1 zone_a ready.True []
-    ∷ node n2 zone_a ready.True []
-    ∷ [])
+heartbeat_returns = cluster short_grace
+    two_ready_nodes
     (puts 50 (without_heartbeat n1 zone_a ready.True)
     ∷ puts 100 (node n1 zone_a ready.True [])
     ∷ puts 100 (beating n2 zone_a ready.True [] 10)
@@ -183,12 +174,8 @@ heartbeat_returns = cluster (record (settings 160) { grace_period_millis = 10000
 
 abbrev pub HeartbeatReturns : Type 0
 HeartbeatReturns = printed (whole_history heartbeat_returns) ≡
-    line 0 0 1 act.Start
-    ∷ line 3 0 1 (act.Create election (done 3) 0)
-    ∷ line 4 0 1 (act.Lead (version 3))
-    ∷ line 4 0 1 (act.Zone r1 zone_a zone.Normal 100)
-    ∷ line 7 0 1 (act.Update election (done 4) 0)
-    ∷ script_line 50 (act.Put (node_key n1) (version 5))
+    in_normal_zone 3
+    ++ script_line 50 (act.Put (node_key n1) (version 5))
     ∷ script_line 100 (act.Put (node_key n1) (version 6))
     ∷ script_line 100 (act.Put (node_key n2) (version 7))
     ∷ line 154 0 1 (act.Marked n1 3 (done 8))
@@ -197,10 +184,8 @@ HeartbeatReturns = printed (whole_history heartbeat_returns) ≡
 
 -- A node is removed, and put again as it was after a pass without it: the pass of beat 104 hears of it.
 abbrev pub node_comes_back : Doc
-node_comes_back = cluster (record (settings 160) { grace_period_millis = 10000 })
-    (node n1 zone_a ready.True []
-    ∷ node n2 zone_a ready.True []
-    ∷ [])
+node_comes_back = cluster short_grace
+    two_ready_nodes
     (removes 50 (node_key n1)
     ∷ puts 60 (node n1 zone_a ready.True [])
     ∷ puts 100 (beating n2 zone_a ready.True [] 10)
@@ -208,12 +193,8 @@ node_comes_back = cluster (record (settings 160) { grace_period_millis = 10000 }
 
 abbrev pub NodeComesBack : Type 0
 NodeComesBack = printed (whole_history node_comes_back) ≡
-    line 0 0 1 act.Start
-    ∷ line 3 0 1 (act.Create election (done 3) 0)
-    ∷ line 4 0 1 (act.Lead (version 3))
-    ∷ line 4 0 1 (act.Zone r1 zone_a zone.Normal 100)
-    ∷ line 7 0 1 (act.Update election (done 4) 0)
-    ∷ script_line 50 (act.Removed (node_key n1) (version 5))
+    in_normal_zone 3
+    ++ script_line 50 (act.Removed (node_key n1) (version 5))
     ∷ script_line 60 (act.Put (node_key n1) (version 6))
     ∷ script_line 100 (act.Put (node_key n2) (version 7))
     ∷ []
@@ -228,19 +209,17 @@ never_ready = cluster (record (settings 160) { startup_grace_millis = 10000 })
 
 abbrev pub NeverReady : Type 0
 NeverReady = printed (whole_history never_ready) ≡
-    line 0 0 1 act.Start
-    ∷ line 3 0 1 (act.Create election (done 3) 0)
-    ∷ line 4 0 1 (act.Lead (version 3))
-    ∷ line 4 0 1 (act.Zone 0 0 zone.Full 100)
+    elected 3
+    ++ line 4 0 1 (act.Zone 0 0 zone.Full 100)
     ∷ line 4 0 1 (act.Zone r1 zone_a zone.Normal 100)
-    ∷ line 7 0 1 (act.Update election (done 4) 0)
+    ∷ line 7 0 1 (update 4 0)
     ∷ line 154 0 1 (act.Marked n1 4 (done 5))
     ∷ line 154 0 1 (act.Tainted n1 unreachable (done 6))
     ∷ []
 
 -- The end of the all-Full mode at beat 54 counts as having heard of every node, so n2 is not marked at beat 154.
 abbrev pub mode_end_is_heard : Doc
-mode_end_is_heard = cluster (record (settings 160) { grace_period_millis = 10000 })
+mode_end_is_heard = cluster short_grace
     (node n1 zone_a ready.False []
     ∷ node n2 zone_a ready.False []
     ∷ [])
@@ -249,12 +228,10 @@ mode_end_is_heard = cluster (record (settings 160) { grace_period_millis = 10000
 
 abbrev pub ModeEndIsHeard : Type 0
 ModeEndIsHeard = printed (whole_history mode_end_is_heard) ≡
-    line 0 0 1 act.Start
-    ∷ line 3 0 1 (act.Create election (done 3) 0)
-    ∷ line 4 0 1 (act.Lead (version 3))
-    ∷ line 4 0 1 (act.Mode true)
+    elected 3
+    ++ line 4 0 1 (act.Mode true)
     ∷ line 4 0 1 (act.Zone r1 zone_a zone.Full 0)
-    ∷ line 7 0 1 (act.Update election (done 4) 0)
+    ∷ line 7 0 1 (update 4 0)
     ∷ script_line 50 (act.Put (node_key n1) (version 5))
     ∷ line 54 0 1 (act.Mode false)
     ∷ line 54 0 1 (act.Zone r1 zone_a zone.Normal 100)
@@ -274,13 +251,11 @@ unready_left_alone = cluster (settings 60)
 
 abbrev pub UnreadyLeftAlone : Type 0
 UnreadyLeftAlone = printed (whole_history unready_left_alone) ≡
-    line 0 0 1 act.Start
-    ∷ line 3 0 1 (act.Create election (done 3) 0)
-    ∷ line 4 0 1 (act.Lead (version 3))
-    ∷ line 4 0 1 (act.Mode true)
+    elected 3
+    ++ line 4 0 1 (act.Mode true)
     ∷ line 4 0 1 (act.Zone r1 zone_a zone.Full 0)
     ∷ line 4 0 1 (act.Untainted n1 (done 4))
-    ∷ line 7 0 1 (act.Update election (done 5) 0)
+    ∷ line 7 0 1 (update 5 0)
     ∷ script_line 20 (act.Put (node_key n1) (version 6))
     ∷ line 20 0 1 (act.Untainted n1 (done 7))
     ∷ script_line 50 (act.Put (node_key n2) (version 8))
@@ -300,9 +275,7 @@ late_watch = cluster (settings 35)
 
 abbrev pub LateWatch : Type 0
 LateWatch = printed (whole_history late_watch) ≡
-    line 0 0 1 act.Start
-    ∷ line 3 0 1 (act.Create election (done 2) 0)
-    ∷ line 4 0 1 (act.Lead (version 2))
-    ∷ line 7 0 1 (act.Update election (done 3) 0)
+    elected 2
+    ++ line 7 0 1 (update 3 0)
     ∷ line 30 0 1 (act.Zone r1 zone_a zone.Normal 100)
     ∷ []

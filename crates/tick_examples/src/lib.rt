@@ -3,9 +3,13 @@
 #![tactic(auto)]
 
 ghost use Rattle.tick_examples.specs.Kubelets.{SilentKubelet, LostCalls};
-ghost use Rattle.tick_examples.specs.Zones.{ModeEnds, GentlePolicy, RateChanges, ZoneReturns, SwapAfterTheMode, RenewTimeReturns, HeartbeatReturns, NodeComesBack, NeverReady, ModeEndIsHeard, UnreadyLeftAlone, LateWatch};
-ghost use Rattle.tick_examples.specs.Queues.{TaintAfterFailover, SwapNeedsNoToken, ZonesApart, ReadyAndMarkedAtOnce, WaitingInAnotherZone, LostTaintGoesBack};
-ghost use Rattle.tick_examples.specs.Evictions.{UnseenPut, UnseenPutOfTheSame, LostDeletes, RefusedByTheNode, RefusedByThePod, StaleUntaint, DueMovesWhileLost, ExactlyDue, NotYetDue};
+ghost use Rattle.tick_examples.specs.Zones.{ModeEnds, GentlePolicy, RateChanges, ZoneReturns, SwapAfterTheMode};
+ghost use Rattle.tick_examples.specs.Zones.{RenewTimeReturns, HeartbeatReturns, NodeComesBack, NeverReady, ModeEndIsHeard};
+ghost use Rattle.tick_examples.specs.Zones.{UnreadyLeftAlone, LateWatch};
+ghost use Rattle.tick_examples.specs.Queues.{TaintAfterFailover, SwapNeedsNoToken, ZonesApart, ReadyAndMarkedAtOnce};
+ghost use Rattle.tick_examples.specs.Queues.{WaitingInAnotherZone, LostTaintGoesBack};
+ghost use Rattle.tick_examples.specs.Evictions.{UnseenPut, UnseenPutOfTheSame, LostDeletes, RefusedByTheNode, RefusedByThePod};
+ghost use Rattle.tick_examples.specs.Evictions.{StaleUntaint, DueMovesWhileLost, ExactlyDue, NotYetDue};
 ghost use Rattle.tick_examples.specs.Failover.{DeadNodeAndFailover};
 ghost use Rattle.tick_examples.specs.Tables.{StatesByCounts, RatesByPolicy, DueByTolerations, NoScheduleIsNeverDue};
 

@@ -52,7 +52,8 @@ pub(crate) struct Renewals {
     pub(crate) to: u16,
 }
 
-/// A scene: its terms, what changes before the tick of which beat, and of some ticks how many steps they count at most.
+/// A scene: its terms, what is stored at first, when the leader renews its Lease, what else changes before the tick of which beat,
+/// and of some ticks how many steps they count at most.
 #[derive(Clone, Copy, Debug)]
 pub(crate) struct Row {
     pub(crate) name: &'static str,
@@ -61,6 +62,8 @@ pub(crate) struct Row {
     pub(crate) policy: RatePolicy,
     pub(crate) terms: &'static [Span],
     pub(crate) renewals: &'static [Renewals],
+    pub(crate) at_first: &'static [Change],
+    pub(crate) lease_beats: &'static [u16],
     pub(crate) changes: &'static [(u16, Change)],
     pub(crate) steps: &'static [(u16, u64)],
 }
@@ -79,188 +82,135 @@ const TRUE: ReadyStatus = ReadyStatus::True;
 
 const FALSE: ReadyStatus = ReadyStatus::False;
 
+/// What most scenes have alike.
+const COMMON: Row = Row {
+    name: "",
+    pace: Pace::Tenth,
+    grace_millis: 40_000,
+    policy: RatePolicy::Standard,
+    terms: &[],
+    renewals: &[],
+    at_first: &[],
+    lease_beats: &[3, 7],
+    changes: &[],
+    steps: &[],
+};
+
+/// A node with a taint, a node that is ready, and on the first one a pod that tolerates the taint for 10 s.
+const A_POD_THAT_IS_DUE: &[Change] = &[
+    Change::Node(N1, A, FALSE, NOT_READY_AT_EPOCH),
+    Change::Node(N2, A, TRUE, None),
+    Change::Pod(P1, N1, Some((NOT_READY, 10)), None),
+];
+
 pub(crate) const ROWS: [Row; 10] = [
     Row {
         name: "a kubelet that crashes",
-        pace: Pace::Tenth,
-        grace_millis: 40_000,
-        policy: RatePolicy::Standard,
         terms: &[Span { from: 4, to: 504 }],
-        renewals: &[],
+        at_first: &[Change::BareNode(N1)],
         changes: &[
-            (0, Change::BareNode(N1)),
             (1, Change::Status(N1, TRUE, 0)),
-            (3, Change::Renewal),
             (5, Change::NodeLease(N1, 400)),
-            (7, Change::Renewal),
         ],
-        steps: &[],
+        ..COMMON
     },
     Row {
         name: "every zone disrupted, and no more",
-        pace: Pace::Tenth,
-        grace_millis: 40_000,
-        policy: RatePolicy::Standard,
         terms: &[Span { from: 4, to: 154 }],
-        renewals: &[],
-        changes: &[
-            (0, Change::Node(N1, A, FALSE, NOT_READY_AT_EPOCH)),
-            (0, Change::Node(N2, A, FALSE, None)),
-            (0, Change::Pod(P1, N1, None, None)),
-            (0, Change::Pod(P2, N2, None, None)),
-            (3, Change::Renewal),
-            (7, Change::Renewal),
-            (40, Change::Node(N1, A, TRUE, None)),
+        at_first: &[
+            Change::Node(N1, A, FALSE, NOT_READY_AT_EPOCH),
+            Change::Node(N2, A, FALSE, None),
+            Change::Pod(P1, N1, None, None),
+            Change::Pod(P2, N2, None, None),
         ],
-        steps: &[],
+        changes: &[(40, Change::Node(N1, A, TRUE, None))],
+        ..COMMON
     },
     Row {
         name: "one zone with two that aren't ready",
-        pace: Pace::Tenth,
-        grace_millis: 40_000,
-        policy: RatePolicy::Standard,
         terms: &[Span { from: 4, to: 109 }, Span { from: 270, to: 370 }],
-        renewals: &[],
-        changes: &[
-            (0, Change::Node(N1, A, FALSE, None)),
-            (0, Change::Node(N2, A, FALSE, None)),
-            (0, Change::Node(N3, A, TRUE, None)),
-            (3, Change::Renewal),
-            (7, Change::Renewal),
-            (31, Change::Renewal),
-            (55, Change::Renewal),
-            (79, Change::Renewal),
-            (103, Change::Renewal),
-            (269, Change::Renewal),
-            (273, Change::Renewal),
-            (297, Change::Renewal),
-            (321, Change::Renewal),
-            (345, Change::Renewal),
-            (369, Change::Renewal),
+        at_first: &[
+            Change::Node(N1, A, FALSE, None),
+            Change::Node(N2, A, FALSE, None),
+            Change::Node(N3, A, TRUE, None),
         ],
-        steps: &[],
+        lease_beats: &[3, 7, 31, 55, 79, 103, 269, 273, 297, 321, 345, 369],
+        ..COMMON
     },
     Row {
         name: "a swap, and the due that counts anew",
-        pace: Pace::Tenth,
-        grace_millis: 40_000,
-        policy: RatePolicy::Standard,
         terms: &[Span { from: 4, to: 200 }],
-        renewals: &[],
-        changes: &[
-            (
-                0,
-                Change::Node(
-                    N1,
-                    A,
-                    FALSE,
-                    Some(Added {
-                        key: UNREACHABLE,
-                        at: -60,
-                    }),
-                ),
+        at_first: &[
+            Change::Node(
+                N1,
+                A,
+                FALSE,
+                Some(Added {
+                    key: UNREACHABLE,
+                    at: -60,
+                }),
             ),
-            (0, Change::Node(N2, A, TRUE, None)),
-            (
-                0,
-                Change::Pod(P1, N1, Some((UNREACHABLE, 300)), Some((NOT_READY, 20))),
-            ),
-            (3, Change::Renewal),
-            (7, Change::Renewal),
+            Change::Node(N2, A, TRUE, None),
+            Change::Pod(P1, N1, Some((UNREACHABLE, 300)), Some((NOT_READY, 20))),
         ],
-        steps: &[],
+        ..COMMON
     },
     Row {
         name: "a delete by an old version of the node",
-        pace: Pace::Tenth,
-        grace_millis: 40_000,
-        policy: RatePolicy::Standard,
         terms: &[Span { from: 4, to: 130 }],
-        renewals: &[],
+        at_first: A_POD_THAT_IS_DUE,
         changes: &[
-            (0, Change::Node(N1, A, FALSE, NOT_READY_AT_EPOCH)),
-            (0, Change::Node(N2, A, TRUE, None)),
-            (0, Change::Pod(P1, N1, Some((NOT_READY, 10)), None)),
-            (3, Change::Renewal),
-            (7, Change::Renewal),
             (50, Change::Watch(false)),
             (60, Change::Node(N1, A, TRUE, None)),
             (120, Change::Watch(true)),
         ],
-        steps: &[],
+        ..COMMON
     },
     Row {
         name: "a delete that is due when the watch is on again",
-        pace: Pace::Tenth,
-        grace_millis: 40_000,
-        policy: RatePolicy::Standard,
         terms: &[Span { from: 4, to: 130 }],
-        renewals: &[],
+        at_first: A_POD_THAT_IS_DUE,
         changes: &[
-            (0, Change::Node(N1, A, FALSE, NOT_READY_AT_EPOCH)),
-            (0, Change::Node(N2, A, TRUE, None)),
-            (0, Change::Pod(P1, N1, Some((NOT_READY, 10)), None)),
-            (3, Change::Renewal),
-            (7, Change::Renewal),
             (50, Change::Watch(false)),
             (60, Change::Node(N1, A, FALSE, NOT_READY_AT_EPOCH)),
             (120, Change::Watch(true)),
         ],
-        steps: &[],
+        ..COMMON
     },
     Row {
         name: "deletes that are lost",
-        pace: Pace::Tenth,
-        grace_millis: 40_000,
-        policy: RatePolicy::Standard,
         terms: &[Span { from: 4, to: 121 }],
-        renewals: &[],
-        changes: &[
-            (0, Change::Node(N1, A, FALSE, NOT_READY_AT_EPOCH)),
-            (0, Change::Node(N2, A, TRUE, None)),
-            (0, Change::Pod(P1, N1, Some((NOT_READY, 10)), None)),
-            (3, Change::Renewal),
-            (7, Change::Renewal),
-            (90, Change::Passes(false)),
-            (120, Change::Passes(true)),
-        ],
-        steps: &[],
+        at_first: A_POD_THAT_IS_DUE,
+        changes: &[(90, Change::Passes(false)), (120, Change::Passes(true))],
+        ..COMMON
     },
     Row {
         name: "a gentle policy",
-        pace: Pace::Tenth,
         grace_millis: 600_000,
         policy: RatePolicy::Gentle,
         terms: &[Span { from: 4, to: 1004 }],
-        renewals: &[],
-        changes: &[
-            (0, Change::Node(N1, A, FALSE, None)),
-            (0, Change::Node(M1, B, TRUE, None)),
-            (3, Change::Renewal),
-            (7, Change::Renewal),
+        at_first: &[
+            Change::Node(N1, A, FALSE, None),
+            Change::Node(M1, B, TRUE, None),
         ],
-        steps: &[],
+        ..COMMON
     },
     Row {
         name: "a tick after a sync, and one with nothing new",
-        pace: Pace::Tenth,
-        grace_millis: 40_000,
-        policy: RatePolicy::Standard,
         terms: &[Span { from: 4, to: 5 }],
-        renewals: &[],
-        changes: &[
-            (0, Change::Node(N1, A, TRUE, None)),
-            (0, Change::Pod(P1, N1, None, None)),
-            (0, Change::Pod(P2, N1, None, None)),
-            (0, Change::Pod(P3, N1, None, None)),
+        at_first: &[
+            Change::Node(N1, A, TRUE, None),
+            Change::Pod(P1, N1, None, None),
+            Change::Pod(P2, N1, None, None),
+            Change::Pod(P3, N1, None, None),
         ],
+        lease_beats: &[],
         steps: &[(4, 17), (5, 1)],
+        ..COMMON
     },
     Row {
         name: "a dead node and a failover",
         pace: Pace::Second,
-        grace_millis: 40_000,
-        policy: RatePolicy::Standard,
         terms: &[Span { from: 4, to: 99 }, Span { from: 226, to: 364 }],
         renewals: &[
             Renewals {
@@ -274,34 +224,25 @@ pub(crate) const ROWS: [Row; 10] = [
                 to: 364,
             },
         ],
+        at_first: &[
+            Change::Node(N1, A, TRUE, None),
+            Change::Node(N2, A, TRUE, None),
+            Change::Node(N3, A, TRUE, None),
+            Change::NodeLease(N1, -5_000),
+            Change::NodeLease(N2, -5_000),
+            Change::NodeLease(N3, -5_000),
+            Change::Pod(P1, N1, NOT_READY_300, UNREACHABLE_300),
+            Change::Daemon(DAEMON_1, N1),
+            Change::Pod(P2, N2, NOT_READY_300, UNREACHABLE_300),
+            Change::Daemon(DAEMON_2, N2),
+            Change::Pod(P3, N3, NOT_READY_300, UNREACHABLE_300),
+            Change::Daemon(DAEMON_3, N3),
+        ],
+        lease_beats: &[3, 7, 31, 55, 79, 225, 229, 253, 277, 301, 325, 349],
         changes: &[
-            (0, Change::Node(N1, A, TRUE, None)),
-            (0, Change::Node(N2, A, TRUE, None)),
-            (0, Change::Node(N3, A, TRUE, None)),
-            (0, Change::NodeLease(N1, -5_000)),
-            (0, Change::NodeLease(N2, -5_000)),
-            (0, Change::NodeLease(N3, -5_000)),
-            (0, Change::Pod(P1, N1, NOT_READY_300, UNREACHABLE_300)),
-            (0, Change::Daemon(DAEMON_1, N1)),
-            (0, Change::Pod(P2, N2, NOT_READY_300, UNREACHABLE_300)),
-            (0, Change::Daemon(DAEMON_2, N2)),
-            (0, Change::Pod(P3, N3, NOT_READY_300, UNREACHABLE_300)),
-            (0, Change::Daemon(DAEMON_3, N3)),
-            (3, Change::Renewal),
-            (7, Change::Renewal),
-            (31, Change::Renewal),
-            (55, Change::Renewal),
-            (79, Change::Renewal),
             (181, Change::Node(N1, A, TRUE, None)),
             (181, Change::Node(N2, A, TRUE, None)),
-            (225, Change::Renewal),
-            (229, Change::Renewal),
-            (253, Change::Renewal),
-            (277, Change::Renewal),
-            (301, Change::Renewal),
-            (325, Change::Renewal),
-            (349, Change::Renewal),
         ],
-        steps: &[],
+        ..COMMON
     },
 ];

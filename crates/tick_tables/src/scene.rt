@@ -96,13 +96,24 @@ struct Scene {
 
 impl Scene {
     fn change(&mut self, alloc: Global, row: &Row, beat: u16) -> Result<(), NoMemory> {
+        let now = time(row.pace, beat);
+        if beat == 0 {
+            for change in row.at_first {
+                self.make(alloc, *change, now)?;
+            }
+        }
         for renewals in row.renewals {
             self.renew(alloc, row, *renewals, beat)?;
+        }
+        for at in row.lease_beats {
+            if *at == beat {
+                self.make(alloc, Change::Renewal, now)?;
+            }
         }
         for change in row.changes {
             let (at, change) = *change;
             if at == beat {
-                self.make(alloc, change, time(row.pace, beat))?;
+                self.make(alloc, change, now)?;
             }
         }
         Ok(())
