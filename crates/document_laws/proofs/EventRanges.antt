@@ -158,7 +158,6 @@ module _ (cast : Cast) where
     of_controller = process-in (controller_named cast names) (has-controller names) path d
 
     rate-in : Gets IsPlain (rate_at cast names path d)
-    unfolding rate_at
     rate-in = and_then of_process (λ who w. and_then (needed_whole-in 500000 2000000 path (codes "ratePpm") d) (λ ppm r. done _ (λ ns. ((w, r.0, r.1), tt))))
 
     delay-in : Gets IsPlain (delay_at cast names path d)
@@ -176,23 +175,18 @@ module _ (cast : Cast) where
         skip (needed_flag path (codes "replies") d) (λ replies. done _ (λ ns. (w, tt)))))
 
     crash-in : Gets IsPlain (crash_at cast names path d)
-    unfolding crash_at
     crash-in = and_then of_process (λ who w. done _ (λ ns. (w, tt)))
 
     start-in : Gets IsPlain (start_at cast names path d)
-    unfolding start_at
     start-in = and_then of_process (λ who w. done _ (λ ns. (w, tt)))
 
     stop-in : Gets IsPlain (stop_at cast names path d)
-    unfolding stop_at
     stop-in = and_then of_controller (λ who w. done _ (λ ns. (w, tt)))
 
     watch-in : Gets IsPlain (watch_at cast names path d)
-    unfolding watch_at
     watch-in = and_then of_controller (λ who w. skip (needed_flag path (codes "on") d) (λ on. done _ (λ ns. (w, tt))))
 
     ready-in : Gets IsPlain (ready_at cast names path d)
-    unfolding ready_at
     ready-in =
         and_then (process-in (kubelet_named cast names) (has-kubelet names) path d) (λ who w.
         and_then (needed_posted-in path (codes "status") d) (λ status posted. done _ (λ ns. ((w, posted), tt))))

@@ -3,8 +3,8 @@
 
 ghost use Rattle.document_laws.specs.Laws.{DocumentsAreLawful, DocumentsAreWellNamed, LawfulIsSound};
 
-/// Every document that the walk gives keeps its ranges, own rules and limits, the order of its events, and what they name. Its names hold its
-/// numbers, and its objects are those that a manifest can give.
+/// Every document that the walk gives keeps its ranges, own rules and limits, the order of its events, and what they name. Its names hold
+/// its numbers, and its objects are those that a manifest can give.
 pub fn documents_are_lawful()
     ensures lawful { DocumentsAreLawful }
     ensures named { DocumentsAreWellNamed }

@@ -1,5 +1,6 @@
 -- Fields of a manifest's objects. A null counts as a missing key (profile: what the Kubernetes API server does with it).
-use Rattle.std.specs.Prelude.{ℕ, ◌-◌, ◌==◌, ◌&&◌, ◌||◌, not, nat_le, nat_lt, ◌^◌, Bool, false, List, [], ◌∷◌, length, slice_index, Option, Some, None, option_and_then, is_some, Result, Ok, Err, ℤ, pos, negsuc, if◌then◌else◌}
+use Rattle.std.specs.Prelude.{ℕ, ◌-◌, ◌==◌, ◌&&◌, ◌||◌, not, nat_le, nat_lt, ◌^◌, Bool, false, List, [], ◌∷◌, length, slice_index}
+use Rattle.std.specs.Prelude.{Option, Some, None, option_and_then, is_some, Result, Ok, Err, ℤ, pos, negsuc, if◌then◌else◌}
 use Rattle.std.specs.Char.{is_ascii_digit, is_ascii_lowercase, is_ascii_uppercase}
 use Rattle.std.specs.List.{list_all}
 use Rattle.serde_json.specs.Data.{Data, Items, no_items, Members}
@@ -27,8 +28,8 @@ abbrev pub is_name_rest : ℕ → List ℕ → Bool
 is_name_rest last [] = is_small_letter_or_digit last
 is_name_rest last (byte ∷ rest) = may_follow last byte && is_name_rest byte rest
 
--- an RFC 1123 subdomain of 1 to 253 bytes: labels of lower-case letters, digits and `-`, joined by single dots, each of which begins and ends
--- with a letter or digit
+-- an RFC 1123 subdomain of 1 to 253 bytes: labels of lower-case letters, digits and `-`, joined by single dots, each of which begins and
+-- ends with a letter or digit
 abbrev pub is_name : List ℕ → Bool
 is_name [] = false
 is_name (byte ∷ rest) = nat_le (length rest) 252 && is_small_letter_or_digit byte && is_name_rest byte rest
@@ -43,7 +44,8 @@ is_label_byte byte = is_letter_or_digit byte || (byte == 45) || (byte == 95) || 
 abbrev pub is_label : List ℕ → Bool
 is_label text =
     (length text == 0)
-    || (nat_le (length text) 63 && list_all is_label_byte text && is_letter_or_digit (slice_index text 0) && is_letter_or_digit (slice_index text (length text - 1)))
+    || (nat_le (length text) 63 && list_all is_label_byte text && is_letter_or_digit (slice_index text 0)
+    && is_letter_or_digit (slice_index text (length text - 1)))
 
 -- ---- fields
 

@@ -1,5 +1,7 @@
 -- The walk over a manifest: the typed object, with the names that are held then, or the first refusal.
-use Rattle.std.specs.Prelude.{ℕ, ◌+◌, ◌-◌, ◌*◌, ◌/◌, ◌==◌, ◌&&◌, ◌||◌, not, nat_lt, nat_le, Bool, true, false, List, [], ◌∷◌, ◌++◌, length, take, drop, reverse, position, count_by, codes, Option, Some, None, option_and_then, is_none, Result, Ok, if◌then◌else◌}
+use Rattle.std.specs.Prelude.{ℕ, ◌+◌, ◌-◌, ◌*◌, ◌/◌, ◌==◌, ◌&&◌, ◌||◌, not, nat_lt, nat_le, Bool, true, false, List, [], ◌∷◌}
+use Rattle.std.specs.Prelude.{◌++◌, length, take, drop, reverse, position, count_by, codes, Option, Some, None, option_and_then}
+use Rattle.std.specs.Prelude.{is_none, Result, Ok, if◌then◌else◌}
 use Rattle.std.specs.Char.{is_ascii_digit}
 use Rattle.std.specs.Fmt.{decimal}
 use Rattle.std.specs.List.{list_any}
@@ -10,6 +12,7 @@ use Rattle.serde_json.specs.Find.{get, as_str}
 use Rattle.kube_base.specs.Names.{number_of}
 use Rattle.kube_base.specs.declared.numbers.Wall.{Wall}
 use Rattle.kube_objects.specs.Keys.{key_eq, kind_rank}
+use Rattle.kube_objects.specs.Stored.{node_key}
 use Rattle.kube_objects.specs.declared.key.Key.{Key}
 use Rattle.kube_objects.specs.declared.key.Kind.{Kind}
 use Rattle.kube_objects.specs.declared.key.Kind.TheVariants as kinds
@@ -27,10 +30,13 @@ use Rattle.kube_objects.specs.declared.object.Object.TheVariants as objects
 use Rattle.kube_objects.specs.declared.pod.Operator.{Operator}
 use Rattle.kube_objects.specs.declared.pod.Operator.TheVariants as operators
 use Rattle.kube_objects.specs.declared.pod.Toleration.{Toleration}
-use Rattle.manifest_json.specs.declared.codes.TheConstants.{BAD_EFFECT, BAD_KIND, BAD_LABEL, BAD_NAME, BAD_OPERATOR, BAD_READY_STATUS, BAD_TAINT_KEY, BAD_TOLERATION, DUPLICATE, DUPLICATE_TAINT, TOO_MANY, WRONG_JSON}
+use Rattle.manifest_json.specs.declared.codes.TheConstants.{BAD_EFFECT, BAD_KIND, BAD_LABEL, BAD_NAME, BAD_OPERATOR}
+use Rattle.manifest_json.specs.declared.codes.TheConstants.{BAD_READY_STATUS, BAD_TAINT_KEY, BAD_TOLERATION, DUPLICATE}
+use Rattle.manifest_json.specs.declared.codes.TheConstants.{DUPLICATE_TAINT, TOO_MANY, WRONG_JSON}
 use Rattle.manifest_json.specs.declared.fault.Refusal.{Refusal}
 use Rattle.manifest_json.specs.Faults.{◌>>=◌, refuse}
-use Rattle.manifest_json.specs.Fields.{Texts, is_label, field, field_in, or_refuse, object_at, parent_at, text_at, items_at, time_at, count_at, signed_at, numbered, named}
+use Rattle.manifest_json.specs.Fields.{Texts, is_label, field, field_in, or_refuse, object_at, parent_at, text_at, items_at}
+use Rattle.manifest_json.specs.Fields.{time_at, count_at, signed_at, numbered, named}
 
 -- ---- metadata
 
@@ -212,14 +218,15 @@ node_at names path d = do
   taints ← taints_at labels.2 path spec
   status ← parent_at (path ++ codes "/status") (field (codes "status") d)
   ready ← conditions_at taints.1 path status
-  Ok ((record { kind = kinds.Node; space = 0; name = name.0 }, objects.Node (record { region = labels.0; zone = labels.1; taints = taints.0; ready = ready.0 })), ready.1)
+  Ok ((node_key name.0, objects.Node (record { region = labels.0; zone = labels.1; taints = taints.0; ready = ready.0 })), ready.1)
 
 -- ---- Leases
 
 -- a decimal number up to 2^32 - 1, whose digits so far make n
 abbrev pub number_onto : ℕ → List ℕ → Option ℕ
 number_onto n [] = Some n
-number_onto n (byte ∷ rest) = if is_ascii_digit byte && nat_le (10 * n + (byte - 48)) 4_294_967_295 then number_onto (10 * n + (byte - 48)) rest else None
+number_onto n (byte ∷ rest) =
+    if is_ascii_digit byte && nat_le (10 * n + (byte - 48)) 4_294_967_295 then number_onto (10 * n + (byte - 48)) rest else None
 
 -- an incarnation: a decimal number from 1 to 2^32 - 1 with no leading 0
 abbrev pub incarnation_of : List ℕ → Option ℕ
@@ -423,14 +430,17 @@ list_step names known path items d = do
   next ← with_item path items found.0
   Ok (next, found.1)
 
-unfoldable pub list_from : Texts → List ℕ → List ℕ → ℕ → List (Key × Object) → ℕ → Items → Result ((List (Key × Object) × ℕ) × Texts) Refusal
+unfoldable pub list_from : Texts → List ℕ → List ℕ → ℕ → List (Key × Object) → ℕ → Items
+    → Result ((List (Key × Object) × ℕ) × Texts) Refusal
 list_from names known path place items skipped no_items = Ok ((items, skipped), names)
 list_from names known path place items skipped (item d rest) = do
   next ← list_step names known (member_path path (codes "/items/") place) items d
   list_from next.1 known path (place + 1) next.0.0 (skipped + next.0.1) rest
 
 abbrev pub is_list : Data → Bool
-is_list d = is_text (codes "v1") (option_and_then as_str (get (codes "apiVersion") d)) && is_text (codes "List") (option_and_then as_str (get (codes "kind") d))
+is_list d =
+    is_text (codes "v1") (option_and_then as_str (get (codes "apiVersion") d))
+    && is_text (codes "List") (option_and_then as_str (get (codes "kind") d))
 
 abbrev pub list_or_refuse : List ℕ → Data → Result Data Refusal
 list_or_refuse path d = if is_list d then Ok d else refuse BAD_KIND path

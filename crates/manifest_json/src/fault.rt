@@ -114,7 +114,7 @@ impl From<NoMemory> for ReadFault {
 }
 
 /// The fault with this code and path, unless memory runs out.
-pub(crate) fn fault(code: u32, path: &Path) -> ReadFault
+pub fn fault(code: u32, path: &Path) -> ReadFault
     ensures { IsFault code path.now result }
 {
     match path.copy() {

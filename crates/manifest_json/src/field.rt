@@ -6,7 +6,7 @@ ghost use Rattle.manifest_json.specs.Faults.{Gives};
 ghost use Rattle.serde_json.specs.Find.{as_str};
 ghost use Rattle.kube_base.specs.Times as times;
 ghost use Rattle.manifest_json.specs.Fields as spec;
-ghost use Rattle.manifest_json.specs.Walk.{hundred};
+ghost use Rattle.manifest_json.specs.Walk.{hundred, is_text};
 
 use crate::codes::{BAD_NAME, BAD_NUMBER, BAD_TIME, TOO_MANY, WRONG_JSON};
 use crate::fault::{fault, fault_below};
@@ -16,7 +16,7 @@ use kube_base::{Names, Wall, read_time};
 use serde_json::Value;
 
 /// A field, if it is there and isn't null.
-pub(crate) fn field<'v>(value: &'v Value, key: &str) -> Option<&'v Value>
+pub fn field<'v>(value: &'v Value, key: &str) -> Option<&'v Value>
     ensures { option_map (λ v. view v.now) result ≡ spec.field key.now (view value.now) }
 {
     match value.get(key) {
@@ -26,7 +26,7 @@ pub(crate) fn field<'v>(value: &'v Value, key: &str) -> Option<&'v Value>
 }
 
 /// A field of an object that may be missing.
-pub(crate) fn field_in<'v>(parent: Option<&'v Value>, key: &str) -> Option<&'v Value>
+pub fn field_in<'v>(parent: Option<&'v Value>, key: &str) -> Option<&'v Value>
     ensures { option_map (λ v. view v.now) result
         ≡ spec.field_in key.now (option_map (λ v. view v.now) parent.entry) }
 {
@@ -47,7 +47,7 @@ pub(crate) fn object<'v>(path: &Path, value: &'v Value) -> Result<&'v Value, Rea
 }
 
 /// An object that counts as empty where it is missing.
-pub(crate) fn parent<'v>(
+pub fn parent<'v>(
     path: &Path,
     key: &str,
     value: Option<&'v Value>,
@@ -65,7 +65,7 @@ pub(crate) fn parent<'v>(
 }
 
 /// A text that counts as empty where it is missing.
-pub(crate) fn text<'v>(
+pub fn text<'v>(
     code: u32,
     path: &Path,
     key: &str,
@@ -83,12 +83,18 @@ pub(crate) fn text<'v>(
     }
 }
 
+/// Whether a value is this text.
+pub fn is_text(wanted: &str, value: Option<&Value>) -> bool
+    ensures { result ≡ is_text wanted.now (option_and_then as_str (option_map (λ v. view v.now) value.entry)) }
+{
+    match value.and_then(Value::as_str) {
+        Some(text) => text == wanted,
+        None => false,
+    }
+}
+
 /// An array that counts as empty where it is missing.
-pub(crate) fn items<'v>(
-    path: &Path,
-    key: &str,
-    value: Option<&'v Value>,
-) -> Result<&'v [Value], ReadFault>
+pub fn items<'v>(path: &Path, key: &str, value: Option<&'v Value>) -> Result<&'v [Value], ReadFault>
     ensures { Gives (λ list. items_view list.now) result
         (spec.items_at (path.now ++ key.now) (option_map (λ v. view v.now) value.entry)) }
 {
@@ -116,7 +122,7 @@ pub(crate) fn hundred<'v>(
 }
 
 /// A time.
-pub(crate) fn time(path: &Path, key: &str, value: Option<&Value>) -> Result<Option<Wall>, ReadFault>
+pub fn time(path: &Path, key: &str, value: Option<&Value>) -> Result<Option<Wall>, ReadFault>
     ensures { Gives (λ at. at) result
         (spec.time_at (path.now ++ key.now) (option_map (λ v. view v.now) value.entry)) }
 {
@@ -157,7 +163,7 @@ pub(crate) fn count(path: &Path, key: &str, value: Option<&Value>) -> Result<Opt
 }
 
 /// A whole number of 64 bits with its sign.
-pub(crate) fn signed(
+pub(crate) fn integer(
     path: &Path,
     key: &str,
     value: Option<&Value>,
@@ -189,7 +195,12 @@ pub fn number(names: &mut Names, text: &str) -> Result<u32, ReadFault>
 }
 
 /// The number of a name. Another text is refused.
-pub(crate) fn named(names: &mut Names, path: &Path, key: &str, text: &str) -> Result<u32, ReadFault>
+pub(crate) fn name_number(
+    names: &mut Names,
+    path: &Path,
+    key: &str,
+    text: &str,
+) -> Result<u32, ReadFault>
     ensures { Gives (λ n. (n, names.new)) result (spec.named names.old (path.now ++ key.now) text.now) }
 {
     if is_name(text) {

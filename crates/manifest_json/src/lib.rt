@@ -2,8 +2,8 @@
 #![tactic(auto)]
 
 pub mod codes;
-mod fault;
-mod field;
+pub mod fault;
+pub mod field;
 mod grammar;
 mod kept;
 mod lease;
@@ -18,5 +18,5 @@ pub use fault::{Path, ReadFault, Refusal, fault_below};
 pub use field::number;
 pub use grammar::is_name;
 pub use list::{Objects, read_list};
-pub use object::read_object;
+pub use object::{kind_of, read_object};
 pub use write::write_list;

@@ -7,9 +7,8 @@ ghost use Rattle.manifest_json.specs.Walk as walk;
 
 use crate::codes::BAD_KIND;
 use crate::fault::fault;
-use crate::field::{field, items, object};
+use crate::field::{field, is_text, items, object};
 use crate::kept::Kept;
-use crate::node::is_text;
 use crate::object::item;
 use crate::{Path, ReadFault};
 use kube_base::Names;

@@ -7,7 +7,7 @@ ghost use Rattle.manifest_json.specs.Walk as walk;
 
 use crate::codes::{BAD_NAME, WRONG_JSON};
 use crate::fault::fault_below;
-use crate::field::{field_in, named, number, text};
+use crate::field::{field_in, name_number, number, text};
 use crate::{Path, ReadFault};
 use kube_base::Names;
 use kube_objects::{Key, Kind};
@@ -24,7 +24,7 @@ pub(crate) fn name(
         (walk.name_at names.old path.now (option_map (λ v. view v.now) metadata.entry)) }
 {
     let text = name_text(path, field_in(metadata, "name"))?;
-    named(names, path, "/metadata/name", text)
+    name_number(names, path, "/metadata/name", text)
 }
 
 fn name_text<'v>(path: &Path, value: Option<&'v Value>) -> Result<&'v str, ReadFault>
@@ -47,7 +47,7 @@ fn space(names: &mut Names, path: &Path, metadata: Option<&Value>) -> Result<u32
         (walk.space_at names.old path.now (option_map (λ v. view v.now) metadata.entry)) }
 {
     let text = space_text(path, field_in(metadata, "namespace"))?;
-    named(names, path, "/metadata/namespace", text)
+    name_number(names, path, "/metadata/namespace", text)
 }
 
 fn space_text<'v>(path: &Path, value: Option<&'v Value>) -> Result<&'v str, ReadFault>

@@ -11,7 +11,7 @@ use crate::codes::{
     BAD_EFFECT, BAD_LABEL, BAD_READY_STATUS, BAD_TAINT_KEY, DUPLICATE_TAINT, WRONG_JSON,
 };
 use crate::fault::{fault, fault_below};
-use crate::field::{field, field_in, hundred, items, number, object, parent, text, time};
+use crate::field::{field, field_in, hundred, is_text, items, number, object, parent, text, time};
 use crate::grammar::is_label;
 use crate::metadata::{name, text_number};
 use crate::{Path, ReadFault};
@@ -326,16 +326,6 @@ fn is_ready_type(value: &Value) -> bool
     ensures { result ≡ walk.is_ready_type (view value.now) }
 {
     is_text("Ready", value.get("type"))
-}
-
-/// Whether a value is this text.
-pub(crate) fn is_text(wanted: &str, value: Option<&Value>) -> bool
-    ensures { result ≡ walk.is_text wanted.now (option_and_then as_str (option_map (λ v. view v.now) value.entry)) }
-{
-    match value.and_then(Value::as_str) {
-        Some(text) => text == wanted,
-        None => false,
-    }
 }
 
 #[tactic(auto, unfolding(crate::specs::Walk::ready_at))]

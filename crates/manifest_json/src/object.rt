@@ -83,7 +83,8 @@ fn kind_text<'v>(path: &Path, value: Option<&'v Value>) -> Result<&'v str, ReadF
     }
 }
 
-fn kind_of(version: &str, kind: &str) -> Option<Kind>
+/// The kind of an object by its `apiVersion` and `kind`, if it is one that is read.
+pub fn kind_of(version: &str, kind: &str) -> Option<Kind>
     ensures { result ≡ walk.kind_from version.now kind.now }
 {
     if version == "v1" && kind == "Node" {

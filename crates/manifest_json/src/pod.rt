@@ -7,7 +7,9 @@ ghost use Rattle.manifest_json.specs.Walk as walk;
 
 use crate::codes::{BAD_EFFECT, BAD_OPERATOR, BAD_TOLERATION, WRONG_JSON};
 use crate::fault::{fault, fault_below};
-use crate::field::{field, field_in, hundred, items, named, number, object, parent, signed, text};
+use crate::field::{
+    field, field_in, hundred, integer, items, name_number, number, object, parent, text,
+};
 use crate::metadata::{spaced_key, text_number};
 use crate::node::effect_of;
 use crate::{Path, ReadFault};
@@ -34,7 +36,7 @@ pub(crate) fn pod(
     Ok((key, Object::Pod(Pod { node, tolerations })))
 }
 
-/// The number of `walk.nodeName`.
+/// The number of `spec.nodeName`.
 #[tactic(auto, unfolding(crate::specs::Walk::node_name_at))]
 fn node_name(names: &mut Names, path: &Path, spec: Option<&Value>) -> Result<u32, ReadFault>
     ensures { Gives (λ n. (n, names.new)) result
@@ -49,7 +51,7 @@ fn node_name(names: &mut Names, path: &Path, spec: Option<&Value>) -> Result<u32
     if text.is_empty() {
         number(names, text)
     } else {
-        named(names, path, "/spec/nodeName", text)
+        name_number(names, path, "/spec/nodeName", text)
     }
 }
 
@@ -111,7 +113,7 @@ fn toleration(names: &mut Names, path: &Path, value: &Value) -> Result<Toleratio
     let text = text_number(names, path, "/value", field(value, "value"))?;
     let operator = operator(path, field(value, "operator"))?;
     let effect = any_effect(path, field(value, "effect"))?;
-    let seconds = signed(
+    let seconds = integer(
         path,
         "/tolerationSeconds",
         field(value, "tolerationSeconds"),

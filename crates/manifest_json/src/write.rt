@@ -23,8 +23,8 @@ use std::alloc::Global;
 
 /// The `v1` List of the objects in order, with just the fields that are read and aren't missing or empty.
 ///
-/// `known` are the numbers of the controllers' names. No time may lie after 2261. Items that a manifest can give are read back from the List as
-/// they are, with the same names, wherever it stands in a document.
+/// `known` are the numbers of the controllers' names. No time may lie after 2261. Items that a manifest can give are read back from
+/// the List as they are, with the same names, wherever it stands in a document.
 pub fn write_list(
     alloc: Global,
     names: &Names,

@@ -24,8 +24,12 @@ ObjectsAreReadable =
 
 -- no time of a readable object is after 2261
 abbrev pub ReadableIsWritable : Type 0
-ReadableIsWritable = (names : Texts) (known : List ℕ) (items : List (Key × Object)) → IsReadable names known items → list_all is_writable_item items ≡ true
+ReadableIsWritable =
+    (names : Texts) (known : List ℕ) (items : List (Key × Object))
+    → IsReadable names known items → list_all is_writable_item items ≡ true
 
 -- no two objects that fit in one list have the same key, and no kind has more of them than its limit
 abbrev pub FittingAreApart : Type 0
-FittingAreApart = (items : List (Key × Object)) → items_fit [] items ≡ true → AreKeyedApart items × ((kind : Kind) → kind_count kind items ≤ kind_limit kind)
+FittingAreApart =
+    (items : List (Key × Object)) → items_fit [] items ≡ true
+    → AreKeyedApart items × ((kind : Kind) → kind_count kind items ≤ kind_limit kind)

@@ -1,6 +1,7 @@
 -- The second walk over a List, after that of its manifests: it goes over the Nodes and Pods in order and reads the fields that decide on
 -- collection and placing. Sources: Kubernetes, "Pod Lifecycle" and "Taints and Tolerations", taints by condition; which fields: profile.
-use Rattle.std.specs.Prelude.{ℕ, ◌+◌, ◌||◌, Bool, true, false, List, [], ◌∷◌, ◌++◌, codes, Option, Some, None, option_and_then, is_some, unwrap_or, Result, Ok, if◌then◌else◌}
+use Rattle.std.specs.Prelude.{ℕ, ◌+◌, ◌||◌, Bool, true, false, List, [], ◌∷◌, ◌++◌, codes, Option, Some, None, option_and_then}
+use Rattle.std.specs.Prelude.{is_some, unwrap_or, Result, Ok, if◌then◌else◌}
 use Rattle.std.specs.Str.{bytes_eq}
 use Rattle.serde_json.specs.Data.{Data, Items, no_items, item}
 use Rattle.serde_json.specs.Find.{get, as_str}
@@ -51,7 +52,8 @@ pod_row_at path key pod d = do
 abbrev pub condition_holds : List ℕ → Items → Bool
 condition_holds kind no_items = false
 condition_holds kind (item d rest) =
-    if is_text kind (option_and_then as_str (get (codes "type") d)) then is_text (codes "True") (option_and_then as_str (get (codes "status") d))
+    if is_text kind (option_and_then as_str (get (codes "type") d))
+    then is_text (codes "True") (option_and_then as_str (get (codes "status") d))
     else condition_holds kind rest
 
 abbrev pub is_not_ready : Option Ready → Bool

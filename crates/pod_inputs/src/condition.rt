@@ -1,21 +1,19 @@
 // Taints that follow from a Node's conditions.
-ghost use Rattle.std.specs.Prelude.{◌≡◌, [], option_and_then};
-ghost use Rattle.std.specs.Option.{option_map};
-ghost use Rattle.serde_json.specs.Find.{as_str};
-ghost use Rattle.serde_json.specs.View.{view, items_view};
+ghost use Rattle.std.specs.Prelude.{◌≡◌, []};
+ghost use Rattle.serde_json.specs.View.{items_view};
 ghost use Rattle.manifest_json.specs.Faults.{Gives};
-ghost use Rattle.manifest_json.specs.Walk.{is_text};
 ghost use Rattle.pod_inputs.specs.Rows as spec;
 
 use kube_base::Names;
 use kube_objects::{Effect, Ready, ReadyStatus, Taint, Taints};
+use manifest_json::field::is_text;
 use manifest_json::{ReadFault, number};
 use serde_json::Value;
 use std::alloc::Global;
 
 /// The NoSchedule taints that follow from a Node's conditions and from `spec.unschedulable`.
 #[tactic(auto, unfolding(crate::specs::Rows::derived_at))]
-pub(crate) fn derived(
+pub(crate) fn taints_by_condition(
     alloc: Global,
     names: &mut Names,
     ready: Option<Ready>,
@@ -146,14 +144,4 @@ fn condition_holds(kind: &str, conditions: &[Value]) -> bool
         }
     }
     false
-}
-
-/// Whether a value is this text.
-fn is_text(wanted: &str, value: Option<&Value>) -> bool
-    ensures { result ≡ is_text wanted.now (option_and_then as_str (option_map (λ v. view v.now) value.entry)) }
-{
-    match value.and_then(Value::as_str) {
-        Some(text) => text == wanted,
-        None => false,
-    }
 }

@@ -9,8 +9,6 @@ mod missing;
 mod reading;
 mod row;
 mod table;
-#[cfg(test)]
-mod tests;
 
 pub use answering::{collect_answer, place_answer};
 pub use laws::inputs_are_few;

@@ -4,15 +4,16 @@ ghost use Rattle.std.specs.List.{list_any};
 ghost use Rattle.serde_json.specs.View.{view, items_view};
 ghost use Rattle.manifest_json.specs.Faults.{Gives};
 ghost use Rattle.manifest_json.specs.Walk.{member_path};
-ghost use Rattle.script_reader.specs.Walk.{named_at};
 ghost use Rattle.pod_inputs.specs.Walk as walk;
 
-use crate::field::{array_in, fault, member_of, needed_instant, needed_name, path_of};
+use crate::field::needed_instant;
 use crate::table::{Table, object_in};
 use kube_base::Names;
+use manifest_json::ReadFault;
 use manifest_json::codes::{DUPLICATE, WRONG_TYPE};
-use manifest_json::{Path, ReadFault, number};
+use manifest_json::fault::fault;
 use pod_tools::{MissingRow, MissingRows};
+use script_reader::field::{array_in, member_of, name_number_at, path_of};
 use serde_json::Value;
 use std::alloc::Global;
 
@@ -36,7 +37,7 @@ fn missing_of(alloc: Global, names: &mut Names, list: &[Value]) -> Result<Missin
 {
     let mut missing = MissingRows::new(alloc);
     for (place, value) in list.iter().enumerate() {
-        match missing_node(alloc, names, place, &missing, value) {
+        match missing_at(alloc, names, place, &missing, value) {
             Ok(row) => missing.push(row)?,
             Err(fault) => return Err(fault),
         }
@@ -44,7 +45,9 @@ fn missing_of(alloc: Global, names: &mut Names, list: &[Value]) -> Result<Missin
     Ok(missing)
 }
 
-fn missing_node(
+/// A node behind earlier ones.
+#[tactic(auto, unfolding(crate::specs::Walk::missing_at))]
+fn missing_at(
     alloc: Global,
     names: &mut Names,
     place: usize,
@@ -55,35 +58,13 @@ fn missing_node(
         (walk.missing_at names.old (member_path [] (codes "/missing/") place) earlier.now (view value.now)) }
 {
     let path = member_of(alloc, "/missing/", place)?;
-    missing_at(names, &path, earlier.as_slice(), value)
-}
-
-#[tactic(auto, unfolding(crate::specs::Walk::missing_at))]
-fn missing_at(
-    names: &mut Names,
-    path: &Path,
-    earlier: &[MissingRow],
-    value: &Value,
-) -> Result<MissingRow, ReadFault>
-    ensures { Gives (λ row. (row, names.new)) result
-        (walk.missing_at names.old path.now earlier.now (view value.now)) }
-{
-    object_in(Table::Missing, WRONG_TYPE, path, value)?;
-    let node = named_at(names, path, "node", value)?;
-    let since = needed_instant(path, "since", value)?;
-    if is_among(node, earlier) {
-        return Err(fault(DUPLICATE, path));
+    object_in(Table::Missing, WRONG_TYPE, &path, value)?;
+    let node = name_number_at(names, &path, "node", value)?;
+    let since = needed_instant(&path, "since", value)?;
+    if is_among(node, earlier.as_slice()) {
+        return Err(fault(DUPLICATE, &path));
     }
     Ok(MissingRow { node, since })
-}
-
-/// The number of a name under a key that is required.
-#[tactic(auto, unfolding(script_reader::specs::Walk::named_at))]
-fn named_at(names: &mut Names, path: &Path, key: &str, value: &Value) -> Result<u32, ReadFault>
-    ensures { Gives (λ n. (n, names.new)) result (named_at names.old path.now key.now (view value.now)) }
-{
-    let text = needed_name(path, key, value)?;
-    number(names, text)
 }
 
 fn is_among(node: u32, earlier: &[MissingRow]) -> bool

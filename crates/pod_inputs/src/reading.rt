@@ -11,7 +11,7 @@ ghost use Rattle.pod_inputs.specs.Tables.{object_in};
 ghost use Rattle.pod_inputs.specs.Walk as walk;
 ghost use Rattle.pod_tools.specs.Feasible.{AreFew};
 
-use crate::field::{fault_at, needed_instant, path_of, whole_at};
+use crate::field::needed_instant;
 use crate::laws::inputs_are_few;
 use crate::missing::missing_in;
 use crate::row::{Rows, rows_in};
@@ -20,6 +20,7 @@ use kube_base::{Names, Wall};
 use manifest_json::codes::{MISSING_KEY, TOP_SHAPE};
 use manifest_json::{Path, ReadFault};
 use pod_tools::{CollectInput, MissingRows, PlaceInput};
+use script_reader::field::{fault_at, path_of, whole_at};
 use script_reader::read_value;
 use serde_json::Value;
 use std::alloc::Global;
@@ -56,7 +57,7 @@ fn collect_of(alloc: Global, value: &Value) -> Result<CollectInput, ReadFault>
     let now = now(alloc, value)?;
     let threshold = threshold(alloc, value)?;
     let mut names = Names::new(alloc)?;
-    let missing = missing(alloc, &mut names, value)?;
+    let missing = missing_rows(alloc, &mut names, value)?;
     let rows = rows(alloc, &mut names, value)?;
     Ok(CollectInput {
         names,
@@ -103,7 +104,7 @@ fn threshold(alloc: Global, value: &Value) -> Result<u32, ReadFault>
     whole_at(12_500, 0, 1_000_000, &Path::new(alloc), "threshold", value)
 }
 
-fn missing(alloc: Global, names: &mut Names, value: &Value) -> Result<MissingRows, ReadFault>
+fn missing_rows(alloc: Global, names: &mut Names, value: &Value) -> Result<MissingRows, ReadFault>
     ensures { Gives (λ missing. (missing, names.new)) result
         (fields.default_of ([], names.old) (walk.missing_in names.old) (get (codes "missing") (view value.now))) }
 {

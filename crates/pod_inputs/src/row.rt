@@ -4,15 +4,18 @@ ghost use Rattle.std.specs.Option.{option_map};
 ghost use Rattle.serde_json.specs.Find.{as_str};
 ghost use Rattle.serde_json.specs.View.{view, items_view};
 ghost use Rattle.manifest_json.specs.Faults.{Gives};
-ghost use Rattle.manifest_json.specs.Walk.{kind_from, member_path};
+ghost use Rattle.manifest_json.specs.Walk.{member_path};
 ghost use Rattle.pod_inputs.specs.Rows as spec;
 
-use crate::condition::derived;
-use crate::field::{field, field_in, flag, items, member_of, parent, path_of, text, time};
+use crate::condition::taints_by_condition;
+use crate::field::flag;
 use kube_base::{Names, Wall, whole_second};
 use kube_objects::{Key, Kind, Node, Object, Pod};
-use manifest_json::{Path, ReadFault, read_list};
+use manifest_json::codes::WRONG_JSON;
+use manifest_json::field::{field, field_in, items, parent, text, time};
+use manifest_json::{Path, ReadFault, kind_of, read_list};
 use pod_tools::{NodeRow, NodeRows, PodRow, PodRows};
+use script_reader::field::{member_of, path_of};
 use serde_json::Value;
 use std::alloc::Global;
 
@@ -58,6 +61,7 @@ fn rows_of(
 }
 
 /// Adds the row of an item, and tells the objects of later ones.
+#[tactic(auto, unfolding(crate::specs::Rows::item_row_at))]
 fn item_row<'k>(
     alloc: Global,
     names: &mut Names,
@@ -69,26 +73,11 @@ fn item_row<'k>(
     ensures { Gives (λ later. ((rows.new, later.now), names.new)) result
         (spec.item_row_at names.old (member_path [] (codes "/objects/items/") place) rows.old found.now (view value.now)) }
 {
-    let path = member_of(alloc, "/objects/items/", place)?;
-    item_row_at(alloc, names, &path, rows, found, value)
-}
-
-#[tactic(auto, unfolding(crate::specs::Rows::item_row_at))]
-fn item_row_at<'k>(
-    alloc: Global,
-    names: &mut Names,
-    path: &Path,
-    rows: &mut Rows,
-    found: &'k [(Key, Object)],
-    value: &Value,
-) -> Result<&'k [(Key, Object)], ReadFault>
-    ensures { Gives (λ later. ((rows.new, later.now), names.new)) result
-        (spec.item_row_at names.old path.now rows.old found.now (view value.now)) }
-{
     if !is_read(value) {
         return Ok(found);
     }
-    next_row(alloc, names, path, rows, found, value)
+    let path = member_of(alloc, "/objects/items/", place)?;
+    next_row(alloc, names, &path, rows, found, value)
 }
 
 /// Adds the row of an item that has the first of these objects.
@@ -153,15 +142,15 @@ fn node_row(
     ensures { Gives (λ row. (row, names.new)) result
         (spec.node_row_at names.old path.now name node.now (view value.now)) }
 {
-    let parent_of = parent(path, "/spec", field(value, "spec"))?;
+    let node_spec = parent(path, "/spec", field(value, "spec"))?;
     let unschedulable = flag(
         path,
         "/spec/unschedulable",
-        field_in(parent_of, "unschedulable"),
+        field_in(node_spec, "unschedulable"),
     )?;
     let status = parent(path, "/status", field(value, "status"))?;
     let conditions = items(path, "/status/conditions", field_in(status, "conditions"))?;
-    let derived = derived(alloc, names, node.ready, conditions, unschedulable)?;
+    let derived = taints_by_condition(alloc, names, node.ready, conditions, unschedulable)?;
     let node = node.copy()?;
     Ok(NodeRow {
         name,
@@ -186,7 +175,7 @@ fn pod_row(path: &Path, key: Key, pod: &Pod, value: &Value) -> Result<PodRow, Re
         field_in(metadata, "deletionTimestamp"),
     )?;
     let status = parent(path, "/status", field(value, "status"))?;
-    let phase = text(path, "/status/phase", field_in(status, "phase"))?;
+    let phase = text(WRONG_JSON, path, "/status/phase", field_in(status, "phase"))?;
     let pod = pod.copy()?;
     Ok(PodRow {
         key,
@@ -231,19 +220,5 @@ fn kind_by(version: Option<&Value>, kind: Option<&Value>) -> Option<Kind>
             None => None,
         },
         None => None,
-    }
-}
-
-fn kind_of(version: &str, kind: &str) -> Option<Kind>
-    ensures { result ≡ kind_from version.now kind.now }
-{
-    if version == "v1" && kind == "Node" {
-        Some(Kind::Node)
-    } else if version == "v1" && kind == "Pod" {
-        Some(Kind::Pod)
-    } else if version == "coordination.k8s.io/v1" && kind == "Lease" {
-        Some(Kind::Lease)
-    } else {
-        None
     }
 }

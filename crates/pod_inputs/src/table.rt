@@ -5,9 +5,10 @@ ghost use Rattle.serde_json.specs.View.{view, members_view};
 ghost use Rattle.manifest_json.specs.Faults.{Gives};
 ghost use Rattle.pod_inputs.specs.Tables as spec;
 
-use crate::field::{fault, object_at};
 use manifest_json::codes::UNKNOWN_KEY;
+use manifest_json::fault::fault;
 use manifest_json::{Path, ReadFault};
+use script_reader::field::object_at;
 use serde_json::{Map, Value};
 
 /// The objects of the two inputs.

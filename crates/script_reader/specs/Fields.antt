@@ -1,5 +1,6 @@
 -- Values of a document's keys: a JSON type, and a range or a grammar. A null is a value of the wrong type. Source: profile.
-use Rattle.std.specs.Prelude.{ℕ, ◌&&◌, nat_le, nat_lt, Bool, List, ◌++◌, codes, Option, Some, None, option_and_then, Result, Ok, ℤ, int_le, if◌then◌else◌}
+use Rattle.std.specs.Prelude.{ℕ, ◌&&◌, nat_le, nat_lt, Bool, List, ◌++◌, codes, Option, Some, None, option_and_then, Result, Ok}
+use Rattle.std.specs.Prelude.{ℤ, int_le, if◌then◌else◌}
 use Rattle.std.specs.Str.{bytes_eq}
 use Rattle.serde_json.specs.Data.{Data, Items, Members}
 use Rattle.serde_json.specs.Find.{get, as_bool, as_number, as_str, as_array, as_object, as_u64, as_i64}
@@ -26,8 +27,11 @@ default_of x read None = Ok x
 default_of x read (Some d) = read d
 
 abbrev pub required : {A : Type 0} → List ℕ → (Data → Result A Refusal) → Option Data → Result A Refusal
-required path read None = refuse MISSING_KEY path
-required path read (Some d) = read d
+required path read d = or_refuse d MISSING_KEY path >>= read
+
+-- the value under a key that is required
+abbrev pub needed : List ℕ → List ℕ → Data → Result Data Refusal
+needed path key d = or_refuse (get key d) MISSING_KEY (under path key)
 
 -- ---- whole numbers
 

@@ -84,7 +84,8 @@ AreNamedApart procs = IsDistinct (λ a b. a == b) (numbers_of procs)
 -- an event names processes of the document of the right sort, has its ranges, and leaves the election Lease alone
 abbrev pub IsLawfulWhat : Doc → What → Type 0
 IsLawfulWhat doc (Rate id ppm) = (id.0 < processes doc) × (500000 ≤ ppm) × (ppm ≤ 2000000)
-IsLawfulWhat doc (Delay id requests replies) = (id.0 < processes doc) × ((1 ≤ requests) × (requests ≤ 6000)) × ((1 ≤ replies) × (replies ≤ 6000))
+IsLawfulWhat doc (Delay id requests replies) =
+    (id.0 < processes doc) × ((1 ≤ requests) × (requests ≤ 6000)) × ((1 ≤ replies) × (replies ≤ 6000))
 IsLawfulWhat doc (Loss id requests replies) = id.0 < processes doc
 IsLawfulWhat doc (Crash id) = id.0 < processes doc
 IsLawfulWhat doc (Start id) = id.0 < processes doc

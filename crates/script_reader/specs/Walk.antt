@@ -1,6 +1,7 @@
 -- The walk of a document: the document with its defaults, or the first refusal. An object's keys are looked at in this order: first
 -- whether one is unknown, then each in the order of its table, then the object's own rule. Source: profile.
-use Rattle.std.specs.Prelude.{ℕ, ◌+◌, ◌*◌, ◌==◌, ◌&&◌, ◌||◌, nat_le, nat_lt, Bool, true, false, List, [], ◌∷◌, ◌++◌, map, length, take, drop, codes, Option, Some, None, option_and_then, Result, Ok, ℤ, pos, negsuc, if◌then◌else◌}
+use Rattle.std.specs.Prelude.{ℕ, ◌+◌, ◌*◌, ◌==◌, ◌&&◌, ◌||◌, nat_le, nat_lt, Bool, true, false, List, [], ◌∷◌, ◌++◌, map, length}
+use Rattle.std.specs.Prelude.{take, drop, codes, Option, Some, None, option_and_then, Result, Ok, ℤ, pos, negsuc, if◌then◌else◌}
 use Rattle.std.specs.List.{list_any}
 use Rattle.std.specs.Option.{option_map}
 use Rattle.std.specs.Str.{bytes_eq, is_utf8}
@@ -24,7 +25,8 @@ use Rattle.kube_objects.specs.declared.script.What.{What}
 use Rattle.kube_objects.specs.declared.script.What.TheVariants as deeds
 use Rattle.kube_objects.specs.declared.settings.RatePolicy.{RatePolicy}
 use Rattle.kube_objects.specs.declared.settings.Settings.{Settings}
-use Rattle.manifest_json.specs.declared.codes.TheConstants.{BAD_JSON, BAD_SETTINGS, DUPLICATE, ELECTION_LEASE_EDIT, EVENT_ORDER, OUT_OF_RANGE, TOP_SHAPE, UNKNOWN_PROCESS, WRONG_TYPE}
+use Rattle.manifest_json.specs.declared.codes.TheConstants.{BAD_JSON, BAD_SETTINGS, DUPLICATE, ELECTION_LEASE_EDIT, EVENT_ORDER}
+use Rattle.manifest_json.specs.declared.codes.TheConstants.{OUT_OF_RANGE, TOP_SHAPE, UNKNOWN_PROCESS, WRONG_TYPE}
 use Rattle.manifest_json.specs.declared.fault.Refusal.{Refusal}
 use Rattle.manifest_json.specs.declared.list.Objects.{Objects}
 use Rattle.manifest_json.specs.Faults.{◌>>=◌, refuse}
@@ -42,7 +44,11 @@ use Rattle.script_reader.specs.declared.table.Table.{Table}
 use Rattle.script_reader.specs.declared.table.Table.TheVariants as tables
 use Rattle.script_reader.specs.declared.table.Version.{Version}
 use Rattle.script_reader.specs.declared.table.Version.TheVariants as versions
-use Rattle.script_reader.specs.Fields.{under, default_of, required, whole_at, needed_whole, signed_at, flag_at, needed_flag, needed_text, needed_name, name_at, posted_at, needed_posted, policy_at, epoch_at, object_at, array_in}
+use Rattle.script_reader.specs.declared.cast.Sort.{Sort}
+use Rattle.script_reader.specs.declared.cast.Sort.TheVariants as sorts
+use Rattle.script_reader.specs.Fields.{under, default_of, required, whole_at, needed_whole, signed_at, flag_at, needed_flag}
+use Rattle.script_reader.specs.Fields.{needed_text, needed_name, name_at, posted_at, needed_posted, policy_at, epoch_at}
+use Rattle.script_reader.specs.Fields.{object_at, array_in}
 use Rattle.script_reader.specs.Tables.{known_in}
 
 -- an object with no key that its table doesn't have
@@ -85,7 +91,13 @@ periods_at path d = do
   grace ← whole_at 40_000 1 604_800_000 path (codes "gracePeriodMillis") d
   startup ← whole_at 60_000 1 604_800_000 path (codes "startupGraceMillis") d
   lease ← whole_at 40 1 86_400 path (codes "nodeLeaseDurationSeconds") d
-  Ok (record { restart_millis = restart; monitor_millis = monitor; grace_millis = grace; startup_millis = startup; node_lease_seconds = lease })
+  Ok (record {
+    restart_millis = restart;
+    monitor_millis = monitor;
+    grace_millis = grace;
+    startup_millis = startup;
+    node_lease_seconds = lease;
+  })
 
 unfoldable pub rates_at : List ℕ → Data → Result Rates Refusal
 rates_at path d = do
@@ -161,19 +173,22 @@ timings_of s = record {
   timeout_millis = s.call_timeout_millis;
 }
 
-abbrev pub controller_of : ℕ → Clock → Bool → Timings → Proc
-controller_of name c watch t = record {
+abbrev pub proc_of : ℕ → Clock → Bool → ReadyStatus → Timings → Proc
+proc_of name c watch ready t = record {
   name = name;
   rate_ppm = c.rate_ppm;
   offset_millis = c.offset_millis;
   up = c.up;
   watch = watch;
-  ready = statuses.True;
+  ready = ready;
   lease_seconds = t.lease_seconds;
   renew_millis = t.renew_millis;
   retry_millis = t.retry_millis;
   timeout_millis = t.timeout_millis;
 }
+
+abbrev pub controller_of : ℕ → Clock → Bool → Timings → Proc
+controller_of name c watch t = proc_of name c watch statuses.True t
 
 -- one of these processes has this name
 abbrev pub has_name : ℕ → List Proc → Bool
@@ -213,18 +228,7 @@ controllers_in version settings names d = do
   controllers_from version settings names 0 [] some
 
 abbrev pub kubelet_of : ℕ → Clock → ReadyStatus → Timings → Proc
-kubelet_of name c ready t = record {
-  name = name;
-  rate_ppm = c.rate_ppm;
-  offset_millis = c.offset_millis;
-  up = c.up;
-  watch = true;
-  ready = ready;
-  lease_seconds = t.lease_seconds;
-  renew_millis = t.renew_millis;
-  retry_millis = t.retry_millis;
-  timeout_millis = t.timeout_millis;
-}
+kubelet_of name c ready t = proc_of name c true ready t
 
 -- the own rule of a kubelet
 abbrev pub if_kubelet : List ℕ → List Proc → ℕ → Proc → Texts → Result (Proc × Texts) Refusal
@@ -281,7 +285,8 @@ behind before place = record { 0 = before + place }
 -- a kubelet by `kubelet/` and its node; kubelets stand behind the controllers
 abbrev pub kubelet_named : Cast → Texts → List ℕ → Option ProcId
 kubelet_named cast names text =
-    if bytes_eq (take 8 text) (codes "kubelet/") then option_map (behind (length cast.controllers)) (process_of names cast.kubelets (drop 8 text)) else None
+    if bytes_eq (take 8 text) (codes "kubelet/")
+    then option_map (behind (length cast.controllers)) (process_of names cast.kubelets (drop 8 text)) else None
 
 abbrev pub or_else : {A : Type 0} → Option A → Option A → Option A
 or_else None other = other
@@ -290,13 +295,19 @@ or_else (Some x) other = Some x
 abbrev pub process_named : Cast → Texts → List ℕ → Option ProcId
 process_named cast names text = or_else (controller_named cast names text) (kubelet_named cast names text)
 
+-- a process of this sort by a text
+abbrev pub named_by : Sort → Cast → Texts → List ℕ → Option ProcId
+named_by sorts.Any cast names text = process_named cast names text
+named_by sorts.Controller cast names text = controller_named cast names text
+named_by sorts.Kubelet cast names text = kubelet_named cast names text
+
 -- the process of an event, among those that it may name
 unfoldable pub process_at : (List ℕ → Option ProcId) → List ℕ → Data → Result ProcId Refusal
 process_at named path d = do
   text ← needed_text path (codes "process") d
   or_refuse (named text) UNKNOWN_PROCESS (under path (codes "process"))
 
-unfoldable pub rate_at : Cast → Texts → List ℕ → Data → Result What Refusal
+abbrev pub rate_at : Cast → Texts → List ℕ → Data → Result What Refusal
 rate_at cast names path d = do
   who ← process_at (process_named cast names) path d
   ppm ← needed_whole 500_000 2_000_000 path (codes "ratePpm") d
@@ -316,28 +327,28 @@ loss_at cast names path d = do
   replies ← needed_flag path (codes "replies") d
   Ok (deeds.Loss who requests replies)
 
-unfoldable pub crash_at : Cast → Texts → List ℕ → Data → Result What Refusal
+abbrev pub crash_at : Cast → Texts → List ℕ → Data → Result What Refusal
 crash_at cast names path d = do
   who ← process_at (process_named cast names) path d
   Ok (deeds.Crash who)
 
-unfoldable pub start_at : Cast → Texts → List ℕ → Data → Result What Refusal
+abbrev pub start_at : Cast → Texts → List ℕ → Data → Result What Refusal
 start_at cast names path d = do
   who ← process_at (process_named cast names) path d
   Ok (deeds.Start who)
 
-unfoldable pub stop_at : Cast → Texts → List ℕ → Data → Result What Refusal
+abbrev pub stop_at : Cast → Texts → List ℕ → Data → Result What Refusal
 stop_at cast names path d = do
   who ← process_at (controller_named cast names) path d
   Ok (deeds.Stop who)
 
-unfoldable pub watch_at : Cast → Texts → List ℕ → Data → Result What Refusal
+abbrev pub watch_at : Cast → Texts → List ℕ → Data → Result What Refusal
 watch_at cast names path d = do
   who ← process_at (controller_named cast names) path d
   on ← needed_flag path (codes "on") d
   Ok (deeds.Watch who on)
 
-unfoldable pub ready_at : Cast → Texts → List ℕ → Data → Result What Refusal
+abbrev pub ready_at : Cast → Texts → List ℕ → Data → Result What Refusal
 ready_at cast names path d = do
   who ← process_at (kubelet_named cast names) path d
   status ← needed_posted path (codes "status") d
@@ -500,7 +511,14 @@ document_at value = do
   kubelets ← default_of ([], controllers.1) (kubelets_in settings controllers.1) (get (codes "kubelets") d)
   objects ← default_of (no_objects, kubelets.1) (objects_in kubelets.1 (numbers_of controllers.0)) (get (codes "objects") d)
   events ← default_of ([], objects.1) (events_in (cast_of controllers.0 kubelets.0) settings.end_beat.0 objects.1) (get (codes "events") d)
-  Ok (record { settings = settings; controllers = controllers.0; kubelets = kubelets.0; objects = objects.0; events = events.0; names = events.1 })
+  Ok (record {
+    settings = settings;
+    controllers = controllers.0;
+    kubelets = kubelets.0;
+    objects = objects.0;
+    events = events.0;
+    names = events.1;
+  })
 
 -- JSON as serde_json reads it (RFC 8259): UTF-8, one value with nothing behind it, nested at most 127 deep
 abbrev pub json_of : List ℕ → Option Data

@@ -18,6 +18,14 @@ pub(crate) struct Named {
     places: BTreeMap<u32, u32>,
 }
 
+/// The sorts of processes that an event may name.
+#[derive(Clone, Copy, Debug)]
+pub(crate) enum Sort {
+    Any,
+    Controller,
+    Kubelet,
+}
+
 /// The processes that events may name.
 #[derive(Drop)]
 pub(crate) struct Players {
@@ -93,7 +101,7 @@ fn process_of(named: &Named, names: &Names, name: &[u8]) -> Option<u32>
 }
 
 /// A controller by its name.
-pub(crate) fn controller_named(players: &Players, names: &Names, text: &str) -> Option<ProcId>
+fn find_controller(players: &Players, names: &Names, text: &str) -> Option<ProcId>
     requires { AreNamed players.now }
     ensures { result ≡ walk.controller_named (seen players.now) names.now text.now }
 {
@@ -102,7 +110,7 @@ pub(crate) fn controller_named(players: &Players, names: &Names, text: &str) -> 
 }
 
 /// A kubelet by `kubelet/` and its node.
-pub(crate) fn kubelet_named(players: &Players, names: &Names, text: &str) -> Option<ProcId>
+fn find_kubelet(players: &Players, names: &Names, text: &str) -> Option<ProcId>
     requires { AreNamed players.now }
     ensures { result ≡ walk.kubelet_named (seen players.now) names.now text.now }
 {
@@ -112,13 +120,22 @@ pub(crate) fn kubelet_named(players: &Players, names: &Names, text: &str) -> Opt
     Some(ProcId(before + place))
 }
 
-/// A controller or a kubelet.
-pub(crate) fn process_named(players: &Players, names: &Names, text: &str) -> Option<ProcId>
+/// A process of this sort by a text.
+pub(crate) fn find_process(
+    sort: Sort,
+    players: &Players,
+    names: &Names,
+    text: &str,
+) -> Option<ProcId>
     requires { AreNamed players.now }
-    ensures { result ≡ walk.process_named (seen players.now) names.now text.now }
+    ensures { result ≡ walk.named_by sort (seen players.now) names.now text.now }
 {
-    match controller_named(players, names, text) {
-        Some(id) => Some(id),
-        None => kubelet_named(players, names, text),
+    match sort {
+        Sort::Any => match find_controller(players, names, text) {
+            Some(id) => Some(id),
+            None => find_kubelet(players, names, text),
+        },
+        Sort::Controller => find_controller(players, names, text),
+        Sort::Kubelet => find_kubelet(players, names, text),
     }
 }

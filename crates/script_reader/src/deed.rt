@@ -8,9 +8,11 @@ ghost use Rattle.script_reader.specs.Fields as fields;
 ghost use Rattle.manifest_json.specs.Walk as manifests;
 ghost use Rattle.script_reader.specs.Walk as walk;
 
-use crate::cast::{Players, controller_named, kubelet_named, process_named};
-use crate::field::{fault_under, name_at, needed_flag, needed_posted, needed_text, needed_whole};
-use crate::process::named_at;
+use crate::cast::{Players, Sort, find_process};
+use crate::field::{
+    fault_under, name_at, name_number_at, needed_flag, needed_status, needed_text, needed_whole,
+    or_refuse,
+};
 use crate::table::EventType;
 use kube_base::{Names, ProcId};
 use kube_objects::{Key, Kind, Object, What};
@@ -30,32 +32,35 @@ pub(crate) fn what_at(
     value: &Value,
 ) -> Result<What, ReadFault>
     requires { AreNamed players.now }
-    ensures { Gives (λ what. (what, names.new)) result
-        (walk.what_at (seen players.now) names.old path.now kind (view value.now)) }
+    ensures { Gives (λ what. (what, names.new)) result (walk.what_at (seen players.now) names.old path.now kind (view value.now)) }
 {
     match kind {
-        EventType::Rate => Ok(rate_at(players, names, path, value)?),
+        EventType::Rate => {
+            let id = process_at(Sort::Any, players, names, path, value)?;
+            let ppm = needed_whole(500_000, 2_000_000, path, "ratePpm", value)?;
+            Ok(What::Rate(id, ppm))
+        }
         EventType::Delay => Ok(delay_at(players, names, path, value)?),
         EventType::Loss => Ok(loss_at(players, names, path, value)?),
-        EventType::Crash => Ok(crash_at(players, names, path, value)?),
-        EventType::Start => Ok(start_at(players, names, path, value)?),
-        EventType::Stop => Ok(stop_at(players, names, path, value)?),
-        EventType::Watch => Ok(watch_at(players, names, path, value)?),
-        EventType::Ready => Ok(ready_at(players, names, path, value)?),
+        EventType::Crash => Ok(What::Crash(process_at(Sort::Any, players, names, path, value)?)),
+        EventType::Start => Ok(What::Start(process_at(Sort::Any, players, names, path, value)?)),
+        EventType::Stop => {
+            let id = process_at(Sort::Controller, players, names, path, value)?;
+            Ok(What::Stop(id))
+        }
+        EventType::Watch => {
+            let id = process_at(Sort::Controller, players, names, path, value)?;
+            let on = needed_flag(path, "on", value)?;
+            Ok(What::Watch(id, on))
+        }
+        EventType::Ready => {
+            let id = process_at(Sort::Kubelet, players, names, path, value)?;
+            let status = needed_status(path, "status", value)?;
+            Ok(What::Ready(id, status))
+        }
         EventType::Put => put_at(alloc, players, names, path, value),
         EventType::Remove => remove_at(names, path, value),
     }
-}
-
-#[tactic(auto, unfolding(crate::specs::Walk::rate_at))]
-fn rate_at(players: &Players, names: &Names, path: &Path, value: &Value) -> Result<What, ReadFault>
-    requires { AreNamed players.now }
-    ensures { Gives (λ what. what) result
-        (walk.rate_at (seen players.now) names.now path.now (view value.now)) }
-{
-    let id = process_at(players, names, path, value)?;
-    let ppm = needed_whole(500_000, 2_000_000, path, "ratePpm", value)?;
-    Ok(What::Rate(id, ppm))
 }
 
 #[tactic(auto, unfolding(crate::specs::Walk::delay_at))]
@@ -64,7 +69,7 @@ fn delay_at(players: &Players, names: &Names, path: &Path, value: &Value) -> Res
     ensures { Gives (λ what. what) result
         (walk.delay_at (seen players.now) names.now path.now (view value.now)) }
 {
-    let id = process_at(players, names, path, value)?;
+    let id = process_at(Sort::Any, players, names, path, value)?;
     let requests = needed_whole(1, 6_000, path, "requestBeats", value)?;
     let replies = needed_whole(1, 6_000, path, "replyBeats", value)?;
     Ok(What::Delay(id, requests, replies))
@@ -76,67 +81,16 @@ fn loss_at(players: &Players, names: &Names, path: &Path, value: &Value) -> Resu
     ensures { Gives (λ what. what) result
         (walk.loss_at (seen players.now) names.now path.now (view value.now)) }
 {
-    let id = process_at(players, names, path, value)?;
+    let id = process_at(Sort::Any, players, names, path, value)?;
     let requests = needed_flag(path, "requests", value)?;
     let replies = needed_flag(path, "replies", value)?;
     Ok(What::Loss(id, requests, replies))
 }
 
-#[tactic(auto, unfolding(crate::specs::Walk::crash_at))]
-fn crash_at(players: &Players, names: &Names, path: &Path, value: &Value) -> Result<What, ReadFault>
-    requires { AreNamed players.now }
-    ensures { Gives (λ what. what) result
-        (walk.crash_at (seen players.now) names.now path.now (view value.now)) }
-{
-    let id = process_at(players, names, path, value)?;
-    Ok(What::Crash(id))
-}
-
-#[tactic(auto, unfolding(crate::specs::Walk::start_at))]
-fn start_at(players: &Players, names: &Names, path: &Path, value: &Value) -> Result<What, ReadFault>
-    requires { AreNamed players.now }
-    ensures { Gives (λ what. what) result
-        (walk.start_at (seen players.now) names.now path.now (view value.now)) }
-{
-    let id = process_at(players, names, path, value)?;
-    Ok(What::Start(id))
-}
-
-#[tactic(auto, unfolding(crate::specs::Walk::stop_at))]
-fn stop_at(players: &Players, names: &Names, path: &Path, value: &Value) -> Result<What, ReadFault>
-    requires { AreNamed players.now }
-    ensures { Gives (λ what. what) result
-        (walk.stop_at (seen players.now) names.now path.now (view value.now)) }
-{
-    let id = controller_at(players, names, path, value)?;
-    Ok(What::Stop(id))
-}
-
-#[tactic(auto, unfolding(crate::specs::Walk::watch_at))]
-fn watch_at(players: &Players, names: &Names, path: &Path, value: &Value) -> Result<What, ReadFault>
-    requires { AreNamed players.now }
-    ensures { Gives (λ what. what) result
-        (walk.watch_at (seen players.now) names.now path.now (view value.now)) }
-{
-    let id = controller_at(players, names, path, value)?;
-    let on = needed_flag(path, "on", value)?;
-    Ok(What::Watch(id, on))
-}
-
-#[tactic(auto, unfolding(crate::specs::Walk::ready_at))]
-fn ready_at(players: &Players, names: &Names, path: &Path, value: &Value) -> Result<What, ReadFault>
-    requires { AreNamed players.now }
-    ensures { Gives (λ what. what) result
-        (walk.ready_at (seen players.now) names.now path.now (view value.now)) }
-{
-    let id = kubelet_at(players, names, path, value)?;
-    let status = needed_posted(path, "status", value)?;
-    Ok(What::Ready(id, status))
-}
-
-/// Any process.
+/// The process of an event, which is of this sort.
 #[tactic(auto, unfolding(crate::specs::Walk::process_at))]
 fn process_at(
+    sort: Sort,
     players: &Players,
     names: &Names,
     path: &Path,
@@ -144,51 +98,11 @@ fn process_at(
 ) -> Result<ProcId, ReadFault>
     requires { AreNamed players.now }
     ensures { Gives (λ id. id) result
-        (walk.process_at (walk.process_named (seen players.now) names.now) path.now (view value.now)) }
+        (walk.process_at (walk.named_by sort (seen players.now) names.now) path.now (view value.now)) }
 {
     let text = needed_text(path, "process", value)?;
-    match process_named(players, names, text) {
-        Some(id) => Ok(id),
-        None => Err(fault_under(UNKNOWN_PROCESS, path, "process")),
-    }
-}
-
-/// A controller.
-#[tactic(auto, unfolding(crate::specs::Walk::process_at))]
-fn controller_at(
-    players: &Players,
-    names: &Names,
-    path: &Path,
-    value: &Value,
-) -> Result<ProcId, ReadFault>
-    requires { AreNamed players.now }
-    ensures { Gives (λ id. id) result
-        (walk.process_at (walk.controller_named (seen players.now) names.now) path.now (view value.now)) }
-{
-    let text = needed_text(path, "process", value)?;
-    match controller_named(players, names, text) {
-        Some(id) => Ok(id),
-        None => Err(fault_under(UNKNOWN_PROCESS, path, "process")),
-    }
-}
-
-/// A kubelet.
-#[tactic(auto, unfolding(crate::specs::Walk::process_at))]
-fn kubelet_at(
-    players: &Players,
-    names: &Names,
-    path: &Path,
-    value: &Value,
-) -> Result<ProcId, ReadFault>
-    requires { AreNamed players.now }
-    ensures { Gives (λ id. id) result
-        (walk.process_at (walk.kubelet_named (seen players.now) names.now) path.now (view value.now)) }
-{
-    let text = needed_text(path, "process", value)?;
-    match kubelet_named(players, names, text) {
-        Some(id) => Ok(id),
-        None => Err(fault_under(UNKNOWN_PROCESS, path, "process")),
-    }
+    let found = find_process(sort, players, names, text);
+    or_refuse(found, UNKNOWN_PROCESS, path, "process")
 }
 
 /// Puts an object.
@@ -251,7 +165,7 @@ fn remove_at(names: &mut Names, path: &Path, value: &Value) -> Result<What, Read
     let kind = kind_at(path, value)?;
     let text = name_at("default", path, "namespace", value)?;
     let space = space_of(names, kind, text)?;
-    let name = named_at(names, path, "name", value)?;
+    let name = name_number_at(names, path, "name", value)?;
     Ok(What::Remove(Key { kind, space, name }))
 }
 
@@ -260,10 +174,7 @@ fn kind_at(path: &Path, value: &Value) -> Result<Kind, ReadFault>
     ensures { Gives (λ kind. kind) result (walk.kind_at path.now (view value.now)) }
 {
     let text = needed_text(path, "kind", value)?;
-    match kind_of(text) {
-        Some(kind) => Ok(kind),
-        None => Err(fault_under(OUT_OF_RANGE, path, "kind")),
-    }
+    or_refuse(kind_of(text), OUT_OF_RANGE, path, "kind")
 }
 
 fn kind_of(text: &str) -> Option<Kind>

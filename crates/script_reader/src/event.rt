@@ -8,13 +8,12 @@ ghost use Rattle.script_reader.specs.Walk as walk;
 
 use crate::cast::Players;
 use crate::deed::what_at;
-use crate::field::{
-    array_in, fault, fault_under, member_of, needed_text, needed_whole, object_at, path_of,
-};
+use crate::field::{array_in, member_of, needed_text, needed_whole, object_at, or_refuse, path_of};
 use crate::table::{EventType, Table, known_in};
 use kube_base::{Beat, KUBE_CONTROLLER_MANAGER, KUBE_SYSTEM, Names};
 use kube_objects::{Event, Events, Key, Kind, What};
 use manifest_json::codes::{ELECTION_LEASE_EDIT, EVENT_ORDER, OUT_OF_RANGE, WRONG_TYPE};
+use manifest_json::fault::fault;
 use manifest_json::{Path, ReadFault};
 use serde_json::Value;
 use std::alloc::Global;
@@ -51,7 +50,7 @@ fn events_of(
     let mut events = Events::new(alloc);
     let mut last: u32 = 0;
     for (place, value) in list.iter().enumerate() {
-        match event_in(alloc, players, end, names, last, place, value) {
+        match event_at(alloc, players, end, names, last, place, value) {
             Ok(event) => {
                 last = event.beat.0;
                 events.push(event)?;
@@ -62,7 +61,9 @@ fn events_of(
     Ok(events)
 }
 
-fn event_in(
+/// An event, where the earlier ones are at most at the beat `last`.
+#[tactic(auto, unfolding(crate::specs::Walk::event_at))]
+fn event_at(
     alloc: Global,
     players: &Players,
     end: Beat,
@@ -73,37 +74,20 @@ fn event_in(
 ) -> Result<Event, ReadFault>
     requires { AreNamed players.now }
     ensures { Gives (λ event. (event, names.new)) result
-        (walk.event_at (seen players.now) end.0 names.old last (member_path [] (codes "/events/") place) (view value.now)) }
+        (walk.event_at (seen players.now) end.0 names.old last
+        (member_path [] (codes "/events/") place) (view value.now)) }
 {
     let path = member_of(alloc, "/events/", place)?;
-    event_at(alloc, players, end, names, last, &path, value)
-}
-
-/// An event, where the earlier ones are at most at the beat `last`.
-#[tactic(auto, unfolding(crate::specs::Walk::event_at))]
-fn event_at(
-    alloc: Global,
-    players: &Players,
-    end: Beat,
-    names: &mut Names,
-    last: u32,
-    path: &Path,
-    value: &Value,
-) -> Result<Event, ReadFault>
-    requires { AreNamed players.now }
-    ensures { Gives (λ event. (event, names.new)) result
-        (walk.event_at (seen players.now) end.0 names.old last path.now (view value.now)) }
-{
-    object_at(WRONG_TYPE, path, value)?;
-    let beat = needed_whole(0, 604_800_000, path, "beat", value)?;
-    let kind = type_at(path, value)?;
-    known_in(Table::Event(kind), path, value)?;
-    let what = what_at(alloc, players, names, path, kind, value)?;
+    object_at(WRONG_TYPE, &path, value)?;
+    let beat = needed_whole(0, 604_800_000, &path, "beat", value)?;
+    let kind = type_at(&path, value)?;
+    known_in(Table::Event(kind), &path, value)?;
+    let what = what_at(alloc, players, names, &path, kind, value)?;
     if beat < last || end.0 < beat {
-        return Err(fault(EVENT_ORDER, path));
+        return Err(fault(EVENT_ORDER, &path));
     }
     if edits_election(&what) {
-        return Err(fault(ELECTION_LEASE_EDIT, path));
+        return Err(fault(ELECTION_LEASE_EDIT, &path));
     }
     Ok(Event {
         beat: Beat(beat),
@@ -116,10 +100,7 @@ fn type_at(path: &Path, value: &Value) -> Result<EventType, ReadFault>
     ensures { Gives (λ kind. kind) result (walk.type_at path.now (view value.now)) }
 {
     let text = needed_text(path, "type", value)?;
-    match type_of(text) {
-        Some(kind) => Ok(kind),
-        None => Err(fault_under(OUT_OF_RANGE, path, "type")),
-    }
+    or_refuse(type_of(text), OUT_OF_RANGE, path, "type")
 }
 
 fn type_of(text: &str) -> Option<EventType>

@@ -3,49 +3,42 @@ ghost use Rattle.std.specs.Prelude.{◌≡◌, ◌≤◌, ◌++◌, codes, [], l
 ghost use Rattle.serde_json.specs.View.{view, items_view};
 ghost use Rattle.kube_base.specs.Times.{time_of};
 ghost use Rattle.manifest_json.specs.Faults.{Gives, IsFault};
+ghost use Rattle.manifest_json.specs.Fields.{or_refuse};
 ghost use Rattle.manifest_json.specs.Walk.{member_path};
 ghost use Rattle.script_reader.specs.Fields as spec;
+ghost use Rattle.script_reader.specs.Walk.{named_at};
 
-use kube_base::{NoMemory, Wall, read_time};
+use kube_base::{Names, NoMemory, Wall, read_time};
 use kube_objects::{RatePolicy, ReadyStatus};
 use manifest_json::codes::{MISSING_KEY, OUT_OF_RANGE, TOO_MANY, WRONG_TYPE};
-use manifest_json::{Path, ReadFault, Refusal, fault_below, is_name};
+use manifest_json::fault::fault;
+use manifest_json::{Path, ReadFault, fault_below, is_name, number};
 use serde_json::Value;
 use std::alloc::Global;
 
 /// The path of these bytes.
-pub(crate) fn path_of(alloc: Global, text: &str) -> Result<Path, NoMemory>
+pub fn path_of(alloc: Global, text: &str) -> Result<Path, NoMemory>
     ensures { IfOk result (λ path. path ≡ text.now) }
 {
     Path::new(alloc).below(text)
 }
 
 /// The path of an array's member.
-pub(crate) fn member_of(alloc: Global, key: &str, place: usize) -> Result<Path, NoMemory>
+pub fn member_of(alloc: Global, key: &str, place: usize) -> Result<Path, NoMemory>
     ensures { IfOk result (λ path. path ≡ member_path [] key.now place) }
 {
     Path::new(alloc).member(key, place)
 }
 
-/// The fault with this code and path, unless memory runs out.
-pub(crate) fn fault(code: u32, path: &Path) -> ReadFault
-    ensures { IsFault code path.now result }
-{
-    match path.copy() {
-        Ok(path) => ReadFault::Refused(Refusal { code, path }),
-        Err(_) => ReadFault::NoMemory,
-    }
-}
-
 /// The fault with this code at a path of these bytes, unless memory runs out.
-pub(crate) fn fault_at(alloc: Global, code: u32, path: &str) -> ReadFault
+pub fn fault_at(alloc: Global, code: u32, path: &str) -> ReadFault
     ensures { IsFault code path.now result }
 {
     fault_below(code, &Path::new(alloc), path)
 }
 
 /// The fault with this code at a key of the object at the path, unless memory runs out.
-pub(crate) fn fault_under(code: u32, path: &Path, key: &str) -> ReadFault
+pub fn fault_under(code: u32, path: &Path, key: &str) -> ReadFault
     ensures { IsFault code (spec.under path.now key.now) result }
 {
     match path.below("/") {
@@ -54,8 +47,33 @@ pub(crate) fn fault_under(code: u32, path: &Path, key: &str) -> ReadFault
     }
 }
 
+/// The value under a key that is required.
+pub fn needed<'v>(path: &Path, key: &str, object: &'v Value) -> Result<&'v Value, ReadFault>
+    ensures { Gives (λ found. view found.now) result (spec.needed path.now key.now (view object.now)) }
+{
+    match object.get(key) {
+        Some(found) => Ok(found),
+        None => Err(fault_under(MISSING_KEY, path, key)),
+    }
+}
+
+/// What was made of the value under a key, or its refusal with this code.
+pub fn or_refuse<T: Copy>(
+    found: Option<T>,
+    code: u32,
+    path: &Path,
+    key: &str,
+) -> Result<T, ReadFault>
+    ensures { Gives (λ x. x) result (or_refuse found code (spec.under path.now key.now)) }
+{
+    match found {
+        Some(found) => Ok(found),
+        None => Err(fault_under(code, path, key)),
+    }
+}
+
 /// A whole number under a key, or the default.
-pub(crate) fn whole_at(
+pub fn whole_at(
     default: u32,
     least: u32,
     most: u32,
@@ -83,10 +101,8 @@ pub(crate) fn needed_whole(
     ensures { Gives (λ n. n) result
         (spec.needed_whole least most path.now key.now (view object.now)) }
 {
-    match object.get(key) {
-        Some(found) => whole_in(least, most, path, key, found),
-        None => Err(fault_under(MISSING_KEY, path, key)),
-    }
+    let found = needed(path, key, object)?;
+    whole_in(least, most, path, key, found)
 }
 
 /// A whole number from the least to the most.
@@ -163,20 +179,15 @@ pub(crate) fn needed_flag(path: &Path, key: &str, object: &Value) -> Result<bool
     ensures { Gives (λ flag. flag) result
         (spec.needed_flag path.now key.now (view object.now)) }
 {
-    match object.get(key) {
-        Some(found) => flag_in(path, key, found),
-        None => Err(fault_under(MISSING_KEY, path, key)),
-    }
+    let found = needed(path, key, object)?;
+    flag_in(path, key, found)
 }
 
 fn flag_in(path: &Path, key: &str, found: &Value) -> Result<bool, ReadFault>
     ensures { Gives (λ flag. flag) result
         (spec.flag_in (spec.under path.now key.now) (view found.now)) }
 {
-    match found.as_bool() {
-        Some(flag) => Ok(flag),
-        None => Err(fault_under(WRONG_TYPE, path, key)),
-    }
+    or_refuse(found.as_bool(), WRONG_TYPE, path, key)
 }
 
 /// A text under a key, or the default.
@@ -204,13 +215,12 @@ pub(crate) fn needed_text<'v>(
     ensures { Gives (λ text. text.now) result
         (spec.needed_text path.now key.now (view object.now)) }
 {
-    match object.get(key) {
-        Some(found) => text_in(path, key, found),
-        None => Err(fault_under(MISSING_KEY, path, key)),
-    }
+    let found = needed(path, key, object)?;
+    text_in(path, key, found)
 }
 
-fn text_in<'v>(path: &Path, key: &str, found: &'v Value) -> Result<&'v str, ReadFault>
+/// A text.
+pub fn text_in<'v>(path: &Path, key: &str, found: &'v Value) -> Result<&'v str, ReadFault>
     ensures { Gives (λ text. text.now) result
         (spec.text_in (spec.under path.now key.now) (view found.now)) }
 {
@@ -222,20 +232,27 @@ fn text_in<'v>(path: &Path, key: &str, found: &'v Value) -> Result<&'v str, Read
 
 /// A name under a key that is required.
 #[tactic(auto, unfolding(crate::specs::Fields::needed_name))]
-pub(crate) fn needed_name<'v>(
-    path: &Path,
-    key: &str,
-    object: &'v Value,
-) -> Result<&'v str, ReadFault>
+pub fn needed_name<'v>(path: &Path, key: &str, object: &'v Value) -> Result<&'v str, ReadFault>
     ensures { Gives (λ text. text.now) result
         (spec.needed_name path.now key.now (view object.now)) }
 {
     let text = needed_text(path, key, object)?;
-    if is_name(text) {
-        Ok(text)
-    } else {
-        Err(fault_under(OUT_OF_RANGE, path, key))
-    }
+    if_name(path, key, text)
+}
+
+/// The number of a name under a key that is required.
+#[tactic(auto, unfolding(crate::specs::Walk::named_at))]
+pub fn name_number_at(
+    names: &mut Names,
+    path: &Path,
+    key: &str,
+    value: &Value,
+) -> Result<u32, ReadFault>
+    ensures { Gives (λ n. (n, names.new)) result
+        (named_at names.old path.now key.now (view value.now)) }
+{
+    let text = needed_name(path, key, value)?;
+    number(names, text)
 }
 
 /// A name under a key, or the default.
@@ -250,6 +267,12 @@ pub(crate) fn name_at<'v>(
         (spec.name_at default.now path.now key.now (view object.now)) }
 {
     let text = text_at(default, path, key, object)?;
+    if_name(path, key, text)
+}
+
+fn if_name<'v>(path: &Path, key: &str, text: &'v str) -> Result<&'v str, ReadFault>
+    ensures { Gives (λ text. text.now) result (spec.if_name (spec.under path.now key.now) text.now) }
+{
     if is_name(text) {
         Ok(text)
     } else {
@@ -259,20 +282,17 @@ pub(crate) fn name_at<'v>(
 
 /// The status that a kubelet posts: True where none is given.
 #[tactic(auto, unfolding(crate::specs::Fields::posted_at))]
-pub(crate) fn posted_at(path: &Path, key: &str, object: &Value) -> Result<ReadyStatus, ReadFault>
+pub(crate) fn status_at(path: &Path, key: &str, object: &Value) -> Result<ReadyStatus, ReadFault>
     ensures { Gives (λ status. status) result
         (spec.posted_at path.now key.now (view object.now)) }
 {
     let text = text_at("True", path, key, object)?;
-    match posted_of(text) {
-        Some(status) => Ok(status),
-        None => Err(fault_under(OUT_OF_RANGE, path, key)),
-    }
+    or_refuse(status_of(text), OUT_OF_RANGE, path, key)
 }
 
 /// The status that a kubelet posts, which is required.
 #[tactic(auto, unfolding(crate::specs::Fields::needed_posted))]
-pub(crate) fn needed_posted(
+pub(crate) fn needed_status(
     path: &Path,
     key: &str,
     object: &Value,
@@ -281,13 +301,10 @@ pub(crate) fn needed_posted(
         (spec.needed_posted path.now key.now (view object.now)) }
 {
     let text = needed_text(path, key, object)?;
-    match posted_of(text) {
-        Some(status) => Ok(status),
-        None => Err(fault_under(OUT_OF_RANGE, path, key)),
-    }
+    or_refuse(status_of(text), OUT_OF_RANGE, path, key)
 }
 
-fn posted_of(text: &str) -> Option<ReadyStatus>
+fn status_of(text: &str) -> Option<ReadyStatus>
     ensures { result ≡ spec.posted_of text.now }
 {
     if text == "True" {
@@ -306,10 +323,7 @@ pub(crate) fn policy_at(path: &Path, key: &str, object: &Value) -> Result<RatePo
         (spec.policy_at path.now key.now (view object.now)) }
 {
     let text = text_at("standard", path, key, object)?;
-    match policy_of(text) {
-        Some(policy) => Ok(policy),
-        None => Err(fault_under(OUT_OF_RANGE, path, key)),
-    }
+    or_refuse(policy_of(text), OUT_OF_RANGE, path, key)
 }
 
 fn policy_of(text: &str) -> Option<RatePolicy>
@@ -350,7 +364,7 @@ fn if_epoch(path: &Path, key: &str, at: Option<Wall>) -> Result<Wall, ReadFault>
 }
 
 /// The value is an object.
-pub(crate) fn object_at(code: u32, path: &Path, value: &Value) -> Result<(), ReadFault>
+pub fn object_at(code: u32, path: &Path, value: &Value) -> Result<(), ReadFault>
     ensures { Gives (λ _. view value.now) result
         (spec.object_at code path.now (view value.now)) }
 {
@@ -362,11 +376,7 @@ pub(crate) fn object_at(code: u32, path: &Path, value: &Value) -> Result<(), Rea
 
 /// An array of at most so many members.
 #[tactic(auto, unfolding(crate::specs::Fields::array_in))]
-pub(crate) fn array_in<'v>(
-    most: usize,
-    path: &Path,
-    value: &'v Value,
-) -> Result<&'v [Value], ReadFault>
+pub fn array_in<'v>(most: usize, path: &Path, value: &'v Value) -> Result<&'v [Value], ReadFault>
     ensures gives { Gives (λ list. items_view list.now) result
         (spec.array_in most path.now (view value.now)) }
     ensures few { IfOk result (λ list. length list.now ≤ most) }

@@ -5,7 +5,7 @@ mod cast;
 mod deed;
 mod document;
 mod event;
-mod field;
+pub mod field;
 pub mod parts;
 mod premise;
 mod process;

@@ -75,7 +75,9 @@ fn outlasts(
     least: u32,
     greatest: u32,
 ) -> bool
-    ensures { result ≡ nat_lt ((of_millis timeout_millis + of_millis retry_millis + of_millis renew_millis) * greatest) (of_seconds lease_seconds * least) }
+    ensures { result ≡ nat_lt
+        ((of_millis timeout_millis + of_millis retry_millis + of_millis renew_millis) * greatest)
+        (of_seconds lease_seconds * least) }
 {
     let acting = u128::from(timeout_millis) + u128::from(retry_millis) + u128::from(renew_millis);
     let lease = u128::from(lease_seconds) * 1000;
@@ -98,7 +100,8 @@ fn is_long(document: &Document, controller: usize, greatest: u32) -> bool
     )
 }
 
-/// Whether every controller's lease outlasts what a leader may act on after its last sent success, at any clock rates of the document. Takes no memory.
+/// Whether every controller's lease outlasts what a leader may act on after its last sent success, at any clock rates of the document.
+/// Takes no memory.
 pub fn lease_premise(document: &Document) -> bool
     ensures { result ≡ lease_premise (doc_of document.now) }
 {

@@ -8,7 +8,7 @@ ghost use Rattle.script_reader.specs.Walk as walk;
 
 use crate::cast::Named;
 use crate::field::{
-    array_in, fault, fault_under, flag_at, member_of, needed_name, path_of, posted_at, signed_at,
+    array_in, fault_under, flag_at, member_of, name_number_at, path_of, signed_at, status_at,
     whole_at,
 };
 use crate::parts::{Clock, Timings};
@@ -17,24 +17,10 @@ use crate::table::{Table, Version, object_in};
 use kube_base::Names;
 use kube_objects::{Proc, ReadyStatus, Settings};
 use manifest_json::codes::{BAD_SETTINGS, DUPLICATE, OUT_OF_RANGE};
-use manifest_json::{Path, ReadFault, number};
+use manifest_json::fault::fault;
+use manifest_json::{Path, ReadFault};
 use serde_json::Value;
 use std::alloc::Global;
-
-/// The number of a name under a key that is required.
-#[tactic(auto, unfolding(crate::specs::Walk::named_at))]
-pub(crate) fn named_at(
-    names: &mut Names,
-    path: &Path,
-    key: &str,
-    value: &Value,
-) -> Result<u32, ReadFault>
-    ensures { Gives (λ n. (n, names.new)) result
-        (walk.named_at names.old path.now key.now (view value.now)) }
-{
-    let text = needed_name(path, key, value)?;
-    number(names, text)
-}
 
 #[tactic(auto, unfolding(crate::specs::Walk::clock_at))]
 fn clock_at(path: &Path, value: &Value) -> Result<Clock, ReadFault>
@@ -120,7 +106,8 @@ fn controller_in(
 ) -> Result<Proc, ReadFault>
     requires { Stands earlier.now }
     ensures gives { Gives (λ proc. (proc, names.new)) result
-        (walk.controller_at version settings.now names.old (member_path [] (codes "/controllers/") place) earlier.now.procs (view value.now)) }
+        (walk.controller_at version settings.now names.old (member_path [] (codes "/controllers/") place)
+        earlier.now.procs (view value.now)) }
     ensures fresh { IfOk result (λ proc. walk.has_name proc.name earlier.now.procs ≡ false) }
 {
     let path = member_of(alloc, "/controllers/", place)?;
@@ -143,7 +130,7 @@ fn controller_at(
     ensures fresh { IfOk result (λ proc. walk.has_name proc.name earlier.now.procs ≡ false) }
 {
     object_in(Table::Controller(version), path, value)?;
-    let name = named_at(names, path, "name", value)?;
+    let name = name_number_at(names, path, "name", value)?;
     let clock = clock_at(path, value)?;
     let watch = flag_at(true, path, "watch", value)?;
     let timings = timings_at(timings_of(settings), path, value)?;
@@ -153,11 +140,11 @@ fn controller_at(
     if !is_sound(timings) {
         return Err(fault(BAD_SETTINGS, path));
     }
-    Ok(controller_of(name, clock, watch, timings))
+    Ok(proc_of(name, clock, watch, ReadyStatus::True, timings))
 }
 
-fn controller_of(name: u32, clock: Clock, watch: bool, timings: Timings) -> Proc
-    ensures { result ≡ walk.controller_of name clock watch timings }
+fn proc_of(name: u32, clock: Clock, watch: bool, ready: ReadyStatus, timings: Timings) -> Proc
+    ensures { result ≡ walk.proc_of name clock watch ready timings }
 {
     Proc {
         name,
@@ -165,7 +152,7 @@ fn controller_of(name: u32, clock: Clock, watch: bool, timings: Timings) -> Proc
         offset_millis: clock.offset_millis,
         up: clock.up,
         watch,
-        ready: ReadyStatus::True,
+        ready,
         lease_seconds: timings.lease_seconds,
         renew_millis: timings.renew_millis,
         retry_millis: timings.retry_millis,
@@ -203,7 +190,7 @@ fn kubelets_of(
 {
     let mut named = Named::new(alloc);
     for (place, value) in list.iter().enumerate() {
-        match kubelet_in(alloc, settings, names, place, &named, value) {
+        match kubelet_at(alloc, settings, names, place, &named, value) {
             Ok(kubelet) => named.push(kubelet)?,
             Err(fault) => return Err(fault),
         }
@@ -211,7 +198,9 @@ fn kubelets_of(
     Ok(named)
 }
 
-fn kubelet_in(
+/// A kubelet behind earlier ones.
+#[tactic(auto, unfolding(crate::specs::Walk::kubelet_at))]
+fn kubelet_at(
     alloc: Global,
     settings: &Settings,
     names: &mut Names,
@@ -225,46 +214,12 @@ fn kubelet_in(
     ensures fresh { IfOk result (λ proc. walk.has_name proc.name earlier.now.procs ≡ false) }
 {
     let path = member_of(alloc, "/kubelets/", place)?;
-    kubelet_at(settings, names, &path, earlier, value)
-}
-
-/// A kubelet behind earlier ones.
-#[tactic(auto, unfolding(crate::specs::Walk::kubelet_at))]
-fn kubelet_at(
-    settings: &Settings,
-    names: &mut Names,
-    path: &Path,
-    earlier: &Named,
-    value: &Value,
-) -> Result<Proc, ReadFault>
-    requires { Stands earlier.now }
-    ensures gives { Gives (λ proc. (proc, names.new)) result
-        (walk.kubelet_at settings.now names.old path.now earlier.now.procs (view value.now)) }
-    ensures fresh { IfOk result (λ proc. walk.has_name proc.name earlier.now.procs ≡ false) }
-{
-    object_in(Table::Kubelet, path, value)?;
-    let name = named_at(names, path, "node", value)?;
-    let clock = clock_at(path, value)?;
-    let ready = posted_at(path, "ready", value)?;
+    object_in(Table::Kubelet, &path, value)?;
+    let name = name_number_at(names, &path, "node", value)?;
+    let clock = clock_at(&path, value)?;
+    let ready = status_at(&path, "ready", value)?;
     if earlier.has(name) {
-        return Err(fault_under(DUPLICATE, path, "node"));
+        return Err(fault_under(DUPLICATE, &path, "node"));
     }
-    Ok(kubelet_of(name, clock, ready, timings_of(settings)))
-}
-
-fn kubelet_of(name: u32, clock: Clock, ready: ReadyStatus, timings: Timings) -> Proc
-    ensures { result ≡ walk.kubelet_of name clock ready timings }
-{
-    Proc {
-        name,
-        rate_ppm: clock.rate_ppm,
-        offset_millis: clock.offset_millis,
-        up: clock.up,
-        watch: true,
-        ready,
-        lease_seconds: timings.lease_seconds,
-        renew_millis: timings.renew_millis,
-        retry_millis: timings.retry_millis,
-        timeout_millis: timings.timeout_millis,
-    }
+    Ok(proc_of(name, clock, true, ready, timings_of(settings)))
 }

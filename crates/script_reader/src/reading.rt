@@ -148,7 +148,8 @@ fn controllers(
     value: &Value,
 ) -> Result<Named, ReadFault>
     ensures gives { Gives (λ named. (named.procs, names.new)) result
-        (fields.required (codes "/controllers") (walk.controllers_in version settings.now names.old) (get (codes "controllers") (view value.now))) }
+        (fields.required (codes "/controllers") (walk.controllers_in version settings.now names.old)
+        (get (codes "controllers") (view value.now))) }
     ensures stands { IfOk result Stands }
 {
     match value.get("controllers") {

@@ -5,12 +5,13 @@ ghost use Rattle.manifest_json.specs.Faults.{Gives};
 ghost use Rattle.script_reader.specs.Fields as fields;
 ghost use Rattle.script_reader.specs.Walk as walk;
 
-use crate::field::{epoch_at, fault, fault_under, flag_at, needed_whole, policy_at, whole_at};
+use crate::field::{epoch_at, fault_under, flag_at, needed_whole, policy_at, whole_at};
 use crate::parts::{Beats, Periods, Rates, Timings};
 use crate::table::{Table, Version, object_in};
 use kube_base::Beat;
 use kube_objects::{RatePolicy, Settings};
 use manifest_json::codes::{BAD_SETTINGS, OUT_OF_RANGE};
+use manifest_json::fault::fault;
 use manifest_json::{Path, ReadFault};
 use serde_json::Value;
 

@@ -6,8 +6,9 @@ ghost use Rattle.manifest_json.specs.Faults.{Gives};
 ghost use Rattle.script_reader.specs.Tables as spec;
 ghost use Rattle.script_reader.specs.Walk as walk;
 
-use crate::field::{fault, object_at};
+use crate::field::object_at;
 use manifest_json::codes::{UNKNOWN_KEY, WRONG_TYPE};
+use manifest_json::fault::fault;
 use manifest_json::{Path, ReadFault};
 use serde_json::{Map, Value};
 

@@ -76,7 +76,7 @@ pub(crate) fn count(n: Option<u32>) -> Option<Value>
 
 /// An array that has a member.
 #[tactic(auto, unfolding(crate::specs::Written::filled_array))]
-pub(crate) fn filled(values: Vec<Value>) -> Option<Value>
+pub(crate) fn array_unless_empty(values: Vec<Value>) -> Option<Value>
     ensures { option_map view result ≡ written.filled_array (items_view values.items) }
 {
     if values.len() == 0 {

@@ -50,9 +50,9 @@ fn spec(
     members.put("renewTime", renewed)?;
     members.put("leaseTransitions", count(lease.transitions))?;
     members.put("leaseDurationSeconds", count(lease.duration))?;
-    members.put_filled("holderIdentity", holder.as_str())?;
+    members.put_unless_empty("holderIdentity", holder.as_str())?;
     members.put("acquireTime", acquired)?;
-    Ok(members.into_filled())
+    Ok(members.into_value_unless_empty())
 }
 
 /// The text of a holder, empty where there is none.

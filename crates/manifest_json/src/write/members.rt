@@ -51,7 +51,7 @@ impl Members {
 
     /// Adds a text, unless it is empty.
     #[tactic(auto, unfolding(crate::specs::Written::with_field, crate::specs::Written::filled_text))]
-    pub(crate) fn put_filled(&mut self, key: &str, text: &str) -> Result<(), NoMemory>
+    pub(crate) fn put_unless_empty(&mut self, key: &str, text: &str) -> Result<(), NoMemory>
         ensures { OnOk result (seen self.new ≡ written.with_field key.now (written.filled_text text.now) (seen self.old)) }
     {
         if text.is_empty() {
@@ -69,7 +69,7 @@ impl Members {
 
     /// The object, if it has a member.
     #[tactic(auto, unfolding(crate::specs::Written::filled_object))]
-    pub(crate) fn into_filled(self) -> Option<Value>
+    pub(crate) fn into_value_unless_empty(self) -> Option<Value>
         ensures { option_map view result ≡ written.filled_object (seen self) }
     {
         if self.map.len() == 0 {

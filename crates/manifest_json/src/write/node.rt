@@ -5,7 +5,7 @@ ghost use Rattle.std.specs.Option.{option_map};
 ghost use Rattle.serde_json.specs.View.{view, items_of};
 ghost use Rattle.manifest_json.specs.Written as written;
 
-use crate::write::field::{filled, in_seconds, text_of};
+use crate::write::field::{array_unless_empty, in_seconds, text_of};
 use crate::write::members::Members;
 use kube_base::{Names, NoMemory};
 use kube_objects::{Effect, Key, Node, Ready, ReadyStatus, Taint};
@@ -51,9 +51,9 @@ fn labels(alloc: Global, names: &Names, node: &Node) -> Result<Option<Value>, No
     ensures { IfOk result (λ value. option_map view value ≡ written.labels_of names.now node.now) }
 {
     let mut members = Members::new(alloc);
-    members.put_filled("topology.kubernetes.io/zone", text_of(names, node.zone))?;
-    members.put_filled("topology.kubernetes.io/region", text_of(names, node.region))?;
-    Ok(members.into_filled())
+    members.put_unless_empty("topology.kubernetes.io/zone", text_of(names, node.zone))?;
+    members.put_unless_empty("topology.kubernetes.io/region", text_of(names, node.region))?;
+    Ok(members.into_value_unless_empty())
 }
 
 #[tactic(auto, unfolding(crate::specs::Written::node_spec_of, crate::specs::Written::members_of))]
@@ -63,8 +63,8 @@ fn spec(alloc: Global, names: &Names, node: &Node) -> Result<Option<Value>, NoMe
 {
     let taints = write_taints(alloc, names, node.taints.as_slice())?;
     let mut members = Members::new(alloc);
-    members.put("taints", filled(taints))?;
-    Ok(members.into_filled())
+    members.put("taints", array_unless_empty(taints))?;
+    Ok(members.into_value_unless_empty())
 }
 
 fn write_taints(alloc: Global, names: &Names, taints: &[Taint]) -> Result<Vec<Value>, NoMemory>
@@ -86,9 +86,9 @@ fn write_taint(alloc: Global, names: &Names, taint: Taint) -> Result<Value, NoMe
 {
     let added = in_seconds(alloc, taint.added)?;
     let mut members = Members::new(alloc);
-    members.put_filled("value", text_of(names, taint.value))?;
+    members.put_unless_empty("value", text_of(names, taint.value))?;
     members.put("timeAdded", added)?;
-    members.put_filled("key", text_of(names, taint.key))?;
+    members.put_unless_empty("key", text_of(names, taint.key))?;
     members.put_text("effect", effect_text(taint.effect))?;
     Ok(members.into_value())
 }
@@ -111,7 +111,7 @@ fn status(alloc: Global, names: &Names, node: &Node) -> Result<Option<Value>, No
     let conditions = conditions(alloc, names, node.ready)?;
     let mut members = Members::new(alloc);
     members.put("conditions", conditions)?;
-    Ok(members.into_filled())
+    Ok(members.into_value_unless_empty())
 }
 
 #[tactic(auto, unfolding(crate::specs::Written::conditions_of, crate::specs::Written::filled_array))]
@@ -141,7 +141,7 @@ fn condition(alloc: Global, names: &Names, ready: Ready) -> Result<Value, NoMemo
     let mut members = Members::new(alloc);
     members.put_text("type", "Ready")?;
     members.put_text("status", status_text(ready.status))?;
-    members.put_filled("reason", text_of(names, ready.reason))?;
+    members.put_unless_empty("reason", text_of(names, ready.reason))?;
     members.put("lastTransitionTime", transition)?;
     members.put("lastHeartbeatTime", heartbeat)?;
     Ok(members.into_value())

@@ -6,7 +6,7 @@ ghost use Rattle.serde_json.specs.Find.{of_integer};
 ghost use Rattle.serde_json.specs.View.{view};
 ghost use Rattle.manifest_json.specs.Written as written;
 
-use crate::write::field::{filled, metadata, text_of};
+use crate::write::field::{array_unless_empty, metadata, text_of};
 use crate::write::members::Members;
 use crate::write::node::effect_text;
 use kube_base::{Names, NoMemory};
@@ -39,9 +39,9 @@ fn spec(alloc: Global, names: &Names, pod: &Pod) -> Result<Option<Value>, NoMemo
 {
     let tolerations = write_tolerations(alloc, names, pod.tolerations.as_slice())?;
     let mut members = Members::new(alloc);
-    members.put("tolerations", filled(tolerations))?;
-    members.put_filled("nodeName", text_of(names, pod.node))?;
-    Ok(members.into_filled())
+    members.put("tolerations", array_unless_empty(tolerations))?;
+    members.put_unless_empty("nodeName", text_of(names, pod.node))?;
+    Ok(members.into_value_unless_empty())
 }
 
 fn write_tolerations(
@@ -66,10 +66,10 @@ fn write_toleration(alloc: Global, names: &Names, toleration: Toleration) -> Res
 {
     let effect = effect_value(alloc, toleration.effect)?;
     let mut members = Members::new(alloc);
-    members.put_filled("value", text_of(names, toleration.value))?;
+    members.put_unless_empty("value", text_of(names, toleration.value))?;
     members.put("tolerationSeconds", seconds(toleration.seconds))?;
     members.put_text("operator", operator_text(toleration.operator))?;
-    members.put_filled("key", text_of(names, toleration.key))?;
+    members.put_unless_empty("key", text_of(names, toleration.key))?;
     members.put("effect", effect)?;
     Ok(members.into_value())
 }

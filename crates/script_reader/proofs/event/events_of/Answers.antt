@@ -9,7 +9,7 @@ pub returns-in-Err : goal.returns-in-Err
 returns-in-Err c = events-fail c.loop-place.names c.loop-place.place c.args.list.now (seen c.args.players.now) c.args.end.0 c.loop-place.last c.loop-place.events _ c.loop-place.invariant c.index-list-place.result c.in-Err.fault c.loop-place-test.true c.index-list-place.is c.in-Err.ensures
 
 pub loop-place-preserved : goal.loop-place-preserved
-loop-place-preserved c = events-step c.loop-place.names c.loop-place.place c.args.list.now (seen c.args.players.now) c.args.end.0 c.loop-place.last c.loop-place.events _ c.loop-place.invariant c.index-list-place.result c.event_in.new.names c.in-Ok.event c.push.new.self c.loop-place-test.true c.index-list-place.is c.in_ok-push-in-Ok.ensures.ok c.in-Ok.ensures
+loop-place-preserved c = events-step c.loop-place.names c.loop-place.place c.args.list.now (seen c.args.players.now) c.args.end.0 c.loop-place.last c.loop-place.events _ c.loop-place.invariant c.index-list-place.result c.event_at.new.names c.in-Ok.event c.push.new.self c.loop-place-test.true c.index-list-place.is c.in_ok-push-in-Ok.ensures.ok c.in-Ok.ensures
 
 pub returns : goal.returns
 returns c = events-end c.loop-place.names c.loop-place.place c.args.list.now (seen c.args.players.now) c.args.end.0 c.loop-place.last c.loop-place.events _ c.loop-place.invariant c.loop-place-test.false

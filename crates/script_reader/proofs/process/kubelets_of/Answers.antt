@@ -10,7 +10,7 @@ returns-clause-gives c = kubelets-end c.loop-place.names c.loop-place.place c.ar
 
 pub loop-place-preserved : goal.loop-place-preserved
 loop-place-preserved c = record {
-  rest = kubelets-step c.loop-place.names c.loop-place.place c.args.list.now c.args.settings.now c.loop-place.named.procs _ c.loop-place.invariant.rest c.index-list-place.result c.kubelet_in.new.names c.in-Ok.kubelet c.push.new.self.procs c.loop-place-test.true c.index-list-place.is c.in_ok-push-in-Ok.ensures.procs c.in-Ok.ensures.gives;
+  rest = kubelets-step c.loop-place.names c.loop-place.place c.args.list.now c.args.settings.now c.loop-place.named.procs _ c.loop-place.invariant.rest c.index-list-place.result c.kubelet_at.new.names c.in-Ok.kubelet c.push.new.self.procs c.loop-place-test.true c.index-list-place.is c.in_ok-push-in-Ok.ensures.procs c.in-Ok.ensures.gives;
   stands = c.in_ok-push-in-Ok.ensures.stands;
   few = omega (arith, c.loop-place.invariant.few, ap length c.in_ok-push-in-Ok.ensures.procs, length-append c.loop-place.named.procs (c.in-Ok.kubelet ∷ []));
 }
