@@ -15,7 +15,7 @@ use Rattle.agenda_laws.specs.Waking.{IsAsleep, AreAsleep, EndsWakeToo, NextBeats
 use Rattle.world_core.specs.declared.wakes.Wakes.{Wakes}
 use Rattle.world_core.specs.Waits.{IsAsleepBy, WakesStand, beat_of, reading_of, starts_now}
 use Rattle.world_agenda.specs.Woken.{IsLooked, IsWoken, not_before}
-use Rattle.world_agenda.proofs.Waking.{sooner-early}
+use Rattle.world_core.proofs.Awake.{early-sooner}
 
 -- ---- not before a beat
 

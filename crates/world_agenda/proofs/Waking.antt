@@ -14,24 +14,9 @@ use Rattle.skew_clock.proofs.Readings.{reading-monotone}
 use Rattle.world_process.specs.Clocked.{ClockStands}
 use Rattle.world_process.proofs.Readings.{reading-local, wall-when}
 use Rattle.world_core.specs.declared.wakes.Wakes.{Wakes}
-use Rattle.world_core.specs.Waits.{IsTurnBeat, beat_of, reading_of, starts_now}
+use Rattle.world_core.specs.Waits.{IsTurnBeat, beat_of, reading_of}
+use Rattle.world_core.proofs.Awake.{early-sooner, sooner-within}
 use Rattle.world_agenda.specs.Woken.{IsTimeBeat, IsWoken, not_before}
-
--- ---- the sooner of two
-
-pub sooner-early : (now : ℕ) (a b : Option ℕ) → is_early now (sooner a b) ≡ (is_early now a && is_early now b)
-sooner-early now None b = refl
-sooner-early now (Some a) None = by_test (nat_lt now a)
-  where
-    by_test : (t : Bool) → t ≡ (t && true)
-    by_test true = refl
-    by_test false = refl
-sooner-early now (Some a) (Some b) = grind (arith, nat_tests)
-
-pub sooner-within : (a b : Option ℕ) (end : ℕ) → ((n : ℕ) → a ≡ Some n → n ≤ end) → ((n : ℕ) → b ≡ Some n → n ≤ end) → (n : ℕ) → sooner a b ≡ Some n → n ≤ end
-sooner-within None b end one two n is = two n is
-sooner-within (Some a) None end one two n is = one n is
-sooner-within (Some a) (Some b) end one two n is = let least = some_is (min a b) n is in let first = one a refl in omega (arith, least, first)
 
 -- ---- times of day
 
@@ -74,14 +59,14 @@ wall-is doc p j c s = wall-when doc p j (reading c j) c s (reading-local doc p j
 
 -- ---- both
 
-pub woken-both : (doc : Doc) (k p : ℕ) (w : Wakes) (c : Clocking) (turn time both : Option Beat) → IsTurnBeat doc k p w turn → starts_now doc k p ≡ false → IsTimeBeat c w.wall time → ClockStands doc p c
+pub woken-both : (doc : Doc) (p : ℕ) (w : Wakes) (c : Clocking) (turn time both : Option Beat) → IsTurnBeat doc p w turn → IsTimeBeat c w.wall time → ClockStands doc p c
     → c.end ≡ end_beat doc → beat_of both ≡ sooner (beat_of turn) (beat_of time) → IsWoken doc p w both
-woken-both doc k p w c turn time both t idle d s ends is =
+woken-both doc p w c turn time both t d s ends is =
     record {
       reached = λ j within.
           ap (is_early j) is
-          ∙ sooner-early j (beat_of turn) (beat_of time)
-          ∙ ap (λ b. b && is_early j (beat_of time)) (t.reached idle j within)
+          ∙ early-sooner j (beat_of turn) (beat_of time)
+          ∙ ap (λ b. b && is_early j (beat_of time)) (t.reached j within)
           ∙ ap (λ b. is_early (local doc p j) (reading_of w) && b) (d.reached j (omega (arith, within, ends)) ∙ ap (λ n. is_early n w.wall) (wall-is doc p j c s));
-      within = λ n at. sooner-within (beat_of turn) (beat_of time) (end_beat doc) t.within (λ m same. omega (arith, d.within m same, ends)) n (sym is ∙ at);
+      within = λ n at. sooner-within (end_beat doc) (beat_of turn) (beat_of time) t.within (λ m same. omega (arith, d.within m same, ends)) n (sym is ∙ at);
     }

@@ -6,7 +6,7 @@ ghost use Rattle.history.specs.History.{history};
 ghost use Rattle.agenda_laws.specs.Ahead.{IsNextBeat};
 ghost use Rattle.agenda_laws.specs.Times.{sooner as soonest};
 ghost use Rattle.script_reader.specs.Lawful.{AreLawfulFrom};
-ghost use Rattle.world_core.specs.Waits.{WakesStand, beat_of, starts_now};
+ghost use Rattle.world_core.specs.Waits.{beat_of};
 ghost use Rattle.world_core.specs.Worlds.{IsReady, WorldStands, at_of, count_of, end_of};
 ghost use Rattle.world_agenda.specs.Woken.{IsTimeBeat, IsWoken, not_before as since};
 
@@ -33,20 +33,22 @@ pub fn next_beat(world: &World) -> Option<Beat>
         if wakes.at_once {
             return Some(at);
         }
-        next = sooner(next, woken(world, who, wakes));
+        next = sooner(next, beat_of_waking(world, who, &wakes));
     }
     not_before(next, at)
 }
 
-// The first beat at which the reading or the time of day is there for which a process waits that doesn't start now.
-fn woken(world: &World, who: ProcId, wakes: Wakes) -> Option<Beat>
+// The first beat at which the reading or the time of day is there for which a process waits.
+fn beat_of_waking(world: &World, who: ProcId, wakes: &Wakes) -> Option<Beat>
     requires ready { IsReady world.now }
-    requires within { at_of world.now ≤ end_of world.now }
     requires process { who.0 < count_of world.now }
     ensures { (doc : Doc) (k : ℕ) (h : List Entry) → WorldStands doc k h world.now → end_of world.now ≡ end_beat doc
-        → WakesStand doc k who.0 h wakes → starts_now doc k who.0 ≡ false → IsWoken doc who.0 wakes result }
+        → IsWoken doc who.0 wakes.now result }
 {
-    sooner(world.turn_beat(who), at_time(world.clock(who), wakes.wall))
+    sooner(
+        world.turn_beat(who, wakes),
+        at_time(world.clock(who), wakes.wall),
+    )
 }
 
 // The first beat at which a clock's time of day is this, in microseconds since 1970.

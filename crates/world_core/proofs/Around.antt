@@ -1,4 +1,4 @@
--- All but one process stand through the quiet entries of that one.
+-- Layer 3, the world around one process: all but one process stand through the quiet entries of that one.
 use Rattle.std.proofs.Common.{◌≡◌, ℕ, ◌+◌, ◌<◌, ◌≤◌, ◌==◌, ◌&&◌, nat_lt, Bool, true, false, List, [], ◌∷◌, Option, Some, None, refl, sym, ap, ◌∙◌, arith}
 use Rattle.kube_objects.specs.declared.deed.Actor.{Actor}
 use Rattle.kube_objects.specs.declared.deed.Actor.TheVariants as actor
@@ -28,61 +28,27 @@ use Rattle.world_process.proofs.Plainly.{plain-entry, known-later, starts-start}
 use Rattle.world_terms.specs.TermsStand.{TermsStandBut}
 use Rattle.world_terms.proofs.Frames.{but-own, terms-but}
 
+-- a quiet deed writes nothing, sends nothing, is no event and changes nothing in force
 quiet-write : (d : Deed) → is_quiet d ≡ true → write_of d ≡ None
 quiet-write (First key object) is = cc
 quiet-write (Event what version) is = cc
-quiet-write Starts is = refl
-quiet-write Crashes is = refl
-quiet-write Stops is = refl
-quiet-write Ends is = refl
-quiet-write (Sends call arrives) is = cc
 quiet-write (Answers call reply comes written) is = cc
-quiet-write (Delivers call reply counted) is = refl
-quiet-write (Expires call) is = refl
-quiet-write (Leads version) is = refl
 quiet-write (Ticks tick) is = cc
+quiet-write _ is = refl
 
 quiet-wire : (d : Deed) → is_quiet d ≡ true → is_of_wire d ≡ false
-quiet-wire (First key object) is = cc
 quiet-wire (Event what version) is = cc
-quiet-wire Starts is = refl
-quiet-wire Crashes is = refl
-quiet-wire Stops is = refl
-quiet-wire Ends is = refl
 quiet-wire (Sends call arrives) is = cc
 quiet-wire (Answers call reply comes written) is = cc
-quiet-wire (Delivers call reply counted) is = refl
-quiet-wire (Expires call) is = refl
-quiet-wire (Leads version) is = refl
-quiet-wire (Ticks tick) is = cc
+quiet-wire _ is = refl
 
 quiet-event : (d : Deed) → is_quiet d ≡ true → is_event d ≡ false
-quiet-event (First key object) is = cc
 quiet-event (Event what version) is = cc
-quiet-event Starts is = refl
-quiet-event Crashes is = refl
-quiet-event Stops is = refl
-quiet-event Ends is = refl
-quiet-event (Sends call arrives) is = refl
-quiet-event (Answers call reply comes written) is = refl
-quiet-event (Delivers call reply counted) is = refl
-quiet-event (Expires call) is = refl
-quiet-event (Leads version) is = refl
-quiet-event (Ticks tick) is = refl
+quiet-event _ is = refl
 
 quiet-standing : (d : Deed) → is_quiet d ≡ true → is_standing d ≡ false
-quiet-standing (First key object) is = cc
 quiet-standing (Event what version) is = cc
-quiet-standing Starts is = refl
-quiet-standing Crashes is = refl
-quiet-standing Stops is = refl
-quiet-standing Ends is = refl
-quiet-standing (Sends call arrives) is = refl
-quiet-standing (Answers call reply comes written) is = refl
-quiet-standing (Delivers call reply counted) is = refl
-quiet-standing (Expires call) is = refl
-quiet-standing (Leads version) is = refl
-quiet-standing (Ticks tick) is = refl
+quiet-standing _ is = refl
 
 -- all but process i and its term
 pub record Around (doc : Doc) (k i : ℕ) (arriving : List Sent) (coming : List Back) (h : List Entry) (w : State) : Type 0 where

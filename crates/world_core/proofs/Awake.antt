@@ -1,6 +1,7 @@
--- What a process waits for, by what is kept of it and of its term.
+-- Layer 4, the steps of a beat: what a process waits for, by what is kept of it and of its term.
 use Rattle.std.proofs.Common.{◌≡◌, ◌↔◌, ℕ, ◌≤◌, ◌==◌, ◌&&◌, ◌||◌, nat_lt, min, Bool, true, false, List, Option, Some, None, IfSome, refl, sym, ap, ◌∙◌, subst, arith}
 use Rattle.std.specs.Prelude.{is_some}
+use Rattle.std.specs.Option.{option_eq}
 use Rattle.std.proofs.lemmas.Bool.Decides.{nat_tests}
 use Rattle.kube_base.specs.declared.numbers.Beat.{Beat}
 use Rattle.kube_base.specs.declared.numbers.Local.{Local}
@@ -43,15 +44,6 @@ pub readings-alike : (at : Option Local) → local_of at ≡ beats.reading_of at
 readings-alike None = refl
 readings-alike (Some at) = refl
 
--- a reading, from its number
-abbrev at_reading : Option ℕ → Option Local
-at_reading None = None
-at_reading (Some n) = Some (record { 0 = n })
-
-at-reading : (o : Option ℕ) → beats.reading_of (at_reading o) ≡ o
-at-reading None = refl
-at-reading (Some n) = refl
-
 -- ---- the sooner of two
 
 and-true : (b : Bool) → (b && true) ≡ b
@@ -67,7 +59,7 @@ lt-min now a b = by_tests (nat_lt now a) (nat_lt now b) refl refl
     by_tests false true one other = grind (arith, nat_tests)
     by_tests false false one other = grind (arith, nat_tests)
 
-early-sooner : (now : ℕ) (a b : Option ℕ) → is_early now (sooner a b) ≡ (is_early now a && is_early now b)
+pub early-sooner : (now : ℕ) (a b : Option ℕ) → is_early now (sooner a b) ≡ (is_early now a && is_early now b)
 early-sooner now None b = refl
 early-sooner now (Some a) None = sym (and-true (nat_lt now a))
 early-sooner now (Some a) (Some b) = lt-min now a b
@@ -79,7 +71,7 @@ early-both now a b c d one other =
 early-alone : (now : ℕ) (a : Option ℕ) → is_early now (sooner a None) ≡ is_early now a
 early-alone now a = early-sooner now a None ∙ and-true (is_early now a)
 
-sooner-within : (most : ℕ) (a b : Option ℕ) → ((n : ℕ) → a ≡ Some n → n ≤ most) → ((n : ℕ) → b ≡ Some n → n ≤ most) → (n : ℕ) → sooner a b ≡ Some n → n ≤ most
+pub sooner-within : (most : ℕ) (a b : Option ℕ) → ((n : ℕ) → a ≡ Some n → n ≤ most) → ((n : ℕ) → b ≡ Some n → n ≤ most) → (n : ℕ) → sooner a b ≡ Some n → n ≤ most
 sooner-within most None b one other n is = other n is
 sooner-within most (Some a) None one other n is = one n is
 sooner-within most (Some a) (Some b) one other n is =
@@ -318,37 +310,17 @@ beat-within c b at is n some = by_beat b is.within some
     by_beat None within some = cc
     by_beat (Some x) within some = let same : x.0 ≡ n = cc in subst (λ m. m ≤ c.end) same within
 
--- the beat of the process's own turn, for the reading that it has
-abbrev pub OwnBeat : Doc → ℕ → List Entry → Clocking → Option Beat → Type 0
-OwnBeat doc p h c b = (at : Option Local) → beats.reading_of at ≡ own_reading doc p h → IsBeatOf c b at
-
-own-beat : (doc : Doc) (p : ℕ) (h : List Entry) (c : Clocking) (b : Option Beat) → OwnBeat doc p h c b → IsBeatOf c b (at_reading (own_reading doc p h))
-own-beat doc p h c b own = own (at_reading (own_reading doc p h)) (at-reading (own_reading doc p h))
-
-own-tells : (doc : Doc) (p j : ℕ) (h : List Entry) (c : Clocking) (b : Option Beat) → ClockStands doc p c → OwnBeat doc p h c b → j ≤ c.end → is_early j (beat_of b) ≡ is_early (local doc p j) (own_reading doc p h)
-own-tells doc p j h c b clock own within =
-    beat-tells doc p j c b (at_reading (own_reading doc p h)) clock (own-beat doc p h c b own) within
-    ∙ ap (is_early (local doc p j)) (readings-alike (at_reading (own_reading doc p h)) ∙ at-reading (own_reading doc p h))
-
-pub idle-beat : (doc : Doc) (k p : ℕ) (h : List Entry) (c : Clocking) (w : Wakes) (b : Option Beat) → ClockStands doc p c → c.end ≡ end_beat doc → WakesStand doc k p h w → acts_now doc k p h ≡ false → OwnBeat doc p h c b → IsTurnBeat doc k p w b
-idle-beat doc k p h c w b clock end s none own =
+-- the beat of a clock for the reading that is waited for
+pub turn-beat : (doc : Doc) (p : ℕ) (c : Clocking) (w : Wakes) (b : Option Beat) → ClockStands doc p c → c.end ≡ end_beat doc → IsBeatOf c b w.local → IsTurnBeat doc p w b
+turn-beat doc p c w b clock end is =
     record {
-      reached = λ starts j within.
-          own-tells doc p j h c b clock own (omega (arith, within, end)) ∙ sym (own-alone doc k p h (local doc p j) (no-term doc k p h none)) ∙ sym (s.reading starts j within);
-      within = λ n some. (let most = beat-within c b (at_reading (own_reading doc p h)) (own-beat doc p h c b own) n some in omega (arith, most, end));
+      reached = λ j within. beat-tells doc p j c b w.local clock is (omega (arith, within, end));
+      within = λ n some. (let most = beat-within c b w.local is n some in omega (arith, most, end));
     }
 
-pub acting-beat : (doc : Doc) (k p i : ℕ) (h : List Entry) (c : Clocking) (w : Wakes) (own ticks both : Option Beat) (term : Option Local) → ClockStands doc p c → c.end ≡ end_beat doc → WakesStand doc k p h w → ItsTerm doc k p i h → OwnBeat doc p h c own → IsBeatOf c ticks term
-    → ((j : ℕ) → j ≤ end_beat doc → is_early (local doc p j) (local_of term) ≡ is_early (local doc p j) (term_reading doc (identity p i) h)) → beat_of both ≡ sooner (beat_of own) (beat_of ticks) → IsTurnBeat doc k p w both
-acting-beat doc k p i h c w own ticks both term clock end s t own_is ticks_is term_is both_is =
-    record {
-      reached = λ starts j within. (let inside : j ≤ c.end = omega (arith, within, end) in
-          ap (is_early j) both_is
-          ∙ early-sooner j (beat_of own) (beat_of ticks)
-          ∙ ap (λ x. x && is_early j (beat_of ticks)) (own-tells doc p j h c own clock own_is inside)
-          ∙ ap (λ x. is_early (local doc p j) (own_reading doc p h) && x) (beat-tells doc p j c ticks term clock ticks_is inside ∙ term_is j within ∙ sym (ap (is_early (local doc p j)) t.reading))
-          ∙ sym (early-sooner (local doc p j) (own_reading doc p h) (acting_reading doc k p (is_controller doc p) h))
-          ∙ sym (s.reading starts j within));
-      within = λ n some. (let most = sooner-within c.end (beat_of own) (beat_of ticks) (beat-within c own (at_reading (own_reading doc p h)) (own-beat doc p h c own own_is)) (beat-within c ticks term ticks_is) n (sym both_is ∙ some) in
-          omega (arith, most, end));
-    }
+-- readings that are compared as equal are the same
+pub same-reading : (a b : Option Local) → option_eq (λ x y. x.0 == y.0) a b ≡ true → beats.reading_of a ≡ beats.reading_of b
+same-reading None None is = refl
+same-reading (Some a) None is = cc
+same-reading None (Some b) is = cc
+same-reading (Some a) (Some b) is = ap Some (grind (arith, nat_tests, is))

@@ -1,4 +1,4 @@
--- What a history counts stays within its types up to the end of a document.
+-- Layer 2, what a history keeps: what a history counts stays within its types up to the end of a document.
 use Rattle.std.proofs.Common.{◌≡◌, ℕ, suc, ◌+◌, ◌≤◌, ◌==◌, cond, List, [], ◌∷◌, length, refl, arith}
 use Rattle.std.proofs.lemmas.List.Sums.{sum_by-cons}
 use Rattle.kube_objects.specs.declared.key.Key.{Key}

@@ -1,4 +1,4 @@
--- The events of a beat, one after the other.
+-- Layer 4, the steps of a beat: the events of a beat, one after the other.
 use Rattle.std.proofs.Common.{◌≡◌, ℕ, ◌+◌, ◌<◌, ◌≤◌, cond, List, [], ◌∷◌, ◌++◌, Option, Some, None, slice_get, get_or, length, drop, refl, sym, ap, ◌∙◌, subst, arith}
 use Rattle.std.proofs.lemmas.Option.{slice_get_read}
 use Rattle.kube_objects.specs.declared.call.Request.{Request}

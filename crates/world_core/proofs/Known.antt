@@ -1,4 +1,4 @@
--- Whoever sent what is on its way is known.
+-- Layer 2, what a history keeps: whoever sent what is on its way is known.
 use Rattle.std.proofs.Common.{IfSome, ◌≡◌, ℕ, ◌<◌, ◌≤◌, nat_lt, Bool, true, false, cond, List, [], ◌∷◌, ◌++◌, Option, Some, None, refl, ap, subst, arith}
 use Rattle.kube_objects.specs.declared.call.Reply.{Reply}
 use Rattle.kube_objects.specs.declared.deed.Actor.{Actor}

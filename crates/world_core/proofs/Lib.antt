@@ -1,18 +1,19 @@
--- ---- lists, ranges and places
+-- The lemmas in layers: a file stands on those of the layers above its own in this list, and on those before it in its layer.
+-- ---- layer 1: lists, ranges and places
 pub mod Lists
 pub mod Ranges
 pub mod Moving
--- ---- what a history keeps
+-- ---- layer 2: what a history keeps
 pub mod Known
 pub mod Fewness
 pub mod Puts
 pub mod Events
--- ---- the world beside one process, and with it moved
+-- ---- layer 3: the world around one process
 pub mod Around
 pub mod Renewing
 pub mod Running
 pub mod Scripts
--- ---- the steps of a beat, and beats that are passed over
+-- ---- layer 4: the steps of a beat, and beats that are passed over
 pub mod Loops
 pub mod Beats
 pub mod Happening
@@ -20,5 +21,5 @@ pub mod Ticking
 pub mod Turns
 pub mod Skipping
 pub mod Awake
--- ---- what can be written
+-- ---- layer 5: what can be written
 pub mod Writing

@@ -1,4 +1,4 @@
--- Lists: one element is replaced, or there is none.
+-- Layer 1, lists, ranges and places: one element is replaced, or there is none.
 use Rattle.std.proofs.Common.{◌≡◌, ℕ, zero, suc, ◌+◌, false, List, [], ◌∷◌, ◌++◌, subst, Some, length, slice_get, slice_set, refl, ap, ◌∙◌, arith}
 use Rattle.wire_calls.specs.InFlight.{has_any}
 

@@ -1,4 +1,4 @@
--- The loops of a beat: what has been taken so far, and what is left.
+-- Layer 4, the steps of a beat: the loops, what has been taken so far, and what is left.
 use Rattle.std.proofs.Common.{◌≡◌, ℕ, Bool, true, false, suc, ◌+◌, ◌-◌, ◌<◌, ◌++◌, List, [], ◌∷◌, Option, Some, None, length, refl, sym, ap, ◌∙◌, subst, arith}
 use Rattle.kube_objects.specs.declared.call.Reply.{Reply}
 use Rattle.kube_objects.specs.declared.deed.Actor.TheVariants as actor

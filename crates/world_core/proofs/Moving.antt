@@ -1,4 +1,4 @@
--- The world with one process written back.
+-- Layer 1, lists, ranges and places: the world with one process written back.
 use Rattle.std.proofs.Common.{◌≡◌, ℕ, ◌<◌, ◌≤◌, Option, Result, Ok, Err, OnOk, Some, slice_get, slice_index_or, vec_len, ap, ◌∙◌, subst, arith}
 use Rattle.std.proofs.lemmas.Option.{slice_get_read}
 use Rattle.kube_base.specs.declared.numbers.ProcId.{ProcId}

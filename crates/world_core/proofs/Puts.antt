@@ -1,4 +1,4 @@
--- The objects of a document, put before beat 0.
+-- Layer 2, what a history keeps: the objects of a document, put before beat 0.
 use Rattle.std.proofs.Common.{◌≡◌, ℕ, List, [], ◌∷◌, ◌++◌, refl, ◌∙◌}
 use Rattle.std.proofs.lemmas.List.{append-nil}
 use Rattle.kube_objects.specs.declared.key.Key.{Key}

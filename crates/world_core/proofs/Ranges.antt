@@ -1,4 +1,4 @@
--- The ranges of a document that the world keeps.
+-- Layer 1, lists, ranges and places: the ranges of a document that the world keeps.
 use Rattle.std.proofs.Common.{◌≡◌, ℕ, ◌+◌, ◌*◌, ◌<◌, ◌≤◌, Bool, true, false, nat_lt, IsTrue, ◌↔◌, List, [], ◌∷◌, All, refl, sym, ◌∙◌, arith}
 use Rattle.std.proofs.lemmas.Bool.Decides.{nat_tests}
 use Rattle.std.proofs.Math.Nat.{le-mul_of_pos_right}

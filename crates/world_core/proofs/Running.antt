@@ -1,4 +1,4 @@
--- One process has moved, and the world stands again.
+-- Layer 3, the world around one process: one process has moved, and the world stands again.
 use Rattle.std.proofs.Common.{All, ◌≡◌, ℕ, ◌+◌, ◌<◌, ◌≤◌, ◌==◌, ◌++◌, Bool, true, false, List, ◌∷◌, Option, Some, None, slice_get, slice_set, length, refl, sym, ap, ◌∙◌, subst, append_assoc, vec_len, arith}
 use Rattle.std.proofs.lemmas.List.{append-nil}
 use Rattle.kube_objects.specs.declared.call.Ask.{Ask}

@@ -1,4 +1,4 @@
--- The world through an entry of the script.
+-- Layer 3, the world around one process: the world through an entry of the script.
 use Rattle.std.proofs.Common.{◌≡◌, ℕ, ◌<◌, ◌++◌, true, false, List, ◌∷◌, Option, Some, None, length, length-append, refl, sym, ap, ◌∙◌, subst, append_assoc, arith}
 use Rattle.std.proofs.lemmas.List.{append-nil}
 use Rattle.kube_base.specs.declared.numbers.ProcId.{ProcId}

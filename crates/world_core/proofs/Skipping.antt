@@ -1,4 +1,4 @@
--- Beats that are passed over: no entry stands at them, so nothing arrives at them and no event happens.
+-- Layer 4, the steps of a beat: beats that are passed over, as no entry stands at them, so nothing arrives at them and no event happens.
 use Rattle.std.proofs.Common.{◌≡◌, ℕ, zero, suc, ◌<◌, ◌≤◌, ◌==◌, ◌⊎◌, inl, inr, nat_lt, Bool, true, false, cond, List, [], ◌∷◌, map, Some, None, slice_get, slice_index_or, get_or, length, drop, refl, sym, ap, ◌∙◌, subst, arith}
 use Rattle.std.proofs.lemmas.Bool.Decides.{nat_tests}
 use Rattle.std.proofs.lemmas.Option.{slice_get_cases, slice_get_read}

@@ -1,4 +1,4 @@
--- Ticks beside the world: the entries of a tick change the store and the terms alone.
+-- Layer 4, the steps of a beat: ticks beside the world, as the entries of a tick change the store and the terms alone.
 use Rattle.std.proofs.Common.{◌≡◌, ℕ, ◌<◌, ◌++◌, not, Bool, true, false, List, Option, Some, None, length, refl, sym, ap, ◌∙◌, subst, append_assoc, arith}
 use Rattle.std.proofs.lemmas.Bool.{ltb-true}
 use Rattle.kube_base.specs.declared.numbers.Beat.{Beat}

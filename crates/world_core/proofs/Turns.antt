@@ -1,4 +1,4 @@
--- The turn of a process that keeps the beat of its next turn.
+-- Layer 4, the steps of a beat: the turn of a process that keeps the beat of its next turn.
 use Rattle.std.proofs.Common.{◌≡◌, ℕ, List, ◌∷◌, Option, Some, None, sym, ◌∙◌, subst}
 use Rattle.kube_objects.specs.declared.call.Ask.{Ask}
 use Rattle.kube_objects.specs.declared.deed.Deed as deed

@@ -1,4 +1,4 @@
--- What a beat prints and what is stored then can be written with the document's names.
+-- Layer 5, what can be written: what a beat prints and what is stored then can be written with the document's names.
 use Rattle.std.proofs.Common.{◌≡◌, ℕ, suc, ◌+◌, ◌≤◌, Bool, true, false, List, [], ◌∷◌, ◌++◌, length, slice_get, Option, Some, None, Result, Ok, Err, IfOk, refl, sym, ap, ◌∙◌, subst, arith}
 use Rattle.std.proofs.lemmas.Map.Entries.{lookup_from_place}
 use Rattle.std.proofs.lemmas.Map.Keys.{IsDistinct-from_sorted}

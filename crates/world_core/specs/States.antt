@@ -1,17 +1,21 @@
 -- The world stands for a document before a beat, or within one.
-use Rattle.std.specs.Prelude.{◌≡◌, ℕ, ◌+◌, ◌<◌, ◌≤◌, ◌++◌, List, ◌∷◌, Option, Some, None, slice_get, length, vec_len, drop, All}
+use Rattle.std.specs.Prelude.{◌≡◌, ℕ, ◌+◌, ◌<◌, ◌≤◌, ◌++◌, List, [], ◌∷◌, slice_get, length, vec_len, drop, All}
+use Rattle.std.specs.Prelude.{Option, Some, None, Result, OnOk}
 use Rattle.kube_objects.specs.declared.call.Ask.{Ask}
+use Rattle.kube_objects.specs.declared.call.Reply.{Reply}
 use Rattle.kube_objects.specs.declared.deed.Deed as deed
+use Rattle.kube_objects.specs.declared.object.Object.{Object}
 use Rattle.kube_objects.specs.declared.script.Event.{Event}
 use Rattle.kube_objects.specs.declared.script.Proc.{Proc}
 use Rattle.kube_objects.specs.declared.script.What.{What}
 use Rattle.kube_objects.specs.declared.script.What.TheVariants.{Delay, Put}
 use Rattle.kube_objects.specs.declared.settings.Settings.{Settings}
 use Rattle.kube_objects.specs.Document.{Doc, processes, restart_delay, beat_micros}
-use Rattle.kube_objects.specs.Entry.{Entry, Identity, Call, Sends, entry}
+use Rattle.kube_objects.specs.Entry.{Entry, Identity, Call, Answers, Sends, entry}
 use Rattle.kube_objects.specs.InFlight.{requests_due, replies_due}
 use Rattle.kube_objects.specs.Kinds.{IsOfKind}
-use Rattle.kube_objects.specs.Wire.{Sent, Back, request_arrival}
+use Rattle.kube_objects.specs.Wire.{Sent, Back, reply_arrival, request_arrival}
+use Rattle.history.specs.Due.{answer_all, deliver_all}
 use Rattle.history.specs.History.{beat}
 use Rattle.history.specs.Printed.{printed}
 use Rattle.history.specs.Steps.{happens, happen_all}
@@ -23,7 +27,7 @@ use Rattle.wire_calls.specs.WireStands.{WireStands}
 use Rattle.world_process.specs.declared.process.Process.{Process}
 use Rattle.world_core.specs.declared.state.State.{State}
 use Rattle.world_process.specs.InForce.{InForceStands}
-use Rattle.world_process.specs.Plain.{IsFew, IsPlain}
+use Rattle.world_process.specs.Plain.{IsFew, IsPlain, SentByKnown, BackToKnown}
 use Rattle.world_process.specs.Processes.{ProcessStands, clock_of}
 use Rattle.world_terms.specs.TermsStand.{TermsStand}
 
@@ -148,6 +152,34 @@ SendsAsked k q None old new = new ≡ old
 SendsAsked k q (Some ask) old new = (processes step : ℕ) (arriving : List Sent) (coming : List Back) (h : List Entry) (call : Call)
     → WireStands processes k arriving coming h old → call.number ≡ ask.number → call.request ≡ ask.request
     → WireStands processes k arriving coming (entry k step q (Sends call (request_arrival q.process k h)) ∷ h) new
+
+-- ---- the steps of a beat, each in a world within it and where the step ends well
+
+-- the history is now what `next` makes of it
+abbrev pub Adds : {A E : Type 0} → State → List deed.Deed → Result A E → State → List deed.Deed → (Doc → ℕ → List Entry → List Entry)
+    → Type 0
+Adds w deeds result v new next =
+    (doc : Doc) (k : ℕ) (before : List deed.Deed) (arriving : List Sent) (coming : List Back) (h : List Entry)
+    → Running doc k before arriving coming h w deeds → IsFew (next doc k h)
+    → OnOk result (Running doc k before arriving coming (next doc k h) v new)
+
+-- all requests that had to be taken were answered
+abbrev pub AnswersArrivals : {A E : Type 0} → State → List deed.Deed → Result A E → State → List deed.Deed → Type 0
+AnswersArrivals w deeds result v new =
+    (doc : Doc) (k : ℕ) (before : List deed.Deed) (arriving : List Sent) (coming : List Back) (h : List Entry)
+    → Running doc k before arriving coming h w deeds → SentByKnown (processes doc) h arriving
+    → OnOk result (Running doc k before [] coming (answer_all k arriving h) v new)
+
+-- all replies that had to be taken were delivered
+abbrev pub DeliversReplies : {A E : Type 0} → State → List deed.Deed → Result A E → State → List deed.Deed → Type 0
+DeliversReplies w deeds result v new =
+    (doc : Doc) (k : ℕ) (before : List deed.Deed) (arriving : List Sent) (coming : List Back) (h : List Entry)
+    → Running doc k before arriving coming h w deeds → BackToKnown (processes doc) h coming → IsFew (deliver_all doc k coming h)
+    → OnOk result (Running doc k before arriving [] (deliver_all doc k coming h) v new)
+
+-- the history with a request's answer, whose reply is on its way
+abbrev pub with_answer : ℕ → ℕ → Identity → Call → Reply → Option Object → List Entry → List Entry
+with_answer k step q call reply wrote h = entry k step q (Answers call reply (reply_arrival q.process k h) wrote) ∷ h
 
 -- ---- events
 

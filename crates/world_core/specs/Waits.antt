@@ -5,7 +5,7 @@ use Rattle.kube_base.specs.declared.numbers.Local.{Local}
 use Rattle.kube_objects.specs.Clocks.{local, wall}
 use Rattle.kube_objects.specs.Document.{Doc, end_beat, is_controller, is_up_first}
 use Rattle.kube_objects.specs.Elector.{acts}
-use Rattle.kube_objects.specs.Entry.{Entry}
+use Rattle.kube_objects.specs.Entry.{Entry, Identity}
 use Rattle.kube_objects.specs.Newest.{only_if}
 use Rattle.kube_objects.specs.Process.{alive}
 use Rattle.history.specs.Steps.{ticks}
@@ -69,8 +69,12 @@ pub record WakesStand (doc : Doc) (k p : ℕ) (h : List Entry) (w : Wakes) : Typ
   pub time : starts_now doc k p ≡ false → (now : ℕ) → is_early now w.wall ≡ is_early now (time_at doc k p h)
   pub asleep : starts_now doc k p ≡ false → (j : ℕ) → k ≤ j → j ≤ end_beat doc → IsAsleepBy doc j p w ↔ IsAsleep doc j p (wakes_of doc p h)
 
--- the beat is the first up to the end at which the clock of a process that doesn't start has the reading that is waited for
-pub record IsTurnBeat (doc : Doc) (k p : ℕ) (w : Wakes) (b : Option Beat) : Type 0 where
-  pub reached : starts_now doc k p ≡ false → (j : ℕ) → j ≤ end_beat doc
-      → is_early j (beat_of b) ≡ is_early (local doc p j) (reading_of w)
+-- the beat is the first up to the end at which a process's clock has the reading that is waited for
+pub record IsTurnBeat (doc : Doc) (p : ℕ) (w : Wakes) (b : Option Beat) : Type 0 where
+  pub reached : (j : ℕ) → j ≤ end_beat doc → is_early j (beat_of b) ≡ is_early (local doc p j) (reading_of w)
   pub within : (n : ℕ) → beat_of b ≡ Some n → n ≤ end_beat doc
+
+-- the reading tells at each beat up to the end what that does for which the term of an identity waits
+abbrev pub IsTermReading : Doc → ℕ → Identity → List Entry → Option Local → Type 0
+IsTermReading doc p q h at =
+    (j : ℕ) → j ≤ end_beat doc → is_early (local doc p j) (local_of at) ≡ is_early (local doc p j) (term_reading doc q h)

@@ -8,5 +8,5 @@ mod wakes;
 mod world;
 
 pub use replay::deeds_of;
-pub use wakes::Wakes;
+pub use wakes::{Wakes, sooner_beat};
 pub use world::World;

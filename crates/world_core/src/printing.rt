@@ -30,7 +30,7 @@ pub fn answer_act(request: &Request, reply: &Reply) -> Option<Act>
             Some(Act::Create(key, answer, lease.transitions.unwrap_or(0)))
         }
         Request::Update(key, _, lease) => {
-            let answer = if_told(&key, as_answer(reply)?)?;
+            let answer = told_answer(&key, as_answer(reply)?)?;
             Some(Act::Update(key, answer, lease.transitions.unwrap_or(0)))
         }
         Request::PostStatus(name, status, _) => {
@@ -54,7 +54,7 @@ fn as_answer(reply: &Reply) -> Option<Answer>
 }
 
 /// An accepted renewal of a node's Lease isn't printed.
-fn if_told(key: &Key, answer: Answer) -> Option<Answer>
+fn told_answer(key: &Key, answer: Answer) -> Option<Answer>
     ensures { result ≡ told_of key.now answer }
 {
     match answer {

@@ -1,5 +1,6 @@
 // What a world keeps, and how it does one beat.
-ghost use Rattle.std.specs.Prelude.{◌≡◌, ◌∷◌, ◌||◌, ◌+◌, ◌*◌, ◌<◌, ◌≤◌, ◌++◌, ℕ, List, [], true, false, IfOk, OnOk, IsTrue, ◌↔◌, vec_len, length, drop, All, Option, Some};
+ghost use Rattle.std.specs.Prelude.{◌≡◌, ◌∷◌, ◌||◌, ◌+◌, ◌*◌, ◌<◌, ◌≤◌, ◌++◌, ◌↔◌, ℕ, List, [], length, All, true, false, Option, Some};
+ghost use Rattle.std.specs.Prelude.{IfOk, OnOk, IsTrue, vec_len};
 ghost use Rattle.std.specs.List.Sorted.{IsStrictlySortedBy};
 ghost use Rattle.std.specs.Map.{keys_of, lookup};
 ghost use Rattle.kube_objects.specs.declared.deed.Deed.{Deed};
@@ -7,42 +8,39 @@ ghost use Rattle.kube_objects.specs.declared.script.What.TheVariants as What;
 ghost use Rattle.kube_objects.specs.Document.{Doc};
 ghost use Rattle.kube_objects.specs.Answers.{answer as store_answer, written};
 ghost use Rattle.kube_objects.specs.declared.object.Object as Objects;
-ghost use Rattle.kube_objects.specs.Entry.{Entry, Identity, Call, Answers, entry};
+ghost use Rattle.kube_objects.specs.Entry.{Entry, Identity, Call, entry};
 ghost use Rattle.kube_objects.specs.Identities.{identity};
 ghost use Rattle.kube_objects.specs.Keys.{key_cmp, key_eq};
 ghost use Rattle.kube_objects.specs.Kinds.{IsOfKind, keeps_kind};
 ghost use Rattle.kube_objects.specs.Stored.{request_write, stored, write_of};
 ghost use Rattle.object_store.specs.StoreAnswers.{object_of};
 ghost use Rattle.object_store.specs.Stands.{StoreStands};
-ghost use Rattle.kube_objects.specs.InFlight.{requests_due, replies_due};
-ghost use Rattle.kube_objects.specs.Wire.{Sent, Back, reply_arrival};
+ghost use Rattle.kube_objects.specs.Wire.{Sent, Back};
 ghost use Rattle.history.specs.History.{history, beat, put_all};
 ghost use Rattle.history.specs.Printed.{printed};
 ghost use Rattle.history.specs.Steps.{first_starts, start_first, happen_all, delivered, turns};
-ghost use Rattle.kube_objects.specs.Clocks.{local};
 ghost use Rattle.kube_objects.specs.Document.{end_beat, is_controller, is_up_first, processes};
 ghost use Rattle.wire_calls.specs.WireStands.{WireStands, as_delivered, replies_at, requests_at};
 ghost use Rattle.script_reader.specs.Documents.{doc_of};
 ghost use Rattle.script_reader.specs.Lawful.{AreLawful, AreLawfulFrom, IsLawful, IsLawfulDoc};
 ghost use Rattle.world_process.specs.Clocked.{AreEventsFrom};
-ghost use Rattle.world_process.specs.Processes.{is_up_first_as};
 ghost use Rattle.agenda_laws.specs.Ahead.{IsNextEvent, IsNextMessage};
-ghost use Rattle.agenda_laws.specs.Ticking.{term_reading};
-ghost use Rattle.agenda_laws.specs.Times.{is_early, sooner as soonest};
+ghost use Rattle.agenda_laws.specs.Times.{sooner as soonest};
 ghost use Rattle.beat_laws.specs.Unticked.{IsUnticked, IsUntickedFrom};
 ghost use Rattle.kube_base.specs.Steps.{counted};
 ghost use Rattle.world_process.specs.Clocked.{ClockStands};
 ghost use Rattle.world_process.specs.Moves.{own_turn};
 ghost use Rattle.world_terms.specs.TermsStand.{IsFresh, IsUpAs, TermsStand, TermsStandBut};
-ghost use Rattle.world_core.specs.Waits.{IsTurnBeat, WakesStand, beat_of, local_of, own_ticks};
-ghost use Rattle.world_process.specs.Plain.{IsFew, IsKnown, SentByKnown, BackToKnown};
-ghost use Rattle.history.specs.Due.{answer_all, deliver_all};
-ghost use Rattle.world_core.specs.States.{AreQuiet, EachStands, at_of, count_of, end_of, names_of, GoOnTo, AreMadeOf, SendsAsked, IsFit, IsReady, IsPlaced, SameDocument, Keeps, StateStands, StateWithin, Running, Happens, Scripted};
+ghost use Rattle.world_core.specs.Waits.{IsTermReading, IsTurnBeat, WakesStand, beat_of, local_of, own_ticks};
+ghost use Rattle.world_process.specs.Plain.{IsFew, IsKnown};
+ghost use Rattle.world_core.specs.States.{at_of, count_of, end_of, names_of, GoOnTo, IsFit, IsReady, IsPlaced, SameDocument, Keeps};
+ghost use Rattle.world_core.specs.States.{AreMadeOf, AreQuiet, EachStands, SendsAsked, StateStands, Running};
+ghost use Rattle.world_core.specs.States.{Adds, AnswersArrivals, DeliversReplies, Happens, Scripted, with_answer};
 
 use crate::printing::{
     answer_act, crash_act, end_act, lead_act, remove_act, start_act, stop_act, tell,
 };
-use crate::wakes::Wakes;
+use crate::wakes::{Wakes, sooner_beat};
 use kube_base::{Beat, Local, Names, NoMemory, ProcId, Steps, Wall};
 use kube_objects::{
     Act, Actor, Ask, Deeds, Event, Events, Items, Key, Object, Procs, Reply, Request, Settings,
@@ -140,7 +138,7 @@ impl State {
     }
 
     /// Whether the end is passed.
-    pub fn finished(&self) -> bool
+    pub fn is_past_end(&self) -> bool
         ensures { IsTrue result ↔ (end_of self.now < at_of self.now) }
     {
         self.beat.0 > self.end.0
@@ -171,7 +169,8 @@ impl State {
     pub fn skip_to(&mut self, beat: Beat)
         requires ready { IsReady self.old }
         requires ahead { (at_of self.old ≤ beat.0) × (beat.0 ≤ end_of self.old + 1) }
-        ensures kept { IsReady self.new × (at_of self.new ≡ beat.0) × (end_of self.new ≡ end_of self.old) × (names_of self.new ≡ names_of self.old) }
+        ensures kept { IsReady self.new × (at_of self.new ≡ beat.0) × (end_of self.new ≡ end_of self.old)
+            × (names_of self.new ≡ names_of self.old) }
         ensures stands { (doc : Doc) (k : ℕ) (h : List Entry) → StateStands doc k h self.old → AreQuiet doc k beat.0 h
             → StateStands doc beat.0 h self.new }
     {
@@ -232,7 +231,7 @@ impl State {
             return Wakes::at_once();
         }
         let wake = process.wake();
-        if process.acting(self.beat).is_none() {
+        if process.leadership(self.beat).is_none() {
             return Wakes::with(false, wake, None);
         }
         let watch = self.in_force.watch(who);
@@ -243,21 +242,18 @@ impl State {
         )
     }
 
-    /// The first beat up to the end at which a process's clock has the reading that it waits for; None where there is none.
-    pub fn turn_beat(&self, who: ProcId) -> Option<Beat>
+    /// The first beat up to the end at which a process's clock has the reading that is waited for; None where there is none.
+    pub fn turn_beat(&self, who: ProcId, wakes: &Wakes) -> Option<Beat>
         requires ready { IsReady self.now }
-        requires within { at_of self.now ≤ end_of self.now }
         requires process { who.0 < count_of self.now }
-        ensures { (doc : Doc) (k : ℕ) (h : List Entry) (w : Wakes) → StateStands doc k h self.now → end_of self.now ≡ end_beat doc
-            → WakesStand doc k who.0 h w → IsTurnBeat doc k who.0 w result }
+        ensures { (doc : Doc) (k : ℕ) (h : List Entry) → StateStands doc k h self.now → end_of self.now ≡ end_beat doc
+            → IsTurnBeat doc who.0 wakes.now result }
     {
         let process = &self.processes[who.0 as usize];
-        let own = process.turn_beat();
-        if process.acting(self.beat).is_none() {
-            return own;
+        if wakes.local == process.wake() {
+            return process.turn_beat();
         }
-        let ticks = first_beat(process.clock(), self.term_wake(who));
-        sooner_beat(own, ticks)
+        first_beat(process.clock(), wakes.local)
     }
 
     // The reading that a controller's term waits for.
@@ -265,8 +261,7 @@ impl State {
         requires ready { IsReady self.now }
         requires process { who.0 < count_of self.now }
         ensures { (doc : Doc) (k : ℕ) (h : List Entry) (q : Identity) → StateStands doc k h self.now → end_of self.now ≡ end_beat doc
-            → IsUpAs doc who.0 q h
-            → (j : ℕ) → j ≤ end_beat doc → is_early (local doc who.0 j) (local_of result) ≡ is_early (local doc who.0 j) (term_reading doc q h) }
+            → IsUpAs doc who.0 q h → IsTermReading doc who.0 q h result }
     {
         // No reading up to the last one is out of a term's range.
         let _last = self.processes[who.0 as usize].clock().local(self.end);
@@ -279,9 +274,7 @@ impl State {
         requires ready { IsReady self.old }
         requires within { at_of self.old ≤ end_of self.old }
         ensures kept { OnOk result (Keeps self.old self.new) }
-        ensures stands { (doc : Doc) (k : ℕ) (before : List Deed) (arriving : List Sent) (coming : List Back) (h : List Entry)
-            → Running doc k before arriving coming h self.old deeds.old → IsFew (first_starts doc k h)
-            → OnOk result (Running doc k before arriving coming (first_starts doc k h) self.new deeds.new) }
+        ensures stands { Adds self.old deeds.old result self.new deeds.new (λ doc k h. first_starts doc k h) }
     {
         if self.beat.0 != 0 {
             return Ok(());
@@ -464,9 +457,7 @@ impl State {
         requires ready { IsReady self.old }
         requires within { at_of self.old ≤ end_of self.old }
         ensures kept { OnOk result (Keeps self.old self.new) }
-        ensures stands { (doc : Doc) (k : ℕ) (before : List Deed) (arriving : List Sent) (coming : List Back) (h : List Entry)
-            → Running doc k before arriving coming h self.old deeds.old → SentByKnown (processes doc) h arriving
-            → OnOk result (Running doc k before [] coming (answer_all k arriving h) self.new deeds.new) }
+        ensures stands { AnswersArrivals self.old deeds.old result self.new deeds.new }
     {
         if !self.wire.has_request(self.beat) {
             return Ok(());
@@ -480,9 +471,7 @@ impl State {
         requires ready { IsReady self.old }
         requires within { at_of self.old ≤ end_of self.old }
         ensures kept { OnOk result (Keeps self.old self.new) }
-        ensures stands { (doc : Doc) (k : ℕ) (before : List Deed) (arriving : List Sent) (coming : List Back) (h : List Entry)
-            → Running doc k before arriving coming h self.old deeds.old → SentByKnown (processes doc) h arriving
-            → OnOk result (Running doc k before [] coming (answer_all k arriving h) self.new deeds.new) }
+        ensures stands { AnswersArrivals self.old deeds.old result self.new deeds.new }
     {
         'arriving: while let Some(arrived) = self.wire.arrival(self.beat) {
             let reply = answer(&mut self.store, arrived.request)?;
@@ -503,10 +492,7 @@ impl State {
         requires ready { IsReady self.old }
         requires within { at_of self.old ≤ end_of self.old }
         ensures kept { OnOk result (Keeps self.old self.new) }
-        ensures stands { (doc : Doc) (k : ℕ) (before : List Deed) (arriving : List Sent) (coming : List Back) (h : List Entry)
-            → Running doc k before arriving coming h self.old deeds.old → BackToKnown (processes doc) h coming
-            → IsFew (deliver_all doc k coming h)
-            → OnOk result (Running doc k before arriving [] (deliver_all doc k coming h) self.new deeds.new) }
+        ensures stands { DeliversReplies self.old deeds.old result self.new deeds.new }
     {
         if !self.wire.has_reply(self.beat) {
             return Ok(());
@@ -520,10 +506,7 @@ impl State {
         requires ready { IsReady self.old }
         requires within { at_of self.old ≤ end_of self.old }
         ensures kept { OnOk result (Keeps self.old self.new) }
-        ensures stands { (doc : Doc) (k : ℕ) (before : List Deed) (arriving : List Sent) (coming : List Back) (h : List Entry)
-            → Running doc k before arriving coming h self.old deeds.old → BackToKnown (processes doc) h coming
-            → IsFew (deliver_all doc k coming h)
-            → OnOk result (Running doc k before arriving [] (deliver_all doc k coming h) self.new deeds.new) }
+        ensures stands { DeliversReplies self.old deeds.old result self.new deeds.new }
     {
         'coming: while let Some(back) = self.wire.delivery(self.beat) {
             self.deliver(&back, deeds)?;
@@ -537,7 +520,9 @@ impl State {
         requires within { at_of self.old ≤ end_of self.old }
         ensures kept { OnOk result (Keeps self.old self.new) }
         ensures left { OnOk result (replies_at self.new.wire (at_of self.old) ≡ replies_at self.old.wire (at_of self.old)) }
-        ensures stands { (doc : Doc) (k : ℕ) (before : List Deed) (arriving : List Sent) (coming : List Back) (h : List Entry) (b : Back) → Running doc k before arriving coming h self.old deeds.old → back.now ≡ as_delivered b → IsKnown (processes doc) h b.who → IsFew (delivered doc k b h)
+        ensures stands { (doc : Doc) (k : ℕ) (before : List Deed) (arriving : List Sent) (coming : List Back) (h : List Entry) (b : Back)
+            → Running doc k before arriving coming h self.old deeds.old → back.now ≡ as_delivered b
+            → IsKnown (processes doc) h b.who → IsFew (delivered doc k b h)
             → OnOk result (Running doc k before arriving coming (delivered doc k b h) self.new deeds.new) }
     {
         let i = back.who.0 as usize;
@@ -576,9 +561,7 @@ impl State {
         requires ready { IsReady self.old }
         requires within { at_of self.old ≤ end_of self.old }
         ensures kept { OnOk result (Keeps self.old self.new) }
-        ensures stands { (doc : Doc) (k : ℕ) (before : List Deed) (arriving : List Sent) (coming : List Back) (h : List Entry)
-            → Running doc k before arriving coming h self.old deeds.old → IsFew (own_turn doc k i h)
-            → OnOk result (Running doc k before arriving coming (own_turn doc k i h) self.new deeds.new) }
+        ensures stands { Adds self.old deeds.old result self.new deeds.new (λ doc k h. own_turn doc k i h) }
     {
         let process = &mut self.processes[i];
         process.keep_turn_beat();
@@ -595,9 +578,7 @@ impl State {
         requires ready { IsReady self.old }
         requires within { at_of self.old ≤ end_of self.old }
         ensures kept { OnOk result (Keeps self.old self.new) }
-        ensures stands { (doc : Doc) (k : ℕ) (before : List Deed) (arriving : List Sent) (coming : List Back) (h : List Entry)
-            → Running doc k before arriving coming h self.old deeds.old → IsFew (own_turn doc k i h)
-            → OnOk result (Running doc k before arriving coming (own_turn doc k i h) self.new deeds.new) }
+        ensures stands { Adds self.old deeds.old result self.new deeds.new (λ doc k h. own_turn doc k i h) }
     {
         let process = &mut self.processes[i];
         let status = self.in_force.status(process.me());
@@ -624,7 +605,7 @@ impl State {
             → OnOk result (Running doc k before arriving coming (own_ticks doc k i h) self.new deeds.new) }
     {
         let process = &self.processes[i];
-        let Some(acting) = process.acting(self.beat) else {
+        let Some(leadership) = process.leadership(self.beat) else {
             return Ok(());
         };
         let who = process.me();
@@ -637,9 +618,14 @@ impl State {
             wall: process.clock().wall_at(now),
         };
         let mut steps = Steps::new(Blank::new(1));
-        let printed = self
-            .terms
-            .tick(who, &acting, &mut self.store, &view, policies, &mut steps)?;
+        let printed = self.terms.tick(
+            who,
+            &leadership,
+            &mut self.store,
+            &view,
+            policies,
+            &mut steps,
+        )?;
         deeds.append(&printed)
     }
 }
@@ -660,8 +646,11 @@ fn answer(store: &mut Store, request: Request) -> Result<Reply, NoMemory>
 fn send_back(wire: &mut Wire, to: &Arrived, reply: Reply, now: Beat) -> Result<(), NoMemory>
     requires { now.0 ≤ 700000000 }
     ensures same { requests_at wire.new now.0 ≡ requests_at wire.old now.0 }
-    ensures ok { (processes k step : ℕ) (arriving : List Sent) (coming : List Back) (h : List Entry) (q : Identity) (call : Call) (wrote : Option Objects.Object) → WireStands processes k arriving coming h wire.old → now.0 ≡ k → q ≡ identity to.now.who.0 to.now.incarnation → call.number ≡ to.now.number
-        → OnOk result (WireStands processes k arriving coming (entry k step q (Answers call reply (reply_arrival q.process k h) wrote) ∷ h) wire.new) }
+    ensures ok { (processes k step : ℕ) (arriving : List Sent) (coming : List Back) (h : List Entry) (q : Identity) (call : Call)
+        (wrote : Option Objects.Object)
+        → WireStands processes k arriving coming h wire.old → now.0 ≡ k → q ≡ identity to.now.who.0 to.now.incarnation
+        → call.number ≡ to.now.number
+        → OnOk result (WireStands processes k arriving coming (with_answer k step q call reply wrote h) wire.new) }
 {
     wire.reply(to, reply, now)?;
     Ok(())
@@ -693,17 +682,6 @@ fn renew_if(terms: &mut Terms, who: ProcId, started: bool, ended: bool)
 {
     if started || ended {
         terms.renew(who);
-    }
-}
-
-// The sooner of two beats.
-fn sooner_beat(one: Option<Beat>, other: Option<Beat>) -> Option<Beat>
-    ensures { beat_of result ≡ soonest (beat_of one) (beat_of other) }
-{
-    match (one, other) {
-        (None, other) => other,
-        (Some(one), Some(other)) if other.0 < one.0 => Some(other),
-        (one, _) => one,
     }
 }
 

@@ -1,7 +1,9 @@
 // What a process waits for.
 ghost use Rattle.std.specs.Prelude.{◌≡◌, true, None};
+ghost use Rattle.agenda_laws.specs.Times.{sooner as soonest};
+ghost use Rattle.world_core.specs.Waits.{beat_of};
 
-use kube_base::Local;
+use kube_base::{Beat, Local};
 
 /// What a process waits for: something that is there already, a reading of its clock, or a time of day in microseconds since 1970.
 #[derive(Clone, Copy, Debug, PartialEq, Eq)]
@@ -28,5 +30,16 @@ impl Wakes {
             local,
             wall,
         }
+    }
+}
+
+/// The sooner of two beats, of which each may be none.
+pub fn sooner_beat(one: Option<Beat>, other: Option<Beat>) -> Option<Beat>
+    ensures { beat_of result ≡ soonest (beat_of one) (beat_of other) }
+{
+    match (one, other) {
+        (None, other) => other,
+        (Some(one), Some(other)) if other.0 < one.0 => Some(other),
+        (one, _) => one,
     }
 }

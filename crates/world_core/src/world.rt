@@ -78,10 +78,10 @@ impl World {
     }
 
     /// Whether the end is passed.
-    pub fn finished(&self) -> bool
+    pub fn is_past_end(&self) -> bool
         ensures { IsTrue result ↔ (end_of self.now < at_of self.now) }
     {
-        self.state.finished()
+        self.state.is_past_end()
     }
 
     /// Does one beat, and answers its printed entries. It counts one step.
@@ -163,14 +163,13 @@ impl World {
         self.state.wakes(who)
     }
 
-    /// The first beat up to the end at which a process's clock has the reading that it waits for; None where there is none.
-    pub fn turn_beat(&self, who: ProcId) -> Option<Beat>
+    /// The first beat up to the end at which a process's clock has the reading that is waited for; None where there is none.
+    pub fn turn_beat(&self, who: ProcId, wakes: &Wakes) -> Option<Beat>
         requires ready { IsReady self.now }
-        requires within { at_of self.now ≤ end_of self.now }
         requires process { who.0 < count_of self.now }
-        ensures { (doc : Doc) (k : ℕ) (h : List Entry) (w : Wakes) → WorldStands doc k h self.now → end_of self.now ≡ end_beat doc
-            → WakesStand doc k who.0 h w → IsTurnBeat doc k who.0 w result }
+        ensures { (doc : Doc) (k : ℕ) (h : List Entry) → WorldStands doc k h self.now → end_of self.now ≡ end_beat doc
+            → IsTurnBeat doc who.0 wakes.now result }
     {
-        self.state.turn_beat(who)
+        self.state.turn_beat(who, wakes)
     }
 }

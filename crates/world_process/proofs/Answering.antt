@@ -38,6 +38,10 @@ pub record IsBack (b : Back) (q : Identity) (n : ℕ) (r : Reply) : Type 0 where
   pub number : b.call.number ≡ n
   pub reply : b.reply ≡ r
 
+-- it comes to the incarnation that the process has
+pub is-back : (b : Back) (p i own n : ℕ) (r : Reply) → b.who ≡ identity p i → i ≡ own → b.call.number ≡ n → b.reply ≡ r → IsBack b (identity p own) n r
+is-back b p i own n r who same number reply = record { who = who ∙ ap (identity p) same; number = number; reply = reply }
+
 delivered-as : (doc : Doc) (k : ℕ) (b : Back) (q : Identity) (number : ℕ) (reply : Reply) (h : List Entry) → IsBack b q number reply → delivered doc k b h ≡ deliver_as doc k q b.call reply (counted doc q k number h) h
 delivered-as doc k b q number reply h is =
     ap (λ w. deliver_as doc k w b.call b.reply (counted doc w k b.call.number h) h) is.who

@@ -88,6 +88,19 @@ Each doc h items = (p : ℕ) (s : Standing) → slice_get items p ≡ Some s →
 same-at : (i p : ℕ) → i ≡ p → (i == p) ≡ true
 same-at i p is = ap (λ n. n == p) is ∙ eq-self p
 
+-- by an event that changes what is kept of one process, and leaves that of each other in force
+module _ (doc : Doc) (id : ProcId) (h g : List Entry) (change : Standing → Standing) (own : (p : ℕ) (s : Standing) → (id.0 == p) ≡ true → StandingOf doc p h s → StandingOf doc p g (change s))
+    (other : (p : ℕ) (s : Standing) → (id.0 == p) ≡ false → StandingOf doc p h s → StandingOf doc p g s) where
+  changed-stands : (items : List Standing) (old : Standing) → Each doc h items → (p : ℕ) (s : Standing) → Changed items id.0 p (change old) old s → StandingOf doc p g s
+  changed-stands items old each p s (inl mine) = subst (StandingOf doc p g) mine.1 (own p old (same-at id.0 p mine.0) (each p old mine.2))
+  changed-stands items old each p s (inr theirs) = other p s theirs.0 (each p s theirs.1)
+
+  pub set-stands : (items : List Standing) (old : Standing) → old ≡ get_or items id.0 old → Each doc h items → Each doc g (slice_set items id.0 (change old))
+  set-stands items old was each p s at = changed-stands items old each p s (item-changed items id.0 p (change old) old s was at)
+
+  pub kept-stands : (items : List Standing) → length items ≤ id.0 → Each doc h items → Each doc g items
+  kept-stands items past each p s at = changed-stands items s each p s (item-kept items id.0 p (change s) s s past at)
+
 -- by a watch's event
 module _ (doc : Doc) (k : ℕ) (id : ProcId) (on : Bool) (h : List Entry) where
   abbrev g : List Entry
@@ -96,12 +109,17 @@ module _ (doc : Doc) (k : ℕ) (id : ProcId) (on : Bool) (h : List Entry) where
   watch-after : (p : ℕ) (b : Bool) → (id.0 == p) ≡ b → watches doc p g ≡ or_else (watches_first doc p) (upper (when b on) (in_force (watch_of p) h))
   watch-after p b is = ap (λ t. or_else (watches_first doc p) (upper (when t on) (in_force (watch_of p) h))) is
 
-  pub watch-stands : (items : List Standing) (old : Standing) → Each doc h items → (p : ℕ) (s : Standing) → Changed items id.0 p (record old { watch = on }) old s → StandingOf doc p g s
-  watch-stands items old each p s (inl own) =
-      subst (StandingOf doc p g) own.1 (record { watch = sym (watch-after p true (same-at id.0 p own.0)); status = (each p old own.2).status })
-  watch-stands items old each p s (inr other) =
-      let was = each p s other.1 in
-      record { watch = was.watch ∙ sym (watch-after p false other.0); status = was.status }
+  watch-own : (p : ℕ) (s : Standing) → (id.0 == p) ≡ true → StandingOf doc p h s → StandingOf doc p g (record s { watch = on })
+  watch-own p s is was = record { watch = sym (watch-after p true is); status = was.status }
+
+  watch-other : (p : ℕ) (s : Standing) → (id.0 == p) ≡ false → StandingOf doc p h s → StandingOf doc p g s
+  watch-other p s is was = record { watch = was.watch ∙ sym (watch-after p false is); status = was.status }
+
+  pub watch-set : (items : List Standing) (old : Standing) → old ≡ get_or items id.0 old → Each doc h items → Each doc g (slice_set items id.0 (record old { watch = on }))
+  watch-set = set-stands doc id h g (λ s. record s { watch = on }) watch-own watch-other
+
+  pub watch-kept : (items : List Standing) → length items ≤ id.0 → Each doc h items → Each doc g items
+  watch-kept = kept-stands doc id h g (λ s. record s { watch = on }) watch-own watch-other
 
 -- by a status's
 module _ (doc : Doc) (k : ℕ) (id : ProcId) (status : ReadyStatus) (h : List Entry) where
@@ -111,12 +129,17 @@ module _ (doc : Doc) (k : ℕ) (id : ProcId) (status : ReadyStatus) (h : List En
   status-after : (p : ℕ) (b : Bool) → (id.0 == p) ≡ b → posted_status doc p f ≡ or_else (first_status doc p) (upper (when b status) (in_force (status_of p) h))
   status-after p b is = ap (λ t. or_else (first_status doc p) (upper (when t status) (in_force (status_of p) h))) is
 
-  pub status-stands : (items : List Standing) (old : Standing) → Each doc h items → (p : ℕ) (s : Standing) → Changed items id.0 p (record old { status = status }) old s → StandingOf doc p f s
-  status-stands items old each p s (inl own) =
-      subst (StandingOf doc p f) own.1 (record { watch = (each p old own.2).watch; status = sym (status-after p true (same-at id.0 p own.0)) })
-  status-stands items old each p s (inr other) =
-      let was = each p s other.1 in
-      record { watch = was.watch; status = was.status ∙ sym (status-after p false other.0) }
+  status-own : (p : ℕ) (s : Standing) → (id.0 == p) ≡ true → StandingOf doc p h s → StandingOf doc p f (record s { status = status })
+  status-own p s is was = record { watch = was.watch; status = sym (status-after p true is) }
+
+  status-other : (p : ℕ) (s : Standing) → (id.0 == p) ≡ false → StandingOf doc p h s → StandingOf doc p f s
+  status-other p s is was = record { watch = was.watch; status = was.status ∙ sym (status-after p false is) }
+
+  pub status-set : (items : List Standing) (old : Standing) → old ≡ get_or items id.0 old → Each doc h items → Each doc f (slice_set items id.0 (record old { status = status }))
+  status-set = set-stands doc id h f (λ s. record s { status = status }) status-own status-other
+
+  pub status-kept : (items : List Standing) → length items ≤ id.0 → Each doc h items → Each doc f items
+  status-kept = kept-stands doc id h f (λ s. record s { status = status }) status-own status-other
 
 -- ---- entries of other kinds
 

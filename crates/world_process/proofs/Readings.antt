@@ -18,3 +18,13 @@ wall-when doc p k shown c s is =
     s.offset (c.epoch + shown / 1000000)
     ∙ ap (λ n. moved (offset_millis doc p) (n + shown / 1000000)) s.epoch
     ∙ ap (λ n. moved (offset_millis doc p) (doc.settings.epoch.0 + n / 1000000)) is
+
+-- the reading and the time of day that a process's clock shows at a beat
+pub record AreReadings (doc : Doc) (p k read shown : ℕ) : Type 0 where
+  pub now : read ≡ local doc p k
+  pub wall : shown ≡ wall doc p k
+
+pub readings-are : (doc : Doc) (p k beat now shown : ℕ) (c : Clocking) → ClockStands doc p c → beat ≡ k → now ≡ reading c beat → shown ≡ wall_when c now → AreReadings doc p k now shown
+readings-are doc p k beat now shown c s at reads shows =
+    let now_is : now ≡ local doc p k = reads ∙ reading-local doc p beat c s ∙ ap (local doc p) at in
+    record { now = now_is; wall = shows ∙ wall-when doc p k now c s now_is }

@@ -35,48 +35,27 @@ finish-down doc k p h down = ap (λ x. if_up p (λ q T. end_term doc k q (deadli
 pub attempts-down : (doc : Doc) (k p : ℕ) (h : List Entry) → alive p h ≡ None → attempts doc k p h ≡ h
 attempts-down doc k p h down = ap (λ x. if_up p (try doc k) x h) down
 
--- an expiry leaves the life as it is
-pub alive-expired : (doc : Doc) (k p : ℕ) (q : Identity) (h : List Entry) → alive p (expired doc k q h) ≡ alive p h
-alive-expired doc k p q h = by_call (call_in q h)
+-- what the entry of an expiry leaves as it is stays through an expiry
+expired-same : {A : Type 0} (f : List Entry → A) (doc : Doc) (k : ℕ) (q : Identity) (h : List Entry) → ((call : Call) → f (expire_as k q call true h) ≡ f h) → f (expired doc k q h) ≡ f h
+expired-same f doc k q h same = by_call (call_in q h)
   where
-    by_late : (call : Call) (b : Bool) → alive p (expire_as k q call b h) ≡ alive p h
-    by_late call true = refl
+    by_late : (call : Call) (b : Bool) → f (expire_as k q call b h) ≡ f h
+    by_late call true = same call
     by_late call false = refl
 
-    by_call : (call : Option Call) → alive p (expire_call doc k q call h) ≡ alive p h
+    by_call : (call : Option Call) → f (expire_call doc k q call h) ≡ f h
     by_call None = refl
     by_call (Some call) = by_late call (is_late doc q k call)
+
+-- an expiry leaves the life as it is, prints nothing, and starts and ends nothing
+pub alive-expired : (doc : Doc) (k p : ℕ) (q : Identity) (h : List Entry) → alive p (expired doc k q h) ≡ alive p h
+alive-expired doc k p q h = expired-same (alive p) doc k q h (λ call. refl)
 
 pub printed-expired : (doc : Doc) (k : ℕ) (q : Identity) (h : List Entry) → printed (expired doc k q h) ≡ printed h
-printed-expired doc k q h = by_call (call_in q h)
-  where
-    by_late : (call : Call) (b : Bool) → printed (expire_as k q call b h) ≡ printed h
-    by_late call true = append-nil (printed h)
-    by_late call false = refl
+printed-expired doc k q h = expired-same printed doc k q h (λ call. append-nil (printed h))
 
-    by_call : (call : Option Call) → printed (expire_call doc k q call h) ≡ printed h
-    by_call None = refl
-    by_call (Some call) = by_late call (is_late doc q k call)
-
--- an expiry starts nothing
 pub starts-expired : (doc : Doc) (k p : ℕ) (q : Identity) (h : List Entry) → starts p (expired doc k q h) ≡ starts p h
-starts-expired doc k p q h = by_call (call_in q h)
-  where
-    by_late : (call : Call) (b : Bool) → starts p (expire_as k q call b h) ≡ starts p h
-    by_late call true = refl
-    by_late call false = refl
-
-    by_call : (call : Option Call) → starts p (expire_call doc k q call h) ≡ starts p h
-    by_call None = refl
-    by_call (Some call) = by_late call (is_late doc q k call)
+starts-expired doc k p q h = expired-same (starts p) doc k q h (λ call. refl)
 
 pub ended-expired : (doc : Doc) (k p : ℕ) (q : Identity) (h : List Entry) → ended p (expired doc k q h) ≡ ended p h
-ended-expired doc k p q h = by_call (call_in q h)
-  where
-    by_late : (call : Call) (b : Bool) → ended p (expire_as k q call b h) ≡ ended p h
-    by_late call true = refl
-    by_late call false = refl
-
-    by_call : (call : Option Call) → ended p (expire_call doc k q call h) ≡ ended p h
-    by_call None = refl
-    by_call (Some call) = by_late call (is_late doc q k call)
+ended-expired doc k p q h = expired-same (ended p) doc k q h (λ call. refl)

@@ -2,7 +2,7 @@
 use Rattle.std.proofs.Common.{◌≡◌, ◌&&◌, Bool, true, false, List, [], ◌∷◌, Option, Some, None, refl, ap, ◌∙◌}
 use Rattle.kube_objects.specs.declared.deed.Actor.{Actor}
 use Rattle.kube_objects.specs.Elector.{shows, shown, observed, newly, lead_says, leads, told}
-use Rattle.kube_objects.specs.Entry.{Entry, Identity, Deed, First, Event, Starts, Crashes, Stops, Ends, Sends, Answers, Delivers, Expires, Leads, Ticks}
+use Rattle.kube_objects.specs.Entry.{Entry, Identity, Deed, Sends, Delivers, Expires, Leads}
 use Rattle.kube_objects.specs.Identities.{is_by}
 use Rattle.kube_objects.specs.Newest.{newest, added, when, only_if, has, join}
 use Rattle.kube_objects.specs.Process.{is_send, begun, call_says, last_call, call_in, open_as}
@@ -22,18 +22,10 @@ pub newest-none : {A : Type 0} (f : Entry → List Entry → Option A) (e : Entr
 newest-none {A = A} f e h none rest = ap (λ (x : Option A). elim x as (λ o. Option A) [ None ↦ newest f h | Some y ↦ Some y ]) none ∙ rest
 
 call_says-others : (q : Identity) (who : Actor) (d : Deed) → is_by q who ≡ false → call_says q who d ≡ None
-call_says-others q who (First key object) other = refl
-call_says-others q who (Event what version) other = refl
-call_says-others q who Starts other = refl
-call_says-others q who Crashes other = refl
-call_says-others q who Stops other = refl
-call_says-others q who Ends other = refl
 call_says-others q who (Sends call arrives) other = ap (λ b. when b (open_as call.kind call)) other
-call_says-others q who (Answers call reply comes written) other = refl
 call_says-others q who (Delivers call reply counted) other = ap (λ b. when (counted && b) None) other ∙ ap (λ b. when b None) (and-false counted)
 call_says-others q who (Expires call) other = ap (λ b. when b None) other
-call_says-others q who (Leads version) other = refl
-call_says-others q who (Ticks tick) other = refl
+call_says-others q who _ other = refl
 
 pub last_call-unheard : (q : Identity) (h : List Entry) → IsUnheard q h → last_call q h ≡ None
 last_call-unheard q [] u = refl
@@ -43,18 +35,8 @@ pub call-unheard : (q : Identity) (h : List Entry) → IsUnheard q h → call_in
 call-unheard q h u = ap join (last_call-unheard q h u)
 
 shows-others : (q : Identity) (who : Actor) (d : Deed) → is_by q who ≡ false → shows q who d ≡ None
-shows-others q who (First key object) other = refl
-shows-others q who (Event what version) other = refl
-shows-others q who Starts other = refl
-shows-others q who Crashes other = refl
-shows-others q who Stops other = refl
-shows-others q who Ends other = refl
-shows-others q who (Sends call arrives) other = refl
-shows-others q who (Answers call reply comes written) other = refl
 shows-others q who (Delivers call reply counted) other = ap (λ b. only_if (counted && b) (told call.request reply)) other ∙ ap (λ b. only_if b (told call.request reply)) (and-false counted)
-shows-others q who (Expires call) other = refl
-shows-others q who (Leads version) other = refl
-shows-others q who (Ticks tick) other = refl
+shows-others q who _ other = refl
 
 pub shown-unheard : (q : Identity) (h : List Entry) → IsUnheard q h → shown q h ≡ None
 shown-unheard q [] u = refl
@@ -65,18 +47,8 @@ observed-unheard q [] u = refl
 observed-unheard q (e ∷ h) u = newest-none (λ e h. newly (shows q e.actor e.deed) (shown q h) e.beat) e h (ap (λ x. newly x (shown q h) e.beat) (shows-others q e.actor e.deed u.0)) (observed-unheard q h u.1)
 
 lead_says-others : (q : Identity) (who : Actor) (d : Deed) → is_by q who ≡ false → lead_says q who d ≡ None
-lead_says-others q who (First key object) other = refl
-lead_says-others q who (Event what version) other = refl
-lead_says-others q who Starts other = refl
-lead_says-others q who Crashes other = refl
-lead_says-others q who Stops other = refl
-lead_says-others q who Ends other = refl
-lead_says-others q who (Sends call arrives) other = refl
-lead_says-others q who (Answers call reply comes written) other = refl
-lead_says-others q who (Delivers call reply counted) other = refl
-lead_says-others q who (Expires call) other = refl
 lead_says-others q who (Leads version) other = ap (λ b. when b version) other
-lead_says-others q who (Ticks tick) other = refl
+lead_says-others q who _ other = refl
 
 last_lead-unheard : (q : Identity) (h : List Entry) → IsUnheard q h → newest (λ e T. lead_says q e.actor e.deed) h ≡ None
 last_lead-unheard q [] u = refl

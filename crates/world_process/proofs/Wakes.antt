@@ -33,7 +33,8 @@ use Rattle.world_process.specs.Kubelets.{RoundsStand}
 use Rattle.world_process.specs.Moves.{own_turn, own_turn_as}
 use Rattle.world_process.specs.declared.process.Process.{Process}
 use Rattle.world_process.specs.declared.process.Process.TheVariants as process
-use Rattle.world_process.specs.Processes.{ProcessStands, clock_of}
+use Rattle.world_process.specs.declared.waking.Waking.{Waking}
+use Rattle.world_process.specs.Processes.{ProcessStands, clock_of, waking_of}
 use Rattle.world_process.proofs.Names.{lt-from, le-from}
 use Rattle.world_process.proofs.Readings.{reading-local}
 use Rattle.world_process.proofs.Restarts.{lt-true}
@@ -206,3 +207,15 @@ first-within x o first doc p h s = (first doc p h (asked_at (own_reading doc p h
 
 pub beat-same : (c : Clocking) (o : Option Beat) (a b : Option Local) → reading_of a ≡ reading_of b → IsBeatOf c o a → IsBeatOf c o b
 beat-same c o a b same beat = record { tells = λ j within. beat.tells j within ∙ ap (is_early (reading c j)) same; within = beat.within }
+
+-- the beat that a process keeps is that of the reading for which it was found
+pub waking-stands : (doc : Doc) (p : ℕ) (h : List Entry) (x : Process) → ProcessStands doc p h x → IsBeatOf (clock_of x) (waking_of x).until (waking_of x).below
+waking-stands doc p h (process.Controller c) s = s.waking
+waking-stands doc p h (process.Kubelet b) s = s.waking
+
+pub beat-found : (doc : Doc) (p : ℕ) (h : List Entry) (x : Process) (l : Clocking) (w : Waking) (o : Option Beat) (a b : Option Local) → l ≡ clock_of x → w ≡ waking_of x → reading_of a ≡ reading_of b → (IsBeatOf l w.until w.below → IsBeatOf l o a) → ProcessStands doc p h x
+    → IsBeatOf (clock_of x) o b
+beat-found doc p h x l w o a b clock waking same found s =
+    let kept : IsBeatOf l w.until w.below =
+    subst (λ c. IsBeatOf c w.until w.below) (sym clock) (subst (λ v. IsBeatOf (clock_of x) v.until v.below) (sym waking) (waking-stands doc p h x s)) in
+    beat-same (clock_of x) o a b same (subst (λ c. IsBeatOf c o a) clock (found kept))

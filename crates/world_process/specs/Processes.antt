@@ -14,6 +14,7 @@ use Rattle.world_process.specs.declared.moves.Stopped.{Stopped}
 use Rattle.world_process.specs.declared.moves.Turn.{Turn}
 use Rattle.world_process.specs.declared.process.Process.{Process}
 use Rattle.world_process.specs.declared.process.Process.TheVariants.{Controller, Kubelet}
+use Rattle.world_process.specs.declared.waking.Waking.{Waking}
 use Rattle.world_process.specs.Controllers.{ControllerStands}
 use Rattle.world_process.specs.Kubelets.{KubeletStands}
 use Rattle.world_process.specs.Moves as moves
@@ -35,6 +36,10 @@ incarnation_of (Kubelet b) = b.incarnation
 abbrev pub clock_of : Process → Clocking
 clock_of (Controller c) = c.clock
 clock_of (Kubelet b) = b.clock
+
+abbrev pub waking_of : Process → Waking
+waking_of (Controller c) = c.waking
+waking_of (Kubelet b) = b.waking
 
 abbrev pub is_up_first_as : Process → Bool
 is_up_first_as (Controller c) = c.up_first

@@ -1,5 +1,6 @@
 // A controller of the world: its clock and its part in the election.
-ghost use Rattle.std.specs.Prelude.{◌≡◌, ◌*◌, ◌+◌, ◌<◌, ◌≤◌, ◌^◌, ◌∷◌, ℕ, true, false, List, [], Option, Some, None, IfOk, IfSome, is_some};
+ghost use Rattle.std.specs.Prelude.{◌≡◌, ◌+◌, ◌<◌, ◌≤◌, ◌^◌, ◌∷◌, ℕ, true, false, List, [], Option, Some, None, IfOk, IfSome, is_some};
+ghost use Rattle.kube_base.specs.Bounds.{most_local};
 ghost use Rattle.kube_base.specs.declared.numbers.Local.{Local};
 ghost use Rattle.kube_base.specs.declared.numbers.ProcId.{ProcId};
 ghost use Rattle.kube_base.specs.declared.numbers.Version.{Version};
@@ -17,9 +18,10 @@ ghost use Rattle.leader_elector.specs.declared.leading.Leading.{Leading};
 ghost use Rattle.leader_elector.specs.Stands.{IsChosen, acting_identity};
 ghost use Rattle.script_reader.specs.Lawful.{AreLawful, IsLawful};
 ghost use Rattle.world_process.specs.declared.controller.Role.TheVariants as role;
-ghost use Rattle.world_process.specs.Beats.{IsBeatOf, reading_of};
+ghost use Rattle.world_process.specs.Beats.{reading_of};
 ghost use Rattle.world_process.specs.Clocked.{AreEventsFrom, IsMadeOf};
-ghost use Rattle.world_process.specs.Controllers.{ControllerStands, SameController, Crashed, Begun, StoppedAs, Restarted, Timed, Turned, Replied, IsLed, is_up_as, waiting_of};
+ghost use Rattle.world_process.specs.Controllers.{ControllerStands, SameController, IsLed, is_up_as, waiting_of};
+ghost use Rattle.world_process.specs.Controllers.{Crashed, Begun, StoppedAs, Restarted, Timed, Turned, Replied};
 ghost use Rattle.world_process.specs.Plain.{IsPlain, IsFew};
 ghost use Rattle.world_process.specs.Processes.{acts_as};
 
@@ -186,28 +188,8 @@ impl Controller {
         }
     }
 
-    /// The first beat up to the end at which its clock reads `wake`: its turn, a tick aside, adds an entry to the history from this
-    /// beat on. None where there is none.
-    pub fn turn_beat(&self) -> Option<Beat>
-        ensures { (doc : Doc) (p : ℕ) (h : List Entry) (at : Option Local) → ControllerStands doc p h self.now
-            → reading_of at ≡ elector_reading doc p h → IsBeatOf self.now.clock result at }
-    {
-        self.waking.beat_of(&self.clock, self.wake())
-    }
-
-    /// Finds `turn_beat` and keeps it, so that its next turns needn't read the clock.
-    pub fn keep_turn_beat(&mut self)
-        ensures same { SameController self.old self.new }
-        ensures stands { (doc : Doc) (p : ℕ) (h : List Entry) → ControllerStands doc p h self.old → ControllerStands doc p h self.new }
-        ensures kept { (doc : Doc) (p : ℕ) (h : List Entry) (at : Option Local) → ControllerStands doc p h self.old
-            → reading_of at ≡ elector_reading doc p h → IsBeatOf self.new.clock self.new.waking.until at }
-    {
-        let wake = self.wake();
-        self.waking.keep(&self.clock, wake);
-    }
-
-    /// What shows that it acts as the leader at a beat; None where it doesn't.
-    pub fn acting(&self, beat: Beat) -> Option<Acting<'_>>
+    /// The leadership that it has at a beat, which shows that it acts; None where it doesn't.
+    pub fn leadership(&self, beat: Beat) -> Option<Acting<'_>>
         requires { beat.0 ≤ self.now.clock.end }
         ensures acts { (doc : Doc) (k p : ℕ) (h : List Entry) → ControllerStands doc p h self.now → beat.0 ≡ k
             → is_some result ≡ acts_as doc k p true h }
@@ -243,7 +225,7 @@ impl Controller {
 
     // The rest of its turn, after the restart.
     fn on_timer(&mut self, now: Local, delay: u64) -> Turn
-        requires now { now.0 ≤ 2 * 10 ^ 18 }
+        requires now { now.0 ≤ most_local }
         requires delay { delay ≤ 86400000000000000 }
         ensures same { SameController self.old self.new }
         ensures incarnation { self.new.incarnation ≡ self.old.incarnation }
@@ -261,7 +243,7 @@ impl Controller {
 
     // The same for a leader.
     fn lead_on(&mut self, now: Local, wall: Wall, delay: u64) -> Turn
-        requires now { now.0 ≤ 2 * 10 ^ 18 }
+        requires now { now.0 ≤ most_local }
         requires delay { delay ≤ 86400000000000000 }
         ensures same { SameController self.old self.new }
         ensures incarnation { self.new.incarnation ≡ self.old.incarnation }
@@ -318,7 +300,7 @@ impl Controller {
 
     // A candidate that is to lead leads from this reading on.
     fn lead(&mut self, now: Local)
-        requires { now.0 ≤ 2 * 10 ^ 18 }
+        requires { now.0 ≤ most_local }
         ensures same { self.new ≡ record self.old { role = self.new.role } }
         ensures leads { (doc : Doc) (q : Identity) (h : List Entry) (k : ℕ) (version : Version) (c : Candidate)
             → self.old.role ≡ role.Candidate c → IsChosen doc q h c → now.0 ≡ local doc q.process k
@@ -332,7 +314,7 @@ impl Controller {
 
     // A reply that comes to a leader.
     fn hear(&mut self, number: u64, reply: Reply, now: Local, wall: Wall) -> Received
-        requires { now.0 ≤ 2 * 10 ^ 18 }
+        requires { now.0 ≤ most_local }
         ensures same { SameController self.old self.new }
         ensures incarnation { self.new.incarnation ≡ self.old.incarnation }
         ensures stands { (doc : Doc) (k p : ℕ) (b : Back) (h : List Entry) (l : Leading) → ControllerStands doc p h self.old

@@ -12,7 +12,7 @@ ghost use Rattle.kube_objects.specs.Wire.{Back};
 ghost use Rattle.history.specs.Steps.{happens, start, kubelet_turn};
 ghost use Rattle.agenda_laws.specs.Times.{kubelet_reading};
 ghost use Rattle.script_reader.specs.Lawful.{AreLawful, IsLawful};
-ghost use Rattle.world_process.specs.Beats.{IsBeatOf, reading_of};
+ghost use Rattle.world_process.specs.Beats.{reading_of};
 ghost use Rattle.world_process.specs.Clocked.{AreEventsFrom, IsMadeOf};
 ghost use Rattle.world_process.specs.Kubelets.{KubeletStands, SameKubelet, Crashed, Begun, Turned, Replied};
 ghost use Rattle.world_process.specs.Plain.{IsPlain, IsFew};
@@ -162,25 +162,5 @@ impl Kubelet {
             None => None,
             Some(rounds) => Some(rounds.wake()),
         }
-    }
-
-    /// The first beat up to the end at which its clock reads `wake`: its turn adds an entry to the history from this beat on. None
-    /// where there is none.
-    pub fn turn_beat(&self) -> Option<Beat>
-        ensures { (doc : Doc) (p : ℕ) (h : List Entry) (at : Option Local) → KubeletStands doc p h self.now
-            → reading_of at ≡ kubelet_reading doc p h → IsBeatOf self.now.clock result at }
-    {
-        self.waking.beat_of(&self.clock, self.wake())
-    }
-
-    /// Finds `turn_beat` and keeps it, so that its next turns needn't read the clock.
-    pub fn keep_turn_beat(&mut self)
-        ensures same { SameKubelet self.old self.new }
-        ensures stands { (doc : Doc) (p : ℕ) (h : List Entry) → KubeletStands doc p h self.old → KubeletStands doc p h self.new }
-        ensures kept { (doc : Doc) (p : ℕ) (h : List Entry) (at : Option Local) → KubeletStands doc p h self.old
-            → reading_of at ≡ kubelet_reading doc p h → IsBeatOf self.new.clock self.new.waking.until at }
-    {
-        let wake = self.wake();
-        self.waking.keep(&self.clock, wake);
     }
 }

@@ -16,11 +16,13 @@ ghost use Rattle.leader_elector.specs.Stands.{acting_identity};
 ghost use Rattle.world_process.specs.Beats.{IsBeatOf, beat_in, own_reading, reading_of};
 ghost use Rattle.world_process.specs.Moves.{own_turn};
 ghost use Rattle.world_process.specs.Plain.{IsPlain, IsFew};
-ghost use Rattle.world_process.specs.Processes.{ProcessStands, SameProcess, Crashed, Begun, StoppedAs, Turned, Replied, acts_now, me_of, incarnation_of, clock_of, is_up_first_as};
+ghost use Rattle.world_process.specs.Processes.{ProcessStands, SameProcess, Crashed, Begun, StoppedAs, Turned, Replied};
+ghost use Rattle.world_process.specs.Processes.{acts_now, me_of, incarnation_of, clock_of, waking_of, is_up_first_as};
 
 use crate::controller::Controller;
 use crate::kubelet::Kubelet;
 use crate::moves::{Received, Stopped, Turn, stop_with};
+use crate::waking::Waking;
 use kube_base::{Beat, Local, ProcId};
 use kube_objects::{Actor, ReadyStatus, Reply};
 use leader_elector::Acting;
@@ -171,25 +173,35 @@ impl Process {
         ensures within { (doc : Doc) (p : ℕ) (h : List Entry) → ProcessStands doc p h self.now
             → IfSome result (λ beat. beat.0 ≤ (clock_of self.now).end) }
     {
-        match self {
-            Process::Controller(controller) => controller.turn_beat(),
-            Process::Kubelet(kubelet) => kubelet.turn_beat(),
-        }
+        self.waking().beat_of(self.clock(), self.wake())
     }
 
     /// Finds `turn_beat` and keeps it, so that its next turns needn't read the clock.
     pub fn keep_turn_beat(&mut self)
         ensures same { SameProcess self.old self.new }
         ensures stands { (doc : Doc) (p : ℕ) (h : List Entry) → ProcessStands doc p h self.old → ProcessStands doc p h self.new }
+        ensures kept { (doc : Doc) (p : ℕ) (h : List Entry) (at : Option Local) → ProcessStands doc p h self.old
+            → reading_of at ≡ own_reading doc p h → IsBeatOf (clock_of self.new) (waking_of self.new).until at }
     {
+        let wake = self.wake();
         match self {
-            Process::Controller(controller) => controller.keep_turn_beat(),
-            Process::Kubelet(kubelet) => kubelet.keep_turn_beat(),
+            Process::Controller(controller) => controller.waking.keep(&controller.clock, wake),
+            Process::Kubelet(kubelet) => kubelet.waking.keep(&kubelet.clock, wake),
         }
     }
 
-    /// What shows that it acts as the leader at a beat; None where it doesn't, as a kubelet never does.
-    pub fn acting(&self, beat: Beat) -> Option<Acting<'_>>
+    // The beat that it keeps.
+    fn waking(&self) -> &Waking
+        ensures { result.now ≡ waking_of self.now }
+    {
+        match self {
+            Process::Controller(controller) => &controller.waking,
+            Process::Kubelet(kubelet) => &kubelet.waking,
+        }
+    }
+
+    /// The leadership that it has at a beat, which shows that it acts; None where it doesn't, as a kubelet never does.
+    pub fn leadership(&self, beat: Beat) -> Option<Acting<'_>>
         requires { beat.0 ≤ (clock_of self.now).end }
         ensures acts { (doc : Doc) (k p : ℕ) (h : List Entry) → ProcessStands doc p h self.now → beat.0 ≡ k
             → is_some result ≡ acts_now doc k p h }
@@ -199,7 +211,7 @@ impl Process {
             → IfSome result (λ a. alive p h ≡ Some (incarnation_of self.now)) }
     {
         match self {
-            Process::Controller(controller) => controller.acting(beat),
+            Process::Controller(controller) => controller.leadership(beat),
             Process::Kubelet(_) => None,
         }
     }

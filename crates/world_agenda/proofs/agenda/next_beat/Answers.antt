@@ -4,7 +4,7 @@ use Rattle.history.specs.History.{history}
 use Rattle.world_core.specs.Waits.{beat_of}
 use Rattle.world_core.specs.Worlds.{at_of}
 use Rattle.world_agenda.specs.Woken.{not_before}
-use Rattle.world_agenda.proofs.Looking.{at-once, idle-one, looked-first, looked-next, looked-all}
+use Rattle.world_agenda.proofs.Looking.{at-once, looked-first, looked-next, looked-all}
 use Rattle.world_agenda.proofs.agenda.next_beat.Goals as goal
 
 pub loop-i-init : goal.loop-i-init
@@ -30,8 +30,8 @@ loop-i-preserved c doc events stands end =
     let count = c.processes-i-end.ensures.stands doc k h stands in
     let inside : c.loop-i.i < processes doc = omega (arith, c.loop-i-test.true, count) in
     let wakes = c.wakes-wakes.ensures doc k h stands end in
-    looked-next doc k c.loop-i.i h c.wakes-wakes.result c.loop-i.next c.woken.result c.sooner-next-in-loop-i.result c.next_beats_are_soonest.ensures.more start inside
-    (c.loop-i.invariant doc events stands end) wakes c.if-wakes.false (c.woken.ensures doc k h stands end wakes (idle-one doc k c.loop-i.i h c.wakes-wakes.result wakes c.if-wakes.false)) c.sooner-next-in-loop-i.ensures
+    looked-next doc k c.loop-i.i h c.wakes-wakes.result c.loop-i.next c.beat_of_waking.result c.sooner-next-in-loop-i.result c.next_beats_are_soonest.ensures.more start inside
+    (c.loop-i.invariant doc events stands end) wakes c.if-wakes.false (c.beat_of_waking.ensures doc k h stands end) c.sooner-next-in-loop-i.ensures
 
 pub returns : goal.returns
 returns c doc events stands end =

@@ -1,4 +1,5 @@
 use Rattle.std.proofs.Common.{◌≡◌, ◌≤◌, sym, subst, arith}
+use Rattle.kube_base.specs.Bounds.{most_local}
 use Rattle.kube_objects.specs.Clocks.{local}
 use Rattle.agenda_laws.specs.Ticking.{term_reading}
 use Rattle.agenda_laws.specs.Times.{is_early}
@@ -22,6 +23,6 @@ returns c doc k h q s end up j within =
     let later = reading-monotone clock j w.end.0 inside in
     let value = c.local-last.ensures.value in
     let range = c.local-last.ensures.range in
-    let most : local doc p j ≤ 2000000000000000000 = omega (arith, later, value, range, reading-local doc p j clock stands) in
+    let most : local doc p j ≤ most_local = omega (arith, later, value, range, reading-local doc p j clock stands) in
     subst (λ n. is_early (local doc n j) (local_of c.wake.result) ≡ is_early (local doc n j) (term_reading doc q h)) up.process
-    (c.wake.ensures doc j q h s.within.terms up (subst (λ n. local doc n j ≤ 2000000000000000000) (sym up.process) most))
+    (c.wake.ensures doc j q h s.within.terms up (subst (λ n. local doc n j ≤ most_local) (sym up.process) most))

@@ -24,7 +24,7 @@ returns-in_default-clause-stands g c doc k before arriving coming h r unticked f
     let i = c.args.i in
     let x = c.index-process.result.now in
     let was = read-at w i x c.requires.index c.index-process.ensures in
-    let none : acts_now doc k i h ≡ false = sym (c.acting.ensures.acts doc k i h (r.world.processes i x was) r.world.rest.document.at) ∙ ap is_some c.in_default.is in
+    let none : acts_now doc k i h ≡ false = sym (c.leadership.ensures.acts doc k i h (r.world.processes i x was) r.world.rest.document.at) ∙ ap is_some c.in_default.is in
     running-unticked doc k i before c.args.deeds.now arriving coming h w none r
 
 pub local-now-requires : goal.local-now-requires
@@ -48,10 +48,10 @@ returns-clause-stands g c doc k before arriving coming h r unticked few =
     let d = r.world.rest.document in
     let within = within-processes doc k w i d c.requires.index in
     let some = ap is_some c.in-Some.is in
-    let up = some-holds c.acting.result _ some (c.acting.ensures.up doc i h s) in
-    let acts = acts-is doc k i n h up (sym (c.acting.ensures.acts doc k i h s d.at) ∙ some) in
+    let up = some-holds c.leadership.result _ some (c.leadership.ensures.up doc i h s) in
+    let acts = acts-is doc k i n h up (sym (c.leadership.ensures.acts doc k i h s d.at) ∙ some) in
     let me : c.me-who.result.0 ≡ i = ap (λ m. m.0) c.me-who.ensures ∙ process-me doc i h x s in
-    let who : acting_identity c.in-Some.acting ≡ q = subst (λ o. IfSome o (λ a. acting_identity a ≡ q)) c.in-Some.is (c.acting.ensures.identity doc i h s) in
+    let who : acting_identity c.in-Some.leadership ≡ q = subst (λ o. IfSome o (λ a. acting_identity a ≡ q)) c.in-Some.is (c.leadership.ensures.identity doc i h s) in
     let clock = its-clock doc i h x s in
     let view = view-is doc k q h (clock_of x) _ clock
     (c.watch.ensures doc h r.world.rest.in_force (subst (λ p. p < processes doc) (sym me) within) ∙ ap (λ p. watches doc p h) me)

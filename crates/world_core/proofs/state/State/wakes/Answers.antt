@@ -16,8 +16,8 @@ returns-then-is_up_first c doc k h s end =
     let starts = starts-is doc k p h x (sym s.within.rest.document.at ∙ c.if-self-eq0.true) (sym c.is_up_first.ensures ∙ c.if-is_up_first.true) (s.within.processes p x was) in
     starting-stands doc k p h c.at_once.result starts (ap (λ w. w.at_once) c.at_once.ensures)
 
-pub acting-requires : goal.acting-requires
-acting-requires c =
+pub leadership-requires : goal.leadership-requires
+leadership-requires c =
     let x = c.index-process.result.now in
     within-end c.args.self.now c.args.who.0 x c.requires.ready c.requires.within (read-at c.args.self.now c.args.who.0 x c.requires.process c.index-process.ensures)
 
@@ -32,7 +32,7 @@ returns-then-is_none c doc k h s end =
       | else-self-eq0-via-then-self-eq0+else-is_up_first w ↦ down-is doc k p h x (sym w.is_up_first.ensures ∙ w.if-is_up_first.false) stands
       | else-self-eq0-via-else-self-eq0 w ↦ begun-is doc k p (λ zero. w.if-self-eq0.false (at ∙ zero))
     ] in
-    let none : acts_now doc k p h ≡ false = sym (c.acting.ensures.acts doc k p h stands at) ∙ c.is_none.ensures ∙ ap not c.if-is_none.true in
+    let none : acts_now doc k p h ≡ false = sym (c.leadership.ensures.acts doc k p h stands at) ∙ c.is_none.ensures ∙ ap not c.if-is_none.true in
     subst (WakesStand doc k p h) (sym c.with.ensures) (idle-stands doc k p h (clock_of x) c.wake-wake.result (its-clock doc p h x stands) starts none (c.wake-wake.ensures doc p h stands))
 
 pub returns : goal.returns
@@ -50,8 +50,8 @@ returns c doc k h s end =
       | else-self-eq0-via-else-self-eq0 w ↦ begun-is doc k p (λ zero. w.if-self-eq0.false (d.at ∙ zero))
     ] in
     let some = c.is_none.ensures ∙ ap not c.if-is_none.false in
-    let up = some-holds c.acting.result _ some (c.acting.ensures.up doc p h stands) in
-    let acts = acts-is doc k p i h up (sym (c.acting.ensures.acts doc k p h stands d.at) ∙ some) in
+    let up = some-holds c.leadership.result _ some (c.leadership.ensures.up doc p h stands) in
+    let acts = acts-is doc k p i h up (sym (c.leadership.ensures.acts doc k p h stands d.at) ∙ some) in
     let it = up-as doc k p i h up acts in
     let watch = c.watch-watch.ensures doc h s.within.rest.in_force (within-processes doc k w p d c.requires.process) in
     subst (WakesStand doc k p h) (sym c.with-2.ensures)

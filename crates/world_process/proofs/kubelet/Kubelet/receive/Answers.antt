@@ -1,10 +1,9 @@
-use Rattle.std.proofs.Common.{◌≡◌, Some, None, sym, ap, ◌∙◌, subst}
-use Rattle.kube_objects.specs.Clocks.{local, wall}
+use Rattle.std.proofs.Common.{Some, None, sym, subst}
 use Rattle.kube_objects.specs.Identities.{identity}
 use Rattle.world_process.specs.Kubelets.{Replied}
-use Rattle.world_process.proofs.Answering.{IsBack}
+use Rattle.world_process.proofs.Answering.{is-back}
 use Rattle.world_process.proofs.Kubelets.{rounds-at}
-use Rattle.world_process.proofs.Readings.{reading-local, wall-when}
+use Rattle.world_process.proofs.Readings.{readings-are}
 use Rattle.world_process.proofs.Rounds.{kubelet-answers, kubelet-replied-down, kubelet-replied-other}
 use Rattle.world_process.proofs.kubelet.Kubelet.receive.Goals as goal
 
@@ -16,7 +15,7 @@ returns-then-incarnation-self-clause-stands c doc k p b h s at who number reply 
 pub returns-in-None-clause-stands : goal.returns-in-None-clause-stands
 returns-in-None-clause-stands c doc k p b h s at who number reply few =
     let self = c.args.self.now in
-    let back : IsBack b (identity p self.incarnation) c.args.number c.args.reply.now = record { who = who ∙ ap (identity p) c.if-incarnation-self.false; number = number; reply = reply } in
+    let back = is-back b p c.args.incarnation self.incarnation c.args.number c.args.reply.now who c.if-incarnation-self.false number reply in
     let down = rounds-at doc p h self None s c.in-None.is in
     subst (λ r. Replied doc k p b h (record self { rounds = self.rounds }) r) (sym c.stays-in-None.ensures)
     (subst (λ x. Replied doc k p b h (record self { rounds = x }) (record { lead = None; ask = None })) (sym c.in-None.is) (kubelet-replied-down doc k p b c.args.number c.args.reply.now h self s down back))
@@ -25,11 +24,10 @@ pub returns-in-Some-clause-stands : goal.returns-in-Some-clause-stands
 returns-in-Some-clause-stands c doc k p b h s at who number reply few =
     let self = c.args.self.now in
     let q = identity p self.incarnation in
-    let now : c.local-now.result.0 ≡ local doc p k = c.local-now.ensures.value ∙ reading-local doc p c.args.beat.0 self.clock s.clock ∙ ap (local doc p) at in
-    let wall_is : c.wall_at-wall.result.0 ≡ wall doc p k = c.wall_at-wall.ensures.value ∙ wall-when doc p k c.local-now.result.0 self.clock s.clock now in
-    let back : IsBack b q c.args.number c.args.reply.now = record { who = who ∙ ap (identity p) c.if-incarnation-self.false; number = number; reply = reply } in
+    let reads = readings-are doc p k c.args.beat.0 c.local-now.result.0 c.wall_at-wall.result.0 self.clock s.clock at c.local-now.ensures.value c.wall_at-wall.ensures.value in
+    let back = is-back b p c.args.incarnation self.incarnation c.args.number c.args.reply.now who c.if-incarnation-self.false number reply in
     let was = rounds-at doc p h self (Some c.in-Some.rounds) s c.in-Some.is in
     subst (λ r. Replied doc k p b h (record self { rounds = Some c.on_reply.new.self }) r) (sym c.received_with.ensures)
     (kubelet-answers doc k p b c.args.number c.args.reply.now h self c.on_reply.new.self s was.0 back c.on_reply.result
-    (λ none call. c.on_reply.ensures.uncounted doc q h k was.1 now was.0 none call)
-    (λ call some. c.on_reply.ensures.counts doc q h k call was.1 now wall_is (few.calls q) some))
+    (λ none call. c.on_reply.ensures.uncounted doc q h k was.1 reads.now was.0 none call)
+    (λ call some. c.on_reply.ensures.counts doc q h k call was.1 reads.now reads.wall (few.calls q) some))

@@ -1,9 +1,46 @@
-use Rattle.std.proofs.Common.{subst}
+use Rattle.std.proofs.Common.{sym, ◌∙◌, subst}
+use Rattle.world_process.specs.Controllers.{ControllerStands}
+use Rattle.world_process.specs.Kubelets.{KubeletStands}
 use Rattle.world_process.specs.Processes.{ProcessStands}
+use Rattle.world_process.proofs.Wakes.{beat-same}
 use Rattle.world_process.proofs.process.Process.keep_turn_beat.Goals as goal
 
 pub returns-in-Controller-clause-stands : goal.returns-in-Controller-clause-stands
-returns-in-Controller-clause-stands c doc p h s = c.keep_turn_beat.ensures.stands doc p h (subst (ProcessStands doc p h) c.in-Controller.is s)
+returns-in-Controller-clause-stands c doc p h s =
+    let own : ControllerStands doc p h c.in-Controller.controller = subst (ProcessStands doc p h) c.in-Controller.is s in
+    record {
+      sort = own.sort;
+      me = own.me;
+      incarnation = own.incarnation;
+      timing = own.timing;
+      clock = own.clock;
+      up_first = own.up_first;
+      role = own.role;
+      waking = c.keep.ensures.kept own.waking;
+    }
+
+pub returns-in-Controller-clause-kept : goal.returns-in-Controller-clause-kept
+returns-in-Controller-clause-kept c doc p h at s is =
+    let own : ControllerStands doc p h c.in-Controller.controller = subst (ProcessStands doc p h) c.in-Controller.is s in
+    beat-same c.in-Controller.controller.clock c.keep.new.self.until c.wake-wake.result at (c.wake-wake.ensures doc p h s ∙ sym is) (c.keep.ensures.found own.waking)
 
 pub returns-in-Kubelet-clause-stands : goal.returns-in-Kubelet-clause-stands
-returns-in-Kubelet-clause-stands c doc p h s = c.keep_turn_beat-in-Kubelet.ensures.stands doc p h (subst (ProcessStands doc p h) c.in-Kubelet.is s)
+returns-in-Kubelet-clause-stands c doc p h s =
+    let own : KubeletStands doc p h c.in-Kubelet.kubelet = subst (ProcessStands doc p h) c.in-Kubelet.is s in
+    record {
+      sort = own.sort;
+      me = own.me;
+      incarnation = own.incarnation;
+      node = own.node;
+      lease = own.lease;
+      timeout = own.timeout;
+      clock = own.clock;
+      up_first = own.up_first;
+      rounds = own.rounds;
+      waking = c.keep-in-Kubelet.ensures.kept own.waking;
+    }
+
+pub returns-in-Kubelet-clause-kept : goal.returns-in-Kubelet-clause-kept
+returns-in-Kubelet-clause-kept c doc p h at s is =
+    let own : KubeletStands doc p h c.in-Kubelet.kubelet = subst (ProcessStands doc p h) c.in-Kubelet.is s in
+    beat-same c.in-Kubelet.kubelet.clock c.keep-in-Kubelet.new.self.until c.wake-wake.result at (c.wake-wake.ensures doc p h s ∙ sym is) (c.keep-in-Kubelet.ensures.found own.waking)

@@ -5,12 +5,12 @@ use Rattle.leader_elector.specs.Stands.{acting_identity}
 use Rattle.world_process.specs.Controllers.{ControllerStands}
 use Rattle.world_process.specs.Kubelets.{KubeletStands}
 use Rattle.world_process.specs.Processes.{ProcessStands, acts_as, incarnation_of}
-use Rattle.world_process.proofs.process.Process.acting.Goals as goal
+use Rattle.world_process.proofs.process.Process.leadership.Goals as goal
 
 pub returns-in-Controller-clause-acts : goal.returns-in-Controller-clause-acts
 returns-in-Controller-clause-acts c doc k p h s at =
     let own : ControllerStands doc p h c.in-Controller.controller = subst (ProcessStands doc p h) c.in-Controller.is s in
-    c.acting.ensures.acts doc k p h own at ∙ sym (ap (λ b. acts_as doc k p b h) own.sort)
+    c.leadership.ensures.acts doc k p h own at ∙ sym (ap (λ b. acts_as doc k p b h) own.sort)
 
 pub returns-in-Kubelet-clause-acts : goal.returns-in-Kubelet-clause-acts
 returns-in-Kubelet-clause-acts c doc k p h s at =
@@ -20,9 +20,9 @@ returns-in-Kubelet-clause-acts c doc k p h s at =
 pub returns-in-Controller-clause-identity : goal.returns-in-Controller-clause-identity
 returns-in-Controller-clause-identity c doc p h s =
     let own : ControllerStands doc p h c.in-Controller.controller = subst (ProcessStands doc p h) c.in-Controller.is s in
-    subst (λ x. IfSome c.acting.result (λ a. acting_identity a ≡ identity p (incarnation_of x))) (sym c.in-Controller.is) (c.acting.ensures.identity doc p h own)
+    subst (λ x. IfSome c.leadership.result (λ a. acting_identity a ≡ identity p (incarnation_of x))) (sym c.in-Controller.is) (c.leadership.ensures.identity doc p h own)
 
 pub returns-in-Controller-clause-up : goal.returns-in-Controller-clause-up
 returns-in-Controller-clause-up c doc p h s =
     let own : ControllerStands doc p h c.in-Controller.controller = subst (ProcessStands doc p h) c.in-Controller.is s in
-    subst (λ x. IfSome c.acting.result (λ a. alive p h ≡ Some (incarnation_of x))) (sym c.in-Controller.is) (c.acting.ensures.up doc p h own)
+    subst (λ x. IfSome c.leadership.result (λ a. alive p h ≡ Some (incarnation_of x))) (sym c.in-Controller.is) (c.leadership.ensures.up doc p h own)

@@ -6,7 +6,7 @@ use Rattle.world_process.specs.Processes.{acts_if_up}
 use Rattle.world_process.proofs.Readings.{reading-local}
 use Rattle.world_process.proofs.Standing.{role-at}
 use Rattle.world_process.proofs.Timers.{unled-acts}
-use Rattle.world_process.proofs.controller.Controller.acting.Goals as goal
+use Rattle.world_process.proofs.controller.Controller.leadership.Goals as goal
 
 pub returns-in-Down-clause-acts : goal.returns-in-Down-clause-acts
 returns-in-Down-clause-acts c doc k p h s at =
