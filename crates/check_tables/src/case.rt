@@ -29,13 +29,17 @@ fn case_holds(
     case: &str,
 ) -> Result<bool, NoMemory> {
     let input = filled(alloc, form, case)?;
-    let line = line_of(alloc, wanted)?;
+    let lines = lines_of(alloc, wanted)?;
     match kind {
-        Kind::Both => both_write(alloc, input.as_bytes(), line.as_str()),
-        Kind::Check => writes(alloc, "check", input.as_bytes(), line.as_str()),
-        Kind::Collect => writes(alloc, "collect", input.as_bytes(), line.as_str()),
-        Kind::Place => writes(alloc, "place", input.as_bytes(), line.as_str()),
-        Kind::Many => many_hold(alloc, case, line.as_str()),
+        Kind::Both => both_write(alloc, input.as_bytes(), lines.as_str()),
+        Kind::Check => writes(alloc, "check", input.as_bytes(), lines.as_str()),
+        Kind::Collect => writes(alloc, "collect", input.as_bytes(), lines.as_str()),
+        Kind::Place => writes(alloc, "place", input.as_bytes(), lines.as_str()),
+        Kind::Audit => {
+            let trace = with_line_feeds(alloc, &input)?;
+            writes(alloc, "audit", trace.as_bytes(), lines.as_str())
+        }
+        Kind::Many => many_hold(alloc, case, lines.as_str()),
         Kind::Read => is_text(Some(read_text(alloc, input.as_str())?), wanted),
         Kind::Holder => is_text(holder_in(alloc, input.as_str())?, wanted),
         Kind::Written => is_text(written_of(alloc, input.as_str())?, wanted),
@@ -51,8 +55,23 @@ fn filled(alloc: Global, form: &str, case: &str) -> Result<String, NoMemory> {
     }
 }
 
-fn line_of(alloc: Global, text: &str) -> Result<String, NoMemory> {
-    Ok(format!(in alloc; "{text}\n")?)
+/// The text with a line feed in the place of each `\n`.
+fn with_line_feeds(alloc: Global, text: &str) -> Result<String, NoMemory> {
+    let mut lines = String::new(alloc);
+    for (place, line) in text.split("\\n").enumerate() {
+        if place > 0 {
+            lines.push('\n')?;
+        }
+        lines.push_str(line)?;
+    }
+    Ok(lines)
+}
+
+/// The lines of a text, in which `\n` stands between two.
+fn lines_of(alloc: Global, text: &str) -> Result<String, NoMemory> {
+    let mut lines = with_line_feeds(alloc, text)?;
+    lines.push('\n')?;
+    Ok(lines)
 }
 
 fn is_text(text: Option<String>, wanted: &str) -> Result<bool, NoMemory> {
@@ -84,10 +103,10 @@ fn words_hold(alloc: Global, wanted: &str, row: &str, status: Status) -> Result<
     for word in row.split('\t').skip(1) {
         words.push(String::from_str(alloc, word)?)?;
     }
-    let line = line_of(alloc, wanted)?;
+    let lines = lines_of(alloc, wanted)?;
     let trial = Trial {
         fails: &[0],
-        ..ample(b"{}", line.len())
+        ..ample(b"{}", lines.len())
     };
-    ends(alloc, &words, &trial, status, line.as_bytes())
+    ends(alloc, &words, &trial, status, lines.as_bytes())
 }

@@ -11,6 +11,8 @@ pub(crate) enum Kind {
     Collect,
     /// What `place` writes, and its input.
     Place,
+    /// What `audit` writes, and the trace, with `\n` for each line feed.
+    Audit,
     /// What both commands write, and a document with many members, in parts.
     Many,
     /// The words of a run that writes the second line.
@@ -50,6 +52,7 @@ fn kind_of(line: &str) -> Option<Kind> {
         "check" => Some(Kind::Check),
         "collect" => Some(Kind::Collect),
         "place" => Some(Kind::Place),
+        "audit" => Some(Kind::Audit),
         "many" => Some(Kind::Many),
         "words" => Some(Kind::Words),
         "lines" => Some(Kind::Lines),

@@ -1,5 +1,5 @@
 -- The trace grows with the beats.
-use Rattle.std.proofs.Common.{◌≡◌, ◌⊎◌, ◌↔◌, IsTrue, Bool, true, ℕ, zero, suc, ◌+◌, ◌-◌, ◌<◌, ◌≤◌, List, [], ◌∷◌, ◌++◌, Option, Some, None, refl, inl, inr, sym, ap, ◌∙◌, subst, append_assoc, add-one, arith}
+use Rattle.std.proofs.Common.{◌≡◌, ◌⊎◌, ◌↔◌, IsTrue, Bool, true, ℕ, zero, suc, ◌+◌, ◌-◌, ◌<◌, ◌≤◌, List, [], ◌∷◌, ◌++◌, Option, Some, None, Result, refl, inl, inr, sym, ap, ◌∙◌, subst, append_assoc, add-one, arith}
 use Rattle.std.proofs.lemmas.Bool.{lt-ltb}
 use Rattle.std.proofs.lemmas.List.{append-nil}
 use Rattle.std.proofs.lemmas.Grind.{flat_map-append}
@@ -26,7 +26,9 @@ use Rattle.world_core.specs.Worlds.{AreQuiet, WorldStands}
 use Rattle.trace_writer.specs.Lines.{line_of, lines_of}
 use Rattle.replay_top.specs.Traces.{first_of, trace_before, trace_of, trace}
 use Rattle.replay_top.specs.Names.{process_names}
-use Rattle.replay_top.proofs.Said.{gave-longer}
+use Rattle.replay_top.specs.Spoken.{Spoken, Written}
+use Rattle.replay_top.proofs.Said.{gave-longer, spoken-first, spoken-so_far}
+use Rattle.trace_writer.specs.declared.writing.WriteFault.{WriteFault}
 
 -- the printed entries of a position of a history are a front of the history's
 printed-tail : (g h : List Entry) → IsTail g h → (more : List Deed) × (printed g ++ more ≡ printed h)
@@ -59,6 +61,11 @@ gave-whole doc names processes k before after within g = from (printed-later doc
     from later =
         gave-longer before after (trace_before doc names processes k) (lines_of names processes later.0) (trace_of doc names processes)
         (lines-more doc names processes (printed (history doc k)) later.0 ∙ ap (λ x. first_of doc ++ lines_of names processes x) later.1) g
+
+-- a fault comes after some beats, with some of their text in the buffer
+pub gave-so_far : (doc : Doc) (names processes : List (List ℕ)) (k : ℕ) (before now : Option (List ℕ)) (buffer : List ℕ) → k ≤ end_beat doc + 1 → Spoken before now buffer (trace_before doc names processes k) → Gave before now (trace_of doc names processes)
+gave-so_far doc names processes k before now buffer within s =
+    gave-whole doc names processes k before now within (spoken-so_far before now buffer (trace_before doc names processes k) s)
 
 -- ---- beats of which no entry stands
 
@@ -100,8 +107,8 @@ last-passed doc k within next =
     ap (history doc) last ∙ (passed doc k (end_beat doc + 1) within (omega arith) (λ j from less. next.quiet j from (omega (arith, less)) refl)).0
 
 -- the end is passed
-pub finished-next : (doc : Doc) (k end : ℕ) (b : Bool) → (IsTrue b ↔ (end < k)) → b ≡ true → end ≡ end_beat doc → IsNextBeat doc k None
-finished-next doc k end b tells answer is =
+pub passed-next : (doc : Doc) (k end : ℕ) (b : Bool) → (IsTrue b ↔ (end < k)) → b ≡ true → end ≡ end_beat doc → IsNextBeat doc k None
+passed-next doc k end b tells answer is =
     let over : end < k = tells.0 answer in
     record { quiet = λ j from within early. absurd (omega (arith, from, within, over, is)); there = λ n some. absurd (none_some n some) }
   where
@@ -161,3 +168,10 @@ trace-first doc names processes empty text none is =
 pub trace-named : (d : Document) (names processes : List (List ℕ)) → names ≡ d.names → processes ≡ process_names d.names (doc_of d) → trace_of (doc_of d) names processes ≡ trace d
 unfolding trace
 trace-named d names processes named ordered = ap (λ n. trace_of (doc_of d) n processes) named ∙ ap (trace_of (doc_of d) d.names) ordered
+
+-- what is written after the first line is the document's trace
+pub trace-written : {T : Type 0} (d : Document) (names processes : List (List ℕ)) (before after : Option (List ℕ)) (empty text : List ℕ) (r : Result T WriteFault) → empty ≡ [] → text ≡ empty ++ first_of (doc_of d) → names ≡ d.names → processes ≡ process_names d.names (doc_of d)
+    → (Spoken before before text (trace_before (doc_of d) names processes 0) → Written before after (trace_of (doc_of d) names processes) r) → Written before after (trace d) r
+trace-written d names processes before after empty text r none is named ordered written =
+    let first = trace-first (doc_of d) names processes empty text none is in
+    subst (λ l. Written before after l r) (trace-named d names processes named ordered) (written (spoken-first before text (trace_before (doc_of d) names processes 0) first))

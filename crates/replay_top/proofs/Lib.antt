@@ -1,10 +1,13 @@
+-- ---- words and numbers
 pub mod Asked
+pub mod Numbers
+-- ---- a text as it is written
+pub mod Added
 pub mod Said
+pub mod Writables
 pub mod Grown
+pub mod Counted
+-- ---- the bytes that were taken, and how a run ends
 pub mod Readings
 pub mod Askings
-pub mod Writables
 pub mod Endings
-pub mod Numbers
-pub mod Counted
-pub mod Added

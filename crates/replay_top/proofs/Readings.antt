@@ -1,5 +1,5 @@
 -- What a command does with the bytes that were taken.
-use Rattle.std.proofs.Common.{◌≡◌, ◌≤◌, ◌<◌, ℕ, cond, List, [], ◌∷◌, ◌++◌, length, drop, Option, Some, Result, refl, ap, ◌∙◌, subst, arith, length-append}
+use Rattle.std.proofs.Common.{◌≡◌, ◌≤◌, ◌<◌, ℕ, cond, List, [], ◌∷◌, ◌++◌, length, drop, Option, Some, Result, refl, sym, ap, ◌∙◌, subst, arith, length-append}
 use Rattle.std.proofs.lemmas.Bool.{le-leb, lt-leb}
 use Rattle.byte_edge.specs.Bytes.{Took, TookAll, IsTooLarge}
 use Rattle.manifest_json.specs.declared.fault.Refusal.{Refusal}
@@ -16,8 +16,19 @@ means-read bytes shown found short is exact command =
     subst (λ l. obeyed command l ≡ answered command found) is
     (ap (λ b. cond b (answered command (document_walk shown)) (refused (of_whole 33) (drop 16777217 shown))) (le-leb (length shown) 16777216 short) ∙ ap (answered command) exact)
 
-pub took-told : (left after : Option (List ℕ)) (bytes taken : List ℕ) → left ≡ Some bytes → TookAll left after taken → (taken ≡ bytes) × (after ≡ Some [])
+took-told : (left after : Option (List ℕ)) (bytes taken : List ℕ) → left ≡ Some bytes → TookAll left after taken → (taken ≡ bytes) × (after ≡ Some [])
 took-told left after bytes taken told all = let P : Option (List ℕ) → Type 0 = λ l. TookAll l after taken in subst P told all
+
+-- all bytes that the source told were taken, at most as many as may be, and a slice shows them
+pub record AllTaken (after : Option (List ℕ)) (bytes shown : List ℕ) : Type 0 where
+  pub short : length shown ≤ 16777216
+  pub is : shown ≡ bytes
+  pub left : after ≡ Some []
+
+pub all-taken : (left after : Option (List ℕ)) (bytes items shown : List ℕ) → left ≡ Some bytes → shown ≡ items → TookAll left after items × (length items ≤ 16777216) → AllTaken after bytes shown
+all-taken left after bytes items shown told value took =
+    let all = took-told left after bytes items told took.0 in
+    record { short = subst (λ l. length l ≤ 16777216) (sym value) took.1; is = value ∙ all.0; left = all.1 }
 
 drop-front : (xs ys : List ℕ) → drop (length xs) (xs ++ ys) ≡ ys
 drop-front [] ys = refl

@@ -6,5 +6,6 @@ use Rattle.replay_top.specs.declared.command.Command.TheVariants.{Replay, Check}
 
 -- one word is a command; no other list of words is one
 abbrev pub command_of : List (List ℕ) → Option Command
-command_of (word ∷ []) = if bytes_eq word (codes "replay") then Some Replay else (if bytes_eq word (codes "check") then Some Check else None)
+command_of (word ∷ []) =
+    if bytes_eq word (codes "replay") then Some Replay else (if bytes_eq word (codes "check") then Some Check else None)
 command_of _ = None

@@ -1,5 +1,6 @@
 -- What a run writes and how it ends.
-use Rattle.std.specs.Prelude.{◌≡◌, ℕ, ◌++◌, nat_le, List, [], length, drop, codes, decimal, Option, Some, None, Result, Ok, Err, if◌then◌else◌}
+use Rattle.std.specs.Prelude.{◌≡◌, ℕ, ◌++◌, nat_le, List, [], length, drop, codes, decimal, if◌then◌else◌}
+use Rattle.std.specs.Prelude.{Option, Some, None, Result, Ok, Err}
 use Rattle.byte_edge.specs.Bytes.{Gives, Gave}
 use Rattle.manifest_json.specs.declared.fault.Refusal.{Refusal}
 use Rattle.script_reader.specs.declared.document.Document.{Document}
@@ -50,7 +51,8 @@ answered command (Err r) = refused r []
 
 -- at most 16,777,216 bytes are read, and one more to see that there are more
 unfoldable pub obeyed : Command → List ℕ → Outcome
-obeyed command bytes = if nat_le (length bytes) 16777216 then answered command (document_walk bytes) else refused (of_whole 33) (drop 16777217 bytes)
+obeyed command bytes =
+    if nat_le (length bytes) 16777216 then answered command (document_walk bytes) else refused (of_whole 33) (drop 16777217 bytes)
 
 -- a trace gets a report, or is refused at its first line at fault
 abbrev pub audit_answer : Result Report Fault → Outcome
@@ -68,7 +70,8 @@ told (Err r) = refused r []
 
 -- of the input of a question too at most 16,777,216 bytes are read, and one more
 unfoldable pub asked : Question → List ℕ → Outcome
-asked question bytes = if nat_le (length bytes) 16777216 then told (answer_of question bytes) else refused (of_whole 33) (drop 16777217 bytes)
+asked question bytes =
+    if nat_le (length bytes) 16777216 then told (answer_of question bytes) else refused (of_whole 33) (drop 16777217 bytes)
 
 -- the source isn't read
 abbrev pub unread : List ℕ → List ℕ → Outcome
@@ -105,6 +108,10 @@ Ends o left before after Usage = IsWhole o left before after Usage
 Ends o left before after SourceFault = after ≡ before
 Ends o left before after SinkFault = Gave before after o.text
 Ends o left before after OutOfMemory = Gave before after o.text
+
+-- of whatever bytes the source tells, the run ends as by these
+abbrev pub EndsAs : (List ℕ → Outcome) → Option (List ℕ) → Option (List ℕ) → Option (List ℕ) → Option (List ℕ) → Status → Type 0
+EndsAs outcome source left before after ended = (bytes : List ℕ) → source ≡ Some bytes → Ends (outcome bytes) left before after ended
 
 -- a run that needs no source was done, the sink failed, or memory was wanted
 abbrev pub IsRunEnd : Status → Type 0

@@ -1,6 +1,9 @@
 -- A document that is replayed, and the steps that a run counts.
-use Rattle.std.specs.Prelude.{◌≡◌, ℕ, List, Option, Some, Ok}
+use Rattle.std.specs.Prelude.{◌≡◌, ℕ, true, List, Option, Some, Ok}
+use Rattle.kube_objects.specs.Document.{Doc}
+use Rattle.history.specs.Premise.{lease_premise}
 use Rattle.script_reader.specs.declared.document.Document.{Document}
+use Rattle.script_reader.specs.Documents.{doc_of}
 use Rattle.script_reader.specs.Walk.{document_walk}
 use Rattle.replay_top.specs.declared.command.Command.TheVariants.{Replay}
 use Rattle.replay_top.specs.declared.status.Status.{Status}
@@ -13,6 +16,14 @@ pub record Replays (words : List (List ℕ)) (left : Option (List ℕ)) (d : Doc
   pub told : left ≡ Some bytes
   pub command : command_of words ≡ Some Replay
   pub read : document_walk bytes ≡ Ok d
+
+-- this holds of every document that is replayed where the lease premise holds
+abbrev pub WhereReplayedUnderPremise : List (List ℕ) → Option (List ℕ) → (Doc → Type 0) → Type 0
+WhereReplayedUnderPremise words left P = (d : Document) → Replays words left d → lease_premise (doc_of d) ≡ true → P (doc_of d)
+
+-- this holds of every document that can be read where the lease premise holds
+abbrev pub WhereReadUnderPremise : (Doc → Type 0) → Type 0
+WhereReadUnderPremise P = (bytes : List ℕ) (d : Document) → document_walk bytes ≡ Ok d → lease_premise (doc_of d) ≡ true → P (doc_of d)
 
 -- the run ended before a document was there to be run
 abbrev pub IsUndone : Status → Type 0

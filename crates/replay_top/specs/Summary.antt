@@ -32,4 +32,5 @@ events_text doc = codes " events=" ++ decimal (length doc.events)
 
 -- what the document has, and whether the lease premise holds
 unfoldable pub summary : Document → List ℕ
-summary d = codes "ok " ++ processes_text (doc_of d) ++ objects_text d.objects ++ events_text (doc_of d) ++ premise_text (lease_premise (doc_of d))
+summary d =
+    codes "ok " ++ processes_text (doc_of d) ++ objects_text d.objects ++ events_text (doc_of d) ++ premise_text (lease_premise (doc_of d))

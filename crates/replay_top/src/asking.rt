@@ -1,16 +1,17 @@
 // Questions on pods, answered from what a source has.
-ghost use Rattle.std.specs.Prelude.{◌≡◌, ◌≢◌, ℕ, List, [], Some};
+ghost use Rattle.std.specs.Prelude.{◌≡◌, ℕ, List, Some};
 ghost use Rattle.byte_edge.specs.Bytes.{Rose};
 ghost use Rattle.manifest_json.specs.Faults.{Gives};
 ghost use Rattle.replay_top.specs.Answerings.{Answers};
-ghost use Rattle.replay_top.specs.Outcome.{Ends, asked, done};
+ghost use Rattle.replay_top.specs.Outcome.{EndsAs, asked};
 ghost use Rattle.replay_top.specs.Questions.{answer_of};
 
 use crate::question::Question;
 use crate::reading::LARGEST;
 use crate::running::{TOO_LARGE, refuse};
 use crate::status::Status;
-use byte_edge::{Failed, Sink, Source, TakeFault, give_all, take_all};
+use crate::writing::write;
+use byte_edge::{Sink, Source, TakeFault, take_all};
 use manifest_json::{ReadFault, Refusal};
 use pod_inputs::{collect_answer, place_answer};
 use std::alloc::Global;
@@ -34,7 +35,7 @@ pub(crate) fn ask<S: Source, K: Sink>(
     source: &mut S,
     sink: &mut K,
 ) -> Status
-    ensures text { (bytes : List ℕ) → S.left source.old ≡ Some bytes → Ends (asked question bytes) (S.left source.new) (K.taken sink.old) (K.taken sink.new) result }
+    ensures text { EndsAs (asked question) (S.left source.old) (S.left source.new) (K.taken sink.old) (K.taken sink.new) result }
     ensures source_fault { result ≡ Status.SourceFault → Rose (S.faults source.old) (S.faults source.new) }
     ensures source_silent { result ≡ Status.SourceFault → K.taken sink.new ≡ K.taken sink.old }
     ensures sink_fault { result ≡ Status.SinkFault → Rose (K.faults sink.old) (K.faults sink.new) }
@@ -45,18 +46,6 @@ pub(crate) fn ask<S: Source, K: Sink>(
         Answering::TooLarge => refuse(alloc, sink, TOO_LARGE, b"/"),
         Answering::Fault => Status::SourceFault,
         Answering::NoMemory => Status::OutOfMemory,
-    }
-}
-
-/// Writes a text that is the answer.
-pub(crate) fn write<K: Sink>(sink: &mut K, text: &[u8]) -> Status
-    ensures text { Ends (done text.now) (Some []) (K.taken sink.old) (K.taken sink.new) result }
-    ensures silent { result ≢ Status.SourceFault }
-    ensures sink_fault { result ≡ Status.SinkFault → Rose (K.faults sink.old) (K.faults sink.new) }
-{
-    match give_all(sink, text) {
-        Ok(()) => Status::Done,
-        Err(Failed) => Status::SinkFault,
     }
 }
 

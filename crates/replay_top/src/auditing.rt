@@ -4,21 +4,21 @@ ghost use Rattle.byte_edge.specs.Bytes.{Rose};
 ghost use Rattle.trace_audit.specs.Alone.{entries_in, OneActs};
 ghost use Rattle.trace_audit.specs.Verdict.{verdict};
 ghost use Rattle.replay_top.specs.Audited.{report_text, refusal_of};
-ghost use Rattle.replay_top.specs.Outcome.{audited, audit_answer, refused, done, Ends};
+ghost use Rattle.replay_top.specs.Outcome.{audited, audit_answer, refused, done, Ends, EndsAs};
 
-use crate::asking::write;
 use crate::reading::LARGEST;
 use crate::running::{TOO_LARGE, refuse};
 use crate::status::Status;
-use crate::texts::{add, add_number};
+use crate::writing::write;
 use byte_edge::{Sink, Source, TakeFault, take_all};
 use kube_base::NoMemory;
 use std::alloc::Global;
 use trace_audit::{AuditFault, Report, audit};
+use trace_writer::{add, add_number};
 
 /// Takes all that the source has and writes the line on the trace that it is.
 pub(crate) fn audit_trace<S: Source, K: Sink>(alloc: Global, source: &mut S, sink: &mut K) -> Status
-    ensures text { (bytes : List ℕ) → S.left source.old ≡ Some bytes → Ends (audited bytes) (S.left source.new) (K.taken sink.old) (K.taken sink.new) result }
+    ensures text { EndsAs audited (S.left source.old) (S.left source.new) (K.taken sink.old) (K.taken sink.new) result }
     ensures source_fault { result ≡ Status.SourceFault → Rose (S.faults source.old) (S.faults source.new) }
     ensures source_silent { result ≡ Status.SourceFault → K.taken sink.new ≡ K.taken sink.old }
     ensures sink_fault { result ≡ Status.SinkFault → Rose (K.faults sink.old) (K.faults sink.new) }
@@ -78,7 +78,8 @@ fn add_count(text: &mut Vec<u8>, label: &[u8], count: u64) -> Result<(), NoMemor
 
 /// Writes the line of a refusal of a trace at one of its lines.
 fn refuse_line<K: Sink>(alloc: Global, sink: &mut K, code: u32, line: u64) -> Status
-    ensures text { Ends (refused (refusal_of (record { code = code; line = line })) []) (Some []) (K.taken sink.old) (K.taken sink.new) result }
+    ensures text { Ends (refused (refusal_of (record { code = code; line = line })) []) (Some []) (K.taken sink.old) (K.taken sink.new)
+        result }
     ensures silent { result ≢ Status.SourceFault }
     ensures not_done { result ≢ Status.Done }
     ensures sink_fault { result ≡ Status.SinkFault → Rose (K.faults sink.old) (K.faults sink.new) }

@@ -8,6 +8,7 @@ mod buffer;
 mod command;
 mod counts;
 mod generating;
+mod processes;
 mod question;
 mod reading;
 mod running;
@@ -15,12 +16,9 @@ mod sizes;
 mod status;
 mod summary;
 mod task;
-mod texts;
 mod trace;
+mod writing;
 
+pub use processes::process_names;
 pub use running::run;
 pub use status::Status;
-pub use texts::process_names;
-
-#[cfg(test)]
-mod tests;

@@ -1,9 +1,8 @@
 // The commands.
-ghost use Rattle.std.specs.Prelude.{◌≡◌, ◌≢◌, ◌⊎◌, ◌≤◌, ◌+◌, ℕ, List, [], Option, Some, None, Ok, Err, true, ◌++◌, OnOk, map, string_bytes};
+ghost use Rattle.std.specs.Prelude.{◌≡◌, ◌≢◌, ◌⊎◌, ◌≤◌, ◌+◌, ℕ, List, [], Some, None, Ok, Err, ◌++◌, OnOk, map, string_bytes};
 ghost use Rattle.agenda_laws.specs.Standing.{standing_beats};
 ghost use Rattle.byte_edge.specs.Bytes.{Rose};
 ghost use Rattle.history.specs.Evictions.{NotEarly, Prompt};
-ghost use Rattle.history.specs.Premise.{lease_premise};
 ghost use Rattle.history.specs.Safe.{Holder, Exclusive};
 ghost use Rattle.history.specs.Spacing.{Spacing};
 ghost use Rattle.manifest_json.specs.declared.fault.Refusal.{Refusal};
@@ -17,8 +16,8 @@ ghost use Rattle.replay_top.specs.Generated.{document_of, generated_line};
 ghost use Rattle.replay_top.specs.Sizes.{sizes_of};
 ghost use Rattle.replay_top.specs.Tasks.{IsRead, IsWithin, task_of};
 ghost use Rattle.replay_top.specs.Outcome.{outcome, usage, performed, obeyed, answer_to, refused, refusal_text, done};
-ghost use Rattle.replay_top.specs.Outcome.{Ends, IsWhole, IsRunEnd};
-ghost use Rattle.replay_top.specs.Replays.{Replays, IsUndone};
+ghost use Rattle.replay_top.specs.Outcome.{Ends, EndsAs, IsWhole, IsRunEnd};
+ghost use Rattle.replay_top.specs.Replays.{Replays, WhereReplayedUnderPremise, WhereReadUnderPremise, IsUndone};
 ghost use Rattle.replay_top.specs.Traces.{trace};
 ghost use Rattle.replay_top.specs.Summary.{summary};
 
@@ -31,8 +30,8 @@ use crate::sizes::Sizes;
 use crate::status::Status;
 use crate::summary::add_summary;
 use crate::task::{Task, task_in};
-use crate::texts::{add, add_number};
 use crate::trace::write_trace;
+use crate::writing::write;
 use byte_edge::{Failed, Sink, Source, give_all};
 use document_laws::{documents_are_lawful, lawful_documents_are_sound};
 use eviction_laws::evictions_are_timely;
@@ -41,7 +40,7 @@ use lease_laws::lease_is_safe;
 use script_reader::Document;
 use spacing_laws::taints_are_spaced;
 use std::alloc::Global;
-use trace_writer::WriteFault;
+use trace_writer::{WriteFault, add, add_number};
 use zone_state::Policies;
 
 /// The code of documents, traces and other inputs that have more bytes than they may have.
@@ -60,8 +59,8 @@ pub fn run<S: Source, K: Sink, L>(
     policies: &Policies,
     steps: &mut Steps<L>,
 ) -> Status
-    ensures text { (bytes : List ℕ) → S.left source.old ≡ Some bytes
-        → Ends (outcome (map string_bytes words.now.items) bytes) (S.left source.new) (K.taken sink.old) (K.taken sink.new) result }
+    ensures text { EndsAs (outcome (map string_bytes words.now.items)) (S.left source.old) (S.left source.new) (K.taken sink.old)
+        (K.taken sink.new) result }
 
     // Words that are no command are answered whether or not the source tells its bytes, with no want of memory.
     ensures usage { task_of (map string_bytes words.now.items) ≡ None
@@ -75,21 +74,23 @@ pub fn run<S: Source, K: Sink, L>(
         × (steps.new ≤ steps.old + standing_beats (document_of sizes)) }
 
     // Where neither count of faults rose, the run ends as it should with all its text, or memory ran out.
-    ensures complete { (bytes : List ℕ) → S.left source.old ≡ Some bytes → ¬ Rose (S.faults source.old) (S.faults source.new) → ¬ Rose (K.faults sink.old) (K.faults sink.new)
-        → IsWhole (outcome (map string_bytes words.now.items) bytes) (S.left source.new) (K.taken sink.old) (K.taken sink.new) result ⊎ (result ≡ Status.OutOfMemory) }
+    ensures complete { (bytes : List ℕ) → S.left source.old ≡ Some bytes
+        → ¬ Rose (S.faults source.old) (S.faults source.new) → ¬ Rose (K.faults sink.old) (K.faults sink.new)
+        → IsWhole (outcome (map string_bytes words.now.items) bytes) (S.left source.new) (K.taken sink.old) (K.taken sink.new) result
+        ⊎ (result ≡ Status.OutOfMemory) }
 
     ensures source_fault { result ≡ Status.SourceFault → Rose (S.faults source.old) (S.faults source.new) }
     ensures source_silent { result ≡ Status.SourceFault → K.taken sink.new ≡ K.taken sink.old }
     ensures sink_fault { result ≡ Status.SinkFault → Rose (K.faults sink.old) (K.faults sink.new) }
 
     // In the history whose trace is written, where the lease premise holds, whoever acts is the stored holder and wasn't stopped.
-    ensures holder { (d : Document) → Replays (map string_bytes words.now.items) (S.left source.old) d → lease_premise (doc_of d) ≡ true → Holder (doc_of d) }
+    ensures holder { WhereReplayedUnderPremise (map string_bytes words.now.items) (S.left source.old) Holder }
 
     // Only one identity acts at a beat.
-    ensures exclusive { (d : Document) → Replays (map string_bytes words.now.items) (S.left source.old) d → lease_premise (doc_of d) ≡ true → Exclusive (doc_of d) }
+    ensures exclusive { WhereReplayedUnderPremise (map string_bytes words.now.items) (S.left source.old) Exclusive }
 
     // And from each queued taint of a zone to each in a later beat a token of the zone grows.
-    ensures spacing { (d : Document) → Replays (map string_bytes words.now.items) (S.left source.old) d → lease_premise (doc_of d) ≡ true → Spacing (doc_of d) }
+    ensures spacing { WhereReplayedUnderPremise (map string_bytes words.now.items) (S.left source.old) Spacing }
 
     // Always, a controller evicts a pod only when it is due on the controller's clock.
     ensures not_early { (d : Document) → Replays (map string_bytes words.now.items) (S.left source.old) d → NotEarly (doc_of d) }
@@ -98,7 +99,8 @@ pub fn run<S: Source, K: Sink, L>(
     ensures prompt { (d : Document) → Replays (map string_bytes words.now.items) (S.left source.old) d → Prompt (doc_of d) }
 
     // No more beats are done than have entries, and none where there is no document, or with other words.
-    ensures counted { (d : Document) → Replays (map string_bytes words.now.items) (S.left source.old) d → steps.new ≤ steps.old + standing_beats (doc_of d) }
+    ensures counted { (d : Document) → Replays (map string_bytes words.now.items) (S.left source.old) d
+        → steps.new ≤ steps.old + standing_beats (doc_of d) }
     ensures unread { (bytes : List ℕ) (r : Refusal) → S.left source.old ≡ Some bytes → document_walk bytes ≡ Err r
         → sizes_of (map string_bytes words.now.items) ≡ None → steps.new ≡ steps.old }
     ensures undone { IsUndone result → steps.new ≡ steps.old }
@@ -106,8 +108,8 @@ pub fn run<S: Source, K: Sink, L>(
         → sizes_of (map string_bytes words.now.items) ≡ None → steps.new ≡ steps.old }
 
     // In a trace that `audit` lets pass all acting lines of a beat are by one identity.
-    ensures alone { (bytes : List ℕ) → S.left source.old ≡ Some bytes → task_of (map string_bytes words.now.items) ≡ Some Task.Audit → result ≡ Status.Done
-        → OneActs (entries_in bytes) }
+    ensures alone { (bytes : List ℕ) → S.left source.old ≡ Some bytes → task_of (map string_bytes words.now.items) ≡ Some Task.Audit
+        → result ≡ Status.Done → OneActs (entries_in bytes) }
 {
     documents_are_safe();
     match task_in(words) {
@@ -126,7 +128,7 @@ fn perform<S: Source, K: Sink, L>(
     steps: &mut Steps<L>,
 ) -> Status
     requires { IsWithin task }
-    ensures text { (bytes : List ℕ) → S.left source.old ≡ Some bytes → Ends (performed task bytes) (S.left source.new) (K.taken sink.old) (K.taken sink.new) result }
+    ensures text { EndsAs (performed task) (S.left source.old) (S.left source.new) (K.taken sink.old) (K.taken sink.new) result }
     ensures source_fault { result ≡ Status.SourceFault → Rose (S.faults source.old) (S.faults source.new) }
     ensures source_silent { result ≡ Status.SourceFault → K.taken sink.new ≡ K.taken sink.old }
     ensures sink_fault { result ≡ Status.SinkFault → Rose (K.faults sink.old) (K.faults sink.new) }
@@ -140,7 +142,8 @@ fn perform<S: Source, K: Sink, L>(
         → (S.left source.new ≡ S.left source.old) × (S.faults source.new ≡ S.faults source.old) × IsRunEnd result
         × Ends (done (generated_line sizes)) (Some []) (K.taken sink.old) (K.taken sink.new) result
         × (steps.new ≤ steps.old + standing_beats (document_of sizes)) }
-    ensures alone { (bytes : List ℕ) → S.left source.old ≡ Some bytes → task ≡ Task.Audit → result ≡ Status.Done → OneActs (entries_in bytes) }
+    ensures alone { (bytes : List ℕ) → S.left source.old ≡ Some bytes → task ≡ Task.Audit → result ≡ Status.Done
+        → OneActs (entries_in bytes) }
 {
     match task {
         Task::Document(command) => obey(alloc, command, source, sink, policies, steps),
@@ -152,9 +155,9 @@ fn perform<S: Source, K: Sink, L>(
 
 /// What was proved of every document that can be read, for which nothing is done.
 fn documents_are_safe()
-    ensures holder { (bytes : List ℕ) (d : Document) → document_walk bytes ≡ Ok d → lease_premise (doc_of d) ≡ true → Holder (doc_of d) }
-    ensures exclusive { (bytes : List ℕ) (d : Document) → document_walk bytes ≡ Ok d → lease_premise (doc_of d) ≡ true → Exclusive (doc_of d) }
-    ensures spacing { (bytes : List ℕ) (d : Document) → document_walk bytes ≡ Ok d → lease_premise (doc_of d) ≡ true → Spacing (doc_of d) }
+    ensures holder { WhereReadUnderPremise Holder }
+    ensures exclusive { WhereReadUnderPremise Exclusive }
+    ensures spacing { WhereReadUnderPremise Spacing }
     ensures not_early { (d : Document) → NotEarly (doc_of d) }
     ensures prompt { (d : Document) → Prompt (doc_of d) }
 {
@@ -185,11 +188,12 @@ fn obey<S: Source, K: Sink, L>(
     policies: &Policies,
     steps: &mut Steps<L>,
 ) -> Status
-    ensures text { (bytes : List ℕ) → S.left source.old ≡ Some bytes → Ends (obeyed command bytes) (S.left source.new) (K.taken sink.old) (K.taken sink.new) result }
+    ensures text { EndsAs (obeyed command) (S.left source.old) (S.left source.new) (K.taken sink.old) (K.taken sink.new) result }
     ensures source_fault { result ≡ Status.SourceFault → Rose (S.faults source.old) (S.faults source.new) }
     ensures source_silent { result ≡ Status.SourceFault → K.taken sink.new ≡ K.taken sink.old }
     ensures sink_fault { result ≡ Status.SinkFault → Rose (K.faults sink.old) (K.faults sink.new) }
-    ensures counted { (bytes : List ℕ) (d : Document) → S.left source.old ≡ Some bytes → document_walk bytes ≡ Ok d → steps.new ≤ steps.old + standing_beats (doc_of d) }
+    ensures counted { (bytes : List ℕ) (d : Document) → S.left source.old ≡ Some bytes → document_walk bytes ≡ Ok d
+        → steps.new ≤ steps.old + standing_beats (doc_of d) }
     ensures unread { (bytes : List ℕ) (r : Refusal) → S.left source.old ≡ Some bytes → document_walk bytes ≡ Err r → steps.new ≡ steps.old }
     ensures undone { IsUndone result → steps.new ≡ steps.old }
     ensures unasked { command ≢ Command.Replay → steps.new ≡ steps.old }
@@ -272,15 +276,13 @@ fn check<K: Sink>(alloc: Global, sink: &mut K, document: &Document) -> Status
     if add_summary(&mut text, document).is_err() {
         return Status::OutOfMemory;
     }
-    match give_all(sink, &text) {
-        Ok(()) => Status::Done,
-        Err(Failed) => Status::SinkFault,
-    }
+    write(sink, &text)
 }
 
 /// Writes the line of a refusal.
 pub(crate) fn refuse<K: Sink>(alloc: Global, sink: &mut K, code: u32, path: &[u8]) -> Status
-    ensures text { (left : List ℕ) → Ends (refused (record { code = code; path = path.now }) left) (Some left) (K.taken sink.old) (K.taken sink.new) result }
+    ensures text { (left : List ℕ)
+        → Ends (refused (record { code = code; path = path.now }) left) (Some left) (K.taken sink.old) (K.taken sink.new) result }
     ensures silent { result ≢ Status.SourceFault }
     ensures not_done { result ≢ Status.Done }
     ensures sink_fault { result ≡ Status.SinkFault → Rose (K.faults sink.old) (K.faults sink.new) }

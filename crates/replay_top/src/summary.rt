@@ -3,12 +3,11 @@ ghost use Rattle.std.specs.Prelude.{◌≡◌, ◌++◌, OnOk, decimal, length};
 ghost use Rattle.script_reader.specs.Documents.{doc_of};
 ghost use Rattle.replay_top.specs.Summary.{count_of as how_many, objects_text, processes_text, events_text, summary};
 
-use crate::texts::{add, add_number};
 use kube_base::NoMemory;
 use kube_objects::{Key, Kind, Object, Procs};
 use manifest_json::Objects;
 use script_reader::{Document, lease_premise};
-use trace_writer::premise_end;
+use trace_writer::{add, add_number, premise_end};
 
 /// Adds the line: how many processes, objects, skipped items and events the document has, and whether its lease premise
 /// holds.

@@ -16,11 +16,11 @@ ghost use Rattle.world_core.specs.Waits.{beat_of};
 ghost use Rattle.world_core.specs.Worlds.{at_of, end_of, names_of, IsOwn, IsReady, WorldStands};
 ghost use Rattle.replay_top.specs.Traces.{trace, trace_of, trace_before, first_of};
 ghost use Rattle.replay_top.specs.Names.{process_names as names_in_order};
-ghost use Rattle.replay_top.specs.Runs.{Runs};
+ghost use Rattle.replay_top.specs.Runs.{Runs, StandsForNext};
 ghost use Rattle.replay_top.specs.Spoken.{Spoken, Written};
 
 use crate::buffer::Buffer;
-use crate::texts::process_names;
+use crate::processes::process_names;
 use beat_laws::nodes_are_few;
 use byte_edge::{Failed, Sink, give_all};
 use history_laws::{calls_are_numbered, starts_are_few};
@@ -136,7 +136,8 @@ fn write_beats<K: Sink, L>(
     requires ready { IsReady world }
     requires first { at_of world ≡ 0 }
     requires runs { Runs world (length processes.now) }
-    ensures written { (doc : Doc) (before : Option (List ℕ)) → IsLawfulDoc doc → WorldStands doc 0 (history doc 0) world → end_of world ≡ end_beat doc
+    ensures written { (doc : Doc) (before : Option (List ℕ)) → IsLawfulDoc doc → WorldStands doc 0 (history doc 0) world
+        → end_of world ≡ end_beat doc
         → Spoken before (K.taken sink.old) buffer.text.items (trace_before doc (names_of world) processes.now 0)
         → Written before (K.taken sink.new) (trace_of doc (names_of world) processes.now) result }
     ensures failed { IfErr result (λ e. e ≡ WriteFault.Sink → Rose (K.faults sink.old) (K.faults sink.new)) }
@@ -175,10 +176,10 @@ fn write_beats<K: Sink, L>(
 /// The next beat with an entry; None where there is none up to the end.
 pub(crate) fn next_of(world: &World) -> Option<Beat>
     requires ready { IsReady world.now }
-    ensures { (doc : Doc) → AreLawfulFrom doc 0 doc.events → WorldStands doc (at_of world.now) (history doc (at_of world.now)) world.now
-        → end_of world.now ≡ end_beat doc → IsNextBeat doc (at_of world.now) (beat_of result) }
+    ensures { (doc : Doc) → AreLawfulFrom doc 0 doc.events → StandsForNext doc world.now → end_of world.now ≡ end_beat doc
+        → IsNextBeat doc (at_of world.now) (beat_of result) }
 {
-    if world.finished() {
+    if world.is_past_end() {
         return None;
     }
     next_beat(world)
@@ -193,12 +194,12 @@ pub(crate) fn beat_at<L>(
 ) -> Result<(World, Deeds), NoMemory>
     requires ready { IsReady world }
     requires ahead { (at_of world ≤ beat.0) × (beat.0 ≤ end_of world) }
-    ensures kept { IfOk result (λ r. IsReady r.0 × (at_of r.0 ≡ beat.0 + 1) × (end_of r.0 ≡ end_of world) × (names_of r.0 ≡ names_of world)) }
-    ensures stands { (doc : Doc) → IsLawfulDoc doc → WorldStands doc (at_of world) (history doc (at_of world)) world → end_of world ≡ end_beat doc
+    ensures kept { IfOk result (λ r. IsReady r.0 × (at_of r.0 ≡ beat.0 + 1) × (end_of r.0 ≡ end_of world)
+        × (names_of r.0 ≡ names_of world)) }
+    ensures stands { (doc : Doc) → IsLawfulDoc doc → StandsForNext doc world → end_of world ≡ end_beat doc
         → IsNextBeat doc (at_of world) (Some beat.0)
-        → IfOk result (λ r. WorldStands doc (at_of r.0) (history doc (at_of r.0)) r.0
-        × (printed (history doc (at_of world)) ++ r.1 ≡ printed (history doc (at_of r.0)))) }
-    ensures writable { (doc : Doc) → IsOwn doc world → WorldStands doc (at_of world) (history doc (at_of world)) world → end_of world ≡ end_beat doc
+        → IfOk result (λ r. StandsForNext doc r.0 × (printed (history doc (at_of world)) ++ r.1 ≡ printed (history doc (at_of r.0)))) }
+    ensures writable { (doc : Doc) → IsOwn doc world → StandsForNext doc world → end_of world ≡ end_beat doc
         → IsNextBeat doc (at_of world) (Some beat.0)
         → IfOk result (λ r. AllByRecursion (IsWritable (names_of world) (process_count doc)) r.1) }
     ensures counted { steps.new ≡ counted steps.old 1 }

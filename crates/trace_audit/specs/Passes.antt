@@ -1,5 +1,6 @@
 -- What is known of a trace's lines from the last one back.
-use Rattle.std.specs.Prelude.{◌≡◌, ℕ, ◌+◌, ◌≤◌, nat_lt, Bool, false, List, [], ◌∷◌, length, Option, Some, None, Result, Ok, Err, if◌then◌else◌}
+use Rattle.std.specs.Prelude.{◌≡◌, ℕ, ◌+◌, ◌≤◌, nat_lt, Bool, false, List, [], ◌∷◌, length, if◌then◌else◌}
+use Rattle.std.specs.Prelude.{Option, Some, None, Result, Ok, Err}
 use Rattle.trace_lines.specs.declared.header.Header.{Header}
 use Rattle.trace_lines.specs.declared.line.Line.{Line}
 use Rattle.trace_lines.specs.Forms.{line_of}

@@ -84,7 +84,8 @@ fn pass_over(alloc: Global, header: Header, lines: u64, text: &[u8]) -> Result<P
 
 /// What stands before the last line feed, if there is one, and what stands behind it.
 fn last_line(text: &[u8]) -> (Option<&[u8]>, &[u8])
-    ensures lines { MatchOption result.0 (lines_of text.now ≡ result.1.now ∷ []) (λ before. lines_of text.now ≡ lines_of before.now ++ result.1.now ∷ []) }
+    ensures lines { MatchOption result.0 (lines_of text.now ≡ result.1.now ∷ [])
+        (λ before. lines_of text.now ≡ lines_of before.now ++ result.1.now ∷ []) }
     ensures shorter { IfSome result.0 (λ before. length before.now < length text.now) }
 {
     let mut at = text.len();
@@ -98,7 +99,8 @@ fn last_line(text: &[u8]) -> (Option<&[u8]>, &[u8])
 }
 
 fn verdict(lines: u64, pass: &Pass) -> Result<Report, AuditFault>
-    ensures { (header : Header) (text : List (List ℕ)) → PassStands header 2 text pass.now → lines ≡ length text → Tells result (spec.judged header text) }
+    ensures { (header : Header) (text : List (List ℕ)) → PassStands header 2 text pass.now → lines ≡ length text
+        → Tells result (spec.judged header text) }
 {
     if let Some(line) = pass.wrong {
         return Err(AuditFault::Refused(BAD_TRACE, line));

@@ -8,6 +8,3 @@ mod role_played;
 
 pub use audit_of::{BAD_TRACE, OUTSIDE, OVERLAP, Report, SPACING, audit};
 pub use fault::AuditFault;
-
-#[cfg(test)]
-mod tests;

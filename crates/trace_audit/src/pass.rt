@@ -71,8 +71,9 @@ impl Pass {
         requires ready { IsReady self.old }
         requires leads { self.old.review.leads + 1 < 2 ^ 64 }
         requires taints { self.old.review.taints + 1 < 2 ^ 64 }
-        ensures stands { (header : Header) (text before : List ℕ) (lines : List (List ℕ)) → line_of text ≡ Some (seen line.now)
-            → PassStands header (number + 1) (before ∷ lines) self.old → OnOk result (PassStands header number (text ∷ before ∷ lines) self.new) }
+        ensures stands { (header : Header) (text before : List ℕ) (lines : List (List ℕ))
+            → line_of text ≡ Some (seen line.now) → PassStands header (number + 1) (before ∷ lines) self.old
+            → OnOk result (PassStands header number (text ∷ before ∷ lines) self.new) }
         ensures ready { OnOk result (IsReady self.new) }
         ensures leads { self.new.review.leads ≤ self.old.review.leads + 1 }
         ensures taints { self.new.review.taints ≤ self.old.review.taints + 1 }

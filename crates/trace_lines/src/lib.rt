@@ -5,8 +5,6 @@ mod forms;
 mod grammar;
 mod header;
 mod line;
-#[cfg(test)]
-mod tests;
 
 pub use forms::read_line;
 pub use grammar::cut;

@@ -1,6 +1,7 @@
 -- The lines of a trace. Source: the trace's format (profile).
 use Rattle.std.specs.Prelude.{ℕ, List, [], ◌++◌, ◌==◌, codes, decimal, flat_map, Bool, true, false, if◌then◌else◌}
 use Rattle.kube_base.specs.declared.fixed.TheConstants.{NOT_READY}
+use Rattle.kube_base.specs.declared.numbers.Version.{Version}
 use Rattle.kube_base.specs.declared.numbers.Wall.{Wall}
 use Rattle.kube_base.specs.Times.{seconds_text}
 use Rattle.kube_objects.specs.declared.call.Answer.{Answer}
@@ -79,12 +80,30 @@ abbrev pub mode_text : Bool → List ℕ
 mode_text true = codes "mode on"
 mode_text false = codes "mode off"
 
--- a node with a word more and how its write was answered
+-- a name with a word more and how its write was answered
+abbrev pub noted_text : List ℕ → List ℕ → Answer → List ℕ
+noted_text name word a = name ++ codes " " ++ word ++ codes " " ++ answer_text a
+
+-- the same of a node
 abbrev pub node_text : List (List ℕ) → ℕ → List ℕ → Answer → List ℕ
-node_text names node word a = text_of names node ++ codes " " ++ word ++ codes " " ++ answer_text a
+node_text names node word a = noted_text (text_of names node) word a
+
+abbrev pub posted_text : List (List ℕ) → ℕ → ReadyStatus → Answer → List ℕ
+posted_text names node status a = codes "status " ++ node_text names node (status_text status) a
+
+abbrev pub marked_text : List (List ℕ) → ℕ → ℕ → Answer → List ℕ
+marked_text names node reason a = codes "unknown " ++ node_text names node (text_of names reason) a
+
+abbrev pub untaint_text : List (List ℕ) → ℕ → Answer → List ℕ
+untaint_text names node a = codes "untaint " ++ text_of names node ++ codes " " ++ answer_text a
+
+-- a write of the script, by the word for it
+abbrev pub script_text : List ℕ → List (List ℕ) → Key → Version → List ℕ
+script_text word names key version = word ++ key_text names key ++ codes " v=" ++ decimal version.0
 
 abbrev pub zone_text : List (List ℕ) → ℕ → ℕ → ZoneState → ℕ → List ℕ
-zone_text names region zone s rate = text_of names region ++ codes "/" ++ text_of names zone ++ codes " " ++ state_text s ++ codes " rate=" ++ decimal rate
+zone_text names region zone s rate =
+    text_of names region ++ codes "/" ++ text_of names zone ++ codes " " ++ state_text s ++ codes " rate=" ++ decimal rate
 
 abbrev pub eviction_text : List (List ℕ) → Key → Wall → Answer → List ℕ
 eviction_text names key due a = spaced_name names key ++ codes " due=" ++ seconds_text due ++ codes " " ++ answer_text a
@@ -98,15 +117,15 @@ act_text names act.End = codes "end"
 act_text names (act.Lead version) = codes "lead v=" ++ decimal version.0
 act_text names (act.Create key a transitions) = codes "create " ++ lease_text names key a transitions
 act_text names (act.Update key a transitions) = codes "update " ++ lease_text names key a transitions
-act_text names (act.Posted node status a) = codes "status " ++ node_text names node (status_text status) a
-act_text names (act.Put key version) = codes "put " ++ key_text names key ++ codes " v=" ++ decimal version.0
-act_text names (act.Removed key version) = codes "remove " ++ key_text names key ++ codes " v=" ++ decimal version.0
-act_text names (act.Marked node reason a) = codes "unknown " ++ node_text names node (text_of names reason) a
+act_text names (act.Posted node status a) = posted_text names node status a
+act_text names (act.Put key version) = script_text (codes "put ") names key version
+act_text names (act.Removed key version) = script_text (codes "remove ") names key version
+act_text names (act.Marked node reason a) = marked_text names node reason a
 act_text names (act.Mode on) = mode_text on
 act_text names (act.Zone region zone s rate) = codes "zone " ++ zone_text names region zone s rate
 act_text names (act.Tainted node key a) = codes "taint " ++ node_text names node (taint_text key) a
 act_text names (act.Swapped node key a) = codes "swap " ++ node_text names node (taint_text key) a
-act_text names (act.Untainted node a) = codes "untaint " ++ text_of names node ++ codes " " ++ answer_text a
+act_text names (act.Untainted node a) = untaint_text names node a
 act_text names (act.Evicted key due a) = codes "evict " ++ eviction_text names key due a
 
 -- the line of a deed

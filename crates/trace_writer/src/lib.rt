@@ -6,6 +6,7 @@ mod texts;
 mod writing;
 
 pub use lines::premise_end;
+pub use texts::{add, add_number, name_of};
 pub use writing::{Settings1, WriteFault, write_deed, write_first};
 
 #[cfg(test)]

@@ -2,7 +2,6 @@
 ghost use Rattle.std.specs.Prelude.{◌≡◌, ◌<◌, ◌≤◌, ◌++◌, OnOk, codes, decimal, length};
 ghost use Rattle.kube_base.specs.Times.{last_wall};
 ghost use Rattle.kube_objects.specs.Writable.{IsOneOf, IsWritable, IsWritableAct};
-ghost use Rattle.trace_writer.specs.Names.{text_of};
 ghost use Rattle.trace_writer.specs.Lines as spec;
 
 use crate::texts::{add, add_number, add_time, name_of, process_of};
@@ -171,7 +170,7 @@ fn add_node(
     word: &[u8],
     answer: Answer,
 ) -> Result<(), NoMemory>
-    ensures { OnOk result (text.new.items ≡ text.old.items ++ (act.now ++ (node.now ++ codes " " ++ word.now ++ codes " " ++ spec.answer_text answer))) }
+    ensures { OnOk result (text.new.items ≡ text.old.items ++ (act.now ++ spec.noted_text node.now word.now answer)) }
 {
     add(text, act)?;
     add(text, node)?;
@@ -191,7 +190,7 @@ fn add_key(
 ) -> Result<(), NoMemory>
     requires space { key.now.space < length names.now }
     requires name { key.now.name < length names.now }
-    ensures { OnOk result (text.new.items ≡ text.old.items ++ (word.now ++ spec.key_text names.now key.now ++ codes " v=" ++ decimal version.0)) }
+    ensures { OnOk result (text.new.items ≡ text.old.items ++ spec.script_text word.now names.now key.now version) }
 {
     add(text, word)?;
     match key.kind {
@@ -230,7 +229,7 @@ fn add_status(
     answer: Answer,
 ) -> Result<(), NoMemory>
     requires { node < length names.now }
-    ensures { OnOk result (text.new.items ≡ text.old.items ++ (codes "status " ++ spec.node_text names.now node (spec.status_text status) answer)) }
+    ensures { OnOk result (text.new.items ≡ text.old.items ++ spec.posted_text names.now node status answer) }
 {
     add_node(
         text,
@@ -250,7 +249,7 @@ fn add_mark(
 ) -> Result<(), NoMemory>
     requires node { node < length names.now }
     requires reason { reason < length names.now }
-    ensures { OnOk result (text.new.items ≡ text.old.items ++ (codes "unknown " ++ spec.node_text names.now node (text_of names.now reason) answer)) }
+    ensures { OnOk result (text.new.items ≡ text.old.items ++ spec.marked_text names.now node reason answer) }
 {
     add_node(
         text,
@@ -300,7 +299,7 @@ fn add_zone(
 
 fn add_untaint(text: &mut Vec<u8>, names: &Names, node: u32, answer: Answer) -> Result<(), NoMemory>
     requires { node < length names.now }
-    ensures { OnOk result (text.new.items ≡ text.old.items ++ (codes "untaint " ++ text_of names.now node ++ codes " " ++ spec.answer_text answer)) }
+    ensures { OnOk result (text.new.items ≡ text.old.items ++ spec.untaint_text names.now node answer) }
 {
     add(text, b"untaint ")?;
     add(text, name_of(names, node))?;

@@ -8,7 +8,7 @@ use kube_base::{Name, Names, NoMemory, Wall, write_seconds};
 use std::alloc::Global;
 
 /// Adds a text.
-pub(crate) fn add(text: &mut Vec<u8>, more: &[u8]) -> Result<(), NoMemory>
+pub fn add(text: &mut Vec<u8>, more: &[u8]) -> Result<(), NoMemory>
     ensures { OnOk result (text.new.items ≡ text.old.items ++ more.now) }
 {
     text.extend_from_slice(more)?;
@@ -16,7 +16,7 @@ pub(crate) fn add(text: &mut Vec<u8>, more: &[u8]) -> Result<(), NoMemory>
 }
 
 /// Adds a number in decimal.
-pub(crate) fn add_number(text: &mut Vec<u8>, number: u64) -> Result<(), NoMemory>
+pub fn add_number(text: &mut Vec<u8>, number: u64) -> Result<(), NoMemory>
     ensures { OnOk result (text.new.items ≡ text.old.items ++ decimal number) }
 {
     let mut buffer = Buffer::new();
@@ -34,7 +34,7 @@ pub(crate) fn add_time(alloc: Global, text: &mut Vec<u8>, at: Wall) -> Result<()
 }
 
 /// The text of a number that is held.
-pub(crate) fn name_of(names: &Names, number: u32) -> &[u8]
+pub fn name_of(names: &Names, number: u32) -> &[u8]
     requires { number < length names.now }
     ensures { result.now ≡ text_of names.now number }
 {

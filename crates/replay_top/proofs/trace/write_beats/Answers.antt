@@ -4,12 +4,12 @@ use Rattle.agenda_laws.specs.Ahead.{IsNextBeat}
 use Rattle.byte_edge.specs.Bytes.{Gives, Gave}
 use Rattle.history.specs.History.{history}
 use Rattle.script_reader.specs.Lawful.{IsWellNamed}
-use Rattle.world_core.specs.Worlds.{WorldStands, at_of, end_of, names_of}
+use Rattle.world_core.specs.Worlds.{WorldStands, at_of, names_of}
 use Rattle.trace_writer.specs.Lines.{lines_of}
 use Rattle.replay_top.specs.Traces.{trace_before}
 use Rattle.replay_top.specs.Spoken.{Spoken}
-use Rattle.replay_top.proofs.Said.{spoken-given, spoken-front, spoken-so_far, spoken-more}
-use Rattle.replay_top.proofs.Grown.{gave-whole, trace-next, trace-last, counts-one, counts-all}
+use Rattle.replay_top.proofs.Said.{spoken-given, spoken-front, spoken-more}
+use Rattle.replay_top.proofs.Grown.{gave-so_far, gave-whole, trace-next, trace-last, counts-one, counts-all}
 use Rattle.replay_top.proofs.Writables.{writable-shown}
 use Rattle.replay_top.proofs.trace.write_beats.Goals as goal
 
@@ -54,25 +54,19 @@ returns-in-Err-clause-counted g c doc lawful first is =
 
 pub returns-in-Err-beat_at-clause-written : goal.returns-in-Err-beat_at-clause-written
 returns-in-Err-beat_at-clause-written g c doc before lawful first is s =
-    let now = c.beats.invariant.said doc before lawful first is s in
-    let names = names_of c.args.world in
-    let processes = c.args.processes.now in
     let k = at_of c.beats.world in
     let within : k ≤ end_beat doc + 1 = omega (arith, c.beats.invariant.within, c.beats.invariant.last, is) in
-    let after = g.K.Sink.taken c.give_long.new.sink in
-    gave-whole doc names processes k before after within
-    (spoken-so_far before after c.give_long.new.text.items (trace_before doc names processes k) (c.in-Ok.ensures.spoken before (trace_before doc names processes k) now))
+    let said = trace_before doc (names_of c.args.world) c.args.processes.now k in
+    gave-so_far doc (names_of c.args.world) c.args.processes.now k before (g.K.Sink.taken c.give_long.new.sink) c.give_long.new.text.items within
+    (c.in-Ok.ensures.spoken before said (c.beats.invariant.said doc before lawful first is s))
 
 pub returns-in-Err-add_lines-clause-written : goal.returns-in-Err-add_lines-clause-written
 returns-in-Err-add_lines-clause-written g c doc before lawful first is s =
-    let now = c.beats.invariant.said doc before lawful first is s in
-    let names = names_of c.args.world in
-    let processes = c.args.processes.now in
     let k = at_of c.beats.world in
     let within : k ≤ end_beat doc + 1 = omega (arith, c.beats.invariant.within, c.beats.invariant.last, is) in
-    let after = g.K.Sink.taken c.give_long.new.sink in
-    gave-whole doc names processes k before after within
-    (spoken-so_far before after c.give_long.new.text.items (trace_before doc names processes k) (c.in-Ok.ensures.spoken before (trace_before doc names processes k) now))
+    let said = trace_before doc (names_of c.args.world) c.args.processes.now k in
+    gave-so_far doc (names_of c.args.world) c.args.processes.now k before (g.K.Sink.taken c.give_long.new.sink) c.give_long.new.text.items within
+    (c.in-Ok.ensures.spoken before said (c.beats.invariant.said doc before lawful first is s))
 
 -- the beat that was done is one with an entry
 pub returns-in-Err-add_lines-clause-counted : goal.returns-in-Err-add_lines-clause-counted

@@ -1,33 +1,16 @@
-// Texts at the end of a buffer, and the names of processes.
-ghost use Rattle.std.specs.Prelude.{◌≡◌, ◌<◌, ◌++◌, All, IfOk, OnOk, codes, decimal, length, map};
+// The names of processes.
+ghost use Rattle.std.specs.Prelude.{◌≡◌, ◌<◌, ◌++◌, All, IfOk, OnOk, codes, length, map};
 ghost use Rattle.script_reader.specs.Documents.{doc_of};
 ghost use Rattle.kube_objects.specs.Document.{processes as process_count};
 ghost use Rattle.script_reader.specs.Lawful.{IsWellNamed};
 ghost use Rattle.trace_writer.specs.Names.{text_of};
 ghost use Rattle.replay_top.specs.Names.{process_names as names_in_order};
 
-use itoa::Buffer;
 use kube_base::{ListOf, Name, Names, NoMemory};
 use kube_objects::Proc;
 use script_reader::Document;
 use std::alloc::Global;
-
-/// Adds a text.
-pub(crate) fn add(text: &mut Vec<u8>, more: &[u8]) -> Result<(), NoMemory>
-    ensures { OnOk result (text.new.items ≡ text.old.items ++ more.now) }
-{
-    text.extend_from_slice(more)?;
-    Ok(())
-}
-
-/// Adds a number in decimal.
-pub(crate) fn add_number(text: &mut Vec<u8>, number: u64) -> Result<(), NoMemory>
-    ensures { OnOk result (text.new.items ≡ text.old.items ++ decimal number) }
-{
-    let mut buffer = Buffer::new();
-    text.extend_from_slice(buffer.format(number).as_bytes())?;
-    Ok(())
-}
+use trace_writer::name_of;
 
 /// The names of a document's processes in order: those of the controllers, then `kubelet/NODE`.
 pub fn process_names(alloc: Global, document: &Document) -> Result<ListOf<Name>, NoMemory>
@@ -81,17 +64,6 @@ fn add_kubelets(
         processes.push(kubelet_name(alloc, node)?)?;
     }
     Ok(())
-}
-
-/// The text of a number that is held.
-fn name_of(names: &Names, number: u32) -> &[u8]
-    requires { number < length names.now }
-    ensures { result.now ≡ text_of names.now number }
-{
-    match names.bytes(number) {
-        Some(text) => text,
-        None => unreachable!(),
-    }
 }
 
 /// A kubelet's name, by that of its node.
