@@ -7,7 +7,7 @@ use Rattle.kube_objects.specs.declared.object.Object.{Object}
 use Rattle.kube_objects.specs.Clocks.{local, wall, store_wall, whole_second}
 use Rattle.kube_objects.specs.Document.{Doc, end_beat, is_controller}
 use Rattle.kube_objects.specs.Elector.{deadline, acts, is_before}
-use Rattle.kube_objects.specs.Entry.{Entry, Identity, Call, Deed, First, Event, Starts, Crashes, Stops, Ends, Sends, Answers, Delivers, Expires, Leads, Ticks, script_entry}
+use Rattle.kube_objects.specs.Entry.{Entry, Identity, Call, Fact, First, Event, Starts, Crashes, Stops, Ends, Sends, Answers, Delivers, Expires, Leads, Ticks, script_entry}
 use Rattle.kube_objects.specs.Identities.{identity, is_by}
 use Rattle.kube_objects.specs.Newest.{newest, when, only_if, join, has}
 use Rattle.kube_objects.specs.Process.{alive, is_present}
@@ -154,21 +154,21 @@ beats_wake doc k h rested = (
 
 -- each expiry is at another beat
 abbrev AreOther : ℕ → List Entry → Type 0
-AreOther k h = (e : Entry) → In e h → (call : Call) → expired_in k e.beat e.deed ≡ Some call → ⊥
+AreOther k h = (e : Entry) → In e h → (call : Call) → expired_in k e.beat e.fact ≡ Some call → ⊥
 
 rested_all : (k : ℕ) (q : Identity) (h : List Entry) → AreOther k h → just_expired q k h ≡ None
 rested_all k q [] other = refl
 rested_all k q (e ∷ h) other =
-    by_own (rested_all k q h (λ x at. other x (inr at))) (is_by q e.actor) (expired_in k e.beat e.deed) (other e (inl refl))
+    by_own (rested_all k q h (λ x at. other x (inr at))) (is_by q e.actor) (expired_in k e.beat e.fact) (other e (inl refl))
   where
     by_own : just_expired q k h ≡ None → (b : Bool) (o : Option Call) → ((call : Call) → o ≡ Some call → ⊥)
-        → join (upper (when b o) (newest (λ e T. when (is_by q e.actor) (expired_in k e.beat e.deed)) h)) ≡ None
+        → join (upper (when b o) (newest (λ e T. when (is_by q e.actor) (expired_in k e.beat e.fact)) h)) ≡ None
     by_own below true None other = refl
     by_own below true (Some call) other = absurd (other call refl)
     by_own below false o other = below
 
 -- an expiry at a beat is of that beat
-expiry_beat : (k at : ℕ) (d : Deed) (call : Call) → expired_in k at d ≡ Some call → at ≡ k
+expiry_beat : (k at : ℕ) (d : Fact) (call : Call) → expired_in k at d ≡ Some call → at ≡ k
 expiry_beat k at (Expires c) call is = by_test (at == k) refl is
   where
     by_test : (b : Bool) → (at == k) ≡ b → when b c ≡ Some call → at ≡ k
@@ -192,7 +192,7 @@ put_other doc k (x ∷ xs) h other =
     put_other doc k xs (script_entry 0 0 (First x.0 (stamped (whole_second (store_wall doc 0)) x.1)) ∷ h) more
   where
     more : AreOther k (script_entry 0 0 (First x.0 (stamped (whole_second (store_wall doc 0)) x.1)) ∷ h)
-    more e (inl same) call is = absurd (none_is call (subst (λ (y : Entry). expired_in k y.beat y.deed ≡ Some call) same is))
+    more e (inl same) call is = absurd (none_is call (subst (λ (y : Entry). expired_in k y.beat y.fact ≡ Some call) same is))
     more e (inr at) call is = other e at call is
 
 history_other : (doc : Doc) (k j : ℕ) → k ≤ j → AreOther j (history doc k)
@@ -204,7 +204,7 @@ history_other doc (suc k) j later = by_beat
     by_earlier at step (inr first) same = let none = first.0 in omega (arith, none, same, later)
 
     by_beat : AreOther j (history doc (suc k))
-    by_beat e stands call is = by_earlier e.beat e.step (entries_are_earlier doc (suc k) e stands) (expiry_beat j e.beat e.deed call is)
+    by_beat e stands call is = by_earlier e.beat e.step (entries_are_earlier doc (suc k) e stands) (expiry_beat j e.beat e.fact call is)
 
 pub histories_are_rested : HistoriesAreRested
 histories_are_rested doc k j p later = by_role (is_controller doc p)

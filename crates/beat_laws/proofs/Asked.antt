@@ -7,7 +7,7 @@ use Rattle.kube_objects.specs.declared.call.Request.TheVariants.{Get, Create, Up
 use Rattle.kube_objects.specs.declared.deed.Actor.{Actor}
 use Rattle.kube_objects.specs.Document.{Doc}
 use Rattle.kube_objects.specs.Elector.{Moment, Shown, Follow, Fails, Asks, moment, is_blocked, updated_at, follow_get_at, not_done, follow_write, follow_on, leads, observed_at, shown, is_valid, renewed_at, attempt_at, attempt, release_from, given_up, release}
-use Rattle.kube_objects.specs.Entry.{Entry, Identity, Call, CallKind, Plain, Fast, Release, Deed, Sends, Delivers, Expires}
+use Rattle.kube_objects.specs.Entry.{Entry, Identity, Call, CallKind, Plain, Fast, Release, Fact, Sends, Delivers, Expires}
 use Rattle.kube_objects.specs.Identities.{is_by, is_own, identity_of}
 use Rattle.kube_objects.specs.Kubelet.{next_request}
 use Rattle.kube_objects.specs.Newest.{when, join}
@@ -22,21 +22,21 @@ use Rattle.history_laws.proofs.Plainly.{upper, none_is, some_is}
 abbrev pub IsLeaseRequest : Request → Type 0
 IsLeaseRequest r = is_lease_request r ≡ true
 
-abbrev pub IsAsked : Deed → Type 0
+abbrev pub IsAsked : Fact → Type 0
 IsAsked (Sends call arrives) = IsLeaseRequest call.request
 IsAsked _ = Unit {0}
 
 -- each request of the history
 abbrev pub AllAsked : List Entry → Type 0
 AllAsked [] = Unit {0}
-AllAsked (e ∷ h) = IsAsked e.deed × AllAsked h
+AllAsked (e ∷ h) = IsAsked e.fact × AllAsked h
 
-pub in_asked : (e : Entry) (h : List Entry) → AllAsked h → In e h → IsAsked e.deed
+pub in_asked : (e : Entry) (h : List Entry) → AllAsked h → In e h → IsAsked e.fact
 in_asked e [] all at = absurd at
-in_asked e (x ∷ h) all (inl is) = subst (λ (e : Entry). IsAsked e.deed) (sym is) all.0
+in_asked e (x ∷ h) all (inl is) = subst (λ (e : Entry). IsAsked e.fact) (sym is) all.0
 in_asked e (x ∷ h) all (inr at) = in_asked e h all.1 at
 
-pub sent_asked : (who : Actor) (d : Deed) (s : Sent) → IsAsked d → sent_of who d ≡ Some s → IsLeaseRequest s.call.request
+pub sent_asked : (who : Actor) (d : Fact) (s : Sent) → IsAsked d → sent_of who d ≡ Some s → IsLeaseRequest s.call.request
 sent_asked who (Sends call arrives) s asked is = by_who (identity_of who) is
   where
     by_who : (o : Option Identity) → sent_as call arrives o ≡ Some s → IsLeaseRequest s.call.request
@@ -47,7 +47,7 @@ sent_asked who d s asked is = absurd (none_is s is)
 -- the call that waits
 pub waiting_asked : (q : Identity) (h : List Entry) (c : Call) → AllAsked h → call_in q h ≡ Some c → IsLeaseRequest c.request
 waiting_asked q [] c all is = absurd (none_is c is)
-waiting_asked q (e ∷ h) c all is = cases (waiting_asked q h c all.1) e.actor e.deed all.0 is
+waiting_asked q (e ∷ h) c all is = cases (waiting_asked q h c all.1) e.actor e.fact all.0 is
   where
     -- an entry that opens a call or closes one, if it says anything
     says : (call_in q h ≡ Some c → IsLeaseRequest c.request) → (b : Bool) (o : Option Call) → (o ≡ Some c → IsLeaseRequest c.request) → join (upper (when b o) (last_call q h)) ≡ Some c → IsLeaseRequest c.request
@@ -58,7 +58,7 @@ waiting_asked q (e ∷ h) c all is = cases (waiting_asked q h c all.1) e.actor e
     opened Release call asked is = absurd (none_is c is)
     opened kind call asked is = subst (λ (c : Call). IsLeaseRequest c.request) (some_is call c is) asked
 
-    cases : (call_in q h ≡ Some c → IsLeaseRequest c.request) → (who : Actor) (d : Deed) → IsAsked d → join (upper (call_says q who d) (last_call q h)) ≡ Some c → IsLeaseRequest c.request
+    cases : (call_in q h ≡ Some c → IsLeaseRequest c.request) → (who : Actor) (d : Fact) → IsAsked d → join (upper (call_says q who d) (last_call q h)) ≡ Some c → IsLeaseRequest c.request
     cases below who (Sends call arrives) asked is = says below (is_by q who) (open_as call.kind call) (opened call.kind call asked) is
     cases below who (Delivers call reply counted) asked is = says below (counted && is_by q who) None (λ is. absurd (none_is c is)) is
     cases below who (Expires call) asked is = says below (is_by q who) None (λ is. absurd (none_is c is)) is

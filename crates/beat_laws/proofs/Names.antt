@@ -45,7 +45,7 @@ use Rattle.beat_laws.proofs.Sublists.{IsSublist, sublist_length, sublist_among, 
 -- ---- names only grow, and a term's nodes are among them
 
 pub next_more : (e : Entry) (h : List Entry) → length (node_names h) ≤ length (node_names (e ∷ h))
-next_more e h = named_more (named node_name (write_of e.deed)) (node_names h)
+next_more e h = named_more (named node_name (write_of e.fact)) (node_names h)
 
 pub names_only_grow : NamesOnlyGrow
 names_only_grow g [] is = subst (λ g. length (node_names g) ≤ 0) (sym is) (omega arith)
@@ -240,9 +240,9 @@ write_more names None ns ascends there s = s
 write_more names (Some name) ns ascends there s = sublist_insert name ns names ascends there s
 
 module _ (doc : Doc) where
-  more : (e : Entry) (h : List Entry) → IsKnown (given_names doc) (write_of e.deed) → IsAsked e.deed → AreGiven (given_names doc) h → AreGiven (given_names doc) (e ∷ h)
+  more : (e : Entry) (h : List Entry) → IsKnown (given_names doc) (write_of e.fact) → IsAsked e.fact → AreGiven (given_names doc) h → AreGiven (given_names doc) (e ∷ h)
   more e h known asked s = record {
-    named = write_more (given_names doc) (named node_name (write_of e.deed)) (node_names h) (objects_ascend doc.events doc.objects) known s.named;
+    named = write_more (given_names doc) (named node_name (write_of e.fact)) (node_names h) (objects_ascend doc.events doc.objects) known s.named;
     asked = (asked, s.asked);
   }
 
@@ -274,7 +274,7 @@ module _ (doc : Doc) where
     crashes = λ k p i h up s. more _ h tt tt s;
     stops = λ k id i h scripted up s. more _ h tt tt s;
     releases = λ k id i before request scripted up is was s. more _ (stopped_at k id i before) tt (release_asks doc (identity id.0 i) k before request is) s;
-    answers = λ k x h at s. more _ h (written_known (given_names doc) x.call.request h (sent_asked at.e.actor at.e.deed x (in_asked at.e h s.asked at.stands) at.is) s.named) tt s;
+    answers = λ k x h at s. more _ h (written_known (given_names doc) x.call.request h (sent_asked at.e.actor at.e.fact x (in_asked at.e h s.asked at.stands) at.is) s.named) tt s;
     ignores = λ k b h coming is s. more _ h tt tt s;
     counts = λ k b waiting h coming is s. more _ h tt tt s;
     follows = λ k b waiting h request coming is role follows was s.

@@ -24,7 +24,7 @@ use Rattle.beat_laws.specs.Unticked.{IsUnticked, IsUntickedFrom}
 -- ---- the entries of ticks
 
 -- an entry that is of no tick of this term at this beat
-stays : (q : Identity) (k : ℕ) (e : Entry) (h : List Entry) → is_tick_of q k e.beat e.actor e.deed ≡ false → before_tick q k (e ∷ h) ≡ e ∷ h
+stays : (q : Identity) (k : ℕ) (e : Entry) (h : List Entry) → is_tick_of q k e.beat e.actor e.fact ≡ false → before_tick q k (e ∷ h) ≡ e ∷ h
 stays q k e h is = ap (λ b. elim b [ true ↦ before_tick q k h | false ↦ e ∷ h ]) is
 
 unlike : (m n : ℕ) → (m ≡ n → ⊥) → (m == n) ≡ false

@@ -1,7 +1,7 @@
 -- Entries of others leave what a term stands for.
 use Rattle.std.proofs.Common.{◌≡◌, ◌∙◌, false, List, ◌∷◌, refl, sym}
 use Rattle.kube_objects.specs.Document.{Doc}
-use Rattle.kube_objects.specs.Entry.{Entry, Identity, Deed, Ticks}
+use Rattle.kube_objects.specs.Entry.{Entry, Identity, Fact, Ticks}
 use Rattle.kube_objects.specs.Identities.{is_by}
 use Rattle.node_health.specs.Stands.{is_of_health}
 use Rattle.node_health.proofs.Frames.{SaysSame, health-same, unheard-foreign, unheard-kind}
@@ -14,15 +14,15 @@ use Rattle.controller_core.specs.declared.term.Term.{Term}
 use Rattle.controller_core.specs.TermStands.{TermStands}
 use Rattle.controller_core.proofs.Between.{last_stands, limits_stand}
 
-others_health : (q : Identity) (h : List Entry) (e : Entry) → is_tick_by q e.actor e.deed ≡ false → SaysSame q h (e ∷ h)
-others_health q h e other = by_deed e.deed other (unheard-kind q h e) (unheard-foreign q h e)
+others_health : (q : Identity) (h : List Entry) (e : Entry) → is_tick_by q e.actor e.fact ≡ false → SaysSame q h (e ∷ h)
+others_health q h e other = by_fact e.fact other (unheard-kind q h e) (unheard-foreign q h e)
   where
-    by_deed : (d : Deed) → is_tick_by q e.actor d ≡ false → (is_of_health d ≡ false → SaysSame q h (e ∷ h)) → (is_by q e.actor ≡ false → SaysSame q h (e ∷ h)) → SaysSame q h (e ∷ h)
-    by_deed (Ticks t) is kind foreign = foreign is
-    by_deed d is kind foreign = kind refl
+    by_fact : (d : Fact) → is_tick_by q e.actor d ≡ false → (is_of_health d ≡ false → SaysSame q h (e ∷ h)) → (is_by q e.actor ≡ false → SaysSame q h (e ∷ h)) → SaysSame q h (e ∷ h)
+    by_fact (Ticks t) is kind foreign = foreign is
+    by_fact d is kind foreign = kind refl
 
 -- an entry that is no tick of the term's own
-pub others_kept : (doc : Doc) (q : Identity) (h : List Entry) (e : Entry) (t : Term) → is_tick_by q e.actor e.deed ≡ false → TermStands doc q h t → TermStands doc q (e ∷ h) t
+pub others_kept : (doc : Doc) (q : Identity) (h : List Entry) (e : Entry) (t : Term) → is_tick_by q e.actor e.fact ≡ false → TermStands doc q h t → TermStands doc q (e ∷ h) t
 others_kept doc q h e t other s = record {
   cluster = same_aside q h (e ∷ h) no_node no_pod t.cluster (foreign_change q h e other) s.cluster;
   reached = foreign_reached q h e other s.reached;

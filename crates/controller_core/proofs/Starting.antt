@@ -1,7 +1,7 @@
 -- A term that begins stands for every history without ticks of its own.
 use Rattle.std.proofs.Common.{◌≡◌, ◌∙◌, ℕ, Bool, true, false, List, [], ◌∷◌, None, refl, arith}
 use Rattle.kube_objects.specs.Entry as model
-use Rattle.kube_objects.specs.Entry.{Entry, Identity, Deed, Tick, Ticks, Pass, Zone}
+use Rattle.kube_objects.specs.Entry.{Entry, Identity, Fact, Tick, Ticks, Pass, Zone}
 use Rattle.kube_objects.specs.Health.{last_pass}
 use Rattle.kube_objects.specs.Newest.{added}
 use Rattle.kube_objects.specs.Tokens.{rated}
@@ -18,16 +18,16 @@ parts q h false n = (refl, n)
 
 pub no_pass : (q : Identity) (h : List Entry) → ticks q h ≡ 0 → last_pass q h ≡ None
 no_pass q [] none = refl
-no_pass q (e ∷ h) none = let p = parts q h (is_tick_by q e.actor e.deed) none in (foreign_limits q h e p.0).passed ∙ no_pass q h p.1
+no_pass q (e ∷ h) none = let p = parts q h (is_tick_by q e.actor e.fact) none in (foreign_limits q h e p.0).passed ∙ no_pass q h p.1
 
 pub no_rate : (q : Identity) (place : model.Place) (h : List Entry) → ticks q h ≡ 0 → rated q place h ≡ None
 no_rate q place [] none = refl
-no_rate q place (e ∷ h) none = let p = parts q h (is_tick_by q e.actor e.deed) none in (foreign_limits q h e p.0).rated place ∙ no_rate q place h p.1
+no_rate q place (e ∷ h) none = let p = parts q h (is_tick_by q e.actor e.fact) none in (foreign_limits q h e p.0).rated place ∙ no_rate q place h p.1
 
 pub no_since : (q : Identity) (place : model.Place) (name : ℕ) (h : List Entry) → ticks q h ≡ 0 → waits_since q place name h ≡ None
 no_since q place name [] none = refl
-no_since q place name (e ∷ h) none = let p = parts q h (is_tick_by q e.actor e.deed) none in foreign_since q h e p.0 place name ∙ no_since q place name h p.1
+no_since q place name (e ∷ h) none = let p = parts q h (is_tick_by q e.actor e.fact) none in foreign_since q h e p.0 place name ∙ no_since q place name h p.1
 
 pub none_reached : (q : Identity) (h : List Entry) → ticks q h ≡ 0 → AreReached q h
 none_reached q [] none = λ key stale. absurd (false_is stale)
-none_reached q (e ∷ h) none = let p = parts q h (is_tick_by q e.actor e.deed) none in foreign_reached q h e p.0 (none_reached q h p.1)
+none_reached q (e ∷ h) none = let p = parts q h (is_tick_by q e.actor e.fact) none in foreign_reached q h e p.0 (none_reached q h p.1)

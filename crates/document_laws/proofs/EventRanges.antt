@@ -19,7 +19,7 @@ use Rattle.kube_objects.specs.declared.object.Object.{Object}
 use Rattle.kube_objects.specs.declared.object.Object.TheVariants as objects
 use Rattle.kube_objects.specs.declared.script.Event.{Event}
 use Rattle.kube_objects.specs.declared.script.What.{What}
-use Rattle.kube_objects.specs.declared.script.What.TheVariants as deeds
+use Rattle.kube_objects.specs.declared.script.What.TheVariants as whats
 use Rattle.manifest_json.specs.declared.codes.TheConstants.{UNKNOWN_PROCESS, WRONG_TYPE}
 use Rattle.manifest_laws.proofs.Getting.{Gets, Has, done, refused, weaker, by_test, of_option, and_then, skip}
 use Rattle.manifest_laws.proofs.Growing.{Grows, Grows-none, Grows-then}
@@ -91,16 +91,16 @@ space-grows g kinds.Lease space h = IsNameNumber-grows g space h
 space-grows g kinds.Pod space h = IsNameNumber-grows g space h
 
 readable-grows : {a b : Texts} (g : Grows a b) (known : List ℕ) → AreHeld a known → (what : What) → IsReadableWhat a known what → IsReadableWhat b known what
-readable-grows g known held (deeds.Rate id ppm) h = tt
-readable-grows g known held (deeds.Delay id requests replies) h = tt
-readable-grows g known held (deeds.Loss id requests replies) h = tt
-readable-grows g known held (deeds.Crash id) h = tt
-readable-grows g known held (deeds.Start id) h = tt
-readable-grows g known held (deeds.Stop id) h = tt
-readable-grows g known held (deeds.Watch id on) h = tt
-readable-grows g known held (deeds.Ready id status) h = tt
-readable-grows g known held (deeds.Put key object) h = IsReadableItem-grows g known held (key, object) h
-readable-grows g known held (deeds.Remove key) h = (IsNameNumber-grows g key.name h.0, space-grows g key.kind key.space h.1)
+readable-grows g known held (whats.Rate id ppm) h = tt
+readable-grows g known held (whats.Delay id requests replies) h = tt
+readable-grows g known held (whats.Loss id requests replies) h = tt
+readable-grows g known held (whats.Crash id) h = tt
+readable-grows g known held (whats.Start id) h = tt
+readable-grows g known held (whats.Stop id) h = tt
+readable-grows g known held (whats.Watch id on) h = tt
+readable-grows g known held (whats.Ready id status) h = tt
+readable-grows g known held (whats.Put key object) h = IsReadableItem-grows g known held (key, object) h
+readable-grows g known held (whats.Remove key) h = (IsNameNumber-grows g key.name h.0, space-grows g key.kind key.space h.1)
 
 module _ (cast : Cast) where
   abbrev IsController : ProcId → Type 0
@@ -132,16 +132,16 @@ module _ (cast : Cast) where
 
   -- the same as `IsLawfulWhat`, but for the rule on the election Lease
   abbrev IsKnown : What → Type 0
-  IsKnown (deeds.Rate id ppm) = IsProcess id × (500000 ≤ ppm) × (ppm ≤ 2000000)
-  IsKnown (deeds.Delay id requests replies) = IsProcess id × IsIn 1 6000 requests × IsIn 1 6000 replies
-  IsKnown (deeds.Loss id requests replies) = IsProcess id
-  IsKnown (deeds.Crash id) = IsProcess id
-  IsKnown (deeds.Start id) = IsProcess id
-  IsKnown (deeds.Stop id) = IsController id
-  IsKnown (deeds.Watch id on) = IsController id
-  IsKnown (deeds.Ready id status) = IsKubelet id × IsPosted status
-  IsKnown (deeds.Put key object) = IsOfKind key object
-  IsKnown (deeds.Remove key) = Unit {0}
+  IsKnown (whats.Rate id ppm) = IsProcess id × (500000 ≤ ppm) × (ppm ≤ 2000000)
+  IsKnown (whats.Delay id requests replies) = IsProcess id × IsIn 1 6000 requests × IsIn 1 6000 replies
+  IsKnown (whats.Loss id requests replies) = IsProcess id
+  IsKnown (whats.Crash id) = IsProcess id
+  IsKnown (whats.Start id) = IsProcess id
+  IsKnown (whats.Stop id) = IsController id
+  IsKnown (whats.Watch id on) = IsController id
+  IsKnown (whats.Ready id status) = IsKubelet id × IsPosted status
+  IsKnown (whats.Put key object) = IsOfKind key object
+  IsKnown (whats.Remove key) = Unit {0}
 
   abbrev IsNamed : Texts → What → Type 0
   IsNamed names what = IsKnown what × IsReadableWhat names cast.controllers what
@@ -244,17 +244,17 @@ module _ (cast : Cast) where
     is-controller id h = lt-ltb id.0 (length doc.controllers) (omega (arith, h, of.controllers))
 
     lawful : (what : What) → IsKnown what → edits_election what ≡ false → IsLawfulWhat doc what
-    lawful (deeds.Rate id ppm) known leaves = (is-process id known.0, known.1, known.2)
-    lawful (deeds.Delay id requests replies) known leaves = (is-process id known.0, known.1, known.2)
-    lawful (deeds.Loss id requests replies) known leaves = is-process id known
-    lawful (deeds.Crash id) known leaves = is-process id known
-    lawful (deeds.Start id) known leaves = is-process id known
-    lawful (deeds.Stop id) known leaves = is-controller id known
-    lawful (deeds.Watch id on) known leaves = is-controller id known
-    lawful (deeds.Ready id status) known leaves =
+    lawful (whats.Rate id ppm) known leaves = (is-process id known.0, known.1, known.2)
+    lawful (whats.Delay id requests replies) known leaves = (is-process id known.0, known.1, known.2)
+    lawful (whats.Loss id requests replies) known leaves = is-process id known
+    lawful (whats.Crash id) known leaves = is-process id known
+    lawful (whats.Start id) known leaves = is-process id known
+    lawful (whats.Stop id) known leaves = is-controller id known
+    lawful (whats.Watch id on) known leaves = is-controller id known
+    lawful (whats.Ready id status) known leaves =
         (le-ltb id.0 (length doc.controllers) (omega (arith, known.0.0, of.controllers)), is-process id known.0.1, known.1)
-    lawful (deeds.Put key object) known leaves = (leaves, known)
-    lawful (deeds.Remove key) known leaves = leaves
+    lawful (whats.Put key object) known leaves = (leaves, known)
+    lawful (whats.Remove key) known leaves = leaves
 
   -- one event behind earlier ones at most at the beat `last`
   record IsNext (end last : ℕ) (names : Texts) (e : Event) : Type 0 where

@@ -3,21 +3,21 @@ use Rattle.std.proofs.Common.{ℕ, List, [], ◌∷◌}
 use Rattle.kube_objects.specs.Document.{Doc}
 use Rattle.kube_objects.specs.declared.script.Event.{Event}
 use Rattle.kube_objects.specs.declared.script.What.{What}
-use Rattle.kube_objects.specs.declared.script.What.TheVariants as deeds
+use Rattle.kube_objects.specs.declared.script.What.TheVariants as whats
 use Rattle.history.specs.Sound.{IsSoundEvent, AreSound, IsSound}
 use Rattle.script_reader.specs.Lawful.{IsLawfulWhat, AreLawfulFrom, IsLawfulDoc}
 
 sound-what : (doc : Doc) (what : What) → IsLawfulWhat doc what → IsSoundEvent doc what
-sound-what doc (deeds.Rate id ppm) lawful = tt
-sound-what doc (deeds.Delay id requests replies) lawful = (lawful.1.0, lawful.2.0)
-sound-what doc (deeds.Loss id requests replies) lawful = tt
-sound-what doc (deeds.Crash id) lawful = tt
-sound-what doc (deeds.Start id) lawful = tt
-sound-what doc (deeds.Stop id) lawful = lawful
-sound-what doc (deeds.Watch id on) lawful = tt
-sound-what doc (deeds.Ready id status) lawful = tt
-sound-what doc (deeds.Put key object) lawful = lawful.0
-sound-what doc (deeds.Remove key) lawful = lawful
+sound-what doc (whats.Rate id ppm) lawful = tt
+sound-what doc (whats.Delay id requests replies) lawful = (lawful.1.0, lawful.2.0)
+sound-what doc (whats.Loss id requests replies) lawful = tt
+sound-what doc (whats.Crash id) lawful = tt
+sound-what doc (whats.Start id) lawful = tt
+sound-what doc (whats.Stop id) lawful = lawful
+sound-what doc (whats.Watch id on) lawful = tt
+sound-what doc (whats.Ready id status) lawful = tt
+sound-what doc (whats.Put key object) lawful = lawful.0
+sound-what doc (whats.Remove key) lawful = lawful
 
 sound-events : (doc : Doc) (from : ℕ) (events : List Event) → AreLawfulFrom doc from events → AreSound doc events
 sound-events doc from [] lawful = tt

@@ -4,7 +4,7 @@ use Rattle.kube_base.specs.declared.numbers.Version.{Version}
 use Rattle.kube_objects.specs.declared.deed.Actor.{Actor}
 use Rattle.kube_objects.specs.declared.key.Key.{Key}
 use Rattle.kube_objects.specs.declared.object.Object.{Object}
-use Rattle.kube_objects.specs.Entry.{Entry, Identity, Deed, Ticks, Tick, Sync, actor_of}
+use Rattle.kube_objects.specs.Entry.{Entry, Identity, Fact, Ticks, Tick, Sync, actor_of}
 use Rattle.kube_objects.specs.Identities.{is_by}
 use Rattle.kube_objects.specs.Keys.{key_eq}
 use Rattle.kube_objects.specs.Newest.{newest, when, only_if, join, has, or_else}
@@ -17,13 +17,13 @@ use Rattle.history_laws.proofs.Tailed.{tail_all}
 use Rattle.history_laws.proofs.Versions.{versions_are_contents}
 
 abbrev pub last_seen : Identity → Key → List Entry → Option (Option Held)
-last_seen q key = newest (λ e T. seen_says q key e.beat e.actor e.deed T)
+last_seen q key = newest (λ e T. seen_says q key e.beat e.actor e.fact T)
 
 abbrev last_fresh : Identity → List Entry → Option Bool
-last_fresh q = newest (λ e T. fresh_says q e.actor e.deed)
+last_fresh q = newest (λ e T. fresh_says q e.actor e.fact)
 
 abbrev last_synced : Identity → List Entry → Option Bool
-last_synced q = newest (λ e T. synced_says q e.actor e.deed)
+last_synced q = newest (λ e T. synced_says q e.actor e.fact)
 
 -- ---- what is seen was stored at an earlier position
 
@@ -35,7 +35,7 @@ record Stood (key : Key) (h : List Entry) (x : Held) : Type 0 where
 stood : (q : Identity) (key : Key) (h : List Entry) (x : Held) → seen q key h ≡ Some x → Stood key h x
 stood q key [] x is = absurd (none_is x is)
 stood q key (e ∷ h) x is =
-    cases (λ is. earlier (stood q key h x is)) e.actor e.deed (λ is. record { position = e ∷ h; at = inl refl; is = is }) is
+    cases (λ is. earlier (stood q key h x is)) e.actor e.fact (λ is. record { position = e ∷ h; at = inl refl; is = is }) is
   where
     earlier : Stood key h x → Stood key (e ∷ h) x
     earlier s = record { position = s.position; at = inr s.at; is = s.is }
@@ -57,7 +57,7 @@ stood q key (e ∷ h) x is =
     by_own below who t true top is = own below who t top is
     by_own below who t false top is = below is
 
-    cases : (seen q key h ≡ Some x → Stood key (e ∷ h) x) → (who : Actor) (d : Deed) → (join (upper (holds h e.beat who (at_key key (write_of d))) (last_write key h)) ≡ Some x → Stood key (e ∷ h) x)
+    cases : (seen q key h ≡ Some x → Stood key (e ∷ h) x) → (who : Actor) (d : Fact) → (join (upper (holds h e.beat who (at_key key (write_of d))) (last_write key h)) ≡ Some x → Stood key (e ∷ h) x)
         → join (upper (seen_says q key e.beat who d h) (last_seen q key h)) ≡ Some x → Stood key (e ∷ h) x
     cases below who (Ticks t) top is = by_own below who t (is_by q who) top is
     cases below who d top is = below is
@@ -104,7 +104,7 @@ pub mirrors_more : (q : Identity) (h : List Entry) (k : ℕ) (t : Tick) → Mirr
 mirrors_more q h k t same key =
     subst (λ b. join (upper (only_if b (tick_shows key k (actor_of q) t h)) (last_seen q key h)) ≡ stored key (add k q t h)) (sym (same_self q)) (shows_stored q key h k (actor_of q) t (same key))
 
-abbrev FreshMore : Identity → List Entry → ℕ → Actor → Deed → Type 0
+abbrev FreshMore : Identity → List Entry → ℕ → Actor → Fact → Type 0
 FreshMore q h k who d = or_else false (upper (fresh_says q who d) (last_fresh q h)) ≡ true
     → (key : Key) → join (upper (seen_says q key k who d h) (last_seen q key h)) ≡ join (upper (holds h k who (at_key key (write_of d))) (last_write key h))
 
@@ -114,12 +114,12 @@ fresh_write : (q : Identity) (h : List Entry) (k : ℕ) (who : Actor) (o : Optio
 fresh_write q h k who None old is key = old is key
 fresh_write q h k who (Some w) old is key = absurd (false_is is)
 
-pub unfresh : (q : Identity) (h : List Entry) (o : Option Write) → or_else false (upper (when (has o) false) (newest (λ e T. fresh_says q e.actor e.deed) h)) ≡ true → is_fresh q h ≡ true
+pub unfresh : (q : Identity) (h : List Entry) (o : Option Write) → or_else false (upper (when (has o) false) (newest (λ e T. fresh_says q e.actor e.fact) h)) ≡ true → is_fresh q h ≡ true
 unfresh q h None is = is
 unfresh q h (Some w) is = absurd (false_is is)
 
 fresh_more : (q : Identity) (e : Entry) (h : List Entry) → (is_fresh q h ≡ true → Mirrors q h) → is_fresh q (e ∷ h) ≡ true → Mirrors q (e ∷ h)
-fresh_more q e h old = cases e.actor e.deed
+fresh_more q e h old = cases e.actor e.fact
   where
     by_sync : (who : Actor) (b : Bool) → or_else false (upper (when b true) (last_fresh q h)) ≡ true → (key : Key) → join (upper (only_if b (Some (stored key h))) (last_seen q key h)) ≡ stored key h
     by_sync who true is key = refl
@@ -134,7 +134,7 @@ fresh_more q e h old = cases e.actor e.deed
     of_tick who Sync = by_sync who (is_by q who)
     of_tick who t = by_own who t (is_by q who)
 
-    cases : (who : Actor) (d : Deed) → FreshMore q h e.beat who d
+    cases : (who : Actor) (d : Fact) → FreshMore q h e.beat who d
     cases who (Ticks t) = of_tick who t
     cases who d = fresh_write q h e.beat who (write_of d) old
 
@@ -143,7 +143,7 @@ fresh q [] is = absurd (false_is is)
 fresh q (e ∷ h) is = fresh_more q e h (fresh q h) is
 
 fresh_synced_more : (q : Identity) (e : Entry) (h : List Entry) → (is_fresh q h ≡ true → is_synced q h ≡ true) → is_fresh q (e ∷ h) ≡ true → is_synced q (e ∷ h) ≡ true
-fresh_synced_more q e h old = cases e.actor e.deed
+fresh_synced_more q e h old = cases e.actor e.fact
   where
     by_sync : (b : Bool) → or_else false (upper (when b true) (last_fresh q h)) ≡ true → or_else false (upper (when b true) (last_synced q h)) ≡ true
     by_sync true is = refl
@@ -153,7 +153,7 @@ fresh_synced_more q e h old = cases e.actor e.deed
     of_tick who Sync = by_sync (is_by q who)
     of_tick who t = λ is. old (unfresh q h (tick_write t) is)
 
-    cases : (who : Actor) (d : Deed) → or_else false (upper (fresh_says q who d) (last_fresh q h)) ≡ true → or_else false (upper (synced_says q who d) (last_synced q h)) ≡ true
+    cases : (who : Actor) (d : Fact) → or_else false (upper (fresh_says q who d) (last_fresh q h)) ≡ true → or_else false (upper (synced_says q who d) (last_synced q h)) ≡ true
     cases who (Ticks t) = of_tick who t
     cases who d = λ is. old (unfresh q h (write_of d) is)
 

@@ -18,7 +18,7 @@ use Rattle.kube_objects.specs.Answers.{versioned, as_kind, node_in, answer_updat
 use Rattle.kube_objects.specs.Clocks.{wall}
 use Rattle.kube_objects.specs.Deletes.{delete_at_node, delete_over}
 use Rattle.kube_objects.specs.Document.{Doc}
-use Rattle.kube_objects.specs.Entry.{Entry, Identity, Deed, Ticks, Tick, Sync, Untaint, Swap, Delete, actor_of}
+use Rattle.kube_objects.specs.Entry.{Entry, Identity, Fact, Ticks, Tick, Sync, Untaint, Swap, Delete, actor_of}
 use Rattle.kube_objects.specs.Identities.{is_by}
 use Rattle.kube_objects.specs.InForce.{watches}
 use Rattle.kube_objects.specs.Keys.{key_eq}
@@ -95,13 +95,13 @@ abbrev pub Unstale : Identity → List Entry → Type 0
 Unstale q h = is_fresh q h ≡ true → (key : Key) → is_stale q key h ≡ false
 
 abbrev last_fresh : Identity → List Entry → Option Bool
-last_fresh q = newest (λ e T. fresh_says q e.actor e.deed)
+last_fresh q = newest (λ e T. fresh_says q e.actor e.fact)
 
 abbrev last_stale : Identity → Key → List Entry → Option Bool
-last_stale q key = newest (λ e T. stale_says q key e.actor e.deed)
+last_stale q key = newest (λ e T. stale_says q key e.actor e.fact)
 
-pub unstale_more : (doc : Doc) (q : Identity) (x : Entry) (h : List Entry) → Made doc x.beat x.actor x.deed h → Unstale q h → Unstale q (x ∷ h)
-unstale_more doc q x h made old = cases x.actor x.deed made
+pub unstale_more : (doc : Doc) (q : Identity) (x : Entry) (h : List Entry) → Made doc x.beat x.actor x.fact h → Unstale q h → Unstale q (x ∷ h)
+unstale_more doc q x h made old = cases x.actor x.fact made
   where
     by_sync : (b : Bool) → or_else false (upper (when b true) (last_fresh q h)) ≡ true → (key : Key) → or_else false (upper (only_if b (Some false)) (last_stale q key h)) ≡ false
     by_sync true is key = refl
@@ -119,7 +119,7 @@ unstale_more doc q x h made old = cases x.actor x.deed made
     of_tick who Sync made = by_sync (is_by q who)
     of_tick who t made = by_own who t (is_by q who) refl made
 
-    cases : (who : Actor) (d : Deed) → Made doc x.beat who d h → or_else false (upper (fresh_says q who d) (last_fresh q h)) ≡ true → (key : Key)
+    cases : (who : Actor) (d : Fact) → Made doc x.beat who d h → or_else false (upper (fresh_says q who d) (last_fresh q h)) ≡ true → (key : Key)
         → or_else false (upper (stale_says q key who d) (last_stale q key h)) ≡ false
     cases who (Ticks t) made = of_tick who t made
     cases who d made = λ is key. old (unfresh q h (write_of d) is) key
@@ -153,7 +153,7 @@ fine_sync doc k q h old watching passing = subst (λ b. FineSynced q (sync_if k 
         unstale = λ key. subst (λ b. or_else false (upper (only_if b (Some false)) (last_stale q key h)) ≡ false) (sym (same_self q)) refl;
         passes = passing;
       };
-      synced = subst (λ b. or_else false (upper (when b true) (newest (λ e T. synced_says q e.actor e.deed) h)) ≡ true) (sym (same_self q)) refl;
+      synced = subst (λ b. or_else false (upper (when b true) (newest (λ e T. synced_says q e.actor e.fact) h)) ≡ true) (sym (same_self q)) refl;
     }
 
 -- ---- evictions

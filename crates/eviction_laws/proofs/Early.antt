@@ -14,7 +14,7 @@ use Rattle.kube_objects.specs.Answers.{versioned, as_kind, node_in}
 use Rattle.kube_objects.specs.Clocks.{store_wall, whole_second, wall}
 use Rattle.kube_objects.specs.Deletes.{delete_over}
 use Rattle.kube_objects.specs.Document.{Doc}
-use Rattle.kube_objects.specs.Entry.{Entry, Identity, Deed, First, Ticks, Delete, script_entry}
+use Rattle.kube_objects.specs.Entry.{Entry, Identity, Fact, First, Ticks, Delete, script_entry}
 use Rattle.kube_objects.specs.Newest.{only_if}
 use Rattle.kube_objects.specs.Seen.{pod_in, seen}
 use Rattle.kube_objects.specs.Stamps.{stamped}
@@ -75,13 +75,13 @@ early doc k q pod given node_given at answer h made = subst (λ a. IfDone a Time
     by_loss false = tt
     by_loss true = by_stored (stored pod h) (stored (node_key made.x.node) h) refl refl
 
-early_at : (doc : Doc) (k : ℕ) (who : Actor) (d : Deed) (h : List Entry) → Made doc k who d h → NotEarlyAt doc k who d h
+early_at : (doc : Doc) (k : ℕ) (who : Actor) (d : Fact) (h : List Entry) → Made doc k who d h → NotEarlyAt doc k who d h
 early_at doc k who (Ticks (Delete pod given node_given at answer)) h (q, is, acting, made) =
     subst (λ who. IfDone answer (IfBy who (λ q. IsDue (wall doc q.process k) (pod_due pod h)))) (sym is) (early doc k q pod given node_given at answer h made)
 early_at doc k who d h made = tt
 
 early_keeps : (doc : Doc) → Keeps doc (λ k step. NotEarlyIn doc)
-early_keeps doc = all_made doc (λ k step. NotEarlyIn doc) (λ k step h s. s) (λ k h s. s) (λ x h made s. (early_at doc x.beat x.actor x.deed h made, s))
+early_keeps doc = all_made doc (λ k step. NotEarlyIn doc) (λ k step h s. s) (λ k h s. s) (λ x h made s. (early_at doc x.beat x.actor x.fact h made, s))
 
 put_early : (doc : Doc) (xs : List (Key × Object)) (h : List Entry) → NotEarlyIn doc h → NotEarlyIn doc (put_all doc xs h)
 put_early doc [] h s = s

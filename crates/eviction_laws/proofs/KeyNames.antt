@@ -117,4 +117,4 @@ named_more key kind h k who (Some w) old y is = by_key (key_eq w.0 key) refl is
 -- whatever is stored at a pod's key has its key among those of the pods
 pub named_pod : (key : Key) → is_pod key.kind ≡ true → (h : List Entry) (y : Held) → stored key h ≡ Some y → InKeys key (pod_keys h)
 named_pod key kind [] y is = absurd (none_is y is)
-named_pod key kind (e ∷ h) y is = named_more key kind h e.beat e.actor (write_of e.deed) (named_pod key kind h) y is
+named_pod key kind (e ∷ h) y is = named_more key kind h e.beat e.actor (write_of e.fact) (named_pod key kind h) y is

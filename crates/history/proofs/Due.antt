@@ -13,9 +13,9 @@ answer_all-push : (k : ℕ) (ss : List Sent) (s : Sent) (h : List Entry) → ans
 answer_all-push k [] s h = refl
 answer_all-push k (x ∷ ss) s h = answer_all-push k ss s (answered k x h)
 
-each-answered : (k : ℕ) (l h : List Entry) → each (λ e. answer_due k (sent_of e.actor e.deed)) l h ≡ answer_all k (requests_due k l) h
+each-answered : (k : ℕ) (l h : List Entry) → each (λ e. answer_due k (sent_of e.actor e.fact)) l h ≡ answer_all k (requests_due k l) h
 each-answered k [] h = refl
-each-answered k (e ∷ l) h = ap (answer_due k (sent_of e.actor e.deed)) (each-answered k l h) ∙ one (sent_of e.actor e.deed)
+each-answered k (e ∷ l) h = ap (answer_due k (sent_of e.actor e.fact)) (each-answered k l h) ∙ one (sent_of e.actor e.fact)
   where
     by_test : (s : Sent) (b : Bool) → answer_if k s b (answer_all k (requests_due k l) h) ≡ answer_all k (cond b (requests_due k l ++ s ∷ []) (requests_due k l)) h
     by_test s true = sym (answer_all-push k (requests_due k l) s h)
@@ -34,9 +34,9 @@ deliver_all-push : (doc : Doc) (k : ℕ) (bs : List Back) (b : Back) (h : List E
 deliver_all-push doc k [] b h = refl
 deliver_all-push doc k (x ∷ bs) b h = deliver_all-push doc k bs b (delivered doc k x h)
 
-each-delivered : (doc : Doc) (k : ℕ) (l h : List Entry) → each (λ e. deliver_due doc k (back_of e.actor e.deed)) l h ≡ deliver_all doc k (replies_due k l) h
+each-delivered : (doc : Doc) (k : ℕ) (l h : List Entry) → each (λ e. deliver_due doc k (back_of e.actor e.fact)) l h ≡ deliver_all doc k (replies_due k l) h
 each-delivered doc k [] h = refl
-each-delivered doc k (e ∷ l) h = ap (deliver_due doc k (back_of e.actor e.deed)) (each-delivered doc k l h) ∙ one (back_of e.actor e.deed)
+each-delivered doc k (e ∷ l) h = ap (deliver_due doc k (back_of e.actor e.fact)) (each-delivered doc k l h) ∙ one (back_of e.actor e.fact)
   where
     by_test : (b : Back) (t : Bool) → deliver_if doc k b t (deliver_all doc k (replies_due k l) h) ≡ deliver_all doc k (cond t (replies_due k l ++ b ∷ []) (replies_due k l)) h
     by_test b true = sym (deliver_all-push doc k (replies_due k l) b h)

@@ -14,7 +14,7 @@ use Rattle.kube_objects.specs.declared.pod.Pod.{Pod}
 use Rattle.kube_objects.specs.Answers.{as_kind, node_in}
 use Rattle.kube_objects.specs.Clocks.{wall}
 use Rattle.kube_objects.specs.Document.{Doc, end_beat}
-use Rattle.kube_objects.specs.Entry.{Entry, Identity, Deed, Ticks, Delete}
+use Rattle.kube_objects.specs.Entry.{Entry, Identity, Fact, Ticks, Delete}
 use Rattle.kube_objects.specs.Identities.{identity}
 use Rattle.kube_objects.specs.InForce.{watches}
 use Rattle.kube_objects.specs.Seen.{pod_in, is_pod}
@@ -60,14 +60,14 @@ IfBy actor.Script holds = Unit {0}
 IfBy (actor.Proc id incarnation) holds = holds (identity id.0 incarnation)
 
 -- an accepted delete takes a pod that is due; h is the history before it
-abbrev pub NotEarlyAt : Doc → ℕ → Actor → Deed → List Entry → Type 0
+abbrev pub NotEarlyAt : Doc → ℕ → Actor → Fact → List Entry → Type 0
 NotEarlyAt doc k who (Ticks (Delete pod given node_given at tried)) h =
     IfDone tried (IfBy who (λ q. IsDue (wall doc q.process k) (pod_due pod h)))
 NotEarlyAt doc k who _ h = Unit {0}
 
 abbrev pub NotEarlyIn : Doc → List Entry → Type 0
 NotEarlyIn doc [] = Unit {0}
-NotEarlyIn doc (e ∷ h) = NotEarlyAt doc e.beat e.actor e.deed h × NotEarlyIn doc h
+NotEarlyIn doc (e ∷ h) = NotEarlyAt doc e.beat e.actor e.fact h × NotEarlyIn doc h
 
 abbrev pub NotEarly : Doc → Type 0
 NotEarly doc = NotEarlyIn doc (whole_history doc)

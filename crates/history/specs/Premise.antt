@@ -26,7 +26,8 @@ greatest_below doc (suc p) = more (greatest_below doc p) (greatest_rate doc p (e
 
 -- whether a controller's lease is long enough for a greatest rate
 abbrev pub is_long : Doc → ℕ → ℕ → Bool
-is_long doc high p = nat_lt ((call_timeout doc p + retry_period doc p + renew_deadline doc p) * high) (lease_duration doc p * least_rate doc p (end_beat doc))
+is_long doc high p =
+    nat_lt ((call_timeout doc p + retry_period doc p + renew_deadline doc p) * high) (lease_duration doc p * least_rate doc p (end_beat doc))
 
 abbrev pub all_long : Doc → ℕ → ℕ → Bool
 all_long doc high zero = true

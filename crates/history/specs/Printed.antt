@@ -1,4 +1,4 @@
--- The printed entries of a history, in order. An entry's line is read from its deed alone.
+-- The printed entries of a history, in order. An entry's line is read from its fact alone.
 use Rattle.std.specs.Prelude.{ℕ, cond, List, [], ◌∷◌, ◌++◌, Option, Some, None}
 use Rattle.kube_base.specs.declared.numbers.Version.{Version}
 use Rattle.kube_objects.specs.declared.call.Answer.{Answer}
@@ -9,12 +9,12 @@ use Rattle.kube_objects.specs.declared.call.Request.TheVariants as request
 use Rattle.kube_objects.specs.declared.deed.Act.{Act}
 use Rattle.kube_objects.specs.declared.deed.Act.TheVariants as act
 use Rattle.kube_objects.specs.declared.deed.Actor.{Actor}
-use Rattle.kube_objects.specs.declared.deed.Deed as deed
+use Rattle.kube_objects.specs.declared.deed.Deed as fact
 use Rattle.kube_objects.specs.declared.key.Key.{Key}
 use Rattle.kube_objects.specs.declared.node.Ready.{Ready}
 use Rattle.kube_objects.specs.declared.script.What.{What}
 use Rattle.kube_objects.specs.declared.script.What.TheVariants as what
-use Rattle.kube_objects.specs.Entry.{Entry, Deed, Event, Starts, Crashes, Stops, Ends, Answers, Leads, Ticks, Tick, Mark, Mode, Zone, Untaint, Swap, Head, Delete}
+use Rattle.kube_objects.specs.Entry.{Entry, Fact, Event, Starts, Crashes, Stops, Ends, Answers, Leads, Ticks, Tick, Mark, Mode, Zone, Untaint, Swap, Head, Delete}
 use Rattle.kube_objects.specs.Keys.{key_eq}
 use Rattle.kube_objects.specs.Newest.{or_zero}
 use Rattle.kube_objects.specs.Stored.{election}
@@ -36,7 +36,8 @@ told_update key (Some a) = if_told key a
 abbrev pub answer_act : Request → Reply → Option Act
 answer_act (request.Get key) r = None
 answer_act (request.Create key lease) r = map_answer (λ a. act.Create key a (or_zero lease.transitions)) (as_answer r)
-answer_act (request.Update key given lease) r = map_answer (λ a. act.Update key a (or_zero lease.transitions)) (told_update key (as_answer r))
+answer_act (request.Update key given lease) r =
+    map_answer (λ a. act.Update key a (or_zero lease.transitions)) (told_update key (as_answer r))
 answer_act (request.PostStatus name status at) r = map_answer (λ a. act.Posted name status a) (as_answer r)
 
 abbrev pub event_act : What → Option Version → Option Act
@@ -60,7 +61,7 @@ tick_act (Head place node wanted given written a) = map_answer (λ a. act.Tainte
 tick_act (Delete pod given node_given due a) = map_answer (λ a. act.Evicted pod (record { 0 = due }) a) a
 tick_act _ = None
 
-abbrev pub act_of : Deed → Option Act
+abbrev pub act_of : Fact → Option Act
 act_of (Event event version) = event_act event version
 act_of Starts = Some act.Start
 act_of Crashes = Some act.Crash
@@ -79,4 +80,4 @@ deeds_of k who (Some a) = record { beat = record { 0 = k }; actor = who; act = a
 -- the printed entries, the oldest first
 abbrev pub printed : List Entry → List deed.Deed
 printed [] = []
-printed (e ∷ h) = printed h ++ deeds_of e.beat e.actor (act_of e.deed)
+printed (e ∷ h) = printed h ++ deeds_of e.beat e.actor (act_of e.fact)

@@ -24,7 +24,9 @@ IsStoredHolder q (Some x) = IsHeldBy q x.object
 
 -- whoever acts is the holder in the stored election Lease, and hasn't been stopped
 abbrev pub Holder : Doc → Type 0
-Holder doc = (q : Identity) (k : ℕ) → k ≤ end_beat doc → Acts doc q k → IsStoredHolder q (stored election (at_turn doc q.process k)) × (stops q (at_turn doc q.process k) ≡ 0)
+Holder doc =
+    (q : Identity) (k : ℕ) → k ≤ end_beat doc → Acts doc q k
+    → IsStoredHolder q (stored election (at_turn doc q.process k)) × (stops q (at_turn doc q.process k) ≡ 0)
 
 -- two identities that act at one beat are the same
 abbrev pub Exclusive : Doc → Type 0

@@ -18,7 +18,7 @@ use Rattle.kube_objects.specs.Process.{alive, starts, call_in, counted, ended, i
 use Rattle.kube_objects.specs.Stamps.{stamped}
 use Rattle.kube_objects.specs.Stored.{stored, next_version}
 use Rattle.kube_objects.specs.Tick.{tick}
-use Rattle.kube_objects.specs.Turns.{react, expire_call, end_term, try}
+use Rattle.kube_objects.specs.Turns.{react, end_term, expired, try, with_reply}
 use Rattle.kube_objects.specs.Wire.{reply_arrival, send, Sent, Back, sent_of, back_of}
 
 -- ---- step 1: starts at beat 0, and the script's events
@@ -113,7 +113,7 @@ answer_due k None h = h
 answer_due k (Some s) h = answer_if k s (comes_at k s.arrives) h
 
 abbrev pub step_two : ℕ → List Entry → List Entry
-step_two k h = each (λ e. answer_due k (sent_of e.actor e.deed)) h h
+step_two k h = each (λ e. answer_due k (sent_of e.actor e.fact)) h h
 
 -- ---- step 3: replies that arrive are delivered, in the order of their answering
 
@@ -129,7 +129,7 @@ react_as doc k q call reply false h = kubelet_react doc k q call reply h
 -- a reply counts for the call that waits
 abbrev pub deliver_as : Doc → ℕ → Identity → Call → Reply → Option Call → List Entry → List Entry
 deliver_as doc k q call reply None h = entry k 3 q (Delivers call reply false) ∷ h
-deliver_as doc k q call reply (Some waiting) h = react_as doc k q waiting reply (is_controller doc q.process) (entry k 3 q (Delivers waiting reply true) ∷ h)
+deliver_as doc k q call reply (Some waiting) h = react_as doc k q waiting reply (is_controller doc q.process) (with_reply k q waiting reply h)
 
 abbrev pub delivered : Doc → ℕ → Back → List Entry → List Entry
 delivered doc k b h = deliver_as doc k b.who b.call b.reply (counted doc b.who k b.call.number h) h
@@ -143,7 +143,7 @@ deliver_due doc k None h = h
 deliver_due doc k (Some b) h = deliver_if doc k b (comes_at k b.comes) h
 
 abbrev pub step_three : Doc → ℕ → List Entry → List Entry
-step_three doc k h = each (λ e. deliver_due doc k (back_of e.actor e.deed)) h h
+step_three doc k h = each (λ e. deliver_due doc k (back_of e.actor e.fact)) h h
 
 -- ---- step 4: each process has its turn, in order
 
@@ -166,7 +166,7 @@ restart doc k p h = restart_if doc k p (alive p h) h
 
 -- a call expires whose timeout is over
 abbrev pub expire : Doc → ℕ → ℕ → List Entry → List Entry
-expire doc k p h = if_up p (λ q T. expire_call doc k q (call_in q T) T) (alive p h) h
+expire doc k p h = if_up p (λ q T. expired doc k q T) (alive p h) h
 
 -- a leader ends that has reached its deadline
 abbrev pub finish : Doc → ℕ → ℕ → List Entry → List Entry

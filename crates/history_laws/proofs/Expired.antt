@@ -1,7 +1,7 @@
 -- After the expiry of an identity's call, it has no call.
 use Rattle.std.proofs.Common.{◌≡◌, ℕ, Bool, true, false, List, [], ◌∷◌, Some, None, refl, sym, ap, ◌∙◌}
 use Rattle.kube_objects.specs.declared.deed.Actor.{Actor}
-use Rattle.kube_objects.specs.Entry.{Entry, Identity, Call, Deed, First, Event, Starts, Crashes, Stops, Ends, Sends, Answers, Delivers, Expires, Leads, Ticks}
+use Rattle.kube_objects.specs.Entry.{Entry, Identity, Call, Fact, First, Event, Starts, Crashes, Stops, Ends, Sends, Answers, Delivers, Expires, Leads, Ticks}
 use Rattle.kube_objects.specs.Identities.{is_by}
 use Rattle.kube_objects.specs.Newest.{newest, when, join}
 use Rattle.kube_objects.specs.Process.{open_as, call_says, last_call, call_in}
@@ -9,7 +9,7 @@ use Rattle.kube_objects.specs.Turns.{expired_in, just_expired}
 use Rattle.history_laws.proofs.Plainly.{upper, none_is}
 
 -- an entry of another says nothing on the call
-silent : (q : Identity) (who : Actor) (d : Deed) → is_by q who ≡ false → call_says q who d ≡ None
+silent : (q : Identity) (who : Actor) (d : Fact) → is_by q who ≡ false → call_says q who d ≡ None
 silent q who (First key object) other = refl
 silent q who (Event what version) other = refl
 silent q who Starts other = refl
@@ -26,9 +26,9 @@ silent q who (Ticks tick) other = refl
 
 pub expired_none : (q : Identity) (k : ℕ) (h : List Entry) (c : Call) → just_expired q k h ≡ Some c → call_in q h ≡ None
 expired_none q k [] c is = refl
-expired_none q k (e ∷ h) c is = cases (λ is. expired_none q k h c is) e.actor e.deed (is_by q e.actor) refl is
+expired_none q k (e ∷ h) c is = cases (λ is. expired_none q k h c is) e.actor e.fact (is_by q e.actor) refl is
   where
-    own : (who : Actor) (d : Deed) → is_by q who ≡ true → join (Some (expired_in k e.beat d)) ≡ Some c → join (upper (call_says q who d) (last_call q h)) ≡ None
+    own : (who : Actor) (d : Fact) → is_by q who ≡ true → join (Some (expired_in k e.beat d)) ≡ Some c → join (upper (call_says q who d) (last_call q h)) ≡ None
     own who (First key object) by is = absurd (none_is c is)
     own who (Event what version) by is = absurd (none_is c is)
     own who Starts by is = absurd (none_is c is)
@@ -42,7 +42,7 @@ expired_none q k (e ∷ h) c is = cases (λ is. expired_none q k h c is) e.actor
     own who (Leads version) by is = absurd (none_is c is)
     own who (Ticks tick) by is = absurd (none_is c is)
 
-    cases : (just_expired q k h ≡ Some c → call_in q h ≡ None) → (who : Actor) (d : Deed) (b : Bool) → is_by q who ≡ b → join (upper (when (is_by q who) (expired_in k e.beat d)) (newest (λ e T. when (is_by q e.actor) (expired_in k e.beat e.deed)) h)) ≡ Some c → join (upper (call_says q who d) (last_call q h)) ≡ None
-    cases below who d true by is = own who d by (ap (λ b. join (upper (when b (expired_in k e.beat d)) (newest (λ e T. when (is_by q e.actor) (expired_in k e.beat e.deed)) h))) (sym by) ∙ is)
+    cases : (just_expired q k h ≡ Some c → call_in q h ≡ None) → (who : Actor) (d : Fact) (b : Bool) → is_by q who ≡ b → join (upper (when (is_by q who) (expired_in k e.beat d)) (newest (λ e T. when (is_by q e.actor) (expired_in k e.beat e.fact)) h)) ≡ Some c → join (upper (call_says q who d) (last_call q h)) ≡ None
+    cases below who d true by is = own who d by (ap (λ b. join (upper (when b (expired_in k e.beat d)) (newest (λ e T. when (is_by q e.actor) (expired_in k e.beat e.fact)) h))) (sym by) ∙ is)
     cases below who d false by is = ap (λ o. join (upper o (last_call q h))) (silent q who d by)
-        ∙ below (ap (λ b. join (upper (when b (expired_in k e.beat d)) (newest (λ e T. when (is_by q e.actor) (expired_in k e.beat e.deed)) h))) (sym by) ∙ is)
+        ∙ below (ap (λ b. join (upper (when b (expired_in k e.beat d)) (newest (λ e T. when (is_by q e.actor) (expired_in k e.beat e.fact)) h))) (sym by) ∙ is)

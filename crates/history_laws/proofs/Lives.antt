@@ -2,7 +2,7 @@
 use Rattle.std.proofs.Common.{◌≡◌, ℕ, ◌+◌, ◌==◌, ◌&&◌, ◌≤◌, Bool, true, false, List, ◌∷◌, Option, Some, None, refl, sym, ap, subst, arith}
 use Rattle.std.proofs.lemmas.Bool.{eqb-true}
 use Rattle.kube_objects.specs.declared.deed.Actor.{Actor}
-use Rattle.kube_objects.specs.Entry.{Entry, Identity, Deed, First, Event, Starts, Crashes, Stops, Ends, Sends, Answers, Delivers, Expires, Leads, Ticks}
+use Rattle.kube_objects.specs.Entry.{Entry, Identity, Fact, First, Event, Starts, Crashes, Stops, Ends, Sends, Answers, Delivers, Expires, Leads, Ticks}
 use Rattle.kube_objects.specs.Identities.{of_process}
 use Rattle.kube_objects.specs.Newest.{added, when, join, has}
 use Rattle.kube_objects.specs.Process.{born, gone, life_says, life, alive, is_start, starts}
@@ -29,10 +29,10 @@ lost : (o : Option ℕ) (last : Option (Option ℕ)) (i : ℕ) → join (upper (
 lost None last i up = up
 lost (Some j) last i up = absurd (none_is i up)
 
-pub counted_more : (x : Entry) (h : List Entry) → StartIsNext x.actor x.deed h → Counted h → Counted (x ∷ h)
-counted_more x h next s p = cases x.actor x.deed next
+pub counted_more : (x : Entry) (h : List Entry) → StartIsNext x.actor x.fact h → Counted h → Counted (x ∷ h)
+counted_more x h next s p = cases x.actor x.fact next
   where
-    cases : (who : Actor) (d : Deed) → StartIsNext who d h → (i : ℕ) → join (upper (life_says p who d) (life p h)) ≡ Some i → i ≤ added (is_start d && has (of_process p who)) (starts p h)
+    cases : (who : Actor) (d : Fact) → StartIsNext who d h → (i : ℕ) → join (upper (life_says p who d) (life p h)) ≡ Some i → i ≤ added (is_start d && has (of_process p who)) (starts p h)
     cases who Starts next =
         subst (λ who. (i : ℕ) → join (upper (life_says p who Starts) (life p h)) ≡ Some i → i ≤ added (has (of_process p who)) (starts p h)) (sym next.1)
         (started next.0 p h (λ n o. (i : ℕ) → o ≡ Some i → i ≤ n) (starts next.0 h + 1)
@@ -49,10 +49,10 @@ counted_more x h next s p = cases x.actor x.deed next
     cases who (Leads version) next = s p
     cases who (Ticks tick) next = s p
 
-pub over_more : (q : Identity) (x : Entry) (h : List Entry) → StartIsNext x.actor x.deed h → Over q h → Over q (x ∷ h)
-over_more q x h next s = cases x.actor x.deed next
+pub over_more : (q : Identity) (x : Entry) (h : List Entry) → StartIsNext x.actor x.fact h → Over q h → Over q (x ∷ h)
+over_more q x h next s = cases x.actor x.fact next
   where
-    cases : (who : Actor) (d : Deed) → StartIsNext who d h → (q.incarnation ≤ added (is_start d && has (of_process q.process who)) (starts q.process h)) × (join (upper (life_says q.process who d) (life q.process h)) ≡ Some q.incarnation → ⊥)
+    cases : (who : Actor) (d : Fact) → StartIsNext who d h → (q.incarnation ≤ added (is_start d && has (of_process q.process who)) (starts q.process h)) × (join (upper (life_says q.process who d) (life q.process h)) ≡ Some q.incarnation → ⊥)
     cases who Starts next =
         subst (λ who. (q.incarnation ≤ added (has (of_process q.process who)) (starts q.process h)) × (join (upper (life_says q.process who Starts) (life q.process h)) ≡ Some q.incarnation → ⊥)) (sym next.1)
         (started next.0 q.process h (λ n o. (q.incarnation ≤ n) × (o ≡ Some q.incarnation → ⊥)) (starts next.0 h + 1)

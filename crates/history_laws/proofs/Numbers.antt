@@ -6,7 +6,7 @@ use Rattle.kube_objects.specs.declared.deed.Actor.{Actor}
 use Rattle.kube_objects.specs.declared.deed.Actor.TheVariants as actor
 use Rattle.kube_objects.specs.Clocks.{store_wall, whole_second}
 use Rattle.kube_objects.specs.Document.{Doc}
-use Rattle.kube_objects.specs.Entry.{Entry, Call, Deed, First, Event, Starts, Crashes, Stops, Ends, Sends, Answers, Delivers, Expires, Leads, Ticks, script_entry}
+use Rattle.kube_objects.specs.Entry.{Entry, Call, Fact, First, Event, Starts, Crashes, Stops, Ends, Sends, Answers, Delivers, Expires, Leads, Ticks, script_entry}
 use Rattle.kube_objects.specs.Identities.{identity, is_same, is_by, identity_of}
 use Rattle.kube_objects.specs.Newest.{added}
 use Rattle.kube_objects.specs.Process.{begun, is_send}
@@ -20,12 +20,12 @@ use Rattle.history_laws.proofs.Tailed.{tail_of_empty, same_head, same_rest, tail
 use Rattle.history_laws.proofs.Walk.{CallIsNext, Keeps, all_kinds, walk_history}
 
 abbrev Numbered : List Entry → Type 0
-Numbered h = (e : Entry) (before : List Entry) → IsTail (e ∷ before) h → IfSome (sent_of e.actor e.deed) (CallIsNext before)
+Numbered h = (e : Entry) (before : List Entry) → IsTail (e ∷ before) h → IfSome (sent_of e.actor e.fact) (CallIsNext before)
 
-numbered_more : (x : Entry) (h : List Entry) → IfSome (sent_of x.actor x.deed) (CallIsNext h) → Numbered h → Numbered (x ∷ h)
+numbered_more : (x : Entry) (h : List Entry) → IfSome (sent_of x.actor x.fact) (CallIsNext h) → Numbered h → Numbered (x ∷ h)
 numbered_more x h new s e before (inl is) =
-    subst (λ (e : Entry). IfSome (sent_of e.actor e.deed) (CallIsNext before)) (sym (same_head e x before h is))
-    (subst (λ g. IfSome (sent_of x.actor x.deed) (CallIsNext g)) (sym (same_rest e x before h is)) new)
+    subst (λ (e : Entry). IfSome (sent_of e.actor e.fact) (CallIsNext before)) (sym (same_head e x before h is))
+    (subst (λ g. IfSome (sent_of x.actor x.fact) (CallIsNext g)) (sym (same_rest e x before h is)) new)
 numbered_more x h new s e before (inr at) = s e before at
 
 numbered_keeps : (doc : Doc) → Keeps doc (λ k step h. Numbered h)
@@ -41,8 +41,8 @@ pub numbers_count : NumbersCount
 numbers_count doc k = walk_history doc (λ k step h. Numbered h) (numbered_keeps doc) (put_numbered doc doc.objects [] (λ e before at. absurd (tail_of_empty e before at))) k
 
 -- a request raises its sender's number of requests by one
-sent_counts : (e : Entry) (h : List Entry) (s : Sent) → sent_of e.actor e.deed ≡ Some s → begun s.who (e ∷ h) ≡ begun s.who h + 1
-sent_counts e h s is = cases e.actor e.deed is
+sent_counts : (e : Entry) (h : List Entry) (s : Sent) → sent_of e.actor e.fact ≡ Some s → begun s.who (e ∷ h) ≡ begun s.who h + 1
+sent_counts e h s is = cases e.actor e.fact is
   where
     by_actor : (who : Actor) → (call : Call) (arrives : Option ℕ) → sent_as call arrives (identity_of who) ≡ Some s → added (is_by s.who who) (begun s.who h) ≡ begun s.who h + 1
     by_actor actor.Script call arrives is = absurd (none_is s is)
@@ -50,7 +50,7 @@ sent_counts e h s is = cases e.actor e.deed is
         let who : identity id.0 i ≡ s.who = ap (λ (s : Sent). s.who) (some_is (record { who = identity id.0 i; call = call; arrives = arrives }) s is) in
         ap (λ b. added b (begun s.who h)) (subst (λ q. is_same (identity id.0 i) q ≡ true) who (same_self (identity id.0 i)))
 
-    cases : (who : Actor) (d : Deed) → sent_of who d ≡ Some s → added (is_send d && is_by s.who who) (begun s.who h) ≡ begun s.who h + 1
+    cases : (who : Actor) (d : Fact) → sent_of who d ≡ Some s → added (is_send d && is_by s.who who) (begun s.who h) ≡ begun s.who h + 1
     cases who (First key object) is = absurd (none_is s is)
     cases who (Event what version) is = absurd (none_is s is)
     cases who Starts is = absurd (none_is s is)
@@ -65,12 +65,12 @@ sent_counts e h s is = cases e.actor e.deed is
     cases who (Ticks tick) is = absurd (none_is s is)
 
 -- of two requests of one identity, the later one has the greater number
-later_number : (e f : Entry) (g h : List Entry) (x y : Sent) → IsTail (e ∷ g) h → sent_of e.actor e.deed ≡ Some x → CallIsNext g x → CallIsNext h y → x.who ≡ y.who → x.call.number ≡ y.call.number → ⊥
+later_number : (e f : Entry) (g h : List Entry) (x y : Sent) → IsTail (e ∷ g) h → sent_of e.actor e.fact ≡ Some x → CallIsNext g x → CallIsNext h y → x.who ≡ y.who → x.call.number ≡ y.call.number → ⊥
 later_number e f g h x y at is first second who same =
     let whose : begun y.who h ≡ begun x.who h = ap (λ q. begun q h) (sym who) in
     absurd (omega (arith, sent_counts e g x is, begun_tail x.who (e ∷ g) h at, first, second, same, whose))
 
-next_of : (e : Entry) (g : List Entry) (x : Sent) → sent_of e.actor e.deed ≡ Some x → IfSome (sent_of e.actor e.deed) (CallIsNext g) → CallIsNext g x
+next_of : (e : Entry) (g : List Entry) (x : Sent) → sent_of e.actor e.fact ≡ Some x → IfSome (sent_of e.actor e.fact) (CallIsNext g) → CallIsNext g x
 next_of e g x is s = subst (λ o. IfSome o (CallIsNext g)) is s
 
 pub numbers_differ : NumbersDiffer

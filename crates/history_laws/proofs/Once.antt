@@ -38,12 +38,12 @@ abbrev GivenBack : List Entry → Back → Type 0
 GivenBack h b = b.call.number ≤ begun b.who h
 
 abbrev Given : List Entry → Entry → Type 0
-Given h e = IfSome (sent_of e.actor e.deed) (GivenSent h) × IfSome (back_of e.actor e.deed) (GivenBack h)
+Given h e = IfSome (sent_of e.actor e.fact) (GivenSent h) × IfSome (back_of e.actor e.fact) (GivenBack h)
 
 given_more : (x : Entry) (h : List Entry) (e : Entry) → Given h e → Given (x ∷ h) e
 given_more x h e r = (
-  if_some (sent_of e.actor e.deed) (GivenSent h) (GivenSent (x ∷ h)) (λ s r. omega (arith, r, added_more (is_send x.deed && is_by s.who x.actor) (begun s.who h))) r.0,
-  if_some (back_of e.actor e.deed) (GivenBack h) (GivenBack (x ∷ h)) (λ b r. omega (arith, r, added_more (is_send x.deed && is_by b.who x.actor) (begun b.who h))) r.1,
+  if_some (sent_of e.actor e.fact) (GivenSent h) (GivenSent (x ∷ h)) (λ s r. omega (arith, r, added_more (is_send x.fact && is_by s.who x.actor) (begun s.who h))) r.0,
+  if_some (back_of e.actor e.fact) (GivenBack h) (GivenBack (x ∷ h)) (λ b r. omega (arith, r, added_more (is_send x.fact && is_by b.who x.actor) (begun b.who h))) r.1,
 )
 
 -- ---- what a request of this beat leaves
@@ -54,7 +54,7 @@ record Waits (k step : ℕ) (q : Identity) (h : List Entry) : Type 0 where
   waits : call_in q h ≡ Some call
   sent : call.sent ≡ k
   late : 3 ≤ step
-  latest : (e : Entry) → In e h → IfSome (back_of e.actor e.deed) (λ b. b.who ≡ q → b.call.number < call.number)
+  latest : (e : Entry) → In e h → IfSome (back_of e.actor e.fact) (λ b. b.who ≡ q → b.call.number < call.number)
 
 abbrev Since : Doc → ℕ → ℕ → Identity → List Entry → Type 0
 Since doc k step q h = (begun q h ≡ begun q (history doc k) + 1) × (Over q h ⊎ Waits k step q h)
@@ -73,16 +73,16 @@ record Silent (q : Identity) (x : Entry) (h : List Entry) : Type 0 where
   begun : begun q (x ∷ h) ≡ begun q h
   call : call_in q (x ∷ h) ≡ call_in q h
 
-waits_more : (k step : ℕ) (q : Identity) (x : Entry) (h : List Entry) → call_in q (x ∷ h) ≡ call_in q h → ((c : Call) → IfSome (back_of x.actor x.deed) (λ b. b.who ≡ q → b.call.number < c.number)) → Waits k step q h → Waits k step q (x ∷ h)
+waits_more : (k step : ℕ) (q : Identity) (x : Entry) (h : List Entry) → call_in q (x ∷ h) ≡ call_in q h → ((c : Call) → IfSome (back_of x.actor x.fact) (λ b. b.who ≡ q → b.call.number < c.number)) → Waits k step q h → Waits k step q (x ∷ h)
 waits_more k step q x h same new w = record {
   call = w.call;
   waits = same ∙ w.waits;
   sent = w.sent;
   late = w.late;
-  latest = for_new (λ e. IfSome (back_of e.actor e.deed) (λ b. b.who ≡ q → b.call.number < w.call.number)) x h (new w.call) w.latest;
+  latest = for_new (λ e. IfSome (back_of e.actor e.fact) (λ b. b.who ≡ q → b.call.number < w.call.number)) x h (new w.call) w.latest;
 }
 
-once_more : (doc : Doc) (k step : ℕ) (q : Identity) (x : Entry) (h : List Entry) → StartIsNext x.actor x.deed h → begun q (x ∷ h) ≡ begun q h
+once_more : (doc : Doc) (k step : ℕ) (q : Identity) (x : Entry) (h : List Entry) → StartIsNext x.actor x.fact h → begun q (x ∷ h) ≡ begun q h
     → (Waits k step q h → Waits k step q (x ∷ h)) → Once doc k step q h → Once doc k step q (x ∷ h)
 once_more doc k step q x h next same more (inl old) = inl (same ∙ old)
 once_more doc k step q x h next same more (inr (old, inl over)) = inr (same ∙ old, inl (over_more q x h next over))
@@ -90,9 +90,9 @@ once_more doc k step q x h next same more (inr (old, inr waits)) = inr (same ∙
 
 -- what a kubelet's entry must show of its round
 abbrev OwnRounds : Entry → List Entry → Type 0
-OwnRounds x h = (q : Identity) → is_by q x.actor ≡ true → RunsOwn q h x.deed
+OwnRounds x h = (q : Identity) → is_by q x.actor ≡ true → RunsOwn q h x.fact
 
-right_more : (doc : Doc) (k step : ℕ) (x : Entry) (h : List Entry) → StartIsNext x.actor x.deed h → Given (x ∷ h) x → OwnRounds x h → ((q : Identity) → begun q (x ∷ h) ≡ begun q h)
+right_more : (doc : Doc) (k step : ℕ) (x : Entry) (h : List Entry) → StartIsNext x.actor x.fact h → Given (x ∷ h) x → OwnRounds x h → ((q : Identity) → begun q (x ∷ h) ≡ begun q h)
     → ((q : Identity) → Waits k step q h → Waits k step q (x ∷ h)) → Right doc k step h → Right doc k step (x ∷ h)
 right_more doc k step x h next new own same more s = record {
   given = for_new (Given (x ∷ h)) x h new (for_old (Given h) (Given (x ∷ h)) h (given_more x h) s.given);
@@ -170,8 +170,8 @@ waits_new k step q kind request h late opens given =
       waits = ap (λ b. join (upper (when b (open_as kind c)) (last_call q h))) (same_self q) ∙ opens;
       sent = refl;
       late = late;
-      latest = for_new (λ e. IfSome (back_of e.actor e.deed) (λ b. b.who ≡ q → b.call.number < c.number)) (entry k step q (Sends c (request_arrival q.process k h))) h tt
-          (for_old (Given h) (λ e. IfSome (back_of e.actor e.deed) (λ b. b.who ≡ q → b.call.number < c.number)) h (λ e r. if_some (back_of e.actor e.deed) (GivenBack h) (λ b. b.who ≡ q → b.call.number < c.number) (λ b r is. below b r is) r.1) given);
+      latest = for_new (λ e. IfSome (back_of e.actor e.fact) (λ b. b.who ≡ q → b.call.number < c.number)) (entry k step q (Sends c (request_arrival q.process k h))) h tt
+          (for_old (Given h) (λ e. IfSome (back_of e.actor e.fact) (λ b. b.who ≡ q → b.call.number < c.number)) h (λ e r. if_some (back_of e.actor e.fact) (GivenBack h) (λ b. b.who ≡ q → b.call.number < c.number) (λ b r is. below b r is) r.1) given);
     }
   where
     below : (b : Back) → GivenBack h b → b.who ≡ q → b.call.number < begun q h + 1
@@ -199,8 +199,8 @@ stopped doc k id i before kind request counted =
 
 -- ---- what closes a call
 
-closes : (doc : Doc) (k step : ℕ) (q : Identity) (x : Entry) (h : List Entry) → StartIsNext x.actor x.deed h → Given (x ∷ h) x → OwnRounds x h → ((p : Identity) → begun p (x ∷ h) ≡ begun p h)
-    → ((p : Identity) → is_same q p ≡ false → call_in p (x ∷ h) ≡ call_in p h) → ((p : Identity) (c : Call) → IfSome (back_of x.actor x.deed) (λ b. b.who ≡ p → b.call.number < c.number))
+closes : (doc : Doc) (k step : ℕ) (q : Identity) (x : Entry) (h : List Entry) → StartIsNext x.actor x.fact h → Given (x ∷ h) x → OwnRounds x h → ((p : Identity) → begun p (x ∷ h) ≡ begun p h)
+    → ((p : Identity) → is_same q p ≡ false → call_in p (x ∷ h) ≡ call_in p h) → ((p : Identity) (c : Call) → IfSome (back_of x.actor x.fact) (λ b. b.who ≡ p → b.call.number < c.number))
     → begun q h ≡ begun q (history doc k) → Right doc k step h → Right doc k step (x ∷ h)
 closes doc k step q x h next new own same other backs none s = record {
   given = for_new (Given (x ∷ h)) x h new (for_old (Given h) (Given (x ∷ h)) h (given_more x h) s.given);
@@ -284,7 +284,7 @@ once_keeps doc = record {
         → Right doc k 3 h → Right doc k 3 (after_reply k b waiting h) → Right doc k 3 (send k 3 b.who Plain request (after_reply k b waiting h))
     ask_right k b waiting h request is role asked was s =
         follow_right k b waiting h request is
-        (λ other. inr (inr (subst (λ t. or_else false (upper (when (t && (true && is_same b.who b.who)) false) (newest (λ e T. round_says b.who e.actor e.deed) h)) ≡ true) (sym (goes_on doc b.who k waiting.request b.reply request asked)) ((was.rounds b.who role).0 waiting is.waits)))) s
+        (λ other. inr (inr (subst (λ t. or_else false (upper (when (t && (true && is_same b.who b.who)) false) (newest (λ e T. round_says b.who e.actor e.fact) h)) ≡ true) (sym (goes_on doc b.who k waiting.request b.reply request asked)) ((was.rounds b.who role).0 waiting is.waits)))) s
 
     no_round : (q : Identity) (h : List Entry) → has_round q h ≡ false → Runs q h → call_in q h ≡ None
     no_round q h none runs = by_call (call_in q h) refl

@@ -6,7 +6,7 @@ use Rattle.kube_objects.specs.declared.call.Request.{Request}
 use Rattle.kube_objects.specs.declared.call.Request.TheVariants.{Get, Create, Update, PostStatus}
 use Rattle.kube_objects.specs.declared.deed.Actor.{Actor}
 use Rattle.kube_objects.specs.Document.{Doc}
-use Rattle.kube_objects.specs.Entry.{Entry, Identity, Call, Deed, First, Event, Starts, Crashes, Stops, Ends, Sends, Answers, Delivers, Expires, Leads, Ticks}
+use Rattle.kube_objects.specs.Entry.{Entry, Identity, Call, Fact, First, Event, Starts, Crashes, Stops, Ends, Sends, Answers, Delivers, Expires, Leads, Ticks}
 use Rattle.kube_objects.specs.Identities.{is_by}
 use Rattle.kube_objects.specs.Kubelet.{is_post, ends_round, round_says, has_round, next_request}
 use Rattle.kube_objects.specs.Newest.{newest, when, join, or_else}
@@ -22,22 +22,22 @@ abbrev pub Runs : Identity → List Entry → Type 0
 Runs q h = RunsIn (call_in q h) (has_round q h) (λ k. just_expired q k h)
 
 -- what an own entry must show
-abbrev pub RunsOwn : Identity → List Entry → Deed → Type 0
+abbrev pub RunsOwn : Identity → List Entry → Fact → Type 0
 RunsOwn q h (Sends call arrives) = (open_as call.kind call ≡ None) ⊎ ((is_post call.request ≡ true) ⊎ (has_round q h ≡ true))
 RunsOwn q h (Expires call) = call_in q h ≡ Some call
 RunsOwn q h _ = Unit {0}
 
 abbrev last_round : Identity → List Entry → Option Bool
-last_round q = newest (λ e T. round_says q e.actor e.deed)
+last_round q = newest (λ e T. round_says q e.actor e.fact)
 
 abbrev last_expired : Identity → ℕ → List Entry → Option (Option Call)
-last_expired q k = newest (λ e T. when (is_by q e.actor) (expired_in k e.beat e.deed))
+last_expired q k = newest (λ e T. when (is_by q e.actor) (expired_in k e.beat e.fact))
 
 no_call : (k : ℕ) (c : Call) (P : Type 0) → None ≡ Some c → P
 no_call k c P is = absurd (none_is c is)
 
-pub runs_more : (q : Identity) (x : Entry) (h : List Entry) → (is_by q x.actor ≡ true → RunsOwn q h x.deed) → Runs q h → Runs q (x ∷ h)
-runs_more q x h own s = cases x.actor x.deed (is_by q x.actor) refl own
+pub runs_more : (q : Identity) (x : Entry) (h : List Entry) → (is_by q x.actor ≡ true → RunsOwn q h x.fact) → Runs q h → Runs q (x ∷ h)
+runs_more q x h own s = cases x.actor x.fact (is_by q x.actor) refl own
   where
     -- an entry that says nothing on calls and rounds
     plain : (b : Bool) → RunsIn (call_in q h) (has_round q h) (λ k. join (upper (when b None) (last_expired q k h)))
@@ -87,12 +87,12 @@ runs_more q x h own s = cases x.actor x.deed (is_by q x.actor) refl own
         by_post false = s
 
     -- what holds after an entry by an actor
-    After : Actor → Deed → Type 0
+    After : Actor → Fact → Type 0
     After who d =
         RunsIn (join (upper (call_says q who d) (last_call q h))) (or_else false (upper (round_says q who d) (last_round q h)))
         (λ k. join (upper (when (is_by q who) (expired_in k x.beat d)) (last_expired q k h)))
 
-    cases : (who : Actor) (d : Deed) (b : Bool) → is_by q who ≡ b → (is_by q who ≡ true → RunsOwn q h d) → After who d
+    cases : (who : Actor) (d : Fact) (b : Bool) → is_by q who ≡ b → (is_by q who ≡ true → RunsOwn q h d) → After who d
     cases who (Sends call arrives) b is own = sends (is_by q who) call own
     cases who (Delivers call reply counted) b is own = delivers (is_by q who) counted (ends_round call.request reply)
     cases who (Expires call) b is own = expires (is_by q who) call own

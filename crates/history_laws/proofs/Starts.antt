@@ -149,7 +149,7 @@ answer_quiet k p (Some s) h = by_test (comes_at k s.arrives)
     by_test false = same p h
 
 two_quiet : (k p : ℕ) (h : List Entry) → Quiet p (step_two k h) h
-two_quiet k p h = each_quiet p (λ e. answer_due k (sent_of e.actor e.deed)) (λ e g. answer_quiet k p (sent_of e.actor e.deed) g) h h
+two_quiet k p h = each_quiet p (λ e. answer_due k (sent_of e.actor e.fact)) (λ e g. answer_quiet k p (sent_of e.actor e.fact) g) h h
 
 react_quiet : (k p : ℕ) (q : Identity) (led : Bool) (f : Follow) (h : List Entry) → Quiet p (react k q led f h) h
 react_quiet k p q led Fails h = same p h
@@ -178,7 +178,7 @@ deliver_quiet doc k p (Some b) h = by_test (comes_at k b.comes)
     by_test false = same p h
 
 three_quiet : (doc : Doc) (k p : ℕ) (h : List Entry) → Quiet p (step_three doc k h) h
-three_quiet doc k p h = each_quiet p (λ e. deliver_due doc k (back_of e.actor e.deed)) (λ e g. deliver_quiet doc k p (back_of e.actor e.deed) g) h h
+three_quiet doc k p h = each_quiet p (λ e. deliver_due doc k (back_of e.actor e.fact)) (λ e g. deliver_quiet doc k p (back_of e.actor e.fact) g) h h
 
 -- ---- step 4
 

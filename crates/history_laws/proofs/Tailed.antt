@@ -57,13 +57,13 @@ count_tail f g (e ∷ h) (inl is) = let same : count f g ≡ count f (e ∷ h) =
 count_tail f g (e ∷ h) (inr at) = omega (arith, count_tail f g h at, added_more (f e) (count f h))
 
 pub begun_tail : (q : Identity) (g h : List Entry) → IsTail g h → begun q g ≤ begun q h
-begun_tail q g h at = count_tail (λ e. is_send e.deed && is_by q e.actor) g h at
+begun_tail q g h at = count_tail (λ e. is_send e.fact && is_by q e.actor) g h at
 
 pub starts_tail : (p : ℕ) (g h : List Entry) → IsTail g h → starts p g ≤ starts p h
-starts_tail p g h at = count_tail (λ e. is_start e.deed && has (of_process p e.actor)) g h at
+starts_tail p g h at = count_tail (λ e. is_start e.fact && has (of_process p e.actor)) g h at
 
 pub writes_tail : (g h : List Entry) → IsTail g h → writes g ≤ writes h
-writes_tail g h at = count_tail (λ e. has (write_of e.deed)) g h at
+writes_tail g h at = count_tail (λ e. has (write_of e.fact)) g h at
 
 -- ---- the steps only add entries
 

@@ -117,7 +117,7 @@ pods_more (Some w) keys old = by_kind (is_pod w.0.kind) refl
 
 pub pods_only : (h : List Entry) → Each IsPodKey (pod_keys h)
 pods_only [] = tt
-pods_only (e ∷ h) = pods_more (write_of e.deed) (pod_keys h) (pods_only h)
+pods_only (e ∷ h) = pods_more (write_of e.fact) (pod_keys h) (pods_only h)
 
 -- what the delete of one pod keeps, the look at the pod keeps
 pub evict_step : (doc : Doc) (k : ℕ) (q : Identity) (P : List Entry → Type 0) (pod : Key) (h : List Entry) → IsPodKey pod → P h

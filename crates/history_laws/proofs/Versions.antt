@@ -27,21 +27,21 @@ record Given (key : Key) (h : List Entry) (x : Held) : Type 0 where
 
 given : (h : List Entry) (key : Key) (x : Held) → stored key h ≡ Some x → Given key h x
 given [] key x is = absurd (none_is x is)
-given (e ∷ h) key x is = cases (λ is. given h key x is) (at_key key (write_of e.deed)) refl is
+given (e ∷ h) key x is = cases (λ is. given h key x is) (at_key key (write_of e.fact)) refl is
   where
     older : Given key h x → Given key (e ∷ h) x
     older r = record {
       written = record { e = r.written.e; before = r.written.before; position = inr r.written.position; write = r.written.write; version = r.written.version; beat = r.written.beat; by = r.written.by };
-      within = omega (arith, r.within, added_more (has (write_of e.deed)) (writes h));
+      within = omega (arith, r.within, added_more (has (write_of e.fact)) (writes h));
     }
 
-    new : (object : Object) → at_key key (write_of e.deed) ≡ Some (Some object) → (record { version = next_version h; object = object; beat = e.beat; by = identity_of e.actor } ≡ x) → Given key (e ∷ h) x
+    new : (object : Object) → at_key key (write_of e.fact) ≡ Some (Some object) → (record { version = next_version h; object = object; beat = e.beat; by = identity_of e.actor } ≡ x) → Given key (e ∷ h) x
     new object at is = subst (Given key (e ∷ h)) is (record {
       written = record { e = e; before = h; position = inl refl; write = at; version = refl; beat = refl; by = refl };
-      within = omega (arith, counted_write key (write_of e.deed) (Some object) (writes h) at);
+      within = omega (arith, counted_write key (write_of e.fact) (Some object) (writes h) at);
     })
 
-    cases : (stored key h ≡ Some x → Given key h x) → (o : Option (Option Object)) → at_key key (write_of e.deed) ≡ o → after key e h o ≡ Some x → Given key (e ∷ h) x
+    cases : (stored key h ≡ Some x → Given key h x) → (o : Option (Option Object)) → at_key key (write_of e.fact) ≡ o → after key e h o ≡ Some x → Given key (e ∷ h) x
     cases below None at is = older (below is)
     cases below (Some None) at is = absurd (none_is x is)
     cases below (Some (Some object)) at is = new object at (some_is (record { version = next_version h; object = object; beat = e.beat; by = identity_of e.actor }) x is)
@@ -56,7 +56,7 @@ versions_are_given h key x is = let r = given h key x is in (r.written, r.within
 pub same_or_since : (g h : List Entry) → IsTail g h → (key : Key) (x y : Held) → stored key g ≡ Some x → stored key h ≡ Some y → (x ≡ y) ⊎ (writes g < y.version.0)
 same_or_since g [] at key x y was is = absurd (none_is y is)
 same_or_since g (e ∷ h) (inl same) key x y was is = inl (some_is x y (sym was ∙ ap (stored key) same ∙ is))
-same_or_since g (e ∷ h) (inr at) key x y was is = cases (λ is. same_or_since g h at key x y was is) (at_key key (write_of e.deed)) is
+same_or_since g (e ∷ h) (inr at) key x y was is = cases (λ is. same_or_since g h at key x y was is) (at_key key (write_of e.fact)) is
   where
     cases : (stored key h ≡ Some y → (x ≡ y) ⊎ (writes g < y.version.0)) → (o : Option (Option Object)) → after key e h o ≡ Some y → (x ≡ y) ⊎ (writes g < y.version.0)
     cases below None is = below is

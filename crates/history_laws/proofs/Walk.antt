@@ -11,7 +11,7 @@ use Rattle.kube_objects.specs.declared.script.What.TheVariants as what
 use Rattle.kube_objects.specs.Clocks.{local}
 use Rattle.kube_objects.specs.Document.{Doc, processes, is_controller, is_up_first}
 use Rattle.kube_objects.specs.Elector.{Follow, Fails, Asks, Succeeds, follow_on, leads, deadline, timer, attempt, release, acts}
-use Rattle.kube_objects.specs.Entry.{Entry, Identity, Call, Plain, Release, Deed, Event as Happens, Starts, Crashes, Stops, Ends, Delivers, Expires, Leads, Ticks, actor_of, entry, script_entry}
+use Rattle.kube_objects.specs.Entry.{Entry, Identity, Call, Plain, Release, Fact, Event as Happens, Starts, Crashes, Stops, Ends, Delivers, Expires, Leads, Ticks, actor_of, entry, script_entry}
 use Rattle.kube_objects.specs.Identities.{identity}
 use Rattle.kube_objects.specs.Kubelet.{node_of, is_post, has_round, next_request, post, send_next, is_post_call, round_if, is_round_due, round_timer, round}
 use Rattle.kube_objects.specs.Newest.{has}
@@ -40,14 +40,14 @@ Scripted doc k w = (e : Event) × InScript e doc.events × (e.what ≡ w) × ((e
 pub record Arriving (k : ℕ) (h : List Entry) (s : Sent) : Type 0 where
   pub e : Entry
   pub stands : In e h
-  pub is : sent_of e.actor e.deed ≡ Some s
+  pub is : sent_of e.actor e.fact ≡ Some s
   pub now : comes_at k s.arrives ≡ true
 
 -- a reply of the history comes at this beat
 pub record Coming (k : ℕ) (h : List Entry) (b : Back) : Type 0 where
   pub e : Entry
   pub stands : In e h
-  pub is : back_of e.actor e.deed ≡ Some b
+  pub is : back_of e.actor e.fact ≡ Some b
   pub now : comes_at k b.comes ≡ true
 
 -- the entries of a stop at beat k, on the history before it
@@ -114,7 +114,7 @@ pub record Keeps (doc : Doc) (P : ℕ → ℕ → List Entry → Type 0) : Type 
   pub turns : KeepsTurn doc (Ticking doc) (λ k h. P k 4 h)
 
 -- what every new entry has: a call's number is the next one, and so is a start's incarnation
-abbrev pub StartIsNext : Actor → Deed → List Entry → Type 0
+abbrev pub StartIsNext : Actor → Fact → List Entry → Type 0
 StartIsNext who Starts h = (p : ℕ) × (who ≡ actor_of (identity p (starts p h + 1)))
 StartIsNext who _ h = Unit {0}
 
@@ -122,12 +122,12 @@ abbrev pub CallIsNext : List Entry → Sent → Type 0
 CallIsNext h s = s.call.number ≡ begun s.who h + 1
 
 -- and whoever comes to lead is up
-abbrev pub LeadIsUp : Actor → Deed → List Entry → Type 0
+abbrev pub LeadIsUp : Actor → Fact → List Entry → Type 0
 LeadIsUp who (Leads version) h = (q : Identity) × (who ≡ actor_of q) × (alive q.process h ≡ Some q.incarnation)
 LeadIsUp who _ h = Unit {0}
 
 abbrev pub IsNext : Entry → List Entry → Type 0
-IsNext x h = StartIsNext x.actor x.deed h × IfSome (sent_of x.actor x.deed) (CallIsNext h) × LeadIsUp x.actor x.deed h
+IsNext x h = StartIsNext x.actor x.fact h × IfSome (sent_of x.actor x.fact) (CallIsNext h) × LeadIsUp x.actor x.fact h
 
 -- a property of turns that every new entry keeps, whatever its kind
 pub all_turns : (doc : Doc) (A : Identity → ℕ → Type 0) (P : ℕ → List Entry → Type 0)
@@ -168,7 +168,7 @@ all_kinds doc P on next more = record {
 }
 
 -- an entry of a tick is by one who ticks, and is as a tick makes it
-abbrev pub Made : Doc → ℕ → Actor → Deed → List Entry → Type 0
+abbrev pub Made : Doc → ℕ → Actor → Fact → List Entry → Type 0
 Made doc k who (Ticks t) h = (q : Identity) × (who ≡ actor_of q) × Ticking doc q k × MadeTick doc k q t h
 Made doc k who _ h = Unit {0}
 
@@ -176,7 +176,7 @@ Made doc k who _ h = Unit {0}
 pub all_made : (doc : Doc) (P : ℕ → ℕ → List Entry → Type 0)
     → ((k step : ℕ) (h : List Entry) → P k step h → P k (suc step) h)
     → ((k : ℕ) (h : List Entry) → P k 4 h → P (suc k) 1 h)
-    → ((x : Entry) (h : List Entry) → Made doc x.beat x.actor x.deed h → P x.beat x.step h → P x.beat x.step (x ∷ h))
+    → ((x : Entry) (h : List Entry) → Made doc x.beat x.actor x.fact h → P x.beat x.step h → P x.beat x.step (x ∷ h))
     → Keeps doc P
 all_made doc P on next more = record {
   on = on;
@@ -407,16 +407,16 @@ module _ (doc : Doc) (P : ℕ → ℕ → List Entry → Type 0) (keeps : Keeps 
   more_over : (g : List Entry) (k step : ℕ) (x : Entry) (h : List Entry) → Over g k step h → P k step (x ∷ h) → Over g k step (x ∷ h)
   more_over g k step x h s new = (new, λ e at. inr (s.1 e at))
 
-  walk_answer_if : (k : ℕ) (g : List Entry) (e : Entry) (x : Sent) (b : Bool) → In e g → sent_of e.actor e.deed ≡ Some x → comes_at k x.arrives ≡ b → (h : List Entry) → Over g k 2 h → Over g k 2 (answer_if k x b h)
+  walk_answer_if : (k : ℕ) (g : List Entry) (e : Entry) (x : Sent) (b : Bool) → In e g → sent_of e.actor e.fact ≡ Some x → comes_at k x.arrives ≡ b → (h : List Entry) → Over g k 2 h → Over g k 2 (answer_if k x b h)
   walk_answer_if k g e x false stands is now h s = s
   walk_answer_if k g e x true stands is now h s = more_over g k 2 _ h s (keeps.answers k x h (record { e = e; stands = s.1 e stands; is = is; now = now }) s.0)
 
-  walk_answer : (k : ℕ) (g : List Entry) (e : Entry) (o : Option Sent) → In e g → sent_of e.actor e.deed ≡ o → (h : List Entry) → Over g k 2 h → Over g k 2 (answer_due k o h)
+  walk_answer : (k : ℕ) (g : List Entry) (e : Entry) (o : Option Sent) → In e g → sent_of e.actor e.fact ≡ o → (h : List Entry) → Over g k 2 h → Over g k 2 (answer_due k o h)
   walk_answer k g e None stands is h s = s
   walk_answer k g e (Some x) stands is h s = walk_answer_if k g e x (comes_at k x.arrives) stands is refl h s
 
   pub walk_two : (k : ℕ) (h : List Entry) → P k 2 h → P k 2 (step_two k h)
-  walk_two k h s = (walk_each k 2 (λ e. answer_due k (sent_of e.actor e.deed)) h (λ e stands g t. walk_answer k h e (sent_of e.actor e.deed) stands refl g t) h (λ e at. at) h (s, λ e at. at)).0
+  walk_two k h s = (walk_each k 2 (λ e. answer_due k (sent_of e.actor e.fact)) h (λ e stands g t. walk_answer k h e (sent_of e.actor e.fact) stands refl g t) h (λ e at. at) h (s, λ e at. at)).0
 
   walk_lead : (k : ℕ) (g : List Entry) (b : Back) (waiting : Call) (h : List Entry) (led : Bool) (version : Version)
       → Over g k 3 (after_reply k b waiting h) → (P k 3 (after_reply k b waiting h) → P k 3 (entry k 3 b.who (Leads version) ∷ after_reply k b waiting h))
@@ -446,16 +446,16 @@ module _ (doc : Doc) (P : ℕ → ℕ → List Entry → Type 0) (keeps : Keeps 
   walk_deliver_as k g b h coming (Some waiting) is s =
       walk_react_as k g b waiting h coming is (is_controller doc b.who.process) refl s.0 (more_over g k 3 _ h s (keeps.counts k b waiting h coming is s.0))
 
-  walk_deliver_if : (k : ℕ) (g : List Entry) (e : Entry) (x : Back) (b : Bool) → In e g → back_of e.actor e.deed ≡ Some x → comes_at k x.comes ≡ b → (h : List Entry) → Over g k 3 h → Over g k 3 (deliver_if doc k x b h)
+  walk_deliver_if : (k : ℕ) (g : List Entry) (e : Entry) (x : Back) (b : Bool) → In e g → back_of e.actor e.fact ≡ Some x → comes_at k x.comes ≡ b → (h : List Entry) → Over g k 3 h → Over g k 3 (deliver_if doc k x b h)
   walk_deliver_if k g e x false stands is now h s = s
   walk_deliver_if k g e x true stands is now h s = walk_deliver_as k g x h (record { e = e; stands = s.1 e stands; is = is; now = now }) (counted doc x.who k x.call.number h) refl s
 
-  walk_deliver : (k : ℕ) (g : List Entry) (e : Entry) (o : Option Back) → In e g → back_of e.actor e.deed ≡ o → (h : List Entry) → Over g k 3 h → Over g k 3 (deliver_due doc k o h)
+  walk_deliver : (k : ℕ) (g : List Entry) (e : Entry) (o : Option Back) → In e g → back_of e.actor e.fact ≡ o → (h : List Entry) → Over g k 3 h → Over g k 3 (deliver_due doc k o h)
   walk_deliver k g e None stands is h s = s
   walk_deliver k g e (Some x) stands is h s = walk_deliver_if k g e x (comes_at k x.comes) stands is refl h s
 
   pub walk_three : (k : ℕ) (h : List Entry) → P k 3 h → P k 3 (step_three doc k h)
-  walk_three k h s = (walk_each k 3 (λ e. deliver_due doc k (back_of e.actor e.deed)) h (λ e stands g t. walk_deliver k h e (back_of e.actor e.deed) stands refl g t) h (λ e at. at) h (s, λ e at. at)).0
+  walk_three k h s = (walk_each k 3 (λ e. deliver_due doc k (back_of e.actor e.fact)) h (λ e stands g t. walk_deliver k h e (back_of e.actor e.fact) stands refl g t) h (λ e at. at) h (s, λ e at. at)).0
 
   pub walk_steps : (k : ℕ) (h : List Entry) → P k 1 h → P k 4 (three_steps doc k h)
   walk_steps k h s =

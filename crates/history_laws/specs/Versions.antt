@@ -11,7 +11,7 @@ pub record IsWritten (key : Key) (h : List Entry) (x : Held) : Type 0 where
   pub e : Entry
   pub before : List Entry
   pub position : IsTail (e ∷ before) h
-  pub write : at_key key (write_of e.deed) ≡ Some (Some x.object)
+  pub write : at_key key (write_of e.fact) ≡ Some (Some x.object)
   pub version : x.version ≡ next_version before
   pub beat : x.beat ≡ e.beat
   pub by : x.by ≡ identity_of e.actor

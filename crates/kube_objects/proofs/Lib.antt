@@ -1,2 +1,3 @@
 pub mod CallFrames
 pub mod KeyOrder
+pub mod OwnCalls

@@ -11,7 +11,7 @@ use Rattle.kube_objects.specs.declared.lease.Holder.TheVariants as holder
 use Rattle.kube_objects.specs.declared.lease.Lease.{Lease}
 use Rattle.kube_objects.specs.Clocks.{local, wall}
 use Rattle.kube_objects.specs.Document.{Doc, of_seconds, lease_seconds, renew_deadline, retry_period}
-use Rattle.kube_objects.specs.Entry.{Entry, Identity, CallKind, Plain, Fast, Release, Deed, Starts, Delivers, Expires, Leads}
+use Rattle.kube_objects.specs.Entry.{Entry, Identity, CallKind, Plain, Fast, Release, Fact, Starts, Delivers, Expires, Leads}
 use Rattle.kube_objects.specs.Identities.{is_by, is_own, is_other, holder_of}
 use Rattle.kube_objects.specs.Newest.{newest, when, only_if, has, or_zero}
 use Rattle.kube_objects.specs.Process.{alive, is_present}
@@ -37,13 +37,13 @@ told (Create key lease) reply = done_shows lease reply
 told (Update key given lease) reply = done_shows lease reply
 told (PostStatus name status at) reply = None
 
-abbrev pub shows : Identity → Actor → Deed → Option Shown
+abbrev pub shows : Identity → Actor → Fact → Option Shown
 shows q who (Delivers call reply counted) = only_if (counted && is_by q who) (told call.request reply)
 shows q who _ = None
 
 -- the version and record last shown to an identity
 abbrev pub shown : Identity → List Entry → Option Shown
-shown q = newest (λ e h. shows q e.actor e.deed)
+shown q = newest (λ e h. shows q e.actor e.fact)
 
 abbrev pub is_known : Version → Option Shown → Bool
 is_known version None = false
@@ -55,7 +55,7 @@ newly (Some x) old beat = cond (is_known x.0 old) None (Some beat)
 
 -- the beat of the last entry that showed a version which wasn't the one shown before it
 abbrev pub observed : Identity → List Entry → Option ℕ
-observed q = newest (λ e h. newly (shows q e.actor e.deed) (shown q h) e.beat)
+observed q = newest (λ e h. newly (shows q e.actor e.fact) (shown q h) e.beat)
 
 -- the reading at which the version last shown was first seen
 abbrev pub observed_at : Doc → Identity → List Entry → ℕ
@@ -73,16 +73,16 @@ succeeds (Create key lease) reply = is_done reply
 succeeds (Update key given lease) reply = is_done reply
 succeeds (PostStatus name status at) reply = false
 
-abbrev pub lead_says : Identity → Actor → Deed → Option Version
+abbrev pub lead_says : Identity → Actor → Fact → Option Version
 lead_says q who (Leads version) = when (is_by q who) version
 lead_says q who _ = None
 
 -- whether an identity has become the leader
 abbrev pub leads : Identity → List Entry → Bool
-leads q h = has (newest (λ e T. lead_says q e.actor e.deed) h)
+leads q h = has (newest (λ e T. lead_says q e.actor e.fact) h)
 
 -- led says whether the identity leads before the entry
-abbrev pub deadline_says : Doc → Identity → ℕ → Actor → Bool → Deed → Option ℕ
+abbrev pub deadline_says : Doc → Identity → ℕ → Actor → Bool → Fact → Option ℕ
 deadline_says doc q k who led (Leads version) = when (is_by q who) (local doc q.process k + renew_deadline doc q.process)
 deadline_says doc q k who led (Delivers call reply counted) =
     when ((counted && is_by q who) && (led && succeeds call.request reply))
@@ -91,7 +91,7 @@ deadline_says doc q k who led _ = None
 
 -- the reading at which a term ends
 abbrev pub deadline : Doc → Identity → List Entry → Option ℕ
-deadline doc q = newest (λ e h. deadline_says doc q e.beat e.actor (leads q h) e.deed)
+deadline doc q = newest (λ e h. deadline_says doc q e.beat e.actor (leads q h) e.fact)
 
 abbrev pub is_before : ℕ → Option ℕ → Bool
 is_before now None = false
@@ -232,7 +232,7 @@ timer_follow Fails led next = Some next
 timer_follow (Asks request) led next = None
 timer_follow (Succeeds version) led next = when led next
 
-abbrev pub timer_says : Doc → Identity → Entry → List Entry → Deed → Option ℕ
+abbrev pub timer_says : Doc → Identity → Entry → List Entry → Fact → Option ℕ
 timer_says doc q e h Starts = when (is_by q e.actor) (local doc q.process e.beat)
 timer_says doc q e h (Leads version) = when (is_by q e.actor) (local doc q.process e.beat)
 timer_says doc q e h (Expires call) =
@@ -245,7 +245,7 @@ timer_says doc q e h _ = None
 
 -- the reading at which the next attempt starts
 abbrev pub timer : Doc → Identity → List Entry → ℕ
-timer doc q h = or_zero (newest (λ e T. timer_says doc q e T e.deed) h)
+timer doc q h = or_zero (newest (λ e T. timer_says doc q e T e.fact) h)
 
 -- an update without a Get, where the record last shown is one's own and valid
 abbrev pub attempt_at : Identity → Moment → ℕ → Option Shown → CallKind × Request

@@ -48,39 +48,39 @@ pub data Tick : Type 0 where
   Delete : (pod : Key) (given node_given : Version) (due : ℕ) (answer : Option Answer) → Tick
 
 -- what an entry does
-pub data Deed : Type 0 where
+pub data Fact : Type 0 where
   -- an object of the document is put before beat 0
-  First : (key : Key) (object : Object) → Deed
+  First : (key : Key) (object : Object) → Fact
   -- an event of the script: a put has the object as it is stored, and a put or a remove the version of its write
-  Event : (what : What) (version : Option Version) → Deed
-  Starts : Deed
-  Crashes : Deed
-  Stops : Deed
-  Ends : Deed
+  Event : (what : What) (version : Option Version) → Fact
+  Starts : Fact
+  Crashes : Fact
+  Stops : Fact
+  Ends : Fact
   -- a request is sent; it arrives at that beat, or is lost
-  Sends : (call : Call) (arrives : Option ℕ) → Deed
+  Sends : (call : Call) (arrives : Option ℕ) → Fact
   -- a request of the actor is answered; the reply comes at that beat, or is lost; the object that it wrote
-  Answers : (call : Call) (reply : Reply) (comes : Option ℕ) (written : Option Object) → Deed
+  Answers : (call : Call) (reply : Reply) (comes : Option ℕ) (written : Option Object) → Fact
   -- a reply comes to the actor, and counts or doesn't
-  Delivers : (call : Call) (reply : Reply) (counted : Bool) → Deed
-  Expires : (call : Call) → Deed
-  Leads : (version : Version) → Deed
-  Ticks : (tick : Tick) → Deed
+  Delivers : (call : Call) (reply : Reply) (counted : Bool) → Fact
+  Expires : (call : Call) → Fact
+  Leads : (version : Version) → Fact
+  Ticks : (tick : Tick) → Fact
 
 -- steps are 0 before beat 0, and 1 to 4 within a beat
 pub record Entry : Type 0 where
   pub beat : ℕ
   pub step : ℕ
   pub actor : Actor
-  pub deed : Deed
+  pub fact : Fact
 
 abbrev pub actor_of : Identity → Actor
 actor_of q = actor.Proc (record { 0 = q.process }) q.incarnation
 
 -- an entry of a process
-abbrev pub entry : ℕ → ℕ → Identity → Deed → Entry
-entry beat step q deed = record { beat = beat; step = step; actor = actor_of q; deed = deed }
+abbrev pub entry : ℕ → ℕ → Identity → Fact → Entry
+entry beat step q fact = record { beat = beat; step = step; actor = actor_of q; fact = fact }
 
 -- an entry of the script
-abbrev pub script_entry : ℕ → ℕ → Deed → Entry
-script_entry beat step deed = record { beat = beat; step = step; actor = actor.Script; deed = deed }
+abbrev pub script_entry : ℕ → ℕ → Fact → Entry
+script_entry beat step fact = record { beat = beat; step = step; actor = actor.Script; fact = fact }

@@ -12,20 +12,20 @@ use Rattle.kube_objects.specs.declared.node.ReadyStatus.{ReadyStatus}
 use Rattle.kube_objects.specs.declared.node.ReadyStatus.TheVariants as ready
 use Rattle.kube_objects.specs.Clocks.{local, wall, whole_second}
 use Rattle.kube_objects.specs.Document.{Doc, of_millis}
-use Rattle.kube_objects.specs.Entry.{Entry, Identity, Deed, Ticks, Pass, Mode}
+use Rattle.kube_objects.specs.Entry.{Entry, Identity, Fact, Ticks, Pass, Mode}
 use Rattle.kube_objects.specs.Identities.{is_by}
 use Rattle.kube_objects.specs.Newest.{newest, when, only_if, join, has, or_else, or_zero}
 use Rattle.kube_objects.specs.Seen.{seen_node, seen_lease}
 
 -- ---- passes
 
-abbrev pub pass_says : Identity → ℕ → Actor → Deed → Option ℕ
+abbrev pub pass_says : Identity → ℕ → Actor → Fact → Option ℕ
 pass_says q k who (Ticks Pass) = when (is_by q who) k
 pass_says q k who _ = None
 
 -- the beat of the term's last pass
 abbrev pub last_pass : Identity → List Entry → Option ℕ
-last_pass q = newest (λ e h. pass_says q e.beat e.actor e.deed)
+last_pass q = newest (λ e h. pass_says q e.beat e.actor e.fact)
 
 abbrev pub is_after_pass : Doc → ℕ → Identity → Option ℕ → Bool
 is_after_pass doc k q None = true
@@ -37,7 +37,7 @@ abbrev pub is_pass_due : Doc → ℕ → Identity → List Entry → Bool
 is_pass_due doc k q h = is_after_pass doc k q (last_pass q h)
 
 -- what a term's passes say; f reads the history before a pass
-abbrev pub at_pass : {A : Type 0} → Identity → (List Entry → Option A) → Actor → Deed → List Entry → Option A
+abbrev pub at_pass : {A : Type 0} → Identity → (List Entry → Option A) → Actor → Fact → List Entry → Option A
 at_pass q f who (Ticks Pass) h = only_if (is_by q who) (f h)
 at_pass q f who _ h = None
 
@@ -73,13 +73,13 @@ is_found q name h = has (seen_node q name h)
 
 -- whether the last pass found the node
 abbrev pub is_known : Identity → ℕ → List Entry → Bool
-is_known q name h = or_else false (newest (λ e T. at_pass q (λ T. Some (is_found q name T)) e.actor e.deed T) h)
+is_known q name h = or_else false (newest (λ e T. at_pass q (λ T. Some (is_found q name T)) e.actor e.fact T) h)
 
 abbrev pub kept_heartbeat : Identity → ℕ → List Entry → Option Wall
-kept_heartbeat q name h = join (newest (λ e T. at_pass q (λ T. keeps (is_found q name T) (heartbeat q name T)) e.actor e.deed T) h)
+kept_heartbeat q name h = join (newest (λ e T. at_pass q (λ T. keeps (is_found q name T) (heartbeat q name T)) e.actor e.fact T) h)
 
 abbrev pub kept_renewal : Identity → ℕ → List Entry → Option Wall
-kept_renewal q name h = join (newest (λ e T. at_pass q (λ T. keeps (is_found q name T) (renewal q name T)) e.actor e.deed T) h)
+kept_renewal q name h = join (newest (λ e T. at_pass q (λ T. keeps (is_found q name T) (renewal q name T)) e.actor e.fact T) h)
 
 -- ---- the probe
 
@@ -106,21 +106,23 @@ hears q name h =
     || is_later (renewal q name h) (kept_renewal q name h)
 
 -- a pass that hears of the node, and the end of the all-Full mode
-abbrev pub is_probe : Identity → ℕ → Actor → Deed → List Entry → Bool
+abbrev pub is_probe : Identity → ℕ → Actor → Fact → List Entry → Bool
 is_probe q name who (Ticks Pass) h = is_by q who && hears q name h
 is_probe q name who (Ticks (Mode false)) h = is_by q who
 is_probe q name who _ h = false
 
 -- the beat at which a node was last heard of
 abbrev pub probe : Identity → ℕ → List Entry → ℕ
-probe q name h = or_zero (newest (λ e T. when (is_probe q name e.actor e.deed T) e.beat) h)
+probe q name h = or_zero (newest (λ e T. when (is_probe q name e.actor e.fact T) e.beat) h)
 
 -- ---- marks
 
 -- Ready as a mark leaves it at a whole second
 abbrev pub marked : ℕ → Option Ready → Ready
-marked at None = record { status = ready.Unknown; reason = NODE_STATUS_NEVER_UPDATED; heartbeat = None; transition = Some (record { 0 = at }) }
-marked at (Some r) = record { status = ready.Unknown; reason = NODE_STATUS_UNKNOWN; heartbeat = r.heartbeat; transition = Some (record { 0 = at }) }
+marked at None = record {
+    status = ready.Unknown; reason = NODE_STATUS_NEVER_UPDATED; heartbeat = None; transition = Some (record { 0 = at }) }
+marked at (Some r) = record {
+    status = ready.Unknown; reason = NODE_STATUS_UNKNOWN; heartbeat = r.heartbeat; transition = Some (record { 0 = at }) }
 
 abbrev pub is_unknown_status : ReadyStatus → Bool
 is_unknown_status ready.Unknown = true

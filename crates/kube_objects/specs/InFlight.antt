@@ -15,7 +15,7 @@ and_request j (Some s) ss = cond (is_due j s.arrives) (ss ++ s ∷ []) ss
 -- the requests that arrive at a beat, in the order of their sending
 abbrev pub requests_due : ℕ → List Entry → List Sent
 requests_due j [] = []
-requests_due j (e ∷ h) = and_request j (sent_of e.actor e.deed) (requests_due j h)
+requests_due j (e ∷ h) = and_request j (sent_of e.actor e.fact) (requests_due j h)
 
 abbrev pub and_reply : ℕ → Option Back → List Back → List Back
 and_reply j None bs = bs
@@ -24,4 +24,4 @@ and_reply j (Some b) bs = cond (is_due j b.comes) (bs ++ b ∷ []) bs
 -- the replies that come at a beat, in the order of their answering
 abbrev pub replies_due : ℕ → List Entry → List Back
 replies_due j [] = []
-replies_due j (e ∷ h) = and_reply j (back_of e.actor e.deed) (replies_due j h)
+replies_due j (e ∷ h) = and_reply j (back_of e.actor e.fact) (replies_due j h)

@@ -10,7 +10,7 @@ use Rattle.kube_objects.specs.declared.lease.Holder.TheVariants as holder
 use Rattle.kube_objects.specs.declared.lease.Lease.{Lease}
 use Rattle.kube_objects.specs.Clocks.{local, wall}
 use Rattle.kube_objects.specs.Document.{Doc, field, process_at, of_seconds}
-use Rattle.kube_objects.specs.Entry.{Entry, Identity, Call, Plain, Deed, Starts, Sends, Delivers, Expires}
+use Rattle.kube_objects.specs.Entry.{Entry, Identity, Call, Plain, Fact, Starts, Sends, Delivers, Expires}
 use Rattle.kube_objects.specs.Identities.{is_by}
 use Rattle.kube_objects.specs.InForce.{posted_status}
 use Rattle.kube_objects.specs.Newest.{newest, when, or_else, or_zero}
@@ -36,7 +36,7 @@ ends_round (Get key) Absent = false
 ends_round _ _ = true
 
 -- the last entry on an identity's round began one or ended it; the expiry of a post ends none
-abbrev pub round_says : Identity → Actor → Deed → Option Bool
+abbrev pub round_says : Identity → Actor → Fact → Option Bool
 round_says q who (Sends call arrives) = when (is_post call.request && is_by q who) true
 round_says q who (Delivers call reply counted) = when (ends_round call.request reply && (counted && is_by q who)) false
 round_says q who (Expires call) = when (not (is_post call.request) && is_by q who) false
@@ -44,20 +44,20 @@ round_says q who _ = None
 
 -- whether a round runs
 abbrev pub has_round : Identity → List Entry → Bool
-has_round q h = or_else false (newest (λ e T. round_says q e.actor e.deed) h)
+has_round q h = or_else false (newest (λ e T. round_says q e.actor e.fact) h)
 
 -- a quarter of the duration of a node's Lease
 abbrev pub round_period : Doc → ℕ
 round_period doc = of_seconds doc.settings.node_lease_duration_seconds / 4
 
-abbrev pub round_timer_says : Doc → Identity → ℕ → Actor → Deed → Option ℕ
+abbrev pub round_timer_says : Doc → Identity → ℕ → Actor → Fact → Option ℕ
 round_timer_says doc q k who Starts = when (is_by q who) (local doc q.process k)
 round_timer_says doc q k who (Sends call arrives) = when (is_post call.request && is_by q who) (local doc q.process k + round_period doc)
 round_timer_says doc q k who _ = None
 
 -- the reading from which the next round may begin: that of the start, or a period after that of the last round's beginning
 abbrev pub round_timer : Doc → Identity → List Entry → ℕ
-round_timer doc q h = or_zero (newest (λ e T. round_timer_says doc q e.beat e.actor e.deed) h)
+round_timer doc q h = or_zero (newest (λ e T. round_timer_says doc q e.beat e.actor e.fact) h)
 
 -- ---- requests
 

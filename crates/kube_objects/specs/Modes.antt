@@ -12,7 +12,7 @@ use Rattle.kube_objects.specs.declared.node.ReadyStatus.TheVariants as ready
 use Rattle.kube_objects.specs.declared.node.ZoneState.{ZoneState}
 use Rattle.kube_objects.specs.declared.node.ZoneState.TheVariants.{Full}
 use Rattle.kube_objects.specs.Document.{Doc}
-use Rattle.kube_objects.specs.Entry.{Entry, Identity, Place, Deed, Ticks, Mode}
+use Rattle.kube_objects.specs.Entry.{Entry, Identity, Place, Fact, Ticks, Mode}
 use Rattle.kube_objects.specs.Identities.{is_by}
 use Rattle.kube_objects.specs.Newest.{newest, when, or_else}
 use Rattle.kube_objects.specs.Seen.{seen_node, node_names, insert_once}
@@ -88,10 +88,10 @@ rate_in doc on nodes place =
 
 -- ---- the mode
 
-abbrev pub mode_says : Identity → Actor → Deed → Option Bool
+abbrev pub mode_says : Identity → Actor → Fact → Option Bool
 mode_says q who (Ticks (Mode on)) = when (is_by q who) on
 mode_says q who _ = None
 
 -- whether the term's all-Full mode is on; it is off at first
 abbrev pub mode : Identity → List Entry → Bool
-mode q h = or_else false (newest (λ e T. mode_says q e.actor e.deed) h)
+mode q h = or_else false (newest (λ e T. mode_says q e.actor e.fact) h)

@@ -1,4 +1,4 @@
--- A process's life and its call. Each reading asks for the deed first, and then for the actor. Source: profile.
+-- A process's life and its call. Each reading asks for the fact first, and then for the actor. Source: profile.
 use Rattle.std.specs.Prelude.{ℕ, ◌+◌, ◌==◌, ◌&&◌, not, nat_lt, Bool, true, false, List, Option, Some, None}
 use Rattle.kube_objects.specs.declared.deed.Actor.{Actor}
 use Rattle.kube_objects.specs.declared.script.What.{What}
@@ -6,7 +6,7 @@ use Rattle.kube_objects.specs.declared.script.What.TheVariants as what
 use Rattle.kube_objects.specs.Clocks.{local}
 use Rattle.kube_objects.specs.Document.{Doc, call_timeout, restart_delay}
 use Rattle.kube_objects.specs.Entry.{Entry, Identity, Call, CallKind, Plain, Fast, Release}
-use Rattle.kube_objects.specs.Entry.{Deed, Event, Starts, Crashes, Stops, Ends, Sends, Delivers, Expires}
+use Rattle.kube_objects.specs.Entry.{Fact, Event, Starts, Crashes, Stops, Ends, Sends, Delivers, Expires}
 use Rattle.kube_objects.specs.Identities.{is_by, of_process}
 use Rattle.kube_objects.specs.Newest.{newest, count, when, only_if, join, has}
 
@@ -20,7 +20,7 @@ abbrev pub gone : Option ℕ → Option (Option ℕ)
 gone None = None
 gone (Some i) = Some None
 
-abbrev pub life_says : ℕ → Actor → Deed → Option (Option ℕ)
+abbrev pub life_says : ℕ → Actor → Fact → Option (Option ℕ)
 life_says p who Starts = born (of_process p who)
 life_says p who Crashes = gone (of_process p who)
 life_says p who Stops = gone (of_process p who)
@@ -29,37 +29,37 @@ life_says p who _ = None
 
 -- the last entry on a process's life
 abbrev pub life : ℕ → List Entry → Option (Option ℕ)
-life p = newest (λ e h. life_says p e.actor e.deed)
+life p = newest (λ e h. life_says p e.actor e.fact)
 
 -- the incarnation in which a process is up
 abbrev pub alive : ℕ → List Entry → Option ℕ
 alive p h = join (life p h)
 
-abbrev pub is_start : Deed → Bool
+abbrev pub is_start : Fact → Bool
 is_start Starts = true
 is_start _ = false
 
 -- the number of a process's incarnations
 abbrev pub starts : ℕ → List Entry → ℕ
-starts p = count (λ e. is_start e.deed && has (of_process p e.actor))
+starts p = count (λ e. is_start e.fact && has (of_process p e.actor))
 
-abbrev pub is_stop : Deed → Bool
+abbrev pub is_stop : Fact → Bool
 is_stop Stops = true
 is_stop _ = false
 
 -- how often an identity was stopped
 abbrev pub stops : Identity → List Entry → ℕ
-stops q = count (λ e. is_stop e.deed && is_by q e.actor)
+stops q = count (λ e. is_stop e.fact && is_by q e.actor)
 
 -- ---- calls
 
-abbrev pub is_send : Deed → Bool
+abbrev pub is_send : Fact → Bool
 is_send (Sends call arrives) = true
 is_send _ = false
 
 -- the number of requests that an identity has sent
 abbrev pub begun : Identity → List Entry → ℕ
-begun q = count (λ e. is_send e.deed && is_by q e.actor)
+begun q = count (λ e. is_send e.fact && is_by q e.actor)
 
 -- the update that gives up the lead waits for no reply
 abbrev pub open_as : CallKind → Call → Option Call
@@ -67,7 +67,7 @@ open_as Plain call = Some call
 open_as Fast call = Some call
 open_as Release call = None
 
-abbrev pub call_says : Identity → Actor → Deed → Option (Option Call)
+abbrev pub call_says : Identity → Actor → Fact → Option (Option Call)
 call_says q who (Sends call arrives) = when (is_by q who) (open_as call.kind call)
 call_says q who (Delivers call reply counted) = when (counted && is_by q who) None
 call_says q who (Expires call) = when (is_by q who) None
@@ -75,7 +75,7 @@ call_says q who _ = None
 
 -- the last entry on an identity's call
 abbrev pub last_call : Identity → List Entry → Option (Option Call)
-last_call q = newest (λ e h. call_says q e.actor e.deed)
+last_call q = newest (λ e h. call_says q e.actor e.fact)
 
 -- the call that waits for its reply
 abbrev pub call_in : Identity → List Entry → Option Call
@@ -106,7 +106,7 @@ cancels p (what.Stop id) = id.0 == p
 cancels p _ = false
 
 -- the beat of an end, or that a start or an event on the process came later
-abbrev pub restart_says : ℕ → ℕ → Actor → Deed → Option (Option ℕ)
+abbrev pub restart_says : ℕ → ℕ → Actor → Fact → Option (Option ℕ)
 restart_says p k who Ends = when (has (of_process p who)) (Some k)
 restart_says p k who Starts = when (has (of_process p who)) None
 restart_says p k who (Event event version) = when (cancels p event) None
@@ -114,7 +114,7 @@ restart_says p k who _ = None
 
 -- the beat of the end that a process restarts after
 abbrev pub ended : ℕ → List Entry → Option ℕ
-ended p h = join (newest (λ e T. restart_says p e.beat e.actor e.deed) h)
+ended p h = join (newest (λ e T. restart_says p e.beat e.actor e.fact) h)
 
 abbrev pub is_restart_due : Doc → ℕ → ℕ → Option ℕ → Bool
 is_restart_due doc p k None = false

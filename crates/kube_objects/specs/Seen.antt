@@ -17,7 +17,7 @@ use Rattle.kube_objects.specs.declared.object.Object.{Object}
 use Rattle.kube_objects.specs.declared.object.Object.TheVariants as object
 use Rattle.kube_objects.specs.declared.pod.Pod.{Pod}
 use Rattle.kube_objects.specs.Answers.{as_kind, lease_in, node_in}
-use Rattle.kube_objects.specs.Entry.{Entry, Identity, Deed, Ticks, Tick, Sync, Untaint, Swap, Delete}
+use Rattle.kube_objects.specs.Entry.{Entry, Identity, Fact, Ticks, Tick, Sync, Untaint, Swap, Delete}
 use Rattle.kube_objects.specs.Identities.{is_by}
 use Rattle.kube_objects.specs.Keys.{key_cmp, key_eq}
 use Rattle.kube_objects.specs.Newest.{newest, when, only_if, join, has, or_else}
@@ -30,13 +30,13 @@ abbrev pub tick_shows : Key → ℕ → Actor → Tick → List Entry → Option
 tick_shows key k who Sync h = Some (stored key h)
 tick_shows key k who tick h = holds h k who (at_key key (tick_write tick))
 
-abbrev pub seen_says : Identity → Key → ℕ → Actor → Deed → List Entry → Option (Option Held)
+abbrev pub seen_says : Identity → Key → ℕ → Actor → Fact → List Entry → Option (Option Held)
 seen_says q key k who (Ticks tick) h = only_if (is_by q who) (tick_shows key k who tick h)
 seen_says q key k who _ h = None
 
 -- what the cache of a term has at a key; a term is that of an identity, which leads at most once
 abbrev pub seen : Identity → Key → List Entry → Option Held
-seen q key h = join (newest (λ e T. seen_says q key e.beat e.actor e.deed T) h)
+seen q key h = join (newest (λ e T. seen_says q key e.beat e.actor e.fact T) h)
 
 abbrev pub pod_in : Object → Option Pod
 pod_in (object.Pod pod) = Some pod
@@ -54,20 +54,20 @@ seen_pod q key h = as_kind pod_in (seen q key h)
 -- ---- syncs
 
 -- a sync makes the cache up to date, and a write of anybody makes it old, also one of the term's own
-abbrev pub fresh_says : Identity → Actor → Deed → Option Bool
+abbrev pub fresh_says : Identity → Actor → Fact → Option Bool
 fresh_says q who (Ticks Sync) = when (is_by q who) true
-fresh_says q who deed = when (has (write_of deed)) false
+fresh_says q who fact = when (has (write_of fact)) false
 
 abbrev pub is_fresh : Identity → List Entry → Bool
-is_fresh q h = or_else false (newest (λ e T. fresh_says q e.actor e.deed) h)
+is_fresh q h = or_else false (newest (λ e T. fresh_says q e.actor e.fact) h)
 
-abbrev pub synced_says : Identity → Actor → Deed → Option Bool
+abbrev pub synced_says : Identity → Actor → Fact → Option Bool
 synced_says q who (Ticks Sync) = when (is_by q who) true
 synced_says q who _ = None
 
 -- whether the term has had a sync
 abbrev pub is_synced : Identity → List Entry → Bool
-is_synced q h = or_else false (newest (λ e T. synced_says q e.actor e.deed) h)
+is_synced q h = or_else false (newest (λ e T. synced_says q e.actor e.fact) h)
 
 -- ---- stale keys
 
@@ -85,12 +85,12 @@ stale_tick key (Swap node wanted given written tried) = when (is_refused tried &
 stale_tick key (Delete pod given node_given due tried) = when (is_refused tried && key_eq pod key) true
 stale_tick key _ = None
 
-abbrev pub stale_says : Identity → Key → Actor → Deed → Option Bool
+abbrev pub stale_says : Identity → Key → Actor → Fact → Option Bool
 stale_says q key who (Ticks tick) = only_if (is_by q who) (stale_tick key tick)
 stale_says q key who _ = None
 
 abbrev pub is_stale : Identity → Key → List Entry → Bool
-is_stale q key h = or_else false (newest (λ e T. stale_says q key e.actor e.deed) h)
+is_stale q key h = or_else false (newest (λ e T. stale_says q key e.actor e.fact) h)
 
 -- ---- the nodes and pods that were ever written, each once and in order
 
@@ -109,7 +109,7 @@ named f (Some write) = f write.0
 -- what the written keys name, in order
 abbrev pub written_names : {A : Type 0} → (A → A → Ordering) → (Key → Option A) → List Entry → List A
 written_names compare f [] = []
-written_names compare f (e ∷ h) = insert_named compare (named f (write_of e.deed)) (written_names compare f h)
+written_names compare f (e ∷ h) = insert_named compare (named f (write_of e.fact)) (written_names compare f h)
 
 abbrev pub node_name : Key → Option ℕ
 node_name key = when (key_eq (node_key key.name) key) key.name

@@ -15,7 +15,7 @@ use Rattle.kube_objects.specs.declared.object.Object.{Object}
 use Rattle.kube_objects.specs.declared.object.Object.TheVariants as object
 use Rattle.kube_objects.specs.declared.script.What.{What}
 use Rattle.kube_objects.specs.declared.script.What.TheVariants.{Put, Remove}
-use Rattle.kube_objects.specs.Entry.{Entry, Identity, Deed, First, Event, Answers, Ticks, Tick, Mark, Untaint, Swap, Head, Delete}
+use Rattle.kube_objects.specs.Entry.{Entry, Identity, Fact, First, Event, Answers, Ticks, Tick, Mark, Untaint, Swap, Head, Delete}
 use Rattle.kube_objects.specs.Identities.{identity_of}
 use Rattle.kube_objects.specs.Keys.{key_eq}
 use Rattle.kube_objects.specs.Newest.{newest, count, has, join, when}
@@ -71,8 +71,8 @@ tick_write (Head place name wanted given node answer) = try_write (node_write na
 tick_write (Delete pod given node_given due answer) = try_write (pod, None) answer
 tick_write _ = None
 
--- the accepted write that an entry is, read from its deed alone
-abbrev pub write_of : Deed → Option Write
+-- the accepted write that an entry is, read from its fact alone
+abbrev pub write_of : Fact → Option Write
 write_of (First key object) = Some (key, Some object)
 write_of (Event what version) = event_write what version
 write_of (Answers call reply comes written) = request_write call.request written
@@ -81,7 +81,7 @@ write_of _ = None
 
 -- the number of accepted writes
 abbrev pub writes : List Entry → ℕ
-writes = count (λ e. has (write_of e.deed))
+writes = count (λ e. has (write_of e.fact))
 
 -- the version that the next write gets
 abbrev pub next_version : List Entry → Version
@@ -111,7 +111,7 @@ holds h beat who None = None
 holds h beat who (Some object) = Some (held_as (next_version h) beat who object)
 
 abbrev pub last_write : Key → List Entry → Option (Option Held)
-last_write key = newest (λ e h. holds h e.beat e.actor (at_key key (write_of e.deed)))
+last_write key = newest (λ e h. holds h e.beat e.actor (at_key key (write_of e.fact)))
 
 abbrev pub stored : Key → List Entry → Option Held
 stored key h = join (last_write key h)

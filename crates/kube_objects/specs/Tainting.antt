@@ -10,7 +10,7 @@ use Rattle.kube_objects.specs.declared.node.Ready.{Ready}
 use Rattle.kube_objects.specs.declared.node.ReadyStatus.{ReadyStatus}
 use Rattle.kube_objects.specs.declared.node.ReadyStatus.TheVariants as ready
 use Rattle.kube_objects.specs.declared.node.Taint.{Taint}
-use Rattle.kube_objects.specs.Entry.{Entry, Identity, Place, Deed, Ticks, Head}
+use Rattle.kube_objects.specs.Entry.{Entry, Identity, Place, Fact, Ticks, Head}
 use Rattle.kube_objects.specs.Identities.{is_by}
 use Rattle.kube_objects.specs.Modes.{is_in, mode}
 use Rattle.kube_objects.specs.Newest.{newest, when, only_if, has, or_zero}
@@ -81,25 +81,25 @@ waits q place name h = lacks_in (mode q h) place (seen_node q name h)
 
 -- ---- the queue
 
-abbrev pub is_tick_of : Identity → ℕ → ℕ → Actor → Deed → Bool
+abbrev pub is_tick_of : Identity → ℕ → ℕ → Actor → Fact → Bool
 is_tick_of q k beat who (Ticks tick) = (beat == k) && is_by q who
 is_tick_of q k beat who _ = false
 
 -- the history before the term's tick at beat k
 abbrev pub before_tick : Identity → ℕ → List Entry → List Entry
 before_tick q k [] = []
-before_tick q k (e ∷ h) = elim (is_tick_of q k e.beat e.actor e.deed) [ true ↦ before_tick q k h | false ↦ e ∷ h ]
+before_tick q k (e ∷ h) = elim (is_tick_of q k e.beat e.actor e.fact) [ true ↦ before_tick q k h | false ↦ e ∷ h ]
 
 -- whether a node's time in the queue begins anew: at its own queued taint, which puts it last, and in a tick before which it
 -- didn't wait; that isn't asked within a tick, in which a sync may show the node ready and a mark make it wait again
-abbrev pub is_queueing : Identity → Place → ℕ → ℕ → Actor → Deed → List Entry → Bool
+abbrev pub is_queueing : Identity → Place → ℕ → ℕ → Actor → Fact → List Entry → Bool
 is_queueing q place name k who (Ticks (Head at node wanted given written tried)) h = (node == name) && is_by q who
 is_queueing q place name k who (Ticks tick) h = is_by q who && not (has (waits q place name (before_tick q k h)))
 is_queueing q place name k who _ h = false
 
 -- the beat by which a node that waits in a zone has its place in the zone's queue
 abbrev pub queued : Identity → Place → ℕ → List Entry → ℕ
-queued q place name h = or_zero (newest (λ e T. when (is_queueing q place name e.beat e.actor e.deed T) e.beat) h)
+queued q place name h = or_zero (newest (λ e T. when (is_queueing q place name e.beat e.actor e.fact T) e.beat) h)
 
 -- a beat and a node's name
 abbrev pub Queued : Type 0

@@ -6,7 +6,7 @@ use Rattle.kube_objects.specs.declared.node.ZoneState.{ZoneState}
 use Rattle.kube_objects.specs.declared.node.ZoneState.TheVariants.{Normal, Partial, Full}
 use Rattle.kube_objects.specs.Clocks.{local}
 use Rattle.kube_objects.specs.Document.{Doc}
-use Rattle.kube_objects.specs.Entry.{Entry, Identity, Place, Deed, Ticks, Pass, Zone, Head}
+use Rattle.kube_objects.specs.Entry.{Entry, Identity, Place, Fact, Ticks, Pass, Zone, Head}
 use Rattle.kube_objects.specs.Identities.{is_by}
 use Rattle.kube_objects.specs.Modes.{nodes, size_in, place_eq}
 use Rattle.kube_objects.specs.Newest.{newest, when, only_if, join, or_zero}
@@ -21,14 +21,14 @@ abbrev pub is_zone : Identity → Place → List Entry → Bool
 is_zone q place h = nat_lt 0 (size_in place (nodes q h))
 
 -- a zone's entry gives state and rate, and a pass that finds no node of the zone takes them back
-abbrev pub rated_says : Identity → Place → Actor → Deed → List Entry → Option (Option Rated)
+abbrev pub rated_says : Identity → Place → Actor → Fact → List Entry → Option (Option Rated)
 rated_says q place who (Ticks (Zone at state rate)) h = when (place_eq at place && is_by q who) (Some (state, rate))
 rated_says q place who (Ticks Pass) h = only_if (is_by q who) (when (not (is_zone q place h)) None)
 rated_says q place who _ h = None
 
 -- state and rate of a zone at the term's last pass, where it was a zone of that pass
 abbrev pub rated : Identity → Place → List Entry → Option Rated
-rated q place h = join (newest (λ e T. rated_says q place e.actor e.deed T) h)
+rated q place h = join (newest (λ e T. rated_says q place e.actor e.fact T) h)
 
 abbrev pub is_same_state : ZoneState → ZoneState → Bool
 is_same_state Normal Normal = true
@@ -47,14 +47,14 @@ has_rate rate None = false
 has_rate rate (Some x) = x.1 == rate
 
 -- a new zone, a new rate of a zone, and a queued taint that is tried, whatever its answer
-abbrev pub is_base : Identity → Place → Actor → Deed → List Entry → Bool
+abbrev pub is_base : Identity → Place → Actor → Fact → List Entry → Bool
 is_base q place who (Ticks (Zone at state rate)) h = place_eq at place && (is_by q who && not (has_rate rate (rated q place h)))
 is_base q place who (Ticks (Head at node wanted given written tried)) h = place_eq at place && is_by q who
 is_base q place who _ h = false
 
 -- the beat since which a zone's token grows
 abbrev pub base : Identity → Place → List Entry → ℕ
-base q place h = or_zero (newest (λ e T. when (is_base q place e.actor e.deed T) e.beat) h)
+base q place h = or_zero (newest (λ e T. when (is_base q place e.actor e.fact T) e.beat) h)
 
 -- a rate is per 1,000 s, and a reading in units of 10^-12 s
 unfoldable pub token_size : ℕ

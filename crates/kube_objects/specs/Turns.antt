@@ -1,11 +1,12 @@
--- What an elector adds to the history at a reply and in its turn. Source: client-go, package `leaderelection`; profile.
+-- What a process adds to the history at a reply and in its turn. Source: client-go, package `leaderelection`; profile.
 use Rattle.std.specs.Prelude.{ℕ, ◌==◌, ◌&&◌, not, nat_lt, Bool, true, false, List, ◌∷◌, Option, Some, None}
 use Rattle.kube_base.specs.declared.numbers.Version.{Version}
+use Rattle.kube_objects.specs.declared.call.Reply.{Reply}
 use Rattle.kube_objects.specs.declared.call.Request.TheVariants.{Get}
 use Rattle.kube_objects.specs.Clocks.{local}
 use Rattle.kube_objects.specs.Document.{Doc}
 use Rattle.kube_objects.specs.Elector.{Follow, Fails, Asks, Succeeds, timer, attempt, is_fast}
-use Rattle.kube_objects.specs.Entry.{Entry, Identity, Call, Plain, Deed, Ends, Expires, Leads, entry}
+use Rattle.kube_objects.specs.Entry.{Entry, Identity, Call, Plain, Fact, Ends, Delivers, Expires, Leads, entry}
 use Rattle.kube_objects.specs.Identities.{is_by}
 use Rattle.kube_objects.specs.Newest.{newest, when, join, has}
 use Rattle.kube_objects.specs.Process.{call_in, is_late}
@@ -13,6 +14,10 @@ use Rattle.kube_objects.specs.Stored.{election}
 use Rattle.kube_objects.specs.Wire.{send}
 
 -- ---- at a counted reply
+
+-- the history with a counted reply
+abbrev pub with_reply : ℕ → Identity → Call → Reply → List Entry → List Entry
+with_reply k q call reply h = entry k 3 q (Delivers call reply true) ∷ h
 
 -- led says whether the controller leads before
 abbrev pub lead_if : ℕ → Identity → Bool → Version → List Entry → List Entry
@@ -34,6 +39,10 @@ abbrev pub expire_call : Doc → ℕ → Identity → Option Call → List Entry
 expire_call doc k q None h = h
 expire_call doc k q (Some call) h = expire_as k q call (is_late doc q k call) h
 
+-- the history after the expiry of a turn
+abbrev pub expired : Doc → ℕ → Identity → List Entry → List Entry
+expired doc k q h = expire_call doc k q (call_in q h) h
+
 abbrev pub end_as : ℕ → Identity → Bool → List Entry → List Entry
 end_as k q true h = h
 end_as k q false h = entry k 4 q Ends ∷ h
@@ -43,12 +52,12 @@ end_term doc k q None h = h
 end_term doc k q (Some at) h = end_as k q (nat_lt (local doc q.process k) at) h
 
 -- the call whose expiry at this beat is the last own entry
-abbrev pub expired_in : ℕ → ℕ → Deed → Option Call
+abbrev pub expired_in : ℕ → ℕ → Fact → Option Call
 expired_in k at (Expires call) = when (at == k) call
 expired_in k at _ = None
 
 abbrev pub just_expired : Identity → ℕ → List Entry → Option Call
-just_expired q k h = join (newest (λ e T. when (is_by q e.actor) (expired_in k e.beat e.deed)) h)
+just_expired q k h = join (newest (λ e T. when (is_by q e.actor) (expired_in k e.beat e.fact)) h)
 
 abbrev pub is_fast_call : Option Call → Bool
 is_fast_call None = false

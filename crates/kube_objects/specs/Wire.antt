@@ -5,19 +5,19 @@ use Rattle.kube_objects.specs.declared.call.Request.{Request}
 use Rattle.kube_objects.specs.declared.deed.Actor.{Actor}
 use Rattle.kube_objects.specs.declared.script.What.{What}
 use Rattle.kube_objects.specs.declared.script.What.TheVariants.{Delay, Loss}
-use Rattle.kube_objects.specs.Entry.{Entry, Identity, Call, CallKind, Deed, Event, Sends, Answers, entry}
+use Rattle.kube_objects.specs.Entry.{Entry, Identity, Call, CallKind, Fact, Event, Sends, Answers, entry}
 use Rattle.kube_objects.specs.Identities.{identity_of}
 use Rattle.kube_objects.specs.Newest.{newest, when, or_else}
 use Rattle.kube_objects.specs.Process.{begun}
 
 -- ---- in force: what the last such event says
 
-abbrev pub of_event : {A : Type 0} → (What → Option A) → Deed → Option A
+abbrev pub of_event : {A : Type 0} → (What → Option A) → Fact → Option A
 of_event f (Event what version) = f what
 of_event f _ = None
 
 abbrev pub in_force : {A : Type 0} → (What → Option A) → List Entry → Option A
-in_force f = newest (λ e h. of_event f e.deed)
+in_force f = newest (λ e h. of_event f e.fact)
 
 abbrev pub request_delay_of : ℕ → What → Option ℕ
 request_delay_of p (Delay id requests replies) = when (id.0 == p) requests
@@ -84,7 +84,7 @@ abbrev pub sent_as : Call → Option ℕ → Option Identity → Option Sent
 sent_as call arrives None = None
 sent_as call arrives (Some q) = Some (record { who = q; call = call; arrives = arrives })
 
-abbrev pub sent_of : Actor → Deed → Option Sent
+abbrev pub sent_of : Actor → Fact → Option Sent
 sent_of who (Sends call arrives) = sent_as call arrives (identity_of who)
 sent_of who _ = None
 
@@ -92,6 +92,6 @@ abbrev pub back_as : Call → Reply → Option ℕ → Option Identity → Optio
 back_as call reply comes None = None
 back_as call reply comes (Some q) = Some (record { who = q; call = call; reply = reply; comes = comes })
 
-abbrev pub back_of : Actor → Deed → Option Back
+abbrev pub back_of : Actor → Fact → Option Back
 back_of who (Answers call reply comes written) = back_as call reply comes (identity_of who)
 back_of who _ = None

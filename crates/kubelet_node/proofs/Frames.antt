@@ -3,7 +3,7 @@ use Rattle.std.proofs.Common.{◌≡◌, ◌∙◌, ℕ, ◌+◌, ◌&&◌, not,
 use Rattle.kube_objects.specs.declared.deed.Actor.{Actor}
 use Rattle.kube_objects.specs.Clocks.{local}
 use Rattle.kube_objects.specs.Document.{Doc}
-use Rattle.kube_objects.specs.Entry.{Call, Deed, Delivers, Entry, Expires, Identity, Sends, Starts}
+use Rattle.kube_objects.specs.Entry.{Call, Fact, Delivers, Entry, Expires, Identity, Sends, Starts}
 use Rattle.kube_objects.specs.Identities.{is_by}
 use Rattle.kube_objects.specs.Kubelet.{ends_round, is_post, is_post_call, round_period, round_says, round_timer_says}
 use Rattle.kube_objects.specs.Newest.{added, has, join, or_else, or_zero, when}
@@ -17,10 +17,10 @@ use Rattle.kubelet_node.proofs.Own.{last_expired, last_round, last_timer, said}
 
 -- an entry that changes no reading of the identity
 pub record IsQuiet (doc : Doc) (q : Identity) (h : List Entry) (e : Entry) : Type 0 where
-  pub unsent : (is_send e.deed && is_by q e.actor) ≡ false
-  pub call : call_says q e.actor e.deed ≡ None
-  pub round : round_says q e.actor e.deed ≡ None
-  pub timer : round_timer_says doc q e.beat e.actor e.deed ≡ None
+  pub unsent : (is_send e.fact && is_by q e.actor) ≡ false
+  pub call : call_says q e.actor e.fact ≡ None
+  pub round : round_says q e.actor e.fact ≡ None
+  pub timer : round_timer_says doc q e.beat e.actor e.fact ≡ None
   pub settled : IsSettled q h → IsSettled q (e ∷ h)
 
 pub begun-beside : (doc : Doc) (q : Identity) (h : List Entry) (e : Entry) → IsQuiet doc q h e → begun q (e ∷ h) ≡ begun q h
@@ -56,13 +56,13 @@ module _ (doc : Doc) (q : Identity) (h : List Entry) (e : Entry) (other : is_by 
   never : {A : Type 0} (b : Bool) (x : A) → when (b && is_by q e.actor) x ≡ None
   never b x = ap (λ o. when (b && o) x) other ∙ ap (λ o. when o x) (and_false b)
 
-  call-foreign : (d : Deed) → call_says q e.actor d ≡ None
+  call-foreign : (d : Fact) → call_says q e.actor d ≡ None
   call-foreign (Sends call arrives) = ap (λ b. when b (open_as call.kind call)) other
   call-foreign (Delivers call reply counted) = never {A = Option Call} counted None
   call-foreign (Expires call) = ap (λ b. when {A = Option Call} b None) other
   call-foreign _ = refl
 
-  round-foreign : (d : Deed) → round_says q e.actor d ≡ None
+  round-foreign : (d : Fact) → round_says q e.actor d ≡ None
   round-foreign (Sends call arrives) = never (is_post call.request) true
   round-foreign (Delivers call reply counted) =
       ap (λ b. when (ends_round call.request reply && (counted && b)) false) other
@@ -71,7 +71,7 @@ module _ (doc : Doc) (q : Identity) (h : List Entry) (e : Entry) (other : is_by 
   round-foreign (Expires call) = never (not (is_post call.request)) false
   round-foreign _ = refl
 
-  timer-foreign : (d : Deed) → round_timer_says doc q e.beat e.actor d ≡ None
+  timer-foreign : (d : Fact) → round_timer_says doc q e.beat e.actor d ≡ None
   timer-foreign Starts = ap (λ b. when b (local doc q.process e.beat)) other
   timer-foreign (Sends call arrives) = never (is_post call.request) (local doc q.process e.beat + round_period doc)
   timer-foreign _ = refl
@@ -79,11 +79,11 @@ module _ (doc : Doc) (q : Identity) (h : List Entry) (e : Entry) (other : is_by 
   pub quiet-foreign : IsQuiet doc q h e
   quiet-foreign =
       record {
-        unsent = ap (λ b. is_send e.deed && b) other ∙ and_false (is_send e.deed);
-        call = call-foreign e.deed;
-        round = round-foreign e.deed;
-        timer = timer-foreign e.deed;
-        settled = λ s n. ap (λ b. is_post_call (join (said (when b (expired_in n e.beat e.deed)) (last_expired q n h)))) other ∙ s n;
+        unsent = ap (λ b. is_send e.fact && b) other ∙ and_false (is_send e.fact);
+        call = call-foreign e.fact;
+        round = round-foreign e.fact;
+        timer = timer-foreign e.fact;
+        settled = λ s n. ap (λ b. is_post_call (join (said (when b (expired_in n e.beat e.fact)) (last_expired q n h)))) other ∙ s n;
       }
 
 pub kubelet-foreign : (doc : Doc) (q : Identity) (e : Entry) (h : List Entry) (x : Kubelet) → is_by q e.actor ≡ false → KubeletStands doc q h x → KubeletStands doc q (e ∷ h) x
@@ -96,12 +96,12 @@ still_settled true before s = refl
 still_settled false before s = s
 
 module _ (doc : Doc) (q : Identity) (h : List Entry) (beat step : ℕ) (who : Actor) where
-  pub quiet-kind : (d : Deed) → is_of_kubelet d ≡ false → IsQuiet doc q h (record { beat = beat; step = step; actor = who; deed = d })
+  pub quiet-kind : (d : Fact) → is_of_kubelet d ≡ false → IsQuiet doc q h (record { beat = beat; step = step; actor = who; fact = d })
   quiet-kind Starts is = absurd (cc)
   quiet-kind (Sends call arrives) is = absurd (cc)
   quiet-kind (Delivers call reply counted) is = absurd (cc)
   quiet-kind (Expires call) is = absurd (cc)
   quiet-kind _ is = record { unsent = refl; call = refl; round = refl; timer = refl; settled = λ s n. still_settled (is_by q who) (last_expired q n h) (s n) }
 
-pub kubelet-quiet : (doc : Doc) (q : Identity) (e : Entry) (h : List Entry) (x : Kubelet) → is_of_kubelet e.deed ≡ false → KubeletStands doc q h x → KubeletStands doc q (e ∷ h) x
-kubelet-quiet doc q e h x is s = kubelet-beside doc q h e x (quiet-kind doc q h e.beat e.step e.actor e.deed is) s
+pub kubelet-quiet : (doc : Doc) (q : Identity) (e : Entry) (h : List Entry) (x : Kubelet) → is_of_kubelet e.fact ≡ false → KubeletStands doc q h x → KubeletStands doc q (e ∷ h) x
+kubelet-quiet doc q e h x is s = kubelet-beside doc q h e x (quiet-kind doc q h e.beat e.step e.actor e.fact is) s

@@ -6,14 +6,13 @@ use Rattle.kube_objects.specs.declared.call.Request.{Request}
 use Rattle.kube_objects.specs.declared.deed.Actor.{Actor}
 use Rattle.kube_objects.specs.Clocks.{local}
 use Rattle.kube_objects.specs.Document.{Doc}
-use Rattle.kube_objects.specs.Entry.{Call, Deed, Delivers, Entry, Expires, Identity, Plain, Sends, Starts, actor_of, entry}
+use Rattle.kube_objects.specs.Entry.{Call, Fact, Delivers, Entry, Expires, Identity, Plain, Sends, Starts, actor_of, entry}
 use Rattle.kube_objects.specs.Identities.{is_by}
 use Rattle.kube_objects.specs.Kubelet.{ends_round, has_round, is_post, is_post_call, round_period, round_says, round_timer, round_timer_says}
 use Rattle.kube_objects.specs.Newest.{added, join, newest, or_else, or_zero, when}
 use Rattle.kube_objects.specs.Process.{begun, call_in, is_send, last_call}
-use Rattle.kube_objects.specs.Turns.{expired_in, just_expired}
+use Rattle.kube_objects.specs.Turns.{expired_in, just_expired, with_reply}
 use Rattle.kube_objects.specs.Wire.{next_call}
-use Rattle.kubelet_node.specs.Moves.{delivered}
 use Rattle.kubelet_node.specs.Stands.{IsSettled}
 
 pub mine : (q : Identity) → is_by q (actor_of q) ≡ true
@@ -27,18 +26,18 @@ abbrev pub said : {A : Type 0} → Option A → Option A → Option A
 said now before = elim now [ None ↦ before | Some x ↦ Some x ]
 
 abbrev pub last_round : Identity → List Entry → Option Bool
-last_round q h = newest (λ e T. round_says q e.actor e.deed) h
+last_round q h = newest (λ e T. round_says q e.actor e.fact) h
 
 abbrev pub last_timer : Doc → Identity → List Entry → Option ℕ
-last_timer doc q h = newest (λ e T. round_timer_says doc q e.beat e.actor e.deed) h
+last_timer doc q h = newest (λ e T. round_timer_says doc q e.beat e.actor e.fact) h
 
 abbrev pub last_expired : Identity → ℕ → List Entry → Option (Option Call)
-last_expired q n h = newest (λ e T. when (is_by q e.actor) (expired_in n e.beat e.deed)) h
+last_expired q n h = newest (λ e T. when (is_by q e.actor) (expired_in n e.beat e.fact)) h
 
 -- an identity that has sent nothing runs no round
 pub round-unbegun : (q : Identity) (h : List Entry) → begun q h ≡ 0 → has_round q h ≡ false
 round-unbegun q [] none = refl
-round-unbegun q (e ∷ h) none = by_deed e.deed e.actor none (λ n. round-unbegun q h n)
+round-unbegun q (e ∷ h) none = by_fact e.fact e.actor none (λ n. round-unbegun q h n)
   where
     Rest : Type 0
     Rest = begun q h ≡ 0 → or_else false (last_round q h) ≡ false
@@ -52,11 +51,11 @@ round-unbegun q (e ∷ h) none = by_deed e.deed e.actor none (λ n. round-unbegu
     ended true n rest = refl
     ended false n rest = rest n
 
-    by_deed : (d : Deed) (who : Actor) → added (is_send d && is_by q who) (begun q h) ≡ 0 → Rest → or_else false (said (round_says q who d) (last_round q h)) ≡ false
-    by_deed (Sends call arrives) who n rest = sent (is_post call.request) (is_by q who) n rest
-    by_deed (Delivers call reply counted) who n rest = ended (ends_round call.request reply && (counted && is_by q who)) n rest
-    by_deed (Expires call) who n rest = ended (not (is_post call.request) && is_by q who) n rest
-    by_deed _ who n rest = rest n
+    by_fact : (d : Fact) (who : Actor) → added (is_send d && is_by q who) (begun q h) ≡ 0 → Rest → or_else false (said (round_says q who d) (last_round q h)) ≡ false
+    by_fact (Sends call arrives) who n rest = sent (is_post call.request) (is_by q who) n rest
+    by_fact (Delivers call reply counted) who n rest = ended (ends_round call.request reply && (counted && is_by q who)) n rest
+    by_fact (Expires call) who n rest = ended (not (is_post call.request) && is_by q who) n rest
+    by_fact _ who n rest = rest n
 
 -- ---- a call is sent
 
@@ -96,12 +95,12 @@ goes_on false before = refl
 pub round-expired : (q : Identity) (h : List Entry) (k step : ℕ) (call : Call) → has_round q (entry k step q (Expires call) ∷ h) ≡ (is_post call.request && has_round q h)
 round-expired q h k step call = ap (λ b. or_else false (said (when (not (is_post call.request) && b) false) (last_round q h))) (mine q) ∙ goes_on (is_post call.request) (last_round q h)
 
-pub just_expired-own : (q : Identity) (h : List Entry) (k step n : ℕ) (deed : Deed) → just_expired q n (entry k step q deed ∷ h) ≡ expired_in n k deed
-just_expired-own q h k step n deed = ap (λ b. join (said (when b (expired_in n k deed)) (last_expired q n h))) (mine q)
+pub just_expired-own : (q : Identity) (h : List Entry) (k step n : ℕ) (fact : Fact) → just_expired q n (entry k step q fact ∷ h) ≡ expired_in n k fact
+just_expired-own q h k step n fact = ap (λ b. join (said (when b (expired_in n k fact)) (last_expired q n h))) (mine q)
 
 -- an own entry that is no expiry
-pub settled-own : (q : Identity) (h : List Entry) (k step : ℕ) (deed : Deed) → ((n : ℕ) → expired_in n k deed ≡ None) → IsSettled q (entry k step q deed ∷ h)
-settled-own q h k step deed none n = ap is_post_call (just_expired-own q h k step n deed ∙ none n)
+pub settled-own : (q : Identity) (h : List Entry) (k step : ℕ) (fact : Fact) → ((n : ℕ) → expired_in n k fact ≡ None) → IsSettled q (entry k step q fact ∷ h)
+settled-own q h k step fact none n = ap is_post_call (just_expired-own q h k step n fact ∙ none n)
 
 pub post_expired : (q : Identity) (h : List Entry) (k step : ℕ) (call : Call) → is_post_call (just_expired q k (entry k step q (Expires call) ∷ h)) ≡ is_post call.request
 post_expired q h k step call = ap is_post_call (just_expired-own q h k step k (Expires call)) ∙ ap (λ b. is_post_call (when b call)) (same_beat k)
@@ -115,14 +114,14 @@ settled-no_post q h k step call is n = ap is_post_call (just_expired-own q h k s
 
 -- ---- a reply is delivered
 
-pub call_in-delivered : (q : Identity) (h : List Entry) (k : ℕ) (call : Call) (answered : Reply) → call_in q (delivered k q call answered h) ≡ None
-call_in-delivered q h k call answered = ap (λ b. join (said (when {A = Option Call} (true && b) None) (last_call q h))) (mine q)
+pub call_in-with_reply : (q : Identity) (h : List Entry) (k : ℕ) (call : Call) (answered : Reply) → call_in q (with_reply k q call answered h) ≡ None
+call_in-with_reply q h k call answered = ap (λ b. join (said (when {A = Option Call} (true && b) None) (last_call q h))) (mine q)
 
 ends : (over : Bool) (before : Option Bool) → or_else false (said (when (over && (true && true)) false) before) ≡ (not over && or_else false before)
 ends true before = refl
 ends false before = refl
 
-pub round-delivered : (q : Identity) (h : List Entry) (k : ℕ) (call : Call) (answered : Reply) → has_round q (delivered k q call answered h) ≡ (not (ends_round call.request answered) && has_round q h)
-round-delivered q h k call answered =
+pub round-with_reply : (q : Identity) (h : List Entry) (k : ℕ) (call : Call) (answered : Reply) → has_round q (with_reply k q call answered h) ≡ (not (ends_round call.request answered) && has_round q h)
+round-with_reply q h k call answered =
     ap (λ b. or_else false (said (when (ends_round call.request answered && (true && b)) false) (last_round q h))) (mine q)
     ∙ ends (ends_round call.request answered) (last_round q h)

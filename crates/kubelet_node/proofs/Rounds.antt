@@ -14,14 +14,14 @@ use Rattle.kube_objects.specs.InForce.{posted_status}
 use Rattle.kube_objects.specs.Kubelet.{ends_round, has_round, is_post, next_request, round_period, round_timer}
 use Rattle.kube_objects.specs.Newest.{has, only_if, when}
 use Rattle.kube_objects.specs.Process.{answered_call, begun, call_in, counted, is_late}
-use Rattle.kube_objects.specs.Turns.{expire_as, expire_call}
+use Rattle.kube_objects.specs.Turns.{expire_as, expire_call, expired, with_reply}
 use Rattle.kube_objects.specs.Wire.{next_call}
 use Rattle.kubelet_node.specs.declared.kubelet.Kubelet.{Kubelet}
 use Rattle.kubelet_node.specs.declared.waiting.Waiting.{Waiting}
-use Rattle.kubelet_node.specs.Moves.{Asked, Expired, delivered, expired}
+use Rattle.kubelet_node.specs.Moves.{Asked, Expired}
 use Rattle.kubelet_node.specs.Plain.{is_post_wait}
 use Rattle.kubelet_node.specs.Stands.{CallStands, KubeletStands, Wait, waiting_in, waiting_of}
-use Rattle.kubelet_node.proofs.Own.{call_in-delivered, call_in-expired, call_in-sent, post_expired, round-delivered, round-expired, round-sent, settled-no_post, settled-own, timer-sent}
+use Rattle.kubelet_node.proofs.Own.{call_in-with_reply, call_in-expired, call_in-sent, post_expired, round-with_reply, round-expired, round-sent, settled-no_post, settled-own, timer-sent}
 
 -- a reply that counts, counts for the call that waits
 pub counted-call : (doc : Doc) (q : Identity) (k number : ℕ) (h : List Entry) (call : Call) → counted doc q k number h ≡ Some call → call_in q h ≡ Some call
@@ -147,17 +147,17 @@ not_over doc q k (Create key lease) next answered is = absurd (cc)
 not_over doc q k (Update key given lease) next answered is = absurd (cc)
 
 module _ (doc : Doc) (k : ℕ) (q : Identity) (call : Call) (answered : Reply) (h : List Entry) where
-  pub call-delivered : (x : Kubelet) (slot : CallSlot) → CallStands doc q h x → CallSlotStands doc q (delivered k q call answered h) slot → CallStands doc q (delivered k q call answered h) (record x { slot = slot; waiting = None })
-  call-delivered x slot s free =
+  pub call-with_reply : (x : Kubelet) (slot : CallSlot) → CallStands doc q h x → CallSlotStands doc q (with_reply k q call answered h) slot → CallStands doc q (with_reply k q call answered h) (record x { slot = slot; waiting = None })
+  call-with_reply x slot s free =
       record {
         node = s.node;
         incarnation = s.incarnation;
         lease = s.lease;
         timeout = s.timeout;
         slot = free;
-        waiting = sym (ap (waiting_in doc q) (call_in-delivered q h k call answered));
+        waiting = sym (ap (waiting_in doc q) (call_in-with_reply q h k call answered));
       }
 
   -- the round goes on
-  pub runs-delivered : (next : Request) → has_round q h ≡ has (call_in q h) → call_in q h ≡ Some call → next_request doc q k call.request answered ≡ Some next → has_round q (delivered k q call answered h) ≡ true
-  runs-delivered next runs waits some = round-delivered q h k call answered ∙ (λ i. not (not_over doc q k call.request next answered some i) && (runs ∙ ap has waits) i)
+  pub runs-with_reply : (next : Request) → has_round q h ≡ has (call_in q h) → call_in q h ≡ Some call → next_request doc q k call.request answered ≡ Some next → has_round q (with_reply k q call answered h) ≡ true
+  runs-with_reply next runs waits some = round-with_reply q h k call answered ∙ (λ i. not (not_over doc q k call.request next answered some i) && (runs ∙ ap has waits) i)

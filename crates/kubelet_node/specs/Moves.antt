@@ -4,11 +4,11 @@ use Rattle.kube_objects.specs.declared.call.Ask.{Ask}
 use Rattle.kube_objects.specs.declared.call.Reply.{Reply}
 use Rattle.kube_objects.specs.Clocks.{local}
 use Rattle.kube_objects.specs.Document.{Doc, call_timeout}
-use Rattle.kube_objects.specs.Entry.{Entry, Identity, Call, Plain, Deed, Starts, Sends, Delivers, Expires, entry}
+use Rattle.kube_objects.specs.Entry.{Entry, Identity, Call, Plain, Fact, Starts, Sends, Delivers, Expires, entry}
 use Rattle.kube_objects.specs.Kubelet.{has_round, is_post_call, next_request, round, round_timer, send_next}
 use Rattle.kube_objects.specs.Newest.{has}
 use Rattle.kube_objects.specs.Process.{begun, call_in}
-use Rattle.kube_objects.specs.Turns.{expire_call, just_expired}
+use Rattle.kube_objects.specs.Turns.{expired, just_expired, with_reply}
 use Rattle.kube_objects.specs.Wire.{next_call, send}
 use Rattle.kubelet_node.specs.declared.kubelet.Kubelet.{Kubelet}
 use Rattle.kubelet_node.specs.Stands.{CallStands, IsSettled}
@@ -26,10 +26,6 @@ Moved k step q h next Stands (Some ask) = Asked k step q h next Stands ask
 
 -- ---- a turn
 
--- the history after the expiry of a turn
-abbrev pub expired : Doc → ℕ → Identity → List Entry → List Entry
-expired doc k q h = expire_call doc k q (call_in q h) h
-
 -- a whole turn
 abbrev pub turned : Doc → ℕ → Identity → List Entry → List Entry
 turned doc k q h = round doc k q (expired doc k q h)
@@ -44,13 +40,9 @@ pub record Expired (doc : Doc) (k : ℕ) (q : Identity) (h : List Entry) (x : Ku
 
 -- ---- a reply
 
--- the history with a counted reply
-abbrev pub delivered : ℕ → Identity → Call → Reply → List Entry → List Entry
-delivered k q call reply h = entry k 3 q (Delivers call reply true) ∷ h
-
 -- the history with a counted reply and what the kubelet sends at once; h is that before the reply
 abbrev pub followed : Doc → ℕ → Identity → Call → Reply → List Entry → List Entry
-followed doc k q call reply h = send_next k q (next_request doc q k call.request reply) (delivered k q call reply h)
+followed doc k q call reply h = send_next k q (next_request doc q k call.request reply) (with_reply k q call reply h)
 
 -- ---- when a turn does anything
 
@@ -65,7 +57,7 @@ IsLeast wake now h next = (nat_lt now wake ≡ true → next ≡ h) × (nat_lt n
 
 -- ---- entries that a kubelet looks at, where they are its own
 
-abbrev pub is_of_kubelet : Deed → Bool
+abbrev pub is_of_kubelet : Fact → Bool
 is_of_kubelet Starts = true
 is_of_kubelet (Sends call arrives) = true
 is_of_kubelet (Delivers call reply counted) = true

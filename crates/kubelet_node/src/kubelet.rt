@@ -10,7 +10,8 @@ ghost use Rattle.kube_objects.specs.Kubelet.{is_post, next_request, node_of, rou
 ghost use Rattle.kube_objects.specs.Process.{alive, begun, call_in, counted};
 ghost use Rattle.kube_objects.specs.Stored.{node_lease};
 ghost use Rattle.kube_objects.specs.Wire.{send};
-ghost use Rattle.kubelet_node.specs.Moves.{Asked, Expired, IsLeast, Moved, delivered, expired, followed, turned, wake_from};
+ghost use Rattle.kube_objects.specs.Turns.{expired, with_reply};
+ghost use Rattle.kubelet_node.specs.Moves.{Asked, Expired, IsLeast, Moved, followed, turned, wake_from};
 ghost use Rattle.kubelet_node.specs.Plain.{BeginsCall, IsSame, TakesReply, after_expiry, after_round, asked_of, counts_in};
 ghost use Rattle.kubelet_node.specs.Plain.{found_at, has_lost_post, heartbeat_at, is_post_wait, kept_of, next_at};
 ghost use Rattle.kubelet_node.specs.Plain.{numbered, round_in, wake_in};
@@ -100,7 +101,7 @@ impl Kubelet {
         ensures counts { (doc : Doc) (q : Identity) (h : List Entry) (k : ℕ) (call : Call)
             → KubeletStands doc q h self.old → now.0 ≡ local doc q.process k → wall.0 ≡ wall_at doc q.process k
             → begun q h + 1 < 2 ^ 64 → counted doc q k number h ≡ Some call
-            → Moved k 3 q (delivered k q call reply h) (followed doc k q call reply h)
+            → Moved k 3 q (with_reply k q call reply h) (followed doc k q call reply h)
             (λ x. KubeletStands doc q x self.new) result }
     {
         if !self.slot.accepts(number, now, self.timing.timeout) {

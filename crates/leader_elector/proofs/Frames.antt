@@ -5,7 +5,7 @@ use Rattle.kube_objects.specs.declared.deed.Actor.{Actor}
 use Rattle.kube_objects.specs.Clocks.{local}
 use Rattle.kube_objects.specs.Document.{Doc, renew_deadline, retry_period}
 use Rattle.kube_objects.specs.Elector.{deadline, deadline_says, follow_on, is_fast, lead_says, leads, newly, observed, shown, shows, succeeds, timer_follow, timer_says, told}
-use Rattle.kube_objects.specs.Entry.{Call, Deed, Delivers, Entry, Expires, Identity, Leads, Sends, Starts}
+use Rattle.kube_objects.specs.Entry.{Call, Fact, Delivers, Entry, Expires, Identity, Leads, Sends, Starts}
 use Rattle.kube_objects.specs.Identities.{is_by}
 use Rattle.kube_objects.specs.Newest.{added, has, join, newest, only_if, or_zero, when}
 use Rattle.kube_objects.specs.Process.{begun, call_says, is_send, last_call, open_as}
@@ -20,13 +20,13 @@ use Rattle.leader_elector.proofs.Own.{last_expired, last_timer, said}
 
 -- an entry that changes no reading of the identity
 pub record IsQuiet (doc : Doc) (q : Identity) (h : List Entry) (e : Entry) : Type 0 where
-  pub unsent : (is_send e.deed && is_by q e.actor) ≡ false
-  pub call : call_says q e.actor e.deed ≡ None
-  pub shows : shows q e.actor e.deed ≡ None
-  pub timer : timer_says doc q e h e.deed ≡ None
+  pub unsent : (is_send e.fact && is_by q e.actor) ≡ false
+  pub call : call_says q e.actor e.fact ≡ None
+  pub shows : shows q e.actor e.fact ≡ None
+  pub timer : timer_says doc q e h e.fact ≡ None
   pub settled : IsSettled q h → IsSettled q (e ∷ h)
-  pub lead : lead_says q e.actor e.deed ≡ None
-  pub deadline : deadline_says doc q e.beat e.actor (leads q h) e.deed ≡ None
+  pub lead : lead_says q e.actor e.fact ≡ None
+  pub deadline : deadline_says doc q e.beat e.actor (leads q h) e.fact ≡ None
 
 -- ---- a state stands through a quiet entry
 
@@ -44,7 +44,7 @@ elector-beside doc q h e x w s =
     }
 
 abbrev last_lead : Identity → List Entry → Option Version
-last_lead q h = newest (λ e T. lead_says q e.actor e.deed) h
+last_lead q h = newest (λ e T. lead_says q e.actor e.fact) h
 
 leads-beside : (doc : Doc) (q : Identity) (h : List Entry) (e : Entry) → IsQuiet doc q h e → leads q (e ∷ h) ≡ leads q h
 leads-beside doc q h e w = ap (λ o. has (said o (last_lead q h))) w.lead
@@ -90,17 +90,17 @@ never true x = refl
 never false x = refl
 
 module _ (doc : Doc) (q : Identity) (h : List Entry) (e : Entry) (other : is_by q e.actor ≡ false) where
-  call-foreign : (d : Deed) → call_says q e.actor d ≡ None
+  call-foreign : (d : Fact) → call_says q e.actor d ≡ None
   call-foreign (Sends call arrives) = ap (λ b. when b (open_as call.kind call)) other
   call-foreign (Delivers call reply counted) = ap (λ b. when {A = Option Call} (counted && b) None) other ∙ ap (λ b. when {A = Option Call} b None) (and_false counted)
   call-foreign (Expires call) = ap (λ b. when {A = Option Call} b None) other
   call-foreign _ = refl
 
-  shows-foreign : (d : Deed) → shows q e.actor d ≡ None
+  shows-foreign : (d : Fact) → shows q e.actor d ≡ None
   shows-foreign (Delivers call reply counted) = ap (λ b. only_if (counted && b) (told call.request reply)) other ∙ never counted (told call.request reply)
   shows-foreign _ = refl
 
-  timer-foreign : (d : Deed) → timer_says doc q e h d ≡ None
+  timer-foreign : (d : Fact) → timer_says doc q e h d ≡ None
   timer-foreign Starts = ap (λ b. when b (local doc q.process e.beat)) other
   timer-foreign (Leads version) = ap (λ b. when b (local doc q.process e.beat)) other
   timer-foreign (Expires call) = ap (λ b. when (b && not (is_fast call.kind)) (local doc q.process e.beat + retry_period doc q.process)) other
@@ -109,11 +109,11 @@ module _ (doc : Doc) (q : Identity) (h : List Entry) (e : Entry) (other : is_by 
       ap (λ b. only_if (counted && b) says) other ∙ never counted says
   timer-foreign _ = refl
 
-  lead-foreign : (d : Deed) → lead_says q e.actor d ≡ None
+  lead-foreign : (d : Fact) → lead_says q e.actor d ≡ None
   lead-foreign (Leads version) = ap (λ b. when b version) other
   lead-foreign _ = refl
 
-  deadline-foreign : (led : Bool) (d : Deed) → deadline_says doc q e.beat e.actor led d ≡ None
+  deadline-foreign : (led : Bool) (d : Fact) → deadline_says doc q e.beat e.actor led d ≡ None
   deadline-foreign led (Leads version) = ap (λ b. when b (local doc q.process e.beat + renew_deadline doc q.process)) other
   deadline-foreign led (Delivers call reply counted) =
       let at = local doc q.process e.beat + retry_period doc q.process + renew_deadline doc q.process in
@@ -123,13 +123,13 @@ module _ (doc : Doc) (q : Identity) (h : List Entry) (e : Entry) (other : is_by 
   pub quiet-foreign : IsQuiet doc q h e
   quiet-foreign =
       record {
-        unsent = ap (λ b. is_send e.deed && b) other ∙ and_false (is_send e.deed);
-        call = call-foreign e.deed;
-        shows = shows-foreign e.deed;
-        timer = timer-foreign e.deed;
-        settled = λ s n. ap (λ b. is_fast_call (join (said (when b (expired_in n e.beat e.deed)) (last_expired q n h)))) other ∙ s n;
-        lead = lead-foreign e.deed;
-        deadline = deadline-foreign (leads q h) e.deed;
+        unsent = ap (λ b. is_send e.fact && b) other ∙ and_false (is_send e.fact);
+        call = call-foreign e.fact;
+        shows = shows-foreign e.fact;
+        timer = timer-foreign e.fact;
+        settled = λ s n. ap (λ b. is_fast_call (join (said (when b (expired_in n e.beat e.fact)) (last_expired q n h)))) other ∙ s n;
+        lead = lead-foreign e.fact;
+        deadline = deadline-foreign (leads q h) e.fact;
       }
 
 pub candidate-foreign : (doc : Doc) (q : Identity) (e : Entry) (h : List Entry) (c : Candidate) → is_by q e.actor ≡ false → CandidateStands doc q h c → CandidateStands doc q (e ∷ h) c
@@ -148,7 +148,7 @@ still_settled true before s = refl
 still_settled false before s = s
 
 module _ (doc : Doc) (q : Identity) (h : List Entry) (beat step : ℕ) (who : Actor) where
-  pub quiet-kind : (d : Deed) → is_of_elector d ≡ false → IsQuiet doc q h (record { beat = beat; step = step; actor = who; deed = d })
+  pub quiet-kind : (d : Fact) → is_of_elector d ≡ false → IsQuiet doc q h (record { beat = beat; step = step; actor = who; fact = d })
   quiet-kind Starts is = absurd (cc)
   quiet-kind (Sends call arrives) is = absurd (cc)
   quiet-kind (Delivers call reply counted) is = absurd (cc)
@@ -156,11 +156,11 @@ module _ (doc : Doc) (q : Identity) (h : List Entry) (beat step : ℕ) (who : Ac
   quiet-kind (Leads version) is = absurd (cc)
   quiet-kind _ is = record { unsent = refl; call = refl; shows = refl; timer = refl; settled = λ s n. still_settled (is_by q who) (last_expired q n h) (s n); lead = refl; deadline = refl }
 
-pub candidate-quiet : (doc : Doc) (q : Identity) (e : Entry) (h : List Entry) (c : Candidate) → is_of_elector e.deed ≡ false → CandidateStands doc q h c → CandidateStands doc q (e ∷ h) c
-candidate-quiet doc q e h c is s = candidate-beside doc q h e c (quiet-kind doc q h e.beat e.step e.actor e.deed is) s
+pub candidate-quiet : (doc : Doc) (q : Identity) (e : Entry) (h : List Entry) (c : Candidate) → is_of_elector e.fact ≡ false → CandidateStands doc q h c → CandidateStands doc q (e ∷ h) c
+candidate-quiet doc q e h c is s = candidate-beside doc q h e c (quiet-kind doc q h e.beat e.step e.actor e.fact is) s
 
-pub leading-quiet : (doc : Doc) (q : Identity) (e : Entry) (h : List Entry) (l : Leading) → is_of_elector e.deed ≡ false → LeadingStands doc q h l → LeadingStands doc q (e ∷ h) l
-leading-quiet doc q e h l is s = leading-beside doc q h e l (quiet-kind doc q h e.beat e.step e.actor e.deed is) s
+pub leading-quiet : (doc : Doc) (q : Identity) (e : Entry) (h : List Entry) (l : Leading) → is_of_elector e.fact ≡ false → LeadingStands doc q h l → LeadingStands doc q (e ∷ h) l
+leading-quiet doc q e h l is s = leading-beside doc q h e l (quiet-kind doc q h e.beat e.step e.actor e.fact is) s
 
-pub new-quiet : (doc : Doc) (q : Identity) (e : Entry) (h : List Entry) → is_of_elector e.deed ≡ false → IsNew doc q h → IsNew doc q (e ∷ h)
-new-quiet doc q e h is n = new-beside doc q h e (quiet-kind doc q h e.beat e.step e.actor e.deed is) n
+pub new-quiet : (doc : Doc) (q : Identity) (e : Entry) (h : List Entry) → is_of_elector e.fact ≡ false → IsNew doc q h → IsNew doc q (e ∷ h)
+new-quiet doc q e h is n = new-beside doc q h e (quiet-kind doc q h e.beat e.step e.actor e.fact is) n

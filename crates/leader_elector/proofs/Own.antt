@@ -6,7 +6,7 @@ use Rattle.kube_objects.specs.CallSlots.{waits}
 use Rattle.kube_objects.specs.Clocks.{local}
 use Rattle.kube_objects.specs.Document.{Doc, retry_period}
 use Rattle.kube_objects.specs.Elector.{timer, timer_says, is_fast}
-use Rattle.kube_objects.specs.Entry.{Entry, Identity, Call, Deed, Sends, Starts, Expires, actor_of, entry}
+use Rattle.kube_objects.specs.Entry.{Entry, Identity, Call, Fact, Sends, Starts, Expires, actor_of, entry}
 use Rattle.kube_objects.specs.Identities.{is_by}
 use Rattle.kube_objects.specs.Newest.{newest, when, join, or_zero, or_else}
 use Rattle.kube_objects.specs.Process.{call_in, last_call}
@@ -45,7 +45,7 @@ call_in-expired q h k step call = ap (λ b. join (said (when {A = Option Call} b
 -- ---- the timer
 
 abbrev pub last_timer : Doc → Identity → List Entry → Option ℕ
-last_timer doc q h = newest (λ e T. timer_says doc q e T e.deed) h
+last_timer doc q h = newest (λ e T. timer_says doc q e T e.fact) h
 
 pub timer-started : (doc : Doc) (q : Identity) (h : List Entry) (k step : ℕ) → timer doc q (entry k step q Starts ∷ h) ≡ local doc q.process k
 timer-started doc q h k step = ap (λ b. or_zero (said (when b (local doc q.process k)) (last_timer doc q h))) (mine q)
@@ -59,14 +59,14 @@ timer-expired doc q h k step call =
 -- ---- expiry in this turn
 
 abbrev pub last_expired : Identity → ℕ → List Entry → Option (Option Call)
-last_expired q n h = newest (λ e T. when (is_by q e.actor) (expired_in n e.beat e.deed)) h
+last_expired q n h = newest (λ e T. when (is_by q e.actor) (expired_in n e.beat e.fact)) h
 
-pub just_expired-own : (q : Identity) (h : List Entry) (k step n : ℕ) (deed : Deed) → just_expired q n (entry k step q deed ∷ h) ≡ expired_in n k deed
-just_expired-own q h k step n deed = ap (λ b. join (said (when b (expired_in n k deed)) (last_expired q n h))) (mine q)
+pub just_expired-own : (q : Identity) (h : List Entry) (k step n : ℕ) (fact : Fact) → just_expired q n (entry k step q fact ∷ h) ≡ expired_in n k fact
+just_expired-own q h k step n fact = ap (λ b. join (said (when b (expired_in n k fact)) (last_expired q n h))) (mine q)
 
 -- an own entry that is no expiry
-pub settled-own : (q : Identity) (h : List Entry) (k step : ℕ) (deed : Deed) → ((n : ℕ) → expired_in n k deed ≡ None) → IsSettled q (entry k step q deed ∷ h)
-settled-own q h k step deed none n = ap is_fast_call (just_expired-own q h k step n deed ∙ none n)
+pub settled-own : (q : Identity) (h : List Entry) (k step : ℕ) (fact : Fact) → ((n : ℕ) → expired_in n k fact ≡ None) → IsSettled q (entry k step q fact ∷ h)
+settled-own q h k step fact none n = ap is_fast_call (just_expired-own q h k step n fact ∙ none n)
 
 pub fast_expired : (q : Identity) (h : List Entry) (k step : ℕ) (call : Call) → is_fast_call (just_expired q k (entry k step q (Expires call) ∷ h)) ≡ is_fast call.kind
 fast_expired q h k step call = ap is_fast_call (just_expired-own q h k step k (Expires call)) ∙ ap (λ b. is_fast_call (when b call)) (same_beat k)

@@ -13,8 +13,9 @@ use Rattle.kube_objects.specs.Entry.{Call, CallKind, Entry, Fast, Identity, Plai
 use Rattle.kube_objects.specs.Newest.{join, only_if, or_else, or_zero, when}
 use Rattle.kube_objects.specs.Process.{answered_call, call_in, counted, last_call}
 use Rattle.kube_objects.specs.Stored.{election}
+use Rattle.kube_objects.specs.Turns.{with_reply}
 use Rattle.leader_elector.specs.declared.elector.Elector.{Elector}
-use Rattle.leader_elector.specs.Moves.{delivered, last_of}
+use Rattle.leader_elector.specs.Moves.{last_of}
 use Rattle.leader_elector.specs.Stands.{ElectorStands, IsTimingOf, observed_of, shown_of, waiting_in, waiting_of}
 use Rattle.leader_elector.proofs.Own.{last_timer, mine, or_zero-said, said}
 
@@ -47,42 +48,42 @@ newly_seen doc p k before None old = refl
 newly_seen doc p k before (Some x) old = first_seen doc p k before (is_known x.0 old)
 
 module _ (doc : Doc) (k : ℕ) (q : Identity) (call : Call) (answered : Reply) (h : List Entry) where
-  pub call_in-delivered : call_in q (delivered k q call answered h) ≡ None
-  call_in-delivered = ap (λ b. join (said (when {A = Option Call} (true && b) None) (last_call q h))) (mine q)
+  pub call_in-with_reply : call_in q (with_reply k q call answered h) ≡ None
+  call_in-with_reply = ap (λ b. join (said (when {A = Option Call} (true && b) None) (last_call q h))) (mine q)
 
-  pub shown-delivered : shown q (delivered k q call answered h) ≡ last_of (told call.request answered) (shown q h)
-  shown-delivered = ap (λ b. said (only_if (true && b) (told call.request answered)) (shown q h)) (mine q) ∙ said-last (told call.request answered) (shown q h)
+  pub shown-with_reply : shown q (with_reply k q call answered h) ≡ last_of (told call.request answered) (shown q h)
+  shown-with_reply = ap (λ b. said (only_if (true && b) (told call.request answered)) (shown q h)) (mine q) ∙ said-last (told call.request answered) (shown q h)
 
-  pub observed_at-delivered : observed_at doc q (delivered k q call answered h) ≡ or_else (observed_at doc q h) (newly (told call.request answered) (shown q h) (local doc q.process k))
-  observed_at-delivered =
+  pub observed_at-with_reply : observed_at doc q (with_reply k q call answered h) ≡ or_else (observed_at doc q h) (newly (told call.request answered) (shown q h) (local doc q.process k))
+  observed_at-with_reply =
       ap (λ b. local doc q.process (or_zero (said (newly (only_if (true && b) (told call.request answered)) (shown q h) k) (observed q h)))) (mine q)
       ∙ newly_seen doc q.process k (observed q h) (told call.request answered) (shown q h)
 
-  pub timer-delivered : timer doc q (delivered k q call answered h) ≡ or_else (timer doc q h) (timer_follow (follow_on doc q k call.kind call.request answered (delivered k q call answered h)) (leads q h) (local doc q.process k + retry_period doc q.process))
-  timer-delivered =
-      ap (λ b. or_zero (said (only_if (true && b) (timer_follow (follow_on doc q k call.kind call.request answered (delivered k q call answered h)) (leads q h) (local doc q.process k + retry_period doc q.process))) (last_timer doc q h))) (mine q)
-      ∙ or_zero-said (timer_follow (follow_on doc q k call.kind call.request answered (delivered k q call answered h)) (leads q h) (local doc q.process k + retry_period doc q.process)) (last_timer doc q h)
+  pub timer-with_reply : timer doc q (with_reply k q call answered h) ≡ or_else (timer doc q h) (timer_follow (follow_on doc q k call.kind call.request answered (with_reply k q call answered h)) (leads q h) (local doc q.process k + retry_period doc q.process))
+  timer-with_reply =
+      ap (λ b. or_zero (said (only_if (true && b) (timer_follow (follow_on doc q k call.kind call.request answered (with_reply k q call answered h)) (leads q h) (local doc q.process k + retry_period doc q.process))) (last_timer doc q h))) (mine q)
+      ∙ or_zero-said (timer_follow (follow_on doc q k call.kind call.request answered (with_reply k q call answered h)) (leads q h) (local doc q.process k + retry_period doc q.process)) (last_timer doc q h)
 
   -- the state after a counted reply, whose fields change one after the other
-  pub delivered-stands : (e noted now : Elector) (slot : CallSlot) → ElectorStands doc q h e → CallSlotStands doc q (delivered k q call answered h) slot →
+  pub with_reply-stands : (e noted now : Elector) (slot : CallSlot) → ElectorStands doc q h e → CallSlotStands doc q (with_reply k q call answered h) slot →
       noted ≡ record e { slot = slot; waiting = None; seen = noted.seen } →
       shown_of noted.seen ≡ last_of (told call.request answered) (shown_of e.seen) →
-      observed_of noted.seen ≡ observed_at doc q (delivered k q call answered h) →
+      observed_of noted.seen ≡ observed_at doc q (with_reply k q call answered h) →
       now ≡ record noted { timer = now.timer } →
-      now.timer.0 ≡ or_else noted.timer.0 (timer_follow (follow_on doc q k call.kind call.request answered (delivered k q call answered h)) (leads q h) (local doc q.process k + retry_period doc q.process)) →
-      ElectorStands doc q (delivered k q call answered h) now
-  delivered-stands e noted now slot s free noted_is shown_is observed_is now_is timer_is =
-      let g = delivered k q call answered h in
+      now.timer.0 ≡ or_else noted.timer.0 (timer_follow (follow_on doc q k call.kind call.request answered (with_reply k q call answered h)) (leads q h) (local doc q.process k + retry_period doc q.process)) →
+      ElectorStands doc q (with_reply k q call answered h) now
+  with_reply-stands e noted now slot s free noted_is shown_is observed_is now_is timer_is =
+      let g = with_reply k q call answered h in
       let timer_was : noted.timer.0 ≡ timer doc q h = ap (λ x. x.timer.0) noted_is ∙ s.timer in
       record {
         process = ap (λ x. x.me.0) now_is ∙ ap (λ x. x.me.0) noted_is ∙ s.process;
         incarnation = ap (λ x. x.incarnation) now_is ∙ ap (λ x. x.incarnation) noted_is ∙ s.incarnation;
         timing = subst (λ t. IsTimingOf doc q.process t) (sym (ap (λ x. x.timing) now_is ∙ ap (λ x. x.timing) noted_is)) s.timing;
         slot = subst (λ x. CallSlotStands doc q g x) (sym (ap (λ x. x.slot) now_is ∙ ap (λ x. x.slot) noted_is)) free;
-        waiting = ap (λ x. waiting_of x.waiting) now_is ∙ ap (λ x. waiting_of x.waiting) noted_is ∙ sym (ap (waiting_in doc q) call_in-delivered);
-        shown = ap (λ x. shown_of x.seen) now_is ∙ shown_is ∙ ap (last_of (told call.request answered)) s.shown ∙ sym shown-delivered;
+        waiting = ap (λ x. waiting_of x.waiting) now_is ∙ ap (λ x. waiting_of x.waiting) noted_is ∙ sym (ap (waiting_in doc q) call_in-with_reply);
+        shown = ap (λ x. shown_of x.seen) now_is ∙ shown_is ∙ ap (last_of (told call.request answered)) s.shown ∙ sym shown-with_reply;
         observed = ap (λ x. observed_of x.seen) now_is ∙ observed_is;
-        timer = timer_is ∙ ap (λ t. or_else t (timer_follow (follow_on doc q k call.kind call.request answered g) (leads q h) (local doc q.process k + retry_period doc q.process))) timer_was ∙ sym timer-delivered;
+        timer = timer_is ∙ ap (λ t. or_else t (timer_follow (follow_on doc q k call.kind call.request answered g) (leads q h) (local doc q.process k + retry_period doc q.process))) timer_was ∙ sym timer-with_reply;
       }
 
 -- ---- the deadline
@@ -127,10 +128,10 @@ success-follow doc q k kind (PostStatus name status at) answered h = refl
 abbrev pub last_deadline : Bool → ℕ → Option ℕ → Option ℕ
 last_deadline moves at before = said (when moves at) before
 
-pub deadline-delivered : (doc : Doc) (k : ℕ) (q : Identity) (call : Call) (answered : Reply) (h : List Entry) (wanted : Follow) → leads q h ≡ true →
-    follow_on doc q k call.kind call.request answered (delivered k q call answered h) ≡ wanted →
-    deadline doc q (delivered k q call answered h) ≡ last_deadline (is_success wanted) (local doc q.process k + retry_period doc q.process + renew_deadline doc q.process) (deadline doc q h)
-deadline-delivered doc k q call answered h wanted led is =
+pub deadline-with_reply : (doc : Doc) (k : ℕ) (q : Identity) (call : Call) (answered : Reply) (h : List Entry) (wanted : Follow) → leads q h ≡ true →
+    follow_on doc q k call.kind call.request answered (with_reply k q call answered h) ≡ wanted →
+    deadline doc q (with_reply k q call answered h) ≡ last_deadline (is_success wanted) (local doc q.process k + retry_period doc q.process + renew_deadline doc q.process) (deadline doc q h)
+deadline-with_reply doc k q call answered h wanted led is =
     let at = local doc q.process k + retry_period doc q.process + renew_deadline doc q.process in
     (λ i. last_deadline ((true && mine q i) && (led i && succeeds call.request answered)) at (deadline doc q h))
-    ∙ ap (λ b. last_deadline b at (deadline doc q h)) (success-follow doc q k call.kind call.request answered (delivered k q call answered h) ∙ ap is_success is)
+    ∙ ap (λ b. last_deadline b at (deadline doc q h)) (success-follow doc q k call.kind call.request answered (with_reply k q call answered h) ∙ ap is_success is)

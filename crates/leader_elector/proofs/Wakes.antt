@@ -7,8 +7,8 @@ use Rattle.kube_objects.specs.Elector.{deadline, is_before, timer}
 use Rattle.kube_objects.specs.Entry.{Call, Ends, Entry, Expires, Identity, entry}
 use Rattle.kube_objects.specs.Newest.{has}
 use Rattle.kube_objects.specs.Process.{call_in, is_late}
-use Rattle.kube_objects.specs.Turns.{attempt_if, end_as, end_term, expire_as, expire_call, try}
-use Rattle.leader_elector.specs.Moves.{IsLeast, expired, leading_turn, try_before, wake_before, wake_from}
+use Rattle.kube_objects.specs.Turns.{attempt_if, end_as, end_term, expire_as, expire_call, try, expired}
+use Rattle.leader_elector.specs.Moves.{IsLeast, leading_turn, try_before, wake_before, wake_from}
 use Rattle.leader_elector.specs.Stands.{IsSettled}
 use Rattle.leader_elector.proofs.Attempts.{try-due, try-none}
 use Rattle.leader_elector.proofs.Expiry.{deadline-expiry}

@@ -7,9 +7,9 @@ use Rattle.kube_objects.specs.declared.call.Request.{Request}
 use Rattle.kube_objects.specs.Clocks.{local}
 use Rattle.kube_objects.specs.Document.{Doc, call_timeout}
 use Rattle.kube_objects.specs.Elector.{Shown, leads, deadline, follow_on, is_before}
-use Rattle.kube_objects.specs.Entry.{Entry, Identity, Call, CallKind, Deed, Starts, Sends, Delivers, Expires, Leads, Ends, entry}
+use Rattle.kube_objects.specs.Entry.{Entry, Identity, Call, CallKind, Fact, Starts, Sends, Delivers, Expires, Leads, Ends, entry}
 use Rattle.kube_objects.specs.Process.{begun, call_in}
-use Rattle.kube_objects.specs.Turns.{react, expire_call, end_term, try}
+use Rattle.kube_objects.specs.Turns.{react, end_term, expired, try, with_reply}
 use Rattle.kube_objects.specs.Wire.{next_call, send}
 use Rattle.leader_elector.specs.declared.candidate.Candidate.{Candidate}
 use Rattle.leader_elector.specs.declared.candidate.CandidateNext.{CandidateNext}
@@ -28,10 +28,6 @@ pub record Asked (k step : ℕ) (q : Identity) (h next : List Entry) (Stands : L
   pub sent : next ≡ send k step q kind ask.request h
   pub number : ask.number ≡ begun q h + 1
   pub stands : (arrives : Option ℕ) → Stands (entry k step q (Sends (next_call q k kind ask.request h) arrives) ∷ h)
-
--- the history after the expiry of a turn
-abbrev pub expired : Doc → ℕ → Identity → List Entry → List Entry
-expired doc k q h = expire_call doc k q (call_in q h) h
 
 -- the history after the test of the deadline; h is that after the expiry
 abbrev pub tested : Doc → ℕ → Identity → List Entry → List Entry
@@ -66,14 +62,10 @@ ends (leading.Stay l) = false
 ends (leading.Ask l ask) = false
 ends (leading.End x) = true
 
--- the history with a counted reply
-abbrev pub delivered : ℕ → Identity → Call → Reply → List Entry → List Entry
-delivered k q call reply h = entry k 3 q (Delivers call reply true) ∷ h
-
 -- the history with a counted reply and what the elector does at once; h is that before the reply
 abbrev pub reacted : Doc → ℕ → Identity → Call → Reply → List Entry → List Entry
 reacted doc k q call reply h =
-    react k q (leads q h) (follow_on doc q k call.kind call.request reply (delivered k q call reply h)) (delivered k q call reply h)
+    react k q (leads q h) (follow_on doc q k call.kind call.request reply (with_reply k q call reply h)) (with_reply k q call reply h)
 
 -- next is the history with what follows the reply; h is the history with the reply
 abbrev pub CandidateReplies : Doc → ℕ → Identity → List Entry → List Entry → CandidateNext → Type 0
@@ -154,12 +146,12 @@ Tried doc k q h next e expired (Some ask) = Asked k 4 q h next (λ x. ElectorSta
 abbrev pub Received : Doc → ℕ → Identity → Call → Reply → List Entry → Elector → Option code.Follow → Type 0
 Received doc k q call reply h e None = ⊥
 Received doc k q call reply h e (Some follow) =
-    (follow_of follow ≡ follow_on doc q k call.kind call.request reply (delivered k q call reply h))
-    × ElectorStands doc q (delivered k q call reply h) e
+    (follow_of follow ≡ follow_on doc q k call.kind call.request reply (with_reply k q call reply h))
+    × ElectorStands doc q (with_reply k q call reply h) e
 
 -- ---- entries that an elector looks at, where they are its own
 
-abbrev pub is_of_elector : Deed → Bool
+abbrev pub is_of_elector : Fact → Bool
 is_of_elector Starts = true
 is_of_elector (Sends call arrives) = true
 is_of_elector (Delivers call reply counted) = true

@@ -7,9 +7,10 @@ ghost use Rattle.kube_objects.specs.Document.{Doc};
 ghost use Rattle.kube_objects.specs.Elector.{timer};
 ghost use Rattle.kube_objects.specs.Entry.{Call, Delivers, Entry, Identity, Leads, Starts, entry};
 ghost use Rattle.kube_objects.specs.Process.{alive, begun, call_in, counted};
+ghost use Rattle.kube_objects.specs.Turns.{expired, with_reply};
 ghost use Rattle.leader_elector.specs.declared.candidate.Heard.TheVariants as heard;
 ghost use Rattle.leader_elector.specs.Moves.{CandidateHears, CandidateReplies, CandidateStays, CandidateTurns, IsLeast, after_turn};
-ghost use Rattle.leader_elector.specs.Moves.{becomes_leader, candidate_turn, delivered, expired, reacted, wake_from};
+ghost use Rattle.leader_elector.specs.Moves.{becomes_leader, candidate_turn, reacted, wake_from};
 ghost use Rattle.leader_elector.specs.Stands.{CandidateStands, IsChosen, IsNew, IsTimingOf, LeadingStands};
 ghost use Rattle.leader_elector.specs.Calls.{BeginsTerm, CandidateFollows, CandidateTakesReply, CandidateTakesTurn, TakesTurn, counts_in};
 ghost use Rattle.leader_elector.specs.Plain.{identity_of, kept_of, moment_of, wake_in};
@@ -103,7 +104,7 @@ impl Candidate {
             → CandidateStands doc q h self → now.0 ≡ local doc q.process k
             → wall.0 ≡ wall_at doc q.process k → begun q h + 1 < 2 ^ 64
             → counted doc q k number h ≡ Some call
-            → CandidateReplies doc k q (delivered k q call reply h) (reacted doc k q call reply h) result }
+            → CandidateReplies doc k q (with_reply k q call reply h) (reacted doc k q call reply h) result }
     {
         match self.hear(number, &reply, now, wall) {
             Heard::Stays => CandidateNext::Stay(self),
@@ -127,7 +128,7 @@ impl Candidate {
             → CandidateStands doc q h self.old → now.0 ≡ local doc q.process k
             → wall.0 ≡ wall_at doc q.process k → begun q h + 1 < 2 ^ 64
             → counted doc q k number h ≡ Some call
-            → CandidateHears doc k q (delivered k q call reply.now h) (reacted doc k q call reply.now h) self.new result }
+            → CandidateHears doc k q (with_reply k q call reply.now h) (reacted doc k q call reply.now h) self.new result }
     {
         let Some(follow) = self.elector.receive(false, number, reply, now, wall) else {
             return Heard::Stays;

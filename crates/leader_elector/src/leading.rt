@@ -8,11 +8,12 @@ ghost use Rattle.kube_objects.specs.Document.{Doc};
 ghost use Rattle.kube_objects.specs.Elector.{acts, deadline, release, timer};
 ghost use Rattle.kube_objects.specs.Entry.{Call, Delivers, Entry, Identity, Leads, entry};
 ghost use Rattle.kube_objects.specs.Process.{alive, begun, call_in, counted};
-ghost use Rattle.leader_elector.specs.Moves.{LeadingReplies, LeadingStays, LeadingTurns, IsLeast, Releases, delivered, ends, expired};
+ghost use Rattle.leader_elector.specs.Moves.{LeadingReplies, LeadingStays, LeadingTurns, IsLeast, Releases, ends};
 ghost use Rattle.leader_elector.specs.Moves.{leading_turn, reacted, wake_before, wake_from};
 ghost use Rattle.leader_elector.specs.Stands.{ElectorStands, LeadingStands, acting_identity, deadline_of, ended_identity, leading_identity};
 ghost use Rattle.kube_objects.specs.CallSlots.{calls_of, next_number};
 ghost use Rattle.kube_objects.specs.Elector.{release_at};
+ghost use Rattle.kube_objects.specs.Turns.{expired, with_reply};
 ghost use Rattle.leader_elector.specs.Calls.{BeginsTerm, LeadingFollows, LeadingTakesTurn, counts_in, leading_wake};
 ghost use Rattle.leader_elector.specs.Plain.{asked_of, moment_of};
 ghost use Rattle.leader_elector.specs.Stands.{Wait, shown_of, waiting_of};
@@ -94,7 +95,7 @@ impl Leading {
             → LeadingStands doc q h self → now.0 ≡ local doc q.process k
             → wall.0 ≡ wall_at doc q.process k → begun q h + 1 < 2 ^ 64
             → counted doc q k number h ≡ Some call
-            → LeadingReplies doc k q (delivered k q call reply h) (reacted doc k q call reply h) result }
+            → LeadingReplies doc k q (with_reply k q call reply h) (reacted doc k q call reply h) result }
     {
         let Some(follow) = self.elector.receive(true, number, &reply, now, wall) else {
             return LeadingNext::Stay(self);

@@ -136,7 +136,7 @@ elsewhere doc k (what.Watch id on) h sound = refl
 elsewhere doc k (what.Ready id status) h sound = refl
 
 -- an entry that is no election write
-pub top_stays : (x : Entry) (h : List Entry) → at_key election (write_of x.deed) ≡ None → stored election (x ∷ h) ≡ stored election h
+pub top_stays : (x : Entry) (h : List Entry) → at_key election (write_of x.fact) ≡ None → stored election (x ∷ h) ≡ stored election h
 top_stays x h none = ap (λ w. join (upper (holds h x.beat x.actor w) (last_write election h))) none
 
 pub held_stays : (doc : Doc) (high k : ℕ) (x : Entry) (h : List Entry) → Inv doc high k h → Grows doc high (view h) (view (x ∷ h)) → stored election (x ∷ h) ≡ stored election h → IfSome (stored election (x ∷ h)) (HeldRight doc k (view (x ∷ h)))
@@ -205,8 +205,8 @@ pub numbers_closed : (doc : Doc) (high k : ℕ) (h : List Entry) → Inv doc hig
 numbers_closed doc high k h s x more =
     for_old (EntryNumbered h) (EntryNumbered (x ∷ h)) h
     (λ e r. (
-      if_some (sent_of e.actor e.deed) (λ s. NumberedIn h s.who s.call) (λ s. NumberedIn (x ∷ h) s.who s.call) (λ s r. more s.who s.call r) r.0,
-      if_some (back_of e.actor e.deed) (λ b. NumberedIn h b.who b.call) (λ b. NumberedIn (x ∷ h) b.who b.call) (λ b r. more b.who b.call r) r.1,
+      if_some (sent_of e.actor e.fact) (λ s. NumberedIn h s.who s.call) (λ s. NumberedIn (x ∷ h) s.who s.call) (λ s r. more s.who s.call r) r.0,
+      if_some (back_of e.actor e.fact) (λ b. NumberedIn h b.who b.call) (λ b. NumberedIn (x ∷ h) b.who b.call) (λ b r. more b.who b.call r) r.1,
     ))
     s.numbers
 

@@ -84,8 +84,8 @@ may_more doc high v w g q d r m = record { controller = λ is. asked (m.controll
 
 pub entry_more : (doc : Doc) (high k : ℕ) (v w : View) → Grows doc high v w → (e : Entry) → EntryRight doc high k v e → EntryRight doc high k w e
 entry_more doc high k v w g e r = (
-  if_some (sent_of e.actor e.deed) (SentRight doc high k v) (SentRight doc high k w) (λ s r. record { may = may_more doc high v w g s.who s.call.sent s.call.request r.may; later = r.later }) r.0,
-  if_some (back_of e.actor e.deed) (BackRight doc high k v e.beat) (BackRight doc high k w e.beat) (λ b r. record { later = r.later; elsewhere = r.elsewhere; answer = λ is. answer_more b (r.answer is) }) r.1,
+  if_some (sent_of e.actor e.fact) (SentRight doc high k v) (SentRight doc high k w) (λ s r. record { may = may_more doc high v w g s.who s.call.sent s.call.request r.may; later = r.later }) r.0,
+  if_some (back_of e.actor e.fact) (BackRight doc high k v e.beat) (BackRight doc high k w e.beat) (λ b r. record { later = r.later; elsewhere = r.elsewhere; answer = λ is. answer_more b (r.answer is) }) r.1,
 )
   where
     answer_more : (b : Back) → AnswerRight doc high k v b.who e.beat b.call b.reply → AnswerRight doc high k w b.who e.beat b.call b.reply

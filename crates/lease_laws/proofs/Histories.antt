@@ -28,7 +28,7 @@ record PutHeld (h : List Entry) (x : Held) : Type 0 where
   by : x.by ≡ None
 
 abbrev Silent : Entry → Type 0
-Silent e = (sent_of e.actor e.deed ≡ None) × (back_of e.actor e.deed ≡ None)
+Silent e = (sent_of e.actor e.fact ≡ None) × (back_of e.actor e.fact ≡ None)
 
 -- nothing but puts
 record Puts (h : List Entry) : Type 0 where
@@ -72,8 +72,8 @@ none_for o P is = subst (λ o. IfSome o P) (sym is) tt
 puts_right : (doc : Doc) (high : ℕ) (h : List Entry) → Puts h → Inv doc high 0 h
 puts_right doc high h s = record {
   held = held (stored election h) s.held;
-  entries = λ e at. (none_for (sent_of e.actor e.deed) (SentRight doc high 0 (view h)) (s.silent e at).0, none_for (back_of e.actor e.deed) (BackRight doc high 0 (view h) e.beat) (s.silent e at).1);
-  numbers = λ e at. (none_for (sent_of e.actor e.deed) (λ x. NumberedIn h x.who x.call) (s.silent e at).0, none_for (back_of e.actor e.deed) (λ x. NumberedIn h x.who x.call) (s.silent e at).1);
+  entries = λ e at. (none_for (sent_of e.actor e.fact) (SentRight doc high 0 (view h)) (s.silent e at).0, none_for (back_of e.actor e.fact) (BackRight doc high 0 (view h) e.beat) (s.silent e at).1);
+  numbers = λ e at. (none_for (sent_of e.actor e.fact) (λ x. NumberedIn h x.who x.call) (s.silent e at).0, none_for (back_of e.actor e.fact) (λ x. NumberedIn h x.who x.call) (s.silent e at).1);
   shown = λ q role. none_for (shown q h) _ (s.shown q);
   led = λ q role. none_for (deadline doc q h) (Led doc high (view h) q) (s.deadline doc q);
   lives = λ p i up. absurd (none_is i (sym (s.alive p) ∙ up));

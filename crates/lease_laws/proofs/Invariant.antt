@@ -112,7 +112,7 @@ pub record BackRight (doc : Doc) (high k : ℕ) (v : View) (b : ℕ) (x : Back) 
   pub answer : is_controller doc x.who.process ≡ true → AnswerRight doc high k v x.who b x.call x.reply
 
 abbrev pub EntryRight : Doc → ℕ → ℕ → View → Entry → Type 0
-EntryRight doc high k v e = IfSome (sent_of e.actor e.deed) (SentRight doc high k v) × IfSome (back_of e.actor e.deed) (BackRight doc high k v e.beat)
+EntryRight doc high k v e = IfSome (sent_of e.actor e.fact) (SentRight doc high k v) × IfSome (back_of e.actor e.fact) (BackRight doc high k v e.beat)
 
 -- a call's number was given, and with the number of the call that waits it is that call
 pub record Numbered (n : ℕ) (waits : Option Call) (c : Call) : Type 0 where
@@ -123,7 +123,7 @@ abbrev pub NumberedIn : List Entry → Identity → Call → Type 0
 NumberedIn h q c = Numbered (begun q h) (call_in q h) c
 
 abbrev pub EntryNumbered : List Entry → Entry → Type 0
-EntryNumbered h e = IfSome (sent_of e.actor e.deed) (λ s. NumberedIn h s.who s.call) × IfSome (back_of e.actor e.deed) (λ b. NumberedIn h b.who b.call)
+EntryNumbered h e = IfSome (sent_of e.actor e.fact) (λ s. NumberedIn h s.who s.call) × IfSome (back_of e.actor e.fact) (λ b. NumberedIn h b.who b.call)
 
 pub record HeldRight (doc : Doc) (k : ℕ) (v : View) (x : Held) : Type 0 where
   pub version : x.version.0 ≤ v.writes

@@ -22,22 +22,22 @@ use Rattle.lease_laws.proofs.Grown.{Grows}
 use Rattle.lease_laws.proofs.EachKind.{entries_more, shown_more, leading_more, numbers_closed, top_stays, held_stays}
 
 pub record Quiet (x : Entry) : Type 0 where
-  pub write : at_key election (write_of x.deed) ≡ None
-  pub life : (p : ℕ) → life_says p x.actor x.deed ≡ None
-  pub start : is_start x.deed ≡ false
-  pub stop : is_stop x.deed ≡ false
-  pub send : is_send x.deed ≡ false
-  pub call : (q : Identity) → call_says q x.actor x.deed ≡ None
-  pub shows : (q : Identity) → shows q x.actor x.deed ≡ None
-  pub deadline : (doc : Doc) (q : Identity) (led : Bool) → deadline_says doc q x.beat x.actor led x.deed ≡ None
-  pub event : (f : What → Option ℕ) → of_event f x.deed ≡ None
-  pub sent : sent_of x.actor x.deed ≡ None
-  pub back : back_of x.actor x.deed ≡ None
+  pub write : at_key election (write_of x.fact) ≡ None
+  pub life : (p : ℕ) → life_says p x.actor x.fact ≡ None
+  pub start : is_start x.fact ≡ false
+  pub stop : is_stop x.fact ≡ false
+  pub send : is_send x.fact ≡ false
+  pub call : (q : Identity) → call_says q x.actor x.fact ≡ None
+  pub shows : (q : Identity) → shows q x.actor x.fact ≡ None
+  pub deadline : (doc : Doc) (q : Identity) (led : Bool) → deadline_says doc q x.beat x.actor led x.fact ≡ None
+  pub event : (f : What → Option ℕ) → of_event f x.fact ≡ None
+  pub sent : sent_of x.actor x.fact ≡ None
+  pub back : back_of x.actor x.fact ≡ None
 
 pub keep_quiet : (doc : Doc) (high k : ℕ) (h : List Entry) (x : Entry) → Quiet x → Inv doc high k h → Inv doc high k (x ∷ h)
 keep_quiet doc high k h x quiet s =
     let same_top = top_stays x h quiet.write in
-    let g : Grows doc high (view h) (view (x ∷ h)) = record { writes = added_more (has (write_of x.deed)) (writes h); stops = λ p. added_more (is_stop x.deed && is_by p x.actor) (stops p h); top = inl same_top } in
+    let g : Grows doc high (view h) (view (x ∷ h)) = record { writes = added_more (has (write_of x.fact)) (writes h); stops = λ p. added_more (is_stop x.fact && is_by p x.actor) (stops p h); top = inl same_top } in
     record {
       held = held_stays doc high k x h s g same_top;
       entries = entries_more doc high k h x s g
@@ -52,17 +52,17 @@ keep_quiet doc high k h x quiet s =
       lives = λ p i up.
           let old = s.lives p i (ap (λ t. join (upper t (life p h))) (sym (quiet.life p)) ∙ up) in (
             ap (λ b. added (b && is_by (identity p i) x.actor) (stops (identity p i) h)) quiet.stop ∙ old.0,
-            omega (arith, old.1, added_more (is_start x.deed && has (of_process p x.actor)) (starts p h)),
+            omega (arith, old.1, added_more (is_start x.fact && has (of_process p x.actor)) (starts p h)),
           );
       fresh = λ p i more.
           ap (λ b. added (b && is_by (identity p i) x.actor) (stops (identity p i) h)) quiet.stop
-          ∙ s.fresh p i (omega (arith, more, added_more (is_start x.deed && has (of_process p x.actor)) (starts p h)));
+          ∙ s.fresh p i (omega (arith, more, added_more (is_start x.fact && has (of_process p x.actor)) (starts p h)));
       delays = λ p. (subst (λ o. 1 ≤ or_else 1 (upper o (in_force (request_delay_of p) h))) (sym (quiet.event (request_delay_of p))) (s.delays p).0, subst (λ o. 1 ≤ or_else 1 (upper o (in_force (reply_delay_of p) h))) (sym (quiet.event (reply_delay_of p))) (s.delays p).1);
     }
   where
     numbered : (p : Identity) (c : Call) → NumberedIn h p c → NumberedIn (x ∷ h) p c
     numbered p c r =
-        subst (λ b. Numbered (added (b && is_by p x.actor) (begun p h)) (join (upper (call_says p x.actor x.deed) (last_call p h))) c) (sym quiet.send)
+        subst (λ b. Numbered (added (b && is_by p x.actor) (begun p h)) (join (upper (call_says p x.actor x.fact) (last_call p h))) c) (sym quiet.send)
         (subst (λ o. Numbered (begun p h) (join (upper o (last_call p h))) c) (sym (quiet.call p)) r)
 
 -- ---- a tick

@@ -267,8 +267,8 @@ Kept doc high k h = k ≤ end_beat doc → Inv doc high k h
 
 entry_later : (doc : Doc) (high k m : ℕ) → k ≤ m → (v : View) (e : Entry) → EntryRight doc high k v e → EntryRight doc high m v e
 entry_later doc high k m le v e r = (
-  if_some (sent_of e.actor e.deed) (SentRight doc high k v) (SentRight doc high m v) (λ s r. record { may = r.may; later = r.later }) r.0,
-  if_some (back_of e.actor e.deed) (BackRight doc high k v e.beat) (BackRight doc high m v e.beat) (λ b r. record { later = r.later; elsewhere = r.elsewhere; answer = λ is. answer_later b (r.answer is) }) r.1,
+  if_some (sent_of e.actor e.fact) (SentRight doc high k v) (SentRight doc high m v) (λ s r. record { may = r.may; later = r.later }) r.0,
+  if_some (back_of e.actor e.fact) (BackRight doc high k v e.beat) (BackRight doc high m v e.beat) (λ b r. record { later = r.later; elsewhere = r.elsewhere; answer = λ is. answer_later b (r.answer is) }) r.1,
 )
   where
     answer_later : (b : Back) → AnswerRight doc high k v b.who e.beat b.call b.reply → AnswerRight doc high m v b.who e.beat b.call b.reply

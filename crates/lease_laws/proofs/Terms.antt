@@ -55,10 +55,10 @@ over_stays : (q : Identity) → Stays (Over q)
 over_stays q x h next s = over_more q x h next.0 s
 
 starts_stay : (n p : ℕ) → Stays (λ h. n ≤ starts p h)
-starts_stay n p x h next s = omega (arith, s, added_more (is_start x.deed && has (of_process p x.actor)) (starts p h))
+starts_stay n p x h next s = omega (arith, s, added_more (is_start x.fact && has (of_process p x.actor)) (starts p h))
 
 led_stays : (doc : Doc) (q : Identity) → Stays (λ h. has (deadline doc q h) ≡ true)
-led_stays doc q x h next s = cases (deadline_says doc q x.beat x.actor (leads q h) x.deed)
+led_stays doc q x h next s = cases (deadline_says doc q x.beat x.actor (leads q h) x.fact)
   where
     cases : (o : Option ℕ) → has (upper o (deadline doc q h)) ≡ true
     cases None = s

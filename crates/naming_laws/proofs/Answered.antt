@@ -27,7 +27,7 @@ use Rattle.history.specs.Printed.{answer_act, map_answer}
 use Rattle.manifest_json.specs.Fields.{Texts}
 use Rattle.manifest_json.specs.Readable.{IsHeld, IsTime}
 use Rattle.naming_laws.specs.Items.{IsWritableCondition, IsWritableReady, IsWritableLease, IsWritableItem}
-use Rattle.naming_laws.proofs.Fits.{IsLeaseKey, IsFitRequest, IsFitReply, IsFitContent, IsFitWrite, IsTold, IsFitDeed, AreFit, stored_fit, IsFitFound, node_stored_fit}
+use Rattle.naming_laws.proofs.Fits.{IsLeaseKey, IsFitRequest, IsFitReply, IsFitContent, IsFitWrite, IsTold, IsFitFact, AreFit, stored_fit, IsFitFound, node_stored_fit}
 use Rattle.naming_laws.proofs.Requests.{HoldsFixed}
 
 pub second_within : (at : ℕ) → whole_second at ≤ at
@@ -168,5 +168,5 @@ module _ (names : Texts) (c : ℕ) (fixed : HoldsFixed names) (h : List Entry) (
       by (Some x) (Some node) = tt
 
   pub answered_fit : (q : Identity) (call : Call) (comes : Option ℕ) → IsFitRequest names c call.request
-      → IsFitDeed names c (actor_of q) (Answered call (answer call.request h) comes (written call.request h))
+      → IsFitFact names c (actor_of q) (Answered call (answer call.request h) comes (written call.request h))
   answered_fit q call comes asked = record { told = answer_told q call.request asked; wrote = answer_written call.request asked; carries = (asked, answer_fit call.request) }

@@ -17,7 +17,7 @@ use Rattle.kube_objects.specs.declared.object.Object.TheVariants as object
 use Rattle.kube_objects.specs.declared.script.What.{What}
 use Rattle.kube_objects.specs.declared.script.What.TheVariants.{Put, Remove, Ready}
 use Rattle.kube_objects.specs.Answers.{as_kind, node_in}
-use Rattle.kube_objects.specs.Entry.{Entry, Identity, Deed, First, Event as Happens, Starts, Crashes, Stops, Ends, Sends, Answers, Delivers, Expires, Leads, Ticks, Tick, Sync}
+use Rattle.kube_objects.specs.Entry.{Entry, Identity, Fact, First, Event as Happens, Starts, Crashes, Stops, Ends, Sends, Answers, Delivers, Expires, Leads, Ticks, Tick, Sync}
 use Rattle.kube_objects.specs.Identities.{is_by}
 use Rattle.kube_objects.specs.Keys.{key_eq}
 use Rattle.kube_objects.specs.Newest.{newest, when, only_if, join}
@@ -68,28 +68,28 @@ abbrev pub IsTold : Texts → Actor → Option Act → Type 0
 IsTold names who None = Unit {0}
 IsTold names who (Some a) = IsWritableAct names a × (is_script who ≡ is_by_script a)
 
-abbrev pub Carries : Texts → ℕ → Deed → Type 0
+abbrev pub Carries : Texts → ℕ → Fact → Type 0
 Carries names c (Sends call arrives) = IsFitRequest names c call.request
 Carries names c (Answers call reply comes written) = IsFitRequest names c call.request × IsFitReply names c reply
 Carries names c (Delivers call reply counted) = IsFitRequest names c call.request × IsFitReply names c reply
 Carries names c (Happens what version) = IsFitWhat names c what
 Carries names c _ = Unit {0}
 
-pub record IsFitDeed (names : Texts) (c : ℕ) (who : Actor) (d : Deed) : Type 0 where
+pub record IsFitFact (names : Texts) (c : ℕ) (who : Actor) (d : Fact) : Type 0 where
   pub told : IsTold names who (act_of d)
   pub wrote : IsFitWrite names c (write_of d)
   pub carries : Carries names c d
 
 abbrev pub AreFit : Texts → ℕ → List Entry → Type 0
 AreFit names c [] = Unit {0}
-AreFit names c (e ∷ h) = IsFitDeed names c e.actor e.deed × AreFit names c h
+AreFit names c (e ∷ h) = IsFitFact names c e.actor e.fact × AreFit names c h
 
 -- ---- what follows for what is stored and seen
 
 module _ (names : Texts) (c : ℕ) where
-  pub fit_in : (e : Entry) (h : List Entry) → AreFit names c h → In e h → IsFitDeed names c e.actor e.deed
+  pub fit_in : (e : Entry) (h : List Entry) → AreFit names c h → In e h → IsFitFact names c e.actor e.fact
   fit_in e [] fit at = absurd at
-  fit_in e (x ∷ h) fit (inl is) = subst (λ (e : Entry). IsFitDeed names c e.actor e.deed) (sym is) fit.0
+  fit_in e (x ∷ h) fit (inl is) = subst (λ (e : Entry). IsFitFact names c e.actor e.fact) (sym is) fit.0
   fit_in e (x ∷ h) fit (inr at) = fit_in e h fit.1 at
 
   fit_tail : (g h : List Entry) → IsTail g h → AreFit names c h → AreFit names c g
@@ -113,14 +113,14 @@ module _ (names : Texts) (c : ℕ) where
   pub stored_fit : (h : List Entry) → AreFit names c h → (key : Key) (x : Held) → stored key h ≡ Some x → IsWritableItem names c key x.object
   stored_fit h fit key x is =
       let w = (versions_are_given h key x is).0 in
-      subst (IsFitAt key) w.write (fit_at key (write_of w.e.deed) (fit_tail (w.e ∷ w.before) h w.position fit).0.wrote)
+      subst (IsFitAt key) w.write (fit_at key (write_of w.e.fact) (fit_tail (w.e ∷ w.before) h w.position fit).0.wrote)
 
   abbrev last_seen : Identity → Key → List Entry → Option (Option Held)
-  last_seen q key = newest (λ e T. seen_says q key e.beat e.actor e.deed T)
+  last_seen q key = newest (λ e T. seen_says q key e.beat e.actor e.fact T)
 
   pub seen_fit : (q : Identity) (h : List Entry) → AreFit names c h → (key : Key) (x : Held) → seen q key h ≡ Some x → IsWritableItem names c key x.object
   seen_fit q [] fit key x is = absurd (none_is x is)
-  seen_fit q (e ∷ h) fit key x is = cases (λ is. seen_fit q h fit.1 key x is) e.actor e.deed fit.0.wrote is
+  seen_fit q (e ∷ h) fit key x is = cases (λ is. seen_fit q h fit.1 key x is) e.actor e.fact fit.0.wrote is
     where
       Item : Type 0
       Item = IsWritableItem names c key x.object
@@ -138,7 +138,7 @@ module _ (names : Texts) (c : ℕ) where
       by_own below who t true wrote is = own below who t wrote is
       by_own below who t false wrote is = below is
 
-      cases : (seen q key h ≡ Some x → Item) → (who : Actor) (d : Deed) → IsFitWrite names c (write_of d) → join (upper (seen_says q key e.beat who d h) (last_seen q key h)) ≡ Some x → Item
+      cases : (seen q key h ≡ Some x → Item) → (who : Actor) (d : Fact) → IsFitWrite names c (write_of d) → join (upper (seen_says q key e.beat who d h) (last_seen q key h)) ≡ Some x → Item
       cases below who (Ticks t) wrote is = by_own below who t (is_by q who) wrote is
       cases below who (First key object) wrote is = below is
       cases below who (Happens what version) wrote is = below is

@@ -17,7 +17,7 @@ use Rattle.kube_objects.specs.declared.script.What.{What}
 use Rattle.kube_objects.specs.declared.script.What.TheVariants as what
 use Rattle.kube_objects.specs.Clocks.{store_wall, whole_second}
 use Rattle.kube_objects.specs.Document.{Doc, processes, process_at, field, is_controller, end_beat}
-use Rattle.kube_objects.specs.Entry.{Entry, Identity, Call, Deed, First, Event as Happens, Starts, Crashes, Stops, Ends, Sends, Answers, Delivers, Expires, Leads, Ticks, actor_of, entry, script_entry}
+use Rattle.kube_objects.specs.Entry.{Entry, Identity, Call, Fact, First, Event as Happens, Starts, Crashes, Stops, Ends, Sends, Answers, Delivers, Expires, Leads, Ticks, actor_of, entry, script_entry}
 use Rattle.kube_objects.specs.Identities.{identity, of_process}
 use Rattle.kube_objects.specs.InForce.{first_status}
 use Rattle.kube_objects.specs.Kubelet.{node_of}
@@ -43,7 +43,7 @@ use Rattle.script_reader.specs.Walk.{numbers_of}
 use Rattle.naming_laws.specs.Items.{IsWritableItem}
 use Rattle.naming_laws.specs.Laws.{DeedsAreWritable, ItemsAreWritable}
 use Rattle.naming_laws.proofs.Answered.{second_within, answered_fit}
-use Rattle.naming_laws.proofs.Fits.{IsFitRequest, IsFitReply, IsFitWhat, IsTold, Carries, IsFitDeed, AreFit, fit_in, stored_fit}
+use Rattle.naming_laws.proofs.Fits.{IsFitRequest, IsFitReply, IsFitWhat, IsTold, Carries, IsFitFact, AreFit, fit_in, stored_fit}
 use Rattle.naming_laws.proofs.Lists.{all_append, all_at}
 use Rattle.naming_laws.proofs.Readings.{item_fit, stamped_fit, posted_is, scripted_lawful, scripted_fit}
 use Rattle.naming_laws.proofs.Requests.{HoldsFixed, IsEarly, AsksFit, election_key, node_lease_key, waiting_fit, follow_fit, attempt_fit, release_fit, next_fit, post_fit}
@@ -65,7 +65,7 @@ actor_in n e (x ∷ h) are (inr at) = actor_in n e h are.1 at
 -- who is up has an entry
 up_within : (n p i : ℕ) (h : List Entry) → ActorsAre n h → alive p h ≡ Some i → p < n
 up_within n p i [] are up = absurd (none_is i up)
-up_within n p i (e ∷ h) are up = cases (λ up. up_within n p i h are.1 up) e.actor e.deed are.0 up
+up_within n p i (e ∷ h) are up = cases (λ up. up_within n p i h are.1 up) e.actor e.fact are.0 up
   where
     Below : Type 0
     Below = alive p h ≡ Some i → p < n
@@ -85,7 +85,7 @@ up_within n p i (e ∷ h) are up = cases (λ up. up_within n p i h are.1 up) e.a
         by None up = below up
         by (Some j) up = absurd (none_is i up)
 
-    cases : Below → (who : Actor) (d : Deed) → IsOneOf n who → join (upper (life_says p who d) (life p h)) ≡ Some i → p < n
+    cases : Below → (who : Actor) (d : Fact) → IsOneOf n who → join (upper (life_says p who d) (life p h)) ≡ Some i → p < n
     cases below who Starts is up = starts below who is up
     cases below who Crashes is up = ends below who up
     cases below who Stops is up = ends below who up
@@ -109,7 +109,7 @@ abbrev IsFitBack : Texts → ℕ → ℕ → Option Back → Type 0
 IsFitBack names c n None = Unit {0}
 IsFitBack names c n (Some x) = (x.who.process < n) × IsFitRequest names c x.call.request × IsFitReply names c x.reply
 
-sent_fit : (names : Texts) (c n : ℕ) (who : Actor) (d : Deed) → IsOneOf n who → Carries names c d → IsFitSent names c n (sent_of who d)
+sent_fit : (names : Texts) (c n : ℕ) (who : Actor) (d : Fact) → IsOneOf n who → Carries names c d → IsFitSent names c n (sent_of who d)
 sent_fit names c n actor.Script (Sends call arrives) is carries = tt
 sent_fit names c n (actor.Proc id incarnation) (Sends call arrives) is carries = (is, carries)
 sent_fit names c n who (First key object) is carries = tt
@@ -124,7 +124,7 @@ sent_fit names c n who (Expires call) is carries = tt
 sent_fit names c n who (Leads version) is carries = tt
 sent_fit names c n who (Ticks t) is carries = tt
 
-back_fit : (names : Texts) (c n : ℕ) (who : Actor) (d : Deed) → IsOneOf n who → Carries names c d → IsFitBack names c n (back_of who d)
+back_fit : (names : Texts) (c n : ℕ) (who : Actor) (d : Fact) → IsOneOf n who → Carries names c d → IsFitBack names c n (back_of who d)
 back_fit names c n actor.Script (Answers call reply comes written) is carries = tt
 back_fit names c n (actor.Proc id incarnation) (Answers call reply comes written) is carries = (is, carries.0, carries.1)
 back_fit names c n who (First key object) is carries = tt
@@ -162,7 +162,7 @@ module _ (names : Texts) (doc : Doc) (fixed : HoldsFixed names) (lawful : IsLawf
   abbrev Well : ℕ → ℕ → List Entry → Type 0
   Well k step h = k ≤ end_beat doc + 1 → StartsAreOfOne n h → IsWell names c n h
 
-  more : (k step : ℕ) (q : Identity) (d : Deed) (h : List Entry) → q.process < n → IsFitDeed names c (actor_of q) d → IsWell names c n h → IsWell names c n (entry k step q d ∷ h)
+  more : (k step : ℕ) (q : Identity) (d : Fact) (h : List Entry) → q.process < n → IsFitFact names c (actor_of q) d → IsWell names c n h → IsWell names c n (entry k step q d ∷ h)
   more k step q d h below fit well = record { fit = (fit, well.fit); actors = (below, well.actors) }
 
   controller_below : (p : ℕ) → is_controller doc p ≡ true → p < c
@@ -203,24 +203,24 @@ module _ (names : Texts) (doc : Doc) (fixed : HoldsFixed names) (lawful : IsLawf
   stamped_what k (what.Stop id) le fit = tt
   stamped_what k (what.Watch id on) le fit = tt
 
-  event_deed : (w : What) (h : List Entry) → IsFitWhat names c w → IsFitDeed names c actor.Script (Happens w (event_version w h))
-  event_deed (what.Put key object) h fit = record { told = (record { form = refl; held = (fit.space, (fit.name, tt)); timely = tt }, refl); wrote = fit; carries = fit }
-  event_deed (what.Remove key) h fit = by_found (has (stored key h))
+  event_fact : (w : What) (h : List Entry) → IsFitWhat names c w → IsFitFact names c actor.Script (Happens w (event_version w h))
+  event_fact (what.Put key object) h fit = record { told = (record { form = refl; held = (fit.space, (fit.name, tt)); timely = tt }, refl); wrote = fit; carries = fit }
+  event_fact (what.Remove key) h fit = by_found (has (stored key h))
     where
-      by_found : (b : Bool) → IsFitDeed names c actor.Script (Happens (what.Remove key) (when b (next_version h)))
+      by_found : (b : Bool) → IsFitFact names c actor.Script (Happens (what.Remove key) (when b (next_version h)))
       by_found true = record { told = (record { form = refl; held = (fit.0, (fit.1, tt)); timely = tt }, refl); wrote = tt; carries = fit }
       by_found false = record { told = tt; wrote = tt; carries = fit }
-  event_deed (what.Ready id status) h fit = record { told = tt; wrote = tt; carries = fit }
-  event_deed (what.Rate id ppm) h fit = record { told = tt; wrote = tt; carries = tt }
-  event_deed (what.Delay id requests replies) h fit = record { told = tt; wrote = tt; carries = tt }
-  event_deed (what.Loss id requests replies) h fit = record { told = tt; wrote = tt; carries = tt }
-  event_deed (what.Crash id) h fit = record { told = tt; wrote = tt; carries = tt }
-  event_deed (what.Start id) h fit = record { told = tt; wrote = tt; carries = tt }
-  event_deed (what.Stop id) h fit = record { told = tt; wrote = tt; carries = tt }
-  event_deed (what.Watch id on) h fit = record { told = tt; wrote = tt; carries = tt }
+  event_fact (what.Ready id status) h fit = record { told = tt; wrote = tt; carries = fit }
+  event_fact (what.Rate id ppm) h fit = record { told = tt; wrote = tt; carries = tt }
+  event_fact (what.Delay id requests replies) h fit = record { told = tt; wrote = tt; carries = tt }
+  event_fact (what.Loss id requests replies) h fit = record { told = tt; wrote = tt; carries = tt }
+  event_fact (what.Crash id) h fit = record { told = tt; wrote = tt; carries = tt }
+  event_fact (what.Start id) h fit = record { told = tt; wrote = tt; carries = tt }
+  event_fact (what.Stop id) h fit = record { told = tt; wrote = tt; carries = tt }
+  event_fact (what.Watch id on) h fit = record { told = tt; wrote = tt; carries = tt }
 
-  event_at : (k : ℕ) (w : What) (h : List Entry) → Scripted doc k w → k ≤ end_beat doc + 1 → IsFitDeed names c actor.Script (Happens (stamp doc k w) (event_version w h))
-  event_at k w h scripted le = subst (λ v. IsFitDeed names c actor.Script (Happens (stamp doc k w) v)) (same w) (event_deed (stamp doc k w) h (stamped_what k w le (scripted_fit names doc fixed lawful named k w scripted)))
+  event_at : (k : ℕ) (w : What) (h : List Entry) → Scripted doc k w → k ≤ end_beat doc + 1 → IsFitFact names c actor.Script (Happens (stamp doc k w) (event_version w h))
+  event_at k w h scripted le = subst (λ v. IsFitFact names c actor.Script (Happens (stamp doc k w) v)) (same w) (event_fact (stamp doc k w) h (stamped_what k w le (scripted_fit names doc fixed lawful named k w scripted)))
     where
       same : (w : What) → event_version (stamp doc k w) h ≡ event_version w h
       same (what.Put key object) = refl
@@ -234,40 +234,40 @@ module _ (names : Texts) (doc : Doc) (fixed : HoldsFixed names) (lawful : IsLawf
       same (what.Stop id) = refl
       same (what.Watch id on) = refl
 
-  -- ---- simple deeds of processes
+  -- ---- simple facts of processes
 
-  start_deed : (q : Identity) → IsFitDeed names c (actor_of q) Starts
-  start_deed q = record { told = (record { form = refl; held = tt; timely = tt }, refl); wrote = tt; carries = tt }
+  start_fact : (q : Identity) → IsFitFact names c (actor_of q) Starts
+  start_fact q = record { told = (record { form = refl; held = tt; timely = tt }, refl); wrote = tt; carries = tt }
 
-  crash_deed : (q : Identity) → IsFitDeed names c (actor_of q) Crashes
-  crash_deed q = record { told = (record { form = refl; held = tt; timely = tt }, refl); wrote = tt; carries = tt }
+  crash_fact : (q : Identity) → IsFitFact names c (actor_of q) Crashes
+  crash_fact q = record { told = (record { form = refl; held = tt; timely = tt }, refl); wrote = tt; carries = tt }
 
-  stop_deed : (q : Identity) → IsFitDeed names c (actor_of q) Stops
-  stop_deed q = record { told = (record { form = refl; held = tt; timely = tt }, refl); wrote = tt; carries = tt }
+  stop_fact : (q : Identity) → IsFitFact names c (actor_of q) Stops
+  stop_fact q = record { told = (record { form = refl; held = tt; timely = tt }, refl); wrote = tt; carries = tt }
 
-  end_deed : (q : Identity) → IsFitDeed names c (actor_of q) Ends
-  end_deed q = record { told = (record { form = refl; held = tt; timely = tt }, refl); wrote = tt; carries = tt }
+  end_fact : (q : Identity) → IsFitFact names c (actor_of q) Ends
+  end_fact q = record { told = (record { form = refl; held = tt; timely = tt }, refl); wrote = tt; carries = tt }
 
-  lead_deed : (q : Identity) (version : Version) → IsFitDeed names c (actor_of q) (Leads version)
-  lead_deed q version = record { told = (record { form = refl; held = tt; timely = tt }, refl); wrote = tt; carries = tt }
+  lead_fact : (q : Identity) (version : Version) → IsFitFact names c (actor_of q) (Leads version)
+  lead_fact q version = record { told = (record { form = refl; held = tt; timely = tt }, refl); wrote = tt; carries = tt }
 
-  expire_deed : (q : Identity) (call : Call) → IsFitDeed names c (actor_of q) (Expires call)
-  expire_deed q call = record { told = tt; wrote = tt; carries = tt }
+  expire_fact : (q : Identity) (call : Call) → IsFitFact names c (actor_of q) (Expires call)
+  expire_fact q call = record { told = tt; wrote = tt; carries = tt }
 
-  send_deed : (q : Identity) (call : Call) (arrives : Option ℕ) → IsFitRequest names c call.request → IsFitDeed names c (actor_of q) (Sends call arrives)
-  send_deed q call arrives fit = record { told = tt; wrote = tt; carries = fit }
+  send_fact : (q : Identity) (call : Call) (arrives : Option ℕ) → IsFitRequest names c call.request → IsFitFact names c (actor_of q) (Sends call arrives)
+  send_fact q call arrives fit = record { told = tt; wrote = tt; carries = fit }
 
-  deliver_deed : (q : Identity) (call : Call) (b : Back) (counts : Bool) → IsFitRequest names c call.request → IsFitReply names c b.reply
-      → IsFitDeed names c (actor_of q) (Delivers call b.reply counts)
-  deliver_deed q call b counts asked replied = record { told = tt; wrote = tt; carries = (asked, replied) }
+  deliver_fact : (q : Identity) (call : Call) (b : Back) (counts : Bool) → IsFitRequest names c call.request → IsFitReply names c b.reply
+      → IsFitFact names c (actor_of q) (Delivers call b.reply counts)
+  deliver_fact q call b counts asked replied = record { told = tt; wrote = tt; carries = (asked, replied) }
 
   arriving_fit : (k : ℕ) (h : List Entry) (x : Sent) → Arriving k h x → IsWell names c n h → IsFitSent names c n (Some x)
   arriving_fit k h x at well =
-      subst (IsFitSent names c n) at.is (sent_fit names c n at.e.actor at.e.deed (actor_in n at.e h well.actors at.stands) (fit_in names c at.e h well.fit at.stands).carries)
+      subst (IsFitSent names c n) at.is (sent_fit names c n at.e.actor at.e.fact (actor_in n at.e h well.actors at.stands) (fit_in names c at.e h well.fit at.stands).carries)
 
   coming_fit : (k : ℕ) (h : List Entry) (b : Back) → Coming k h b → IsWell names c n h → IsFitBack names c n (Some b)
   coming_fit k h b at well =
-      subst (IsFitBack names c n) at.is (back_fit names c n at.e.actor at.e.deed (actor_in n at.e h well.actors at.stands) (fit_in names c at.e h well.fit at.stands).carries)
+      subst (IsFitBack names c n) at.is (back_fit names c n at.e.actor at.e.fact (actor_in n at.e h well.actors at.stands) (fit_in names c at.e h well.fit at.stands).carries)
 
   waits_fit : (q : Identity) (k number : ℕ) (h : List Entry) (waiting : Call) → counted doc q k number h ≡ Some waiting → IsWell names c n h → IsFitRequest names c waiting.request
   waits_fit q k number h waiting is well = waiting_fit names c fixed q h well.fit waiting (counted_is doc q k number h waiting is).waits
@@ -286,19 +286,19 @@ module _ (names : Texts) (doc : Doc) (fixed : HoldsFixed names) (lawful : IsLawf
 
   keeps_turn : KeepsTurn doc (Ticking doc) (λ k h. Well k 4 h)
   keeps_turn = record {
-    restarts = λ k p h s le good. record { fit = (start_deed _, (s le good.1).fit); actors = (good.0, (s le good.1).actors) };
+    restarts = λ k p h s le good. record { fit = (start_fact _, (s le good.1).fit); actors = (good.0, (s le good.1).actors) };
     expires = λ k p i call h up waits late s le good. let well = s le good.1 in
-        more k 4 (identity p i) (Expires call) h (up_within n p i h well.actors up) (expire_deed (identity p i) call) well;
-    ends = λ k p i at h role up is before s le good. more k 4 (identity p i) Ends h (controller_within p role) (end_deed (identity p i)) (s le good.1);
-    polls = λ k p i h role up waits s le good. more k 4 (identity p i) (Sends _ _) h (controller_within p role) (send_deed (identity p i) _ _ (election_key names c fixed)) (s le good.1);
+        more k 4 (identity p i) (Expires call) h (up_within n p i h well.actors up) (expire_fact (identity p i) call) well;
+    ends = λ k p i at h role up is before s le good. more k 4 (identity p i) Ends h (controller_within p role) (end_fact (identity p i)) (s le good.1);
+    polls = λ k p i h role up waits s le good. more k 4 (identity p i) (Sends _ _) h (controller_within p role) (send_fact (identity p i) _ _ (election_key names c fixed)) (s le good.1);
     attempts = λ k p i h role up waits s le good. let well = s le good.1 in
         more k 4 (identity p i) (Sends _ _) h (controller_within p role)
-        (send_deed (identity p i) _ _ (attempt_fit names c fixed doc (identity p i) k (controller_below p role) (early p k le) h well.fit)) well;
+        (send_fact (identity p i) _ _ (attempt_fit names c fixed doc (identity p i) k (controller_below p role) (early p k le) h well.fit)) well;
     seeks = λ k p i call h role up expired post s le good. let well = s le good.1 in
-        more k 4 (identity p i) (Sends _ _) h (up_within n p i h well.actors up) (send_deed (identity p i) _ _ (node_lease_key names c fixed (node_of doc p) (node_held p))) well;
+        more k 4 (identity p i) (Sends _ _) h (up_within n p i h well.actors up) (send_fact (identity p i) _ _ (node_lease_key names c fixed (node_of doc p) (node_held p))) well;
     posts = λ k p i h role up none s le good. let well = s le good.1 in
         more k 4 (identity p i) (Sends _ _) h (up_within n p i h well.actors up)
-        (send_deed (identity p i) _ _ (post_fit names c fixed doc (identity p i) k (node_held p) (early p k le) h (first_posted p) well.fit)) well;
+        (send_fact (identity p i) _ _ (post_fit names c fixed doc (identity p i) k (node_held p) (early p k le) h (first_posted p) well.fit)) well;
     ticks = λ k q h ticking s le good. tick_well k q h ticking s le good;
   }
 
@@ -307,15 +307,15 @@ module _ (names : Texts) (doc : Doc) (fixed : HoldsFixed names) (lawful : IsLawf
     on = λ k step h s. s;
     next = λ k s le good. s (omega (arith, le)) good;
     event = λ k w h scripted s le good. record { fit = (event_at k w h scripted le, (s le good.1).fit); actors = (tt, (s le good.1).actors) };
-    starts = λ k step p h s le good. record { fit = (start_deed _, (s le good.1).fit); actors = (good.0, (s le good.1).actors) };
-    crashes = λ k p i h up s le good. let well = s le good.1 in more k 1 (identity p i) Crashes h (up_within n p i h well.actors up) (crash_deed (identity p i)) well;
+    starts = λ k step p h s le good. record { fit = (start_fact _, (s le good.1).fit); actors = (good.0, (s le good.1).actors) };
+    crashes = λ k p i h up s le good. let well = s le good.1 in more k 1 (identity p i) Crashes h (up_within n p i h well.actors up) (crash_fact (identity p i)) well;
     stops = λ k id i h scripted up s le good.
-        more k 1 (identity id.0 i) Stops h (controller_within id.0 (scripted_lawful names doc fixed lawful named k (what.Stop id) scripted)) (stop_deed (identity id.0 i)) (s le good.1);
+        more k 1 (identity id.0 i) Stops h (controller_within id.0 (scripted_lawful names doc fixed lawful named k (what.Stop id) scripted)) (stop_fact (identity id.0 i)) (s le good.1);
     releases = λ k id i before request scripted up is was s le good.
         let role = scripted_lawful names doc fixed lawful named k (what.Stop id) scripted in
         let well = s le good.1 in
         more k 1 (identity id.0 i) (Sends _ _) (stopped_at k id i before) (controller_within id.0 role)
-        (send_deed (identity id.0 i) _ _ (release_fit names c fixed doc (identity id.0 i) k (controller_below id.0 role) (early id.0 k le) before well.fit.1.1 request is)) well;
+        (send_fact (identity id.0 i) _ _ (release_fit names c fixed doc (identity id.0 i) k (controller_below id.0 role) (early id.0 k le) before well.fit.1.1 request is)) well;
     answers = λ k x h at s le good.
         let well = s le good.1 in
         let sent = arriving_fit k h x at well in
@@ -323,22 +323,22 @@ module _ (names : Texts) (doc : Doc) (fixed : HoldsFixed names) (lawful : IsLawf
     ignores = λ k b h coming is s le good.
         let well = s le good.1 in
         let back = coming_fit k h b coming well in
-        more k 3 b.who (Delivers _ _ _) h back.0 (deliver_deed b.who b.call b false back.1 back.2) well;
+        more k 3 b.who (Delivers _ _ _) h back.0 (deliver_fact b.who b.call b false back.1 back.2) well;
     counts = λ k b waiting h coming is s le good.
         let well = s le good.1 in
         let back = coming_fit k h b coming well in
-        more k 3 b.who (Delivers _ _ _) h back.0 (deliver_deed b.who waiting b true (waits_fit b.who k b.call.number h waiting is well) back.2) well;
+        more k 3 b.who (Delivers _ _ _) h back.0 (deliver_fact b.who waiting b true (waits_fit b.who k b.call.number h waiting is well) back.2) well;
     follows = λ k b waiting h request coming is role follows was s le good.
         let back = coming_fit k h b coming (was le good.1.1) in
-        more k 3 b.who (Sends _ _) (after_reply k b waiting h) back.0 (send_deed b.who _ _ (subst (AsksFit names c) follows
+        more k 3 b.who (Sends _ _) (after_reply k b waiting h) back.0 (send_fact b.who _ _ (subst (AsksFit names c) follows
         (follow_fit names c fixed doc b.who k (controller_below b.who.process role) (early b.who.process k le) waiting.kind waiting.request b.reply (after_reply k b waiting h) back.2))) (s le good.1);
     leads = λ k b waiting h version coming is role follows was s le good.
         let back = coming_fit k h b coming (was le good.1.1) in
-        more k 3 b.who (Leads version) (after_reply k b waiting h) back.0 (lead_deed b.who version) (s le good.1);
+        more k 3 b.who (Leads version) (after_reply k b waiting h) back.0 (lead_fact b.who version) (s le good.1);
     asks = λ k b waiting h request coming is role asked was s le good.
         let well = was le good.1.1 in
         let back = coming_fit k h b coming well in
-        more k 3 b.who (Sends _ _) (after_reply k b waiting h) back.0 (send_deed b.who _ _
+        more k 3 b.who (Sends _ _) (after_reply k b waiting h) back.0 (send_fact b.who _ _
         (next_fit names c fixed doc b.who k (node_held b.who.process) (early b.who.process k le) waiting.request b.reply request (waits_fit b.who k b.call.number h waiting is well) back.2 asked)) (s le good.1);
     turns = keeps_turn;
   }
@@ -364,7 +364,7 @@ module _ (names : Texts) (doc : Doc) (fixed : HoldsFixed names) (lawful : IsLawf
 printed_writable : (names : Texts) (c n : ℕ) (h : List Entry) → AreFit names c h → ActorsAre n h → AllByRecursion (IsWritable names n) (printed h)
 printed_writable names c n [] fit are = tt
 printed_writable names c n (e ∷ h) fit are =
-    all_append (IsWritable names n) (printed h) (deeds_of e.beat e.actor (act_of e.deed)) (printed_writable names c n h fit.1 are.1) (by_act (act_of e.deed) fit.0.told)
+    all_append (IsWritable names n) (printed h) (deeds_of e.beat e.actor (act_of e.fact)) (printed_writable names c n h fit.1 are.1) (by_act (act_of e.fact) fit.0.told)
   where
     by_act : (o : Option Act) → IsTold names e.actor o → AllByRecursion (IsWritable names n) (deeds_of e.beat e.actor o)
     by_act None told = tt

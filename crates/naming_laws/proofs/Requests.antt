@@ -15,7 +15,7 @@ use Rattle.kube_objects.specs.declared.script.What.TheVariants as what
 use Rattle.kube_objects.specs.Clocks.{local, wall}
 use Rattle.kube_objects.specs.Document.{Doc}
 use Rattle.kube_objects.specs.Elector.{Shown, Follow, Fails, Asks, told, shows, shown, observed_at, leads, renewed, taken, updated, given_up, follow_on, not_done, is_blocked, is_valid, attempt, attempt_from, release, release_from}
-use Rattle.kube_objects.specs.Entry.{Entry, Identity, Call, CallKind, Plain, Fast, Release, Deed, First, Event as Happens, Starts, Crashes, Stops, Ends, Sends, Answers, Delivers, Expires, Leads, Ticks}
+use Rattle.kube_objects.specs.Entry.{Entry, Identity, Call, CallKind, Plain, Fast, Release, Fact, First, Event as Happens, Starts, Crashes, Stops, Ends, Sends, Answers, Delivers, Expires, Leads, Ticks}
 use Rattle.kube_objects.specs.Identities.{is_by, is_own}
 use Rattle.kube_objects.specs.InForce.{status_of, first_status}
 use Rattle.kube_objects.specs.Kubelet.{node_of, heartbeat_lease, next_request, post}
@@ -73,7 +73,7 @@ module _ (names : Texts) (c : ℕ) (fixed : HoldsFixed names) where
 
   pub shown_fit : (q : Identity) (h : List Entry) → AreFit names c h → (x : Shown) → shown q h ≡ Some x → IsWritableLease names c x.1
   shown_fit q [] fit x is = absurd (none_is x is)
-  shown_fit q (e ∷ h) fit x is = cases (λ is. shown_fit q h fit.1 x is) e.actor e.deed fit.0.carries is
+  shown_fit q (e ∷ h) fit x is = cases (λ is. shown_fit q h fit.1 x is) e.actor e.fact fit.0.carries is
     where
       Fit : Type 0
       Fit = IsWritableLease names c x.1
@@ -86,7 +86,7 @@ module _ (names : Texts) (c : ℕ) (fixed : HoldsFixed names) where
       by_test below true o new is = by_told below o new is
       by_test below false o new is = below is
 
-      cases : (shown q h ≡ Some x → Fit) → (who : Actor) (d : Deed) → Carries names c d → upper (shows q who d) (shown q h) ≡ Some x → Fit
+      cases : (shown q h ≡ Some x → Fit) → (who : Actor) (d : Fact) → Carries names c d → upper (shows q who d) (shown q h) ≡ Some x → Fit
       cases below who (Delivers call reply counted) carries is =
           by_test below (counted && is_by q who) (told call.request reply) (λ is. told_fit call.request reply carries.0 carries.1 x is) is
       cases below who (First key object) carries is = below is
@@ -103,7 +103,7 @@ module _ (names : Texts) (c : ℕ) (fixed : HoldsFixed names) where
 
   pub waiting_fit : (q : Identity) (h : List Entry) → AreFit names c h → (x : Call) → call_in q h ≡ Some x → IsFitRequest names c x.request
   waiting_fit q [] fit x is = absurd (none_is x is)
-  waiting_fit q (e ∷ h) fit x is = cases (λ is. waiting_fit q h fit.1 x is) e.actor e.deed fit.0.carries is
+  waiting_fit q (e ∷ h) fit x is = cases (λ is. waiting_fit q h fit.1 x is) e.actor e.fact fit.0.carries is
     where
       Fit : Type 0
       Fit = IsFitRequest names c x.request
@@ -121,7 +121,7 @@ module _ (names : Texts) (c : ℕ) (fixed : HoldsFixed names) where
       closes below true is = absurd (none_is x is)
       closes below false is = below is
 
-      cases : (call_in q h ≡ Some x → Fit) → (who : Actor) (d : Deed) → Carries names c d → join (upper (call_says q who d) (last_call q h)) ≡ Some x → Fit
+      cases : (call_in q h ≡ Some x → Fit) → (who : Actor) (d : Fact) → Carries names c d → join (upper (call_says q who d) (last_call q h)) ≡ Some x → Fit
       cases below who (Sends call arrives) carries is = sends below (is_by q who) call carries is
       cases below who (Delivers call reply counted) carries is = closes below (counted && is_by q who) is
       cases below who (Expires call) carries is = closes below (is_by q who) is
@@ -226,7 +226,7 @@ module _ (names : Texts) (c : ℕ) (fixed : HoldsFixed names) where
     -- the status of an event that was in force
     event_fit : (h : List Entry) → AreFit names c h → (status : ReadyStatus) → in_force (status_of q.process) h ≡ Some status → is_posted status ≡ true
     event_fit [] fit status is = absurd (none_is status is)
-    event_fit (e ∷ h) fit status is = cases (λ is. event_fit h fit.1 status is) e.deed fit.0.carries is
+    event_fit (e ∷ h) fit status is = cases (λ is. event_fit h fit.1 status is) e.fact fit.0.carries is
       where
         Below : Type 0
         Below = in_force (status_of q.process) h ≡ Some status → is_posted status ≡ true
@@ -247,7 +247,7 @@ module _ (names : Texts) (c : ℕ) (fixed : HoldsFixed names) where
         by_event below (what.Put key object) fit is = below is
         by_event below (what.Remove key) fit is = below is
 
-        cases : Below → (d : Deed) → Carries names c d → upper (of_event (status_of q.process) d) (in_force (status_of q.process) h) ≡ Some status → is_posted status ≡ true
+        cases : Below → (d : Fact) → Carries names c d → upper (of_event (status_of q.process) d) (in_force (status_of q.process) h) ≡ Some status → is_posted status ≡ true
         cases below (Happens event version) carries is = by_event below event carries is
         cases below (First key object) carries is = below is
         cases below Starts carries is = below is

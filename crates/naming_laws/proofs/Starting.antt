@@ -11,7 +11,7 @@ use Rattle.kube_objects.specs.declared.script.What.TheVariants as what
 use Rattle.kube_objects.specs.Clocks.{local, store_wall, whole_second}
 use Rattle.kube_objects.specs.Document.{Doc, processes, is_controller, is_up_first}
 use Rattle.kube_objects.specs.Elector.{Follow, Fails, Asks, Succeeds, follow_on, leads, deadline, timer, release, acts}
-use Rattle.kube_objects.specs.Entry.{Entry, Identity, Call, Deed, First, Event as Happens, Starts, Stops, Delivers, entry, script_entry}
+use Rattle.kube_objects.specs.Entry.{Entry, Identity, Call, Fact, First, Event as Happens, Starts, Stops, Delivers, entry, script_entry}
 use Rattle.kube_objects.specs.Identities.{identity}
 use Rattle.kube_objects.specs.Kubelet.{next_request, send_next, is_post_call, round_if, is_round_due, round}
 use Rattle.kube_objects.specs.Newest.{has}
@@ -25,13 +25,13 @@ use Rattle.history.specs.Steps.{start_first, starts_below, first_starts, start_i
 use Rattle.history_laws.proofs.Ticks.{walk_tick}
 use Rattle.script_reader.specs.Lawful.{IsLawfulWhat, AreLawfulFrom, IsLawfulDoc}
 
-abbrev pub IsStartOfOne : ℕ → Actor → Deed → Type 0
+abbrev pub IsStartOfOne : ℕ → Actor → Fact → Type 0
 IsStartOfOne n who Starts = IsOneOf n who
 IsStartOfOne n who _ = Unit {0}
 
 abbrev pub StartsAreOfOne : ℕ → List Entry → Type 0
 StartsAreOfOne n [] = Unit {0}
-StartsAreOfOne n (e ∷ h) = IsStartOfOne n e.actor e.deed × StartsAreOfOne n h
+StartsAreOfOne n (e ∷ h) = IsStartOfOne n e.actor e.fact × StartsAreOfOne n h
 
 module _ (doc : Doc) (lawful : IsLawfulDoc doc) where
   abbrev Good : List Entry → Type 0
@@ -207,8 +207,8 @@ module _ (doc : Doc) (lawful : IsLawfulDoc doc) where
       let h1 = step_one doc k h in
       let h2 = step_two k h1 in
       let s1 : Good h1 = good_all k 0 doc.events lawful.events (first_starts doc k h) (good_starts k h s) in
-      let s2 : Good h2 = good_each (λ e. answer_due k (sent_of e.actor e.deed)) (λ e g s. good_answer k (sent_of e.actor e.deed) g s) h1 h1 s1 in
-      good_each (λ e. deliver_due doc k (back_of e.actor e.deed)) (λ e g s. good_deliver k (back_of e.actor e.deed) g s) h2 h2 s2
+      let s2 : Good h2 = good_each (λ e. answer_due k (sent_of e.actor e.fact)) (λ e g s. good_answer k (sent_of e.actor e.fact) g s) h1 h1 s1 in
+      good_each (λ e. deliver_due doc k (back_of e.actor e.fact)) (λ e g s. good_deliver k (back_of e.actor e.fact) g s) h2 h2 s2
 
   pub starts_are_of_one : (k : ℕ) → Good (history doc k)
   starts_are_of_one zero = good_put doc.objects [] tt

@@ -44,7 +44,7 @@ use Rattle.manifest_json.specs.Fields.{Texts}
 use Rattle.manifest_json.specs.Readable.{IsHeld}
 use Rattle.naming_laws.specs.Items.{IsWritableTaint, IsWritableReady, IsWritableNode}
 use Rattle.naming_laws.proofs.Answered.{second_within}
-use Rattle.naming_laws.proofs.Fits.{IsFitWrite, IsTold, IsFitDeed, AreFit, IsFitFound, seen_fit, node_seen_fit}
+use Rattle.naming_laws.proofs.Fits.{IsFitWrite, IsTold, IsFitFact, AreFit, IsFitFound, seen_fit, node_seen_fit}
 use Rattle.naming_laws.proofs.Lists.{all_append, all_filter, all_once}
 use Rattle.naming_laws.proofs.Requests.{HoldsFixed, IsEarly}
 
@@ -180,9 +180,9 @@ module _ (names : Texts) (c : ℕ) (fixed : HoldsFixed names) (doc : Doc) (k : �
   wrote_by name written held fit (Some answers.Exists) = tt
   wrote_by name written held fit (Some (answers.Conflict version)) = tt
 
-  mark_deed : (name : ℕ) (given : Version) (node : Node) (h : List Entry) → IsFitFound names c name node
-      → IsFitDeed names c (actor_of q) (Ticks (Mark name given (with_mark (whole_second (wall doc q.process k)) node) (try_node q name given h)))
-  mark_deed name given node h found = record {
+  mark_fact : (name : ℕ) (given : Version) (node : Node) (h : List Entry) → IsFitFound names c name node
+      → IsFitFact names c (actor_of q) (Ticks (Mark name given (with_mark (whole_second (wall doc q.process k)) node) (try_node q name given h)))
+  mark_fact name given node h found = record {
     told = by_reason node.ready (try_node q name given h) (node_tried q name given h);
     wrote = wrote_by name (with_mark (whole_second (wall doc q.process k)) node) found.held (marked_fit node found.fit) (try_node q name given h);
     carries = tt;
@@ -192,26 +192,26 @@ module _ (names : Texts) (c : ℕ) (fixed : HoldsFixed names) (doc : Doc) (k : �
       by_reason None o tried = told_by _ (λ a is. (record { form = is; held = (found.held, (omega (arith, fixed), tt)); timely = tt }, refl)) o tried
       by_reason (Some r) o tried = told_by _ (λ a is. (record { form = is; held = (found.held, (omega (arith, fixed), tt)); timely = tt }, refl)) o tried
 
-  untaint_deed : (name : ℕ) (given : Version) (node : Node) (h : List Entry) → IsFitFound names c name node
-      → IsFitDeed names c (actor_of q) (Ticks (Untaint name given (untainted node) (try_node q name given h)))
-  untaint_deed name given node h found = record {
+  untaint_fact : (name : ℕ) (given : Version) (node : Node) (h : List Entry) → IsFitFound names c name node
+      → IsFitFact names c (actor_of q) (Ticks (Untaint name given (untainted node) (try_node q name given h)))
+  untaint_fact name given node h found = record {
     told = told_by (λ a. act.Untainted name a) (λ a is. (record { form = is; held = (found.held, tt); timely = tt }, refl)) (try_node q name given h) (node_tried q name given h);
     wrote = wrote_by name (untainted node) found.held (untainted_fit node found.fit) (try_node q name given h);
     carries = tt;
   }
 
-  swap_deed : (name wanted : ℕ) (given : Version) (node : Node) (h : List Entry) → is_condition_key wanted ≡ true → IsFitFound names c name node
-      → IsFitDeed names c (actor_of q) (Ticks (Swap name wanted given (swapped (new_taint doc k q wanted) node) (try_node q name given h)))
-  swap_deed name wanted given node h key found = let held = condition_held wanted key in record {
+  swap_fact : (name wanted : ℕ) (given : Version) (node : Node) (h : List Entry) → is_condition_key wanted ≡ true → IsFitFound names c name node
+      → IsFitFact names c (actor_of q) (Ticks (Swap name wanted given (swapped (new_taint doc k q wanted) node) (try_node q name given h)))
+  swap_fact name wanted given node h key found = let held = condition_held wanted key in record {
     told = told_by (λ a. act.Swapped name wanted a) (λ a is. (record { form = and_both (is_condition_key wanted) (answers_write a) key is; held = (found.held, (held, tt)); timely = tt }, refl))
         (try_node q name given h) (node_tried q name given h);
     wrote = wrote_by name (swapped (new_taint doc k q wanted) node) found.held (swapped_fit wanted node held found.fit) (try_node q name given h);
     carries = tt;
   }
 
-  head_deed : (place : Place) (name wanted : ℕ) (given : Version) (node : Node) (h : List Entry) → is_condition_key wanted ≡ true → IsFitFound names c name node
-      → IsFitDeed names c (actor_of q) (Ticks (Head place name wanted given (tainted_with (new_taint doc k q wanted) node) (try_node q name given h)))
-  head_deed place name wanted given node h key found = let held = condition_held wanted key in record {
+  head_fact : (place : Place) (name wanted : ℕ) (given : Version) (node : Node) (h : List Entry) → is_condition_key wanted ≡ true → IsFitFound names c name node
+      → IsFitFact names c (actor_of q) (Ticks (Head place name wanted given (tainted_with (new_taint doc k q wanted) node) (try_node q name given h)))
+  head_fact place name wanted given node h key found = let held = condition_held wanted key in record {
     told = told_by (λ a. act.Tainted name wanted a) (λ a is. (record { form = and_both (is_condition_key wanted) (answers_write a) key is; held = (found.held, (held, tt)); timely = tt }, refl))
         (try_node q name given h) (node_tried q name given h);
     wrote = wrote_by name (tainted_with (new_taint doc k q wanted) node) found.held (tainted_fit wanted node held found.fit) (try_node q name given h);
@@ -232,9 +232,9 @@ module _ (names : Texts) (c : ℕ) (fixed : HoldsFixed names) (doc : Doc) (k : �
       by_seen None at is = absurd (none_is (given, x) is)
       by_seen (Some y) at is = let item = seen_fit names c q h fit pod y at in (item.space, item.name)
 
-  delete_deed : (pod : Key) (given node_given : Version) (at : ℕ) (a : Option Answer) (h : List Entry) → Fit h → IsDelete doc k q pod given node_given at a h
-      → IsFitDeed names c (actor_of q) (Ticks (Delete pod given node_given at a))
-  delete_deed pod given node_given at a h fit made = record {
+  delete_fact : (pod : Key) (given node_given : Version) (at : ℕ) (a : Option Answer) (h : List Entry) → Fit h → IsDelete doc k q pod given node_given at a h
+      → IsFitFact names c (actor_of q) (Ticks (Delete pod given node_given at a))
+  delete_fact pod given node_given at a h fit made = record {
     told = told_by (λ a. act.Evicted pod (record { 0 = at }) a) (λ a is. (record { form = and_both (is_pod pod.kind) (answers_write a) made.kind is; held = (held.0, (held.1, tt)); timely = due }, refl)) a
         (subst IsTried (sym made.is) (pod_tried q pod given made.x.node node_given h));
     wrote = delete_wrote pod a;
@@ -288,7 +288,7 @@ module _ (names : Texts) (c : ℕ) (fixed : HoldsFixed names) (doc : Doc) (k : �
   keeps_mark name h fit = by_seen (seen_node q name h) refl
     where
       by_test : (x : Version × Node) → seen_node q name h ≡ Some x → (b : Bool) → Fit (mark_as k q name x.0 (when b (with_mark (whole_second (wall doc q.process k)) x.1)) h)
-      by_test x is true = (mark_deed name x.0 x.1 h (node_seen_fit names c q h fit name x is), fit)
+      by_test x is true = (mark_fact name x.0 x.1 h (node_seen_fit names c q h fit name x is), fit)
       by_test x is false = fit
 
       by_seen : (o : Option (Version × Node)) → seen_node q name h ≡ o → Fit (mark_seen doc k q name o h)
@@ -335,11 +335,11 @@ module _ (names : Texts) (c : ℕ) (fixed : HoldsFixed names) (doc : Doc) (k : �
     where
       by_untaint : (x : Version × Node) → IsFitFound names c name x.1 → (b : Bool) → Fit (untaint_if k q name x.0 x.1 b h)
       by_untaint x found false = fit
-      by_untaint x found true = (untaint_deed name x.0 x.1 h found, fit)
+      by_untaint x found true = (untaint_fact name x.0 x.1 h found, fit)
 
       by_swap : (x : Version × Node) → IsFitFound names c name x.1 → (wanted : ℕ) → is_condition_key wanted ≡ true → (b : Bool) → Fit (swap_if doc k q name x.0 x.1 wanted b h)
       by_swap x found wanted key false = fit
-      by_swap x found wanted key true = (swap_deed name wanted x.0 x.1 h key found, fit)
+      by_swap x found wanted key true = (swap_fact name wanted x.0 x.1 h key found, fit)
 
       by_wants : (x : Version × Node) → IsFitFound names c name x.1 → (w : Wants) → IsWantedKey (wanted_key w) → Fit (clean_as doc k q name x.0 x.1 w h)
       by_wants x found Nothing key = by_untaint x found (has_condition x.1)
@@ -358,7 +358,7 @@ module _ (names : Texts) (c : ℕ) (fixed : HoldsFixed names) (doc : Doc) (k : �
       by_seen name None waiting x is = fit
       by_seen name (Some wanted) waiting None is = fit
       by_seen name (Some wanted) waiting (Some x) is =
-          (head_deed place name wanted x.0 x.1 h (waits_fit (mode q h) place (seen_node q name h) wanted waiting) (node_seen_fit names c q h fit name x is), fit)
+          (head_fact place name wanted x.0 x.1 h (waits_fit (mode q h) place (seen_node q name h) wanted waiting) (node_seen_fit names c q h fit name x is), fit)
 
       by_head : (o : Option Queued) → Fit (taint_head doc k q place o h)
       by_head None = fit
@@ -369,7 +369,7 @@ module _ (names : Texts) (c : ℕ) (fixed : HoldsFixed names) (doc : Doc) (k : �
       by_token true = by_head (head_of q place (node_names h) h)
 
   keeps_evict : (pod : Key) (h : List Entry) → IsPodKey pod → Fit h → Fit (evict doc k q pod h)
-  keeps_evict pod h kind fit = evict_step doc k q (AreFit names c) pod h kind fit (λ given node_given at a made. (delete_deed pod given node_given at a h fit made, fit))
+  keeps_evict pod h kind fit = evict_step doc k q (AreFit names c) pod h kind fit (λ given node_given at a made. (delete_fact pod given node_given at a h fit made, fit))
 
   evicts : (keys : List Key) (h : List Entry) → Each IsPodKey keys → Fit h → Fit (for_each (evict doc k q) keys h)
   evicts [] h all fit = fit

@@ -4,7 +4,7 @@ use Rattle.kube_base.specs.declared.numbers.Wall.{Wall}
 use Rattle.kube_objects.specs.declared.node.Node.{Node}
 use Rattle.kube_objects.specs.Clocks.{local, wall, whole_second}
 use Rattle.kube_objects.specs.Document.{Doc}
-use Rattle.kube_objects.specs.Entry.{Deed, Entry, Identity, Mode, Pass, Ticks}
+use Rattle.kube_objects.specs.Entry.{Fact, Entry, Identity, Mode, Pass, Ticks}
 use Rattle.kube_objects.specs.Health.{at_pass, grace_of, hears, heartbeat, is_found, is_known, is_probe, is_unknown, keeps, kept_heartbeat, kept_renewal, mark_of, probe, renewal, with_mark}
 use Rattle.kube_objects.specs.Identities.{is_by}
 use Rattle.kube_objects.specs.Newest.{join, only_if, or_else, or_zero, when}
@@ -58,8 +58,8 @@ mark-same doc q h g k name node same =
 
 -- ---- entries after which each node is known as before
 
-quiet : (q : Identity) (h : List Entry) (e : Entry) → ((A : Type 0) (f : List Entry → Option A) → at_pass q f e.actor e.deed h ≡ None)
-    → ((name : ℕ) → is_probe q name e.actor e.deed h ≡ false) → SaysSame q h (e ∷ h)
+quiet : (q : Identity) (h : List Entry) (e : Entry) → ((A : Type 0) (f : List Entry → Option A) → at_pass q f e.actor e.fact h ≡ None)
+    → ((name : ℕ) → is_probe q name e.actor e.fact h ≡ false) → SaysSame q h (e ∷ h)
 quiet q h e unpassed unprobed =
     record {
       known = λ name. ap (λ o. or_else false (said o (finds q name h))) (unpassed Bool (λ T. Some (is_found q name T)));
@@ -69,27 +69,27 @@ quiet q h e unpassed unprobed =
     }
 
 -- an entry of a kind that isn't looked at
-pub unheard-kind : (q : Identity) (h : List Entry) (e : Entry) → is_of_health e.deed ≡ false → SaysSame q h (e ∷ h)
-unheard-kind q h e other = quiet q h e (λ A f. by_deed f e.deed other) (λ name. unprobed name e.deed other)
+pub unheard-kind : (q : Identity) (h : List Entry) (e : Entry) → is_of_health e.fact ≡ false → SaysSame q h (e ∷ h)
+unheard-kind q h e other = quiet q h e (λ A f. by_fact f e.fact other) (λ name. unprobed name e.fact other)
   where
-    by_deed : {A : Type 0} (f : List Entry → Option A) (d : Deed) → is_of_health d ≡ false → at_pass q f e.actor d h ≡ None
-    by_deed f (Ticks Pass) other = absurd (search (rules, other))
-    by_deed f _ other = refl
+    by_fact : {A : Type 0} (f : List Entry → Option A) (d : Fact) → is_of_health d ≡ false → at_pass q f e.actor d h ≡ None
+    by_fact f (Ticks Pass) other = absurd (search (rules, other))
+    by_fact f _ other = refl
 
-    unprobed : (name : ℕ) (d : Deed) → is_of_health d ≡ false → is_probe q name e.actor d h ≡ false
+    unprobed : (name : ℕ) (d : Fact) → is_of_health d ≡ false → is_probe q name e.actor d h ≡ false
     unprobed name (Ticks Pass) other = absurd (search (rules, other))
     unprobed name (Ticks (Mode false)) other = absurd (search (rules, other))
     unprobed name _ other = refl
 
 -- an entry of another actor
 pub unheard-foreign : (q : Identity) (h : List Entry) (e : Entry) → is_by q e.actor ≡ false → SaysSame q h (e ∷ h)
-unheard-foreign q h e other = quiet q h e (λ A f. by_deed f e.deed) (λ name. unprobed name e.deed)
+unheard-foreign q h e other = quiet q h e (λ A f. by_fact f e.fact) (λ name. unprobed name e.fact)
   where
-    by_deed : {A : Type 0} (f : List Entry → Option A) (d : Deed) → at_pass q f e.actor d h ≡ None
-    by_deed f (Ticks Pass) = ap (λ b. only_if b (f h)) other
-    by_deed f _ = refl
+    by_fact : {A : Type 0} (f : List Entry → Option A) (d : Fact) → at_pass q f e.actor d h ≡ None
+    by_fact f (Ticks Pass) = ap (λ b. only_if b (f h)) other
+    by_fact f _ = refl
 
-    unprobed : (name : ℕ) (d : Deed) → is_probe q name e.actor d h ≡ false
+    unprobed : (name : ℕ) (d : Fact) → is_probe q name e.actor d h ≡ false
     unprobed name (Ticks Pass) = ap (λ b. b && hears q name h) other
     unprobed name (Ticks (Mode false)) = other
     unprobed name _ = refl

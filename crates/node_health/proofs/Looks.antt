@@ -6,7 +6,7 @@ use Rattle.kube_objects.specs.declared.node.Node.{Node}
 use Rattle.kube_objects.specs.declared.node.Ready.{Ready}
 use Rattle.kube_objects.specs.Clocks.{local, wall, whole_second}
 use Rattle.kube_objects.specs.Document.{Doc}
-use Rattle.kube_objects.specs.Entry.{Entry, Identity, Deed, Ticks, Pass, Mode, actor_of}
+use Rattle.kube_objects.specs.Entry.{Entry, Identity, Fact, Ticks, Pass, Mode, actor_of}
 use Rattle.kube_objects.specs.Health.{at_pass, grace_of, hears, heartbeat, is_found, is_known, is_later, is_news, is_probe, is_silent, is_unknown, keeps, kept_heartbeat, kept_renewal, last_pass, mark_of, marked, node_heartbeat, pass_says, probe, ready_heartbeat, renewal, with_mark}
 use Rattle.kube_objects.specs.Identities.{is_by}
 use Rattle.kube_objects.specs.Newest.{has, join, newest, only_if, or_else, or_zero, when}
@@ -28,16 +28,16 @@ said now before = elim now [ None ↦ before | Some x ↦ Some x ]
 -- ---- what the entries before say
 
 abbrev pub finds : Identity → ℕ → List Entry → Option Bool
-finds q name h = newest (λ e T. at_pass q (λ T. Some (is_found q name T)) e.actor e.deed T) h
+finds q name h = newest (λ e T. at_pass q (λ T. Some (is_found q name T)) e.actor e.fact T) h
 
 abbrev pub heartbeats : Identity → ℕ → List Entry → Option (Option Wall)
-heartbeats q name h = newest (λ e T. at_pass q (λ T. keeps (is_found q name T) (heartbeat q name T)) e.actor e.deed T) h
+heartbeats q name h = newest (λ e T. at_pass q (λ T. keeps (is_found q name T) (heartbeat q name T)) e.actor e.fact T) h
 
 abbrev pub renewals : Identity → ℕ → List Entry → Option (Option Wall)
-renewals q name h = newest (λ e T. at_pass q (λ T. keeps (is_found q name T) (renewal q name T)) e.actor e.deed T) h
+renewals q name h = newest (λ e T. at_pass q (λ T. keeps (is_found q name T) (renewal q name T)) e.actor e.fact T) h
 
 abbrev pub probes : Identity → ℕ → List Entry → Option ℕ
-probes q name h = newest (λ e T. when (is_probe q name e.actor e.deed T) e.beat) h
+probes q name h = newest (λ e T. when (is_probe q name e.actor e.fact T) e.beat) h
 
 -- ---- a pass
 
@@ -194,19 +194,19 @@ node-reset doc k q h name now (Some known) s reading =
 
 -- ---- a term that has had no pass
 
-unpassed : {A : Type 0} (q : Identity) (f : List Entry → Option A) (h : List Entry) → last_pass q h ≡ None → newest (λ e T. at_pass q f e.actor e.deed T) h ≡ None
+unpassed : {A : Type 0} (q : Identity) (f : List Entry → Option A) (h : List Entry) → last_pass q h ≡ None → newest (λ e T. at_pass q f e.actor e.fact T) h ≡ None
 unpassed q f [] none = refl
-unpassed {A} q f (e ∷ h) none = by_deed e.deed none (unpassed q f h)
+unpassed {A} q f (e ∷ h) none = by_fact e.fact none (unpassed q f h)
   where
-    by_owner : (b : Bool) → said (when b e.beat) (last_pass q h) ≡ None → (last_pass q h ≡ None → newest (λ e T. at_pass q f e.actor e.deed T) h ≡ None)
-        → said (only_if b (f h)) (newest (λ e T. at_pass q f e.actor e.deed T) h) ≡ None
+    by_owner : (b : Bool) → said (when b e.beat) (last_pass q h) ≡ None → (last_pass q h ≡ None → newest (λ e T. at_pass q f e.actor e.fact T) h ≡ None)
+        → said (only_if b (f h)) (newest (λ e T. at_pass q f e.actor e.fact T) h) ≡ None
     by_owner true none rest = absurd (search (rules, none))
     by_owner false none rest = rest none
 
-    by_deed : (d : Deed) → said (pass_says q e.beat e.actor d) (last_pass q h) ≡ None → (last_pass q h ≡ None → newest (λ e T. at_pass q f e.actor e.deed T) h ≡ None)
-        → said (at_pass q f e.actor d h) (newest (λ e T. at_pass q f e.actor e.deed T) h) ≡ None
-    by_deed (Ticks Pass) none rest = by_owner (is_by q e.actor) none rest
-    by_deed _ none rest = rest none
+    by_fact : (d : Fact) → said (pass_says q e.beat e.actor d) (last_pass q h) ≡ None → (last_pass q h ≡ None → newest (λ e T. at_pass q f e.actor e.fact T) h ≡ None)
+        → said (at_pass q f e.actor d h) (newest (λ e T. at_pass q f e.actor e.fact T) h) ≡ None
+    by_fact (Ticks Pass) none rest = by_owner (is_by q e.actor) none rest
+    by_fact _ none rest = rest none
 
 pub node-new : (doc : Doc) (q : Identity) (h : List Entry) (name : ℕ) → last_pass q h ≡ None → NodeStands doc q h name None
 node-new doc q h name none =

@@ -5,7 +5,7 @@ use Rattle.kube_base.specs.declared.numbers.Wall.{Wall}
 use Rattle.kube_objects.specs.declared.node.Node.{Node}
 use Rattle.kube_objects.specs.Clocks.{local}
 use Rattle.kube_objects.specs.Document.{Doc, of_millis}
-use Rattle.kube_objects.specs.Entry.{Entry, Identity, Deed, Ticks, Pass, Mode}
+use Rattle.kube_objects.specs.Entry.{Entry, Identity, Fact, Ticks, Pass, Mode}
 use Rattle.kube_objects.specs.Health.{is_known, kept_heartbeat, kept_renewal, probe, renewal}
 use Rattle.kube_objects.specs.Newest.{has}
 use Rattle.kube_objects.specs.Seen.{seen_node}
@@ -55,7 +55,7 @@ pub record IsLook (doc : Doc) (k : ℕ) (q : Identity) (h : List Entry) (name : 
 
 -- ---- entries that are looked at, where they are the term's own
 
-abbrev pub is_of_health : Deed → Bool
+abbrev pub is_of_health : Fact → Bool
 is_of_health (Ticks Pass) = true
 is_of_health (Ticks (Mode false)) = true
 is_of_health _ = false

@@ -22,7 +22,7 @@ use Rattle.object_store.proofs.KeptLaws.{IsAfter}
 abbrev pub left : List Entry → Entry → Key → Option Write → Option (Option Held) → Option (Option Held)
 left h e q w before = elim (holds h e.beat e.actor (at_key q w)) [ None ↦ before | Some x ↦ Some x ]
 
-kept-write : (q : Key) (h : List Entry) (e : Entry) (key : Key) (content : Option Object) → write_of e.deed ≡ Some (key, content) → kept_of (stored q (e ∷ h)) ≡ cond (key_eq key q) (kept_as (writes h + 1) content) (kept_of (stored q h))
+kept-write : (q : Key) (h : List Entry) (e : Entry) (key : Key) (content : Option Object) → write_of e.fact ≡ Some (key, content) → kept_of (stored q (e ∷ h)) ≡ cond (key_eq key q) (kept_as (writes h + 1) content) (kept_of (stored q h))
 kept-write q h e key content is = ap (λ w. kept_of (join (left h e q w (last_write q h)))) is ∙ by_test (key_eq key q) content
   where
     by_test : (b : Bool) (c : Option Object) → kept_of (join (elim (holds h e.beat e.actor (when b c)) [ None ↦ last_write q h | Some x ↦ Some x ])) ≡ cond b (kept_as (writes h + 1) c) (kept_of (stored q h))
@@ -33,7 +33,7 @@ kept-write q h e key content is = ap (λ w. kept_of (join (left h e q w (last_wr
 -- ---- the relation at one more entry
 
 -- a write that the history has as its newest entry
-pub stands_after : (h : List Entry) (e : Entry) (old new : Store) (key : Key) (content : Option Object) → StoreStands h old → Writes old new key content → write_of e.deed ≡ Some (key, content) → StoreStands (e ∷ h) new
+pub stands_after : (h : List Entry) (e : Entry) (old new : Store) (key : Key) (content : Option Object) → StoreStands h old → Writes old new key content → write_of e.fact ≡ Some (key, content) → StoreStands (e ∷ h) new
 stands_after h e old new key content s w is =
     record {
       objects = λ q.
@@ -50,7 +50,7 @@ pub stands_same : (h : List Entry) (old new : Store) → StoreStands h old → S
 stands_same h old new s same = record { objects = λ q. same.objects q ∙ s.objects q; changes = same.changes ∙ s.changes; count = same.count ∙ s.count }
 
 -- an entry that is no write is kept
-pub store-beside : (h : List Entry) (e : Entry) (s : Store) → StoreStands h s → write_of e.deed ≡ None → StoreStands (e ∷ h) s
+pub store-beside : (h : List Entry) (e : Entry) (s : Store) → StoreStands h s → write_of e.fact ≡ None → StoreStands (e ∷ h) s
 store-beside h e s stands none =
     record {
       objects = λ q. stands.objects q ∙ ap (λ w. kept_of (join (left h e q w (last_write q h)))) (sym none);
@@ -96,7 +96,7 @@ pub written-version : {E : Type 0} (h : List Entry) (old new : Store) (key : Key
 written-version h old new key content (Ok v) s ok = next-version h old v s ok.1
 written-version h old new key content (Err f) s ok = tt
 
-pub written-stands : {E : Type 0} (h : List Entry) (e : Entry) (old new : Store) (key : Key) (content : Option Object) (r : Result Version E) → StoreStands h old → IfOk r (λ v. Writes old new key content × (v.0 ≡ vec_len old.changes + 1)) → write_of e.deed ≡ Some (key, content) → OnOk r (StoreStands (e ∷ h) new)
+pub written-stands : {E : Type 0} (h : List Entry) (e : Entry) (old new : Store) (key : Key) (content : Option Object) (r : Result Version E) → StoreStands h old → IfOk r (λ v. Writes old new key content × (v.0 ≡ vec_len old.changes + 1)) → write_of e.fact ≡ Some (key, content) → OnOk r (StoreStands (e ∷ h) new)
 written-stands h e old new key content (Ok v) s ok is = stands_after h e old new key content s ok.0 is
 written-stands h e old new key content (Err f) s ok is = tt
 

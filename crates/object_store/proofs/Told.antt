@@ -86,7 +86,7 @@ answered-told a (Err fault.Exists) told = sym told
 answered-told a (Err (fault.Conflict v)) told = sym told
 answered-told a (Err fault.NoMemory) told = tt
 
-pub answered-stands : (h : List Entry) (e : Entry) (new : Store) (request : Request) (x : Object) (a : Reply) (r : Result Version StoreFault) → Told r a → write_of e.deed ≡ request_write request (if_done a x) → (write_of e.deed ≡ Some (key_of request, Some x) → OnOk r (StoreStands (e ∷ h) new)) → OnErr r (StoreStands h new) → OnOk (reply_of r) (StoreStands (e ∷ h) new)
+pub answered-stands : (h : List Entry) (e : Entry) (new : Store) (request : Request) (x : Object) (a : Reply) (r : Result Version StoreFault) → Told r a → write_of e.fact ≡ request_write request (if_done a x) → (write_of e.fact ≡ Some (key_of request, Some x) → OnOk r (StoreStands (e ∷ h) new)) → OnErr r (StoreStands h new) → OnOk (reply_of r) (StoreStands (e ∷ h) new)
 answered-stands h e new request x a (Ok v) told is ok err = ok (is ∙ ap (λ a. request_write request (if_done a x)) told)
 answered-stands h e new request x a (Err fault.Absent) told is ok err = store-beside h e new err (is ∙ ap (λ a. request_write request (if_done a x)) told)
 answered-stands h e new request x a (Err fault.Exists) told is ok err = store-beside h e new err (is ∙ ap (λ a. request_write request (if_done a x)) told)
@@ -108,7 +108,7 @@ posted-told a (Err fault.Exists) told = sym told
 posted-told a (Err (fault.Conflict v)) told = sym told
 posted-told a (Err fault.NoMemory) told = tt
 
-pub posted-stands : (h : List Entry) (e : Entry) (new : Store) (request : Request) (next : Version) (status : ReadyStatus) (at : ℕ) (k : Option (Version × Node)) (r : Result Posted StoreFault) → ToldPost r (answer_post next k (posted_node status at k)) → write_of e.deed ≡ request_write request (node_object (posted_node status at k)) → OnOk r (StoreStands (e ∷ h) new) → UnlessPosted r (StoreStands h new) → OnOk (reply_of_post r) (StoreStands (e ∷ h) new)
+pub posted-stands : (h : List Entry) (e : Entry) (new : Store) (request : Request) (next : Version) (status : ReadyStatus) (at : ℕ) (k : Option (Version × Node)) (r : Result Posted StoreFault) → ToldPost r (answer_post next k (posted_node status at k)) → write_of e.fact ≡ request_write request (node_object (posted_node status at k)) → OnOk r (StoreStands (e ∷ h) new) → UnlessPosted r (StoreStands h new) → OnOk (reply_of_post r) (StoreStands (e ∷ h) new)
 posted-stands h e new request next status at k (Ok (posted.Done v)) told is ok same = ok
 posted-stands h e new request next status at k (Ok posted.Unchanged) told is ok same = ok
 posted-stands h e new request next status at k (Err fault.Absent) told is ok same = store-beside h e new same (is ∙ ap (λ w. request_write request (node_object w)) (unposted next status at k told))

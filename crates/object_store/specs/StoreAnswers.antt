@@ -24,7 +24,7 @@ and_key (Some write) keys = keys ++ write.0 ∷ []
 
 abbrev pub changed_keys : List Entry → List Key
 changed_keys [] = []
-changed_keys (e ∷ h) = and_key (write_of e.deed) (changed_keys h)
+changed_keys (e ∷ h) = and_key (write_of e.fact) (changed_keys h)
 
 -- ---- what is stored, as a look-up shows it
 

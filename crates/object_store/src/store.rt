@@ -67,7 +67,7 @@ impl Store {
     pub fn create(&mut self, key: Key, object: Object) -> Result<Version, StoreFault>
         requires kind { IsOfKind key object }
         ensures answer { (h : List Entry) → StoreStands h self.old → Told result (answers.answer_create (next_version h) (stored key h)) }
-        ensures ok { (h : List Entry) (e : Entry) → StoreStands h self.old → write_of e.deed ≡ Some (key, Some object)
+        ensures ok { (h : List Entry) (e : Entry) → StoreStands h self.old → write_of e.fact ≡ Some (key, Some object)
             → OnOk result (StoreStands (e ∷ h) self.new) }
         ensures err { (h : List Entry) → StoreStands h self.old → OnErr result (StoreStands h self.new) }
     {
@@ -89,7 +89,7 @@ impl Store {
         requires kind { IsOfKind key object }
         ensures answer { (h : List Entry) → StoreStands h self.old
             → Told result (answers.answer_update (next_version h) version (stored key h)) }
-        ensures ok { (h : List Entry) (e : Entry) → StoreStands h self.old → write_of e.deed ≡ Some (key, Some object)
+        ensures ok { (h : List Entry) (e : Entry) → StoreStands h self.old → write_of e.fact ≡ Some (key, Some object)
             → OnOk result (StoreStands (e ∷ h) self.new) }
         ensures err { (h : List Entry) → StoreStands h self.old → OnErr result (StoreStands h self.new) }
     {
@@ -115,7 +115,7 @@ impl Store {
     ) -> Result<Posted, StoreFault>
         ensures answer { (h : List Entry) → StoreStands h self.old → ToldPost result (answer (PostStatus node status at) h) }
         ensures ok { (h : List Entry) (e : Entry) → StoreStands h self.old
-            → write_of e.deed ≡ request_write (PostStatus node status at) (written (PostStatus node status at) h)
+            → write_of e.fact ≡ request_write (PostStatus node status at) (written (PostStatus node status at) h)
             → OnOk result (StoreStands (e ∷ h) self.new) }
         ensures same { (h : List Entry) → StoreStands h self.old → UnlessPosted result (StoreStands h self.new) }
     {
@@ -145,7 +145,7 @@ impl Store {
         node_version: Version,
     ) -> Result<Version, StoreFault>
         ensures answer { (h : List Entry) → StoreStands h self.old → Told result (answer_delete pod pod_version node node_version h) }
-        ensures ok { (h : List Entry) (e : Entry) → StoreStands h self.old → write_of e.deed ≡ Some (pod, None)
+        ensures ok { (h : List Entry) (e : Entry) → StoreStands h self.old → write_of e.fact ≡ Some (pod, None)
             → OnOk result (StoreStands (e ∷ h) self.new) }
         ensures err { (h : List Entry) → StoreStands h self.old → OnErr result (StoreStands h self.new) }
     {
@@ -172,7 +172,7 @@ impl Store {
         requires kind { IsOfKind key object }
         ensures answer { (h : List Entry) → StoreStands h self.old → IfOk result (λ version. version ≡ next_version h) }
         ensures ok { (h : List Entry) (e : Entry) → StoreStands h self.old
-            → write_of e.deed ≡ Some (key, Some (stamped (whole_second now.0) object)) → OnOk result (StoreStands (e ∷ h) self.new) }
+            → write_of e.fact ≡ Some (key, Some (stamped (whole_second now.0) object)) → OnOk result (StoreStands (e ∷ h) self.new) }
         ensures err { (h : List Entry) → StoreStands h self.old → OnErr result (StoreStands h self.new) }
     {
         let stamped = stamp::stamped(object, whole_second(now))?;
@@ -183,7 +183,7 @@ impl Store {
     pub fn remove(&mut self, key: Key) -> Result<Option<Version>, NoMemory>
         ensures answer { (h : List Entry) → StoreStands h self.old → IfOk result (λ version. version ≡ answer_remove key h) }
         ensures ok { (h : List Entry) (e : Entry) → StoreStands h self.old
-            → IfOk result (λ version. write_of e.deed ≡ when (has version) (key, None) → StoreStands (e ∷ h) self.new) }
+            → IfOk result (λ version. write_of e.fact ≡ when (has version) (key, None) → StoreStands (e ∷ h) self.new) }
         ensures same { (h : List Entry) → StoreStands h self.old → IfOk result (λ version. version ≡ None → StoreStands h self.new) }
         ensures err { (h : List Entry) → StoreStands h self.old → OnErr result (StoreStands h self.new) }
     {
@@ -197,7 +197,7 @@ impl Store {
     pub fn answer(&mut self, request: Request) -> Result<Reply, NoMemory>
         requires kind { keeps_kind request ≡ true }
         ensures answer { (h : List Entry) → StoreStands h self.old → IfOk result (λ reply. reply ≡ answer request h) }
-        ensures ok { (h : List Entry) (e : Entry) → StoreStands h self.old → write_of e.deed ≡ request_write request (written request h)
+        ensures ok { (h : List Entry) (e : Entry) → StoreStands h self.old → write_of e.fact ≡ request_write request (written request h)
             → OnOk result (StoreStands (e ∷ h) self.new) }
         ensures err { (h : List Entry) → StoreStands h self.old → OnErr result (StoreStands h self.new) }
     {

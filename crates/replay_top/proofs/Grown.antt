@@ -38,7 +38,7 @@ printed-tail g (e ∷ h) (inr tail) = longer (printed-tail g h tail)
   where
     longer : (more : List Deed) × (printed g ++ more ≡ printed h) → (more : List Deed) × (printed g ++ more ≡ printed (e ∷ h))
     longer l =
-        let last = deeds_of e.beat e.actor (act_of e.deed) in
+        let last = deeds_of e.beat e.actor (act_of e.fact) in
         (l.0 ++ last, sym (append_assoc (printed g) l.0 last) ∙ ap (λ x. x ++ last) l.1)
 
 -- the printed entries before a beat are a front of those before a later one

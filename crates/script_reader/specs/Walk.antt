@@ -22,7 +22,7 @@ use Rattle.kube_objects.specs.declared.object.Object.{Object}
 use Rattle.kube_objects.specs.declared.script.Event.{Event}
 use Rattle.kube_objects.specs.declared.script.Proc.{Proc}
 use Rattle.kube_objects.specs.declared.script.What.{What}
-use Rattle.kube_objects.specs.declared.script.What.TheVariants as deeds
+use Rattle.kube_objects.specs.declared.script.What.TheVariants as whats
 use Rattle.kube_objects.specs.declared.settings.RatePolicy.{RatePolicy}
 use Rattle.kube_objects.specs.declared.settings.Settings.{Settings}
 use Rattle.manifest_json.specs.declared.codes.TheConstants.{BAD_JSON, BAD_SETTINGS, DUPLICATE, ELECTION_LEASE_EDIT, EVENT_ORDER}
@@ -311,48 +311,48 @@ abbrev pub rate_at : Cast → Texts → List ℕ → Data → Result What Refusa
 rate_at cast names path d = do
   who ← process_at (process_named cast names) path d
   ppm ← needed_whole 500_000 2_000_000 path (codes "ratePpm") d
-  Ok (deeds.Rate who ppm)
+  Ok (whats.Rate who ppm)
 
 unfoldable pub delay_at : Cast → Texts → List ℕ → Data → Result What Refusal
 delay_at cast names path d = do
   who ← process_at (process_named cast names) path d
   requests ← needed_whole 1 6_000 path (codes "requestBeats") d
   replies ← needed_whole 1 6_000 path (codes "replyBeats") d
-  Ok (deeds.Delay who requests replies)
+  Ok (whats.Delay who requests replies)
 
 unfoldable pub loss_at : Cast → Texts → List ℕ → Data → Result What Refusal
 loss_at cast names path d = do
   who ← process_at (process_named cast names) path d
   requests ← needed_flag path (codes "requests") d
   replies ← needed_flag path (codes "replies") d
-  Ok (deeds.Loss who requests replies)
+  Ok (whats.Loss who requests replies)
 
 abbrev pub crash_at : Cast → Texts → List ℕ → Data → Result What Refusal
 crash_at cast names path d = do
   who ← process_at (process_named cast names) path d
-  Ok (deeds.Crash who)
+  Ok (whats.Crash who)
 
 abbrev pub start_at : Cast → Texts → List ℕ → Data → Result What Refusal
 start_at cast names path d = do
   who ← process_at (process_named cast names) path d
-  Ok (deeds.Start who)
+  Ok (whats.Start who)
 
 abbrev pub stop_at : Cast → Texts → List ℕ → Data → Result What Refusal
 stop_at cast names path d = do
   who ← process_at (controller_named cast names) path d
-  Ok (deeds.Stop who)
+  Ok (whats.Stop who)
 
 abbrev pub watch_at : Cast → Texts → List ℕ → Data → Result What Refusal
 watch_at cast names path d = do
   who ← process_at (controller_named cast names) path d
   on ← needed_flag path (codes "on") d
-  Ok (deeds.Watch who on)
+  Ok (whats.Watch who on)
 
 abbrev pub ready_at : Cast → Texts → List ℕ → Data → Result What Refusal
 ready_at cast names path d = do
   who ← process_at (kubelet_named cast names) path d
   status ← needed_posted path (codes "status") d
-  Ok (deeds.Ready who status)
+  Ok (whats.Ready who status)
 
 abbrev pub object_under : Cast → Texts → List ℕ → Data → Result ((Key × Object) × Texts) Refusal
 object_under cast names path d =
@@ -361,7 +361,7 @@ object_under cast names path d =
 unfoldable pub put_at : Cast → Texts → List ℕ → Data → Result (What × Texts) Refusal
 put_at cast names path d = do
   found ← object_under cast names path d
-  Ok (deeds.Put found.0.0 found.0.1, found.1)
+  Ok (whats.Put found.0.0 found.0.1, found.1)
 
 abbrev pub kind_of : List ℕ → Option Kind
 kind_of text =
@@ -386,7 +386,7 @@ remove_at names path d = do
   text ← name_at (codes "default") path (codes "namespace") d
   space ← space_of names kind text
   name ← named_at space.1 path (codes "name") d
-  Ok (deeds.Remove (record { kind = kind; space = space.0; name = name.0 }), name.1)
+  Ok (whats.Remove (record { kind = kind; space = space.0; name = name.0 }), name.1)
 
 abbrev pub beside : Texts → Result What Refusal → Result (What × Texts) Refusal
 beside names walk = walk >>= λ what. Ok (what, names)
@@ -427,16 +427,16 @@ is_election key = key_eq key election
 
 -- an event puts or removes the election Lease
 abbrev pub edits_election : What → Bool
-edits_election (deeds.Rate who ppm) = false
-edits_election (deeds.Delay who requests replies) = false
-edits_election (deeds.Loss who requests replies) = false
-edits_election (deeds.Crash who) = false
-edits_election (deeds.Start who) = false
-edits_election (deeds.Stop who) = false
-edits_election (deeds.Watch who on) = false
-edits_election (deeds.Ready who status) = false
-edits_election (deeds.Put key object) = is_election key
-edits_election (deeds.Remove key) = is_election key
+edits_election (whats.Rate who ppm) = false
+edits_election (whats.Delay who requests replies) = false
+edits_election (whats.Loss who requests replies) = false
+edits_election (whats.Crash who) = false
+edits_election (whats.Start who) = false
+edits_election (whats.Stop who) = false
+edits_election (whats.Watch who on) = false
+edits_election (whats.Ready who status) = false
+edits_election (whats.Put key object) = is_election key
+edits_election (whats.Remove key) = is_election key
 
 -- the own rules of an event: it isn't before an earlier event nor after the end, and it leaves the election Lease alone
 abbrev pub if_event : ℕ → ℕ → List ℕ → ℕ → What → Texts → Result (Event × Texts) Refusal

@@ -2,7 +2,6 @@
 #![tactic(auto)]
 
 mod cast;
-mod deed;
 mod document;
 mod event;
 pub mod field;
@@ -12,6 +11,7 @@ mod process;
 mod reading;
 mod settings;
 pub mod table;
+mod what;
 
 pub use document::Document;
 pub use premise::lease_premise;

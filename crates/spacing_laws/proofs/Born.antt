@@ -7,7 +7,7 @@ use Rattle.kube_objects.specs.declared.object.Object.{Object}
 use Rattle.kube_objects.specs.Clocks.{local, store_wall, whole_second}
 use Rattle.kube_objects.specs.Document.{Doc, renew_deadline, retry_period}
 use Rattle.kube_objects.specs.Elector.{lead_says, leads, succeeds, deadline_says, deadline}
-use Rattle.kube_objects.specs.Entry.{Entry, Identity, Deed, First, Event, Starts, Crashes, Stops, Ends, Sends, Answers, Delivers, Expires, Leads, Ticks, actor_of, script_entry}
+use Rattle.kube_objects.specs.Entry.{Entry, Identity, Fact, First, Event, Starts, Crashes, Stops, Ends, Sends, Answers, Delivers, Expires, Leads, Ticks, actor_of, script_entry}
 use Rattle.kube_objects.specs.Identities.{is_by, of_process}
 use Rattle.kube_objects.specs.Newest.{newest, when, has}
 use Rattle.kube_objects.specs.Process.{alive, is_start, starts}
@@ -24,17 +24,17 @@ Leadless doc q h = (leads q h ≡ false) × (deadline doc q h ≡ None)
 abbrev Unborn : Doc → List Entry → Type 0
 Unborn doc h = (q : Identity) → starts q.process h < q.incarnation → Leadless doc q h
 
-unborn_more : (doc : Doc) (x : Entry) (h : List Entry) → LeadIsUp x.actor x.deed h → Counted h → Unborn doc h → Unborn doc (x ∷ h)
-unborn_more doc x h up counts old q below = cases x.actor x.deed up
+unborn_more : (doc : Doc) (x : Entry) (h : List Entry) → LeadIsUp x.actor x.fact h → Counted h → Unborn doc h → Unborn doc (x ∷ h)
+unborn_more doc x h up counts old q below = cases x.actor x.fact up
   where
     before : starts q.process h < q.incarnation
-    before = omega (arith, below, added_more (is_start x.deed && has (of_process q.process x.actor)) (starts q.process h))
+    before = omega (arith, below, added_more (is_start x.fact && has (of_process q.process x.actor)) (starts q.process h))
 
     s : Leadless doc q h
     s = old q before
 
-    After : Actor → Deed → Type 0
-    After who d = (has (upper (lead_says q who d) (newest (λ e T. lead_says q e.actor e.deed) h)) ≡ false) × (upper (deadline_says doc q x.beat who (leads q h) d) (deadline doc q h) ≡ None)
+    After : Actor → Fact → Type 0
+    After who d = (has (upper (lead_says q who d) (newest (λ e T. lead_says q e.actor e.fact) h)) ≡ false) × (upper (deadline_says doc q x.beat who (leads q h) d) (deadline doc q h) ≡ None)
 
     own : (who : Actor) (p : Identity) → who ≡ actor_of p → alive p.process h ≡ Some p.incarnation → is_by q who ≡ true → ⊥
     own who p by up is =
@@ -43,7 +43,7 @@ unborn_more doc x h up counts old q below = cases x.actor x.deed up
         absurd (omega (arith, before, counts q.process q.incarnation here))
 
     led : (who : Actor) (version : Version) (p : Identity) → who ≡ actor_of p → alive p.process h ≡ Some p.incarnation → (b : Bool) → is_by q who ≡ b
-        → (has (upper (when b version) (newest (λ e T. lead_says q e.actor e.deed) h)) ≡ false) × (upper (when b (local doc q.process x.beat + renew_deadline doc q.process)) (deadline doc q h) ≡ None)
+        → (has (upper (when b version) (newest (λ e T. lead_says q e.actor e.fact) h)) ≡ false) × (upper (when b (local doc q.process x.beat + renew_deadline doc q.process)) (deadline doc q h) ≡ None)
     led who version p by up true is = absurd (own who p by up is)
     led who version p by up false is = s
 
@@ -51,7 +51,7 @@ unborn_more doc x h up counts old q below = cases x.actor x.deed up
     delivered true success = s.1
     delivered false success = s.1
 
-    cases : (who : Actor) (d : Deed) → LeadIsUp who d h → After who d
+    cases : (who : Actor) (d : Fact) → LeadIsUp who d h → After who d
     cases who (Leads version) up = led who version up.0 up.1 up.2 (is_by q who) refl
     cases who (Delivers call reply counted) up = (
       s.0,

@@ -6,7 +6,7 @@ use Rattle.kube_objects.specs.declared.deed.Actor.{Actor}
 use Rattle.kube_objects.specs.declared.node.ZoneState.{ZoneState}
 use Rattle.kube_objects.specs.Clocks.{local, rate}
 use Rattle.kube_objects.specs.Document.{Doc, beat_micros}
-use Rattle.kube_objects.specs.Entry.{Entry, Identity, Place, Deed, Ticks, Tick, Pass, Zone, Head, actor_of}
+use Rattle.kube_objects.specs.Entry.{Entry, Identity, Place, Fact, Ticks, Tick, Pass, Zone, Head, actor_of}
 use Rattle.kube_objects.specs.Identities.{is_same, is_by}
 use Rattle.kube_objects.specs.Modes.{place_eq}
 use Rattle.kube_objects.specs.Newest.{newest, when, only_if, join, or_zero}
@@ -27,17 +27,17 @@ record OwnAt (q : Identity) (k : ℕ) (h : List Entry) : Type 0 where
   beat : f.beat ≡ k
   own : is_by q f.actor ≡ true
   tick : Tick
-  deed : f.deed ≡ Ticks tick
+  fact : f.fact ≡ Ticks tick
 
 abbrev Based : Identity → List Entry → Option ℕ → Type 0
 Based q h None = ⊥
 Based q h (Some k) = OwnAt q k h
 
 abbrev base_of : Identity → Place → List Entry → Option ℕ
-base_of q place = newest (λ e T. when (is_base q place e.actor e.deed T) e.beat)
+base_of q place = newest (λ e T. when (is_base q place e.actor e.fact T) e.beat)
 
 abbrev last_rated : Identity → Place → List Entry → Option (Option Rated)
-last_rated q place = newest (λ e T. rated_says q place e.actor e.deed T)
+last_rated q place = newest (λ e T. rated_says q place e.actor e.fact T)
 
 -- what is known of the history below an entry
 abbrev Old : Identity → Place → List Entry → Type 0
@@ -45,49 +45,49 @@ Old q place h = (x : Rated) → rated q place h ≡ Some x → Based q h (base_o
 
 based_more : (q : Identity) (e : Entry) (h : List Entry) (o : Option ℕ) → Based q h o → Based q (e ∷ h) o
 based_more q e h None s = s
-based_more q e h (Some k) s = record { f = s.f; at = inr s.at; beat = s.beat; own = s.own; tick = s.tick; deed = s.deed }
+based_more q e h (Some k) s = record { f = s.f; at = inr s.at; beat = s.beat; own = s.own; tick = s.tick; fact = s.fact }
 
 based : (q : Identity) (place : Place) (h : List Entry) (x : Rated) → rated q place h ≡ Some x → Based q h (base_of q place h)
 based q place [] x is = absurd (none_is x is)
-based q place (e ∷ h) x is = cases (based q place h) e.deed refl is
+based q place (e ∷ h) x is = cases (based q place h) e.fact refl is
   where
     keep : Old q place h → rated q place h ≡ Some x → Based q (e ∷ h) (base_of q place h)
     keep old is = based_more q e h (base_of q place h) (old x is)
 
-    found : (t : Tick) → e.deed ≡ Ticks t → is_by q e.actor ≡ true → Based q (e ∷ h) (Some e.beat)
-    found t deed own = record { f = e; at = inl refl; beat = refl; own = own; tick = t; deed = deed }
+    found : (t : Tick) → e.fact ≡ Ticks t → is_by q e.actor ≡ true → Based q (e ∷ h) (Some e.beat)
+    found t fact own = record { f = e; at = inl refl; beat = refl; own = own; tick = t; fact = fact }
 
-    by_rate : Old q place h → (t : Tick) → e.deed ≡ Ticks t → is_by q e.actor ≡ true → (rate : ℕ) (o : Option Rated) → rated q place h ≡ o → Based q (e ∷ h) (upper (when (not (has_rate rate o)) e.beat) (base_of q place h))
-    by_rate old t deed own rate None rates = found t deed own
-    by_rate old t deed own rate (Some y) rates = by_test (y.1 == rate)
+    by_rate : Old q place h → (t : Tick) → e.fact ≡ Ticks t → is_by q e.actor ≡ true → (rate : ℕ) (o : Option Rated) → rated q place h ≡ o → Based q (e ∷ h) (upper (when (not (has_rate rate o)) e.beat) (base_of q place h))
+    by_rate old t fact own rate None rates = found t fact own
+    by_rate old t fact own rate (Some y) rates = by_test (y.1 == rate)
       where
         by_test : (b : Bool) → Based q (e ∷ h) (upper (when (not b) e.beat) (base_of q place h))
         by_test true = based_more q e h (base_of q place h) (old y rates)
-        by_test false = found t deed own
+        by_test false = found t fact own
 
-    by_zone : Old q place h → (at : Place) (state : ZoneState) (rate : ℕ) → e.deed ≡ Ticks (Zone at state rate) → (s b : Bool) → is_by q e.actor ≡ b
+    by_zone : Old q place h → (at : Place) (state : ZoneState) (rate : ℕ) → e.fact ≡ Ticks (Zone at state rate) → (s b : Bool) → is_by q e.actor ≡ b
         → join (upper (when (s && b) (Some (state, rate))) (last_rated q place h)) ≡ Some x
         → Based q (e ∷ h) (upper (when (s && (b && not (has_rate rate (rated q place h)))) e.beat) (base_of q place h))
-    by_zone old at state rate deed true true own is = by_rate old (Zone at state rate) deed own rate (rated q place h) refl
-    by_zone old at state rate deed true false own is = keep old is
-    by_zone old at state rate deed false b own is = keep old is
+    by_zone old at state rate fact true true own is = by_rate old (Zone at state rate) fact own rate (rated q place h) refl
+    by_zone old at state rate fact true false own is = keep old is
+    by_zone old at state rate fact false b own is = keep old is
 
-    by_head : Old q place h → (t : Tick) → e.deed ≡ Ticks t → (s b : Bool) → is_by q e.actor ≡ b → rated q place h ≡ Some x → Based q (e ∷ h) (upper (when (s && b) e.beat) (base_of q place h))
-    by_head old t deed true true own is = found t deed own
-    by_head old t deed true false own is = keep old is
-    by_head old t deed false b own is = keep old is
+    by_head : Old q place h → (t : Tick) → e.fact ≡ Ticks t → (s b : Bool) → is_by q e.actor ≡ b → rated q place h ≡ Some x → Based q (e ∷ h) (upper (when (s && b) e.beat) (base_of q place h))
+    by_head old t fact true true own is = found t fact own
+    by_head old t fact true false own is = keep old is
+    by_head old t fact false b own is = keep old is
 
     by_pass : Old q place h → (b z : Bool) → join (upper (only_if b (when z None)) (last_rated q place h)) ≡ Some x → Based q (e ∷ h) (base_of q place h)
     by_pass old true true is = absurd (none_is x is)
     by_pass old true false is = keep old is
     by_pass old false z is = keep old is
 
-    cases : Old q place h → (d : Deed) → e.deed ≡ d → join (upper (rated_says q place e.actor d h) (last_rated q place h)) ≡ Some x
+    cases : Old q place h → (d : Fact) → e.fact ≡ d → join (upper (rated_says q place e.actor d h) (last_rated q place h)) ≡ Some x
         → Based q (e ∷ h) (upper (when (is_base q place e.actor d h) e.beat) (base_of q place h))
-    cases old (Ticks (Zone at state rate)) deed is = by_zone old at state rate deed (place_eq at place) (is_by q e.actor) refl is
-    cases old (Ticks (Head at name wanted given node answer)) deed is = by_head old (Head at name wanted given node answer) deed (place_eq at place) (is_by q e.actor) refl is
-    cases old (Ticks Pass) deed is = by_pass old (is_by q e.actor) (not (is_zone q place h)) is
-    cases old d deed is = keep old is
+    cases old (Ticks (Zone at state rate)) fact is = by_zone old at state rate fact (place_eq at place) (is_by q e.actor) refl is
+    cases old (Ticks (Head at name wanted given node answer)) fact is = by_head old (Head at name wanted given node answer) fact (place_eq at place) (is_by q e.actor) refl is
+    cases old (Ticks Pass) fact is = by_pass old (is_by q e.actor) (not (is_zone q place h)) is
+    cases old d fact is = keep old is
 
 -- ---- a term's own queued taint isn't later than its base
 
@@ -95,35 +95,35 @@ pub not_later : (e f : Entry) → IsWithin e.beat e.step f → f.beat ≤ e.beat
 not_later e f (inl before) = omega (arith, before)
 not_later e f (inr here) = omega (arith, here.0)
 
-own_head_before : (q : Identity) (place : Place) (h : List Entry) → IsOrdered h → (f : Entry) → In f h → is_head place f.deed ≡ true → is_by q f.actor ≡ true → f.beat ≤ base q place h
+own_head_before : (q : Identity) (place : Place) (h : List Entry) → IsOrdered h → (f : Entry) → In f h → is_head place f.fact ≡ true → is_by q f.actor ≡ true → f.beat ≤ base q place h
 own_head_before q place [] order f at head own = absurd at
-own_head_before q place (e ∷ h) order f at head own = cases (own_head_before q place h order.1) (is_base q place e.actor e.deed h) refl at
+own_head_before q place (e ∷ h) order f at head own = cases (own_head_before q place h order.1) (is_base q place e.actor e.fact h) refl at
   where
-    says : (who : Actor) (d : Deed) → is_head place d ≡ true → is_by q who ≡ true → is_base q place who d h ≡ true
+    says : (who : Actor) (d : Fact) → is_head place d ≡ true → is_by q who ≡ true → is_base q place who d h ≡ true
     says who (Ticks (Head p name wanted given node answer)) head own = subst (λ b. (b && is_by q who) ≡ true) (sym head) own
     says who d head own = absurd (false_is head)
 
-    cases : ((f : Entry) → In f h → is_head place f.deed ≡ true → is_by q f.actor ≡ true → f.beat ≤ base q place h) → (b : Bool) → is_base q place e.actor e.deed h ≡ b
+    cases : ((f : Entry) → In f h → is_head place f.fact ≡ true → is_by q f.actor ≡ true → f.beat ≤ base q place h) → (b : Bool) → is_base q place e.actor e.fact h ≡ b
         → (f ≡ e) ⊎ In f h → f.beat ≤ or_zero (upper (when b e.beat) (base_of q place h))
     cases old true is (inl same) = omega (arith, ap (λ (e : Entry). e.beat) same)
     cases old true is (inr at) = not_later e f (order.0 f at)
-    cases old false is (inl same) = absurd (false_is (sym is ∙ says e.actor e.deed (subst (λ (e : Entry). is_head place e.deed ≡ true) same head) (subst (λ (e : Entry). is_by q e.actor ≡ true) same own)))
+    cases old false is (inl same) = absurd (false_is (sym is ∙ says e.actor e.fact (subst (λ (e : Entry). is_head place e.fact ≡ true) same head) (subst (λ (e : Entry). is_by q e.actor ≡ true) same own)))
     cases old false is (inr at) = old f at head own
 
 -- ---- what is known of the entries
 
-abbrev pub TokensAt : Doc → ℕ → Actor → Deed → List Entry → Type 0
+abbrev pub TokensAt : Doc → ℕ → Actor → Fact → List Entry → Type 0
 TokensAt doc k who (Ticks (Head place name wanted given node answer)) h = (q : Identity) × (who ≡ actor_of q) × (has_token doc q k place h ≡ true)
 TokensAt doc k who (Ticks (Zone place state rate)) h = IsRate doc rate
 TokensAt doc k who _ h = Unit {0}
 
 abbrev pub Tokens : Doc → List Entry → Type 0
 Tokens doc [] = Unit {0}
-Tokens doc (e ∷ h) = TokensAt doc e.beat e.actor e.deed h × Tokens doc h
+Tokens doc (e ∷ h) = TokensAt doc e.beat e.actor e.fact h × Tokens doc h
 
 pub rated_most : (doc : Doc) (q : Identity) (place : Place) → doc.settings.secondary_rate ≤ doc.settings.primary_rate → (h : List Entry) → Tokens doc h → zone_rate q place h ≤ doc.settings.primary_rate
 rated_most doc q place le [] tokens = omega arith
-rated_most doc q place le (e ∷ h) tokens = cases (rated_most doc q place le h tokens.1) e.deed tokens.0
+rated_most doc q place le (e ∷ h) tokens = cases (rated_most doc q place le h tokens.1) e.fact tokens.0
   where
     by_zone : zone_rate q place h ≤ doc.settings.primary_rate → (state : ZoneState) (rate : ℕ) → rate ≤ doc.settings.primary_rate → (b : Bool) → rate_or_zero (join (upper (when b (Some (state, rate))) (last_rated q place h))) ≤ doc.settings.primary_rate
     by_zone old state rate most true = most
@@ -134,16 +134,16 @@ rated_most doc q place le (e ∷ h) tokens = cases (rated_most doc q place le h 
     by_pass old true false = old
     by_pass old false z = old
 
-    cases : zone_rate q place h ≤ doc.settings.primary_rate → (d : Deed) → TokensAt doc e.beat e.actor d h → rate_or_zero (join (upper (rated_says q place e.actor d h) (last_rated q place h))) ≤ doc.settings.primary_rate
+    cases : zone_rate q place h ≤ doc.settings.primary_rate → (d : Fact) → TokensAt doc e.beat e.actor d h → rate_or_zero (join (upper (rated_says q place e.actor d h) (last_rated q place h))) ≤ doc.settings.primary_rate
     cases old (Ticks (Zone at state rate)) most = by_zone old state rate (most le) (place_eq at place && is_by q e.actor)
     cases old (Ticks Pass) most = by_pass old (is_by q e.actor) (not (is_zone q place h))
     cases old d most = old
 
 -- each entry of a tick is by somebody who acts
 abbrev pub Acted : (Identity → ℕ → Type 0) → List Entry → Type 0
-Acted A h = (f : Entry) → In f h → (t : Tick) → f.deed ≡ Ticks t → (p : Identity) × (f.actor ≡ actor_of p) × A p f.beat
+Acted A h = (f : Entry) → In f h → (t : Tick) → f.fact ≡ Ticks t → (p : Identity) × (f.actor ≡ actor_of p) × A p f.beat
 
-head_tick : (place : Place) (d : Deed) → is_head place d ≡ true → (t : Tick) × (d ≡ Ticks t)
+head_tick : (place : Place) (d : Fact) → is_head place d ≡ true → (t : Tick) × (d ≡ Ticks t)
 head_tick place (Ticks t) is = (t, refl)
 head_tick place d is = absurd (false_is is)
 
@@ -173,7 +173,7 @@ module _ (doc : Doc) (A : Identity → ℕ → Type 0)
 
   -- a queued taint isn't later than the base that it leaves to the next one
   head_before : (q p : Identity) (k b : ℕ) (place : Place) (h : List Entry) → IsOrdered h → A q k → A q b → base q place h ≡ b
-      → (f : Entry) → In f h → is_head place f.deed ≡ true → f.beat < k → f.actor ≡ actor_of p → A p f.beat → f.beat ≤ b
+      → (f : Entry) → In f h → is_head place f.fact ≡ true → f.beat < k → f.actor ≡ actor_of p → A p f.beat → f.beat ≤ b
   head_before q p k b place h order acts starts is f at head less by acted = by_test (is_same p q) refl
     where
       by_order : is_same p q ≡ false → (t : Bool) → nat_le f.beat b ≡ t → f.beat ≤ b
@@ -196,9 +196,9 @@ module _ (doc : Doc) (A : Identity → ℕ → Type 0)
       by_base : (x : Rated) (o : Option ℕ) → base_of q place h ≡ o → Based q h o → nat_le token_size ((local doc q.process k - local doc q.process (or_zero o)) * x.1) ≡ true → token_size ≤ greatest_span doc (k - f.beat) * x.1
       by_base x None is g full = absurd g
       by_base x (Some b) is g full =
-          let tick = head_tick place f.deed head in
+          let tick = head_tick place f.fact head in
           let by = acted f there tick.0 tick.1 in
-          let g_by = acted g.f g.at g.tick g.deed in
+          let g_by = acted g.f g.at g.tick g.fact in
           let mine : g_by.0 ≡ q = same_is g_by.0 q (ap (is_by q) (sym g_by.1) ∙ g.own) in
           let starts : A q b = subst (λ q. A q b) mine (subst (λ b. A g_by.0 b) g.beat g_by.2) in
           let b_le : b ≤ k = omega (arith, below g.f g.at, g.beat) in

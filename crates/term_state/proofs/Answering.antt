@@ -21,7 +21,7 @@ pub passed : (q : Identity) (replied : Reply) (h : List Entry) (passes : Bool) �
 passed q replied h passes is same = ap (λ b. only_if b (as_answer replied)) (sym same ∙ is)
 
 pub tried_stands : (h : List Entry) (e : Entry) (new : Store) (w : Write) (answered : Reply) (x : Answer) (r : Result Version StoreFault) → Told r answered → Ok x ≡ answer_of r
-    → write_of e.deed ≡ try_write w (as_answer answered) → (write_of e.deed ≡ Some w → OnOk r (StoreStands (e ∷ h) new)) → OnErr r (StoreStands h new) → StoreStands (e ∷ h) new
+    → write_of e.fact ≡ try_write w (as_answer answered) → (write_of e.fact ≡ Some w → OnOk r (StoreStands (e ∷ h) new)) → OnErr r (StoreStands h new) → StoreStands (e ∷ h) new
 tried_stands h e new w answered x (Ok version) told is written ok err = ok (written ∙ ap (λ a. try_write w (as_answer a)) told)
 tried_stands h e new w answered x (Err fault.Absent) told is written ok err = store-beside h e new err (written ∙ ap (λ a. try_write w (as_answer a)) told)
 tried_stands h e new w answered x (Err fault.Exists) told is written ok err = store-beside h e new err (written ∙ ap (λ a. try_write w (as_answer a)) told)

@@ -10,7 +10,7 @@ use Rattle.kube_objects.specs.declared.node.Node.{Node}
 use Rattle.kube_objects.specs.declared.pod.Due.{Due}
 use Rattle.kube_objects.specs.declared.pod.Due.TheVariants.{Never, At}
 use Rattle.kube_objects.specs.declared.pod.Pod.{Pod}
-use Rattle.kube_objects.specs.Entry.{Entry, Identity, Deed, Tick, Ticks, Mode}
+use Rattle.kube_objects.specs.Entry.{Entry, Identity, Fact, Tick, Ticks, Mode}
 use Rattle.kube_objects.specs.Identities.{is_by}
 use Rattle.kube_objects.specs.Keys.{key_eq}
 use Rattle.kube_objects.specs.Modes.{mode, mode_says}
@@ -105,22 +105,22 @@ late_due now at d is less = ap (is_by_now now) is ∙ by_order now at less
 
 mode_none : (q : Identity) (h : List Entry) → ticks q h ≡ 0 → mode q h ≡ false
 mode_none q [] none = refl
-mode_none q (e ∷ h) none = by_deed e.deed (by_test (is_tick_by q e.actor e.deed) none) (mode_none q h)
+mode_none q (e ∷ h) none = by_fact e.fact (by_test (is_tick_by q e.actor e.fact) none) (mode_none q h)
   where
     by_test : (b : Bool) → added b (ticks q h) ≡ 0 → (b ≡ false) × (ticks q h ≡ 0)
     by_test true n = absurd (omega (arith, n))
     by_test false n = (refl, n)
 
     before : Option Bool
-    before = newest (λ e T. mode_says q e.actor e.deed) h
+    before = newest (λ e T. mode_says q e.actor e.fact) h
 
     by_tick : (t : Tick) → is_by q e.actor ≡ false → or_else false before ≡ false → or_else false (upper (mode_says q e.actor (Ticks t)) before) ≡ false
     by_tick (Mode on) other rest = ap (λ b. or_else false (upper (when b on) before)) other ∙ rest
     by_tick t other rest = rest
 
-    by_deed : (d : Deed) → (is_tick_by q e.actor d ≡ false) × (ticks q h ≡ 0) → (ticks q h ≡ 0 → mode q h ≡ false) → or_else false (upper (mode_says q e.actor d) before) ≡ false
-    by_deed (Ticks t) parts rest = by_tick t parts.0 (rest parts.1)
-    by_deed d parts rest = rest parts.1
+    by_fact : (d : Fact) → (is_tick_by q e.actor d ≡ false) × (ticks q h ≡ 0) → (ticks q h ≡ 0 → mode q h ≡ false) → or_else false (upper (mode_says q e.actor d) before) ≡ false
+    by_fact (Ticks t) parts rest = by_tick t parts.0 (rest parts.1)
+    by_fact d parts rest = rest parts.1
 
 pub new_stands : (q : Identity) (h : List Entry) (c : Cluster) → ticks q h ≡ 0 → CacheStands q h c.cache → ((key : Key) → kept_in c.cache key ≡ None) → c.mode ≡ false
     → ((n : ℕ) → contains nat_cmp c.unclean n ≡ false) → ((key : Key) → due_in c.dues key ≡ Never) → ClusterStands q h c

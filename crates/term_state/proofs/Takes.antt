@@ -41,7 +41,7 @@ kept_same (Some x) = refl
 
 pub keys_same : (h : List Entry) → changed_keys h ≡ written_keys h
 keys_same [] = refl
-keys_same (e ∷ h) = ap (and_key (write_of e.deed)) (keys_same h)
+keys_same (e ∷ h) = ap (and_key (write_of e.fact)) (keys_same h)
 
 -- what is stored from a position on was written since the last sync
 pub since_is : (q : Identity) (h : List Entry) (position : ℕ) → position ≡ synced_writes q h → drop position (changed_keys h) ≡ keys_since q h

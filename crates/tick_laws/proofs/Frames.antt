@@ -32,7 +32,7 @@ use Rattle.watch_cache.proofs.Frames.{upper, last_seen, last_stale, last_synced,
 use Rattle.watch_cache.proofs.Ticks.{is_sync, marks, same_self, shows_written, stales_refused}
 
 abbrev pub last_mode : Identity → List Entry → Option Bool
-last_mode q = newest (λ e T. mode_says q e.actor e.deed)
+last_mode q = newest (λ e T. mode_says q e.actor e.fact)
 
 -- ---- an own entry that is neither a sync nor a change of the mode
 

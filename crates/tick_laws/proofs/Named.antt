@@ -9,7 +9,7 @@ use Rattle.kube_objects.specs.declared.node.Node.{Node}
 use Rattle.kube_objects.specs.declared.object.Object.{Object}
 use Rattle.kube_objects.specs.declared.pod.Pod.{Pod}
 use Rattle.kube_objects.specs.Answers.{as_kind, node_in}
-use Rattle.kube_objects.specs.Entry.{Entry, Identity, Deed, Ticks, Tick, Sync}
+use Rattle.kube_objects.specs.Entry.{Entry, Identity, Fact, Ticks, Tick, Sync}
 use Rattle.kube_objects.specs.Identities.{is_by}
 use Rattle.kube_objects.specs.Keys.{key_cmp, key_eq}
 use Rattle.kube_objects.specs.Newest.{when, only_if, join}
@@ -85,7 +85,7 @@ module _ {A : Type 0} (compare : A → A → Ordering) (strict : IsStrict compar
 
     pub names_ascend : (h : List Entry) → Ascends compare (written_names compare f h)
     names_ascend [] = tt
-    names_ascend (e ∷ h) = ascends_named (named f (write_of e.deed)) (written_names compare f h) (names_ascend h)
+    names_ascend (e ∷ h) = ascends_named (named f (write_of e.fact)) (written_names compare f h) (names_ascend h)
 
     pub named_keeps : (a : A) (o : Option A) (ms : List A) → Among a ms → Among a (insert_named compare o ms)
     named_keeps a None ms p = p
@@ -104,10 +104,10 @@ module _ {A : Type 0} (compare : A → A → Ordering) (strict : IsStrict compar
 
       pub stored_named : (h : List Entry) (y : Held) → stored key h ≡ Some y → Among n (written_names compare f h)
       stored_named [] y now = absurd (none_is y now)
-      stored_named (e ∷ h) y now = held_named h e.beat e.actor (write_of e.deed) (last_write key h) y (stored_named h y) now
+      stored_named (e ∷ h) y now = held_named h e.beat e.actor (write_of e.fact) (last_write key h) y (stored_named h y) now
 
       seen_more : (q : Identity) (e : Entry) (h : List Entry) (y : Held) → (seen q key h ≡ Some y → Among n (written_names compare f h)) → seen q key (e ∷ h) ≡ Some y → Among n (written_names compare f (e ∷ h))
-      seen_more q e h y p now = cases e.actor e.deed now
+      seen_more q e h y p now = cases e.actor e.fact now
         where
           own : (who : Actor) (t : Tick) → join (upper (tick_shows key e.beat who t h) (last_seen q key h)) ≡ Some y → Among n (insert_named compare (named f (tick_write t)) (written_names compare f h))
           own who Sync now = stored_named h y now
@@ -117,7 +117,7 @@ module _ {A : Type 0} (compare : A → A → Ordering) (strict : IsStrict compar
           by_test who t true now = own who t now
           by_test who t false now = named_keeps n (named f (tick_write t)) (written_names compare f h) (p now)
 
-          cases : (who : Actor) (d : Deed) → join (upper (seen_says q key e.beat who d h) (last_seen q key h)) ≡ Some y → Among n (insert_named compare (named f (write_of d)) (written_names compare f h))
+          cases : (who : Actor) (d : Fact) → join (upper (seen_says q key e.beat who d h) (last_seen q key h)) ≡ Some y → Among n (insert_named compare (named f (write_of d)) (written_names compare f h))
           cases who (Ticks t) now = by_test who t (is_by q who) now
           cases who d now = named_keeps n (named f (write_of d)) (written_names compare f h) (p now)
 

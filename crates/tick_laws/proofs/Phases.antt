@@ -8,7 +8,7 @@ use Rattle.kube_objects.specs.declared.key.Key.{Key}
 use Rattle.kube_objects.specs.declared.node.Node.{Node}
 use Rattle.kube_objects.specs.declared.node.ZoneState.{ZoneState}
 use Rattle.kube_objects.specs.Document.{Doc}
-use Rattle.kube_objects.specs.Entry.{Entry, Identity, Place, Deed, Ticks, Tick, Sync, Pass, Mark, Mode, Zone, Untaint, Swap, Head, Delete}
+use Rattle.kube_objects.specs.Entry.{Entry, Identity, Place, Fact, Ticks, Tick, Sync, Pass, Mark, Mode, Zone, Untaint, Swap, Head, Delete}
 use Rattle.kube_objects.specs.Health.{is_pass_due, mark_of, last_pass, pass_says}
 use Rattle.kube_objects.specs.InForce.{watches}
 use Rattle.kube_objects.specs.Modes.{nodes, places, place_eq, state_in, rate_in, all_full, mode}
@@ -302,12 +302,12 @@ module _ (doc : Doc) (k : ℕ) (q : Identity) (h : List Entry) (old : AreReached
 
 -- ---- an entry that is no own entry of a tick
 
-pub foreign_limits : (q : Identity) (h : List Entry) (e : Entry) → is_tick_by q e.actor e.deed ≡ false → KeepsLimits q h (e ∷ h)
+pub foreign_limits : (q : Identity) (h : List Entry) (e : Entry) → is_tick_by q e.actor e.fact ≡ false → KeepsLimits q h (e ∷ h)
 foreign_limits q h e other =
     record {
-      passed = ap (λ o. upper o (last_pass q h)) (by_pass e.actor e.deed other);
-      rated = λ place. ap (λ o. join (upper o (newest (λ e T. rated_says q place e.actor e.deed T) h))) (by_rated place e.actor e.deed other);
-      base = λ place. ap (λ b. or_zero (upper (when b e.beat) (newest (λ e T. when (is_base q place e.actor e.deed T) e.beat) h))) (by_base place e.actor e.deed other);
+      passed = ap (λ o. upper o (last_pass q h)) (by_pass e.actor e.fact other);
+      rated = λ place. ap (λ o. join (upper o (newest (λ e T. rated_says q place e.actor e.fact T) h))) (by_rated place e.actor e.fact other);
+      base = λ place. ap (λ b. or_zero (upper (when b e.beat) (newest (λ e T. when (is_base q place e.actor e.fact T) e.beat) h))) (by_base place e.actor e.fact other);
       mode = (foreign_change q h e other).mode;
     }
   where
@@ -319,7 +319,7 @@ foreign_limits q h e other =
     pass_tick who Pass is = ap (λ b. when b e.beat) is
     pass_tick who t is = refl
 
-    by_pass : (who : Actor) (d : Deed) → is_tick_by q who d ≡ false → pass_says q e.beat who d ≡ None
+    by_pass : (who : Actor) (d : Fact) → is_tick_by q who d ≡ false → pass_says q e.beat who d ≡ None
     by_pass who (Ticks t) is = pass_tick who t is
     by_pass who d is = refl
 
@@ -328,7 +328,7 @@ foreign_limits q h e other =
     rated_tick place who (Zone at state rate) is = ap (λ b. when (place_eq at place && b) (Some (state, rate))) is ∙ ap (λ b. when b (Some (state, rate))) (and_false (place_eq at place))
     rated_tick place who t is = refl
 
-    by_rated : (place : Place) (who : Actor) (d : Deed) → is_tick_by q who d ≡ false → rated_says q place who d h ≡ None
+    by_rated : (place : Place) (who : Actor) (d : Fact) → is_tick_by q who d ≡ false → rated_says q place who d h ≡ None
     by_rated place who (Ticks t) is = rated_tick place who t is
     by_rated place who d is = refl
 
@@ -337,6 +337,6 @@ foreign_limits q h e other =
     base_tick place who (Head at node wanted given written a) is = ap (λ b. place_eq at place && b) is ∙ and_false (place_eq at place)
     base_tick place who t is = refl
 
-    by_base : (place : Place) (who : Actor) (d : Deed) → is_tick_by q who d ≡ false → is_base q place who d h ≡ false
+    by_base : (place : Place) (who : Actor) (d : Fact) → is_tick_by q who d ≡ false → is_base q place who d h ≡ false
     by_base place who (Ticks t) is = base_tick place who t is
     by_base place who d is = refl

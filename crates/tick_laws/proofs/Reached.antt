@@ -56,17 +56,17 @@ node_among_keeps : (o : Option Write) (keys : List Key) (x : Option (Version × 
 node_among_keeps o keys None is = is
 node_among_keeps o keys (Some x) is = and_key_keeps o keys (node_key x.1.node) is
 
-pub unsynced_since : (q : Identity) (h : List Entry) (e : Entry) → is_sync_of q e.actor e.deed ≡ false → keys_since q (e ∷ h) ≡ and_key (write_of e.deed) (keys_since q h)
-unsynced_since q h e other = ap (λ b. cond b [] (and_key (write_of e.deed) (keys_since q h))) other
+pub unsynced_since : (q : Identity) (h : List Entry) (e : Entry) → is_sync_of q e.actor e.fact ≡ false → keys_since q (e ∷ h) ≡ and_key (write_of e.fact) (keys_since q h)
+unsynced_since q h e other = ap (λ b. cond b [] (and_key (write_of e.fact) (keys_since q h))) other
 
 -- where a pod's key reads as before, it is reached as before
-pub reached_same : (q : Identity) (h : List Entry) (e : Entry) (key : Key) → is_sync_of q e.actor e.deed ≡ false → seen_pod q key (e ∷ h) ≡ seen_pod q key h → IsReached q h key → IsReached q (e ∷ h) key
+pub reached_same : (q : Identity) (h : List Entry) (e : Entry) (key : Key) → is_sync_of q e.actor e.fact ≡ false → seen_pod q key (e ∷ h) ≡ seen_pod q key h → IsReached q h key → IsReached q (e ∷ h) key
 reached_same q h e key other same is =
     subst (λ keys. (is_among keys key || is_node_among keys (seen_pod q key (e ∷ h))) ≡ true) (sym (unsynced_since q h e other))
-    (subst (λ x. (is_among (and_key (write_of e.deed) (keys_since q h)) key || is_node_among (and_key (write_of e.deed) (keys_since q h)) x) ≡ true) (sym same)
+    (subst (λ x. (is_among (and_key (write_of e.fact) (keys_since q h)) key || is_node_among (and_key (write_of e.fact) (keys_since q h)) x) ≡ true) (sym same)
     (or_more (is_among (keys_since q h) key) (is_node_among (keys_since q h) (seen_pod q key h)) _ _
-    (and_key_keeps (write_of e.deed) (keys_since q h) key)
-    (node_among_keeps (write_of e.deed) (keys_since q h) (seen_pod q key h)) is))
+    (and_key_keeps (write_of e.fact) (keys_since q h) key)
+    (node_among_keeps (write_of e.fact) (keys_since q h) (seen_pod q key h)) is))
 
 -- ---- an own entry other than a sync
 

@@ -14,7 +14,7 @@ use Rattle.kube_objects.specs.Tainting.{is_tick_of, before_tick}
 use Rattle.kube_objects.specs.Tick.{add}
 use Rattle.history_laws.proofs.Plainly.{false_is}
 use Rattle.tick_laws.specs.Since.{keys_since}
-use Rattle.tick_laws.specs.Steps.{pods_on, kind_cost, write_costs, own_cost, entry_cost, deed_cost, tick_cost}
+use Rattle.tick_laws.specs.Steps.{pods_on, kind_cost, write_costs, own_cost, entry_cost, fact_cost, tick_cost}
 use Rattle.tick_laws.specs.Ticked.{IsTicked}
 use Rattle.tick_laws.proofs.Ticked.{is_own_tick, before_short, ticked_keeps}
 use Rattle.watch_cache.proofs.Ticks.{is_sync}
@@ -65,8 +65,8 @@ cost_ticked q k h g s = ticked_keeps q k (λ g. tick_cost q k h ≤ tick_cost q 
 
 pub cost_start : (q : Identity) (k : ℕ) (h : List Entry) → before_tick q k h ≡ h → tick_cost q k h ≡ 0
 cost_start q k [] is = refl
-cost_start q k (e ∷ h) is = by_test (is_tick_of q k e.beat e.actor e.deed) is
+cost_start q k (e ∷ h) is = by_test (is_tick_of q k e.beat e.actor e.fact) is
   where
-    by_test : (b : Bool) → ◌≡◌ {A = List Entry} (elim b [ true ↦ before_tick q k h | false ↦ e ∷ h ]) (e ∷ h) → ◌≡◌ {A = ℕ} (elim b [ true ↦ deed_cost q h (e ∷ h) e.deed + tick_cost q k h | false ↦ 0 ]) 0
+    by_test : (b : Bool) → ◌≡◌ {A = List Entry} (elim b [ true ↦ before_tick q k h | false ↦ e ∷ h ]) (e ∷ h) → ◌≡◌ {A = ℕ} (elim b [ true ↦ fact_cost q h (e ∷ h) e.fact + tick_cost q k h | false ↦ 0 ]) 0
     by_test true same = absurd (omega (arith, before_short q k h, ap length same))
     by_test false same = refl

@@ -7,7 +7,7 @@ use Rattle.kube_base.specs.declared.numbers.Version.{Version}
 use Rattle.kube_objects.specs.declared.deed.Actor.{Actor}
 use Rattle.kube_objects.specs.declared.key.Key.{Key}
 use Rattle.kube_objects.specs.declared.pod.Pod.{Pod}
-use Rattle.kube_objects.specs.Entry.{Entry, Identity, Place, Deed, Ticks, Tick, Sync}
+use Rattle.kube_objects.specs.Entry.{Entry, Identity, Place, Fact, Ticks, Tick, Sync}
 use Rattle.kube_objects.specs.Feeds.{is_among}
 use Rattle.kube_objects.specs.Identities.{is_by}
 use Rattle.kube_objects.specs.Modes.{mode}
@@ -43,7 +43,7 @@ no_less false m n le = le
 -- a sync doesn't count later writes
 pub synced_few : (q : Identity) (h : List Entry) → synced_writes q h ≤ writes h
 synced_few q [] = omega arith
-synced_few q (e ∷ h) = no_less (has (write_of e.deed)) (synced_writes q (e ∷ h)) (writes h) (cases e.actor e.deed (synced_few q h))
+synced_few q (e ∷ h) = no_less (has (write_of e.fact)) (synced_writes q (e ∷ h)) (writes h) (cases e.actor e.fact (synced_few q h))
   where
     by_own : (b : Bool) → or_zero (last_sync q h) ≤ writes h → or_zero (upper (when b (writes h)) (last_sync q h)) ≤ writes h
     by_own true rest = omega arith
@@ -53,13 +53,13 @@ synced_few q (e ∷ h) = no_less (has (write_of e.deed)) (synced_writes q (e ∷
     of_tick who Sync rest = by_own (is_by q who) rest
     of_tick who t rest = rest
 
-    cases : (who : Actor) (d : Deed) → or_zero (last_sync q h) ≤ writes h → or_zero (upper (sync_says q who d h) (last_sync q h)) ≤ writes h
+    cases : (who : Actor) (d : Fact) → or_zero (last_sync q h) ≤ writes h → or_zero (upper (sync_says q who d h) (last_sync q h)) ≤ writes h
     cases who (Ticks t) rest = of_tick who t rest
     cases who d rest = rest
 
 pub keys_since_is : (q : Identity) (h : List Entry) → keys_since q h ≡ drop (synced_writes q h) (written_keys h)
 keys_since_is q [] = refl
-keys_since_is q (e ∷ h) = cases e.actor e.deed (keys_since_is q h)
+keys_since_is q (e ∷ h) = cases e.actor e.fact (keys_since_is q h)
   where
     few : synced_writes q h ≤ length (written_keys h)
     few = subst (λ n. synced_writes q h ≤ n) (sym (written-count h)) (synced_few q h)
@@ -76,7 +76,7 @@ keys_since_is q (e ∷ h) = cases e.actor e.deed (keys_since_is q h)
     of_tick who Sync rest = by_own (is_by q who) rest
     of_tick who t rest = by_write (tick_write t) rest
 
-    cases : (who : Actor) (d : Deed) → keys_since q h ≡ drop (synced_writes q h) (written_keys h)
+    cases : (who : Actor) (d : Fact) → keys_since q h ≡ drop (synced_writes q h) (written_keys h)
         → cond (is_sync_of q who d) [] (and_key (write_of d) (keys_since q h)) ≡ drop (or_zero (upper (sync_says q who d h) (last_sync q h))) (and_key (write_of d) (written_keys h))
     cases who (Ticks t) rest = of_tick who t rest
     cases who d rest = by_write (write_of d) rest
@@ -153,7 +153,7 @@ keys_split q h = (
 
 pub fresh_is : (q : Identity) (h : List Entry) → is_fresh q h ≡ (is_synced q h && (synced_writes q h == writes h))
 fresh_is q [] = refl
-fresh_is q (e ∷ h) = cases e.actor e.deed (fresh_is q h)
+fresh_is q (e ∷ h) = cases e.actor e.fact (fresh_is q h)
   where
     apart : (m n : ℕ) → m ≤ n → (m == n + 1) ≡ false
     apart m n le = grind (arith, nat_tests)
@@ -162,21 +162,21 @@ fresh_is q (e ∷ h) = cases e.actor e.deed (fresh_is q h)
     and_false true = refl
     and_false false = refl
 
-    by_write : (o : Option Write) → is_fresh q h ≡ (is_synced q h && (synced_writes q h == writes h)) → or_else false (upper (when (has o) false) (newest (λ e T. fresh_says q e.actor e.deed) h)) ≡ (is_synced q h && (synced_writes q h == added (has o) (writes h)))
+    by_write : (o : Option Write) → is_fresh q h ≡ (is_synced q h && (synced_writes q h == writes h)) → or_else false (upper (when (has o) false) (newest (λ e T. fresh_says q e.actor e.fact) h)) ≡ (is_synced q h && (synced_writes q h == added (has o) (writes h)))
     by_write None old = old
     by_write (Some w) old = sym (ap (λ b. is_synced q h && b) (apart (synced_writes q h) (writes h) (synced_few q h)) ∙ and_false (is_synced q h))
 
-    by_sync : (b : Bool) → is_fresh q h ≡ (is_synced q h && (synced_writes q h == writes h)) → or_else false (upper (when b true) (newest (λ e T. fresh_says q e.actor e.deed) h))
+    by_sync : (b : Bool) → is_fresh q h ≡ (is_synced q h && (synced_writes q h == writes h)) → or_else false (upper (when b true) (newest (λ e T. fresh_says q e.actor e.fact) h))
         ≡ (or_else false (upper (when b true) (last_synced q h)) && (or_zero (upper (when b (writes h)) (last_sync q h)) == writes h))
     by_sync true old = sym (eq-eqb (writes h) (writes h) refl)
     by_sync false old = old
 
-    of_tick : (who : Actor) (t : Tick) → is_fresh q h ≡ (is_synced q h && (synced_writes q h == writes h)) → or_else false (upper (fresh_says q who (Ticks t)) (newest (λ e T. fresh_says q e.actor e.deed) h))
+    of_tick : (who : Actor) (t : Tick) → is_fresh q h ≡ (is_synced q h && (synced_writes q h == writes h)) → or_else false (upper (fresh_says q who (Ticks t)) (newest (λ e T. fresh_says q e.actor e.fact) h))
         ≡ (or_else false (upper (synced_says q who (Ticks t)) (last_synced q h)) && (or_zero (upper (sync_says q who (Ticks t) h) (last_sync q h)) == added (has (tick_write t)) (writes h)))
     of_tick who Sync old = by_sync (is_by q who) old
     of_tick who t old = by_write (tick_write t) old
 
-    cases : (who : Actor) (d : Deed) → is_fresh q h ≡ (is_synced q h && (synced_writes q h == writes h)) → or_else false (upper (fresh_says q who d) (newest (λ e T. fresh_says q e.actor e.deed) h))
+    cases : (who : Actor) (d : Fact) → is_fresh q h ≡ (is_synced q h && (synced_writes q h == writes h)) → or_else false (upper (fresh_says q who d) (newest (λ e T. fresh_says q e.actor e.fact) h))
         ≡ (or_else false (upper (synced_says q who d) (last_synced q h)) && (or_zero (upper (sync_says q who d h) (last_sync q h)) == added (has (write_of d)) (writes h)))
     cases who (Ticks t) old = of_tick who t old
     cases who d old = by_write (write_of d) old

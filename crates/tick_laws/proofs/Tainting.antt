@@ -247,11 +247,11 @@ module _ (doc : Doc) (k : ℕ) (q : Identity) where
 
     pub heading_base : base q place (add k q (heading place n wanted w.x (try_node q n w.x.0 h)) h) ≡ k
     heading_base =
-        ap (λ b. or_zero (upper (when (b && is_by q (actor_of q)) k) (newest (λ e T. when (is_base q place e.actor e.deed T) e.beat) h))) (place_itself place)
-        ∙ ap (λ b. or_zero (upper (when b k) (newest (λ e T. when (is_base q place e.actor e.deed T) e.beat) h))) (same_self q)
+        ap (λ b. or_zero (upper (when (b && is_by q (actor_of q)) k) (newest (λ e T. when (is_base q place e.actor e.fact T) e.beat) h))) (place_itself place)
+        ∙ ap (λ b. or_zero (upper (when b k) (newest (λ e T. when (is_base q place e.actor e.fact T) e.beat) h))) (same_self q)
 
     pub heading_base_elsewhere : (other : Place) → place_eq place other ≡ false → base q other (add k q (heading place n wanted w.x (try_node q n w.x.0 h)) h) ≡ base q other h
-    heading_base_elsewhere other apart = ap (λ b. or_zero (upper (when (b && is_by q (actor_of q)) k) (newest (λ e T. when (is_base q other e.actor e.deed T) e.beat) h))) apart
+    heading_base_elsewhere other apart = ap (λ b. or_zero (upper (when (b && is_by q (actor_of q)) k) (newest (λ e T. when (is_base q other e.actor e.fact T) e.beat) h))) apart
 
     pub heading_token : (other : Place) → place_eq place other ≡ false → has_token doc q k other (add k q (heading place n wanted w.x (try_node q n w.x.0 h)) h) ≡ has_token doc q k other h
     heading_token other apart = ap (λ (b : ℕ). is_grown (local doc q.process k - local doc q.process b) (rated q other h)) (heading_base_elsewhere other apart)

@@ -56,7 +56,7 @@ own_before q k t h = ap (λ b. elim b [ true ↦ before_tick q k h | false ↦ a
 
 pub before_short : (q : Identity) (k : ℕ) (h : List Entry) → length (before_tick q k h) ≤ length h
 before_short q k [] = omega arith
-before_short q k (e ∷ h) = by_test (is_tick_of q k e.beat e.actor e.deed) (before_short q k h)
+before_short q k (e ∷ h) = by_test (is_tick_of q k e.beat e.actor e.fact) (before_short q k h)
   where
     by_test : (b : Bool) → length (before_tick q k h) ≤ length h → length {A = Entry} (elim b [ true ↦ before_tick q k h | false ↦ e ∷ h ]) ≤ length (e ∷ h)
     by_test true le = omega (arith, le)

@@ -5,7 +5,7 @@ use Rattle.kube_base.specs.declared.numbers.Version.{Version}
 use Rattle.kube_objects.specs.declared.call.Answer.{Answer}
 use Rattle.kube_objects.specs.declared.key.Key.{Key}
 use Rattle.kube_objects.specs.declared.node.Node.{Node}
-use Rattle.kube_objects.specs.Entry.{Entry, Identity, Place, Deed, Ticks, Tick, Head, Delete, actor_of}
+use Rattle.kube_objects.specs.Entry.{Entry, Identity, Place, Fact, Ticks, Tick, Head, Delete, actor_of}
 use Rattle.kube_objects.specs.Identities.{is_by}
 use Rattle.kube_objects.specs.Newest.{newest, when, has, or_zero}
 use Rattle.kube_objects.specs.Seen.{is_pod}
@@ -21,7 +21,7 @@ use Rattle.watch_cache.proofs.Frames.{upper}
 use Rattle.watch_cache.proofs.Ticks.{same_self}
 
 abbrev pub last_key : Identity → Place → ℕ → List Entry → Option ℕ
-last_key q place name = newest (λ e T. when (is_queueing q place name e.beat e.actor e.deed T) e.beat)
+last_key q place name = newest (λ e T. when (is_queueing q place name e.beat e.actor e.fact T) e.beat)
 
 -- ---- within a tick without a queued taint so far
 
@@ -36,7 +36,7 @@ After q k place name e h before says =
 
 rows_more : (q : Identity) (k : ℕ) (place : Place) (name : ℕ) (e : Entry) (h : List Entry) → (no_heads q k h ≡ true → Rows q k place name h (before_tick q k h)) → no_heads q k (e ∷ h) ≡ true
     → Rows q k place name (e ∷ h) (before_tick q k (e ∷ h))
-rows_more q k place name e h old none = by_test (is_tick_of q k e.beat e.actor e.deed) refl none
+rows_more q k place name e h old none = by_test (is_tick_of q k e.beat e.actor e.fact) refl none
   where
     says_now : (b : Bool) (at : ℕ) → at ≡ k → has (waits q place name (before_tick q k h)) ≡ b → no_heads q k h ≡ true → After q k place name e h (before_tick q k h) (when (not b) at)
     says_now false at is now heads = (λ none. inr is, λ some. absurd (false_is (sym now ∙ some)))
@@ -48,15 +48,15 @@ rows_more q k place name e h old none = by_test (is_tick_of q k e.beat e.actor e
         (subst (λ j. After q k place name e h (before_tick q k h) (when (not (has (waits q place name (before_tick q j h)))) e.beat)) (sym at)
         (says_now (has (waits q place name (before_tick q k h))) e.beat at refl heads))
 
-    by_deed : (d : Deed) → is_tick_of q k e.beat e.actor d ≡ true → (is_no_head d && no_heads q k h) ≡ true → After q k place name e h (before_tick q k h) (when (is_queueing q place name e.beat e.actor d h) e.beat)
-    by_deed (Ticks (Head p n wanted given written a)) is heads = absurd (false_is heads)
-    by_deed (Ticks t) is heads = of_tick (and_right (e.beat == k) (is_by q e.actor) is) (eqb-true e.beat k (and_left (e.beat == k) (is_by q e.actor) is)) heads
-    by_deed d is heads = absurd (false_is is)
+    by_fact : (d : Fact) → is_tick_of q k e.beat e.actor d ≡ true → (is_no_head d && no_heads q k h) ≡ true → After q k place name e h (before_tick q k h) (when (is_queueing q place name e.beat e.actor d h) e.beat)
+    by_fact (Ticks (Head p n wanted given written a)) is heads = absurd (false_is heads)
+    by_fact (Ticks t) is heads = of_tick (and_right (e.beat == k) (is_by q e.actor) is) (eqb-true e.beat k (and_left (e.beat == k) (is_by q e.actor) is)) heads
+    by_fact d is heads = absurd (false_is is)
 
-    by_test : (b : Bool) → is_tick_of q k e.beat e.actor e.deed ≡ b → elim b [ true ↦ is_no_head e.deed && no_heads q k h | false ↦ true ] ≡ true
+    by_test : (b : Bool) → is_tick_of q k e.beat e.actor e.fact ≡ b → elim b [ true ↦ is_no_head e.fact && no_heads q k h | false ↦ true ] ≡ true
         → Rows q k place name (e ∷ h) (elim b [ true ↦ before_tick q k h | false ↦ e ∷ h ])
     by_test false is heads = (λ none. inl refl, λ some. refl)
-    by_test true is heads = by_deed e.deed is heads
+    by_test true is heads = by_fact e.fact is heads
 
 pub rows : (q : Identity) (k : ℕ) (place : Place) (name : ℕ) (h : List Entry) → no_heads q k h ≡ true → Rows q k place name h (before_tick q k h)
 rows q k place name [] none = (λ none. inl refl, λ some. refl)
@@ -81,9 +81,9 @@ settle q k place name h none = by_now (waits q place name h) (waits q place name
 -- a tick that has made no entry yet has no queued taint
 pub no_heads_start : (q : Identity) (k : ℕ) (h : List Entry) → before_tick q k h ≡ h → no_heads q k h ≡ true
 no_heads_start q k [] is = refl
-no_heads_start q k (e ∷ h) is = by_test (is_tick_of q k e.beat e.actor e.deed) is
+no_heads_start q k (e ∷ h) is = by_test (is_tick_of q k e.beat e.actor e.fact) is
   where
-    by_test : (b : Bool) → ◌≡◌ {A = List Entry} (elim b [ true ↦ before_tick q k h | false ↦ e ∷ h ]) (e ∷ h) → ◌≡◌ {A = Bool} (elim b [ true ↦ is_no_head e.deed && no_heads q k h | false ↦ true ]) true
+    by_test : (b : Bool) → ◌≡◌ {A = List Entry} (elim b [ true ↦ before_tick q k h | false ↦ e ∷ h ]) (e ∷ h) → ◌≡◌ {A = Bool} (elim b [ true ↦ is_no_head e.fact && no_heads q k h | false ↦ true ]) true
     by_test true same = absurd (omega (arith, before_short q k h, ap length same))
     by_test false same = refl
 

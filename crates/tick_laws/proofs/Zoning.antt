@@ -183,10 +183,10 @@ nodes_moded q k h on = nodes_same q h (add k q (Mode on) h) refl (λ m. same_nod
 -- ---- what the entries of a pass say of zones
 
 abbrev last_rated : Identity → Place → List Entry → Option (Option Rated)
-last_rated q place = newest (λ e T. rated_says q place e.actor e.deed T)
+last_rated q place = newest (λ e T. rated_says q place e.actor e.fact T)
 
 abbrev last_base : Identity → Place → List Entry → Option ℕ
-last_base q place = newest (λ e T. when (is_base q place e.actor e.deed T) e.beat)
+last_base q place = newest (λ e T. when (is_base q place e.actor e.fact T) e.beat)
 
 pub rated_passed : (q : Identity) (k : ℕ) (h : List Entry) (place : Place) → rated q place (add k q Pass h) ≡ cond (is_zone q place h) (rated q place h) None
 rated_passed q k h place =

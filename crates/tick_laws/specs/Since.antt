@@ -4,21 +4,21 @@ use Rattle.kube_base.specs.declared.numbers.Version.{Version}
 use Rattle.kube_objects.specs.declared.deed.Actor.{Actor}
 use Rattle.kube_objects.specs.declared.key.Key.{Key}
 use Rattle.kube_objects.specs.declared.pod.Pod.{Pod}
-use Rattle.kube_objects.specs.Entry.{Entry, Identity, Deed, Ticks, Sync}
+use Rattle.kube_objects.specs.Entry.{Entry, Identity, Fact, Ticks, Sync}
 use Rattle.kube_objects.specs.Feeds.{is_among}
 use Rattle.kube_objects.specs.Identities.{is_by}
 use Rattle.kube_objects.specs.Seen.{seen_pod, is_stale}
 use Rattle.kube_objects.specs.Stored.{write_of, node_key}
 use Rattle.watch_cache.specs.Stands.{and_key}
 
-abbrev pub is_sync_of : Identity → Actor → Deed → Bool
+abbrev pub is_sync_of : Identity → Actor → Fact → Bool
 is_sync_of q who (Ticks Sync) = is_by q who
 is_sync_of q who _ = false
 
 -- the key of each accepted write since the last sync, or of each where there was none, the oldest first
 abbrev pub keys_since : Identity → List Entry → List Key
 keys_since q [] = []
-keys_since q (e ∷ h) = cond (is_sync_of q e.actor e.deed) [] (and_key (write_of e.deed) (keys_since q h))
+keys_since q (e ∷ h) = cond (is_sync_of q e.actor e.fact) [] (and_key (write_of e.fact) (keys_since q h))
 
 abbrev pub is_node_among : List Key → Option (Version × Pod) → Bool
 is_node_among keys None = false

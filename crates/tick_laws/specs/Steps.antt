@@ -3,7 +3,7 @@ use Rattle.std.specs.Prelude.{ℕ, ◌+◌, ◌*◌, true, false, List, [], ◌�
 use Rattle.kube_objects.specs.declared.key.Key.{Key}
 use Rattle.kube_objects.specs.declared.key.Kind.{Kind}
 use Rattle.kube_objects.specs.declared.key.Kind.TheVariants as kind
-use Rattle.kube_objects.specs.Entry.{Entry, Identity, Deed, Ticks, Tick, Sync, Delete}
+use Rattle.kube_objects.specs.Entry.{Entry, Identity, Fact, Ticks, Tick, Sync, Delete}
 use Rattle.kube_objects.specs.Seen.{seen_pod, pod_keys}
 use Rattle.kube_objects.specs.Stored.{Write, tick_write}
 use Rattle.kube_objects.specs.Tainting.{is_tick_of}
@@ -37,13 +37,13 @@ entry_cost q h g Sync = length (keys_since q h) + 2 * write_costs q g (keys_sinc
 entry_cost q h g (Delete pod given node_given due tried) = 2 + own_cost q g (tick_write (Delete pod given node_given due tried))
 entry_cost q h g t = own_cost q g (tick_write t)
 
-abbrev pub deed_cost : Identity → List Entry → List Entry → Deed → ℕ
-deed_cost q h g (Ticks t) = entry_cost q h g t
-deed_cost q h g _ = 0
+abbrev pub fact_cost : Identity → List Entry → List Entry → Fact → ℕ
+fact_cost q h g (Ticks t) = entry_cost q h g t
+fact_cost q h g _ = 0
 
 -- of the entries that the identity's tick at a beat has made so far: one for each write that a sync takes in, two for each delete,
 -- and two for each pod that such a write, or an accepted write of the tick's own, may make due
 abbrev pub tick_cost : Identity → ℕ → List Entry → ℕ
 tick_cost q k [] = 0
 tick_cost q k (e ∷ h) =
-    elim (is_tick_of q k e.beat e.actor e.deed) [ true ↦ deed_cost q h (e ∷ h) e.deed + tick_cost q k h | false ↦ 0 ]
+    elim (is_tick_of q k e.beat e.actor e.fact) [ true ↦ fact_cost q h (e ∷ h) e.fact + tick_cost q k h | false ↦ 0 ]

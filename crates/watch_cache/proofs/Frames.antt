@@ -5,7 +5,7 @@ use Rattle.kube_base.specs.declared.numbers.Version.{Version}
 use Rattle.kube_objects.specs.declared.deed.Actor.{Actor}
 use Rattle.kube_objects.specs.declared.key.Key.{Key}
 use Rattle.kube_objects.specs.declared.object.Object.{Object}
-use Rattle.kube_objects.specs.Entry.{Entry, Identity, Deed, Ticks, Tick, Sync, actor_of}
+use Rattle.kube_objects.specs.Entry.{Entry, Identity, Fact, Ticks, Tick, Sync, actor_of}
 use Rattle.kube_objects.specs.Identities.{is_by}
 use Rattle.kube_objects.specs.Keys.{key_eq}
 use Rattle.kube_objects.specs.Newest.{newest, added, when, only_if, join, or_else, or_zero}
@@ -22,25 +22,25 @@ abbrev pub upper : {A : Type 0} → Option A → Option A → Option A
 upper now before = elim now [ None ↦ before | Some x ↦ Some x ]
 
 abbrev pub last_seen : Identity → Key → List Entry → Option (Option Held)
-last_seen q key = newest (λ e T. seen_says q key e.beat e.actor e.deed T)
+last_seen q key = newest (λ e T. seen_says q key e.beat e.actor e.fact T)
 
 abbrev pub last_stale : Identity → Key → List Entry → Option Bool
-last_stale q key = newest (λ e T. stale_says q key e.actor e.deed)
+last_stale q key = newest (λ e T. stale_says q key e.actor e.fact)
 
 abbrev pub last_synced : Identity → List Entry → Option Bool
-last_synced q = newest (λ e T. synced_says q e.actor e.deed)
+last_synced q = newest (λ e T. synced_says q e.actor e.fact)
 
 abbrev pub last_sync : Identity → List Entry → Option ℕ
-last_sync q = newest (λ e T. sync_says q e.actor e.deed T)
+last_sync q = newest (λ e T. sync_says q e.actor e.fact T)
 
 -- ---- entries that say nothing
 
 -- an entry that says nothing of a cache
 pub record SaysNothing (q : Identity) (h : List Entry) (e : Entry) : Type 0 where
-  pub seen : (key : Key) → seen_says q key e.beat e.actor e.deed h ≡ None
-  pub stale : (key : Key) → stale_says q key e.actor e.deed ≡ None
-  pub synced : synced_says q e.actor e.deed ≡ None
-  pub sync : sync_says q e.actor e.deed h ≡ None
+  pub seen : (key : Key) → seen_says q key e.beat e.actor e.fact h ≡ None
+  pub stale : (key : Key) → stale_says q key e.actor e.fact ≡ None
+  pub synced : synced_says q e.actor e.fact ≡ None
+  pub sync : sync_says q e.actor e.fact h ≡ None
 
 pub cache-beside : (q : Identity) (h : List Entry) (e : Entry) (c : Cache) → SaysNothing q h e → CacheStands q h c → CacheStands q (e ∷ h) c
 cache-beside q h e c none s =
@@ -52,14 +52,14 @@ cache-beside q h e c none s =
     }
 
 -- an entry that is no tick of the identity
-pub unticked : (q : Identity) (h : List Entry) (e : Entry) → is_tick_by q e.actor e.deed ≡ false → SaysNothing q h e
-unticked q h e other = record { seen = λ key. by_seen key e.actor e.deed other; stale = λ key. by_stale key e.actor e.deed other; synced = by_synced e.actor e.deed other; sync = by_sync e.actor e.deed other }
+pub unticked : (q : Identity) (h : List Entry) (e : Entry) → is_tick_by q e.actor e.fact ≡ false → SaysNothing q h e
+unticked q h e other = record { seen = λ key. by_seen key e.actor e.fact other; stale = λ key. by_stale key e.actor e.fact other; synced = by_synced e.actor e.fact other; sync = by_sync e.actor e.fact other }
   where
-    by_seen : (key : Key) (who : Actor) (d : Deed) → is_tick_by q who d ≡ false → seen_says q key e.beat who d h ≡ None
+    by_seen : (key : Key) (who : Actor) (d : Fact) → is_tick_by q who d ≡ false → seen_says q key e.beat who d h ≡ None
     by_seen key who (Ticks t) is = ap (λ b. only_if b (tick_shows key e.beat who t h)) is
     by_seen key who d is = refl
 
-    by_stale : (key : Key) (who : Actor) (d : Deed) → is_tick_by q who d ≡ false → stale_says q key who d ≡ None
+    by_stale : (key : Key) (who : Actor) (d : Fact) → is_tick_by q who d ≡ false → stale_says q key who d ≡ None
     by_stale key who (Ticks t) is = ap (λ b. only_if b (stale_tick key t)) is
     by_stale key who d is = refl
 
@@ -67,7 +67,7 @@ unticked q h e other = record { seen = λ key. by_seen key e.actor e.deed other;
     synced_tick who Sync is = ap (λ b. when b true) is
     synced_tick who t is = refl
 
-    by_synced : (who : Actor) (d : Deed) → is_tick_by q who d ≡ false → synced_says q who d ≡ None
+    by_synced : (who : Actor) (d : Fact) → is_tick_by q who d ≡ false → synced_says q who d ≡ None
     by_synced who (Ticks t) is = synced_tick who t is
     by_synced who d is = refl
 
@@ -75,17 +75,17 @@ unticked q h e other = record { seen = λ key. by_seen key e.actor e.deed other;
     sync_tick who Sync is = ap (λ b. when b (writes h)) is
     sync_tick who t is = refl
 
-    by_sync : (who : Actor) (d : Deed) → is_tick_by q who d ≡ false → sync_says q who d h ≡ None
+    by_sync : (who : Actor) (d : Fact) → is_tick_by q who d ≡ false → sync_says q who d h ≡ None
     by_sync who (Ticks t) is = sync_tick who t is
     by_sync who d is = refl
 
 -- an entry of another identity
 pub cache-foreign : (q : Identity) (h : List Entry) (e : Entry) (c : Cache) → is_by q e.actor ≡ false → CacheStands q h c → CacheStands q (e ∷ h) c
-cache-foreign q h e c other = cache-beside q h e c (unticked q h e (by_deed e.deed (is_by q e.actor) other))
+cache-foreign q h e c other = cache-beside q h e c (unticked q h e (by_fact e.fact (is_by q e.actor) other))
   where
-    by_deed : (d : Deed) (b : Bool) → b ≡ false → is_tick_by q e.actor d ≡ false
-    by_deed (Ticks t) b is = other
-    by_deed d b is = refl
+    by_fact : (d : Fact) (b : Bool) → b ≡ false → is_tick_by q e.actor d ≡ false
+    by_fact (Ticks t) b is = other
+    by_fact d b is = refl
 
 -- ---- ticks of the identity's own
 
@@ -179,7 +179,7 @@ pub record IsNew (c : Cache) : Type 0 where
 pub stands_new : (q : Identity) (h : List Entry) (c : Cache) → IsNew c → ticks q h ≡ 0 → CacheStands q h c
 stands_new q [] c is none = record { objects = is.objects; stale = is.stale; synced = is.synced; position = is.position }
 stands_new q (e ∷ h) c is none =
-    let parts = by_test (is_tick_by q e.actor e.deed) none in
+    let parts = by_test (is_tick_by q e.actor e.fact) none in
     cache-beside q h e c (unticked q h e parts.0) (stands_new q h c is parts.1)
   where
     by_test : (b : Bool) → added b (ticks q h) ≡ 0 → (b ≡ false) × (ticks q h ≡ 0)

@@ -6,7 +6,7 @@ use Rattle.kube_base.specs.declared.numbers.Version.{Version}
 use Rattle.kube_objects.specs.declared.deed.Actor.{Actor}
 use Rattle.kube_objects.specs.declared.key.Key.{Key}
 use Rattle.kube_objects.specs.declared.object.Object.{Object}
-use Rattle.kube_objects.specs.Entry.{Entry, Identity, Deed, Ticks, Tick, Sync}
+use Rattle.kube_objects.specs.Entry.{Entry, Identity, Fact, Ticks, Tick, Sync}
 use Rattle.kube_objects.specs.Feeds.{is_among}
 use Rattle.kube_objects.specs.Identities.{is_by}
 use Rattle.kube_objects.specs.Keys.{key_eq}
@@ -28,7 +28,7 @@ longer (Some w) keys n is = length-append keys (w.0 ∷ []) ∙ ap (λ m. m + 1)
 
 pub written-count : (h : List Entry) → length (written_keys h) ≡ writes h
 written-count [] = refl
-written-count (e ∷ h) = longer (write_of e.deed) (written_keys h) (writes h) (written-count h)
+written-count (e ∷ h) = longer (write_of e.fact) (written_keys h) (writes h) (written-count h)
 
 no_less : (b : Bool) (m n : ℕ) → m ≤ n → m ≤ added b n
 no_less true m n le = omega (arith, le)
@@ -37,7 +37,7 @@ no_less false m n le = le
 -- a sync doesn't count later writes
 synced-few : (q : Identity) (h : List Entry) → synced_writes q h ≤ writes h
 synced-few q [] = omega arith
-synced-few q (e ∷ h) = no_less (has (write_of e.deed)) (synced_writes q (e ∷ h)) (writes h) (cases e.actor e.deed (synced-few q h))
+synced-few q (e ∷ h) = no_less (has (write_of e.fact)) (synced_writes q (e ∷ h)) (writes h) (cases e.actor e.fact (synced-few q h))
   where
     by_own : (b : Bool) → or_zero (last_sync q h) ≤ writes h → or_zero (upper (when b (writes h)) (last_sync q h)) ≤ writes h
     by_own true rest = omega arith
@@ -47,7 +47,7 @@ synced-few q (e ∷ h) = no_less (has (write_of e.deed)) (synced_writes q (e ∷
     of_tick who Sync rest = by_own (is_by q who) rest
     of_tick who t rest = rest
 
-    cases : (who : Actor) (d : Deed) → or_zero (last_sync q h) ≤ writes h → or_zero (upper (sync_says q who d h) (last_sync q h)) ≤ writes h
+    cases : (who : Actor) (d : Fact) → or_zero (last_sync q h) ≤ writes h → or_zero (upper (sync_says q who d h) (last_sync q h)) ≤ writes h
     cases who (Ticks t) rest = of_tick who t rest
     cases who d rest = rest
 
@@ -79,7 +79,7 @@ Unlisted q key h = is_among (drop (synced_writes q h) (written_keys h)) key ≡ 
 
 pub unlisted : (q : Identity) (key : Key) (h : List Entry) → is_among (drop (synced_writes q h) (written_keys h)) key ≡ false → seen q key h ≡ stored key h
 unlisted q key [] is = refl
-unlisted q key (e ∷ h) is = cases (unlisted q key h) e.actor e.deed is
+unlisted q key (e ∷ h) is = cases (unlisted q key h) e.actor e.fact is
   where
     few : synced_writes q h ≤ length (written_keys h)
     few = subst (λ n. synced_writes q h ≤ n) (sym (written-count h)) (synced-few q h)
@@ -105,7 +105,7 @@ unlisted q key (e ∷ h) is = cases (unlisted q key h) e.actor e.deed is
     of_tick rest who Sync is = by_own rest (is_by q who) is
     of_tick rest who t is = no_sync rest who (tick_write t) (only_if (is_by q who) (holds h e.beat who (at_key key (tick_write t)))) (quietly (is_by q who) (holds h e.beat who (at_key key (tick_write t)))) is
 
-    cases : Unlisted q key h → (who : Actor) (d : Deed) → is_among (drop (or_zero (upper (sync_says q who d h) (last_sync q h))) (and_key (write_of d) (written_keys h))) key ≡ false
+    cases : Unlisted q key h → (who : Actor) (d : Fact) → is_among (drop (or_zero (upper (sync_says q who d h) (last_sync q h))) (and_key (write_of d) (written_keys h))) key ≡ false
         → join (upper (seen_says q key e.beat who d h) (last_seen q key h)) ≡ join (upper (holds h e.beat who (at_key key (write_of d))) (last_write key h))
     cases rest who (Ticks t) is = of_tick rest who t is
     cases rest who d is = no_sync rest who (write_of d) None (λ none. refl) is

@@ -5,7 +5,7 @@ use Rattle.kube_base.specs.declared.numbers.Version.{Version}
 use Rattle.kube_objects.specs.declared.deed.Actor.{Actor}
 use Rattle.kube_objects.specs.declared.key.Key.{Key}
 use Rattle.kube_objects.specs.declared.object.Object.{Object}
-use Rattle.kube_objects.specs.Entry.{Entry, Identity, Deed, Ticks, Tick, Sync, Untaint, Swap, Delete}
+use Rattle.kube_objects.specs.Entry.{Entry, Identity, Fact, Ticks, Tick, Sync, Untaint, Swap, Delete}
 use Rattle.kube_objects.specs.Identities.{is_by}
 use Rattle.kube_objects.specs.Keys.{key_cmp}
 use Rattle.kube_objects.specs.Newest.{newest, count, when, or_zero}
@@ -32,13 +32,13 @@ position_in cache = cache.position
 
 -- ---- the same, read from the history
 
-abbrev pub sync_says : Identity → Actor → Deed → List Entry → Option ℕ
+abbrev pub sync_says : Identity → Actor → Fact → List Entry → Option ℕ
 sync_says q who (Ticks Sync) h = when (is_by q who) (writes h)
 sync_says q who _ h = None
 
 -- the number of accepted writes before the term's last sync, 0 before its first
 abbrev pub synced_writes : Identity → List Entry → ℕ
-synced_writes q h = or_zero (newest (λ e T. sync_says q e.actor e.deed T) h)
+synced_writes q h = or_zero (newest (λ e T. sync_says q e.actor e.fact T) h)
 
 -- one clause for each field
 pub record CacheStands (q : Identity) (h : List Entry) (c : Cache) : Type 0 where
@@ -49,13 +49,13 @@ pub record CacheStands (q : Identity) (h : List Entry) (c : Cache) : Type 0 wher
 
 -- ---- what a term's entries are to its cache
 
-abbrev pub is_tick_by : Identity → Actor → Deed → Bool
+abbrev pub is_tick_by : Identity → Actor → Fact → Bool
 is_tick_by q who (Ticks tick) = is_by q who
 is_tick_by q who _ = false
 
 -- how many entries of ticks the identity has
 abbrev pub ticks : Identity → List Entry → ℕ
-ticks q = count (λ e. is_tick_by q e.actor e.deed)
+ticks q = count (λ e. is_tick_by q e.actor e.fact)
 
 -- the key that a refused untaint, swap or delete makes stale
 abbrev pub refused_key : Tick → Option Key
@@ -73,7 +73,7 @@ and_key (Some write) keys = keys ++ write.0 ∷ []
 
 abbrev pub written_keys : List Entry → List Key
 written_keys [] = []
-written_keys (e ∷ h) = and_key (write_of e.deed) (written_keys h)
+written_keys (e ∷ h) = and_key (write_of e.fact) (written_keys h)
 
 -- these are the changes so far, and this is what is stored now
 pub record AreStored (h : List Entry) (keys : List Key) (shows : Key → Option (Version × Object)) : Type 0 where

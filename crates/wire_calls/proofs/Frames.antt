@@ -3,7 +3,7 @@ use Rattle.std.proofs.Common.{◌≡◌, ℕ, ◌+◌, false, List, [], ◌∷�
 use Rattle.kube_objects.specs.declared.deed.Actor.{Actor}
 use Rattle.kube_objects.specs.declared.script.What.{What}
 use Rattle.kube_objects.specs.declared.script.What.TheVariants as what
-use Rattle.kube_objects.specs.Entry.{Entry, Deed, Event, Sends, Answers}
+use Rattle.kube_objects.specs.Entry.{Entry, Fact, Event, Sends, Answers}
 use Rattle.kube_objects.specs.InFlight.{requests_due, replies_due, and_request, and_reply}
 use Rattle.kube_objects.specs.Newest.{or_else}
 use Rattle.kube_objects.specs.Wire.{Sent, Back, sent_of, back_of, of_event, in_force, request_delay, reply_delay, request_delay_of, reply_delay_of, request_loss_of, reply_loss_of}
@@ -27,7 +27,7 @@ wire-next-beat processes k h w s =
 
 -- ---- an entry that the wire doesn't look at
 
-record IsBeside (who : Actor) (d : Deed) : Type 0 where
+record IsBeside (who : Actor) (d : Fact) : Type 0 where
   sent : sent_of who d ≡ None
   back : back_of who d ≡ None
   request_delays : (p : ℕ) → of_event (request_delay_of p) d ≡ None
@@ -35,17 +35,17 @@ record IsBeside (who : Actor) (d : Deed) : Type 0 where
   request_losses : (p : ℕ) → of_event (request_loss_of p) d ≡ None
   reply_losses : (p : ℕ) → of_event (reply_loss_of p) d ≡ None
 
-is-beside : (who : Actor) (d : Deed) → is_of_wire d ≡ false → IsBeside who d
+is-beside : (who : Actor) (d : Fact) → is_of_wire d ≡ false → IsBeside who d
 is-beside who (Event (what.Delay id requests replies) version) is = absurd (cc)
 is-beside who (Event (what.Loss id requests replies) version) is = absurd (cc)
 is-beside who (Sends call arrives) is = absurd (cc)
 is-beside who (Answers call reply comes written) is = absurd (cc)
 is-beside who _ is = record { sent = refl; back = refl; request_delays = λ p. refl; reply_delays = λ p. refl; request_losses = λ p. refl; reply_losses = λ p. refl }
 
-in_force-beside : {A : Type 0} (f : What → Option A) (e : Entry) (h : List Entry) → of_event f e.deed ≡ None → in_force f h ≡ in_force f (e ∷ h)
+in_force-beside : {A : Type 0} (f : What → Option A) (e : Entry) (h : List Entry) → of_event f e.fact ≡ None → in_force f h ≡ in_force f (e ∷ h)
 in_force-beside f e h none = ap (λ o. elim o [ None ↦ in_force f h | Some x ↦ Some x ]) (sym none)
 
-pub wire-beside : (processes k : ℕ) (arriving : List Sent) (coming : List Back) (h : List Entry) (e : Entry) (w : Wire) → is_of_wire e.deed ≡ false → WireStands processes k arriving coming h w → WireStands processes k arriving coming (e ∷ h) w
+pub wire-beside : (processes k : ℕ) (arriving : List Sent) (coming : List Back) (h : List Entry) (e : Entry) (w : Wire) → is_of_wire e.fact ≡ false → WireStands processes k arriving coming h w → WireStands processes k arriving coming (e ∷ h) w
 wire-beside processes k arriving coming h e w unseen s =
     record {
       count = s.count;
@@ -68,8 +68,8 @@ wire-beside processes k arriving coming h e w unseen s =
       );
     }
   where
-    b : IsBeside e.actor e.deed
-    b = is-beside e.actor e.deed unseen
+    b : IsBeside e.actor e.fact
+    b = is-beside e.actor e.fact unseen
 
     link : (p : ℕ) → link_in p h ≡ link_in p (e ∷ h)
     link p =

@@ -2,7 +2,7 @@
 use Rattle.std.specs.Prelude.{◌≡◌, ℕ, ◌<◌, ◌≤◌, ◌==◌, nat_lt, Bool, true, false, cond, List, [], length, map, Option, Some, None, slice_get}
 use Rattle.kube_base.specs.declared.numbers.Beat.{Beat}
 use Rattle.kube_objects.specs.declared.script.What.TheVariants.{Delay, Loss}
-use Rattle.kube_objects.specs.Entry.{Entry, Deed, Event, Sends, Answers}
+use Rattle.kube_objects.specs.Entry.{Entry, Fact, Event, Sends, Answers}
 use Rattle.kube_objects.specs.InFlight.{requests_due, replies_due}
 use Rattle.kube_objects.specs.Wire.{Sent, Back, request_delay, reply_delay, loses_requests, loses_replies}
 use Rattle.wire_calls.specs.InFlight.{pending, IsLive}
@@ -90,8 +90,8 @@ NextIs k arriving coming h (Some beat) = (IsQuiet k arriving coming h beat.0 →
 
 -- ---- what the wire doesn't look at
 
--- whether a deed sends a message, or changes how messages travel
-abbrev pub is_of_wire : Deed → Bool
+-- whether a fact sends a message, or changes how messages travel
+abbrev pub is_of_wire : Fact → Bool
 is_of_wire (Event (Delay id requests replies) version) = true
 is_of_wire (Event (Loss id requests replies) version) = true
 is_of_wire (Sends call arrives) = true

@@ -5,7 +5,7 @@ use Rattle.kube_objects.specs.declared.deed.Actor.TheVariants as actor
 use Rattle.kube_objects.specs.Clocks.{local}
 use Rattle.kube_objects.specs.Document.{Doc, is_controller, processes}
 use Rattle.kube_objects.specs.Elector.{deadline}
-use Rattle.kube_objects.specs.Entry.{Entry, Identity, Call, Deed, First, Event, Starts, Crashes, Stops, Ends, Sends, Answers, Delivers, Expires, Leads, Ticks, entry, actor_of}
+use Rattle.kube_objects.specs.Entry.{Entry, Identity, Call, Fact, First, Event, Starts, Crashes, Stops, Ends, Sends, Answers, Delivers, Expires, Leads, Ticks, entry, actor_of}
 use Rattle.kube_objects.specs.Identities.{identity, is_by, of_process}
 use Rattle.kube_objects.specs.Newest.{has, join, when}
 use Rattle.kube_objects.specs.Process.{life_says, life, alive, born, gone, starts, call_in, is_late, ended, is_restart_due}
@@ -18,7 +18,7 @@ use Rattle.wire_calls.specs.WireStands.{is_of_wire}
 use Rattle.wire_calls.proofs.Frames.{wire-beside}
 use Rattle.world_core.specs.declared.state.State.{State}
 use Rattle.world_process.specs.Moves.{settled, before_asking, before_asking_as}
-use Rattle.world_process.specs.Plain.{IsUnheard, IsKnown, IsPlain, is_quiet, AreQuiet, with_deeds}
+use Rattle.world_process.specs.Plain.{IsUnheard, IsKnown, IsPlain, is_quiet, AreQuiet, with_facts}
 use Rattle.world_core.specs.States.{RestStands, OthersStand, StateWithin}
 use Rattle.world_process.proofs.Forces.{is_standing, in_force-beside}
 use Rattle.world_process.proofs.Processes.{process-others}
@@ -28,25 +28,25 @@ use Rattle.world_process.proofs.Plainly.{plain-entry, known-later, starts-start}
 use Rattle.world_terms.specs.TermsStand.{TermsStandBut}
 use Rattle.world_terms.proofs.Frames.{but-own, terms-but}
 
--- a quiet deed writes nothing, sends nothing, is no event and changes nothing in force
-quiet-write : (d : Deed) → is_quiet d ≡ true → write_of d ≡ None
+-- a quiet fact writes nothing, sends nothing, is no event and changes nothing in force
+quiet-write : (d : Fact) → is_quiet d ≡ true → write_of d ≡ None
 quiet-write (First key object) is = cc
 quiet-write (Event what version) is = cc
 quiet-write (Answers call reply comes written) is = cc
 quiet-write (Ticks tick) is = cc
 quiet-write _ is = refl
 
-quiet-wire : (d : Deed) → is_quiet d ≡ true → is_of_wire d ≡ false
+quiet-wire : (d : Fact) → is_quiet d ≡ true → is_of_wire d ≡ false
 quiet-wire (Event what version) is = cc
 quiet-wire (Sends call arrives) is = cc
 quiet-wire (Answers call reply comes written) is = cc
 quiet-wire _ is = refl
 
-quiet-event : (d : Deed) → is_quiet d ≡ true → is_event d ≡ false
+quiet-event : (d : Fact) → is_quiet d ≡ true → is_event d ≡ false
 quiet-event (Event what version) is = cc
 quiet-event _ is = refl
 
-quiet-standing : (d : Deed) → is_quiet d ≡ true → is_standing d ≡ false
+quiet-standing : (d : Fact) → is_quiet d ≡ true → is_standing d ≡ false
 quiet-standing (Event what version) is = cc
 quiet-standing _ is = refl
 
@@ -59,7 +59,7 @@ pub record Around (doc : Doc) (k i : ℕ) (arriving : List Sent) (coming : List 
 pub around-world : (doc : Doc) (k i : ℕ) (arriving : List Sent) (coming : List Back) (h : List Entry) (w : State) → StateWithin doc k arriving coming h w → Around doc k i arriving coming h w
 around-world doc k i arriving coming h w s = record { rest = s.rest; others = λ p c other is. s.processes p c is; terms = terms-but doc i h w.terms s.terms }
 
-pub rest-own : (doc : Doc) (k j step : ℕ) (arriving : List Sent) (coming : List Back) (q : Identity) (d : Deed) (h : List Entry) (w : State) → is_quiet d ≡ true → IsKnown (processes doc) (entry j step q d ∷ h) q →
+pub rest-own : (doc : Doc) (k j step : ℕ) (arriving : List Sent) (coming : List Back) (q : Identity) (d : Fact) (h : List Entry) (w : State) → is_quiet d ≡ true → IsKnown (processes doc) (entry j step q d ∷ h) q →
     RestStands doc k arriving coming h w → RestStands doc k arriving coming (entry j step q d ∷ h) w
 rest-own doc k j step arriving coming q d h w quiet known s =
     record {
@@ -74,7 +74,7 @@ rest-own doc k j step arriving coming q d h w quiet known s =
 own-entry : (i : ℕ) (q : Identity) → q.process ≡ i → has (of_process i (actor_of q)) ≡ true
 own-entry i q is = ap (λ n. has (when (n == i) q.incarnation)) is ∙ ap (λ b. has (when b q.incarnation)) (eq-self i)
 
-pub around-own : (doc : Doc) (k i j step : ℕ) (arriving : List Sent) (coming : List Back) (q : Identity) (d : Deed) (h : List Entry) (w : State) → q.process ≡ i → is_quiet d ≡ true → IsKnown (processes doc) (entry j step q d ∷ h) q →
+pub around-own : (doc : Doc) (k i j step : ℕ) (arriving : List Sent) (coming : List Back) (q : Identity) (d : Fact) (h : List Entry) (w : State) → q.process ≡ i → is_quiet d ≡ true → IsKnown (processes doc) (entry j step q d ∷ h) q →
     Around doc k i arriving coming h w → Around doc k i arriving coming (entry j step q d ∷ h) w
 around-own doc k i j step arriving coming q d h w process quiet known s =
     record {
@@ -83,15 +83,15 @@ around-own doc k i j step arriving coming q d h w process quiet known s =
       terms = but-own doc i h (entry j step q d) w.terms (own-entry i q process) s.terms;
     }
 
-pub known-deeds : (n k step : ℕ) (q : Identity) (ds : List Deed) (h : List Entry) → IsKnown n h q → IsKnown n (with_deeds k step q ds h) q
-known-deeds n k step q [] h known = known
-known-deeds n k step q (d ∷ ds) h known = known-later n (entry k step q d) (with_deeds k step q ds h) q (known-deeds n k step q ds h known)
+pub known-facts : (n k step : ℕ) (q : Identity) (ds : List Fact) (h : List Entry) → IsKnown n h q → IsKnown n (with_facts k step q ds h) q
+known-facts n k step q [] h known = known
+known-facts n k step q (d ∷ ds) h known = known-later n (entry k step q d) (with_facts k step q ds h) q (known-facts n k step q ds h known)
 
-pub around-deeds : (doc : Doc) (k i j step : ℕ) (arriving : List Sent) (coming : List Back) (q : Identity) (ds : List Deed) (h : List Entry) (w : State) → q.process ≡ i → AreQuiet ds → IsKnown (processes doc) h q →
-    Around doc k i arriving coming h w → Around doc k i arriving coming (with_deeds j step q ds h) w
-around-deeds doc k i j step arriving coming q [] h w process quiet known s = s
-around-deeds doc k i j step arriving coming q (d ∷ ds) h w process quiet known s =
-    around-own doc k i j step arriving coming q d (with_deeds j step q ds h) w process quiet.0 (known-deeds (processes doc) j step q (d ∷ ds) h known) (around-deeds doc k i j step arriving coming q ds h w process quiet.1 known s)
+pub around-facts : (doc : Doc) (k i j step : ℕ) (arriving : List Sent) (coming : List Back) (q : Identity) (ds : List Fact) (h : List Entry) (w : State) → q.process ≡ i → AreQuiet ds → IsKnown (processes doc) h q →
+    Around doc k i arriving coming h w → Around doc k i arriving coming (with_facts j step q ds h) w
+around-facts doc k i j step arriving coming q [] h w process quiet known s = s
+around-facts doc k i j step arriving coming q (d ∷ ds) h w process quiet known s =
+    around-own doc k i j step arriving coming q d (with_facts j step q ds h) w process quiet.0 (known-facts (processes doc) j step q (d ∷ ds) h known) (around-facts doc k i j step arriving coming q ds h w process quiet.1 known s)
 
 -- ---- who is up was started
 
@@ -110,7 +110,7 @@ gone-is : (p i : ℕ) (o : Option ℕ) → gone o ≡ Some (Some i) → ⊥
 gone-is p i None is = cc
 gone-is p i (Some j) is = cc
 
-says-not : (p i : ℕ) (who : Actor) (d : Deed) → is_by (identity p i) who ≡ false → life_says p who d ≡ Some (Some i) → ⊥
+says-not : (p i : ℕ) (who : Actor) (d : Fact) → is_by (identity p i) who ≡ false → life_says p who d ≡ Some (Some i) → ⊥
 says-not p i who (First key object) other is = cc
 says-not p i who (Event what version) other is = cc
 says-not p i who Starts other is = born-is p i who other is
@@ -126,7 +126,7 @@ says-not p i who (Ticks tick) other is = cc
 
 alive-heard : (p i : ℕ) (h : List Entry) → IsUnheard (identity p i) h → alive p h ≡ Some i → ⊥
 alive-heard p i [] u up = cc
-alive-heard p i (e ∷ h) u up = by_says (life_says p e.actor e.deed) (says-not p i e.actor e.deed u.0) (λ was. alive-heard p i h u.1 was) up
+alive-heard p i (e ∷ h) u up = by_says (life_says p e.actor e.fact) (says-not p i e.actor e.fact u.0) (λ was. alive-heard p i h u.1 was) up
   where
     by_says : (x : Option (Option ℕ)) → (x ≡ Some (Some i) → ⊥) → (join (life p h) ≡ Some i → ⊥) → join (elim x as (λ o. Option (Option ℕ)) [ None ↦ life p h | Some y ↦ Some y ]) ≡ Some i → ⊥
     by_says None never before up = before up

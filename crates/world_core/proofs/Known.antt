@@ -3,7 +3,7 @@ use Rattle.std.proofs.Common.{IfSome, ◌≡◌, ℕ, ◌<◌, ◌≤◌, nat_lt
 use Rattle.kube_objects.specs.declared.call.Reply.{Reply}
 use Rattle.kube_objects.specs.declared.deed.Actor.{Actor}
 use Rattle.kube_objects.specs.declared.deed.Actor.TheVariants as actor
-use Rattle.kube_objects.specs.Entry.{Entry, Identity, Call, Deed, First, Event, Starts, Crashes, Stops, Ends, Sends, Answers, Delivers, Expires, Leads, Ticks}
+use Rattle.kube_objects.specs.Entry.{Entry, Identity, Call, Fact, First, Event, Starts, Crashes, Stops, Ends, Sends, Answers, Delivers, Expires, Leads, Ticks}
 use Rattle.kube_objects.specs.Identities.{identity, identity_of, is_same, is_by}
 use Rattle.kube_objects.specs.InFlight.{is_due, and_request, requests_due, and_reply, replies_due}
 use Rattle.kube_objects.specs.Process.{starts}
@@ -70,7 +70,7 @@ back-who P call reply comes (Some q) x is some = let same : q ≡ x.who = ap (λ
     who_in None = q
     who_in (Some s) = s.who
 
-sent-actor : (P : Identity → Type 0) (who : Actor) (d : Deed) (x : Sent) → IfIdentity P (identity_of who) → sent_of who d ≡ Some x → P x.who
+sent-actor : (P : Identity → Type 0) (who : Actor) (d : Fact) (x : Sent) → IfIdentity P (identity_of who) → sent_of who d ≡ Some x → P x.who
 sent-actor P who (First key object) x is some = cc
 sent-actor P who (Event what version) x is some = cc
 sent-actor P who Starts x is some = cc
@@ -84,7 +84,7 @@ sent-actor P who (Expires call) x is some = cc
 sent-actor P who (Leads version) x is some = cc
 sent-actor P who (Ticks tick) x is some = cc
 
-back-actor : (P : Identity → Type 0) (who : Actor) (d : Deed) (x : Back) → IfIdentity P (identity_of who) → back_of who d ≡ Some x → P x.who
+back-actor : (P : Identity → Type 0) (who : Actor) (d : Fact) (x : Back) → IfIdentity P (identity_of who) → back_of who d ≡ Some x → P x.who
 back-actor P who (First key object) x is some = cc
 back-actor P who (Event what version) x is some = cc
 back-actor P who Starts x is some = cc
@@ -100,11 +100,11 @@ back-actor P who (Ticks tick) x is some = cc
 
 sent-each : (P : Identity → Type 0) (j : ℕ) (h : List Entry) → EachActor P h → EachSent P (requests_due j h)
 sent-each P j [] all = tt
-sent-each P j (e ∷ h) all = sent-one P j (sent_of e.actor e.deed) (requests_due j h) (sent-each P j h all.1) (λ x some. sent-actor P e.actor e.deed x all.0 some)
+sent-each P j (e ∷ h) all = sent-one P j (sent_of e.actor e.fact) (requests_due j h) (sent-each P j h all.1) (λ x some. sent-actor P e.actor e.fact x all.0 some)
 
 back-each : (P : Identity → Type 0) (j : ℕ) (h : List Entry) → EachActor P h → EachBack P (replies_due j h)
 back-each P j [] all = tt
-back-each P j (e ∷ h) all = back-one P j (back_of e.actor e.deed) (replies_due j h) (back-each P j h all.1) (λ x some. back-actor P e.actor e.deed x all.0 some)
+back-each P j (e ∷ h) all = back-one P j (back_of e.actor e.fact) (replies_due j h) (back-each P j h all.1) (λ x some. back-actor P e.actor e.fact x all.0 some)
 
 -- all actors of a plain history are known
 actors-of : (n : ℕ) (h : List Entry) → IsOf n h → EachActor (λ q. q.process < n) h

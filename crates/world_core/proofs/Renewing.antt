@@ -7,12 +7,12 @@ use Rattle.kube_objects.specs.declared.call.Reply.{Reply}
 use Rattle.kube_objects.specs.declared.call.Request.{Request}
 use Rattle.kube_objects.specs.declared.deed.Act.TheVariants as act
 use Rattle.kube_objects.specs.declared.deed.Actor.{Actor}
-use Rattle.kube_objects.specs.declared.deed.Deed as deed
+use Rattle.kube_objects.specs.declared.deed.Deed as fact
 use Rattle.kube_objects.specs.declared.script.What.TheVariants as what
 use Rattle.kube_objects.specs.Document.{Doc, is_controller}
 use Rattle.kube_objects.specs.Clocks.{local}
 use Rattle.kube_objects.specs.Elector.{Follow, Asks, Fails, Succeeds, deadline, follow_on, leads}
-use Rattle.kube_objects.specs.Entry.{Entry, Identity, Call, Deed, Delivers, Ends, Event, Expires, Leads, Plain, Ticks, actor_of, entry, script_entry}
+use Rattle.kube_objects.specs.Entry.{Entry, Identity, Call, Fact, Delivers, Ends, Event, Expires, Leads, Plain, Ticks, actor_of, entry, script_entry}
 use Rattle.kube_objects.specs.Identities.{identity, is_by}
 use Rattle.kube_objects.specs.Kubelet.{next_request, send_next}
 use Rattle.kube_objects.specs.Newest.{added, join}
@@ -68,11 +68,11 @@ module _ (doc : Doc) (k : ℕ) (x : Terms) where
 
 ticks-unheard : (q : Identity) (h : List Entry) → IsUnheard q h → ticks q h ≡ 0
 ticks-unheard q [] u = refl
-ticks-unheard q (e ∷ h) u = ap (λ b. added b (ticks q h)) (by_deed e.actor e.deed u.0) ∙ ticks-unheard q h u.1
+ticks-unheard q (e ∷ h) u = ap (λ b. added b (ticks q h)) (by_fact e.actor e.fact u.0) ∙ ticks-unheard q h u.1
   where
-    by_deed : (who : Actor) (d : Deed) → is_by q who ≡ false → is_tick_by q who d ≡ false
-    by_deed who (Ticks tick) other = other
-    by_deed who d other = refl
+    by_fact : (who : Actor) (d : Fact) → is_by q who ≡ false → is_tick_by q who d ≡ false
+    by_fact who (Ticks tick) other = other
+    by_fact who d other = refl
 
 pub fresh-started : (n k step p : ℕ) (h : List Entry) → IsPlain n h → IsFresh p (start k step p h)
 fresh-started n k step p h s =

@@ -2,7 +2,7 @@
 use Rattle.std.proofs.Common.{All, ◌≡◌, ℕ, ◌+◌, ◌<◌, ◌≤◌, ◌==◌, ◌++◌, Bool, true, false, List, ◌∷◌, Option, Some, None, slice_get, slice_set, length, refl, sym, ap, ◌∙◌, subst, append_assoc, vec_len, arith}
 use Rattle.std.proofs.lemmas.List.{append-nil}
 use Rattle.kube_objects.specs.declared.call.Ask.{Ask}
-use Rattle.kube_objects.specs.declared.deed.Deed as deed
+use Rattle.kube_objects.specs.declared.deed.Deed as fact
 use Rattle.kube_objects.specs.Answers.{answer, written}
 use Rattle.kube_objects.specs.declared.deed.Act.TheVariants as act
 use Rattle.kube_objects.specs.Document.{Doc, processes, is_up_first}
@@ -21,9 +21,9 @@ use Rattle.world_core.specs.declared.state.State.{State}
 use Rattle.world_process.specs.Processes.{ProcessStands, SameProcess, AsksOn, Turned, Replied, incarnation_of, clock_of, is_up_first_as}
 use Rattle.world_process.specs.InForce.{InForceStands}
 use Rattle.world_process.specs.Moves.{AsksOnReply, before_asking, own_turn, started_deeds, ended_deeds, lead_deeds}
-use Rattle.world_process.specs.Plain.{IsKnown, with_deeds}
+use Rattle.world_process.specs.Plain.{IsKnown, with_facts}
 use Rattle.world_core.specs.States.{IsFit, IsReady, SameDocument, Keeps, DocStands, EachStands, OthersStand, StateWithin, Running, SendsAsked}
-use Rattle.world_core.proofs.Around.{Around, around-world, around-own, around-deeds, around-before, around-started}
+use Rattle.world_core.proofs.Around.{Around, around-world, around-own, around-facts, around-before, around-started}
 use Rattle.world_core.proofs.Renewing.{fresh-started, terms-delivered}
 use Rattle.world_process.proofs.Forces.{in_force-beside}
 use Rattle.world_process.proofs.Processes.{process-incarnation, process-others, process-answered, process-up_first}
@@ -171,9 +171,9 @@ within-replied : (doc : Doc) (k i : ℕ) (arriving : List Sent) (coming : List B
     Moved i c0 c1 w v → SendsAsked k (identity i (incarnation_of c1)) ask w.wire v.wire → Around doc k i arriving coming h w → AsksOnReply doc k (identity i (incarnation_of c1)) b h (λ g. ProcessStands doc i g c1) ask → TermsStand doc h v.terms →
     StateWithin doc k arriving coming (delivered doc k b h) v
 within-replied doc k i arriving coming b h c0 c1 w v None process within known m same a on terms =
-    let next = with_deeds k 3 b.who on.deeds h in
+    let next = with_facts k 3 b.who on.facts h in
     subst (λ g. StateWithin doc k arriving coming g v) (sym on.adds)
-    (within-moved doc k i arriving coming next c0 c1 w v m same (around-deeds doc k i k 3 arriving coming b.who on.deeds h w process on.quiet known a) (subst (λ g. ProcessStands doc i g c1) on.adds on.stands)
+    (within-moved doc k i arriving coming next c0 c1 w v m same (around-facts doc k i k 3 arriving coming b.who on.facts h w process on.quiet known a) (subst (λ g. ProcessStands doc i g c1) on.adds on.stands)
     (subst (λ g. TermsStand doc g v.terms) on.adds (terms-delivered doc k v.terms b h terms)))
 within-replied doc k i arriving coming b h c0 c1 w v (Some ask) process within known m sends a on terms =
     let q = identity i (incarnation_of c1) in

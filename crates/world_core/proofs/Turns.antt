@@ -1,7 +1,7 @@
 -- Layer 4, the steps of a beat: the turn of a process that keeps the beat of its next turn.
 use Rattle.std.proofs.Common.{◌≡◌, ℕ, List, ◌∷◌, Option, Some, None, sym, ◌∙◌, subst}
 use Rattle.kube_objects.specs.declared.call.Ask.{Ask}
-use Rattle.kube_objects.specs.declared.deed.Deed as deed
+use Rattle.kube_objects.specs.declared.deed.Deed as fact
 use Rattle.kube_objects.specs.Document.{Doc, is_controller}
 use Rattle.kube_objects.specs.Entry.{Entry, Identity, Sends, entry}
 use Rattle.kube_objects.specs.Identities.{identity}

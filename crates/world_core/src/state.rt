@@ -635,7 +635,7 @@ impl State {
 fn answer(store: &mut Store, request: Request) -> Result<Reply, NoMemory>
     requires { keeps_kind request ≡ true }
     ensures answer { (h : List Entry) → StoreStands h store.old → IfOk result (λ reply. reply ≡ store_answer request h) }
-    ensures ok { (h : List Entry) (e : Entry) → StoreStands h store.old → write_of e.deed ≡ request_write request (written request h)
+    ensures ok { (h : List Entry) (e : Entry) → StoreStands h store.old → write_of e.fact ≡ request_write request (written request h)
         → OnOk result (StoreStands (e ∷ h) store.new) }
 {
     store.answer(request)

@@ -16,7 +16,7 @@ use Rattle.kube_objects.specs.declared.pod.Pod.{Pod}
 use Rattle.kube_objects.specs.declared.pod.Toleration.{Toleration}
 use Rattle.kube_objects.specs.declared.script.Event.{Event}
 use Rattle.kube_objects.specs.declared.script.Proc.{Proc}
-use Rattle.kube_objects.specs.declared.script.What.TheVariants as deeds
+use Rattle.kube_objects.specs.declared.script.What.TheVariants as whats
 use Rattle.kube_objects.specs.declared.settings.RatePolicy.TheVariants as policies
 use Rattle.kube_objects.specs.declared.settings.Settings.{Settings}
 use Rattle.kube_objects.specs.Document.{Doc}
@@ -125,7 +125,7 @@ by_beat zero all = []
 by_beat (suc beat) all = by_beat beat all ++ filter (λ crash. crash.beat == beat) all
 
 abbrev pub event : Crash → Event
-event crash = record { beat = record { 0 = crash.beat }; what = deeds.Crash (record { 0 = crash.process }) }
+event crash = record { beat = record { 0 = crash.beat }; what = whats.Crash (record { 0 = crash.process }) }
 
 -- c0 crashes in the middle
 abbrev pub middle : ℕ → Crash

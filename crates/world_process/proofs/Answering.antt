@@ -12,20 +12,20 @@ use Rattle.kube_objects.specs.Document.{Doc, is_controller}
 use Rattle.kube_objects.specs.Clocks.{local}
 use Rattle.kube_objects.specs.Elector.{Follow, Fails, Asks, Succeeds, leads, observed_at, is_blocked, updated, follow_get, follow_write, not_done, follow_on}
 use Rattle.kube_objects.specs.Stored.{election}
-use Rattle.kube_objects.specs.Turns.{react}
-use Rattle.kube_objects.specs.Entry.{Entry, Identity, Call, CallKind, Plain, Fast, Release, Deed, Delivers, Leads, Sends, entry, actor_of}
+use Rattle.kube_objects.specs.Turns.{react, with_reply}
+use Rattle.kube_objects.specs.Entry.{Entry, Identity, Call, CallKind, Plain, Fast, Release, Fact, Delivers, Leads, Sends, entry, actor_of}
 use Rattle.kube_objects.specs.Identities.{identity}
 use Rattle.kube_objects.specs.Newest.{only_if}
 use Rattle.kube_objects.specs.Process.{alive, counted, call_in, answered_call, is_present}
 use Rattle.kube_objects.specs.Wire.{Back, next_call}
 use Rattle.history.specs.Printed.{printed, deeds_of}
 use Rattle.history.specs.Steps.{deliver_as, react_as, delivered}
-use Rattle.leader_elector.specs.Moves.{Asked, delivered as with_reply, reacted}
+use Rattle.leader_elector.specs.Moves.{Asked, reacted}
 use Rattle.world_process.specs.declared.controller.Controller.{Controller}
 use Rattle.world_process.specs.declared.controller.Role.{Role}
 use Rattle.world_process.specs.Controllers.{RoleStands, ControllerStands, IsLed, Replied}
 use Rattle.world_process.specs.Moves as moves
-use Rattle.world_process.specs.Plain.{AreQuiet, with_deeds}
+use Rattle.world_process.specs.Plain.{AreQuiet, with_facts}
 use Rattle.world_process.proofs.Names.{eq-isnt}
 use Rattle.kube_base.specs.declared.numbers.Local.{Local}
 use Rattle.world_process.specs.declared.controller.Role.TheVariants as role
@@ -74,12 +74,12 @@ pub other-absent : (p i j : ℕ) (h : List Entry) → alive p h ≡ Some j → �
 other-absent p i j h up other = ap (λ o. is_present o i) up ∙ eq-isnt j i other
 
 -- q is the identity after it, and Stands what it stands for
-pub replied-none : (doc : Doc) (k : ℕ) (q : Identity) (b : Back) (h : List Entry) (deeds : List Deed) (Stands : List Entry → Type 0) → AreQuiet deeds → delivered doc k b h ≡ with_deeds k 3 b.who deeds h → printed (with_deeds k 3 b.who deeds h) ≡ printed h →
-    Stands (with_deeds k 3 b.who deeds h) → moves.Replied doc k q b h Stands (record { lead = None; ask = None })
-replied-none doc k q b h deeds Stands quiet is told stands =
+pub replied-none : (doc : Doc) (k : ℕ) (q : Identity) (b : Back) (h : List Entry) (facts : List Fact) (Stands : List Entry → Type 0) → AreQuiet facts → delivered doc k b h ≡ with_facts k 3 b.who facts h → printed (with_facts k 3 b.who facts h) ≡ printed h →
+    Stands (with_facts k 3 b.who facts h) → moves.Replied doc k q b h Stands (record { lead = None; ask = None })
+replied-none doc k q b h facts Stands quiet is told stands =
     record {
       told = ap printed is ∙ told ∙ sym (append-nil (printed h));
-      asks = record { deeds = deeds; quiet = quiet; adds = is; stands = subst Stands (sym is) stands };
+      asks = record { facts = facts; quiet = quiet; adds = is; stands = subst Stands (sym is) stands };
     }
 
 -- it changes nothing but the history
@@ -144,7 +144,7 @@ replied-leads doc k p b number reply waiting h c r version s is some next_leads 
     record {
       told = ap printed next_is ∙ ap (λ ds. ds ++ deeds_of k (actor_of q) (Some (act.Lead version))) (append-nil (printed h));
       asks = record {
-        deeds = Leads version ∷ Delivers waiting reply true ∷ [];
+        facts = Leads version ∷ Delivers waiting reply true ∷ [];
         quiet = (refl, (refl, tt));
         adds = next_is ∙ ap (λ w. entry k 3 w (Leads version) ∷ entry k 3 w (Delivers waiting reply true) ∷ h) (sym is.who);
         stands = subst (λ x. ControllerStands doc p x (record c { role = r })) (sym next_is) (stands-role doc p h next c r s refl stands);
@@ -153,11 +153,11 @@ replied-leads doc k p b number reply waiting h c r version s is some next_leads 
 
 -- ---- a lead follows on Done alone
 
-abbrev deed_at_top : List Entry → Option Deed
-deed_at_top [] = None
-deed_at_top (e ∷ h) = Some e.deed
+abbrev fact_at_top : List Entry → Option Fact
+fact_at_top [] = None
+fact_at_top (e ∷ h) = Some e.fact
 
-abbrev version_at_top : Version → Option Deed → Version
+abbrev version_at_top : Version → Option Fact → Version
 version_at_top other (Some (Leads version)) = version
 version_at_top other _ = other
 
@@ -171,9 +171,9 @@ Succeeded (Succeeds done) version = done ≡ version
 
 lead-succeeds : (k : ℕ) (q : Identity) (led : Bool) (wanted : Follow) (version : Version) (g : List Entry) → react k q led wanted g ≡ entry k 3 q (Leads version) ∷ g → Succeeded wanted version
 lead-succeeds k q led Fails version g is = never-longer (entry k 3 q (Leads version)) g is
-lead-succeeds k q led (Asks request) version g is = let top = ap deed_at_top is in cc
+lead-succeeds k q led (Asks request) version g is = let top = ap fact_at_top is in cc
 lead-succeeds k q true (Succeeds done) version g is = absurd (never-longer (entry k 3 q (Leads version)) g is)
-lead-succeeds k q false (Succeeds done) version g is = ap (λ h. version_at_top version (deed_at_top h)) is
+lead-succeeds k q false (Succeeds done) version g is = ap (λ h. version_at_top version (fact_at_top h)) is
 
 succeeded-get : (doc : Doc) (q : Identity) (k seen : ℕ) (reply : Reply) (version : Version) → Succeeded (follow_get doc q k seen reply) version → ⊥
 succeeded-get doc q k seen Absent version is = is

@@ -3,7 +3,7 @@ use Rattle.std.proofs.Common.{◌≡◌, ℕ, false, List, ◌∷◌, Option, re
 use Rattle.kube_objects.specs.declared.call.Reply.{Reply}
 use Rattle.kube_objects.specs.declared.object.Object.{Object}
 use Rattle.kube_objects.specs.Document.{Doc}
-use Rattle.kube_objects.specs.Entry.{Entry, Identity, Call, Deed, Answers, Tick, Ticks, entry}
+use Rattle.kube_objects.specs.Entry.{Entry, Identity, Call, Fact, Answers, Tick, Ticks, entry}
 use Rattle.kube_objects.specs.Identities.{identity, is_by}
 use Rattle.kube_objects.specs.Process.{alive, ended}
 use Rattle.leader_elector.proofs.Frames.{candidate-foreign, leading-foreign, candidate-quiet, leading-quiet}
@@ -21,7 +21,7 @@ role-beside doc p i e h (role.Candidate x) lives ends other s = (lives ∙ s.0, 
 role-beside doc p i e h (role.Leading x) lives ends other s = (lives ∙ s.0, leading-foreign doc (identity p i) e h x other s.1)
 
 -- another process's entry
-pub controller-others : (doc : Doc) (p k step : ℕ) (q : Identity) (d : Deed) (h : List Entry) (c : Controller) → ¬ (q.process ≡ p) → is_event d ≡ false → ControllerStands doc p h c → ControllerStands doc p (entry k step q d ∷ h) c
+pub controller-others : (doc : Doc) (p k step : ℕ) (q : Identity) (d : Fact) (h : List Entry) (c : Controller) → ¬ (q.process ≡ p) → is_event d ≡ false → ControllerStands doc p h c → ControllerStands doc p (entry k step q d ∷ h) c
 controller-others doc p k step q d h c other own s =
     let e = entry k step q d in
     let apart = of_process-other q p other in
@@ -37,7 +37,7 @@ controller-others doc p k step q d h c other own s =
     }
 
 -- an entry of another incarnation of the process, which leaves its life as it is
-pub role-stranger : (doc : Doc) (p i j k step : ℕ) (d : Deed) (h : List Entry) (r : Role) → ¬ (j ≡ i) → is_event d ≡ false → ((g : List Entry) → alive p (entry k step (identity p j) d ∷ g) ≡ alive p g) → ((g : List Entry) → ended p (entry k step (identity p j) d ∷ g) ≡ ended p g) →
+pub role-stranger : (doc : Doc) (p i j k step : ℕ) (d : Fact) (h : List Entry) (r : Role) → ¬ (j ≡ i) → is_event d ≡ false → ((g : List Entry) → alive p (entry k step (identity p j) d ∷ g) ≡ alive p g) → ((g : List Entry) → ended p (entry k step (identity p j) d ∷ g) ≡ ended p g) →
     RoleStands doc p i h r → RoleStands doc p i (entry k step (identity p j) d ∷ h) r
 role-stranger doc p i j k step d h r other own lives ends s =
     role-beside doc p i (entry k step (identity p j) d) h r (lives h) (ends h) (is_same-other p j i other) s

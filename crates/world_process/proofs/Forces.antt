@@ -8,7 +8,7 @@ use Rattle.kube_objects.specs.declared.script.Proc.{Proc}
 use Rattle.kube_objects.specs.declared.script.What.{What}
 use Rattle.kube_objects.specs.declared.script.What.TheVariants as what
 use Rattle.kube_objects.specs.Document.{Doc, field}
-use Rattle.kube_objects.specs.Entry.{Entry, Deed, Event, script_entry}
+use Rattle.kube_objects.specs.Entry.{Entry, Fact, Event, script_entry}
 use Rattle.kube_objects.specs.InForce.{watch_of, status_of, watches, posted_status, watches_first, first_status}
 use Rattle.kube_objects.specs.Newest.{or_else, when}
 use Rattle.kube_objects.specs.Wire.{in_force, of_event}
@@ -149,7 +149,7 @@ sets_standing (what.Watch id on) = true
 sets_standing (what.Ready id status) = true
 sets_standing _ = false
 
-abbrev pub is_standing : Deed → Bool
+abbrev pub is_standing : Fact → Bool
 is_standing (Event event version) = sets_standing event
 is_standing _ = false
 
@@ -161,22 +161,22 @@ event-status : (p : ℕ) (event : What) → sets_standing event ≡ false → st
 event-status p (what.Ready id status) quiet = cc
 event-status p _ quiet = refl
 
-deed-watch : (p : ℕ) (d : Deed) → is_standing d ≡ false → of_event (watch_of p) d ≡ None
-deed-watch p (Event event version) quiet = event-watch p event quiet
-deed-watch p _ quiet = refl
+fact-watch : (p : ℕ) (d : Fact) → is_standing d ≡ false → of_event (watch_of p) d ≡ None
+fact-watch p (Event event version) quiet = event-watch p event quiet
+fact-watch p _ quiet = refl
 
-deed-status : (p : ℕ) (d : Deed) → is_standing d ≡ false → of_event (status_of p) d ≡ None
-deed-status p (Event event version) quiet = event-status p event quiet
-deed-status p _ quiet = refl
+fact-status : (p : ℕ) (d : Fact) → is_standing d ≡ false → of_event (status_of p) d ≡ None
+fact-status p (Event event version) quiet = event-status p event quiet
+fact-status p _ quiet = refl
 
-pub in_force-beside : (doc : Doc) (e : Entry) (h : List Entry) (x : InForce) → is_standing e.deed ≡ false → InForceStands doc h x → InForceStands doc (e ∷ h) x
+pub in_force-beside : (doc : Doc) (e : Entry) (h : List Entry) (x : InForce) → is_standing e.fact ≡ false → InForceStands doc h x → InForceStands doc (e ∷ h) x
 in_force-beside doc e h x quiet s =
     record {
       count = s.count;
       each = λ p y at.
           let was = s.each p y at in
           record {
-            watch = was.watch ∙ ap (λ o. or_else (watches_first doc p) (upper o (in_force (watch_of p) h))) (sym (deed-watch p e.deed quiet));
-            status = was.status ∙ ap (λ o. or_else (first_status doc p) (upper o (in_force (status_of p) h))) (sym (deed-status p e.deed quiet));
+            watch = was.watch ∙ ap (λ o. or_else (watches_first doc p) (upper o (in_force (watch_of p) h))) (sym (fact-watch p e.fact quiet));
+            status = was.status ∙ ap (λ o. or_else (first_status doc p) (upper o (in_force (status_of p) h))) (sym (fact-status p e.fact quiet));
           };
     }

@@ -45,13 +45,13 @@ named-more None ys = omega arith
 named-more (Some x) ys = inserted-more nat_cmp x ys
 
 pub nodes-more : (e : Entry) (h : List Entry) → length (node_names h) ≤ length (node_names (e ∷ h))
-nodes-more e h = named-more (named node_name (write_of e.deed)) (node_names h)
+nodes-more e h = named-more (named node_name (write_of e.fact)) (node_names h)
 
 pub grows-same : (h : List Entry) → Grows h h
 grows-same h = record { calls = λ q. omega arith; starts = λ p. omega arith; nodes = omega arith }
 
 pub grows-entry : (e : Entry) (h : List Entry) → Grows h (e ∷ h)
-grows-entry e h = record { calls = λ q. added-more (is_send e.deed && is_by q e.actor) (begun q h); starts = λ p. starts-more p e h; nodes = nodes-more e h }
+grows-entry e h = record { calls = λ q. added-more (is_send e.fact && is_by q e.actor) (begun q h); starts = λ p. starts-more p e h; nodes = nodes-more e h }
 
 pub grows-on : (f g h : List Entry) → Grows f g → Grows g h → Grows f h
 grows-on f g h a b = record { calls = λ q. omega (arith, a.calls q, b.calls q); starts = λ p. omega (arith, a.starts p, b.starts p); nodes = omega (arith, a.nodes, b.nodes) }
@@ -140,7 +140,7 @@ grows-answer_due k None h = grows-same h
 grows-answer_due k (Some s) h = grows-answer_if k s (comes_at k s.arrives) h
 
 pub grows-step_two : (k : ℕ) (h : List Entry) → Grows h (step_two k h)
-grows-step_two k h = grows-each (λ e. answer_due k (sent_of e.actor e.deed)) (λ e h. grows-answer_due k (sent_of e.actor e.deed) h) h h
+grows-step_two k h = grows-each (λ e. answer_due k (sent_of e.actor e.fact)) (λ e h. grows-answer_due k (sent_of e.actor e.fact) h) h h
 
 grows-lead_if : (k : ℕ) (q : Identity) (led : Bool) (version : Version) (h : List Entry) → Grows h (lead_if k q led version h)
 grows-lead_if k q true version h = grows-same h
@@ -177,7 +177,7 @@ grows-deliver_due doc k None h = grows-same h
 grows-deliver_due doc k (Some b) h = grows-deliver_if doc k b (comes_at k b.comes) h
 
 pub grows-step_three : (doc : Doc) (k : ℕ) (h : List Entry) → Grows h (step_three doc k h)
-grows-step_three doc k h = grows-each (λ e. deliver_due doc k (back_of e.actor e.deed)) (λ e h. grows-deliver_due doc k (back_of e.actor e.deed) h) h h
+grows-step_three doc k h = grows-each (λ e. deliver_due doc k (back_of e.actor e.fact)) (λ e h. grows-deliver_due doc k (back_of e.actor e.fact) h) h h
 
 -- ---- step 4
 

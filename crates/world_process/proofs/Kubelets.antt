@@ -11,7 +11,7 @@ use Rattle.kube_objects.specs.declared.script.What.{What}
 use Rattle.kube_objects.specs.declared.script.What.TheVariants as what
 use Rattle.kube_objects.specs.Clocks.{store_wall, whole_second}
 use Rattle.kube_objects.specs.Document.{Doc}
-use Rattle.kube_objects.specs.Entry.{Entry, Identity, Call, Deed, First, Event, Crashes, Answers, Tick, Ticks, entry, script_entry, actor_of}
+use Rattle.kube_objects.specs.Entry.{Entry, Identity, Call, Fact, First, Event, Crashes, Answers, Tick, Ticks, entry, script_entry, actor_of}
 use Rattle.kube_objects.specs.Identities.{identity, is_by}
 use Rattle.kube_objects.specs.Newest.{join}
 use Rattle.kube_objects.specs.Process.{alive, gone, life, starts}
@@ -59,11 +59,11 @@ rounds-foreign doc p i e h None lives other s = lives ∙ s
 rounds-foreign doc p i e h (Some x) lives other s = (lives ∙ s.0, kubelet-foreign doc (identity p i) e h x other s.1)
 
 -- of a kind that a kubelet doesn't look at
-pub rounds-quiet : (doc : Doc) (p i : ℕ) (e : Entry) (h : List Entry) (r : Option rounds.Kubelet) → alive p (e ∷ h) ≡ alive p h → is_of_kubelet e.deed ≡ false → RoundsStand doc p i h r → RoundsStand doc p i (e ∷ h) r
+pub rounds-quiet : (doc : Doc) (p i : ℕ) (e : Entry) (h : List Entry) (r : Option rounds.Kubelet) → alive p (e ∷ h) ≡ alive p h → is_of_kubelet e.fact ≡ false → RoundsStand doc p i h r → RoundsStand doc p i (e ∷ h) r
 rounds-quiet doc p i e h None lives quiet s = lives ∙ s
 rounds-quiet doc p i e h (Some x) lives quiet s = (lives ∙ s.0, kubelet-quiet doc (identity p i) e h x quiet s.1)
 
-pub kubelet-others : (doc : Doc) (p k step : ℕ) (q : Identity) (d : Deed) (h : List Entry) (b : Kubelet) → ¬ (q.process ≡ p) → KubeletStands doc p h b → KubeletStands doc p (entry k step q d ∷ h) b
+pub kubelet-others : (doc : Doc) (p k step : ℕ) (q : Identity) (d : Fact) (h : List Entry) (b : Kubelet) → ¬ (q.process ≡ p) → KubeletStands doc p h b → KubeletStands doc p (entry k step q d ∷ h) b
 kubelet-others doc p k step q d h b other s =
     let e = entry k step q d in
     let apart = of_process-other q p other in
@@ -71,7 +71,7 @@ kubelet-others doc p k step q d h b other s =
     (rounds-foreign doc p b.incarnation e h b.rounds (alive-others p e h apart) (is_same-apart q (identity p b.incarnation) other) s.rounds)
 
 -- an entry of this kind, whosever it is
-kubelet-kind : (doc : Doc) (p : ℕ) (e : Entry) (h : List Entry) (b : Kubelet) → alive p (e ∷ h) ≡ alive p h → starts p (e ∷ h) ≡ starts p h → is_of_kubelet e.deed ≡ false → KubeletStands doc p h b → KubeletStands doc p (e ∷ h) b
+kubelet-kind : (doc : Doc) (p : ℕ) (e : Entry) (h : List Entry) (b : Kubelet) → alive p (e ∷ h) ≡ alive p h → starts p (e ∷ h) ≡ starts p h → is_of_kubelet e.fact ≡ false → KubeletStands doc p h b → KubeletStands doc p (e ∷ h) b
 kubelet-kind doc p e h b lives count quiet s =
     stands-rounds doc p h (e ∷ h) b b.rounds s count (rounds-quiet doc p b.incarnation e h b.rounds lives quiet s.rounds)
 

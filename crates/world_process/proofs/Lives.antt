@@ -2,7 +2,7 @@
 use Rattle.std.proofs.Common.{◌≡◌, ℕ, ◌&&◌, Bool, true, false, List, ◌∷◌, Option, Some, None, refl, ap, ◌∙◌}
 use Rattle.kube_objects.specs.declared.deed.Actor.{Actor}
 use Rattle.kube_objects.specs.declared.script.What.{What}
-use Rattle.kube_objects.specs.Entry.{Entry, Identity, Deed, First, Event, Starts, Crashes, Stops, Ends, Sends, Answers, Delivers, Expires, Leads, Ticks, entry}
+use Rattle.kube_objects.specs.Entry.{Entry, Identity, Fact, First, Event, Starts, Crashes, Stops, Ends, Sends, Answers, Delivers, Expires, Leads, Ticks, entry}
 use Rattle.kube_objects.specs.Identities.{of_process}
 use Rattle.kube_objects.specs.Newest.{newest, added, when, join, has}
 use Rattle.kube_objects.specs.Process.{life_says, life, alive, born, gone, is_start, starts, restart_says, ended}
@@ -10,11 +10,11 @@ use Rattle.kube_objects.specs.Wire.{of_event}
 use Rattle.world_process.proofs.Names.{of_process-own}
 use Rattle.world_process.proofs.Unheard.{and-false}
 
-abbrev pub is_event : Deed → Bool
+abbrev pub is_event : Fact → Bool
 is_event (Event what version) = true
 is_event _ = false
 
-pub of_event-none : (f : What → Option ℕ) (d : Deed) → is_event d ≡ false → of_event f d ≡ None
+pub of_event-none : (f : What → Option ℕ) (d : Fact) → is_event d ≡ false → of_event f d ≡ None
 of_event-none f (First key object) own = refl
 of_event-none f (Event what version) own = cc
 of_event-none f Starts own = refl
@@ -32,7 +32,7 @@ of_event-none f (Ticks tick) own = refl
 pub newest-skips : {A : Type 0} (f : Entry → List Entry → Option A) (e : Entry) (h : List Entry) → f e h ≡ None → newest f (e ∷ h) ≡ newest f h
 newest-skips {A = A} f e h none = ap (λ (x : Option A). elim x as (λ o. Option A) [ None ↦ newest f h | Some y ↦ Some y ]) none
 
-life_says-others : (p : ℕ) (who : Actor) (d : Deed) → of_process p who ≡ None → life_says p who d ≡ None
+life_says-others : (p : ℕ) (who : Actor) (d : Fact) → of_process p who ≡ None → life_says p who d ≡ None
 life_says-others p who (First key object) other = refl
 life_says-others p who (Event what version) other = refl
 life_says-others p who Starts other = ap born other
@@ -46,7 +46,7 @@ life_says-others p who (Expires call) other = refl
 life_says-others p who (Leads version) other = refl
 life_says-others p who (Ticks tick) other = refl
 
-restart_says-others : (p k : ℕ) (who : Actor) (d : Deed) → is_event d ≡ false → of_process p who ≡ None → restart_says p k who d ≡ None
+restart_says-others : (p k : ℕ) (who : Actor) (d : Fact) → is_event d ≡ false → of_process p who ≡ None → restart_says p k who d ≡ None
 restart_says-others p k who (First key object) own other = refl
 restart_says-others p k who (Event what version) own other = cc
 restart_says-others p k who Starts own other = ap (λ o. when (has o) None) other
@@ -62,13 +62,13 @@ restart_says-others p k who (Ticks tick) own other = refl
 
 -- an entry of a process other than p
 pub alive-others : (p : ℕ) (e : Entry) (h : List Entry) → of_process p e.actor ≡ None → alive p (e ∷ h) ≡ alive p h
-alive-others p e h other = ap join (newest-skips (λ e h. life_says p e.actor e.deed) e h (life_says-others p e.actor e.deed other))
+alive-others p e h other = ap join (newest-skips (λ e h. life_says p e.actor e.fact) e h (life_says-others p e.actor e.fact other))
 
-pub ended-others : (p : ℕ) (e : Entry) (h : List Entry) → is_event e.deed ≡ false → of_process p e.actor ≡ None → ended p (e ∷ h) ≡ ended p h
-ended-others p e h own other = ap join (newest-skips (λ e T. restart_says p e.beat e.actor e.deed) e h (restart_says-others p e.beat e.actor e.deed own other))
+pub ended-others : (p : ℕ) (e : Entry) (h : List Entry) → is_event e.fact ≡ false → of_process p e.actor ≡ None → ended p (e ∷ h) ≡ ended p h
+ended-others p e h own other = ap join (newest-skips (λ e T. restart_says p e.beat e.actor e.fact) e h (restart_says-others p e.beat e.actor e.fact own other))
 
 pub starts-others : (p : ℕ) (e : Entry) (h : List Entry) → of_process p e.actor ≡ None → starts p (e ∷ h) ≡ starts p h
-starts-others p e h other = ap (λ o. added (is_start e.deed && has o) (starts p h)) other ∙ ap (λ b. added b (starts p h)) (and-false (is_start e.deed))
+starts-others p e h other = ap (λ o. added (is_start e.fact && has o) (starts p h)) other ∙ ap (λ b. added b (starts p h)) (and-false (is_start e.fact))
 
 -- a start makes up, in its incarnation
 pub alive-start : (k step : ℕ) (q : Identity) (h : List Entry) → alive q.process (entry k step q Starts ∷ h) ≡ Some q.incarnation
@@ -79,4 +79,4 @@ pub alive-end : (k step : ℕ) (q : Identity) (h : List Entry) → alive q.proce
 alive-end k step q h = ap (λ o. join (elim (gone o) as (λ x. Option (Option ℕ)) [ None ↦ life q.process h | Some y ↦ Some y ])) (of_process-own q)
 
 pub ended-end : (k step : ℕ) (q : Identity) (h : List Entry) → ended q.process (entry k step q Ends ∷ h) ≡ Some k
-ended-end k step q h = ap (λ o. join (elim (when (has o) (Some k)) as (λ x. Option (Option ℕ)) [ None ↦ newest (λ e T. restart_says q.process e.beat e.actor e.deed) h | Some y ↦ Some y ])) (of_process-own q)
+ended-end k step q h = ap (λ o. join (elim (when (has o) (Some k)) as (λ x. Option (Option ℕ)) [ None ↦ newest (λ e T. restart_says q.process e.beat e.actor e.fact) h | Some y ↦ Some y ])) (of_process-own q)

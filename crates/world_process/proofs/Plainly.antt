@@ -1,6 +1,6 @@
 -- An entry keeps what holds of every history.
 use Rattle.std.proofs.Common.{IfSome, nat_lt, ◌≡◌, ℕ, ◌+◌, ◌<◌, ◌≤◌, ◌&&◌, Bool, true, false, List, ◌∷◌, refl, ap, ◌∙◌, subst, arith}
-use Rattle.kube_objects.specs.Entry.{Entry, Identity, Deed, Starts, entry, actor_of}
+use Rattle.kube_objects.specs.Entry.{Entry, Identity, Fact, Starts, entry, actor_of}
 use Rattle.kube_objects.specs.Identities.{identity, is_by, of_process, identity_of}
 use Rattle.kube_objects.specs.Newest.{added, has}
 use Rattle.kube_objects.specs.Process.{is_start, starts}
@@ -12,14 +12,14 @@ added-more true n = omega arith
 added-more false n = omega arith
 
 pub starts-more : (p : ℕ) (e : Entry) (h : List Entry) → starts p h ≤ starts p (e ∷ h)
-starts-more p e h = added-more (is_start e.deed && has (of_process p e.actor)) (starts p h)
+starts-more p e h = added-more (is_start e.fact && has (of_process p e.actor)) (starts p h)
 
 -- the started incarnation is the next one
 pub starts-start : (k step : ℕ) (q : Identity) (h : List Entry) → starts q.process (entry k step q Starts ∷ h) ≡ starts q.process h + 1
 starts-start k step q h = ap (λ o. added (has o) (starts q.process h)) (of_process-own q)
 
 -- an entry of a process that is known keeps what holds of every history
-pub plain-entry : (n k step : ℕ) (q : Identity) (d : Deed) (h : List Entry) → IsKnown n (entry k step q d ∷ h) q → IsPlain n h → IsPlain n (entry k step q d ∷ h)
+pub plain-entry : (n k step : ℕ) (q : Identity) (d : Fact) (h : List Entry) → IsKnown n (entry k step q d ∷ h) q → IsPlain n h → IsPlain n (entry k step q d ∷ h)
 plain-entry n k step q d h known s =
     record {
       fresh = λ p i less. (by_test p i less (is_by (identity p i) (actor_of q)) refl, s.fresh p i (omega (arith, less, starts-more p (entry k step q d) h)));

@@ -6,7 +6,7 @@ use Rattle.kube_objects.specs.declared.key.Key.{Key}
 use Rattle.kube_objects.specs.declared.object.Object.{Object}
 use Rattle.kube_objects.specs.declared.script.What.{What}
 use Rattle.kube_objects.specs.Document.{Doc, is_up_first}
-use Rattle.kube_objects.specs.Entry.{Entry, Identity, Call, Deed, Event, Answers, Tick, Ticks, entry, script_entry}
+use Rattle.kube_objects.specs.Entry.{Entry, Identity, Call, Fact, Event, Answers, Tick, Ticks, entry, script_entry}
 use Rattle.kube_objects.specs.Process.{cancels, starts}
 use Rattle.history.specs.History.{put_all}
 use Rattle.world_process.specs.declared.process.Process.{Process}
@@ -33,7 +33,7 @@ process-up_first doc p h (Kubelet b) s = s.up_first
 
 -- ---- entries of others
 
-pub process-others : (doc : Doc) (p k step : ℕ) (q : Identity) (d : Deed) (h : List Entry) (x : Process) → ¬ (q.process ≡ p) → is_event d ≡ false → ProcessStands doc p h x → ProcessStands doc p (entry k step q d ∷ h) x
+pub process-others : (doc : Doc) (p k step : ℕ) (q : Identity) (d : Fact) (h : List Entry) (x : Process) → ¬ (q.process ≡ p) → is_event d ≡ false → ProcessStands doc p h x → ProcessStands doc p (entry k step q d ∷ h) x
 process-others doc p k step q d h (Controller c) other own s = controller-others doc p k step q d h c other own s
 process-others doc p k step q d h (Kubelet b) other own s = kubelet-others doc p k step q d h b other s
 

@@ -9,10 +9,11 @@ use Rattle.kube_objects.specs.Identities.{identity}
 use Rattle.kube_objects.specs.Kubelet.{round}
 use Rattle.kube_objects.specs.Process.{alive, counted, is_present}
 use Rattle.kube_objects.specs.Wire.{Back, next_call}
+use Rattle.kube_objects.specs.Turns.{expired, with_reply}
 use Rattle.history.specs.Printed.{printed}
 use Rattle.history.specs.Steps.{delivered, expire, if_up, kubelet_turn, react_as}
 use Rattle.kubelet_node.specs.declared.kubelet.Kubelet as rounds
-use Rattle.kubelet_node.specs.Moves.{Moved, delivered as with_reply, expired, followed, turned}
+use Rattle.kubelet_node.specs.Moves.{Moved, followed, turned}
 use Rattle.kubelet_node.specs.Stands.{KubeletStands as AreRounds}
 use Rattle.leader_elector.specs.Moves.{Asked}
 use Rattle.world_process.specs.declared.kubelet.Kubelet.{Kubelet}

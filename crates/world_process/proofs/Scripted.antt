@@ -13,7 +13,7 @@ use Rattle.kube_objects.specs.declared.script.What.TheVariants as what
 use Rattle.kube_objects.specs.Clocks.{store_wall, whole_second}
 use Rattle.kube_objects.specs.Document.{Doc}
 use Rattle.kube_objects.specs.Elector.{release}
-use Rattle.kube_objects.specs.Entry.{Entry, Identity, Deed, First, Event, Starts, Crashes, Stops, Sends, Release, entry, script_entry, actor_of}
+use Rattle.kube_objects.specs.Entry.{Entry, Identity, Fact, First, Event, Starts, Crashes, Stops, Sends, Release, entry, script_entry, actor_of}
 use Rattle.kube_objects.specs.Identities.{identity}
 use Rattle.kube_objects.specs.Newest.{added, newest, when, join}
 use Rattle.kube_objects.specs.Process.{alive, gone, life, cancels, ended, is_start, restart_says, starts}
@@ -63,7 +63,7 @@ controller-event doc p k step event version h c other s =
     record { sort = s.sort; me = s.me; incarnation = s.incarnation; timing = s.timing; clock = s.clock; up_first = s.up_first; waking = s.waking; role = by_role c.role s.role }
   where
     ends : ended p (script_entry k step (Event event version) ∷ h) ≡ ended p h
-    ends = ap (λ b. said (when b None) (newest (λ e T. restart_says p e.beat e.actor e.deed) h)) other
+    ends = ap (λ b. said (when b None) (newest (λ e T. restart_says p e.beat e.actor e.fact) h)) other
 
     by_role : (r : Role) → RoleStands doc p c.incarnation h r → RoleStands doc p c.incarnation (script_entry k step (Event event version) ∷ h) r
     by_role (role.Down at) r = (r.0, r.1 ∙ ap (restart_reading doc p) (sym ends))
@@ -124,15 +124,15 @@ controller-happens doc p k (what.Remove key) h c other s = controller-event doc 
 
 -- ---- an event on the process itself
 
-pub starts-script : (p k step : ℕ) (d : Deed) (h : List Entry) → starts p (script_entry k step d ∷ h) ≡ starts p h
+pub starts-script : (p k step : ℕ) (d : Fact) (h : List Entry) → starts p (script_entry k step d ∷ h) ≡ starts p h
 starts-script p k step d h = ap (λ b. added b (starts p h)) (and-false (is_start d))
 
-pub plain-script : (n k step : ℕ) (d : Deed) (h : List Entry) → IsPlain n h → IsPlain n (script_entry k step d ∷ h)
+pub plain-script : (n k step : ℕ) (d : Fact) (h : List Entry) → IsPlain n h → IsPlain n (script_entry k step d ∷ h)
 plain-script n k step d h s = record { fresh = λ p i less. (refl, s.fresh p i (subst (λ m. m < i) (starts-script p k step d h) less)); all = (tt, s.all) }
 
 -- a restart that waits is cancelled
 pub cancelled : (doc : Doc) (p k step : ℕ) (event : What) (version : Option Version) (h : List Entry) → cancels p event ≡ true → ended p (script_entry k step (Event event version) ∷ h) ≡ None
-cancelled doc p k step event version h own = ap (λ b. said (when b None) (newest (λ e T. restart_says p e.beat e.actor e.deed) h)) own
+cancelled doc p k step event version h own = ap (λ b. said (when b None) (newest (λ e T. restart_says p e.beat e.actor e.fact) h)) own
 
 pub down-is : (doc : Doc) (p i : ℕ) (h : List Entry) (r : Role) → is_up_as r ≡ false → RoleStands doc p i h r → alive p h ≡ None
 down-is doc p i h (role.Down at) down s = s.0

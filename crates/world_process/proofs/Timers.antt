@@ -10,13 +10,13 @@ use Rattle.kube_objects.specs.Elector.{acts, is_before, leads}
 use Rattle.kube_objects.specs.Entry.{Entry, Identity, Ends, Sends, entry, actor_of}
 use Rattle.kube_objects.specs.Identities.{identity}
 use Rattle.kube_objects.specs.Process.{alive, ended, is_present}
-use Rattle.kube_objects.specs.Turns.{end_term, try}
+use Rattle.kube_objects.specs.Turns.{end_term, try, expired}
 use Rattle.kube_objects.specs.Wire.{next_call}
 use Rattle.history.specs.Printed.{printed, deeds_of}
 use Rattle.history.specs.Steps.{finish, attempts}
 use Rattle.leader_elector.specs.declared.candidate.Candidate.{Candidate}
 use Rattle.leader_elector.specs.declared.leading.Leading.{Leading}
-use Rattle.leader_elector.specs.Moves.{Asked, CandidateTurns, after_turn, expired, tested}
+use Rattle.leader_elector.specs.Moves.{Asked, CandidateTurns, after_turn, tested}
 use Rattle.leader_elector.specs.Stands.{CandidateStands, LeadingStands}
 use Rattle.world_process.specs.declared.controller.Controller.{Controller}
 use Rattle.world_process.specs.declared.controller.Role.{Role}

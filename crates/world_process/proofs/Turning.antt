@@ -6,10 +6,10 @@ use Rattle.kube_objects.specs.Elector.{deadline}
 use Rattle.kube_objects.specs.Entry.{Entry, Identity, Call}
 use Rattle.kube_objects.specs.Identities.{identity}
 use Rattle.kube_objects.specs.Process.{alive, starts, call_in, is_late, ended, is_restart_due}
-use Rattle.kube_objects.specs.Turns.{expire_as, expire_call, end_term, try}
+use Rattle.kube_objects.specs.Turns.{expire_as, expire_call, end_term, try, expired}
 use Rattle.history.specs.Printed.{printed}
 use Rattle.history.specs.Steps.{restart_as, restart_if, restart, if_up, expire, finish, attempts}
-use Rattle.leader_elector.specs.Moves.{expired, tested}
+use Rattle.leader_elector.specs.Moves.{tested}
 
 pub restart-up : (doc : Doc) (k p i : ℕ) (h : List Entry) → alive p h ≡ Some i → restart doc k p h ≡ h
 restart-up doc k p i h up = ap (λ x. restart_if doc k p x h) up

@@ -4,10 +4,10 @@ use Rattle.kube_base.specs.declared.numbers.ProcId.{ProcId}
 use Rattle.kube_base.specs.declared.numbers.Version.{Version}
 use Rattle.kube_objects.specs.declared.call.Ask.{Ask}
 use Rattle.kube_objects.specs.declared.deed.Act.TheVariants as act
-use Rattle.kube_objects.specs.declared.deed.Deed as deed
+use Rattle.kube_objects.specs.declared.deed.Deed as fact
 use Rattle.kube_objects.specs.declared.script.What.TheVariants as what
 use Rattle.kube_objects.specs.Document.{Doc, is_controller}
-use Rattle.kube_objects.specs.Entry.{Entry, Identity, Call, Deed, Event as Happens, Stops, Delivers, entry, script_entry, actor_of}
+use Rattle.kube_objects.specs.Entry.{Entry, Identity, Call, Fact, Event as Happens, Stops, Delivers, entry, script_entry, actor_of}
 use Rattle.kube_objects.specs.Identities.{identity}
 use Rattle.kube_objects.specs.Newest.{when}
 use Rattle.kube_objects.specs.Process.{alive}
@@ -18,7 +18,7 @@ use Rattle.leader_elector.specs.Moves.{Asked}
 use Rattle.world_process.specs.declared.moves.Received.{Received}
 use Rattle.world_process.specs.declared.moves.Stopped.{Stopped}
 use Rattle.world_process.specs.declared.moves.Turn.{Turn}
-use Rattle.world_process.specs.Plain.{AreQuiet, with_deeds}
+use Rattle.world_process.specs.Plain.{AreQuiet, with_facts}
 
 -- next is the history with what is asked; h is that before
 abbrev pub AsksOn : ℕ → ℕ → Identity → List Entry → List Entry → (List Entry → Type 0) → Option Ask → Type 0
@@ -101,9 +101,9 @@ lead_deeds k q lead = deeds_of k (actor_of q) (option_map act.Lead lead)
 
 -- a reply came to the process and it asks nothing: the history has some quiet entries more
 pub record StaysOn (doc : Doc) (k : ℕ) (b : Back) (h : List Entry) (Stands : List Entry → Type 0) : Type 0 where
-  pub deeds : List Deed
-  pub quiet : AreQuiet deeds
-  pub adds : delivered doc k b h ≡ with_deeds k 3 b.who deeds h
+  pub facts : List Fact
+  pub quiet : AreQuiet facts
+  pub adds : delivered doc k b h ≡ with_facts k 3 b.who facts h
   pub stands : Stands (delivered doc k b h)
 
 -- or it asks after the reply

@@ -1,6 +1,6 @@
 -- What holds of every history, at any point of a beat, that the world keeps in mind.
 use Rattle.std.specs.Prelude.{◌≡◌, Bool, ℕ, ◌+◌, ◌<◌, ◌≤◌, ◌^◌, true, false, List, [], ◌∷◌, length, IfSome}
-use Rattle.kube_objects.specs.Entry.{Entry, Identity, Deed, Starts, Crashes, Stops, Ends, Delivers, Expires, Leads, entry}
+use Rattle.kube_objects.specs.Entry.{Entry, Identity, Fact, Starts, Crashes, Stops, Ends, Delivers, Expires, Leads, entry}
 use Rattle.kube_objects.specs.Identities.{identity, is_by, identity_of}
 use Rattle.kube_objects.specs.Process.{starts, begun}
 use Rattle.kube_objects.specs.Seen.{node_names}
@@ -41,8 +41,8 @@ pub record IsFew (h : List Entry) : Type 0 where
   pub starts : (p : ℕ) → starts p h < 2 ^ 32
   pub nodes : length (node_names h) < 2 ^ 32
 
--- deeds of a process that write nothing, send nothing and change nothing in force
-abbrev pub is_quiet : Deed → Bool
+-- facts of a process that write nothing, send nothing and change nothing in force
+abbrev pub is_quiet : Fact → Bool
 is_quiet Starts = true
 is_quiet Crashes = true
 is_quiet Stops = true
@@ -52,11 +52,11 @@ is_quiet (Expires call) = true
 is_quiet (Leads version) = true
 is_quiet _ = false
 
-abbrev pub AreQuiet : List Deed → Type 0
+abbrev pub AreQuiet : List Fact → Type 0
 AreQuiet [] = Unit {0}
 AreQuiet (d ∷ ds) = (is_quiet d ≡ true) × AreQuiet ds
 
--- the history with entries of one identity, the newest deed first
-abbrev pub with_deeds : ℕ → ℕ → Identity → List Deed → List Entry → List Entry
-with_deeds k step q [] h = h
-with_deeds k step q (d ∷ ds) h = entry k step q d ∷ with_deeds k step q ds h
+-- the history with entries of one identity, the newest fact first
+abbrev pub with_facts : ℕ → ℕ → Identity → List Fact → List Entry → List Entry
+with_facts k step q [] h = h
+with_facts k step q (d ∷ ds) h = entry k step q d ∷ with_facts k step q ds h

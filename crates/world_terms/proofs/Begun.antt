@@ -28,11 +28,11 @@ both q h false n = (refl, n)
 
 pub unsynced : (q : Identity) (h : List Entry) → ticks q h ≡ 0 → is_synced q h ≡ false
 unsynced q [] none = refl
-unsynced q (e ∷ h) none = let p = both q h (is_tick_by q e.actor e.deed) none in (foreign_change q h e p.0).synced ∙ unsynced q h p.1
+unsynced q (e ∷ h) none = let p = both q h (is_tick_by q e.actor e.fact) none in (foreign_change q h e p.0).synced ∙ unsynced q h p.1
 
 pub unticked_clean : (q : Identity) (name : ℕ) (h : List Entry) → ticks q h ≡ 0 → is_dirty q name h ≡ false
 unticked_clean q name [] none = refl
-unticked_clean q name (e ∷ h) none = let p = both q h (is_tick_by q e.actor e.deed) none in same_dirties q h (e ∷ h) (foreign_change q h e p.0) name ∙ unticked_clean q name h p.1
+unticked_clean q name (e ∷ h) none = let p = both q h (is_tick_by q e.actor e.fact) none in same_dirties q h (e ∷ h) (foreign_change q h e p.0) name ∙ unticked_clean q name h p.1
 
 pub unticked_never : (q : Identity) (key : Key) (h : List Entry) → ticks q h ≡ 0 → seen_due q key h ≡ Never
 unticked_never q key [] none = by_kind (is_pod key.kind)
@@ -40,14 +40,14 @@ unticked_never q key [] none = by_kind (is_pod key.kind)
     by_kind : (b : Bool) → due_as q (not b || false) None [] ≡ Never
     by_kind true = refl
     by_kind false = refl
-unticked_never q key (e ∷ h) none = let p = both q h (is_tick_by q e.actor e.deed) none in same_dues q h (e ∷ h) (foreign_change q h e p.0) key ∙ unticked_never q key h p.1
+unticked_never q key (e ∷ h) none = let p = both q h (is_tick_by q e.actor e.fact) none in same_dues q h (e ∷ h) (foreign_change q h e p.0) key ∙ unticked_never q key h p.1
 
 pub begun_new : (q : Identity) (h : List Entry) → ticks q h ≡ 0 → HasBegun q h
 begun_new q h none = record { unsynced = λ is. none; passed = λ is. absurd (false_is (sym (unsynced q h none) ∙ is)) }
 
 -- ---- an entry that is no tick of the term's own
 
-pub begun_beside : (q : Identity) (h : List Entry) (e : Entry) → is_tick_by q e.actor e.deed ≡ false → HasBegun q h → HasBegun q (e ∷ h)
+pub begun_beside : (q : Identity) (h : List Entry) (e : Entry) → is_tick_by q e.actor e.fact ≡ false → HasBegun q h → HasBegun q (e ∷ h)
 begun_beside q h e other s =
     let same = (foreign_change q h e other).synced in
     record {

@@ -5,7 +5,7 @@ use Rattle.std.proofs.lemmas.Bool.Decides.{nat_tests}
 use Rattle.kube_objects.specs.declared.deed.Actor.{Actor}
 use Rattle.kube_objects.specs.declared.deed.Actor.TheVariants as actor
 use Rattle.kube_objects.specs.Document.{Doc}
-use Rattle.kube_objects.specs.Entry.{Entry, Identity, Deed, First, Event, Starts, Crashes, Stops, Ends, Sends, Answers, Delivers, Expires, Leads, Ticks, entry}
+use Rattle.kube_objects.specs.Entry.{Entry, Identity, Fact, First, Event, Starts, Crashes, Stops, Ends, Sends, Answers, Delivers, Expires, Leads, Ticks, entry}
 use Rattle.kube_objects.specs.Identities.{identity, of_process}
 use Rattle.kube_objects.specs.Newest.{has, join, when}
 use Rattle.kube_objects.specs.Process.{alive, born, gone, life, life_says, starts}
@@ -20,12 +20,12 @@ use Rattle.world_terms.proofs.Begun.{begun_beside}
 
 -- ---- one term
 
-pub term-beside : (doc : Doc) (q : Identity) (h : List Entry) (e : Entry) (t : Term) → is_tick_by q e.actor e.deed ≡ false → IsTermOf doc q h t → IsTermOf doc q (e ∷ h) t
+pub term-beside : (doc : Doc) (q : Identity) (h : List Entry) (e : Entry) (t : Term) → is_tick_by q e.actor e.fact ≡ false → IsTermOf doc q h t → IsTermOf doc q (e ∷ h) t
 term-beside doc q h e t other s = record { term = others_kept doc q h e t other s.term; begun = begun_beside q h e other s.begun }
 
 -- ---- entries that are no start and no tick
 
-no_tick : (q : Identity) (who : Actor) (d : Deed) → is_beside d ≡ true → is_tick_by q who d ≡ false
+no_tick : (q : Identity) (who : Actor) (d : Fact) → is_beside d ≡ true → is_tick_by q who d ≡ false
 no_tick q who (Ticks t) is = absurd (false_is is)
 no_tick q who d is = refl
 
@@ -34,35 +34,35 @@ lost None last i up = up
 lost (Some j) last i up = absurd (none_is i up)
 
 -- who is up after it was so before
-pub was-up : (p i : ℕ) (e : Entry) (h : List Entry) → is_beside e.deed ≡ true → alive p (e ∷ h) ≡ Some i → alive p h ≡ Some i
-was-up p i e h is = by_deed e.actor e.deed is
+pub was-up : (p i : ℕ) (e : Entry) (h : List Entry) → is_beside e.fact ≡ true → alive p (e ∷ h) ≡ Some i → alive p h ≡ Some i
+was-up p i e h is = by_fact e.actor e.fact is
   where
-    by_deed : (who : Actor) (d : Deed) → is_beside d ≡ true → join (upper (life_says p who d) (life p h)) ≡ Some i → join (life p h) ≡ Some i
-    by_deed who Starts is up = absurd (false_is is)
-    by_deed who Crashes is up = lost (of_process p who) (life p h) i up
-    by_deed who Stops is up = lost (of_process p who) (life p h) i up
-    by_deed who Ends is up = lost (of_process p who) (life p h) i up
-    by_deed who (First key object) is up = up
-    by_deed who (Event what version) is up = up
-    by_deed who (Sends call arrives) is up = up
-    by_deed who (Answers call reply comes written) is up = up
-    by_deed who (Delivers call reply counted) is up = up
-    by_deed who (Expires call) is up = up
-    by_deed who (Leads version) is up = up
-    by_deed who (Ticks tick) is up = absurd (false_is is)
+    by_fact : (who : Actor) (d : Fact) → is_beside d ≡ true → join (upper (life_says p who d) (life p h)) ≡ Some i → join (life p h) ≡ Some i
+    by_fact who Starts is up = absurd (false_is is)
+    by_fact who Crashes is up = lost (of_process p who) (life p h) i up
+    by_fact who Stops is up = lost (of_process p who) (life p h) i up
+    by_fact who Ends is up = lost (of_process p who) (life p h) i up
+    by_fact who (First key object) is up = up
+    by_fact who (Event what version) is up = up
+    by_fact who (Sends call arrives) is up = up
+    by_fact who (Answers call reply comes written) is up = up
+    by_fact who (Delivers call reply counted) is up = up
+    by_fact who (Expires call) is up = up
+    by_fact who (Leads version) is up = up
+    by_fact who (Ticks tick) is up = absurd (false_is is)
 
-pub terms-beside : (doc : Doc) (h : List Entry) (e : Entry) (x : Terms) → is_beside e.deed ≡ true → TermsStand doc h x → TermsStand doc (e ∷ h) x
+pub terms-beside : (doc : Doc) (h : List Entry) (e : Entry) (x : Terms) → is_beside e.fact ≡ true → TermsStand doc h x → TermsStand doc (e ∷ h) x
 terms-beside doc h e x is s = record {
   count = s.count;
   settings = s.settings;
-  each = λ p i t at up. term-beside doc (identity p i) h e t (no_tick (identity p i) e.actor e.deed is) (s.each p i t at (was-up p i e h is up));
+  each = λ p i t at up. term-beside doc (identity p i) h e t (no_tick (identity p i) e.actor e.fact is) (s.each p i t at (was-up p i e h is up));
 }
 
-pub but-beside : (doc : Doc) (q : ℕ) (h : List Entry) (e : Entry) (x : Terms) → is_beside e.deed ≡ true → TermsStandBut doc q h x → TermsStandBut doc q (e ∷ h) x
+pub but-beside : (doc : Doc) (q : ℕ) (h : List Entry) (e : Entry) (x : Terms) → is_beside e.fact ≡ true → TermsStandBut doc q h x → TermsStandBut doc q (e ∷ h) x
 but-beside doc q h e x is s = record {
   count = s.count;
   settings = s.settings;
-  each = λ p i t apart at up. term-beside doc (identity p i) h e t (no_tick (identity p i) e.actor e.deed is) (s.each p i t apart at (was-up p i e h is up));
+  each = λ p i t apart at up. term-beside doc (identity p i) h e t (no_tick (identity p i) e.actor e.fact is) (s.each p i t apart at (was-up p i e h is up));
 }
 
 -- ---- all but one
@@ -80,14 +80,14 @@ module _ (q p : ℕ) (apart : p ≢ q) where
   foreign-process actor.Script by = absurd (false_is by)
   foreign-process (actor.Proc id incarnation) by = ap (λ b. when b incarnation) (not-this id.0 incarnation (id.0 == q) refl by)
 
-  foreign-life : (who : Actor) (d : Deed) → of_process p who ≡ None → life_says p who d ≡ None
+  foreign-life : (who : Actor) (d : Fact) → of_process p who ≡ None → life_says p who d ≡ None
   foreign-life who Starts none = ap born none
   foreign-life who Crashes none = ap gone none
   foreign-life who Stops none = ap gone none
   foreign-life who Ends none = ap gone none
   foreign-life who d none = refl
 
-  foreign-tick : (i : ℕ) (who : Actor) (d : Deed) → has (of_process q who) ≡ true → is_tick_by (identity p i) who d ≡ false
+  foreign-tick : (i : ℕ) (who : Actor) (d : Fact) → has (of_process q who) ≡ true → is_tick_by (identity p i) who d ≡ false
   foreign-tick i actor.Script (Ticks t) by = refl
   foreign-tick i (actor.Proc id incarnation) (Ticks t) by = ap (λ b. b && (incarnation == i)) (not-this id.0 incarnation (id.0 == q) refl by)
   foreign-tick i who d by = refl
@@ -97,8 +97,8 @@ but-own doc q h e x by s = record {
   count = s.count;
   settings = s.settings;
   each = λ p i t apart at up.
-      term-beside doc (identity p i) h e t (foreign-tick q p apart i e.actor e.deed by)
-      (s.each p i t apart at (ap (λ o. join (upper o (life p h))) (sym (foreign-life q p apart e.actor e.deed (foreign-process q p apart e.actor by))) ∙ up));
+      term-beside doc (identity p i) h e t (foreign-tick q p apart i e.actor e.fact by)
+      (s.each p i t apart at (ap (λ o. join (upper o (life p h))) (sym (foreign-life q p apart e.actor e.fact (foreign-process q p apart e.actor by))) ∙ up));
 }
 
 -- ---- a start

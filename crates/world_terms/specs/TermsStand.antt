@@ -64,7 +64,7 @@ pub record Ticked (doc : Doc) (k : ℕ) (q : Identity) (h : List Entry) (deeds :
   pub told : printed h ++ deeds ≡ printed (tick doc k q h)
 
 -- no start and no entry of a tick
-abbrev pub is_beside : entry.Deed → Bool
+abbrev pub is_beside : entry.Fact → Bool
 is_beside Starts = false
 is_beside (Ticks tick) = false
 is_beside _ = true

@@ -1,6 +1,6 @@
 use Rattle.std.proofs.Common.{◌∙◌, ◌+◌, ◌<◌, ◌^◌, sym, subst}
 use Rattle.kube_objects.specs.Process.{begun, call_in}
-use Rattle.kubelet_node.specs.Moves.{expired}
+use Rattle.kube_objects.specs.Turns.{expired}
 use Rattle.kubelet_node.proofs.Rounds.{begun-expiry, status-expiry}
 use Rattle.kubelet_node.proofs.kubelet.Kubelet.on_timer.Goals as goal
 

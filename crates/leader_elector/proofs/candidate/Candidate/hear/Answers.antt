@@ -2,9 +2,9 @@ use Rattle.leader_elector.proofs.Taken.{answered-never, takes-ask, takes-silent}
 use Rattle.std.proofs.Common.{◌≡◌, ◌∙◌, ◌∷◌, true, sym, ap, subst, refl}
 use Rattle.kube_objects.specs.Elector.{Fails, Succeeds, leads}
 use Rattle.kube_objects.specs.Entry.{Delivers, Leads, Plain, Sends, entry}
-use Rattle.kube_objects.specs.Turns.{lead_if, react}
+use Rattle.kube_objects.specs.Turns.{lead_if, react, with_reply}
 use Rattle.kube_objects.specs.Wire.{next_call, send}
-use Rattle.leader_elector.specs.Moves.{Asked, Received, delivered, reacted}
+use Rattle.leader_elector.specs.Moves.{Asked, Received, reacted}
 use Rattle.leader_elector.specs.Stands.{ElectorStands, follow_of}
 use Rattle.leader_elector.proofs.Own.{settled-own}
 use Rattle.leader_elector.proofs.candidate.Candidate.hear.Goals as goal
@@ -15,7 +15,7 @@ returns-in_default-clause-counts c doc q h k call s now wall room is =
 
 pub returns-in-Fails-clause-counts : goal.returns-in-Fails-clause-counts
 returns-in-Fails-clause-counts c doc q h k call s now wall room is =
-    let g = delivered k q call c.args.reply.now h in
+    let g = with_reply k q call c.args.reply.now h in
     let t = c.in-Some.ensures.counts doc q h k call s.elector s.leads now wall is in (
       ap (λ f. react k q (leads q h) f g) (sym t.0 ∙ ap follow_of c.in-Fails.is),
       record {
@@ -27,7 +27,7 @@ returns-in-Fails-clause-counts c doc q h k call s now wall room is =
 
 pub returns-in-Asks-clause-counts : goal.returns-in-Asks-clause-counts
 returns-in-Asks-clause-counts c doc q h k call s now wall room is =
-    let g = delivered k q call c.args.reply.now h in
+    let g = with_reply k q call c.args.reply.now h in
     let t = c.in-Some.ensures.counts doc q h k call s.elector s.leads now wall is in
     let asks : reacted doc k q call c.args.reply.now h ≡ send k 3 q Plain c.in-Asks.request g = ap (λ f. react k q (leads q h) f g) (sym t.0 ∙ ap follow_of c.in-Asks.is) in
     let a : Asked k 3 q g (reacted doc k q call c.args.reply.now h) (λ x. ElectorStands doc q x c.ask.new.self) c.ask.result = c.ask.ensures.history doc q g _ k 3 t.1 now room asks in
@@ -44,7 +44,7 @@ returns-in-Asks-clause-counts c doc q h k call s now wall room is =
 
 pub returns-in-Succeeds-clause-counts : goal.returns-in-Succeeds-clause-counts
 returns-in-Succeeds-clause-counts c doc q h k call s now wall room is =
-    let g = delivered k q call c.args.reply.now h in
+    let g = with_reply k q call c.args.reply.now h in
     let version = c.in-Succeeds.field-0 in
     let t = c.in-Some.ensures.counts doc q h k call s.elector s.leads now wall is in
     let next : reacted doc k q call c.args.reply.now h ≡ entry k 3 q (Leads version) ∷ g =

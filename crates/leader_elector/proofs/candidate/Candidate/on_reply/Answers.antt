@@ -1,5 +1,5 @@
 use Rattle.std.proofs.Common.{sym, subst}
-use Rattle.leader_elector.specs.Moves.{delivered}
+use Rattle.kube_objects.specs.Turns.{with_reply}
 use Rattle.leader_elector.specs.Stands.{LeadingStands}
 use Rattle.leader_elector.proofs.candidate.Candidate.on_reply.Goals as goal
 
@@ -15,7 +15,7 @@ returns-in-Leads-clause-uncounted c doc q h k s now up none call = let no = (c.i
 pub returns-in-Leads-clause-counts : goal.returns-in-Leads-clause-counts
 returns-in-Leads-clause-counts c doc q h k call s now wall room is =
     let t = c.in-Leads.ensures.counts doc q h k call s now wall room is in
-    (t.0, t.1, subst (λ x. LeadingStands doc q x c.lead.result) (sym t.1) (c.lead.ensures.stands doc q (delivered k q call c.args.reply h) k 3 t.0 t.2 now))
+    (t.0, t.1, subst (λ x. LeadingStands doc q x c.lead.result) (sym t.1) (c.lead.ensures.stands doc q (with_reply k q call c.args.reply h) k 3 t.0 t.2 now))
 
 pub returns-in-Leads-clause-follows : goal.returns-in-Leads-clause-follows
 returns-in-Leads-clause-follows c w counts waits = (c.hear.new.self.elector, c.in-Leads.ensures.takes w counts waits, c.lead.ensures.begins)

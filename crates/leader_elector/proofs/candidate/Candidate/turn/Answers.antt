@@ -1,7 +1,7 @@
 use Rattle.std.proofs.Common.{◌≡◌, ◌∙◌, ◌+◌, ◌<◌, ◌^◌, sym, subst, false}
 use Rattle.kube_objects.specs.Elector.{leads}
 use Rattle.kube_objects.specs.Process.{begun, call_in}
-use Rattle.leader_elector.specs.Moves.{expired}
+use Rattle.kube_objects.specs.Turns.{expired}
 use Rattle.leader_elector.proofs.Expiry.{begun-expiry, leads-expiry}
 use Rattle.leader_elector.proofs.Tries.{turns-tried}
 use Rattle.leader_elector.proofs.candidate.Candidate.turn.Goals as goal

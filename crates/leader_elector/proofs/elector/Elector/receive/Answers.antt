@@ -4,9 +4,10 @@ use Rattle.kube_objects.specs.Document.{retry_period}
 use Rattle.kube_objects.specs.Elector.{follow_on, newly, observed_at, timer_follow, told}
 use Rattle.kube_objects.specs.Entry.{CallKind}
 use Rattle.kube_objects.specs.Newest.{or_else}
-use Rattle.leader_elector.specs.Moves.{delivered, last_of}
+use Rattle.kube_objects.specs.Turns.{with_reply}
+use Rattle.leader_elector.specs.Moves.{last_of}
 use Rattle.leader_elector.specs.Stands.{IsTimingOf, Wait, follow_of, kind_of, observed_of, shown_of, waiting_in, waiting_of}
-use Rattle.leader_elector.proofs.Replies.{counted-call, delivered-stands, observed_at-delivered}
+use Rattle.leader_elector.proofs.Replies.{counted-call, with_reply-stands, observed_at-with_reply}
 use Rattle.leader_elector.proofs.elector.Elector.receive.Goals as goal
 
 abbrev request_of : Request → Option Wait → Request
@@ -22,7 +23,7 @@ returns-clause-counts c doc q h k call s led now wall is =
     let self = c.args.self.now in
     let reply = c.args.reply.now in
     let w = c.in-Some.waiting in
-    let g = delivered k q call reply h in
+    let g = with_reply k q call reply h in
     let waits : waiting_of (Some w) ≡ waiting_in doc q (Some call) = sym (ap waiting_of c.in-Some.is) ∙ s.waiting ∙ ap (waiting_in doc q) (counted-call doc q k c.args.number h call is) in
     let request : w.request ≡ call.request = ap (request_of w.request) waits in
     let kind : kind_of w.fast ≡ call.kind = ap (kind_in call.kind) waits in
@@ -33,11 +34,11 @@ returns-clause-counts c doc q h k call s led now wall is =
     let observed_is : observed_of noted.seen ≡ observed_at doc q g =
     c.note.ensures.observed
     ∙ (λ i. or_else (s.observed i) (newly (told_is i) (s.shown i) (now i)))
-    ∙ sym (observed_at-delivered doc k q call reply h) in
+    ∙ sym (observed_at-with_reply doc k q call reply h) in
     let timing_is : noted.timing ≡ self.timing = ap (λ x. x.timing) noted_is in
     let follow_is : follow_of c.follow-follow.result ≡ follow_on doc q k call.kind call.request reply g =
     c.follow-follow.ensures.history doc q g k (ap (λ x. x.me.0) noted_is ∙ s.process) (ap (λ x. x.incarnation) noted_is ∙ s.incarnation) (subst (λ t. IsTimingOf doc q.process t) (sym timing_is) s.timing) now wall observed_is
     ∙ (λ i. follow_on doc q k (kind i) (request i) reply g) in
     let retry : noted.timing.retry ≡ retry_period doc q.process = ap (λ t. t.retry) timing_is ∙ s.timing.retry in
     let timer_is = c.set_timer.ensures.timer ∙ (λ i. or_else noted.timer.0 (timer_follow (follow_is i) (sym led i) (now i + retry i))) in
-    (follow_is, delivered-stands doc k q call reply h self noted c.set_timer.new.self c.finish.new.self s (c.finish.ensures.delivered doc q h k 3 call reply s.slot) noted_is shown_is observed_is c.set_timer.ensures.changed timer_is)
+    (follow_is, with_reply-stands doc k q call reply h self noted c.set_timer.new.self c.finish.new.self s (c.finish.ensures.delivered doc q h k 3 call reply s.slot) noted_is shown_is observed_is c.set_timer.ensures.changed timer_is)

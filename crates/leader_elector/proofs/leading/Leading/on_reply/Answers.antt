@@ -3,12 +3,12 @@ use Rattle.leader_elector.proofs.Taken.{answered-never, takes-ask, takes-silent}
 use Rattle.std.proofs.Common.{◌≡◌, ◌∙◌, ◌+◌, false, true, Some, sym, ap, subst, refl}
 use Rattle.kube_objects.specs.Elector.{Fails, Asks, Succeeds, follow_on, leads}
 use Rattle.kube_objects.specs.Entry.{Delivers, Plain, Sends}
-use Rattle.kube_objects.specs.Turns.{lead_if, react}
+use Rattle.kube_objects.specs.Turns.{lead_if, react, with_reply}
 use Rattle.kube_objects.specs.Wire.{next_call, send}
-use Rattle.leader_elector.specs.Moves.{Asked, Received, delivered, reacted}
+use Rattle.leader_elector.specs.Moves.{Asked, Received, reacted}
 use Rattle.leader_elector.specs.Stands.{ElectorStands, follow_of}
 use Rattle.leader_elector.proofs.Own.{settled-own}
-use Rattle.leader_elector.proofs.Replies.{deadline-delivered}
+use Rattle.leader_elector.proofs.Replies.{deadline-with_reply}
 use Rattle.leader_elector.proofs.leading.Leading.on_reply.Goals as goal
 
 pub returns-in_default-clause-counts : goal.returns-in_default-clause-counts
@@ -17,7 +17,7 @@ returns-in_default-clause-counts c doc q h k call s now wall room is =
 
 pub returns-in-Fails-clause-counts : goal.returns-in-Fails-clause-counts
 returns-in-Fails-clause-counts c doc q h k call s now wall room is =
-    let g = delivered k q call c.args.reply h in
+    let g = with_reply k q call c.args.reply h in
     let t = c.in-Some.ensures.counts doc q h k call s.elector s.leads now wall is in
     let fails : follow_on doc q k call.kind call.request c.args.reply g ≡ Fails = sym t.0 ∙ ap follow_of c.in-Fails.is in (
       ap (λ f. react k q (leads q h) f g) fails,
@@ -25,13 +25,13 @@ returns-in-Fails-clause-counts c doc q h k call s now wall room is =
         elector = t.1;
         settled = settled-own q h k 3 (Delivers call c.args.reply true) (λ n. refl);
         leads = s.leads;
-        deadline = s.deadline ∙ sym (deadline-delivered doc k q call c.args.reply h Fails s.leads fails);
+        deadline = s.deadline ∙ sym (deadline-with_reply doc k q call c.args.reply h Fails s.leads fails);
       },
     )
 
 pub returns-in-Asks-clause-counts : goal.returns-in-Asks-clause-counts
 returns-in-Asks-clause-counts c doc q h k call s now wall room is =
-    let g = delivered k q call c.args.reply h in
+    let g = with_reply k q call c.args.reply h in
     let t = c.in-Some.ensures.counts doc q h k call s.elector s.leads now wall is in
     let wanted : follow_on doc q k call.kind call.request c.args.reply g ≡ Asks c.in-Asks.request = sym t.0 ∙ ap follow_of c.in-Asks.is in
     let asks : reacted doc k q call c.args.reply h ≡ send k 3 q Plain c.in-Asks.request g = ap (λ f. react k q (leads q h) f g) wanted in
@@ -44,13 +44,13 @@ returns-in-Asks-clause-counts c doc q h k call s now wall room is =
         elector = a.stands arrives;
         settled = settled-own q g k 3 (Sends (next_call q k a.kind c.ask-ask.result.request g) arrives) (λ n. refl);
         leads = s.leads;
-        deadline = s.deadline ∙ sym (deadline-delivered doc k q call c.args.reply h (Asks c.in-Asks.request) s.leads wanted);
+        deadline = s.deadline ∙ sym (deadline-with_reply doc k q call c.args.reply h (Asks c.in-Asks.request) s.leads wanted);
       };
     }
 
 pub returns-in-Succeeds-clause-counts : goal.returns-in-Succeeds-clause-counts
 returns-in-Succeeds-clause-counts c doc q h k call s now wall room is =
-    let g = delivered k q call c.args.reply h in
+    let g = with_reply k q call c.args.reply h in
     let version = c.in-Succeeds.field-0 in
     let t = c.in-Some.ensures.counts doc q h k call s.elector s.leads now wall is in
     let succeeds : follow_on doc q k call.kind call.request c.args.reply g ≡ Succeeds version = sym t.0 ∙ ap follow_of c.in-Succeeds.is in (
@@ -59,7 +59,7 @@ returns-in-Succeeds-clause-counts c doc q h k call s now wall room is =
         elector = t.1;
         settled = settled-own q h k 3 (Delivers call c.args.reply true) (λ n. refl);
         leads = s.leads;
-        deadline = (λ i. Some (now i + t.1.timing.retry i + t.1.timing.renew i)) ∙ sym (deadline-delivered doc k q call c.args.reply h (Succeeds version) s.leads succeeds);
+        deadline = (λ i. Some (now i + t.1.timing.retry i + t.1.timing.renew i)) ∙ sym (deadline-with_reply doc k q call c.args.reply h (Succeeds version) s.leads succeeds);
       },
     )
 

@@ -4,9 +4,9 @@ use Rattle.kube_objects.specs.Elector.{deadline, leads}
 use Rattle.kube_objects.specs.Entry.{Sends}
 use Rattle.kube_objects.specs.Identities.{identity}
 use Rattle.kube_objects.specs.Process.{begun, call_in}
-use Rattle.kube_objects.specs.Turns.{end_as, end_term, try}
+use Rattle.kube_objects.specs.Turns.{end_as, end_term, try, expired}
 use Rattle.kube_objects.specs.Wire.{next_call}
-use Rattle.leader_elector.specs.Moves.{Asked, expired}
+use Rattle.leader_elector.specs.Moves.{Asked}
 use Rattle.leader_elector.specs.Stands.{ElectorStands}
 use Rattle.leader_elector.proofs.Attempts.{before, reached}
 use Rattle.leader_elector.proofs.Expiry.{begun-expiry, deadline-expiry, leads-expiry}

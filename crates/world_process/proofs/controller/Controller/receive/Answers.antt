@@ -1,6 +1,6 @@
 use Rattle.std.proofs.Common.{None, sym, ap, ◌∙◌, subst, refl}
 use Rattle.kube_objects.specs.Identities.{identity}
-use Rattle.leader_elector.specs.Moves.{delivered}
+use Rattle.kube_objects.specs.Turns.{with_reply}
 use Rattle.leader_elector.specs.Stands.{CandidateStands}
 use Rattle.world_process.specs.declared.controller.Role.TheVariants as role
 use Rattle.world_process.specs.Controllers.{IsLed, Replied}
@@ -55,7 +55,7 @@ returns-in-Leads-clause-stands c doc k p b h s at who number reply few =
     (λ none. let no = (c.in-Leads.ensures.uncounted doc q h k was.1 reads.now was.0 none b.call).0 in cc)
     (λ call some.
     let t = c.in-Leads.ensures.counts doc q h k call was.1 reads.now reads.wall (few.calls q) some in
-    (t.0, t.1, subst (λ g. IsLed doc q g led) (sym t.1) (c.lead.ensures.leads doc q (delivered k q call c.args.reply.now h) k t.0 c.hear.new.self refl t.2 reads.now)))))
+    (t.0, t.1, subst (λ g. IsLed doc q g led) (sym t.1) (c.lead.ensures.leads doc q (with_reply k q call c.args.reply.now h) k t.0 c.hear.new.self refl t.2 reads.now)))))
 
 pub returns-in-Leading-clause-stands : goal.returns-in-Leading-clause-stands
 returns-in-Leading-clause-stands c doc k p b h s at who number reply few =

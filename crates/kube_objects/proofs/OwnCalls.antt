@@ -1,0 +1,75 @@
+-- What an identity's own entries say of its call: a request is sent, expires, or has its reply.
+use Rattle.std.proofs.Common.{◌≡◌, ◌∙◌, ℕ, ◌+◌, ◌==◌, ◌&&◌, Bool, true, false, List, ◌∷◌, Option, Some, None, refl, ap, arith}
+use Rattle.std.proofs.lemmas.Bool.Decides.{nat_tests}
+use Rattle.kube_objects.specs.declared.call.Reply.{Reply}
+use Rattle.kube_objects.specs.declared.call.Request.{Request}
+use Rattle.kube_objects.specs.CallSlots.{is_late_call, waits}
+use Rattle.kube_objects.specs.Document.{Doc}
+use Rattle.kube_objects.specs.Entry.{Entry, Identity, Call, CallKind, Plain, Fast, Release, Fact, Sends, Expires, actor_of, entry}
+use Rattle.kube_objects.specs.Identities.{is_by}
+use Rattle.kube_objects.specs.Newest.{has, newest, only_if, when, join}
+use Rattle.kube_objects.specs.Process.{answered_call, begun, call_in, counted, is_late, last_call}
+use Rattle.kube_objects.specs.Turns.{expire_as, expire_call, expired_in, just_expired, with_reply}
+use Rattle.kube_objects.specs.Wire.{next_call}
+
+pub mine : (q : Identity) → is_by q (actor_of q) ≡ true
+mine q = grind (arith, nat_tests)
+
+pub same_beat : (k : ℕ) → (k == k) ≡ true
+same_beat k = grind (arith, nat_tests)
+
+-- what an entry says, and else the entries before it
+abbrev pub said : {A : Type 0} → Option A → Option A → Option A
+said now before = elim now [ None ↦ before | Some x ↦ Some x ]
+
+-- ---- the call that waits
+
+pub call_in-sent : (q : Identity) (h : List Entry) (k step : ℕ) (request : Request) (arrives : Option ℕ) (kind : CallKind) → waits kind ≡ true →
+    call_in q (entry k step q (Sends (next_call q k kind request h) arrives) ∷ h) ≡ Some (next_call q k kind request h)
+call_in-sent q h k step request arrives Plain waiting = ap (λ b. join (said (when b (Some (next_call q k Plain request h))) (last_call q h))) (mine q)
+call_in-sent q h k step request arrives Fast waiting = ap (λ b. join (said (when b (Some (next_call q k Fast request h))) (last_call q h))) (mine q)
+call_in-sent q h k step request arrives Release waiting = absurd (cc)
+
+pub call_in-expired : (q : Identity) (h : List Entry) (k step : ℕ) (call : Call) → call_in q (entry k step q (Expires call) ∷ h) ≡ None
+call_in-expired q h k step call = ap (λ b. join (said (when {A = Option Call} b None) (last_call q h))) (mine q)
+
+pub call_in-with_reply : (q : Identity) (h : List Entry) (k : ℕ) (call : Call) (answered : Reply) → call_in q (with_reply k q call answered h) ≡ None
+call_in-with_reply q h k call answered = ap (λ b. join (said (when {A = Option Call} (true && b) None) (last_call q h))) (mine q)
+
+-- a reply that counts, counts for the call that waits
+pub counted-call : (doc : Doc) (q : Identity) (k number : ℕ) (h : List Entry) (call : Call) → counted doc q k number h ≡ Some call → call_in q h ≡ Some call
+counted-call doc q k number h call is = by_life _ (call_in q h) is
+  where
+    by_test : (b : Bool) (x : Call) → when b x ≡ Some call → Some x ≡ Some call
+    by_test true x is = is
+    by_test false x is = cc
+
+    by_call : (c : Option Call) → answered_call doc q k number c ≡ Some call → c ≡ Some call
+    by_call None is = cc
+    by_call (Some x) is = by_test _ x is
+
+    by_life : (b : Bool) (c : Option Call) → only_if b (answered_call doc q k number c) ≡ Some call → c ≡ Some call
+    by_life true c is = by_call c is
+    by_life false c is = cc
+
+-- ---- the expiry of a turn
+
+abbrev pub last_expired : Identity → ℕ → List Entry → Option (Option Call)
+last_expired q n h = newest (λ e T. when (is_by q e.actor) (expired_in n e.beat e.fact)) h
+
+pub just_expired-own : (q : Identity) (h : List Entry) (k step n : ℕ) (fact : Fact) → just_expired q n (entry k step q fact ∷ h) ≡ expired_in n k fact
+just_expired-own q h k step n fact = ap (λ b. join (said (when b (expired_in n k fact)) (last_expired q n h))) (mine q)
+
+module _ (doc : Doc) (k : ℕ) (q : Identity) (h : List Entry) where
+  -- without a late call nothing happens
+  pub none_late : (c : Option Call) → is_late_call doc q k c ≡ false → expire_call doc k q c h ≡ h
+  none_late None is = refl
+  none_late (Some call) is = ap (λ b. expire_as k q call b h) is
+
+  begun_as : (call : Call) (b : Bool) → begun q (expire_as k q call b h) ≡ begun q h
+  begun_as call true = refl
+  begun_as call false = refl
+
+  pub begun-expiry : (c : Option Call) → begun q (expire_call doc k q c h) ≡ begun q h
+  begun-expiry None = refl
+  begun-expiry (Some call) = begun_as call (is_late doc q k call)
