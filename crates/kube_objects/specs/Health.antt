@@ -120,9 +120,17 @@ probe q name h = or_zero (newest (λ e T. when (is_probe q name e.actor e.fact T
 -- Ready as a mark leaves it at a whole second
 abbrev pub marked : ℕ → Option Ready → Ready
 marked at None = record {
-    status = ready.Unknown; reason = NODE_STATUS_NEVER_UPDATED; heartbeat = None; transition = Some (record { 0 = at }) }
+  status = ready.Unknown;
+  reason = NODE_STATUS_NEVER_UPDATED;
+  heartbeat = None;
+  transition = Some (record { 0 = at });
+}
 marked at (Some r) = record {
-    status = ready.Unknown; reason = NODE_STATUS_UNKNOWN; heartbeat = r.heartbeat; transition = Some (record { 0 = at }) }
+  status = ready.Unknown;
+  reason = NODE_STATUS_UNKNOWN;
+  heartbeat = r.heartbeat;
+  transition = Some (record { 0 = at });
+}
 
 abbrev pub is_unknown_status : ReadyStatus → Bool
 is_unknown_status ready.Unknown = true

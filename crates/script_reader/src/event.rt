@@ -7,9 +7,9 @@ ghost use Rattle.script_reader.specs.Cast.{AreNamed, seen};
 ghost use Rattle.script_reader.specs.Walk as walk;
 
 use crate::cast::Players;
-use crate::what::what_at;
 use crate::field::{array_in, member_of, needed_text, needed_whole, object_at, or_refuse, path_of};
 use crate::table::{EventType, Table, known_in};
+use crate::what::what_at;
 use kube_base::{Beat, KUBE_CONTROLLER_MANAGER, KUBE_SYSTEM, Names};
 use kube_objects::{Event, Events, Key, Kind, What};
 use manifest_json::codes::{ELECTION_LEASE_EDIT, EVENT_ORDER, OUT_OF_RANGE, WRONG_TYPE};
