@@ -9,7 +9,7 @@ use Rattle.kube_objects.specs.declared.call.Request.TheVariants as request
 use Rattle.kube_objects.specs.declared.deed.Act.{Act}
 use Rattle.kube_objects.specs.declared.deed.Act.TheVariants as act
 use Rattle.kube_objects.specs.declared.deed.Actor.{Actor}
-use Rattle.kube_objects.specs.declared.deed.Deed as fact
+use Rattle.kube_objects.specs.declared.deed.Deed.{Deed}
 use Rattle.kube_objects.specs.declared.key.Key.{Key}
 use Rattle.kube_objects.specs.declared.node.Ready.{Ready}
 use Rattle.kube_objects.specs.declared.script.What.{What}
@@ -73,11 +73,11 @@ act_of (Ticks tick) = tick_act tick
 act_of _ = None
 
 -- the line of an entry, where it has one
-abbrev pub deeds_of : ℕ → Actor → Option Act → List deed.Deed
+abbrev pub deeds_of : ℕ → Actor → Option Act → List Deed
 deeds_of k who None = []
 deeds_of k who (Some a) = record { beat = record { 0 = k }; actor = who; act = a } ∷ []
 
 -- the printed entries, the oldest first
-abbrev pub printed : List Entry → List deed.Deed
+abbrev pub printed : List Entry → List Deed
 printed [] = []
 printed (e ∷ h) = printed h ++ deeds_of e.beat e.actor (act_of e.fact)

@@ -2,7 +2,7 @@
 use Rattle.std.proofs.Common.{◌≡◌, ℕ, ◌+◌, ◌<◌, ◌≤◌, cond, List, [], ◌∷◌, ◌++◌, Option, Some, None, slice_get, get_or, length, drop, refl, sym, ap, ◌∙◌, subst, arith}
 use Rattle.std.proofs.lemmas.Option.{slice_get_read}
 use Rattle.kube_objects.specs.declared.call.Request.{Request}
-use Rattle.kube_objects.specs.declared.deed.Deed as fact
+use Rattle.kube_objects.specs.declared.deed.Deed.{Deed}
 use Rattle.kube_objects.specs.declared.script.Event.{Event}
 use Rattle.kube_objects.specs.declared.script.What.{What}
 use Rattle.kube_objects.specs.declared.script.What.TheVariants as what
@@ -89,7 +89,7 @@ event-at doc k w xs ys e s xs_are ys_are less is =
     ap (λ es. slice_get es w.place) (sym (xs_are ∙ s.events)) ∙ slice_get_read xs (length ys) w.place e (ap (λ es. length es) (ys_are ∙ sym xs_are)) less is
 
 -- some events of beat k have happened
-pub record Happening (doc : Doc) (k : ℕ) (before : List deed.Deed) (arriving : List Sent) (coming : List Back) (h : List Entry) (w : State) (deeds : List deed.Deed) : Type 0 where
+pub record Happening (doc : Doc) (k : ℕ) (before : List Deed) (arriving : List Sent) (coming : List Back) (h : List Entry) (w : State) (deeds : List Deed) : Type 0 where
   pub now : List Entry
   pub running : Running doc k before arriving coming now w deeds
   pub earlier : (i : ℕ) (e : Event) → i < w.place → slice_get doc.events i ≡ Some e → e.beat.0 < k + 1
@@ -98,7 +98,7 @@ pub record Happening (doc : Doc) (k : ℕ) (before : List deed.Deed) (arriving :
   pub requests : requests_due k now ≡ requests_due k h
   pub replies : replies_due k now ≡ replies_due k h
 
-pub happening-first : (doc : Doc) (k : ℕ) (before deeds : List deed.Deed) (arriving : List Sent) (coming : List Back) (h : List Entry) (w : State) → Running doc k before arriving coming h w deeds → IsPlaced doc k w.place → Happening doc k before arriving coming h w deeds
+pub happening-first : (doc : Doc) (k : ℕ) (before deeds : List Deed) (arriving : List Sent) (coming : List Back) (h : List Entry) (w : State) → Running doc k before arriving coming h w deeds → IsPlaced doc k w.place → Happening doc k before arriving coming h w deeds
 happening-first doc k before deeds arriving coming h w r placed =
     record {
       now = h;
@@ -110,7 +110,7 @@ happening-first doc k before deeds arriving coming h w r placed =
       replies = refl;
     }
 
-pub happening-more : (doc : Doc) (k : ℕ) (before deeds new : List deed.Deed) (arriving : List Sent) (coming : List Back) (h : List Entry) (w v : State) (e : Event) → (a : Happening doc k before arriving coming h w deeds) → slice_get doc.events w.place ≡ Some e → e.beat.0 ≡ k → v.place ≡ w.place + 1 →
+pub happening-more : (doc : Doc) (k : ℕ) (before deeds new : List Deed) (arriving : List Sent) (coming : List Back) (h : List Entry) (w v : State) (e : Event) → (a : Happening doc k before arriving coming h w deeds) → slice_get doc.events w.place ≡ Some e → e.beat.0 ≡ k → v.place ≡ w.place + 1 →
     IsFew (happen_all doc k doc.events h) → (IsLawfulWhat doc e.what → IsFew (happens doc k e.what a.now) → Running doc k before arriving coming (happens doc k e.what a.now) v new) → Happening doc k before arriving coming h v new
 happening-more doc k before deeds new arriving coming h w v e a here beat place few happened =
     let rest = drop (w.place + 1) doc.events in
@@ -129,7 +129,7 @@ happening-more doc k before deeds new arriving coming h w v e a here beat place 
       replies = replies-happens doc k e.what a.now ∙ a.replies;
     }
 
-scripted-all : (doc : Doc) (k : ℕ) (before deeds : List deed.Deed) (arriving : List Sent) (coming : List Back) (h : List Entry) (w : State) → (a : Happening doc k before arriving coming h w deeds) → a.now ≡ happen_all doc k doc.events h → AreLawfulFrom doc (k + 1) (drop w.place doc.events) → Scripted doc k before arriving coming h w deeds
+scripted-all : (doc : Doc) (k : ℕ) (before deeds : List Deed) (arriving : List Sent) (coming : List Back) (h : List Entry) (w : State) → (a : Happening doc k before arriving coming h w deeds) → a.now ≡ happen_all doc k doc.events h → AreLawfulFrom doc (k + 1) (drop w.place doc.events) → Scripted doc k before arriving coming h w deeds
 scripted-all doc k before deeds arriving coming h w a all later =
     record {
       running = subst (λ g. Running doc k before arriving coming g w deeds) all a.running;
@@ -139,7 +139,7 @@ scripted-all doc k before deeds arriving coming h w a all later =
     }
 
 -- the next event is of a later beat
-pub happening-before : (doc : Doc) (k : ℕ) (before deeds : List deed.Deed) (arriving : List Sent) (coming : List Back) (h : List Entry) (w : State) (e : Event) → Happening doc k before arriving coming h w deeds → slice_get doc.events w.place ≡ Some e → ¬ (e.beat.0 ≡ k) → Scripted doc k before arriving coming h w deeds
+pub happening-before : (doc : Doc) (k : ℕ) (before deeds : List Deed) (arriving : List Sent) (coming : List Back) (h : List Entry) (w : State) (e : Event) → Happening doc k before arriving coming h w deeds → slice_get doc.events w.place ≡ Some e → ¬ (e.beat.0 ≡ k) → Scripted doc k before arriving coming h w deeds
 happening-before doc k before deeds arriving coming h w e a here other =
     let rest = drop (w.place + 1) doc.events in
     let is : drop w.place doc.events ≡ e ∷ rest = drop-at doc.events w.place e here in
@@ -148,7 +148,7 @@ happening-before doc k before deeds arriving coming h w e a here other =
     scripted-all doc k before deeds arriving coming h w a (sym (happen-later doc k (k + 1) (drop w.place doc.events) a.now (omega arith) later) ∙ a.same) later
 
 -- no event is left
-pub happening-done : (doc : Doc) (k : ℕ) (before deeds : List deed.Deed) (arriving : List Sent) (coming : List Back) (h : List Entry) (w : State) → Happening doc k before arriving coming h w deeds → length doc.events ≤ w.place → Scripted doc k before arriving coming h w deeds
+pub happening-done : (doc : Doc) (k : ℕ) (before deeds : List Deed) (arriving : List Sent) (coming : List Back) (h : List Entry) (w : State) → Happening doc k before arriving coming h w deeds → length doc.events ≤ w.place → Scripted doc k before arriving coming h w deeds
 happening-done doc k before deeds arriving coming h w a past =
     let is : drop w.place doc.events ≡ [] = drop-past doc.events w.place past in
     scripted-all doc k before deeds arriving coming h w a (ap (λ es. happen_all doc k es a.now) (sym is) ∙ a.same) (subst (AreLawfulFrom doc (k + 1)) (sym is) tt)

@@ -2,7 +2,7 @@
 use Rattle.std.proofs.Common.{◌≡◌, ℕ, Bool, true, false, suc, ◌+◌, ◌-◌, ◌<◌, ◌++◌, List, [], ◌∷◌, Option, Some, None, length, refl, sym, ap, ◌∙◌, subst, arith}
 use Rattle.kube_objects.specs.declared.call.Reply.{Reply}
 use Rattle.kube_objects.specs.declared.deed.Actor.TheVariants as actor
-use Rattle.kube_objects.specs.declared.deed.Deed as fact
+use Rattle.kube_objects.specs.declared.deed.Deed.{Deed}
 use Rattle.kube_objects.specs.declared.object.Object.{Object}
 use Rattle.kube_objects.specs.Answers.{answer, written}
 use Rattle.kube_objects.specs.Document.{Doc, is_controller, processes}
@@ -30,7 +30,7 @@ use Rattle.world_terms.specs.TermsStand.{TermsStand}
 
 -- ---- requests
 
-pub record Answering (doc : Doc) (k : ℕ) (before : List deed.Deed) (arriving : List Sent) (coming : List Back) (h : List Entry) (w : State) (deeds : List deed.Deed) : Type 0 where
+pub record Answering (doc : Doc) (k : ℕ) (before : List Deed) (arriving : List Sent) (coming : List Back) (h : List Entry) (w : State) (deeds : List Deed) : Type 0 where
   pub now : List Entry
   pub left : List Sent
   pub running : Running doc k before left coming now w deeds
@@ -38,13 +38,13 @@ pub record Answering (doc : Doc) (k : ℕ) (before : List deed.Deed) (arriving :
   pub same : answer_all k left now ≡ answer_all k arriving h
 
 -- the store and the wire did what a request that arrived asks
-pub record Serves (doc : Doc) (k : ℕ) (rest : List Sent) (coming : List Back) (h : List Entry) (deeds new : List deed.Deed) (v : State) (r : Reply) (x : Arrived) : Type 0 where
+pub record Serves (doc : Doc) (k : ℕ) (rest : List Sent) (coming : List Back) (h : List Entry) (deeds new : List Deed) (v : State) (r : Reply) (x : Arrived) : Type 0 where
   pub answers : r ≡ answer x.request h
   pub store : (e : Entry) → write_of e.fact ≡ request_write x.request (written x.request h) → StoreStands (e ∷ h) v.store
   pub wire : (q : Identity) (call : Call) (wrote : Option Object) → q ≡ identity x.who.0 x.incarnation → call.number ≡ x.number → WireStands (processes doc) k rest coming (entry k 2 q (Answers call r (reply_arrival q.process k h) wrote) ∷ h) v.wire
   pub told : new ≡ deeds ++ deeds_of k (actor.Proc x.who x.incarnation) (answer_act x.request r)
 
-serve-one : (doc : Doc) (k : ℕ) (before deeds new : List deed.Deed) (s : Sent) (left rest : List Sent) (coming : List Back) (h : List Entry) (w v : State) (r : Reply) → Running doc k before left coming h w deeds → IsKnown (processes doc) h s.who → Unmoved w v → v.in_force ≡ w.in_force →
+serve-one : (doc : Doc) (k : ℕ) (before deeds new : List Deed) (s : Sent) (left rest : List Sent) (coming : List Back) (h : List Entry) (w v : State) (r : Reply) → Running doc k before left coming h w deeds → IsKnown (processes doc) h s.who → Unmoved w v → v.in_force ≡ w.in_force →
     Serves doc k rest coming h deeds new v r (as_arrived s) → Running doc k before rest coming (answered k s h) v new
 serve-one doc k before deeds new s left rest coming h w v r run known unmoved in_force serves =
     answered-running doc k before deeds new left rest coming s h w v run known unmoved in_force
@@ -52,7 +52,7 @@ serve-one doc k before deeds new s left rest coming h w v r run known unmoved in
     (subst (λ x. WireStands (processes doc) k rest coming (entry k 2 s.who (Answers s.call x (reply_arrival s.who.process k h) (written s.call.request h)) ∷ h) v.wire) serves.answers (serves.wire s.who s.call (written s.call.request h) refl refl))
     (serves.told ∙ ap (λ x. deeds ++ deeds_of k (actor_of s.who) (answer_act s.call.request x)) serves.answers)
 
-pub answering-more : (doc : Doc) (k : ℕ) (before deeds new : List deed.Deed) (arriving : List Sent) (coming : List Back) (h : List Entry) (w v : State) (r : Reply) (x : Arrived) → (a : Answering doc k before arriving coming h w deeds) →
+pub answering-more : (doc : Doc) (k : ℕ) (before deeds new : List Deed) (arriving : List Sent) (coming : List Back) (h : List Entry) (w v : State) (r : Reply) (x : Arrived) → (a : Answering doc k before arriving coming h w deeds) →
     arrived_of (first_of a.left) ≡ Some x → Unmoved w v → v.in_force ≡ w.in_force → Serves doc k (rest_of a.left) coming a.now deeds new v r x → Answering doc k before arriving coming h v new
 answering-more doc k before deeds new arriving coming h w v r x a first unmoved in_force serves = by_left a.left a.running a.known a.same first serves
   where
@@ -70,7 +70,7 @@ answering-more doc k before deeds new arriving coming h w v r x a first unmoved 
         }
 
 -- nothing is left
-pub answering-done : (doc : Doc) (k : ℕ) (before deeds : List deed.Deed) (arriving : List Sent) (coming : List Back) (h : List Entry) (w v : State) → (a : Answering doc k before arriving coming h w deeds) → arrived_of (first_of a.left) ≡ None →
+pub answering-done : (doc : Doc) (k : ℕ) (before deeds : List Deed) (arriving : List Sent) (coming : List Back) (h : List Entry) (w v : State) → (a : Answering doc k before arriving coming h w deeds) → arrived_of (first_of a.left) ≡ None →
     (Running doc k before a.left coming a.now w deeds → Running doc k before (rest_of a.left) coming a.now v deeds) → Running doc k before [] coming (answer_all k arriving h) v deeds
 answering-done doc k before deeds arriving coming h w v a none taken = by_left a.left a.running a.same none taken
   where
@@ -80,7 +80,7 @@ answering-done doc k before deeds arriving coming h w v a none taken = by_left a
     by_left (s ∷ rest) run same none taken = cc
 
 -- the wire gave something out
-pub rewired : (doc : Doc) (k : ℕ) (before deeds : List deed.Deed) (arriving left : List Sent) (coming rest : List Back) (h : List Entry) (w v : State) → Unmoved w v → v.in_force ≡ w.in_force → v.store ≡ w.store →
+pub rewired : (doc : Doc) (k : ℕ) (before deeds : List Deed) (arriving left : List Sent) (coming rest : List Back) (h : List Entry) (w v : State) → Unmoved w v → v.in_force ≡ w.in_force → v.store ≡ w.store →
     WireStands (processes doc) k left rest h v.wire → Running doc k before arriving coming h w deeds → Running doc k before left rest h v deeds
 rewired doc k before deeds arriving left coming rest h w v unmoved in_force store wire r =
     record {
@@ -100,7 +100,7 @@ rewired doc k before deeds arriving left coming rest h w v unmoved in_force stor
 
 -- ---- replies
 
-pub record Delivering (doc : Doc) (k : ℕ) (before : List deed.Deed) (arriving : List Sent) (coming : List Back) (h : List Entry) (w : State) (deeds : List deed.Deed) : Type 0 where
+pub record Delivering (doc : Doc) (k : ℕ) (before : List Deed) (arriving : List Sent) (coming : List Back) (h : List Entry) (w : State) (deeds : List Deed) : Type 0 where
   pub now : List Entry
   pub left : List Back
   pub running : Running doc k before arriving left now w deeds
@@ -111,7 +111,7 @@ pub grows-deliver_all : (doc : Doc) (k : ℕ) (bs : List Back) (h : List Entry) 
 grows-deliver_all doc k [] h = grows-same h
 grows-deliver_all doc k (b ∷ bs) h = grows-on h (delivered doc k b h) (deliver_all doc k bs (delivered doc k b h)) (grows-delivered doc k b h) (grows-deliver_all doc k bs (delivered doc k b h))
 
-pub delivering-more : (doc : Doc) (k : ℕ) (before deeds new : List deed.Deed) (arriving : List Sent) (coming : List Back) (h : List Entry) (w v : State) (x : Delivered) → (a : Delivering doc k before arriving coming h w deeds) → delivered_of (first_of a.left) ≡ Some x → IsFew (deliver_all doc k coming h) →
+pub delivering-more : (doc : Doc) (k : ℕ) (before deeds new : List Deed) (arriving : List Sent) (coming : List Back) (h : List Entry) (w v : State) (x : Delivered) → (a : Delivering doc k before arriving coming h w deeds) → delivered_of (first_of a.left) ≡ Some x → IsFew (deliver_all doc k coming h) →
     ((b : Back) → x ≡ as_delivered b → IsKnown (processes doc) a.now b.who → IsFew (delivered doc k b a.now) → Running doc k before arriving (rest_of a.left) (delivered doc k b a.now) v new) → Delivering doc k before arriving coming h v new
 delivering-more doc k before deeds new arriving coming h w v x a first few delivers = by_left a.left a.known a.same first delivers
   where
@@ -130,7 +130,7 @@ delivering-more doc k before deeds new arriving coming h w v x a first few deliv
           same = same;
         }
 
-pub delivering-done : (doc : Doc) (k : ℕ) (before deeds : List deed.Deed) (arriving : List Sent) (coming : List Back) (h : List Entry) (w v : State) → (a : Delivering doc k before arriving coming h w deeds) → delivered_of (first_of a.left) ≡ None →
+pub delivering-done : (doc : Doc) (k : ℕ) (before deeds : List Deed) (arriving : List Sent) (coming : List Back) (h : List Entry) (w v : State) → (a : Delivering doc k before arriving coming h w deeds) → delivered_of (first_of a.left) ≡ None →
     (Running doc k before arriving a.left a.now w deeds → Running doc k before arriving (rest_of a.left) a.now v deeds) → Running doc k before arriving [] (deliver_all doc k coming h) v deeds
 delivering-done doc k before deeds arriving coming h w v a none taken = by_left a.left a.running a.same none taken
   where

@@ -7,7 +7,7 @@ use Rattle.kube_objects.specs.declared.call.Reply.{Reply}
 use Rattle.kube_objects.specs.declared.call.Request.{Request}
 use Rattle.kube_objects.specs.declared.deed.Act.TheVariants as act
 use Rattle.kube_objects.specs.declared.deed.Actor.{Actor}
-use Rattle.kube_objects.specs.declared.deed.Deed as fact
+use Rattle.kube_objects.specs.declared.deed.Deed.{Deed}
 use Rattle.kube_objects.specs.declared.script.What.TheVariants as what
 use Rattle.kube_objects.specs.Document.{Doc, is_controller}
 use Rattle.kube_objects.specs.Clocks.{local}
@@ -98,10 +98,10 @@ module _ (doc : Doc) (k : ℕ) (id : ProcId) (h : List Entry) where
 -- ---- a start by the script
 
 -- the line of a start
-abbrev start_line : ℕ → Identity → deed.Deed
+abbrev start_line : ℕ → Identity → Deed
 start_line k q = record { beat = record { 0 = k }; actor = actor_of q; act = act.Start }
 
-abbrev end_line : ℕ → Identity → deed.Deed
+abbrev end_line : ℕ → Identity → Deed
 end_line k q = record { beat = record { 0 = k }; actor = actor_of q; act = act.End }
 
 -- a list isn't one that has an element more

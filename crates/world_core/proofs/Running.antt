@@ -2,7 +2,7 @@
 use Rattle.std.proofs.Common.{All, ◌≡◌, ℕ, ◌+◌, ◌<◌, ◌≤◌, ◌==◌, ◌++◌, Bool, true, false, List, ◌∷◌, Option, Some, None, slice_get, slice_set, length, refl, sym, ap, ◌∙◌, subst, append_assoc, vec_len, arith}
 use Rattle.std.proofs.lemmas.List.{append-nil}
 use Rattle.kube_objects.specs.declared.call.Ask.{Ask}
-use Rattle.kube_objects.specs.declared.deed.Deed as fact
+use Rattle.kube_objects.specs.declared.deed.Deed.{Deed}
 use Rattle.kube_objects.specs.Answers.{answer, written}
 use Rattle.kube_objects.specs.declared.deed.Act.TheVariants as act
 use Rattle.kube_objects.specs.Document.{Doc, processes, is_up_first}
@@ -136,22 +136,22 @@ pub printed-asked : (doc : Doc) (k step i : ℕ) (h next : List Entry) (c : Proc
 printed-asked doc k step i h next c None asks = ap printed asks.0
 printed-asked doc k step i h next c (Some ask) asked = printed-sent k step (identity i (incarnation_of c)) asked.kind ask h next asked.sent
 
-pub told-more : (before deeds new more : List deed.Deed) (h next : List Entry) → before ++ deeds ≡ printed h → new ≡ deeds ++ more → printed next ≡ printed h ++ more → before ++ new ≡ printed next
+pub told-more : (before deeds new more : List Deed) (h next : List Entry) → before ++ deeds ≡ printed h → new ≡ deeds ++ more → printed next ≡ printed h ++ more → before ++ new ≡ printed next
 told-more before deeds new more h next told new_is is = ap (λ ds. before ++ ds) new_is ∙ sym (append_assoc before deeds more) ∙ ap (λ ds. ds ++ more) told ∙ sym is
 
 -- ---- a turn
 
-abbrev pub turn_told : ℕ → Identity → Turn → List deed.Deed → List deed.Deed
+abbrev pub turn_told : ℕ → Identity → Turn → List Deed → List Deed
 turn_told k q t deeds = deeds ++ started_deeds k q t.started ++ ended_deeds k q t.ended
 
-told-turn : (doc : Doc) (k i : ℕ) (before deeds : List deed.Deed) (h : List Entry) (c : Process) (t : Turn) → before ++ deeds ≡ printed h → Turned doc k i h c t →
+told-turn : (doc : Doc) (k i : ℕ) (before deeds : List Deed) (h : List Entry) (c : Process) (t : Turn) → before ++ deeds ≡ printed h → Turned doc k i h c t →
     before ++ turn_told k (identity i (incarnation_of c)) t deeds ≡ printed (before_asking doc k i h)
 told-turn doc k i before deeds h c t told turned =
     let s = started_deeds k (identity i (incarnation_of c)) t.started in
     let e = ended_deeds k (identity i (incarnation_of c)) t.ended in
     sym (append_assoc before (deeds ++ s) e) ∙ ap (λ x. x ++ e) (sym (append_assoc before deeds s)) ∙ ap (λ x. x ++ s ++ e) told ∙ sym turned.told
 
-pub running-turned : (doc : Doc) (k i : ℕ) (before deeds new : List deed.Deed) (arriving : List Sent) (coming : List Back) (h : List Entry) (c0 c1 : Process) (w v : State) (t : Turn) → Running doc k before arriving coming h w deeds →
+pub running-turned : (doc : Doc) (k i : ℕ) (before deeds new : List Deed) (arriving : List Sent) (coming : List Back) (h : List Entry) (c0 c1 : Process) (w v : State) (t : Turn) → Running doc k before arriving coming h w deeds →
     i < processes doc → Moved i c0 c1 w v → SendsAsked k (identity i (incarnation_of c1)) t.ask w.wire v.wire → Turned doc k i h c1 t → TermsStand doc (before_asking doc k i h) v.terms → new ≡ turn_told k (identity i (incarnation_of c1)) t deeds →
     Running doc k before arriving coming (own_turn doc k i h) v new
 running-turned doc k i before deeds new arriving coming h c0 c1 w v t r within m sends turned terms new_is =
@@ -164,7 +164,7 @@ running-turned doc k i before deeds new arriving coming h c0 c1 w v t r within m
 
 -- ---- a reply
 
-abbrev pub reply_told : ℕ → Identity → Received → List deed.Deed → List deed.Deed
+abbrev pub reply_told : ℕ → Identity → Received → List Deed → List Deed
 reply_told k q r deeds = deeds ++ lead_deeds k q r.lead
 
 within-replied : (doc : Doc) (k i : ℕ) (arriving : List Sent) (coming : List Back) (b : Back) (h : List Entry) (c0 c1 : Process) (w v : State) (ask : Option Ask) → b.who.process ≡ i → i < processes doc → IsKnown (processes doc) h b.who →
@@ -183,7 +183,7 @@ within-replied doc k i arriving coming b h c0 c1 w v (Some ask) process within k
     let known_g : IsKnown (processes doc) g q = known-later (processes doc) (entry k 3 q d) h q known_q in
     within-sent doc k 3 i arriving coming g (delivered doc k b h) c0 c1 w v ask m sends (around-own doc k i k 3 arriving coming q d h w refl refl known_g a) within on.asked (terms-beside doc h (entry k 3 q d) v.terms refl terms)
 
-pub running-replied : (doc : Doc) (k i : ℕ) (before deeds new : List deed.Deed) (arriving : List Sent) (coming : List Back) (b : Back) (h : List Entry) (c0 c1 : Process) (w v : State) (x : Received) → Running doc k before arriving coming h w deeds →
+pub running-replied : (doc : Doc) (k i : ℕ) (before deeds new : List Deed) (arriving : List Sent) (coming : List Back) (b : Back) (h : List Entry) (c0 c1 : Process) (w v : State) (x : Received) → Running doc k before arriving coming h w deeds →
     b.who.process ≡ i → i < processes doc → IsKnown (processes doc) h b.who → Moved i c0 c1 w v → v.terms ≡ w.terms → SendsAsked k (identity i (incarnation_of c1)) x.ask w.wire v.wire → Replied doc k i b h c1 x → new ≡ reply_told k (identity i (incarnation_of c1)) x deeds →
     Running doc k before arriving coming (delivered doc k b h) v new
 running-replied doc k i before deeds new arriving coming b h c0 c1 w v x r process within known m terms sends replied new_is =
@@ -228,7 +228,7 @@ keeps-moved i c0 c1 w v ready m count same =
 
 -- ---- a first start
 
-pub first-not : (doc : Doc) (i : ℕ) (before deeds : List deed.Deed) (arriving : List Sent) (coming : List Back) (h : List Entry) (c0 : Process) (w v : State) → Running doc 0 before arriving coming h w deeds → Moved i c0 c0 w v → v.wire ≡ w.wire → v.terms ≡ w.terms → is_up_first_as c0 ≡ false →
+pub first-not : (doc : Doc) (i : ℕ) (before deeds : List Deed) (arriving : List Sent) (coming : List Back) (h : List Entry) (c0 : Process) (w v : State) → Running doc 0 before arriving coming h w deeds → Moved i c0 c0 w v → v.wire ≡ w.wire → v.terms ≡ w.terms → is_up_first_as c0 ≡ false →
     Running doc 0 before arriving coming (start_first i (is_up_first doc i) h) v deeds
 first-not doc i before deeds arriving coming h c0 w v r m wire terms down =
     let s = r.world.processes i c0 m.was in
@@ -236,7 +236,7 @@ first-not doc i before deeds arriving coming h c0 w v r m wire terms down =
     subst (λ g. Running doc 0 before arriving coming g v deeds) same
     (record { world = within-moved doc 0 i arriving coming h c0 c0 w v m wire (around-world doc 0 i arriving coming h w r.world) s (subst (TermsStand doc h) (sym terms) r.world.terms); told = r.told })
 
-pub first-started : (doc : Doc) (i : ℕ) (before deeds new : List deed.Deed) (arriving : List Sent) (coming : List Back) (h : List Entry) (c0 c1 : Process) (w v : State) → Running doc 0 before arriving coming h w deeds → i < processes doc → Moved i c0 c1 w v → v.wire ≡ w.wire → is_up_first_as c0 ≡ true →
+pub first-started : (doc : Doc) (i : ℕ) (before deeds new : List Deed) (arriving : List Sent) (coming : List Back) (h : List Entry) (c0 c1 : Process) (w v : State) → Running doc 0 before arriving coming h w deeds → i < processes doc → Moved i c0 c1 w v → v.wire ≡ w.wire → is_up_first_as c0 ≡ true →
     ProcessStands doc i (start 0 1 i h) c1 → (TermsStandBut doc i (start 0 1 i h) w.terms → IsFresh i (start 0 1 i h) → TermsStand doc (start 0 1 i h) v.terms) → new ≡ deeds ++ deeds_of 0 (actor_of (identity i (incarnation_of c1))) (Some act.Start) → Running doc 0 before arriving coming (start_first i (is_up_first doc i) h) v new
 first-started doc i before deeds new arriving coming h c0 c1 w v r within m wire up stands anew new_is =
     let s = r.world.processes i c0 m.was in
@@ -253,7 +253,7 @@ first-started doc i before deeds new arriving coming h c0 c1 w v r within m wire
 
 -- ---- an answer of the store
 
-pub answered-running : (doc : Doc) (k : ℕ) (before deeds new : List deed.Deed) (left rest : List Sent) (coming : List Back) (s : Sent) (h : List Entry) (w v : State) → Running doc k before left coming h w deeds →
+pub answered-running : (doc : Doc) (k : ℕ) (before deeds new : List Deed) (left rest : List Sent) (coming : List Back) (s : Sent) (h : List Entry) (w v : State) → Running doc k before left coming h w deeds →
     IsKnown (processes doc) h s.who → Unmoved w v → v.in_force ≡ w.in_force → StoreStands (answered k s h) v.store → WireStands (processes doc) k rest coming (answered k s h) v.wire →
     new ≡ deeds ++ deeds_of k (actor_of s.who) (answer_act s.call.request (answer s.call.request h)) → Running doc k before rest coming (answered k s h) v new
 answered-running doc k before deeds new left rest coming s h w v run known unmoved in_force store wire new_is =

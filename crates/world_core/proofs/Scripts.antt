@@ -5,7 +5,7 @@ use Rattle.kube_base.specs.declared.numbers.ProcId.{ProcId}
 use Rattle.kube_base.specs.declared.numbers.Version.{Version}
 use Rattle.kube_objects.specs.declared.call.Ask.{Ask}
 use Rattle.kube_objects.specs.declared.deed.Actor.TheVariants as actor
-use Rattle.kube_objects.specs.declared.deed.Deed as fact
+use Rattle.kube_objects.specs.declared.deed.Deed.{Deed}
 use Rattle.kube_objects.specs.declared.script.What.{What}
 use Rattle.kube_objects.specs.declared.script.What.TheVariants as what
 use Rattle.kube_objects.specs.Document.{Doc, processes, is_controller}
@@ -45,7 +45,7 @@ controller-within doc p is = let less = lt-from p (length doc.controllers) is in
 abbrev pub scripted : ℕ → What → Option Version → List Entry → List Entry
 scripted k event version h = script_entry k 1 (Event event version) ∷ h
 
-pub running-event : (doc : Doc) (k : ℕ) (before deeds new : List deed.Deed) (arriving : List Sent) (coming : List Back) (h : List Entry) (w v : State) (event : What) (version : Option Version) → Running doc k before arriving coming h w deeds →
+pub running-event : (doc : Doc) (k : ℕ) (before deeds new : List Deed) (arriving : List Sent) (coming : List Back) (h : List Entry) (w v : State) (event : What) (version : Option Version) → Running doc k before arriving coming h w deeds →
     ((p : ℕ) → cancels p event ≡ false) → Unmoved w v → InForceStands doc (scripted k event version h) v.in_force → StoreStands (scripted k event version h) v.store → WireStands (processes doc) k arriving coming (scripted k event version h) v.wire →
     new ≡ deeds ++ deeds_of k actor.Script (event_act event version) → Running doc k before arriving coming (scripted k event version h) v new
 running-event doc k before deeds new arriving coming h w v event version r beside unmoved in_force store wire new_is =
@@ -65,7 +65,7 @@ running-event doc k before deeds new arriving coming h w v event version r besid
     }
 
 -- it changes nothing in the world and is not printed
-pub running-plain : (doc : Doc) (k : ℕ) (before deeds : List deed.Deed) (arriving : List Sent) (coming : List Back) (h : List Entry) (w : State) (event : What) → Running doc k before arriving coming h w deeds → is_of_wire (Event event None) ≡ false → write_of (Event event None) ≡ None → sets_standing event ≡ false →
+pub running-plain : (doc : Doc) (k : ℕ) (before deeds : List Deed) (arriving : List Sent) (coming : List Back) (h : List Entry) (w : State) (event : What) → Running doc k before arriving coming h w deeds → is_of_wire (Event event None) ≡ false → write_of (Event event None) ≡ None → sets_standing event ≡ false →
     ((p : ℕ) → cancels p event ≡ false) → Running doc k before arriving coming (scripted k event None h) w deeds
 running-plain doc k before deeds arriving coming h w event r wire write standing beside =
     let e = script_entry k 1 (Event event None) in
@@ -136,13 +136,13 @@ around-stop doc k id arriving coming h w within a = by_life (alive id.0 h) refl
         around-own doc k id.0 k 1 arriving coming (identity id.0 i) Stops g w refl refl (known-later (processes doc) (entry k 1 (identity id.0 i) Stops) g (identity id.0 i) known) base
 
 -- the process stands for the history with the event, and sends nothing
-pub running-moved : (doc : Doc) (k i : ℕ) (before deeds new more : List deed.Deed) (arriving : List Sent) (coming : List Back) (h next : List Entry) (c0 c1 : Process) (w v : State) → Running doc k before arriving coming h w deeds → Moved i c0 c1 w v → v.wire ≡ w.wire →
+pub running-moved : (doc : Doc) (k i : ℕ) (before deeds new more : List Deed) (arriving : List Sent) (coming : List Back) (h next : List Entry) (c0 c1 : Process) (w v : State) → Running doc k before arriving coming h w deeds → Moved i c0 c1 w v → v.wire ≡ w.wire →
     Around doc k i arriving coming next w → ProcessStands doc i next c1 → TermsStand doc next v.terms → printed next ≡ printed h ++ more → new ≡ deeds ++ more → Running doc k before arriving coming next v new
 running-moved doc k i before deeds new more arriving coming h next c0 c1 w v r m wire around stands terms printed_is new_is =
     record { world = within-moved doc k i arriving coming next c0 c1 w v m wire around stands terms; told = told-more before deeds new more h next r.told new_is printed_is }
 
 -- what it asks was sent, where it asks
-pub running-asked : (doc : Doc) (k i : ℕ) (before deeds new more : List deed.Deed) (arriving : List Sent) (coming : List Back) (h base next : List Entry) (c0 c1 : Process) (w v : State) (ask : Option Ask) → Running doc k before arriving coming h w deeds →
+pub running-asked : (doc : Doc) (k i : ℕ) (before deeds new more : List Deed) (arriving : List Sent) (coming : List Back) (h base next : List Entry) (c0 c1 : Process) (w v : State) (ask : Option Ask) → Running doc k before arriving coming h w deeds →
     i < processes doc → Moved i c0 c1 w v → SendsAsked k (identity i (incarnation_of c1)) ask w.wire v.wire → Around doc k i arriving coming base w → AsksOn doc k 1 i base next c1 ask → TermsStand doc base v.terms → printed base ≡ printed h ++ more → new ≡ deeds ++ more →
     Running doc k before arriving coming next v new
 running-asked doc k i before deeds new more arriving coming h base next c0 c1 w v ask r within m sends around asks terms printed_is new_is =

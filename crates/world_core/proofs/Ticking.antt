@@ -2,7 +2,7 @@
 use Rattle.std.proofs.Common.{◌≡◌, ℕ, ◌<◌, ◌++◌, not, Bool, true, false, List, Option, Some, None, length, refl, sym, ap, ◌∙◌, subst, append_assoc, arith}
 use Rattle.std.proofs.lemmas.Bool.{ltb-true}
 use Rattle.kube_base.specs.declared.numbers.Beat.{Beat}
-use Rattle.kube_objects.specs.declared.deed.Deed as fact
+use Rattle.kube_objects.specs.declared.deed.Deed.{Deed}
 use Rattle.kube_objects.specs.Clocks.{local}
 use Rattle.kube_objects.specs.Document.{Doc, is_controller, processes}
 use Rattle.kube_objects.specs.Elector.{acts}
@@ -142,7 +142,7 @@ pub record SameButTicked (w v : State) : Type 0 where
   pub in_force : v.in_force ≡ w.in_force
   pub processes : v.processes ≡ w.processes
 
-pub running-ticked : (doc : Doc) (k p i : ℕ) (before deeds told : List deed.Deed) (arriving : List Sent) (coming : List Back) (h : List Entry) (w v : State) → p < processes doc → alive p h ≡ Some i → ActsAs doc k p i h → SameButTicked w v
+pub running-ticked : (doc : Doc) (k p i : ℕ) (before deeds told : List Deed) (arriving : List Sent) (coming : List Back) (h : List Entry) (w v : State) → p < processes doc → alive p h ≡ Some i → ActsAs doc k p i h → SameButTicked w v
     → Running doc k before arriving coming h w deeds → Ticked doc k (identity p i) h told v.terms v.store → Running doc k before arriving coming (own_ticks doc k p h) v (deeds ++ told)
 running-ticked doc k p i before deeds told arriving coming h w v within up acts same r t =
     let q = identity p i in
@@ -174,7 +174,7 @@ running-ticked doc k p i before deeds told arriving coming h w v within up acts 
     })
 
 -- no tick
-pub running-unticked : (doc : Doc) (k p : ℕ) (before deeds : List deed.Deed) (arriving : List Sent) (coming : List Back) (h : List Entry) (w : State) → acts_now doc k p h ≡ false
+pub running-unticked : (doc : Doc) (k p : ℕ) (before deeds : List Deed) (arriving : List Sent) (coming : List Back) (h : List Entry) (w : State) → acts_now doc k p h ≡ false
     → Running doc k before arriving coming h w deeds → Running doc k before arriving coming (own_ticks doc k p h) w deeds
 running-unticked doc k p before deeds arriving coming h w none r = subst (λ g. Running doc k before arriving coming g w deeds) (sym (ticks-none doc k p h none)) r
 

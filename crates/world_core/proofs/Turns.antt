@@ -1,7 +1,7 @@
 -- Layer 4, the steps of a beat: the turn of a process that keeps the beat of its next turn.
 use Rattle.std.proofs.Common.{◌≡◌, ℕ, List, ◌∷◌, Option, Some, None, sym, ◌∙◌, subst}
 use Rattle.kube_objects.specs.declared.call.Ask.{Ask}
-use Rattle.kube_objects.specs.declared.deed.Deed as fact
+use Rattle.kube_objects.specs.declared.deed.Deed.{Deed}
 use Rattle.kube_objects.specs.Document.{Doc, is_controller}
 use Rattle.kube_objects.specs.Entry.{Entry, Identity, Sends, entry}
 use Rattle.kube_objects.specs.Identities.{identity}
@@ -44,7 +44,7 @@ turned-kept doc k p h x y t keeps turned =
 
 -- ---- the world with a process that did nothing but to keep that beat
 
-pub running-kept : (doc : Doc) (k i : ℕ) (before deeds : List deed.Deed) (arriving : List Sent) (coming : List Back) (h : List Entry) (x y : Process) (w v : State) → Moved i x y w v → v.wire ≡ w.wire → v.terms ≡ w.terms → ProcessStands doc i h y
+pub running-kept : (doc : Doc) (k i : ℕ) (before deeds : List Deed) (arriving : List Sent) (coming : List Back) (h : List Entry) (x y : Process) (w v : State) → Moved i x y w v → v.wire ≡ w.wire → v.terms ≡ w.terms → ProcessStands doc i h y
     → Running doc k before arriving coming h w deeds → Running doc k before arriving coming h v deeds
 running-kept doc k i before deeds arriving coming h x y w v m wire terms stands r =
     record {
@@ -53,7 +53,7 @@ running-kept doc k i before deeds arriving coming h x y w v m wire terms stands 
     }
 
 -- its turn adds nothing
-pub running-still : (doc : Doc) (k i : ℕ) (before deeds : List deed.Deed) (arriving : List Sent) (coming : List Back) (h : List Entry) (x y : Process) (w v : State) → own_turn doc k i h ≡ h → Moved i x y w v → v.wire ≡ w.wire → v.terms ≡ w.terms → ProcessStands doc i h y
+pub running-still : (doc : Doc) (k i : ℕ) (before deeds : List Deed) (arriving : List Sent) (coming : List Back) (h : List Entry) (x y : Process) (w v : State) → own_turn doc k i h ≡ h → Moved i x y w v → v.wire ≡ w.wire → v.terms ≡ w.terms → ProcessStands doc i h y
     → Running doc k before arriving coming h w deeds → Running doc k before arriving coming (own_turn doc k i h) v deeds
 running-still doc k i before deeds arriving coming h x y w v still m wire terms stands r =
     subst (λ g. Running doc k before arriving coming g v deeds) (sym still) (running-kept doc k i before deeds arriving coming h x y w v m wire terms stands r)

@@ -3,7 +3,7 @@ use Rattle.std.specs.Prelude.{◌≡◌, ℕ, ◌+◌, ◌<◌, ◌≤◌, ◌++
 use Rattle.std.specs.Prelude.{Option, Some, None, Result, OnOk}
 use Rattle.kube_objects.specs.declared.call.Ask.{Ask}
 use Rattle.kube_objects.specs.declared.call.Reply.{Reply}
-use Rattle.kube_objects.specs.declared.deed.Deed as fact
+use Rattle.kube_objects.specs.declared.deed.Deed.{Deed}
 use Rattle.kube_objects.specs.declared.object.Object.{Object}
 use Rattle.kube_objects.specs.declared.script.Event.{Event}
 use Rattle.kube_objects.specs.declared.script.Proc.{Proc}
@@ -133,8 +133,8 @@ pub record StateStands (doc : Doc) (k : ℕ) (h : List Entry) (w : State) : Type
   pub unticked : IsUnticked k h
 
 -- within a beat, with what was printed before the beat and in it
-pub record Running (doc : Doc) (k : ℕ) (before : List deed.Deed) (arriving : List Sent) (coming : List Back) (h : List Entry) (w : State)
-    (deeds : List deed.Deed) : Type 0 where
+pub record Running (doc : Doc) (k : ℕ) (before : List Deed) (arriving : List Sent) (coming : List Back) (h : List Entry) (w : State)
+    (deeds : List Deed) : Type 0 where
   pub world : StateWithin doc k arriving coming h w
   pub told : before ++ deeds ≡ printed h
 
@@ -156,24 +156,24 @@ SendsAsked k q (Some ask) old new = (processes step : ℕ) (arriving : List Sent
 -- ---- the steps of a beat, each in a world within it and where the step ends well
 
 -- the history is now what `next` makes of it
-abbrev pub Adds : {A E : Type 0} → State → List deed.Deed → Result A E → State → List deed.Deed → (Doc → ℕ → List Entry → List Entry)
+abbrev pub Adds : {A E : Type 0} → State → List Deed → Result A E → State → List Deed → (Doc → ℕ → List Entry → List Entry)
     → Type 0
 Adds w deeds result v new next =
-    (doc : Doc) (k : ℕ) (before : List deed.Deed) (arriving : List Sent) (coming : List Back) (h : List Entry)
+    (doc : Doc) (k : ℕ) (before : List Deed) (arriving : List Sent) (coming : List Back) (h : List Entry)
     → Running doc k before arriving coming h w deeds → IsFew (next doc k h)
     → OnOk result (Running doc k before arriving coming (next doc k h) v new)
 
 -- all requests that had to be taken were answered
-abbrev pub AnswersArrivals : {A E : Type 0} → State → List deed.Deed → Result A E → State → List deed.Deed → Type 0
+abbrev pub AnswersArrivals : {A E : Type 0} → State → List Deed → Result A E → State → List Deed → Type 0
 AnswersArrivals w deeds result v new =
-    (doc : Doc) (k : ℕ) (before : List deed.Deed) (arriving : List Sent) (coming : List Back) (h : List Entry)
+    (doc : Doc) (k : ℕ) (before : List Deed) (arriving : List Sent) (coming : List Back) (h : List Entry)
     → Running doc k before arriving coming h w deeds → SentByKnown (processes doc) h arriving
     → OnOk result (Running doc k before [] coming (answer_all k arriving h) v new)
 
 -- all replies that had to be taken were delivered
-abbrev pub DeliversReplies : {A E : Type 0} → State → List deed.Deed → Result A E → State → List deed.Deed → Type 0
+abbrev pub DeliversReplies : {A E : Type 0} → State → List Deed → Result A E → State → List Deed → Type 0
 DeliversReplies w deeds result v new =
-    (doc : Doc) (k : ℕ) (before : List deed.Deed) (arriving : List Sent) (coming : List Back) (h : List Entry)
+    (doc : Doc) (k : ℕ) (before : List Deed) (arriving : List Sent) (coming : List Back) (h : List Entry)
     → Running doc k before arriving coming h w deeds → BackToKnown (processes doc) h coming → IsFew (deliver_all doc k coming h)
     → OnOk result (Running doc k before arriving [] (deliver_all doc k coming h) v new)
 
@@ -184,14 +184,14 @@ with_answer k step q call reply wrote h = entry k step q (Answers call reply (re
 -- ---- events
 
 -- an event has happened in a world within a beat, and what is printed of it was added
-abbrev pub Happens : State → List deed.Deed → State → List deed.Deed → What → Type 0
-Happens w deeds v new what = (doc : Doc) (k : ℕ) (before : List deed.Deed) (arriving : List Sent) (coming : List Back) (h : List Entry)
+abbrev pub Happens : State → List Deed → State → List Deed → What → Type 0
+Happens w deeds v new what = (doc : Doc) (k : ℕ) (before : List Deed) (arriving : List Sent) (coming : List Back) (h : List Entry)
     → Running doc k before arriving coming h w deeds → IsLawfulWhat doc what → IsFew (happens doc k what h)
     → Running doc k before arriving coming (happens doc k what h) v new
 
 -- all events of the beat have happened; what they sent arrives later
-pub record Scripted (doc : Doc) (k : ℕ) (before : List deed.Deed) (arriving : List Sent) (coming : List Back) (h : List Entry) (w : State)
-    (deeds : List deed.Deed) : Type 0 where
+pub record Scripted (doc : Doc) (k : ℕ) (before : List Deed) (arriving : List Sent) (coming : List Back) (h : List Entry) (w : State)
+    (deeds : List Deed) : Type 0 where
   pub running : Running doc k before arriving coming (happen_all doc k doc.events h) w deeds
   pub placed : IsPlaced doc (k + 1) w.place
   pub requests : requests_due k (happen_all doc k doc.events h) ≡ requests_due k h

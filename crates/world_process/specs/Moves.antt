@@ -4,7 +4,7 @@ use Rattle.kube_base.specs.declared.numbers.ProcId.{ProcId}
 use Rattle.kube_base.specs.declared.numbers.Version.{Version}
 use Rattle.kube_objects.specs.declared.call.Ask.{Ask}
 use Rattle.kube_objects.specs.declared.deed.Act.TheVariants as act
-use Rattle.kube_objects.specs.declared.deed.Deed as fact
+use Rattle.kube_objects.specs.declared.deed.Deed.{Deed}
 use Rattle.kube_objects.specs.declared.script.What.TheVariants as what
 use Rattle.kube_objects.specs.Document.{Doc, is_controller}
 use Rattle.kube_objects.specs.Entry.{Entry, Identity, Call, Fact, Event as Happens, Stops, Delivers, entry, script_entry, actor_of}
@@ -27,13 +27,13 @@ AsksOn k step q h next Stands (Some ask) = Asked k step q h next Stands ask
 
 -- ---- the script's events on a process
 
-abbrev pub started_deeds : ℕ → Identity → Bool → List deed.Deed
+abbrev pub started_deeds : ℕ → Identity → Bool → List Deed
 started_deeds k q b = deeds_of k (actor_of q) (when b act.Start)
 
-abbrev pub crashed_deeds : ℕ → Identity → Bool → List deed.Deed
+abbrev pub crashed_deeds : ℕ → Identity → Bool → List Deed
 crashed_deeds k q b = deeds_of k (actor_of q) (when b act.Crash)
 
-abbrev pub stopped_deeds : ℕ → Identity → Bool → List deed.Deed
+abbrev pub stopped_deeds : ℕ → Identity → Bool → List Deed
 stopped_deeds k q b = deeds_of k (actor_of q) (when b act.Stop)
 
 -- a process was crashed, where it was up
@@ -82,7 +82,7 @@ own_turn_as doc k p false h = kubelet_turn doc k p h
 abbrev pub own_turn : Doc → ℕ → ℕ → List Entry → List Entry
 own_turn doc k p h = own_turn_as doc k p (is_controller doc p) h
 
-abbrev pub ended_deeds : ℕ → Identity → Bool → List deed.Deed
+abbrev pub ended_deeds : ℕ → Identity → Bool → List Deed
 ended_deeds k q b = deeds_of k (actor_of q) (when b act.End)
 
 -- a process of this sort has done its turn, but for its tick
@@ -96,7 +96,7 @@ Turned doc k p h i Stands t = TurnedAs doc k p (is_controller doc p) h i Stands 
 
 -- ---- a reply
 
-abbrev pub lead_deeds : ℕ → Identity → Option Version → List deed.Deed
+abbrev pub lead_deeds : ℕ → Identity → Option Version → List Deed
 lead_deeds k q lead = deeds_of k (actor_of q) (option_map act.Lead lead)
 
 -- a reply came to the process and it asks nothing: the history has some quiet entries more
