@@ -154,12 +154,16 @@ impl Clock {
         self.first_beat(Local(units))
     }
 
-    // The segment that the clock is in at a beat.
+    // The segment that the clock is in at a beat: mostly the last one.
     fn segment_at(&self, beat: Beat) -> Segment
         ensures begins { result.reading.0 ≡ reading self.now result.beat.0 }
         ensures begun { result.beat.0 ≤ beat.0 }
         ensures rate { (j : ℕ) → result.beat.0 ≤ j → j ≤ beat.0 → rate_at self.now.sets j ≡ result.ppm }
     {
+        let last = self.segments[self.segments.len() - 1];
+        if last.beat.0 <= beat.0 {
+            return last;
+        }
         let begun = self.segments.partition_point(|s| s.beat.0 <= beat.0);
         self.segments[begun - 1]
     }
