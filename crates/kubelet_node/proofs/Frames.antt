@@ -10,10 +10,11 @@ use Rattle.kube_objects.specs.Newest.{added, has, join, or_else, or_zero, when}
 use Rattle.kube_objects.specs.Process.{begun, call_says, is_send, last_call, open_as}
 use Rattle.kube_objects.specs.Turns.{expired_in}
 use Rattle.kube_objects.proofs.CallFrames.{call_slot-beside}
+use Rattle.kube_objects.proofs.OwnCalls.{last_expired, said}
 use Rattle.kubelet_node.specs.declared.kubelet.Kubelet.{Kubelet}
 use Rattle.kubelet_node.specs.Moves.{is_of_kubelet}
 use Rattle.kubelet_node.specs.Stands.{CallStands, IsSettled, KubeletStands, waiting_in}
-use Rattle.kubelet_node.proofs.Own.{last_expired, last_round, last_timer, said}
+use Rattle.kubelet_node.proofs.Own.{last_round, last_timer}
 
 -- an entry that changes no reading of the identity
 pub record IsQuiet (doc : Doc) (q : Identity) (h : List Entry) (e : Entry) : Type 0 where

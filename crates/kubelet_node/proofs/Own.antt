@@ -1,38 +1,25 @@
 -- What an identity's own entries say.
-use Rattle.std.proofs.Common.{◌≡◌, ◌∙◌, ℕ, ◌+◌, ◌==◌, ◌&&◌, ◌||◌, not, Bool, true, false, cond, List, [], ◌∷◌, Option, Some, None, refl, ap, arith}
-use Rattle.std.proofs.lemmas.Bool.Decides.{nat_tests}
+use Rattle.std.proofs.Common.{◌≡◌, ◌∙◌, ℕ, ◌+◌, ◌==◌, ◌&&◌, ◌||◌, not, Bool, true, false, cond, List, [], ◌∷◌, Option, None, refl, ap, arith}
 use Rattle.kube_objects.specs.declared.call.Reply.{Reply}
 use Rattle.kube_objects.specs.declared.call.Request.{Request}
 use Rattle.kube_objects.specs.declared.deed.Actor.{Actor}
 use Rattle.kube_objects.specs.Clocks.{local}
 use Rattle.kube_objects.specs.Document.{Doc}
-use Rattle.kube_objects.specs.Entry.{Call, Fact, Delivers, Entry, Expires, Identity, Plain, Sends, Starts, actor_of, entry}
+use Rattle.kube_objects.specs.Entry.{Call, Fact, Delivers, Entry, Expires, Identity, Plain, Sends, Starts, entry}
 use Rattle.kube_objects.specs.Identities.{is_by}
 use Rattle.kube_objects.specs.Kubelet.{ends_round, has_round, is_post, is_post_call, round_period, round_says, round_timer, round_timer_says}
-use Rattle.kube_objects.specs.Newest.{added, join, newest, or_else, or_zero, when}
-use Rattle.kube_objects.specs.Process.{begun, call_in, is_send, last_call}
+use Rattle.kube_objects.specs.Newest.{added, newest, or_else, or_zero, when}
+use Rattle.kube_objects.specs.Process.{begun, is_send}
 use Rattle.kube_objects.specs.Turns.{expired_in, just_expired, with_reply}
 use Rattle.kube_objects.specs.Wire.{next_call}
+use Rattle.kube_objects.proofs.OwnCalls.{just_expired-own, mine, said, same_beat}
 use Rattle.kubelet_node.specs.Stands.{IsSettled}
-
-pub mine : (q : Identity) → is_by q (actor_of q) ≡ true
-mine q = grind (arith, nat_tests)
-
-pub same_beat : (k : ℕ) → (k == k) ≡ true
-same_beat k = grind (arith, nat_tests)
-
--- what an entry says, and else the entries before it
-abbrev pub said : {A : Type 0} → Option A → Option A → Option A
-said now before = elim now [ None ↦ before | Some x ↦ Some x ]
 
 abbrev pub last_round : Identity → List Entry → Option Bool
 last_round q h = newest (λ e T. round_says q e.actor e.fact) h
 
 abbrev pub last_timer : Doc → Identity → List Entry → Option ℕ
 last_timer doc q h = newest (λ e T. round_timer_says doc q e.beat e.actor e.fact) h
-
-abbrev pub last_expired : Identity → ℕ → List Entry → Option (Option Call)
-last_expired q n h = newest (λ e T. when (is_by q e.actor) (expired_in n e.beat e.fact)) h
 
 -- an identity that has sent nothing runs no round
 pub round-unbegun : (q : Identity) (h : List Entry) → begun q h ≡ 0 → has_round q h ≡ false
@@ -60,9 +47,6 @@ round-unbegun q (e ∷ h) none = by_fact e.fact e.actor none (λ n. round-unbegu
 -- ---- a call is sent
 
 module _ (q : Identity) (h : List Entry) (k step : ℕ) (request : Request) (arrives : Option ℕ) where
-  pub call_in-sent : call_in q (entry k step q (Sends (next_call q k Plain request h) arrives) ∷ h) ≡ Some (next_call q k Plain request h)
-  call_in-sent = ap (λ b. join (said (when b (Some (next_call q k Plain request h))) (last_call q h))) (mine q)
-
   begins : (post : Bool) (before : Option Bool) → or_else false (said (when (post && true) true) before) ≡ (post || or_else false before)
   begins true before = refl
   begins false before = refl
@@ -85,18 +69,12 @@ timer-started doc q h k step = ap (λ b. or_zero (said (when b (local doc q.proc
 
 -- ---- a call expires
 
-pub call_in-expired : (q : Identity) (h : List Entry) (k step : ℕ) (call : Call) → call_in q (entry k step q (Expires call) ∷ h) ≡ None
-call_in-expired q h k step call = ap (λ b. join (said (when {A = Option Call} b None) (last_call q h))) (mine q)
-
 goes_on : (post : Bool) (before : Option Bool) → or_else false (said (when (not post && true) false) before) ≡ (post && or_else false before)
 goes_on true before = refl
 goes_on false before = refl
 
 pub round-expired : (q : Identity) (h : List Entry) (k step : ℕ) (call : Call) → has_round q (entry k step q (Expires call) ∷ h) ≡ (is_post call.request && has_round q h)
 round-expired q h k step call = ap (λ b. or_else false (said (when (not (is_post call.request) && b) false) (last_round q h))) (mine q) ∙ goes_on (is_post call.request) (last_round q h)
-
-pub just_expired-own : (q : Identity) (h : List Entry) (k step n : ℕ) (fact : Fact) → just_expired q n (entry k step q fact ∷ h) ≡ expired_in n k fact
-just_expired-own q h k step n fact = ap (λ b. join (said (when b (expired_in n k fact)) (last_expired q n h))) (mine q)
 
 -- an own entry that is no expiry
 pub settled-own : (q : Identity) (h : List Entry) (k step : ℕ) (fact : Fact) → ((n : ℕ) → expired_in n k fact ≡ None) → IsSettled q (entry k step q fact ∷ h)
@@ -113,9 +91,6 @@ pub settled-no_post : (q : Identity) (h : List Entry) (k step : ℕ) (call : Cal
 settled-no_post q h k step call is n = ap is_post_call (just_expired-own q h k step n (Expires call)) ∙ no_post_when call (k == n) is
 
 -- ---- a reply is delivered
-
-pub call_in-with_reply : (q : Identity) (h : List Entry) (k : ℕ) (call : Call) (answered : Reply) → call_in q (with_reply k q call answered h) ≡ None
-call_in-with_reply q h k call answered = ap (λ b. join (said (when {A = Option Call} (true && b) None) (last_call q h))) (mine q)
 
 ends : (over : Bool) (before : Option Bool) → or_else false (said (when (over && (true && true)) false) before) ≡ (not over && or_else false before)
 ends true before = refl

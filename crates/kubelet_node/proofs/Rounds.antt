@@ -12,32 +12,17 @@ use Rattle.kube_objects.specs.Document.{Doc}
 use Rattle.kube_objects.specs.Entry.{Call, Entry, Expires, Identity, Plain, Sends, entry}
 use Rattle.kube_objects.specs.InForce.{posted_status}
 use Rattle.kube_objects.specs.Kubelet.{ends_round, has_round, is_post, next_request, round_period, round_timer}
-use Rattle.kube_objects.specs.Newest.{has, only_if, when}
-use Rattle.kube_objects.specs.Process.{answered_call, begun, call_in, counted, is_late}
+use Rattle.kube_objects.specs.Newest.{has, only_if}
+use Rattle.kube_objects.specs.Process.{answered_call, call_in, counted, is_late}
 use Rattle.kube_objects.specs.Turns.{expire_as, expire_call, expired, with_reply}
 use Rattle.kube_objects.specs.Wire.{next_call}
+use Rattle.kube_objects.proofs.OwnCalls.{call_in-expired, call_in-sent, call_in-with_reply, none_late}
 use Rattle.kubelet_node.specs.declared.kubelet.Kubelet.{Kubelet}
 use Rattle.kubelet_node.specs.declared.waiting.Waiting.{Waiting}
 use Rattle.kubelet_node.specs.Moves.{Asked, Expired}
 use Rattle.kubelet_node.specs.Plain.{is_post_wait}
 use Rattle.kubelet_node.specs.Stands.{CallStands, KubeletStands, Wait, waiting_in, waiting_of}
-use Rattle.kubelet_node.proofs.Own.{call_in-with_reply, call_in-expired, call_in-sent, post_expired, round-with_reply, round-expired, round-sent, settled-no_post, settled-own, timer-sent}
-
--- a reply that counts, counts for the call that waits
-pub counted-call : (doc : Doc) (q : Identity) (k number : ℕ) (h : List Entry) (call : Call) → counted doc q k number h ≡ Some call → call_in q h ≡ Some call
-counted-call doc q k number h call is = by_life _ (call_in q h) is
-  where
-    by_test : (b : Bool) (x : Call) → when b x ≡ Some call → Some x ≡ Some call
-    by_test true x is = is
-    by_test false x is = cc
-
-    by_call : (c : Option Call) → answered_call doc q k number c ≡ Some call → c ≡ Some call
-    by_call None is = cc
-    by_call (Some x) is = by_test _ x is
-
-    by_life : (b : Bool) (c : Option Call) → only_if b (answered_call doc q k number c) ≡ Some call → c ≡ Some call
-    by_life true c is = by_call c is
-    by_life false c is = cc
+use Rattle.kubelet_node.proofs.Own.{post_expired, round-with_reply, round-expired, round-sent, settled-no_post, settled-own, timer-sent}
 
 pub counted-accepts : (doc : Doc) (q : Identity) (k number : ℕ) (h : List Entry) (call : Call) → counted doc q k number h ≡ Some call → has (answered_call doc q k number (call_in q h)) ≡ true
 counted-accepts doc q k number h call is = by_life _ (answered_call doc q k number (call_in q h)) is
@@ -57,19 +42,6 @@ request-waiting doc q w call is = ap (request_in call.request) is
 -- ---- the expiry of a turn
 
 module _ (doc : Doc) (k : ℕ) (q : Identity) (h : List Entry) where
-  -- without a late call nothing happens
-  pub none_late : (c : Option Call) → is_late_call doc q k c ≡ false → expire_call doc k q c h ≡ h
-  none_late None is = refl
-  none_late (Some call) is = ap (λ b. expire_as k q call b h) is
-
-  begun_as : (call : Call) (b : Bool) → begun q (expire_as k q call b h) ≡ begun q h
-  begun_as call true = refl
-  begun_as call false = refl
-
-  pub begun-expiry : (c : Option Call) → begun q (expire_call doc k q c h) ≡ begun q h
-  begun-expiry None = refl
-  begun-expiry (Some call) = begun_as call (is_late doc q k call)
-
   status_as : (call : Call) (b : Bool) → posted_status doc q.process (expire_as k q call b h) ≡ posted_status doc q.process h
   status_as call true = refl
   status_as call false = refl
@@ -80,7 +52,7 @@ module _ (doc : Doc) (k : ℕ) (q : Identity) (h : List Entry) where
 
   pub expired-none : (x : Kubelet) → KubeletStands doc q h x → is_late_call doc q k (call_in q h) ≡ false → Expired doc k q (expired doc k q h) x false
   expired-none x s late =
-      subst (λ T. Expired doc k q T x false) (sym (none_late (call_in q h) late))
+      subst (λ T. Expired doc k q T x false) (sym (none_late doc k q h (call_in q h) late))
       (record { call = s.call; timer = s.timer; runs = s.runs; posts = s.settled k; settled = λ is. s.settled })
 
   runs_on : (post : Bool) → (post && true) ≡ (post || false)
@@ -127,7 +99,7 @@ asked-stands doc k step q h next x ask a timer runs =
       stands = λ arrives. record {
         call = a.stands arrives;
         timer = timer ∙ sym (timer-sent q h k step ask.request arrives doc);
-        runs = round-sent q h k step ask.request arrives ∙ runs ∙ sym (ap has (call_in-sent q h k step ask.request arrives));
+        runs = round-sent q h k step ask.request arrives ∙ runs ∙ sym (ap has (call_in-sent q h k step ask.request arrives Plain refl));
         settled = settled-own q h k step (Sends (next_call q k Plain ask.request h) arrives) (λ n. refl);
       };
     }

@@ -225,9 +225,9 @@ impl Kubelet {
         ensures moment { result ≡ found_at self.now wall.0 key reply.now }
     {
         match *reply {
-            Reply::Absent => Some(Request::Create(key, self.created(wall))),
+            Reply::Absent => Some(Request::Create(key, self.new_lease(wall))),
             Reply::Found(version, lease) => {
-                Some(Request::Update(key, version, self.renewed(&lease, wall)))
+                Some(Request::Update(key, version, self.renewal(&lease, wall)))
             }
             _ => None,
         }
@@ -243,7 +243,7 @@ impl Kubelet {
         }
     }
 
-    fn created(&self, wall: Wall) -> Lease
+    fn new_lease(&self, wall: Wall) -> Lease
         ensures { result ≡ heartbeat_at self.now wall.0 None }
     {
         Lease {
@@ -256,15 +256,13 @@ impl Kubelet {
     }
 
     /// What a found Lease has besides stays.
-    fn renewed(&self, lease: &Lease, wall: Wall) -> Lease
+    fn renewal(&self, lease: &Lease, wall: Wall) -> Lease
         ensures { result ≡ heartbeat_at self.now wall.0 (Some lease.now) }
     {
         Lease {
-            holder: Holder::Foreign(self.node),
-            duration: Some(self.timing.lease_seconds),
             acquired: lease.acquired,
-            renewed: Some(wall),
             transitions: lease.transitions,
+            ..self.new_lease(wall)
         }
     }
 }

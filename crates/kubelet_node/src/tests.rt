@@ -46,7 +46,7 @@ fn get(number: u64) -> Want {
 }
 
 /// The Lease of 40 s as the kubelet creates it.
-fn created(beat: u8) -> Lease {
+fn new_lease(beat: u8) -> Lease {
     Lease {
         holder: Holder::Foreign(NODE),
         duration: Some(40),
@@ -98,7 +98,7 @@ fn renews_each_quarter_of_the_duration(rt: HostRuntime) {
         (
             4,
             Call::Reply(2, Reply::Absent),
-            Some((3, Request::Create(LEASE, created(4)))),
+            Some((3, Request::Create(LEASE, new_lease(4)))),
         ),
         (6, Call::Reply(3, done), None),
         (99, turn, None),

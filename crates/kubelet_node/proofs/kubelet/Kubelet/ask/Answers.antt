@@ -1,7 +1,7 @@
 use Rattle.std.proofs.Common.{◌∙◌, ◌+◌, Some, refl, sym, ap}
 use Rattle.kube_objects.specs.Entry.{Plain}
+use Rattle.kube_objects.proofs.OwnCalls.{call_in-sent}
 use Rattle.kubelet_node.specs.Stands.{waiting_in}
-use Rattle.kubelet_node.proofs.Own.{call_in-sent}
 use Rattle.kubelet_node.proofs.kubelet.Kubelet.ask.Goals as goal
 
 pub returns-clause-history : goal.returns-clause-history
@@ -15,6 +15,6 @@ returns-clause-history c doc q h next k step s now room is =
         lease = s.lease;
         timeout = s.timeout;
         slot = c.begin-number.ensures.stands doc q h k step Plain c.args.request arrives s.slot room now refl;
-        waiting = (λ i. Some (record { request = c.args.request; late = now i + s.timeout i + 1 })) ∙ sym (ap (waiting_in doc q) (call_in-sent q h k step c.args.request arrives));
+        waiting = (λ i. Some (record { request = c.args.request; late = now i + s.timeout i + 1 })) ∙ sym (ap (waiting_in doc q) (call_in-sent q h k step c.args.request arrives Plain refl));
       };
     }

@@ -2,9 +2,10 @@ use Rattle.std.proofs.Common.{◌≡◌, ◌∙◌, ◌+◌, ◌||◌, true, fal
 use Rattle.kube_objects.specs.Clocks.{local}
 use Rattle.kube_objects.specs.Kubelet.{is_post, next_request, round_period, round_timer, send_next}
 use Rattle.kube_objects.specs.Turns.{with_reply}
+use Rattle.kube_objects.proofs.OwnCalls.{counted-call}
 use Rattle.kubelet_node.specs.Moves.{followed}
 use Rattle.kubelet_node.specs.Stands.{waiting_in, waiting_of}
-use Rattle.kubelet_node.proofs.Rounds.{asked-stands, call-with_reply, counted-accepts, counted-call, request-waiting, runs-with_reply}
+use Rattle.kubelet_node.proofs.Rounds.{asked-stands, call-with_reply, counted-accepts, request-waiting, runs-with_reply}
 use Rattle.kubelet_node.proofs.kubelet.Kubelet.on_reply.Goals as goal
 
 pub returns-then-not-accepts-clause-counts : goal.returns-then-not-accepts-clause-counts

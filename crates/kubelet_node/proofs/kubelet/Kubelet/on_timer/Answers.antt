@@ -1,7 +1,8 @@
 use Rattle.std.proofs.Common.{◌∙◌, ◌+◌, ◌<◌, ◌^◌, sym, subst}
 use Rattle.kube_objects.specs.Process.{begun, call_in}
 use Rattle.kube_objects.specs.Turns.{expired}
-use Rattle.kubelet_node.proofs.Rounds.{begun-expiry, status-expiry}
+use Rattle.kube_objects.proofs.OwnCalls.{begun-expiry}
+use Rattle.kubelet_node.proofs.Rounds.{status-expiry}
 use Rattle.kubelet_node.proofs.kubelet.Kubelet.on_timer.Goals as goal
 
 pub returns-clause-turns : goal.returns-clause-turns
