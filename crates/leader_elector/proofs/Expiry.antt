@@ -8,27 +8,15 @@ use Rattle.kube_objects.specs.Document.{Doc, retry_period}
 use Rattle.kube_objects.specs.Elector.{timer, is_fast, leads, deadline}
 use Rattle.kube_objects.specs.Entry.{Entry, Identity, Call, Expires, entry}
 use Rattle.kube_objects.specs.Newest.{when, or_else}
-use Rattle.kube_objects.specs.Process.{call_in, begun, is_late}
+use Rattle.kube_objects.specs.Process.{call_in, is_late}
 use Rattle.kube_objects.specs.Turns.{expire_call, expire_as, is_fast_call, just_expired}
+use Rattle.kube_objects.proofs.OwnCalls.{call_in-expired}
 use Rattle.leader_elector.specs.declared.elector.Elector.{Elector}
 use Rattle.leader_elector.specs.Stands.{ElectorStands, IsSettled, is_fast_wait, waiting_in, waiting_of}
-use Rattle.leader_elector.proofs.Own.{call_in-expired, timer-expired, fast_expired, settled-slow}
+use Rattle.leader_elector.proofs.Own.{timer-expired, fast_expired, settled-slow}
 
 module _ (doc : Doc) (k : ℕ) (q : Identity) (h : List Entry) where
-  -- without a late call nothing happens
-  pub none_late : (c : Option Call) → is_late_call doc q k c ≡ false → expire_call doc k q c h ≡ h
-  none_late None is = refl
-  none_late (Some call) is = ap (λ b. expire_as k q call b h) is
-
   -- readings that don't look at an expiry
-  begun_as : (call : Call) (b : Bool) → begun q (expire_as k q call b h) ≡ begun q h
-  begun_as call true = refl
-  begun_as call false = refl
-
-  pub begun-expiry : (c : Option Call) → begun q (expire_call doc k q c h) ≡ begun q h
-  begun-expiry None = refl
-  begun-expiry (Some call) = begun_as call (is_late doc q k call)
-
   leads_as : (call : Call) (b : Bool) → leads q (expire_as k q call b h) ≡ leads q h
   leads_as call true = refl
   leads_as call false = refl

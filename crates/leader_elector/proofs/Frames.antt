@@ -11,12 +11,13 @@ use Rattle.kube_objects.specs.Newest.{added, has, join, newest, only_if, or_zero
 use Rattle.kube_objects.specs.Process.{begun, call_says, is_send, last_call, open_as}
 use Rattle.kube_objects.specs.Turns.{expired_in, is_fast_call}
 use Rattle.kube_objects.proofs.CallFrames.{call_slot-beside}
+use Rattle.kube_objects.proofs.OwnCalls.{last_expired, said}
 use Rattle.leader_elector.specs.declared.candidate.Candidate.{Candidate}
 use Rattle.leader_elector.specs.declared.elector.Elector.{Elector}
 use Rattle.leader_elector.specs.declared.leading.Leading.{Leading}
 use Rattle.leader_elector.specs.Moves.{is_of_elector}
 use Rattle.leader_elector.specs.Stands.{CandidateStands, ElectorStands, IsNew, IsSettled, LeadingStands, waiting_in}
-use Rattle.leader_elector.proofs.Own.{last_expired, last_timer, said}
+use Rattle.leader_elector.proofs.Own.{last_timer}
 
 -- an entry that changes no reading of the identity
 pub record IsQuiet (doc : Doc) (q : Identity) (h : List Entry) (e : Entry) : Type 0 where

@@ -10,30 +10,14 @@ use Rattle.kube_objects.specs.Clocks.{local}
 use Rattle.kube_objects.specs.Document.{Doc, renew_deadline, retry_period}
 use Rattle.kube_objects.specs.Elector.{Follow, Fails, Asks, Succeeds, Shown, deadline, follow_get, follow_on, follow_write, is_blocked, is_done, is_known, leads, newly, not_done, observed, observed_at, shown, succeeds, timer, timer_follow, told, updated}
 use Rattle.kube_objects.specs.Entry.{Call, CallKind, Entry, Fast, Identity, Plain, Release}
-use Rattle.kube_objects.specs.Newest.{join, only_if, or_else, or_zero, when}
-use Rattle.kube_objects.specs.Process.{answered_call, call_in, counted, last_call}
+use Rattle.kube_objects.specs.Newest.{only_if, or_else, or_zero, when}
 use Rattle.kube_objects.specs.Stored.{election}
 use Rattle.kube_objects.specs.Turns.{with_reply}
+use Rattle.kube_objects.proofs.OwnCalls.{call_in-with_reply, mine, said}
 use Rattle.leader_elector.specs.declared.elector.Elector.{Elector}
 use Rattle.leader_elector.specs.Moves.{last_of}
 use Rattle.leader_elector.specs.Stands.{ElectorStands, IsTimingOf, observed_of, shown_of, waiting_in, waiting_of}
-use Rattle.leader_elector.proofs.Own.{last_timer, mine, or_zero-said, said}
-
--- a reply that counts, counts for the call that waits
-pub counted-call : (doc : Doc) (q : Identity) (k number : ℕ) (h : List Entry) (call : Call) → counted doc q k number h ≡ Some call → call_in q h ≡ Some call
-counted-call doc q k number h call is = by_life _ (call_in q h) is
-  where
-    by_test : (b : Bool) (x : Call) → when b x ≡ Some call → Some x ≡ Some call
-    by_test true x is = is
-    by_test false x is = cc
-
-    by_call : (c : Option Call) → answered_call doc q k number c ≡ Some call → c ≡ Some call
-    by_call None is = cc
-    by_call (Some x) is = by_test _ x is
-
-    by_life : (b : Bool) (c : Option Call) → only_if b (answered_call doc q k number c) ≡ Some call → c ≡ Some call
-    by_life true c is = by_call c is
-    by_life false c is = cc
+use Rattle.leader_elector.proofs.Own.{last_timer, or_zero-said}
 
 said-last : (now before : Option Shown) → said now before ≡ last_of now before
 said-last None before = refl
@@ -48,9 +32,6 @@ newly_seen doc p k before None old = refl
 newly_seen doc p k before (Some x) old = first_seen doc p k before (is_known x.0 old)
 
 module _ (doc : Doc) (k : ℕ) (q : Identity) (call : Call) (answered : Reply) (h : List Entry) where
-  pub call_in-with_reply : call_in q (with_reply k q call answered h) ≡ None
-  call_in-with_reply = ap (λ b. join (said (when {A = Option Call} (true && b) None) (last_call q h))) (mine q)
-
   pub shown-with_reply : shown q (with_reply k q call answered h) ≡ last_of (told call.request answered) (shown q h)
   shown-with_reply = ap (λ b. said (only_if (true && b) (told call.request answered)) (shown q h)) (mine q) ∙ said-last (told call.request answered) (shown q h)
 
@@ -80,7 +61,7 @@ module _ (doc : Doc) (k : ℕ) (q : Identity) (call : Call) (answered : Reply) (
         incarnation = ap (λ x. x.incarnation) now_is ∙ ap (λ x. x.incarnation) noted_is ∙ s.incarnation;
         timing = subst (λ t. IsTimingOf doc q.process t) (sym (ap (λ x. x.timing) now_is ∙ ap (λ x. x.timing) noted_is)) s.timing;
         slot = subst (λ x. CallSlotStands doc q g x) (sym (ap (λ x. x.slot) now_is ∙ ap (λ x. x.slot) noted_is)) free;
-        waiting = ap (λ x. waiting_of x.waiting) now_is ∙ ap (λ x. waiting_of x.waiting) noted_is ∙ sym (ap (waiting_in doc q) call_in-with_reply);
+        waiting = ap (λ x. waiting_of x.waiting) now_is ∙ ap (λ x. waiting_of x.waiting) noted_is ∙ sym (ap (waiting_in doc q) (call_in-with_reply q h k call answered));
         shown = ap (λ x. shown_of x.seen) now_is ∙ shown_is ∙ ap (last_of (told call.request answered)) s.shown ∙ sym shown-with_reply;
         observed = ap (λ x. observed_of x.seen) now_is ∙ observed_is;
         timer = timer_is ∙ ap (λ t. or_else t (timer_follow (follow_on doc q k call.kind call.request answered g) (leads q h) (local doc q.process k + retry_period doc q.process))) timer_was ∙ sym timer-with_reply;

@@ -1,17 +1,16 @@
 -- What follows a reply that counts, by what is kept.
-use Rattle.std.proofs.Common.{◌≡◌, Bool, Option, Some, None, false, true, refl, sym, ap, ◌∙◌, option_map}
+use Rattle.std.proofs.Common.{◌≡◌, Bool, Option, Some, None, false, sym, ap, ◌∙◌}
 use Rattle.kube_objects.specs.declared.call.Ask.{Ask}
 use Rattle.kube_objects.specs.declared.call.Reply.{Reply}
 use Rattle.kube_objects.specs.declared.call.Request.{Request}
 use Rattle.kube_objects.specs.CallSlots.{next_number}
-use Rattle.kube_objects.specs.Elector.{Follow, Fails, Asks, Succeeds, Moment}
-use Rattle.kube_objects.specs.Entry.{CallKind, Plain}
+use Rattle.kube_objects.specs.Elector.{Follow, Fails, Asks, Moment}
+use Rattle.kube_objects.specs.Entry.{Plain}
 use Rattle.kube_objects.specs.Newest.{or_else}
 use Rattle.leader_elector.specs.declared.elector.Elector.{Elector}
 use Rattle.leader_elector.specs.declared.follow.Follow as code
-use Rattle.leader_elector.specs.declared.timing.Timing.{Timing}
 use Rattle.leader_elector.specs.Calls.{TakesReply, is_success}
-use Rattle.leader_elector.specs.Plain.{BeginsCall, IsSame, Kept, Receives, after_reply, asked_next, asked_of, follow_in, kept_of, numbered, with_call}
+use Rattle.leader_elector.specs.Plain.{BeginsCall, IsSame, Kept, Receives, after_reply, asked_next, follow_in, kept_of, numbered, with_call}
 use Rattle.leader_elector.specs.Stands.{Wait, follow_of}
 
 pub follow-is : {old new : Elector} {m : Moment} {led : Bool} {w : Wait} {reply : Reply} (f : code.Follow) → Receives old m led w reply new (Some f) → follow_in old m w reply (kept_of old) ≡ follow_of f

@@ -8,7 +8,7 @@ use Rattle.kube_objects.specs.Clocks.{local}
 use Rattle.kube_objects.specs.Document.{Doc, call_timeout}
 use Rattle.kube_objects.specs.Elector.{Shown, leads, deadline, follow_on, is_before}
 use Rattle.kube_objects.specs.Entry.{Entry, Identity, Call, CallKind, Fact, Starts, Sends, Delivers, Expires, Leads, Ends, entry}
-use Rattle.kube_objects.specs.Process.{begun, call_in}
+use Rattle.kube_objects.specs.Process.{begun}
 use Rattle.kube_objects.specs.Turns.{react, end_term, expired, try, with_reply}
 use Rattle.kube_objects.specs.Wire.{next_call, send}
 use Rattle.leader_elector.specs.declared.candidate.Candidate.{Candidate}

@@ -408,11 +408,9 @@ impl Elector {
             → result ≡ renewed doc q k lease.now }
     {
         Lease {
-            holder: self.holder(),
-            duration: Some(self.timing.lease_seconds),
             acquired: lease.acquired,
-            renewed: Some(wall),
             transitions: lease.transitions,
+            ..self.new_lease(wall)
         }
     }
 
@@ -424,11 +422,8 @@ impl Elector {
             → result ≡ taken doc q k lease.now }
     {
         Lease {
-            holder: self.holder(),
-            duration: Some(self.timing.lease_seconds),
-            acquired: Some(wall),
-            renewed: Some(wall),
             transitions: Some(one_more(lease.transitions)),
+            ..self.new_lease(wall)
         }
     }
 
@@ -457,7 +452,7 @@ fn is_fast(waiting: &Option<Waiting>) -> bool
 }
 
 /// The record that gives up the lead.
-pub(crate) fn given_up(lease: &Lease, wall: Wall) -> Lease
+pub(crate) fn vacant_lease(lease: &Lease, wall: Wall) -> Lease
     ensures moment { result ≡ given_up_at wall.0 lease.now }
     ensures history { (doc : Doc) (q : Identity) (k : ℕ) → wall.0 ≡ wall_at doc q.process k
         → result ≡ given_up doc q k lease.now }

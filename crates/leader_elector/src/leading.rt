@@ -19,7 +19,7 @@ ghost use Rattle.leader_elector.specs.Plain.{asked_of, moment_of};
 ghost use Rattle.leader_elector.specs.Stands.{Wait, shown_of, waiting_of};
 ghost use Rattle.leader_elector.specs.declared.leading.LeadingNext.TheVariants as next;
 
-use crate::elector::{Elector, given_up};
+use crate::elector::{Elector, vacant_lease};
 use crate::follow::Follow;
 use crate::{Acting, Ended, Released};
 use kube_base::{Local, Wall};
@@ -115,7 +115,7 @@ impl Leading {
         }
     }
 
-    /// What shows that the process acts; None from the deadline on.
+    /// The leadership that it has at a reading, which shows that it acts; None from the deadline on.
     pub fn acting(&self, now: Local) -> Option<Acting<'_>>
         ensures before { is_some result ≡ nat_lt now.0 (deadline_of self.now) }
         ensures acts { (doc : Doc) (q : Identity) (h : List Entry) (k : ℕ)
@@ -168,7 +168,7 @@ impl Leading {
     {
         let ask = match self.elector.seen {
             Some(seen) if self.elector.holds(&seen.lease) => {
-                let lease = given_up(&seen.lease, wall);
+                let lease = vacant_lease(&seen.lease, wall);
                 let request = Request::Update(Key::ELECTION, seen.version, lease);
                 let number = self.elector.slot.begin_unheld();
                 Some(Ask { number, request })

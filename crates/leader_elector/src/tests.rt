@@ -84,7 +84,7 @@ fn first(renewed: u8) -> Lease {
     lease(0, 2, renewed, 0)
 }
 
-fn released(beat: u8, transitions: u32) -> Lease {
+fn vacant_lease(beat: u8, transitions: u32) -> Lease {
     Lease {
         holder: Holder::Nobody,
         duration: Some(1),
@@ -107,15 +107,15 @@ fn update(number: u64, version: u64, lease: Lease) -> Does {
     )
 }
 
-fn absent(number: u64) -> Call {
+fn absent_reply(number: u64) -> Call {
     Call::Reply(number, Reply::Absent)
 }
 
-fn found(number: u64, version: u64, lease: Lease) -> Call {
+fn found_reply(number: u64, version: u64, lease: Lease) -> Call {
     Call::Reply(number, Reply::Found(Version(version), lease))
 }
 
-fn done(number: u64, version: u64) -> Call {
+fn done_reply(number: u64, version: u64) -> Call {
     Call::Reply(number, Reply::Done(Version(version)))
 }
 
@@ -177,7 +177,7 @@ fn run(rt: &impl Abort, start: State, calls: &[(u8, Call, Does)]) -> State {
     state
 }
 
-fn started(process: u32, timing: Timing) -> State {
+fn candidate(process: u32, timing: Timing) -> State {
     State::Candidate(Candidate::start(ProcId(process), 1, timing, at(0)))
 }
 
@@ -186,14 +186,14 @@ fn creator(rt: &impl Abort, process: u32, timing: Timing) -> State {
     let calls = [
         (0, Call::Turn, get(1)),
         (1, Call::Turn, Does::Stays),
-        (2, absent(1), create(2, lease(process, 2, 2, 0))),
+        (2, absent_reply(1), create(2, lease(process, 2, 2, 0))),
     ];
-    run(rt, started(process, timing), &calls)
+    run(rt, candidate(process, timing), &calls)
 }
 
 /// A leader since 4.
 fn leader(rt: &impl Abort, timing: Timing) -> State {
-    let calls = [(4, done(2, 1), Does::Leads)];
+    let calls = [(4, done_reply(2, 1), Does::Leads)];
     run(rt, creator(rt, 0, timing), &calls)
 }
 
@@ -201,7 +201,7 @@ fn leader(rt: &impl Abort, timing: Timing) -> State {
 fn renewer(rt: &impl Abort, timing: Timing) -> State {
     let calls = [
         (4, Call::Turn, get(3)),
-        (6, found(3, 1, first(2)), update(4, 1, first(6))),
+        (6, found_reply(3, 1, first(2)), update(4, 1, first(6))),
     ];
     run(rt, leader(rt, timing), &calls)
 }
@@ -209,14 +209,14 @@ fn renewer(rt: &impl Abort, timing: Timing) -> State {
 #[test]
 fn renews_every_two_seconds(rt: HostRuntime) {
     let calls = [
-        (8, done(4, 2), Does::Stays),
+        (8, done_reply(4, 2), Does::Stays),
         (27, Call::Turn, Does::Stays),
         (28, Call::Turn, get(5)),
-        (30, found(5, 2, first(6)), update(6, 2, first(30))),
-        (32, done(6, 3), Does::Stays),
+        (30, found_reply(5, 2, first(6)), update(6, 2, first(30))),
+        (32, done_reply(6, 3), Does::Stays),
         (51, Call::Turn, Does::Stays),
         (52, Call::Turn, get(7)),
-        (54, found(7, 3, first(30)), update(8, 3, first(54))),
+        (54, found_reply(7, 3, first(30)), update(8, 3, first(54))),
     ];
     run(&rt, renewer(&rt, TIMING), &calls);
 }
@@ -248,19 +248,19 @@ fn finds_itself_as_the_holder(rt: HostRuntime) {
     };
     let calls = [
         (0, Call::Turn, get(1)),
-        (2, found(1, 1, old), update(2, 1, lease(0, 2, 2, 1))),
+        (2, found_reply(1, 1, old), update(2, 1, lease(0, 2, 2, 1))),
         (22, Call::Turn, Does::Stays),
         (23, Call::Turn, Does::Stays),
         (42, Call::Turn, Does::Stays),
         (43, Call::Turn, get(3)),
         (
             45,
-            found(3, 2, lease(0, 2, 2, 1)),
+            found_reply(3, 2, lease(0, 2, 2, 1)),
             update(4, 2, lease(0, 2, 45, 1)),
         ),
-        (47, done(4, 3), Does::Leads),
+        (47, done_reply(4, 3), Does::Leads),
     ];
-    run(&rt, started(0, TIMING), &calls);
+    run(&rt, candidate(0, TIMING), &calls);
 }
 
 #[test]
@@ -271,12 +271,12 @@ fn forgets_a_renewal_that_comes_late(rt: HostRuntime) {
         (27, Call::Turn, Does::Stays),
         (46, Call::Turn, Does::Stays),
         (47, Call::Turn, get(5)),
-        (49, found(5, 1, first(2)), update(6, 1, first(49))),
-        (51, done(6, 2), Does::Stays),
+        (49, found_reply(5, 1, first(2)), update(6, 1, first(49))),
+        (51, done_reply(6, 2), Does::Stays),
         (67, Call::Reply(4, Reply::Conflict(Version(2))), Does::Stays),
         (70, Call::Turn, Does::Stays),
         (71, Call::Turn, get(7)),
-        (73, found(7, 2, first(49)), update(8, 2, first(73))),
+        (73, found_reply(7, 2, first(49)), update(8, 2, first(73))),
     ];
     run(&rt, renewer(&rt, TIMING), &calls);
 }
@@ -301,7 +301,7 @@ fn takes_over_after_its_own_observation(rt: HostRuntime) {
     for (number, asked, answered) in blocked {
         let calls = [
             (asked, Call::Turn, get(number)),
-            (answered, found(number, 2, first(6)), Does::Stays),
+            (answered, found_reply(number, 2, first(6)), Does::Stays),
         ];
         state = run(&rt, state, &calls);
     }
@@ -309,14 +309,14 @@ fn takes_over_after_its_own_observation(rt: HostRuntime) {
         (178, Call::Turn, get(10)),
         (
             180,
-            found(10, 2, first(6)),
+            found_reply(10, 2, first(6)),
             update(11, 2, lease(1, 180, 180, 1)),
         ),
-        (182, done(11, 3), Does::Leads),
+        (182, done_reply(11, 3), Does::Leads),
         (182, Call::Turn, get(12)),
         (
             184,
-            found(12, 3, lease(1, 180, 180, 1)),
+            found_reply(12, 3, lease(1, 180, 180, 1)),
             update(13, 3, lease(1, 180, 184, 1)),
         ),
     ];
@@ -327,7 +327,7 @@ fn takes_over_after_its_own_observation(rt: HostRuntime) {
 fn ends_at_the_deadline(rt: HostRuntime) {
     // with a timeout of 5 s the reply delivered at 55 counts; later requests are lost
     let calls = [
-        (55, done(4, 2), Does::Stays),
+        (55, done_reply(4, 2), Does::Stays),
         (75, Call::Turn, get(5)),
         (125, Call::Turn, Does::Stays),
         (126, Call::Turn, Does::Stays),
@@ -353,8 +353,8 @@ fn ends_at_the_deadline(rt: HostRuntime) {
 #[test]
 fn gives_up_the_lead(rt: HostRuntime) {
     let releases = [
-        (8, done(4, 2), Does::Stays),
-        (20, Call::Stop, update(5, 2, released(20, 0))),
+        (8, done_reply(4, 2), Does::Stays),
+        (20, Call::Stop, update(5, 2, vacant_lease(20, 0))),
     ];
     run(&rt, renewer(&rt, TIMING), &releases);
     let follows = [
@@ -362,14 +362,14 @@ fn gives_up_the_lead(rt: HostRuntime) {
         (24, Call::Turn, get(3)),
         (
             26,
-            found(3, 3, released(20, 0)),
+            found_reply(3, 3, vacant_lease(20, 0)),
             update(4, 3, lease(1, 26, 26, 1)),
         ),
-        (28, done(4, 4), Does::Leads),
+        (28, done_reply(4, 4), Does::Leads),
         (28, Call::Turn, get(5)),
         (
             30,
-            found(5, 4, lease(1, 26, 26, 1)),
+            found_reply(5, 4, lease(1, 26, 26, 1)),
             update(6, 4, lease(1, 26, 30, 1)),
         ),
     ];
@@ -380,10 +380,10 @@ fn gives_up_the_lead(rt: HostRuntime) {
 fn renews_without_a_get(rt: HostRuntime) {
     let calls = [
         (4, Call::Turn, update(3, 1, first(4))),
-        (6, done(3, 2), Does::Stays),
+        (6, done_reply(3, 2), Does::Stays),
         (25, Call::Turn, Does::Stays),
         (26, Call::Turn, update(4, 2, first(26))),
-        (28, done(4, 3), Does::Stays),
+        (28, done_reply(4, 3), Does::Stays),
         (48, Call::Turn, update(5, 3, first(48))),
     ];
     run(&rt, leader(&rt, FAST), &calls);
@@ -396,7 +396,7 @@ fn falls_back_to_the_get(rt: HostRuntime) {
         (4, Call::Turn, update(3, 1, first(4))),
         (24, Call::Turn, Does::Stays),
         (25, Call::Turn, get(4)),
-        (27, found(4, 2, first(4)), update(5, 2, first(27))),
+        (27, found_reply(4, 2, first(4)), update(5, 2, first(27))),
     ];
     run(&rt, leader(&rt, FAST), &calls);
 }

@@ -2,7 +2,8 @@ use Rattle.std.proofs.Common.{◌≡◌, ◌∙◌, ◌+◌, ◌<◌, ◌^◌, s
 use Rattle.kube_objects.specs.Elector.{leads}
 use Rattle.kube_objects.specs.Process.{begun, call_in}
 use Rattle.kube_objects.specs.Turns.{expired}
-use Rattle.leader_elector.proofs.Expiry.{begun-expiry, leads-expiry}
+use Rattle.kube_objects.proofs.OwnCalls.{begun-expiry}
+use Rattle.leader_elector.proofs.Expiry.{leads-expiry}
 use Rattle.leader_elector.proofs.Tries.{turns-tried}
 use Rattle.leader_elector.proofs.candidate.Candidate.turn.Goals as goal
 

@@ -4,8 +4,9 @@ use Rattle.kube_objects.specs.Document.{retry_period}
 use Rattle.kube_objects.specs.Newest.{when, or_else}
 use Rattle.kube_objects.specs.Process.{call_in}
 use Rattle.kube_objects.specs.Turns.{just_expired, is_fast_call}
+use Rattle.kube_objects.proofs.OwnCalls.{none_late}
 use Rattle.leader_elector.specs.Stands.{ElectorStands, IsSettled, is_fast_wait, waiting_of}
-use Rattle.leader_elector.proofs.Expiry.{none_late, expiry-stands, expiry-fast, expiry-settled}
+use Rattle.leader_elector.proofs.Expiry.{expiry-stands, expiry-fast, expiry-settled}
 use Rattle.leader_elector.proofs.elector.Elector.expire.Goals as goal
 
 pub returns-then-not-expired-clause-stands : goal.returns-then-not-expired-clause-stands

@@ -5,9 +5,10 @@ use Rattle.kube_objects.specs.Elector.{follow_on, newly, observed_at, timer_foll
 use Rattle.kube_objects.specs.Entry.{CallKind}
 use Rattle.kube_objects.specs.Newest.{or_else}
 use Rattle.kube_objects.specs.Turns.{with_reply}
+use Rattle.kube_objects.proofs.OwnCalls.{counted-call}
 use Rattle.leader_elector.specs.Moves.{last_of}
 use Rattle.leader_elector.specs.Stands.{IsTimingOf, Wait, follow_of, kind_of, observed_of, shown_of, waiting_in, waiting_of}
-use Rattle.leader_elector.proofs.Replies.{counted-call, with_reply-stands, observed_at-with_reply}
+use Rattle.leader_elector.proofs.Replies.{with_reply-stands, observed_at-with_reply}
 use Rattle.leader_elector.proofs.elector.Elector.receive.Goals as goal
 
 abbrev request_of : Request → Option Wait → Request

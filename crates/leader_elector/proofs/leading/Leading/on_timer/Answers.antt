@@ -6,10 +6,11 @@ use Rattle.kube_objects.specs.Identities.{identity}
 use Rattle.kube_objects.specs.Process.{begun, call_in}
 use Rattle.kube_objects.specs.Turns.{end_as, end_term, try, expired}
 use Rattle.kube_objects.specs.Wire.{next_call}
+use Rattle.kube_objects.proofs.OwnCalls.{begun-expiry}
 use Rattle.leader_elector.specs.Moves.{Asked}
 use Rattle.leader_elector.specs.Stands.{ElectorStands}
 use Rattle.leader_elector.proofs.Attempts.{before, reached}
-use Rattle.leader_elector.proofs.Expiry.{begun-expiry, deadline-expiry, leads-expiry}
+use Rattle.leader_elector.proofs.Expiry.{deadline-expiry, leads-expiry}
 use Rattle.leader_elector.proofs.Own.{settled-own}
 use Rattle.leader_elector.proofs.leading.Leading.on_timer.Goals as goal
 
