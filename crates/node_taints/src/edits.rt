@@ -23,7 +23,7 @@ pub fn new_taint(key: u32, second: Wall) -> Taint
 
 /// The node without its condition taints.
 #[tactic(auto, using(std::proofs::lemmas::List::Elements::filter_more))]
-pub fn untainted(node: &Node) -> Result<Node, NoMemory>
+pub fn without_condition(node: &Node) -> Result<Node, NoMemory>
     ensures { IfOk result (λ written. written ≡ tick.untainted node.now) }
 {
     let mut taints = ListOf::new(node.taints.allocator());
@@ -37,18 +37,18 @@ pub fn untainted(node: &Node) -> Result<Node, NoMemory>
 
 /// The node without the condition taint that isn't the given one. The given one stays as it is where the node has it;
 /// else it is put at the end.
-pub fn swapped(node: &Node, taint: Taint) -> Result<Node, NoMemory>
+pub fn with_swap(node: &Node, taint: Taint) -> Result<Node, NoMemory>
     ensures { IfOk result (λ written. written ≡ tick.swapped taint node.now) }
 {
     let mut taints = without_opposite(node, taint.key)?;
-    if !has_wanted(node, taint.key) {
+    if !has_condition_key(node, taint.key) {
         taints.push(taint)?;
     }
     Ok(with_taints(node, taints))
 }
 
 /// The node with a further taint at the end.
-pub fn tainted(node: &Node, taint: Taint) -> Result<Node, NoMemory>
+pub fn with_taint(node: &Node, taint: Taint) -> Result<Node, NoMemory>
     ensures { IfOk result (λ written. written ≡ tick.tainted_with taint node.now) }
 {
     let mut taints = node.taints.copy()?;
@@ -75,7 +75,7 @@ fn is_opposite(wanted: u32, taint: &Taint) -> bool
     is_condition(taint) && taint.key != wanted
 }
 
-fn has_wanted(node: &Node, wanted: u32) -> bool
+fn has_condition_key(node: &Node, wanted: u32) -> bool
     ensures { result ≡ list_any (is_wanted wanted) node.now.taints }
 {
     node.taints

@@ -4,5 +4,5 @@
 mod edits;
 mod wants;
 
-pub use edits::{new_taint, swapped, tainted, untainted};
+pub use edits::{new_taint, with_swap, with_taint, without_condition};
 pub use wants::{Wants, has_condition, has_opposite, lacks, want_of};

@@ -9,7 +9,7 @@ use kube_base::{NoMemory, Version};
 use kube_objects::{Object, Reply};
 
 /// The reply to a Get.
-pub(crate) fn found(stored: Option<(Version, &Object)>) -> Reply
+pub(crate) fn get_reply(stored: Option<(Version, &Object)>) -> Reply
     ensures { result ≡ answer_get (lease_pair (shown_pair stored.entry)) }
 {
     match stored {
@@ -19,7 +19,7 @@ pub(crate) fn found(stored: Option<(Version, &Object)>) -> Reply
 }
 
 /// The reply to a Create or an Update.
-pub(crate) fn told(outcome: Result<Version, StoreFault>) -> Result<Reply, NoMemory>
+pub(crate) fn write_reply(outcome: Result<Version, StoreFault>) -> Result<Reply, NoMemory>
     ensures { result ≡ reply_of outcome }
 {
     match outcome {
@@ -32,7 +32,7 @@ pub(crate) fn told(outcome: Result<Version, StoreFault>) -> Result<Reply, NoMemo
 }
 
 /// The reply to a posted status.
-pub(crate) fn told_post(outcome: Result<Posted, StoreFault>) -> Result<Reply, NoMemory>
+pub(crate) fn post_reply(outcome: Result<Posted, StoreFault>) -> Result<Reply, NoMemory>
     ensures { result ≡ reply_of_post outcome }
 {
     match outcome {

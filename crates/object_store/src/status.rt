@@ -17,7 +17,7 @@ fn is_recent(at: Wall, heartbeat: Option<Wall>) -> bool
     }
 }
 
-fn posted_as(status: ReadyStatus, at: Wall, transition: Option<Wall>) -> Ready
+fn ready_with(status: ReadyStatus, at: Wall, transition: Option<Wall>) -> Ready
     ensures { result ≡ answers.posted_as status at.0 transition }
 {
     let reason = match status {
@@ -43,19 +43,19 @@ pub(crate) fn as_node(object: &Object) -> Option<&Node>
 }
 
 /// What a status makes of Ready at a whole second. None where it changes nothing.
-pub(crate) fn posted_ready(status: ReadyStatus, at: Wall, ready: Option<Ready>) -> Option<Ready>
+pub(crate) fn ready_after(status: ReadyStatus, at: Wall, ready: Option<Ready>) -> Option<Ready>
     ensures { result ≡ answers.posted_ready status at.0 ready }
 {
     match ready {
-        None => Some(posted_as(status, at, Some(at))),
+        None => Some(ready_with(status, at, Some(at))),
         Some(ready) => {
             if ready.status != status {
-                return Some(posted_as(status, at, Some(at)));
+                return Some(ready_with(status, at, Some(at)));
             }
             if is_recent(at, ready.heartbeat) {
                 return None;
             }
-            Some(posted_as(status, at, ready.transition))
+            Some(ready_with(status, at, ready.transition))
         }
     }
 }

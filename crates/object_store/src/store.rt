@@ -20,7 +20,7 @@ ghost use Rattle.kube_objects.specs.declared.call.Request.TheVariants.{PostStatu
 ghost use Rattle.kube_objects.specs.Stored as stored_words;
 ghost use Rattle.kube_objects.specs.declared.key.Key.{Key};
 
-use crate::replies::{found, told, told_post};
+use crate::replies::{get_reply, post_reply, write_reply};
 use crate::{Posted, Since, StoreFault, stamp, status};
 use key_map::KeyMap;
 use kube_base::{NoMemory, Version, Wall, whole_second};
@@ -123,7 +123,7 @@ impl Store {
         let Some(stored) = self.node_at(&key) else {
             return Err(StoreFault::Absent);
         };
-        let Some(ready) = status::posted_ready(status, whole_second(at), stored.ready) else {
+        let Some(ready) = status::ready_after(status, whole_second(at), stored.ready) else {
             return Ok(Posted::Unchanged);
         };
         let Ok(written) = status::with_ready(stored, ready) else {
@@ -175,7 +175,7 @@ impl Store {
             → write_of e.fact ≡ Some (key, Some (stamped (whole_second now.0) object)) → OnOk result (StoreStands (e ∷ h) self.new) }
         ensures err { (h : List Entry) → StoreStands h self.old → OnErr result (StoreStands h self.new) }
     {
-        let stamped = stamp::stamped(object, whole_second(now))?;
+        let stamped = stamp::stamp_object(object, whole_second(now))?;
         self.write(key, stamped)
     }
 
@@ -202,12 +202,12 @@ impl Store {
         ensures err { (h : List Entry) → StoreStands h self.old → OnErr result (StoreStands h self.new) }
     {
         match request {
-            Request::Get(key) => Ok(found(self.get(&key))),
-            Request::Create(key, lease) => told(self.create(key, Object::Lease(lease))),
+            Request::Get(key) => Ok(get_reply(self.get(&key))),
+            Request::Create(key, lease) => write_reply(self.create(key, Object::Lease(lease))),
             Request::Update(key, version, lease) => {
-                told(self.update(key, version, Object::Lease(lease)))
+                write_reply(self.update(key, version, Object::Lease(lease)))
             }
-            Request::PostStatus(node, status, at) => told_post(self.post_status(node, status, at)),
+            Request::PostStatus(node, status, at) => post_reply(self.post_status(node, status, at)),
         }
     }
 
@@ -219,11 +219,11 @@ impl Store {
             → IfOk result (λ items. lookup (key_eq key) items ≡ object_of (stored key h)) }
     {
         let keys = self.keys_in_order()?;
-        self.stored_under(&keys)
+        self.copies_under(&keys)
     }
 
     /// Copies of what is stored under these keys, in their order.
-    fn stored_under(&self, keys: &BTreeSet<Key>) -> Result<Items, NoMemory>
+    fn copies_under(&self, keys: &BTreeSet<Key>) -> Result<Items, NoMemory>
         ensures ascend { IfOk result (λ items. IsStrictlySortedBy key_cmp (keys_of items)) }
         ensures stored { (key : Key) → IfOk result (λ items. lookup (key_eq key) items
             ≡ (if contains key_cmp keys.now key then object_in_pair (shown_in self.now key) else None)) }

@@ -19,7 +19,7 @@ ghost use Rattle.term_state.specs.Running.{IsMoved, IsTold, IsView, Running};
 
 use kube_base::{NoMemory, Steps, Version, Wall, whole_second};
 use kube_objects::{Act, Answer, Node};
-use node_taints::{Wants, new_taint, swapped, untainted, want_of};
+use node_taints::{Wants, new_taint, want_of, with_swap, without_condition};
 use object_store::Store;
 use term_state::{Cluster, Told, View, try_node};
 
@@ -55,9 +55,9 @@ fn cleaned(wants: Wants, node: &Node, now: Wall) -> Result<Node, NoMemory>
         → IfOk result (λ written. written ≡ cleaned_node doc k q node.now (wants_of wants)) }
 {
     match wants {
-        Wants::Wanted(key) => swapped(node, new_taint(key, whole_second(now))),
-        Wants::Nothing => untainted(node),
-        Wants::Whatever => untainted(node),
+        Wants::Wanted(key) => with_swap(node, new_taint(key, whole_second(now))),
+        Wants::Nothing => without_condition(node),
+        Wants::Whatever => without_condition(node),
     }
 }
 

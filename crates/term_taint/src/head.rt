@@ -24,7 +24,7 @@ ghost use Rattle.term_taint.specs.Attempts.{headed, lacking_of, requeued};
 
 use kube_base::{Beat, NoMemory, Steps, Version, Wall, whole_second};
 use kube_objects::{Act, Answer, Node};
-use node_taints::{lacks, new_taint, tainted};
+use node_taints::{lacks, new_taint, with_taint};
 use object_store::Store;
 use taint_zones::{Place, Queues, Zones};
 use term_state::{Cluster, Told, View, try_node};
@@ -89,7 +89,7 @@ fn lack_of(cluster: &Cluster, name: u32, now: Wall) -> Result<Option<Lacking>, N
     let Some(wanted) = lacks(cluster.mode(), node) else {
         return Ok(None);
     };
-    let written = tainted(node, new_taint(wanted, whole_second(now)))?;
+    let written = with_taint(node, new_taint(wanted, whole_second(now)))?;
     Ok(Some(Lacking {
         given,
         wanted,

@@ -6,6 +6,6 @@ use Rattle.object_store.proofs.store.Store.objects.Goals as goal
 
 pub returns-clause-stored : goal.returns-clause-stored
 returns-clause-stored c h key s =
-    subst (λ stored. IfOk c.stored_under.result (λ items. lookup (key_eq key) items ≡ stored))
+    subst (λ stored. IfOk c.copies_under.result (λ items. lookup (key_eq key) items ≡ stored))
     (items-stored h c.args.self.now c.in_ok-keys.keys key s (c.in_ok-keys.ensures key))
-    (c.stored_under.ensures.stored key)
+    (c.copies_under.ensures.stored key)

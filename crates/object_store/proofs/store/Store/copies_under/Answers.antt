@@ -4,7 +4,7 @@ use Rattle.std.specs.Map.{keys_of, lookup}
 use Rattle.kube_objects.specs.declared.object.Object.{Object}
 use Rattle.kube_objects.specs.Keys.{key_cmp, key_eq}
 use Rattle.object_store.proofs.Items.{items-ascend, items-whole, listed, listed_more, listed_past, lookup-listed}
-use Rattle.object_store.proofs.store.Store.stored_under.Goals as goal
+use Rattle.object_store.proofs.store.Store.copies_under.Goals as goal
 
 pub loop-key-init : goal.loop-key-init
 loop-key-init c =
