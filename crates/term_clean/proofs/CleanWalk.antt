@@ -1,5 +1,5 @@
 -- The walk over the nodes that are to be untainted or swapped.
-use Rattle.std.proofs.Common.{◌≡◌, ◌∙◌, ℕ, ◌+◌, ◌<◌, ◌≤◌, ◌==◌, not, Bool, true, false, List, Option, Some, None, refl, sym, ap, subst, arith, Less}
+use Rattle.std.proofs.Common.{◌≡◌, ◌∙◌, ℕ, ◌+◌, ◌<◌, ◌≤◌, ◌==◌, Bool, true, false, List, Option, Some, None, refl, sym, ap, subst, arith, Less}
 use Rattle.std.proofs.lemmas.Bool.Decides.{nat_tests}
 use Rattle.std.specs.Ordering.{nat_cmp}
 use Rattle.kube_objects.specs.declared.deed.Deed.{Deed}
@@ -10,29 +10,18 @@ use Rattle.kube_objects.specs.Tick.{clean, cleaned, for_each}
 use Rattle.object_store.specs.declared.store.Store.{Store}
 use Rattle.tick_laws.specs.Judged.{is_dirty}
 use Rattle.tick_laws.specs.Steps.{tick_cost}
-use Rattle.tick_laws.specs.Ticked.{IsTicked}
 use Rattle.tick_laws.specs.Walks.{Among, after, is_after}
 use Rattle.tick_laws.proofs.Cleaning.{clean_end, clean_next, clean_others, dirty_seen}
 use Rattle.tick_laws.proofs.Named.{node_is_named}
 use Rattle.tick_laws.proofs.Orders.{names_strict}
-use Rattle.tick_laws.proofs.Ticked.{clean_ticked, ticked_losses, ticked_watches}
+use Rattle.tick_laws.proofs.Ticked.{clean_ticked}
 use Rattle.tick_laws.proofs.Walks.{after_none}
 use Rattle.term_state.specs.declared.cluster.Cluster.{Cluster}
 use Rattle.term_state.specs.declared.told.Told.{Told}
 use Rattle.term_state.specs.declared.view.View.{View}
 use Rattle.term_state.specs.Queues.{ComesAfter, IsNextAfter}
 use Rattle.term_state.specs.Running.{IsView, Running}
-
--- own entries of the tick leave what it is handed
-pub view_ticked : (doc : Doc) (k : ℕ) (q : Identity) (h g : List Entry) (v : View) → IsTicked q k h g → IsView doc k q h v → IsView doc k q g v
-view_ticked doc k q h g v s view =
-    record {
-      watch = view.watch ∙ sym (ticked_watches q k h g s doc q.process);
-      passes = view.passes ∙ ap not (sym (ticked_losses q k h g s q.process));
-      beat = view.beat;
-      reading = view.reading;
-      time = view.time;
-    }
+use Rattle.term_state.proofs.Viewing.{view_ticked}
 
 after_is : (c : Option ℕ) (n : ℕ) → ComesAfter c n → is_after nat_cmp c n ≡ true
 after_is None n later = refl

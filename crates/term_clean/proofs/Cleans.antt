@@ -1,29 +1,22 @@
 -- Untainting or swapping one node.
-use Rattle.std.proofs.Common.{◌≡◌, ◌∙◌, ℕ, ◌+◌, ◌≤◌, List, Option, Some, None, Result, Ok, Err, true, false, refl, sym, ap, subst}
-use Rattle.std.specs.Result.{OnOk}
+use Rattle.std.proofs.Common.{◌≡◌, ◌∙◌, ℕ, Bool, true, List, Option, Some, None, refl, sym, ap, subst}
 use Rattle.kube_base.specs.declared.numbers.Version.{Version}
 use Rattle.kube_objects.specs.declared.call.Answer.{Answer}
 use Rattle.kube_objects.specs.declared.node.Node.{Node}
 use Rattle.kube_objects.specs.Document.{Doc}
-use Rattle.kube_objects.specs.Entry.{Entry, Identity}
-use Rattle.kube_objects.specs.Seen.{is_synced, seen_node}
-use Rattle.kube_objects.specs.Stored.{next_version, node_key, node_write, tick_write, try_write}
-use Rattle.kube_objects.specs.Tainting.{Wants, Nothing, Wanted, Whatever}
-use Rattle.kube_objects.specs.Tick.{add}
+use Rattle.kube_objects.specs.Entry.{Entry, Identity, Tick}
+use Rattle.kube_objects.specs.Modes.{mode}
+use Rattle.kube_objects.specs.Seen.{seen_node}
+use Rattle.kube_objects.specs.Tainting.{Wants, Nothing, Wanted, Whatever, wants}
+use Rattle.kube_objects.specs.Tick.{add, clean}
 use Rattle.kube_objects.specs.Tries.{try_node}
 use Rattle.history_laws.proofs.Plainly.{none_is}
-use Rattle.tick_laws.specs.Changes.{IsChange, IsCleaningOn, IsGiven, cleaned_node, cleaning, noted_by, refused_by}
+use Rattle.tick_laws.specs.Changes.{IsCleaningOn, cleaned_node, cleaning}
 use Rattle.tick_laws.specs.Judged.{is_dirty}
-use Rattle.tick_laws.specs.Steps.{own_cost, tick_cost}
-use Rattle.tick_laws.proofs.Cleaning.{cleaning_is, dirty_seen}
-use Rattle.tick_laws.proofs.Frames.{cleaning_change, given_node}
-use Rattle.tick_laws.proofs.Steps.{cost_own}
-use Rattle.tick_laws.proofs.Ticked.{ticked_more, ticked_same, ticked_synced}
-use Rattle.watch_cache.proofs.Ticks.{is_sync}
-
-pub both_ok : {A B : Type 0} (r : Result A B) (P Q : Type 0) → OnOk r P → OnOk r Q → OnOk r (P × Q)
-both_ok (Ok x) P Q p q = (p, q)
-both_ok (Err e) P Q p q = tt
+use Rattle.tick_laws.proofs.Cleaning.{clean_adds, cleaning_is, dirty_seen}
+use Rattle.term_state.specs.declared.writes.NodeWrite.{NodeWrite}
+use Rattle.term_state.specs.Writes.{IsWrite}
+use Rattle.term_clean.specs.Cleaning.{write_for}
 
 -- a node that is to be cleaned is seen
 pub unseen : (q : Identity) (name : ℕ) (h : List Entry) → is_dirty q name h ≡ true → None ≡ seen_node q name h → ⊥
@@ -31,33 +24,29 @@ unseen q name h dirty none =
     let seen = dirty_seen q name h dirty in
     none_is seen.0 (none ∙ seen.1)
 
--- ---- one try, which was answered so
+-- the entry of a clean is such a write
+cleaning_write : (doc : Doc) (k : ℕ) (q : Identity) (name : ℕ) (given : Version) (node : Node) (w : Wants) (written : Node) (a : Option Answer) → written ≡ cleaned_node doc k q node w
+    → IsWrite (write_for w) name written a (cleaning doc k q name given node w a)
+cleaning_write doc k q name given node w written a is =
+    by_wants w (subst (λ n. IsCleaningOn name n a (cleaning doc k q name given node w a)) (sym is) (cleaning_is doc k q name given node w a))
+  where
+    by_wants : (w : Wants) → IsCleaningOn name written a (cleaning doc k q name given node w a) → IsWrite (write_for w) name written a (cleaning doc k q name given node w a)
+    by_wants Nothing s = record { try = s.try; stale = s.stale; act = refl }
+    by_wants (Wanted wanted) s = record { try = s.try; stale = s.stale; act = refl }
+    by_wants Whatever s = record { try = s.try; stale = s.stale; act = refl }
 
-module _ (doc : Doc) (k : ℕ) (q : Identity) (h : List Entry) (name : ℕ) (given : Version) (node : Node) (wants : Wants) (written : Node) (a : Option Answer)
-    (is : written ≡ cleaned_node doc k q node wants) (answered : a ≡ try_node q name given h) where
-  attempt_is : IsCleaningOn name written a (cleaning doc k q name given node wants a)
-  attempt_is = subst (λ n. IsCleaningOn name n a (cleaning doc k q name given node wants a)) (sym is) (cleaning_is doc k q name given node wants a)
+-- the entry that a clean adds, and the write that it is
+pub record CleansBy (doc : Doc) (k : ℕ) (q : Identity) (name : ℕ) (h : List Entry) (given : Version) (written : Node) (kind : NodeWrite) : Type 0 where
+  pub tick : Tick
+  pub adds : add k q tick h ≡ clean doc k q name h
+  pub write : IsWrite kind name written (try_node q name given h) tick
 
-  pub attempt_write : tick_write (cleaning doc k q name given node wants a) ≡ try_write (node_write name written) (try_node q name given h)
-  attempt_write = attempt_is.try.write ∙ ap (try_write (node_write name written)) answered
-
-  pub attempt_change : IsChange q h (add k q (cleaning doc k q name given node wants a) h) (noted_by name written a) (refused_by (node_key name) a)
-  attempt_change =
-      cleaning_change q k h name written a (cleaning doc k q name given node wants a) attempt_is
-      (subst (IsGiven (next_version h)) (sym answered) (given_node q name given h))
-
-  pub attempt_synced : is_synced q h ≡ true → is_synced q (add k q (cleaning doc k q name given node wants a) h) ≡ true
-  attempt_synced =
-      let tick = cleaning doc k q name given node wants a in
-      ticked_synced q k h (add k q tick h) (ticked_more q k h h tick (ticked_same q k h))
-
-  pub attempt_cost : own_cost q (add k q (cleaning doc k q name given node wants a) h) (try_write (node_write name written) a) + tick_cost q k h
-      ≤ tick_cost q k (add k q (cleaning doc k q name given node wants a) h)
-  attempt_cost =
-      let tick = cleaning doc k q name given node wants a in
-      subst (λ o. own_cost q (add k q tick h) o + tick_cost q k h ≤ tick_cost q k (add k q tick h)) attempt_is.try.write (cost_own q k h tick (by_wants wants))
-    where
-      by_wants : (wants : Wants) → is_sync (cleaning doc k q name given node wants a) ≡ false
-      by_wants Nothing = refl
-      by_wants (Wanted wanted) = refl
-      by_wants Whatever = refl
+pub cleans_by : (doc : Doc) (k : ℕ) (q : Identity) (name : ℕ) (h : List Entry) (given : Version) (node written : Node) (on : Bool) (w : Wants) (kind : NodeWrite) → is_dirty q name h ≡ true
+    → Some (given, node) ≡ seen_node q name h → on ≡ mode q h → w ≡ wants on node → written ≡ cleaned_node doc k q node w → kind ≡ write_for w → CleansBy doc k q name h given written kind
+cleans_by doc k q name h given node written on w kind dirty sees on_is wants_is written_is kind_is =
+    let a = try_node q name given h in
+    record {
+      tick = cleaning doc k q name given node w a;
+      adds = ap (λ w. add k q (cleaning doc k q name given node w a) h) (wants_is ∙ ap (λ b. wants b node) on_is) ∙ sym (clean_adds doc k q name h (given, node) dirty (sym sees));
+      write = subst (λ x. IsWrite x name written a (cleaning doc k q name given node w a)) (sym kind_is) (cleaning_write doc k q name given node w written a written_is);
+    }

@@ -7,4 +7,6 @@ pub mod Retainted
 pub mod Takes
 pub mod TakingDue
 pub mod Telling
+pub mod Viewing
 pub mod Widen
+pub mod Writing

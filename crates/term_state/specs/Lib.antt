@@ -4,3 +4,4 @@ pub mod Queues
 pub mod Running
 pub mod Taking
 pub mod Tried
+pub mod Writes

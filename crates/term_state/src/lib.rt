@@ -11,9 +11,11 @@ mod take;
 mod told;
 mod tries;
 mod view;
+mod writes;
 
 pub use cluster::Cluster;
 pub use eviction::Eviction;
 pub use told::Told;
 pub use tries::{try_delete, try_node};
 pub use view::View;
+pub use writes::{NodeWrite, try_write};

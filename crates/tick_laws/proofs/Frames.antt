@@ -119,7 +119,7 @@ mode_change q k h on =
 -- ---- tries, by their answers
 
 -- what says nothing of whether there was a sync is none
-unsynced : (q : Identity) (t : Tick) → synced_says q (actor_of q) (Ticks t) ≡ None → is_sync t ≡ false
+pub unsynced : (q : Identity) (t : Tick) → synced_says q (actor_of q) (Ticks t) ≡ None → is_sync t ≡ false
 unsynced q Sync is = absurd (none_is true (sym is ∙ ap (λ b. when b true) (same_self q)))
 unsynced q t is = refl
 
@@ -131,7 +131,7 @@ noted_is h name written o (Some answer.Exists) given is = ap (wrote_as h) is
 noted_is h name written o (Some (answer.Conflict v)) given is = ap (wrote_as h) is
 
 module _ (q : Identity) (k : ℕ) (h : List Entry) (name : ℕ) (written : Node) (a : Option Answer) (t : Tick) where
-  try_change : IsTryOn name written a t → IsGiven (next_version h) a → (refused : Option Key) → refused_key t ≡ refused → IsChange q h (add k q t h) (noted_by name written a) refused
+  pub try_change : IsTryOn name written a t → IsGiven (next_version h) a → (refused : Option Key) → refused_key t ≡ refused → IsChange q h (add k q t h) (noted_by name written a) refused
   try_change is given refused stale =
       subst (λ o. IsChange q h (add k q t h) (noted_by name written a) o) stale
       (subst (λ o. IsChange q h (add k q t h) o (refused_key t)) (noted_is h name written (tick_write t) a given is.write)

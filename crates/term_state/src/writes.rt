@@ -1,0 +1,149 @@
+// A write of a node that a tick tries, and what its answer leaves.
+ghost use Rattle.std.specs.Prelude.{◌≡◌, ◌≤◌, ◌+◌, not, ℕ, true, List, Some, None, OnOk, IfOk};
+ghost use Rattle.history.specs.Printed.{map_answer, tick_act};
+ghost use Rattle.kube_objects.specs.Document.{Doc};
+ghost use Rattle.kube_objects.specs.Entry.{Entry, Identity, Tick};
+ghost use Rattle.kube_objects.specs.Newest.{only_if};
+ghost use Rattle.kube_objects.specs.Seen.{is_synced};
+ghost use Rattle.kube_objects.specs.Stored as stored_words;
+ghost use Rattle.kube_objects.specs.Stored.{node_write};
+ghost use Rattle.kube_objects.specs.Tainting.{before_tick};
+ghost use Rattle.kube_objects.specs.Tick.{add};
+ghost use Rattle.kube_objects.specs.Tries as tries;
+ghost use Rattle.kube_objects.specs.Wire.{loses_requests};
+ghost use Rattle.kube_objects.specs.declared.deed.Deed.{Deed};
+ghost use Rattle.object_store.specs.Stands.{StoreStands};
+ghost use Rattle.tick_laws.specs.Changes.{IsChange, noted_by};
+ghost use Rattle.tick_laws.specs.Steps.{own_cost, tick_cost};
+ghost use Rattle.term_state.specs.Running.{IsTold, IsView, Running};
+ghost use Rattle.term_state.specs.Writes.{IsWrite, act_for, makes_stale, stale_by};
+
+use crate::tries::try_node;
+use crate::{Cluster, Told, View};
+use kube_base::{NoMemory, Steps, Version};
+use kube_objects::{Act, Answer, Node};
+use object_store::Store;
+
+/// A write of a node: a mark, with its reason; an untaint; a swap to the taint with this key; or a taint with this key.
+#[derive(Clone, Copy, Debug, PartialEq, Eq)]
+pub enum NodeWrite {
+    Mark(u32),
+    Untaint,
+    Swap(u32),
+    Taint(u32),
+}
+
+fn act_for(write: NodeWrite, name: u32, answer: Answer) -> Act
+    ensures { result ≡ act_for write name answer }
+{
+    match write {
+        NodeWrite::Mark(reason) => Act::Marked(name, reason, answer),
+        NodeWrite::Untaint => Act::Untainted(name, answer),
+        NodeWrite::Swap(wanted) => Act::Swapped(name, wanted, answer),
+        NodeWrite::Taint(wanted) => Act::Tainted(name, wanted, answer),
+    }
+}
+
+// Whether the node is stale where the write is refused.
+fn makes_stale(write: NodeWrite) -> bool
+    ensures { result ≡ makes_stale write }
+{
+    match write {
+        NodeWrite::Mark(_) => false,
+        NodeWrite::Untaint => true,
+        NodeWrite::Swap(_) => true,
+        NodeWrite::Taint(_) => false,
+    }
+}
+
+// Tells of a write that was answered.
+fn tell(
+    told: &mut Told,
+    name: u32,
+    write: NodeWrite,
+    answer: Option<Answer>,
+) -> Result<(), NoMemory>
+    ensures { (q : Identity) (k : ℕ) (before : List Deed) (h : List Entry) (tick : Tick) → IsTold q k before h told.old
+        → tick_act tick ≡ map_answer (λ a. act_for write name a) answer → OnOk result (IsTold q k before (add k q tick h) told.new) }
+{
+    match answer {
+        None => Ok(()),
+        Some(answer) => told.add(act_for(write, name, answer)),
+    }
+}
+
+impl Cluster {
+    ghost use Rattle.term_state.specs.ClusterStands.{ClusterStands};
+    ghost use Rattle.term_state.specs.Running.{IsMoved};
+
+    // What an answer leaves: an accepted write is seen, and a lost one changes nothing.
+    fn note_answer<L>(
+        &mut self,
+        name: u32,
+        written: Node,
+        write: NodeWrite,
+        answer: Option<Answer>,
+        steps: &mut Steps<L>,
+    ) -> Result<(), NoMemory>
+        ensures stands { (q : Identity) (k : ℕ) (h g : List Entry) → ClusterStands q h self.old → IsMoved q k h self.old
+            → is_synced q h ≡ true → before_tick q k g ≡ before_tick q k h
+            → IsChange q h g (noted_by name written answer) (stale_by write name answer)
+            → OnOk result (ClusterStands q g self.new × IsMoved q k g self.new) }
+        ensures counted { (q : Identity) (h g : List Entry) → ClusterStands q h self.old → is_synced q h ≡ true
+            → IsChange q h g (noted_by name written answer) (stale_by write name answer)
+            → OnOk result (steps.new ≤ steps.old + own_cost q g (stored_words.try_write (node_write name written) answer)) }
+    {
+        let Some(answer) = answer else {
+            return Ok(());
+        };
+        match answer {
+            Answer::Done(version) => self.note_node(name, version, written, steps),
+            _ => self.note_refusal(name, makes_stale(write)),
+        }
+    }
+
+    // What a refusal leaves.
+    fn note_refusal(&mut self, name: u32, stale: bool) -> Result<(), NoMemory>
+        ensures { (q : Identity) (k : ℕ) (h g : List Entry) → ClusterStands q h self.old → IsMoved q k h self.old
+            → before_tick q k g ≡ before_tick q k h → IsChange q h g None (only_if stale (Some (stored_words.node_key name)))
+            → OnOk result (ClusterStands q g self.new × IsMoved q k g self.new) }
+    {
+        if stale {
+            return self.refuse_node(name);
+        }
+        Ok(())
+    }
+}
+
+/// Tries to write a node in the place of the one with that version, and answers how it went. None where the try is lost,
+/// which is where requests don't pass.
+///
+/// What is answered is told, and an accepted write is seen. A refused untaint or swap makes the node stale until the next
+/// sync. It counts two steps for each pod on a node whose taints changed.
+pub fn try_write<L>(
+    cluster: &mut Cluster,
+    store: &mut Store,
+    view: &View,
+    told: &mut Told,
+    steps: &mut Steps<L>,
+    name: u32,
+    given: Version,
+    written: Node,
+    write: NodeWrite,
+) -> Result<Option<Answer>, NoMemory>
+    ensures answer { (q : Identity) (h : List Entry) → StoreStands h store.old → view.entry.now.passes ≡ not (loses_requests q.process h)
+        → IfOk result (λ answer. answer ≡ tries.try_node q name given h) }
+    ensures stands { (doc : Doc) (k : ℕ) (q : Identity) (before : List Deed) (h : List Entry) (tick : Tick)
+        → Running q k before h cluster.old store.old told.old → IsView doc k q h view.entry.now
+        → IsWrite write name written (tries.try_node q name given h) tick
+        → OnOk result (Running q k before (add k q tick h) cluster.new store.new told.new) }
+    ensures counted { (doc : Doc) (k : ℕ) (q : Identity) (before : List Deed) (h : List Entry) (tick : Tick)
+        → Running q k before h cluster.old store.old told.old → IsView doc k q h view.entry.now
+        → IsWrite write name written (tries.try_node q name given h) tick
+        → OnOk result (steps.new + tick_cost q k h ≤ steps.old + tick_cost q k (add k q tick h)) }
+{
+    let answer = try_node(store, view.passes, name, given, &written)?;
+    tell(told, name, write, answer)?;
+    cluster.note_answer(name, written, write, answer, steps)?;
+    Ok(answer)
+}
