@@ -19,12 +19,12 @@ use Rattle.tick_laws.proofs.Frames.{noted_pod, pod_shown, same_node, same_pod}
 use Rattle.tick_laws.proofs.Tried.{gone_dirty, gone_due, mode_dues, mode_unseen, no_pod_never, noted_dirty, noted_due, noted_waits, pod_refused_dirty, pod_refused_others, refused_dues, refused_others, refused_waits, same_dirties, same_dues}
 use Rattle.watch_cache.specs.declared.cache.Cache.{Cache}
 use Rattle.watch_cache.specs.Kept.{is_on, of_kind}
-use Rattle.watch_cache.specs.Retainted.{taints_in}
+use Rattle.watch_cache.specs.TaintChanges.{taints_in}
 use Rattle.watch_cache.specs.Stands.{CacheStands, kept_in, position_in, stale_in, synced_in}
 use Rattle.term_state.specs.declared.cluster.Cluster.{Cluster}
 use Rattle.term_state.specs.ClusterStands.{ClusterBut, ClusterStands, has_moved, no_node, no_pod}
 use Rattle.term_state.specs.Running.{IsMoved}
-use Rattle.term_state.proofs.Retainted.{due_retained}
+use Rattle.term_state.proofs.SameTaints.{due_retained}
 use Rattle.term_state.proofs.Widen.{first_none, second_none}
 
 abbrev pub with_cache : Cluster → Cache → Cluster

@@ -3,7 +3,7 @@ pub mod Aside
 pub mod Closing
 pub mod Counted
 pub mod Judging
-pub mod Retainted
+pub mod SameTaints
 pub mod Takes
 pub mod TakingDue
 pub mod Telling

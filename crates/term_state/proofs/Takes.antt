@@ -25,13 +25,13 @@ use Rattle.tick_laws.proofs.Syncing.{keys_since_is, sync_dirty, sync_due, sync_k
 use Rattle.tick_laws.proofs.Tried.{no_pod_never}
 use Rattle.watch_cache.specs.declared.cache.Cache.{Cache}
 use Rattle.watch_cache.specs.Kept.{is_on, kept, of_kind}
-use Rattle.watch_cache.specs.Retainted.{IsSettled, taints_in}
+use Rattle.watch_cache.specs.TaintChanges.{IsSettled, taints_in}
 use Rattle.watch_cache.specs.Stands.{and_key, kept_in, position_in, stale_in, synced_in, synced_writes, written_keys}
 use Rattle.term_state.specs.declared.cluster.Cluster.{Cluster}
 use Rattle.term_state.specs.ClusterStands.{ClusterBut, ClusterStands}
 use Rattle.term_state.specs.Taking.{is_on_open, is_open}
 use Rattle.term_state.proofs.Aside.{with_cache}
-use Rattle.term_state.proofs.Retainted.{due_retained}
+use Rattle.term_state.proofs.SameTaints.{due_retained}
 use Rattle.term_state.proofs.Widen.{first_none, second_none}
 
 -- the store's words and the cache's say the same

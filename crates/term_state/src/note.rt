@@ -7,8 +7,9 @@ ghost use Rattle.kube_objects.specs.Stored as stored_words;
 ghost use Rattle.kube_objects.specs.Tainting.{before_tick};
 ghost use Rattle.tick_laws.specs.Changes.{IsChange, IsModeChange, gone, noted};
 ghost use Rattle.tick_laws.specs.Steps.{pods_on};
+ghost use Rattle.tick_laws.specs.ToJudge.{seen_taints};
 ghost use Rattle.watch_cache.specs.Kept.{is_on};
-ghost use Rattle.watch_cache.specs.Retainted.{taints_in};
+ghost use Rattle.watch_cache.specs.TaintChanges.{taints_in};
 ghost use Rattle.watch_cache.specs.Stands.{kept_in};
 
 use crate::Cluster;
@@ -21,8 +22,8 @@ impl Cluster {
     ghost use Rattle.term_state.specs.ClusterStands.{ClusterBut, ClusterStands, but_pod, has_moved, no_node, no_pod};
     ghost use Rattle.term_state.specs.Running.{IsMoved};
 
-    /// The node is seen as it was written. It counts two steps for each pod on the node, where its taints changed, and else
-    /// none.
+    /// The node is seen as it was written. It counts at most two steps for each pod on the node, and none where its taints are
+    /// as they were.
     pub fn note_node<L>(
         &mut self,
         name: u32,
@@ -36,11 +37,13 @@ impl Cluster {
             → IsChange q h g (noted name version written) None → OnOk result (IsMoved q k g self.new) }
         ensures counted { (q : Identity) (h g : List Entry) → ClusterStands q h self.old → is_synced q h ≡ true
             → IsChange q h g (noted name version written) None → OnOk result (steps.new ≤ steps.old + 2 * pods_on q name g) }
+        ensures uncounted { (q : Identity) (h : List Entry) → ClusterStands q h self.old → seen_taints q name h ≡ written.taints
+            → OnOk result (steps.new ≡ steps.old) }
     {
         let taints = written.taints.as_slice();
-        let retainted = self.cache.has_other_taints(&node_key(name), taints);
+        let has_new_taints = self.cache.has_other_taints(&node_key(name), taints);
         self.write_node(name, version, written)?;
-        if retainted {
+        if has_new_taints {
             return self.judge_node(name, steps);
         }
         self.judge_node_alone(name)

@@ -9,6 +9,7 @@ ghost use Rattle.kube_objects.specs.Stored.{node_key};
 ghost use Rattle.kube_objects.specs.Tick.{add};
 ghost use Rattle.object_store.specs.Stands.{StoreStands};
 ghost use Rattle.tick_laws.specs.Since.{AreReached, keys_since};
+ghost use Rattle.tick_laws.specs.ToJudge.{is_to_judge};
 
 use crate::Cluster;
 use kube_base::{NoMemory, Steps};
@@ -36,7 +37,8 @@ impl Cluster {
     }
 
     /// Takes over what was written since the last sync, and judges nothing. Each write counts a step. It answers the nodes
-    /// whose pods are to be judged: the taints of each other node that was written are as they were.
+    /// whose pods are to be judged: those that were written and whose taints changed, or all that were written where a key
+    /// was stale.
     pub fn take_over<L>(
         &mut self,
         store: &Store,
@@ -45,6 +47,9 @@ impl Cluster {
         ensures stands { (q : Identity) (k : ℕ) (h : List Entry) → ClusterStands q h self.old → StoreStands h store.now → AreReached q h
             → IfOk result (λ names. ClusterBut q (add k q Sync h) (λ n. is_among (keys_since q h) (node_key n))
             (is_open q (add k q Sync h) (keys_since q h) (contains nat_cmp names)) self.new) }
+        ensures judged { (q : Identity) (k : ℕ) (h : List Entry) → ClusterStands q h self.old → StoreStands h store.now
+            → IfOk result (λ names. (n : ℕ) → contains nat_cmp names n ≡ true
+            → (is_among (keys_since q h) (node_key n) ≡ true) × (is_to_judge q h (add k q Sync h) n ≡ true)) }
         ensures moved { (n : ℕ) → has_moved self.new n ≡ has_moved self.old n }
         ensures counted { (q : Identity) (h : List Entry) → ClusterStands q h self.old → StoreStands h store.now
             → OnOk result (steps.new ≤ steps.old + length (keys_since q h)) }
@@ -54,7 +59,7 @@ impl Cluster {
             return Ok(BTreeSet::new(self.alloc));
         }
         let since = store.since(position);
-        let names = self.cache.retainted(self.alloc, &since)?;
+        let names = self.cache.nodes_to_judge(self.alloc, &since)?;
         self.cache.sync_since(&since, steps)?;
         Ok(names)
     }

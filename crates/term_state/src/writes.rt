@@ -119,7 +119,7 @@ impl Cluster {
 /// which is where requests don't pass.
 ///
 /// What is answered is told, and an accepted write is seen. A refused untaint or swap makes the node stale until the next
-/// sync. It counts two steps for each pod on a node whose taints changed.
+/// sync. It counts at most two steps for each pod on the node.
 pub fn try_write<L>(
     cluster: &mut Cluster,
     store: &mut Store,

@@ -10,6 +10,6 @@ use Rattle.term_state.specs.declared.cluster.Cluster.{Cluster}
 use Rattle.term_state.specs.ClusterStands.{ClusterBut}
 use Rattle.term_state.specs.Taking.{is_open}
 
--- the nodes and pods of these keys, and the pods on those of these nodes that are retainted
+-- the nodes and pods of these keys, and the pods on those of these nodes that are among those to judge
 abbrev pub LeftBut : Identity → List Entry → List Key → BTreeSet ℕ → Cluster → Type 0
-LeftBut q g keys retainted c = ClusterBut q g (λ n. is_among keys (node_key n)) (is_open q g keys (contains nat_cmp retainted)) c
+LeftBut q g keys to_judge c = ClusterBut q g (λ n. is_among keys (node_key n)) (is_open q g keys (contains nat_cmp to_judge)) c

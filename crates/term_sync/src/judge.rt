@@ -17,17 +17,17 @@ use object_store::Store;
 use std::collections::BTreeSet;
 use term_state::Cluster;
 
-// What follows from a node is exact again, with the pods on it where it is among the retainted. A key with a namespace is
+// What follows from a node is exact again, with the pods on it where it is among those to judge. A key with a namespace is
 // no node's.
 fn judge_node<L>(
     cluster: &mut Cluster,
     key: Key,
-    retainted: &BTreeSet<u32>,
+    to_judge: &BTreeSet<u32>,
     steps: &mut Steps<L>,
 ) -> Result<(), NoMemory>
     requires kind { key.kind ≡ Kind.Node }
-    ensures stands { (q : Identity) (g : List Entry) (rest : List Key) → LeftBut q g (key ∷ rest) retainted.now cluster.old
-        → is_synced q g ≡ true → OnOk result (LeftBut q g rest retainted.now cluster.new) }
+    ensures stands { (q : Identity) (g : List Entry) (rest : List Key) → LeftBut q g (key ∷ rest) to_judge.now cluster.old
+        → is_synced q g ≡ true → OnOk result (LeftBut q g rest to_judge.now cluster.new) }
     ensures moved { OnOk result ((n : ℕ) → has_moved cluster.new n ≡ (key_eq key (node_key n) || has_moved cluster.old n)) }
     ensures counted { (q : Identity) (g : List Entry) (nodes : ℕ → Bool) (pods : Key → Bool) → ClusterBut q g nodes pods cluster.old
         → is_synced q g ≡ true → OnOk result (steps.new ≤ steps.old + 2 * pods_on q key.name g) }
@@ -35,7 +35,7 @@ fn judge_node<L>(
     if key.space != 0 {
         return Ok(());
     }
-    if retainted.contains(&key.name) {
+    if to_judge.contains(&key.name) {
         return cluster.judge_node(key.name, steps);
     }
     cluster.judge_node_alone(key.name)
@@ -45,37 +45,37 @@ fn judge_node<L>(
 fn judge<L>(
     cluster: &mut Cluster,
     key: Key,
-    retainted: &BTreeSet<u32>,
+    to_judge: &BTreeSet<u32>,
     steps: &mut Steps<L>,
 ) -> Result<(), NoMemory>
-    ensures stands { (q : Identity) (g : List Entry) (rest : List Key) → LeftBut q g (key ∷ rest) retainted.now cluster.old
-        → is_synced q g ≡ true → OnOk result (LeftBut q g rest retainted.now cluster.new) }
+    ensures stands { (q : Identity) (g : List Entry) (rest : List Key) → LeftBut q g (key ∷ rest) to_judge.now cluster.old
+        → is_synced q g ≡ true → OnOk result (LeftBut q g rest to_judge.now cluster.new) }
     ensures moved { OnOk result ((n : ℕ) → has_moved cluster.new n ≡ (key_eq key (node_key n) || has_moved cluster.old n)) }
     ensures counted { (q : Identity) (g : List Entry) (nodes : ℕ → Bool) (pods : Key → Bool) → ClusterBut q g nodes pods cluster.old
         → is_synced q g ≡ true → OnOk result (steps.new ≤ steps.old + 2 * write_cost q g key) }
 {
     match key.kind {
-        Kind::Node => judge_node(cluster, key, retainted, steps),
+        Kind::Node => judge_node(cluster, key, to_judge, steps),
         Kind::Lease => Ok(()),
         Kind::Pod => cluster.judge_pod(key, steps),
     }
 }
 
 /// What follows from the changes from a position on is exact again. The pods on a node are judged with it where it is among
-/// the retainted.
+/// those to judge.
 pub(crate) fn judge_changes<L>(
     cluster: &mut Cluster,
     store: &Store,
     position: u64,
-    retainted: &BTreeSet<u32>,
+    to_judge: &BTreeSet<u32>,
     steps: &mut Steps<L>,
 ) -> Result<(), NoMemory>
     ensures stands { (q : Identity) (g : List Entry) → let keys = drop position (changed_in store.now) in
-        LeftBut q g keys retainted.now cluster.old → is_synced q g ≡ true → OnOk result (ClusterStands q g cluster.new) }
+        LeftBut q g keys to_judge.now cluster.old → is_synced q g ≡ true → OnOk result (ClusterStands q g cluster.new) }
     ensures moved { OnOk result ((n : ℕ)
         → has_moved cluster.new n ≡ (is_among (drop position (changed_in store.now)) (node_key n) || has_moved cluster.old n)) }
     ensures counted { (q : Identity) (g : List Entry) → let keys = drop position (changed_in store.now) in
-        LeftBut q g keys retainted.now cluster.old → is_synced q g ≡ true
+        LeftBut q g keys to_judge.now cluster.old → is_synced q g ≡ true
         → OnOk result (steps.new ≤ steps.old + 2 * write_costs q g keys) }
 {
     let count = store.changes();
@@ -84,7 +84,7 @@ pub(crate) fn judge_changes<L>(
         let Some(key) = store.change(place) else {
             unreachable!()
         };
-        judge(cluster, key, retainted, steps)?;
+        judge(cluster, key, to_judge, steps)?;
         place += 1;
     }
     Ok(())

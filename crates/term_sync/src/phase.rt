@@ -58,6 +58,6 @@ pub fn sync<L>(
         return Ok(());
     }
     let position = cluster.position();
-    let retainted = cluster.take_over(store, steps)?;
-    judge_changes(cluster, store, position, &retainted, steps)
+    let to_judge = cluster.take_over(store, steps)?;
+    judge_changes(cluster, store, position, &to_judge, steps)
 }

@@ -13,6 +13,7 @@ pub mod Steps
 pub mod Syncing
 pub mod Tainting
 pub mod Ticked
+pub mod ToJudge
 pub mod Tried
 pub mod Waiting
 pub mod Walks

@@ -1,28 +1,24 @@
 -- What marks keep, and that only nodes that are seen are marked.
-use Rattle.std.proofs.Common.{◌≡◌, ◌∙◌, ◌⊎◌, inl, inr, ℕ, ◌==◌, ◌||◌, Bool, true, false, cond, List, [], ◌∷◌, Option, Some, None, refl, sym, ap, subst, Less, Equal, Greater, arith}
+use Rattle.std.proofs.Common.{◌≡◌, ◌∙◌, inl, inr, ℕ, ◌==◌, ◌||◌, Bool, true, false, cond, List, [], ◌∷◌, Option, Some, None, refl, sym, ap, Less, Equal, Greater, arith}
 use Rattle.std.proofs.lemmas.Bool.Decides.{nat_tests}
 use Rattle.std.proofs.lemmas.Cmp.{tied_itself}
 use Rattle.std.specs.List.{AllByRecursion}
 use Rattle.std.specs.List.Sorted.{IsStrictlySortedBy}
 use Rattle.std.specs.Ordering.{nat_cmp, ordering_reverse}
-use Rattle.std.specs.declared.cmp.Ordering.{Ordering}
 use Rattle.kube_base.specs.declared.numbers.Version.{Version}
 use Rattle.kube_objects.specs.declared.call.Answer.{Answer}
 use Rattle.kube_objects.specs.declared.call.Answer.TheVariants as answer
-use Rattle.kube_objects.specs.declared.lease.Lease.{Lease}
 use Rattle.kube_objects.specs.declared.node.Node.{Node}
-use Rattle.kube_objects.specs.declared.object.Object.{Object}
 use Rattle.kube_objects.specs.declared.object.Object.TheVariants as object
 use Rattle.kube_objects.specs.Answers.{as_kind, lease_in}
 use Rattle.kube_objects.specs.Clocks.{wall, whole_second}
 use Rattle.kube_objects.specs.Document.{Doc}
 use Rattle.kube_objects.specs.Entry.{Entry, Identity, Place, Mark}
-use Rattle.kube_objects.specs.Health.{last_pass, mark_of, with_mark, is_unknown, is_silent}
-use Rattle.kube_objects.specs.Keys.{key_eq}
+use Rattle.kube_objects.specs.Health.{last_pass, mark_of, with_mark}
 use Rattle.kube_objects.specs.Modes.{mode, place_of}
 use Rattle.kube_objects.specs.Newest.{has, when}
-use Rattle.kube_objects.specs.Seen.{seen, seen_node, seen_lease, is_synced, node_names, insert_once, insert_named, named, node_name}
-use Rattle.kube_objects.specs.Stored.{Held, node_key, node_lease, try_write, node_write}
+use Rattle.kube_objects.specs.Seen.{seen, seen_node, seen_lease, is_synced, node_names, insert_once, insert_named}
+use Rattle.kube_objects.specs.Stored.{Held, node_key, node_lease}
 use Rattle.kube_objects.specs.Tick.{add, for_each, mark, mark_seen, mark_as, marks}
 use Rattle.kube_objects.specs.Tokens.{rated, base}
 use Rattle.kube_objects.specs.Tries.{try_node}
@@ -32,7 +28,7 @@ use Rattle.watch_cache.specs.Listed.{is_named}
 use Rattle.watch_cache.specs.Told.{AreNamed}
 use Rattle.tick_laws.specs.Changes.{IsChange, noted_by}
 use Rattle.tick_laws.specs.Judged.{shown}
-use Rattle.tick_laws.specs.Walks.{IsStrict, Among, Above, Ascends, is_after, after}
+use Rattle.tick_laws.specs.Walks.{Among, Above, Ascends, is_after, after}
 use Rattle.tick_laws.proofs.Frames.{mild_change, mark_is, given_node, noted_node, kept_node, unwritten}
 use Rattle.tick_laws.proofs.Named.{node_names_ascend, node_is_named}
 use Rattle.tick_laws.proofs.Orders.{names_strict}

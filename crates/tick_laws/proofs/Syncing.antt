@@ -24,7 +24,7 @@ use Rattle.tick_laws.proofs.Tried.{dirty_kept, waits_kept, due_kept}
 use Rattle.watch_cache.specs.Kept.{kept, is_on}
 use Rattle.watch_cache.specs.Stands.{sync_says, synced_writes, and_key, written_keys}
 use Rattle.watch_cache.proofs.Frames.{upper, last_synced, last_sync}
-use Rattle.watch_cache.proofs.Syncs.{written-count, unlisted}
+use Rattle.watch_cache.proofs.Syncs.{synced_few, unlisted, written-count}
 use Rattle.watch_cache.proofs.Ticks.{same_self}
 
 -- ---- the changes from the position of the last sync on are those written since
@@ -35,27 +35,6 @@ drop_whole xs n is = drop_all n xs (omega (arith, is))
 drop_key : (o : Option Write) (n : ℕ) (keys : List Key) → n ≤ length keys → and_key o (drop n keys) ≡ drop n (and_key o keys)
 drop_key None n keys le = refl
 drop_key (Some w) n keys le = sym (drop-append-le n keys (w.0 ∷ []) le)
-
-no_less : (b : Bool) (m n : ℕ) → m ≤ n → m ≤ added b n
-no_less true m n le = omega (arith, le)
-no_less false m n le = le
-
--- a sync doesn't count later writes
-pub synced_few : (q : Identity) (h : List Entry) → synced_writes q h ≤ writes h
-synced_few q [] = omega arith
-synced_few q (e ∷ h) = no_less (has (write_of e.fact)) (synced_writes q (e ∷ h)) (writes h) (cases e.actor e.fact (synced_few q h))
-  where
-    by_own : (b : Bool) → or_zero (last_sync q h) ≤ writes h → or_zero (upper (when b (writes h)) (last_sync q h)) ≤ writes h
-    by_own true rest = omega arith
-    by_own false rest = rest
-
-    of_tick : (who : Actor) (t : Tick) → or_zero (last_sync q h) ≤ writes h → or_zero (upper (sync_says q who (Ticks t) h) (last_sync q h)) ≤ writes h
-    of_tick who Sync rest = by_own (is_by q who) rest
-    of_tick who t rest = rest
-
-    cases : (who : Actor) (d : Fact) → or_zero (last_sync q h) ≤ writes h → or_zero (upper (sync_says q who d h) (last_sync q h)) ≤ writes h
-    cases who (Ticks t) rest = of_tick who t rest
-    cases who d rest = rest
 
 pub keys_since_is : (q : Identity) (h : List Entry) → keys_since q h ≡ drop (synced_writes q h) (written_keys h)
 keys_since_is q [] = refl

@@ -1,14 +1,12 @@
 -- The zones of the nodes that a term sees, and what the entries of a pass say of zones.
-use Rattle.std.proofs.Common.{◌≡◌, ◌∙◌, inl, inr, ℕ, ◌+◌, ◌==◌, ◌&&◌, ◌++◌, not, Bool, true, false, cond, List, [], ◌∷◌, map, Option, Some, None, refl, sym, ap, subst, Less, Equal, Greater, arith}
+use Rattle.std.proofs.Common.{◌≡◌, ◌∙◌, inl, inr, ℕ, ◌+◌, ◌&&◌, ◌++◌, not, Bool, true, false, cond, List, [], ◌∷◌, map, Option, Some, None, refl, sym, ap, subst, Less, arith}
 use Rattle.std.specs.Prelude.{count_by}
 use Rattle.std.specs.Ordering.{nat_cmp}
 use Rattle.std.proofs.lemmas.List.Sums.{sum_by-cons}
 use Rattle.kube_base.specs.declared.numbers.Version.{Version}
 use Rattle.kube_objects.specs.declared.node.Node.{Node}
 use Rattle.kube_objects.specs.declared.node.ZoneState.{ZoneState}
-use Rattle.kube_objects.specs.Document.{Doc}
-use Rattle.kube_objects.specs.Entry.{Entry, Identity, Place, actor_of, Pass, Zone, Mode}
-use Rattle.kube_objects.specs.Identities.{is_by}
+use Rattle.kube_objects.specs.Entry.{Entry, Identity, Place, Pass, Zone, Mode}
 use Rattle.kube_objects.specs.Modes.{nodes_among, and_node, nodes, place_of, place_cmp, place_eq, is_in, is_ready, places, ready_in, other_in, size_in}
 use Rattle.kube_objects.specs.Newest.{newest, has, when, only_if, join, or_zero}
 use Rattle.kube_objects.specs.Seen.{seen_node, node_names, insert_once}

@@ -5,4 +5,5 @@ pub mod Rows
 pub mod Since
 pub mod Steps
 pub mod Ticked
+pub mod ToJudge
 pub mod Walks

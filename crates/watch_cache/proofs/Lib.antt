@@ -3,8 +3,8 @@ pub mod IndexLaws
 pub mod Lists
 pub mod Looks
 pub mod Orders
-pub mod Retaints
 pub mod Same
+pub mod Settling
 pub mod Syncs
 pub mod Takes
 pub mod Ticks

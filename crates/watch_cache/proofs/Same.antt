@@ -1,10 +1,9 @@
 -- Listings and taints that the derived tests tell equal are one.
-use Rattle.std.proofs.Common.{◌≡◌, ℕ, ◌&&◌, ◌==◌, Bool, true, false, Option, Some, None, List, [], ◌∷◌, refl, ap, arith}
+use Rattle.std.proofs.Common.{◌≡◌, ℕ, ◌&&◌, ◌==◌, Bool, true, false, Option, Some, None, List, [], ◌∷◌, refl, ap, ◌∙◌, arith}
 use Rattle.std.proofs.lemmas.Bool.Decides.{nat_tests}
 use Rattle.std.specs.Cmp.Lexicographic.{pointwise}
 use Rattle.std.specs.Option.{option_eq}
 use Rattle.kube_base.specs.declared.numbers.Wall.{Wall}
-use Rattle.kube_base.specs.contracts.numbers.WallPartialEq.TheImpl as walls
 use Rattle.kube_objects.specs.declared.key.Key.{Key}
 use Rattle.kube_objects.specs.declared.key.Kind.{Kind}
 use Rattle.kube_objects.specs.declared.key.Kind.TheVariants as kind
@@ -15,20 +14,20 @@ use Rattle.kube_objects.specs.declared.node.Effect.TheVariants as effect
 use Rattle.kube_objects.specs.declared.node.Taint.{Taint}
 use Rattle.kube_objects.specs.contracts.node.EffectPartialEq.TheImpl as effects
 use Rattle.kube_objects.specs.contracts.node.TaintPartialEq.TheImpl as taints
+use Rattle.kube_objects.specs.Tolerations.{effect_eq}
+use Rattle.watch_cache.specs.TaintChanges.{taint_eq, taints_eq}
 use Rattle.watch_cache.specs.declared.listing.Listing.{Listing}
 use Rattle.watch_cache.specs.declared.listing.Listing.TheVariants.{Nowhere, Node, Pod}
 use Rattle.watch_cache.specs.contracts.listing.ListingPartialEq.TheImpl as listings
 
+abbrev time_eq : Wall → Wall → Bool
+time_eq a b = a.0 == b.0
+
 same_kind : (a b : Kind) → (kinds.eq-value).it a b ≡ true → a ≡ b
 same_kind kind.Node kind.Node is = refl
-same_kind kind.Node kind.Lease is = absurd (cc)
-same_kind kind.Node kind.Pod is = absurd (cc)
-same_kind kind.Lease kind.Node is = absurd (cc)
 same_kind kind.Lease kind.Lease is = refl
-same_kind kind.Lease kind.Pod is = absurd (cc)
-same_kind kind.Pod kind.Node is = absurd (cc)
-same_kind kind.Pod kind.Lease is = absurd (cc)
 same_kind kind.Pod kind.Pod is = refl
+same_kind a b is = absurd (cc)
 
 first_of : (b c : Bool) → (b && c) ≡ true → b ≡ true
 first_of true c is = refl
@@ -40,6 +39,9 @@ second_of false c is = absurd (cc)
 
 same_number : (a b : ℕ) → (a == b) ≡ true → a ≡ b
 same_number a b is = grind (arith, nat_tests)
+
+own_number : (a : ℕ) → (a == a) ≡ true
+own_number a = grind (arith, nat_tests)
 
 key_parts : (a b : Key) → (keys.eq-value).it a b ≡ ((kinds.eq-value).it a.kind b.kind && ((a.space == b.space) && (a.name == b.name)))
 key_parts a b = refl
@@ -68,38 +70,72 @@ same_listing (Pod m k) (Pod n l) is =
 
 -- ---- taints
 
-same_effect : (a b : Effect) → (effects.eq-value).it a b ≡ true → a ≡ b
-same_effect effect.NoSchedule effect.NoSchedule is = refl
-same_effect effect.NoSchedule effect.PreferNoSchedule is = absurd (cc)
-same_effect effect.NoSchedule effect.NoExecute is = absurd (cc)
-same_effect effect.PreferNoSchedule effect.NoSchedule is = absurd (cc)
-same_effect effect.PreferNoSchedule effect.PreferNoSchedule is = refl
-same_effect effect.PreferNoSchedule effect.NoExecute is = absurd (cc)
-same_effect effect.NoExecute effect.NoSchedule is = absurd (cc)
-same_effect effect.NoExecute effect.PreferNoSchedule is = absurd (cc)
-same_effect effect.NoExecute effect.NoExecute is = refl
+effect_tests : (a b : Effect) → (effects.eq-value).it a b ≡ effect_eq a b
+effect_tests effect.NoSchedule effect.NoSchedule = refl
+effect_tests effect.NoSchedule b = refl
+effect_tests effect.PreferNoSchedule effect.NoSchedule = refl
+effect_tests effect.PreferNoSchedule b = refl
+effect_tests effect.NoExecute effect.NoSchedule = refl
+effect_tests effect.NoExecute b = refl
 
-same_time : (a b : Option Wall) → option_eq (walls.eq-value).it a b ≡ true → a ≡ b
+taint_tests : (a b : Taint) → (taints.eq-value).it a b ≡ taint_eq a b
+taint_tests a b = ap (λ t. (a.key == b.key) && ((a.value == b.value) && (t && option_eq time_eq a.added b.added))) (effect_tests a.effect b.effect)
+
+-- the derived test of lists of taints is that of the definitions
+pub taints_tests : (xs ys : List Taint) → pointwise (taints.eq-value).it xs ys ≡ taints_eq xs ys
+taints_tests [] [] = refl
+taints_tests [] (y ∷ ys) = refl
+taints_tests (x ∷ xs) [] = refl
+taints_tests (x ∷ xs) (y ∷ ys) = ap (λ b. b && pointwise (taints.eq-value).it xs ys) (taint_tests x y) ∙ ap (λ b. taint_eq x y && b) (taints_tests xs ys)
+
+same_effect : (a b : Effect) → effect_eq a b ≡ true → a ≡ b
+same_effect effect.NoSchedule effect.NoSchedule is = refl
+same_effect effect.PreferNoSchedule effect.PreferNoSchedule is = refl
+same_effect effect.NoExecute effect.NoExecute is = refl
+same_effect a b is = absurd (cc)
+
+same_time : (a b : Option Wall) → option_eq time_eq a b ≡ true → a ≡ b
 same_time None None is = refl
 same_time None (Some b) is = absurd (cc)
 same_time (Some a) None is = absurd (cc)
 same_time (Some a) (Some b) is = ap (λ n. Some (record { 0 = n })) (same_number a.0 b.0 is)
 
-same_taint : (a b : Taint) → (taints.eq-value).it a b ≡ true → a ≡ b
+same_taint : (a b : Taint) → taint_eq a b ≡ true → a ≡ b
 same_taint a b is =
-    let key : a.key ≡ b.key = same_number a.key b.key (first_of (a.key == b.key) ((a.value == b.value) && ((effects.eq-value).it a.effect b.effect && option_eq (walls.eq-value).it a.added b.added)) is) in
-    let more = second_of (a.key == b.key) ((a.value == b.value) && ((effects.eq-value).it a.effect b.effect && option_eq (walls.eq-value).it a.added b.added)) is in
-    let value : a.value ≡ b.value = same_number a.value b.value (first_of (a.value == b.value) ((effects.eq-value).it a.effect b.effect && option_eq (walls.eq-value).it a.added b.added) more) in
-    let rest = second_of (a.value == b.value) ((effects.eq-value).it a.effect b.effect && option_eq (walls.eq-value).it a.added b.added) more in
-    let effect : a.effect ≡ b.effect = same_effect a.effect b.effect (first_of ((effects.eq-value).it a.effect b.effect) (option_eq (walls.eq-value).it a.added b.added) rest) in
-    let added : a.added ≡ b.added = same_time a.added b.added (second_of ((effects.eq-value).it a.effect b.effect) (option_eq (walls.eq-value).it a.added b.added) rest) in
+    let key : a.key ≡ b.key = same_number a.key b.key (first_of (a.key == b.key) ((a.value == b.value) && (effect_eq a.effect b.effect && option_eq time_eq a.added b.added)) is) in
+    let more = second_of (a.key == b.key) ((a.value == b.value) && (effect_eq a.effect b.effect && option_eq time_eq a.added b.added)) is in
+    let value : a.value ≡ b.value = same_number a.value b.value (first_of (a.value == b.value) (effect_eq a.effect b.effect && option_eq time_eq a.added b.added) more) in
+    let rest = second_of (a.value == b.value) (effect_eq a.effect b.effect && option_eq time_eq a.added b.added) more in
+    let effect : a.effect ≡ b.effect = same_effect a.effect b.effect (first_of (effect_eq a.effect b.effect) (option_eq time_eq a.added b.added) rest) in
+    let added : a.added ≡ b.added = same_time a.added b.added (second_of (effect_eq a.effect b.effect) (option_eq time_eq a.added b.added) rest) in
     λ i. record { key = key i; value = value i; effect = effect i; added = added i }
 
-pub same_taints : (xs ys : List Taint) → pointwise (taints.eq-value).it xs ys ≡ true → xs ≡ ys
+pub same_taints : (xs ys : List Taint) → taints_eq xs ys ≡ true → xs ≡ ys
 same_taints [] [] is = refl
 same_taints [] (y ∷ ys) is = absurd (cc)
 same_taints (x ∷ xs) [] is = absurd (cc)
 same_taints (x ∷ xs) (y ∷ ys) is =
-    let one : x ≡ y = same_taint x y (first_of ((taints.eq-value).it x y) (pointwise (taints.eq-value).it xs ys) is) in
-    let rest : xs ≡ ys = same_taints xs ys (second_of ((taints.eq-value).it x y) (pointwise (taints.eq-value).it xs ys) is) in
+    let one : x ≡ y = same_taint x y (first_of (taint_eq x y) (taints_eq xs ys) is) in
+    let rest : xs ≡ ys = same_taints xs ys (second_of (taint_eq x y) (taints_eq xs ys) is) in
     λ i. one i ∷ rest i
+
+-- ---- and taints are told equal to themselves
+
+own_effect : (a : Effect) → effect_eq a a ≡ true
+own_effect effect.NoSchedule = refl
+own_effect effect.PreferNoSchedule = refl
+own_effect effect.NoExecute = refl
+
+own_time : (a : Option Wall) → option_eq time_eq a a ≡ true
+own_time None = refl
+own_time (Some a) = own_number a.0
+
+own_taint : (a : Taint) → taint_eq a a ≡ true
+own_taint a = ap (λ b. b && ((a.value == a.value) && (effect_eq a.effect a.effect && option_eq time_eq a.added a.added))) (own_number a.key)
+    ∙ ap (λ b. b && (effect_eq a.effect a.effect && option_eq time_eq a.added a.added)) (own_number a.value)
+    ∙ ap (λ b. b && option_eq time_eq a.added a.added) (own_effect a.effect)
+    ∙ own_time a.added
+
+pub own_taints : (xs : List Taint) → taints_eq xs xs ≡ true
+own_taints [] = refl
+own_taints (x ∷ xs) = ap (λ b. b && taints_eq xs xs) (own_taint x) ∙ own_taints xs

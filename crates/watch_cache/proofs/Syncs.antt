@@ -35,9 +35,9 @@ no_less true m n le = omega (arith, le)
 no_less false m n le = le
 
 -- a sync doesn't count later writes
-synced-few : (q : Identity) (h : List Entry) → synced_writes q h ≤ writes h
-synced-few q [] = omega arith
-synced-few q (e ∷ h) = no_less (has (write_of e.fact)) (synced_writes q (e ∷ h)) (writes h) (cases e.actor e.fact (synced-few q h))
+pub synced_few : (q : Identity) (h : List Entry) → synced_writes q h ≤ writes h
+synced_few q [] = omega arith
+synced_few q (e ∷ h) = no_less (has (write_of e.fact)) (synced_writes q (e ∷ h)) (writes h) (cases e.actor e.fact (synced_few q h))
   where
     by_own : (b : Bool) → or_zero (last_sync q h) ≤ writes h → or_zero (upper (when b (writes h)) (last_sync q h)) ≤ writes h
     by_own true rest = omega arith
@@ -82,7 +82,7 @@ unlisted q key [] is = refl
 unlisted q key (e ∷ h) is = cases (unlisted q key h) e.actor e.fact is
   where
     few : synced_writes q h ≤ length (written_keys h)
-    few = subst (λ n. synced_writes q h ≤ n) (sym (written-count h)) (synced-few q h)
+    few = subst (λ n. synced_writes q h ≤ n) (sym (written-count h)) (synced_few q h)
 
     -- an entry that isn't a sync
     no_sync : Unlisted q key h → (who : Actor) (o : Option Write) (says : Option (Option Held)) → (holds h e.beat who (at_key key o) ≡ None → says ≡ None)

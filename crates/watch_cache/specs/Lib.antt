@@ -3,6 +3,6 @@ pub mod Kept
 pub mod Listed
 pub mod NoFeed
 pub mod Objects
-pub mod Retainted
+pub mod TaintChanges
 pub mod Stands
 pub mod Told

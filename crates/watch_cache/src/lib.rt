@@ -6,7 +6,7 @@ mod faults;
 mod index;
 mod listing;
 mod objects;
-mod retainted;
+mod taint_changes;
 
 pub use cache::Cache;
 pub use faults::{NotSynced, NotSynced2};

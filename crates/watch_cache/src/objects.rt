@@ -28,7 +28,7 @@ pub(crate) struct Objects {
 }
 
 // A copy of what is shown.
-fn copied(shown: Option<(Version, &Object)>) -> Result<Option<(Version, Object)>, NoMemory>
+fn copy_of(shown: Option<(Version, &Object)>) -> Result<Option<(Version, Object)>, NoMemory>
     ensures { IfOk result (λ copy. copy ≡ shown_pair shown.entry) }
 {
     match shown {
@@ -160,7 +160,7 @@ impl Objects {
                 unreachable!()
             };
             steps.tick();
-            let written = copied(changed.object(place))?;
+            let written = copy_of(changed.object(place))?;
             self.write(key, written)?;
             place += 1;
         }

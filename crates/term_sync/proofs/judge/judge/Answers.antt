@@ -18,5 +18,5 @@ returns-in-Node-clause-counted g c q g' nodes pods s synced =
 pub returns-in-Pod-clause-stands : goal.returns-in-Pod-clause-stands
 returns-in-Pod-clause-stands g c q g' rest s synced =
     let key = c.args.key in
-    on_ok_weaker c.judge_pod.result (next_pod q g' key rest c.args.retainted.now c.judge_pod.new.self (ap is_pod c.in-Pod.is))
-    (c.judge_pod.ensures.stands q g' (λ n. is_among (key ∷ rest) (node_key n)) (is_open q g' (key ∷ rest) (contains nat_cmp c.args.retainted.now)) s synced)
+    on_ok_weaker c.judge_pod.result (next_pod q g' key rest c.args.to_judge.now c.judge_pod.new.self (ap is_pod c.in-Pod.is))
+    (c.judge_pod.ensures.stands q g' (λ n. is_among (key ∷ rest) (node_key n)) (is_open q g' (key ∷ rest) (contains nat_cmp c.args.to_judge.now)) s synced)

@@ -21,14 +21,14 @@ loop-place-preserved g c =
     let is : slice_get keys place ≡ Some key = sym c.change.ensures ∙ c.in-Some.is in
     let split = next_drop keys place key is in
     record {
-      stands = λ q g' s synced. c.in_ok-judge.ensures.stands q g' rest (subst (λ xs. LeftBut q g' xs c.args.retainted.now c.loop-place.cluster) split (c.loop-place.invariant.stands q g' s synced)) synced;
+      stands = λ q g' s synced. c.in_ok-judge.ensures.stands q g' rest (subst (λ xs. LeftBut q g' xs c.args.to_judge.now c.loop-place.cluster) split (c.loop-place.invariant.stands q g' s synced)) synced;
       moved = λ n.
           ap (λ b. is_among rest (node_key n) || b) (c.in_ok-judge.ensures.moved n)
           ∙ moved_keys (key_eq key (node_key n)) (is_among rest (node_key n)) (has_moved c.loop-place.cluster n)
           ∙ ap (λ xs. is_among xs (node_key n) || has_moved c.loop-place.cluster n) (sym split)
           ∙ c.loop-place.invariant.moved n;
       counted = λ q g' s synced.
-          let one = c.in_ok-judge.ensures.counted q g' (λ n. is_among (drop place keys) (node_key n)) (is_open q g' (drop place keys) (contains nat_cmp c.args.retainted.now)) (c.loop-place.invariant.stands q g' s synced) synced in
+          let one = c.in_ok-judge.ensures.counted q g' (λ n. is_among (drop place keys) (node_key n)) (is_open q g' (drop place keys) (contains nat_cmp c.args.to_judge.now)) (c.loop-place.invariant.stands q g' s synced) synced in
           let two = c.loop-place.invariant.counted q g' s synced in
           let costs = ap (write_costs q g') split in
           omega (arith, one, two, costs);

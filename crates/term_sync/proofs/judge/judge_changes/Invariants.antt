@@ -14,9 +14,9 @@ decreases-loop-place g l = l.count - l.place
 
 abbrev pub invariant-loop-place : goal.invariant-loop-place
 invariant-loop-place g l = record {
-  stands : (q : Identity) (g : List Entry) → LeftBut q g (drop l.position (changed_in l.store)) l.retainted l.fn.cluster → is_synced q g ≡ true
-      → LeftBut q g (drop l.place (changed_in l.store)) l.retainted l.cluster;
+  stands : (q : Identity) (g : List Entry) → LeftBut q g (drop l.position (changed_in l.store)) l.to_judge l.fn.cluster → is_synced q g ≡ true
+      → LeftBut q g (drop l.place (changed_in l.store)) l.to_judge l.cluster;
   moved : (n : ℕ) → (is_among (drop l.place (changed_in l.store)) (node_key n) || has_moved l.cluster n) ≡ (is_among (drop l.position (changed_in l.store)) (node_key n) || has_moved l.fn.cluster n);
-  counted : (q : Identity) (g : List Entry) → LeftBut q g (drop l.position (changed_in l.store)) l.retainted l.fn.cluster → is_synced q g ≡ true
+  counted : (q : Identity) (g : List Entry) → LeftBut q g (drop l.position (changed_in l.store)) l.to_judge l.fn.cluster → is_synced q g ≡ true
       → l.steps + 2 * write_costs q g (drop l.place (changed_in l.store)) ≤ l.fn.steps + 2 * write_costs q g (drop l.position (changed_in l.store));
 }

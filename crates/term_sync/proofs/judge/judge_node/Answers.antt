@@ -15,7 +15,7 @@ pub returns-then-contains-clause-stands : goal.returns-then-contains-clause-stan
 returns-then-contains-clause-stands g c q g' rest s synced =
     let key = c.args.key in
     let new = c.judge_node.new.self in
-    let names = c.args.retainted.now in
+    let names = c.args.to_judge.now in
     on_ok_weaker c.judge_node.result
     (λ t. next_node q g' key.name rest names new
     (subst (λ k. ClusterBut q g' (but_node key.name (λ n. is_among (k ∷ rest) (node_key n))) (λ p. is_open q g' (k ∷ rest) (contains nat_cmp names) p && not (is_on key.name (seen_pod q p g'))) new) (node_is key c.requires.kind c.if-key-ne0.false) t))
@@ -25,7 +25,7 @@ pub returns-clause-stands : goal.returns-clause-stands
 returns-clause-stands g c q g' rest s synced =
     let key = c.args.key in
     let new = c.judge_node_alone.new.self in
-    let names = c.args.retainted.now in
+    let names = c.args.to_judge.now in
     on_ok_weaker c.judge_node_alone.result
     (λ t. next_alone q g' key.name rest names new (sym c.contains.ensures ∙ c.if-contains.false)
     (subst (λ k. ClusterBut q g' (but_node key.name (λ n. is_among (k ∷ rest) (node_key n))) (is_open q g' (k ∷ rest) (contains nat_cmp names)) new) (node_is key c.requires.kind c.if-key-ne0.false) t))

@@ -46,7 +46,7 @@ returns-clause-stands g c doc k q h s st r v =
     let is = comes doc k q h c.syncs.result (c.syncs.ensures doc q h s st v.watch) c.if-not-syncs.false in
     let since = changed_since q h c.args.store.now c.position-position.result st (c.position-position.ensures q h s) in
     on_ok_weaker c.judge_changes.result (subst (λ f. ClusterStands q f c.judge_changes.new.cluster) (sym is))
-    (c.judge_changes.ensures.stands q after (subst (λ keys. LeftBut q after keys c.in_ok-retainted.retainted c.take_over.new.self) (sym since) (c.in_ok-retainted.ensures.stands q k h s st r)) (sync_synced q k h))
+    (c.judge_changes.ensures.stands q after (subst (λ keys. LeftBut q after keys c.in_ok-to_judge.to_judge c.take_over.new.self) (sym since) (c.in_ok-to_judge.ensures.stands q k h s st r)) (sync_synced q k h))
 
 pub returns-clause-store : goal.returns-clause-store
 returns-clause-store g c doc k q h st = store_synced k q h c.args.store.now (watches doc q.process h && not (is_fresh q h)) st
@@ -57,7 +57,7 @@ returns-clause-moved g c doc k q h s st r v m beneath =
     let since = changed_since q h c.args.store.now c.position-position.result st (c.position-position.ensures q h s) in
     on_ok_weaker c.judge_changes.result
     (λ more. sync_moved q k h (sync doc k q h) (drop c.position-position.result (changed_in c.args.store.now)) c.args.cluster.now c.judge_changes.new.cluster since is beneath
-    (λ n. more n ∙ ap (λ b. is_among (drop c.position-position.result (changed_in c.args.store.now)) (node_key n) || b) (c.in_ok-retainted.ensures.moved n)) m)
+    (λ n. more n ∙ ap (λ b. is_among (drop c.position-position.result (changed_in c.args.store.now)) (node_key n) || b) (c.in_ok-to_judge.ensures.moved n)) m)
     c.judge_changes.ensures.moved
 
 pub returns-clause-counted : goal.returns-clause-counted
@@ -65,8 +65,8 @@ returns-clause-counted g c doc k q h s st r v =
     let after = add k q Sync h in
     let is = comes doc k q h c.syncs.result (c.syncs.ensures doc q h s st v.watch) c.if-not-syncs.false in
     let since = changed_since q h c.args.store.now c.position-position.result st (c.position-position.ensures q h s) in
-    let one = c.in_ok-retainted.ensures.counted q h s st in
+    let one = c.in_ok-to_judge.ensures.counted q h s st in
     on_ok_weaker c.judge_changes.result
     (λ two. subst (λ f. c.judge_changes.new.steps + tick_cost q k h ≤ c.args.steps.now + tick_cost q k f) (sym is)
     (omega (arith, one, two, cost_sync q k h, ap (write_costs q after) since)))
-    (c.judge_changes.ensures.counted q after (subst (λ keys. LeftBut q after keys c.in_ok-retainted.retainted c.take_over.new.self) (sym since) (c.in_ok-retainted.ensures.stands q k h s st r)) (sync_synced q k h))
+    (c.judge_changes.ensures.counted q after (subst (λ keys. LeftBut q after keys c.in_ok-to_judge.to_judge c.take_over.new.self) (sym since) (c.in_ok-to_judge.ensures.stands q k h s st r)) (sync_synced q k h))

@@ -15,7 +15,7 @@ use Rattle.kube_objects.specs.Stored.{Held, node_key}
 use Rattle.kube_objects.specs.Tolerations.{least_due, taint_due}
 use Rattle.tick_laws.specs.Judged.{due_as, due_on, seen_due, shown}
 use Rattle.watch_cache.specs.Kept.{is_on, kept}
-use Rattle.watch_cache.specs.Retainted.{taints_in}
+use Rattle.watch_cache.specs.TaintChanges.{taints_in}
 
 abbrev node_taints : Option (Version × Node) → List Taint
 node_taints None = []

@@ -5,7 +5,7 @@ ghost use Rattle.std.specs.Ordering.{nat_cmp};
 ghost use Rattle.kube_objects.specs.Feeds.{is_among, shown_pair};
 ghost use Rattle.kube_objects.specs.Keys.{key_eq};
 ghost use Rattle.kube_objects.specs.Stored.{node_key};
-ghost use Rattle.watch_cache.specs.Retainted.{taints_in};
+ghost use Rattle.watch_cache.specs.TaintChanges.{taints_in};
 
 use crate::Cache;
 use kube_base::{NoMemory, Version};
@@ -32,12 +32,13 @@ fn add_name(names: &mut BTreeSet<u32>, name: u32) -> Result<(), NoMemory>
 
 impl Cache {
     ghost use Rattle.kube_objects.specs.declared.key.Key.{Key};
-    ghost use Rattle.watch_cache.specs.Retainted.{IsSettled};
+    ghost use Rattle.watch_cache.specs.TaintChanges.{IsSettled};
     ghost use Rattle.watch_cache.specs.Stands.{kept_in, stale_in};
 
     // Whether any key is stale.
     fn has_stale(&self) -> bool
-        ensures { result ≡ false → (k : Key) → stale_in self.now k ≡ false }
+        ensures none { result ≡ false → (k : Key) → stale_in self.now k ≡ false }
+        ensures some { result ≡ true → (k : Key) × (stale_in self.now k ≡ true) }
     {
         match self.stale.first() {
             None => false,
@@ -47,13 +48,14 @@ impl Cache {
 
     /// Whether the node under a key has other taints than these. What is no node has none.
     pub fn has_other_taints(&self, key: &Key, taints: &[Taint]) -> bool
-        ensures { result ≡ false → taints_in (kept_in self.now key.now) ≡ taints.now }
+        ensures same { result ≡ false → taints_in (kept_in self.now key.now) ≡ taints.now }
+        ensures other { result ≡ true → taints_in (kept_in self.now key.now) ≡ taints.now → ⊥ }
     {
         taints_of(self.objects.get(key)) != taints
     }
 
-    // Adds the node of a key that changed, unless all is settled.
-    fn add_retainted(
+    // Adds the node of a key that changed, unless all is settled. A key with a namespace is no node's.
+    fn add_changed(
         &self,
         names: &mut BTreeSet<u32>,
         key: Key,
@@ -62,8 +64,11 @@ impl Cache {
         ensures more { OnOk result ((n : ℕ) → contains nat_cmp names.new n ≡ false → contains nat_cmp names.old n ≡ false) }
         ensures settled { OnOk result ((n : ℕ) → key_eq key (node_key n) ≡ true → contains nat_cmp names.new n ≡ false
             → IsSettled self.now n (shown_pair shown.entry)) }
+        ensures unsettled { OnOk result ((n : ℕ) → contains nat_cmp names.new n ≡ true → contains nat_cmp names.old n ≡ false
+            → (key_eq key (node_key n) ≡ true) × (IsSettled self.now n (shown_pair shown.entry) → ⊥)) }
     {
         if key.kind == Kind::Node
+            && key.space == 0
             && (self.has_stale() || self.has_other_taints(&key, taints_of(shown)))
         {
             return add_name(names, key.name);
@@ -74,13 +79,17 @@ impl Cache {
     /// The names of nodes that changed since the last sync: of those whose taints are others now, and of all of them where a
     /// key is stale. On each other node no pod's due changes but by a change of the pod. The changes are those from
     /// `position` on, and aren't taken over.
-    pub fn retainted<C: Changed>(
+    pub fn nodes_to_judge<C: Changed>(
         &self,
         alloc: Global,
         changed: &C,
     ) -> Result<BTreeSet<u32>, NoMemory>
-        ensures { IfOk result (λ names. (n : ℕ) → is_among (C.keys changed.now) (node_key n) ≡ true → contains nat_cmp names n ≡ false
-            → IsSettled self.now n (C.shown changed.now (node_key n))) }
+        ensures settled { IfOk result (λ names. (n : ℕ) → is_among (C.keys changed.now) (node_key n) ≡ true
+            → contains nat_cmp names n ≡ false → IsSettled self.now n (C.shown changed.now (node_key n))) }
+        ensures changed { IfOk result (λ names. (n : ℕ) → contains nat_cmp names n ≡ true
+            → is_among (C.keys changed.now) (node_key n) ≡ true) }
+        ensures unsettled { IfOk result (λ names. (n : ℕ) → contains nat_cmp names n ≡ true
+            → IsSettled self.now n (C.shown changed.now (node_key n)) → ⊥) }
     {
         let mut names = BTreeSet::new(alloc);
         let count = changed.count();
@@ -89,7 +98,7 @@ impl Cache {
             let Some(key) = changed.key(place) else {
                 unreachable!()
             };
-            self.add_retainted(&mut names, key, changed.object(place))?;
+            self.add_changed(&mut names, key, changed.object(place))?;
             place += 1;
         }
         Ok(names)

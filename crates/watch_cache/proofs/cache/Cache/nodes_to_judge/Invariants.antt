@@ -3,14 +3,16 @@ use Rattle.std.specs.BTreeSet.{contains}
 use Rattle.std.specs.Ordering.{nat_cmp}
 use Rattle.kube_objects.specs.Feeds.{is_among}
 use Rattle.kube_objects.specs.Stored.{node_key}
-use Rattle.watch_cache.specs.Retainted.{IsSettled}
-use Rattle.watch_cache.proofs.cache.Cache.retainted.Given as goal
+use Rattle.watch_cache.specs.TaintChanges.{IsSettled}
+use Rattle.watch_cache.proofs.cache.Cache.nodes_to_judge.Given as goal
 
 abbrev pub invariant-loop-place : goal.invariant-loop-place
 invariant-loop-place g l =
     record {
       settled : (n : ℕ) → is_among (take l.place (g.C.Changed.keys l.changed)) (node_key n) ≡ true → contains nat_cmp l.names n ≡ false
           → IsSettled l.self n (g.C.Changed.shown l.changed (node_key n));
+      unsettled : (n : ℕ) → contains nat_cmp l.names n ≡ true
+          → (is_among (take l.place (g.C.Changed.keys l.changed)) (node_key n) ≡ true) × (IsSettled l.self n (g.C.Changed.shown l.changed (node_key n)) → ⊥);
       within : l.place ≤ l.count;
     }
 

@@ -1,0 +1,33 @@
+-- On which changed nodes a sync judges the pods again.
+use Rattle.std.specs.Prelude.{ℕ, ◌||◌, not, Bool, true, false, List, Option, Some, None}
+use Rattle.kube_objects.specs.declared.deed.Actor.{Actor}
+use Rattle.kube_objects.specs.declared.node.Taint.{Taint}
+use Rattle.kube_objects.specs.Entry.{Entry, Identity, Fact, Ticks, Tick, Sync}
+use Rattle.kube_objects.specs.Identities.{is_by}
+use Rattle.kube_objects.specs.Newest.{newest, has, when, only_if, or_else}
+use Rattle.kube_objects.specs.Stored.{node_key}
+use Rattle.tick_laws.specs.Judged.{shown}
+use Rattle.watch_cache.specs.Stands.{refused_key}
+use Rattle.watch_cache.specs.TaintChanges.{taints_eq, taints_in}
+
+-- a refused untaint, swap or delete makes its key stale, and after a sync none is
+abbrev pub refuses : Tick → Option Bool
+refuses Sync = Some false
+refuses t = when (has (refused_key t)) true
+
+abbrev pub refusal_says : Identity → Actor → Fact → Option Bool
+refusal_says q who (Ticks t) = only_if (is_by q who) (refuses t)
+refusal_says q who _ = None
+
+-- whether any key is stale
+abbrev pub has_stale : Identity → List Entry → Bool
+has_stale q h = or_else false (newest (λ e T. refusal_says q e.actor e.fact) h)
+
+-- the taints that a node is seen with; none where it isn't seen
+abbrev pub seen_taints : Identity → ℕ → List Entry → List Taint
+seen_taints q name h = taints_in (shown q (node_key name) h)
+
+-- whether a sync, before which the history is h and after which g, judges the pods on a changed node: where it is seen with other
+-- taints after it, or any key was stale before it
+abbrev pub is_to_judge : Identity → List Entry → List Entry → ℕ → Bool
+is_to_judge q h g name = has_stale q h || not (taints_eq (seen_taints q name h) (seen_taints q name g))
