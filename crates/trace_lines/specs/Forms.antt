@@ -11,14 +11,14 @@ use Rattle.trace_lines.specs.declared.line.Says.{Says}
 use Rattle.trace_lines.specs.declared.line.Says.TheVariants as says
 use Rattle.trace_lines.specs.declared.forms.Sort.{Sort}
 use Rattle.trace_lines.specs.declared.forms.Sort.TheVariants.{Script, Controller, Kubelet}
-use Rattle.trace_lines.specs.Grammar.{cut, number, labelled, is_name, is_spaced, is_zone, is_key, is_second}
+use Rattle.trace_lines.specs.Grammar.{cut, number, labelled_number, is_name, is_spaced, is_zone, is_key, is_second}
 use Rattle.trace_lines.specs.Headers.{behind}
 
 -- ---- answers
 
 -- `v=N`
 abbrev pub version : List ℕ → Option ℕ
-version text = labelled (codes "v") 18446744073709551615 text
+version text = labelled_number (codes "v") 18446744073709551615 text
 
 abbrev pub one_word : List ℕ → Option Answer
 one_word text =
@@ -69,11 +69,11 @@ lead text = do
   Some (says.Lead v)
 
 -- `v=N t=T`
-unfoldable pub written : List ℕ → Option (ℕ × ℕ)
-written text = do
+unfoldable pub version_and_transitions : List ℕ → Option (ℕ × ℕ)
+version_and_transitions text = do
   parts ← cut 32 text
   v ← version parts.0
-  transitions ← labelled (codes "t") 2147483647 parts.1
+  transitions ← labelled_number (codes "t") 2147483647 parts.1
   Some (v, transitions)
 
 unfoldable pub refused_election : Verb → List ℕ → Option (Says (List ℕ))
@@ -89,7 +89,7 @@ election_from verb text None = refused_election verb text
 unfoldable pub election : Verb → List ℕ → Option (Says (List ℕ))
 election verb text = do
   rest ← behind (codes "election") text
-  election_from verb rest (written rest)
+  election_from verb rest (version_and_transitions rest)
 
 -- `nodelease NODE A`
 unfoldable pub node_lease : Verb → List ℕ → Option (Says (List ℕ))
@@ -157,14 +157,16 @@ swap text = do
   Some (says.Swap parts.0 parts.1 parts.2)
 
 unfoldable pub mode : List ℕ → Option (Says (List ℕ))
-mode text = if bytes_eq text (codes "on") then Some (says.Mode true) else (if bytes_eq text (codes "off") then Some (says.Mode false) else None)
+mode text =
+    if bytes_eq text (codes "on") then Some (says.Mode true)
+    else (if bytes_eq text (codes "off") then Some (says.Mode false) else None)
 
 -- `REGION/ZONE STATE rate=R`
 unfoldable pub zone : List ℕ → Option (Says (List ℕ))
 zone text = do
   place ← cut 32 text
   state ← cut 32 place.1
-  rate ← labelled (codes "rate") 1000000 state.1
+  rate ← labelled_number (codes "rate") 1000000 state.1
   if is_zone place.0 && is_state state.0 then Some (says.Zone place.0 state.0 rate) else None
 
 -- `NODE A`
@@ -193,7 +195,9 @@ evict text = do
 
 abbrev pub bare : Sort → List ℕ → Option (Says (List ℕ))
 bare Script word = None
-bare Kubelet word = if bytes_eq word (codes "start") then Some says.Start else (if bytes_eq word (codes "crash") then Some says.Crash else None)
+bare Kubelet word =
+    if bytes_eq word (codes "start") then Some says.Start
+    else (if bytes_eq word (codes "crash") then Some says.Crash else None)
 bare Controller word =
     if bytes_eq word (codes "start") then Some says.Start
     else (if bytes_eq word (codes "crash") then Some says.Crash

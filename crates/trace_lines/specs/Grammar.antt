@@ -1,5 +1,6 @@
 -- The small parts of a trace's lines: words, numbers, names and labels.
-use Rattle.std.specs.Prelude.{ℕ, ◌+◌, ◌-◌, ◌*◌, ◌==◌, ◌&&◌, ◌||◌, not, nat_le, Bool, false, List, [], ◌∷◌, length, take, drop, position, slice_index, codes, Option, Some, None, is_some, if◌then◌else◌}
+use Rattle.std.specs.Prelude.{ℕ, ◌+◌, ◌-◌, ◌*◌, ◌==◌, ◌&&◌, ◌||◌, not, nat_le, Bool, false, List, [], ◌∷◌, length, take, drop}
+use Rattle.std.specs.Prelude.{position, slice_index, codes, Option, Some, None, is_some, if◌then◌else◌}
 use Rattle.std.specs.Char.{is_ascii_digit, is_ascii_lowercase, is_ascii_uppercase}
 use Rattle.std.specs.List.{list_all}
 use Rattle.std.specs.Option.{option_map}
@@ -24,8 +25,8 @@ number most [] = None
 number most (digit ∷ digits) = if (digit == 48) && not (length digits == 0) then None else number_onto most 0 (digit ∷ digits)
 
 -- `LABEL=N`
-unfoldable pub labelled : List ℕ → ℕ → List ℕ → Option ℕ
-labelled label most text = do
+unfoldable pub labelled_number : List ℕ → ℕ → List ℕ → Option ℕ
+labelled_number label most text = do
   parts ← cut 61 text
   if bytes_eq parts.0 label then number most parts.1 else None
 
@@ -60,7 +61,8 @@ is_label_byte byte = is_letter_or_digit byte || (byte == 45) || (byte == 95) || 
 unfoldable pub is_label : List ℕ → Bool
 is_label text =
     (length text == 0)
-    || (nat_le (length text) 63 && list_all is_label_byte text && is_letter_or_digit (slice_index text 0) && is_letter_or_digit (slice_index text (length text - 1)))
+    || (nat_le (length text) 63 && list_all is_label_byte text
+    && is_letter_or_digit (slice_index text 0) && is_letter_or_digit (slice_index text (length text - 1)))
 
 -- two texts with a slash between them, each of which passes
 abbrev pub is_pair : (List ℕ → Bool) → Option (List ℕ × List ℕ) → Bool
@@ -78,7 +80,8 @@ is_zone text = is_pair is_label (cut 47 text)
 abbrev pub is_key_of : Option (List ℕ × List ℕ) → Bool
 is_key_of None = false
 is_key_of (Some parts) =
-    if bytes_eq parts.0 (codes "node") then is_name parts.1 else ((bytes_eq parts.0 (codes "lease") || bytes_eq parts.0 (codes "pod")) && is_spaced parts.1)
+    if bytes_eq parts.0 (codes "node") then is_name parts.1
+    else ((bytes_eq parts.0 (codes "lease") || bytes_eq parts.0 (codes "pod")) && is_spaced parts.1)
 
 -- `node/NAME`, `lease/NAMESPACE/NAME` or `pod/NAMESPACE/NAME`
 unfoldable pub is_key : List ℕ → Bool

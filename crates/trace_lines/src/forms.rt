@@ -4,7 +4,9 @@ ghost use Rattle.trace_lines.specs.Forms as spec;
 ghost use Rattle.trace_lines.specs.Grammar.{cut};
 ghost use Rattle.trace_lines.specs.Reads.{Reads, said, seen};
 
-use crate::grammar::{cut, is, is_key, is_name, is_second, is_spaced, is_zone, labelled, number};
+use crate::grammar::{
+    cut, is, is_key, is_name, is_second, is_spaced, is_zone, labelled_number, number,
+};
 use crate::header::{LAST_BEAT, behind};
 use crate::line::{Answer, Line, Says, Verb};
 
@@ -274,7 +276,7 @@ fn election(verb: Verb, text: &[u8]) -> Option<Says<&[u8]>>
     ensures { Reads said result (spec.election verb text.now) }
 {
     let rest = behind(text, b"election")?;
-    match written(rest) {
+    match version_and_transitions(rest) {
         Some((version, transitions)) => Some(Says::Election(
             verb,
             Answer::Done(version),
@@ -297,13 +299,13 @@ fn refused_election(verb: Verb, text: &[u8]) -> Option<Says<&[u8]>>
 }
 
 /// `v=N t=T`
-#[tactic(auto, unfolding(crate::specs::Forms::written))]
-fn written(text: &[u8]) -> Option<(u64, u32)>
-    ensures { result ≡ spec.written text.now }
+#[tactic(auto, unfolding(crate::specs::Forms::version_and_transitions))]
+fn version_and_transitions(text: &[u8]) -> Option<(u64, u32)>
+    ensures { result ≡ spec.version_and_transitions text.now }
 {
     let (word, rest) = cut(text, b' ')?;
     let version = version(word)?;
-    let transitions = labelled(rest, b"t", 2_147_483_647)?;
+    let transitions = labelled_number(rest, b"t", 2_147_483_647)?;
     Some((version, transitions as u32))
 }
 
@@ -430,7 +432,7 @@ fn zone(text: &[u8]) -> Option<Says<&[u8]>>
 {
     let (place, rest) = cut(text, b' ')?;
     let (state, rest) = cut(rest, b' ')?;
-    let rate = labelled(rest, b"rate", 1_000_000)?;
+    let rate = labelled_number(rest, b"rate", 1_000_000)?;
     if is_zone(place) && is_state(state) {
         Some(Says::Zone(place, state, rate as u32))
     } else {
@@ -482,7 +484,7 @@ fn due(text: &[u8]) -> Option<&[u8]>
 fn version(text: &[u8]) -> Option<u64>
     ensures { result ≡ spec.version text.now }
 {
-    labelled(text, b"v", u64::MAX)
+    labelled_number(text, b"v", u64::MAX)
 }
 
 /// An answer other than `exists`.

@@ -69,9 +69,9 @@ fn number_and_digit(number: u64, digit: u8, most: u64) -> Option<u64>
 }
 
 /// `LABEL=N`, with a number of at most `most`.
-#[tactic(auto, unfolding(crate::specs::Grammar::labelled))]
-pub(crate) fn labelled(text: &[u8], label: &[u8], most: u64) -> Option<u64>
-    ensures number { result ≡ spec.labelled label.now most text.now }
+#[tactic(auto, unfolding(crate::specs::Grammar::labelled_number))]
+pub(crate) fn labelled_number(text: &[u8], label: &[u8], most: u64) -> Option<u64>
+    ensures number { result ≡ spec.labelled_number label.now most text.now }
     ensures most { IfSome result (λ n. n ≤ most) }
 {
     let (before, behind) = cut(text, b'=')?;

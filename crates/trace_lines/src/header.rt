@@ -2,7 +2,7 @@
 ghost use Rattle.std.specs.Prelude.{◌≡◌, ◌≤◌, IfSome, MatchOption, Some, None};
 ghost use Rattle.trace_lines.specs.Headers as spec;
 
-use crate::grammar::{cut, is, labelled};
+use crate::grammar::{cut, is, labelled_number};
 
 /// The first line of a trace: `trace 1 beat=MILLIS end=BEAT premise=P`.
 #[derive(Clone, Copy, Debug, PartialEq, Eq)]
@@ -27,9 +27,9 @@ pub fn read_header(text: &[u8]) -> Option<Header>
     let version = behind(text, b"trace")?;
     let rest = behind(version, b"1")?;
     let (millis, rest) = cut(rest, b' ')?;
-    let millis = labelled(millis, b"beat", 1_000)?;
+    let millis = labelled_number(millis, b"beat", 1_000)?;
     let (end, rest) = cut(rest, b' ')?;
-    let end = labelled(end, b"end", LAST_BEAT)?;
+    let end = labelled_number(end, b"end", LAST_BEAT)?;
     let premise = premise_of(rest)?;
     if millis >= 1 {
         Some(Header {
