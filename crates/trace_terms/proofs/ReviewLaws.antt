@@ -333,12 +333,14 @@ first-outside millis end es r h =
 
 -- ---- by the role that the code has
 
-pub plays-as : (millis end place line beat : ℕ) (actor : List ℕ) (role given : Role (List ℕ)) (es : List Entry) (old new : Review) → role ≡ given
-    → is_lead given ≡ false → is_taint given ≡ false → AreAfter beat line es → slice_get old.actors place ≡ Some actor → Played place beat line given old new
-    → ReviewStands millis end es old → ReviewStands millis end (record { line = line; beat = beat; actor = actor; role = role } ∷ es) new
-plays-as millis end place line beat actor role given es old new is denied plain later at p h =
+pub plays-as : {T E : Type 0} (millis end place line beat : ℕ) (actor : List ℕ) (role given : Role (List ℕ)) (es : List Entry) (old new : Review) (result : Result T E)
+    → role ≡ given → is_lead given ≡ false → is_taint given ≡ false → AreAfter beat line es → slice_get old.actors place ≡ Some actor → ReviewStands millis end es old
+    → OnOk result (Played place beat line given old new)
+    → OnOk result (ReviewStands millis end (record { line = line; beat = beat; actor = actor; role = role } ∷ es) new)
+plays-as millis end place line beat actor role given es old new (Ok x) is denied plain later at h p =
     subst (λ r. ReviewStands millis end (record { line = line; beat = beat; actor = actor; role = r } ∷ es) new) (sym is)
     (review-plays millis end place (record { line = line; beat = beat; actor = actor; role = given }) es old new denied plain later at p h)
+plays-as millis end place line beat actor role given es old new (Err e) is denied plain later at h p = p
 
 pub taints-as : (millis end place line beat : ℕ) (actor : List ℕ) (role : Role (List ℕ)) (es : List Entry) (old new : Review) → role ≡ Taints
     → AreAfter beat line es → slice_get old.actors place ≡ Some actor → Played place beat line Taints old new
@@ -346,7 +348,3 @@ pub taints-as : (millis end place line beat : ℕ) (actor : List ℕ) (role : Ro
 taints-as millis end place line beat actor role es old new is later at p h =
     subst (λ r. ReviewStands millis end (record { line = line; beat = beat; actor = actor; role = r } ∷ es) (record new { taints = new.taints + 1 })) (sym is)
     (review-taints millis end place (record { line = line; beat = beat; actor = actor; role = Taints }) es old new refl refl later at p h)
-
-pub on-ok : {T E : Type 0} (r : Result T E) (P Q : Type 0) → (P → Q) → OnOk r P → OnOk r Q
-on-ok (Ok x) P Q f h = f h
-on-ok (Err e) P Q f h = h

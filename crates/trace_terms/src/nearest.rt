@@ -19,7 +19,7 @@ pub struct Nearest {
 
 impl Nearest {
     /// The first span of another identity, where it begins before this beat: its line.
-    pub fn crossed(self, who: usize, to: u32) -> Option<u64>
+    pub fn overlap(self, who: usize, to: u32) -> Option<u64>
         ensures { result ≡ spec.begun_before to (spec.another self who) }
     {
         let span = self.another(who)?;

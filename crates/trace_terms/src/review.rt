@@ -171,17 +171,17 @@ impl Review {
     {
         let seat = &self.seats[place];
         Findings {
-            crossed: self.crossed_at(place, beat, seat.to),
+            crossed: self.overlap_at(place, beat, seat.to),
             outside: earlier(seat.late, self.findings.outside),
-            unspaced: earlier(seat.unspaced(self.millis), self.findings.unspaced),
+            unspaced: earlier(seat.spacing_fault(self.millis), self.findings.unspaced),
         }
     }
 
-    fn crossed_at(&self, place: usize, beat: u32, to: u32) -> Option<u64>
+    fn overlap_at(&self, place: usize, beat: u32, to: u32) -> Option<u64>
         ensures { result ≡ crossed_with place beat to self.now }
     {
         if beat < to {
-            earlier(self.nearest.crossed(place, to), self.findings.crossed)
+            earlier(self.nearest.overlap(place, to), self.findings.crossed)
         } else {
             self.findings.crossed
         }

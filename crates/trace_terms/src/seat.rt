@@ -95,7 +95,7 @@ impl Seat {
     }
 
     /// The first taint line that breaks the spacing.
-    pub fn unspaced(&self, millis: u32) -> Option<u64>
+    pub fn spacing_fault(&self, millis: u32) -> Option<u64>
         ensures { result ≡ least (soon millis self.now.rate (length self.now.zones) self.now.start self.now.taints) }
     {
         first_soon(
