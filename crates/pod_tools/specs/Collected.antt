@@ -1,11 +1,10 @@
 -- Which pods are collected, and why. Source: Kubernetes, "Pod Lifecycle", garbage collection of Pods; "Node Shutdowns", non-graceful
 -- node shutdown. Which phases are terminated, and the order of the terminated pods, are the profile's.
-use Rattle.std.specs.Prelude.{ℕ, ◌+◌, ◌-◌, ◌==◌, ◌&&◌, not, nat_le, Bool, true, false, List, [], ◌∷◌, ◌++◌, length, count_by, find, codes, Option, Some, None, is_none, if◌then◌else◌}
+use Rattle.std.specs.Prelude.{◌≡◌, ℕ, ◌+◌, ◌-◌, ◌==◌, ◌&&◌, not, nat_le, Bool, true, false, List, [], ◌∷◌, ◌++◌, length, count_by, find}
+use Rattle.std.specs.Prelude.{codes, Option, Some, None, is_none, if◌then◌else◌}
 use Rattle.std.specs.List.{list_any}
 use Rattle.std.specs.Ordering.{nat_cmp, ordering_then, is_lt}
 use Rattle.kube_base.specs.Names.{number_of}
-use Rattle.kube_objects.specs.declared.node.Ready.{Ready}
-use Rattle.kube_objects.specs.declared.node.ReadyStatus.{ReadyStatus}
 use Rattle.kube_objects.specs.declared.node.ReadyStatus.TheVariants as statuses
 use Rattle.kube_objects.specs.declared.node.Taint.{Taint}
 use Rattle.pod_tools.specs.declared.collecting.Cause.{Cause}
@@ -15,6 +14,7 @@ use Rattle.pod_tools.specs.declared.rows.CollectInput.{CollectInput}
 use Rattle.pod_tools.specs.declared.rows.MissingRow.{MissingRow}
 use Rattle.pod_tools.specs.declared.rows.NodeRow.{NodeRow}
 use Rattle.pod_tools.specs.declared.rows.PodRow.{PodRow}
+use Rattle.pod_tools.specs.Readiness.{has_status}
 
 -- ---- terminated pods
 
@@ -43,31 +43,28 @@ rank age ages = count_by (λ other. not (comes_before age other)) ages
 abbrev pub excess : ℕ → ℕ → ℕ
 excess threshold count = if threshold == 0 then 0 else count - threshold
 
--- the pod is one of the oldest terminated ones, which are over the threshold
+-- an age is one of the oldest of the terminated pods, which are over the threshold
+abbrev pub is_old : ℕ → List PodRow → Age → Bool
+is_old threshold pods age = nat_le (rank age (ages_from 0 pods)) (excess threshold (length (ages_from 0 pods)))
+
+-- the pod is a terminated one that is over the threshold
 abbrev pub is_over : ℕ → List PodRow → ℕ → PodRow → Bool
-is_over threshold pods place row =
-    row.terminated && nat_le (rank (row.created.0, place) (ages_from 0 pods)) (excess threshold (length (ages_from 0 pods)))
+is_over threshold pods place row = row.terminated && is_old threshold pods (row.created.0, place)
 
 -- an age comes before another one, or there is none
 abbrev pub comes_before_any : Age → Option Age → Bool
 comes_before_any age None = true
 comes_before_any age (Some other) = comes_before age other
 
+-- the ages before this one are those over the threshold; where there is none, all are
+abbrev pub IsFirstToKeep : ℕ → List PodRow → Option Age → Type 0
+IsFirstToKeep threshold pods kept = (age : Age) → comes_before_any age kept ≡ is_old threshold pods age
+
 -- ---- pods of nodes
 
 -- the node of this name
 abbrev pub node_of : List NodeRow → ℕ → Option NodeRow
 node_of nodes name = find (λ row. row.name == name) nodes
-
--- the node's Ready is True
-abbrev pub is_ready : Option Ready → Bool
-is_ready None = false
-is_ready (Some ready) = is_true ready.status
-  where
-    is_true : ReadyStatus → Bool
-    is_true statuses.True = true
-    is_true statuses.False = false
-    is_true statuses.Unknown = false
 
 abbrev pub is_number : Option ℕ → ℕ → Bool
 is_number None key = false
@@ -80,7 +77,8 @@ out_of_service names = number_of names (codes "node.kubernetes.io/out-of-service
 -- a node that isn't Ready and is out of service
 abbrev pub is_out : Option ℕ → Option NodeRow → Bool
 is_out service None = false
-is_out service (Some row) = not (is_ready row.node.ready) && list_any (λ (t : Taint). is_number service t.key) row.node.taints
+is_out service (Some row) =
+    not (has_status row.node.ready statuses.True) && list_any (λ (t : Taint). is_number service t.key) row.node.taints
 
 -- the pod names a node
 abbrev pub is_scheduled : PodRow → Bool
@@ -115,7 +113,8 @@ first_cause over stranded orphan unplaced =
 
 -- why the pod at a place is collected, if it is
 abbrev pub cause_of : CollectInput → ℕ → PodRow → Option Cause
-cause_of input place row = first_cause (is_over input.threshold input.pods place row) (is_stranded input row) (is_orphan input row) (is_unplaced row)
+cause_of input place row =
+    first_cause (is_over input.threshold input.pods place row) (is_stranded input row) (is_orphan input row) (is_unplaced row)
 
 abbrev pub picked : ℕ → Option Cause → List Pick
 picked place None = []

@@ -1,3 +1,4 @@
 pub mod Collected
 pub mod Feasible
+pub mod Readiness
 pub mod Texts

@@ -1,5 +1,6 @@
 -- The lines of the two answers.
-use Rattle.std.specs.Prelude.{ℕ, ◌==◌, List, [], ◌∷◌, ◌++◌, length, flat_map, not, Bool, codes, decimal, slice_get, Option, Some, None, unwrap_or}
+use Rattle.std.specs.Prelude.{ℕ, ◌==◌, List, [], ◌∷◌, ◌++◌, length, flat_map, not, Bool, codes, decimal, slice_get}
+use Rattle.std.specs.Prelude.{Option, Some, None, unwrap_or}
 use Rattle.std.specs.List.{filter}
 use Rattle.pod_tools.specs.declared.collecting.Cause.{Cause}
 use Rattle.pod_tools.specs.declared.collecting.Cause.TheVariants as causes
@@ -62,7 +63,8 @@ joined names nodes (place ∷ rest) = node_text names nodes place ++ flat_map (�
 
 unfoldable pub placement_line : List (List ℕ) → List NodeRow → List PodRow → Placement → List ℕ
 placement_line names nodes pods p =
-    codes "place " ++ pod_text names pods p.pod ++ codes " tolerations=" ++ decimal p.tolerations ++ codes " nodes=" ++ joined names nodes p.nodes ++ codes "\n"
+    codes "place " ++ pod_text names pods p.pod ++ codes " tolerations=" ++ decimal p.tolerations
+    ++ codes " nodes=" ++ joined names nodes p.nodes ++ codes "\n"
 
 abbrev pub has_node : Placement → Bool
 has_node p = not (length p.nodes == 0)
@@ -72,9 +74,11 @@ abbrev pub count_feasible : List Placement → ℕ
 count_feasible placements = length (filter has_node placements)
 
 unfoldable pub placements_line : List Placement → List ℕ
-placements_line placements = codes "placed pods=" ++ decimal (length placements) ++ codes " feasible=" ++ decimal (count_feasible placements) ++ codes "\n"
+placements_line placements =
+    codes "placed pods=" ++ decimal (length placements) ++ codes " feasible=" ++ decimal (count_feasible placements) ++ codes "\n"
 
 -- the answer of `place`
 unfoldable pub place_text : PlaceInput → List ℕ
 place_text input =
-    flat_map (placement_line input.names input.nodes input.pods) (placed input.nodes input.pods) ++ placements_line (placed input.nodes input.pods)
+    flat_map (placement_line input.names input.nodes input.pods) (placed input.nodes input.pods)
+    ++ placements_line (placed input.nodes input.pods)

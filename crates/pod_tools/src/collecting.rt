@@ -1,14 +1,14 @@
 // Pods that are collected.
-ghost use Rattle.std.specs.Prelude.{◌≡◌, ◌+◌, ◌++◌, nat_le, length, IfOk, OnOk, Some};
+ghost use Rattle.std.specs.Prelude.{◌≡◌, ◌+◌, ◌++◌, nat_le, IfOk, OnOk, Some};
 ghost use Rattle.std.specs.List.{list_any};
 ghost use Rattle.std.specs.Option.{option_map};
 ghost use Rattle.pod_tools.specs.Collected as spec;
 ghost use Rattle.pod_tools.specs.Feasible.{AreFew};
 
-use crate::oldest::{Age, comes_before, first_kept};
-use crate::{CollectInput, MissingRow, NodeRow, PodRow};
+use crate::oldest::{Age, comes_before, first_to_keep};
+use crate::{CollectInput, MissingRow, NodeRow, PodRow, has_status};
 use kube_base::{ListOf, NoMemory, Wall};
-use kube_objects::{Ready, ReadyStatus, Taint};
+use kube_objects::{ReadyStatus, Taint};
 use std::alloc::Global;
 
 /// How long a node has to be gone before its pods are collected, in microseconds: 40 seconds.
@@ -40,7 +40,7 @@ pub fn collect(alloc: Global, input: &CollectInput) -> Result<Picks, NoMemory>
     requires { AreFew input.now.nodes input.now.pods }
     ensures { IfOk result (λ picks. picks ≡ spec.collected input.entry.now) }
 {
-    let kept = first_kept(alloc, input.threshold, input.pods.as_slice())?;
+    let kept = first_to_keep(alloc, input.threshold, input.pods.as_slice())?;
     let mut picks = Picks::new(alloc);
     for (place, row) in input.pods.as_slice().iter().enumerate() {
         let cause = cause_of(input, kept, place as u32, row);
@@ -60,8 +60,7 @@ fn add_pick(picks: &mut Picks, pod: u32, cause: Option<Cause>) -> Result<(), NoM
 
 /// The first of the causes to collect the pod at a place, if there is one.
 fn cause_of(input: &CollectInput, kept: Option<Age>, place: u32, row: &PodRow) -> Option<Cause>
-    requires { (age : spec.Age) → spec.comes_before_any age kept
-        ≡ nat_le (spec.rank age (spec.ages_from 0 input.now.pods)) (spec.excess input.now.threshold (length (spec.ages_from 0 input.now.pods))) }
+    requires { spec.IsFirstToKeep input.now.threshold input.now.pods kept }
     ensures { result ≡ spec.cause_of input.entry.now place row.now }
 {
     if row.terminated && comes_before((row.created.0, place), kept) {
@@ -106,7 +105,7 @@ fn node_of(nodes: &[NodeRow], name: u32) -> Option<&NodeRow>
 fn is_out(service: Option<u32>, row: &NodeRow) -> bool
     ensures { result ≡ spec.is_out service (Some row.now) }
 {
-    !is_ready(row.node.ready) && has_taint(service, row.node.taints.as_slice())
+    !has_status(row.node.ready, ReadyStatus::True) && has_taint(service, row.node.taints.as_slice())
 }
 
 /// Whether one of the taints has this key.
@@ -114,19 +113,6 @@ fn has_taint(key: Option<u32>, taints: &[Taint]) -> bool
     ensures { result ≡ list_any (λ t. spec.is_number key t.key) taints.now }
 {
     taints.iter().any(|taint| is_number(key, taint.key))
-}
-
-fn is_ready(ready: Option<Ready>) -> bool
-    ensures { result ≡ spec.is_ready ready }
-{
-    match ready {
-        Some(ready) => match ready.status {
-            ReadyStatus::True => true,
-            ReadyStatus::False => false,
-            ReadyStatus::Unknown => false,
-        },
-        None => false,
-    }
 }
 
 fn is_number(number: Option<u32>, key: u32) -> bool

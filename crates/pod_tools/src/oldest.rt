@@ -1,6 +1,6 @@
 // The oldest of the terminated pods.
-ghost use Rattle.std.specs.Prelude.{◌≡◌, ◌≤◌, ◌++◌, length, nat_le, slice_get, IfOk, OnOk};
-ghost use Rattle.pod_tools.specs.Collected.{Age, age_of, ages_from, comes_before_any, excess, rank};
+ghost use Rattle.std.specs.Prelude.{◌≡◌, ◌≤◌, ◌++◌, length, slice_get, IfOk, OnOk};
+ghost use Rattle.pod_tools.specs.Collected.{Age, IsFirstToKeep, age_of, ages_from, comes_before_any, excess};
 
 use crate::PodRow;
 use kube_base::NoMemory;
@@ -11,14 +11,13 @@ pub(crate) type Age = (u64, u32);
 
 /// The first of the terminated pods that is kept, in their order by age, or none where none is kept: those before it are
 /// collected.
-pub(crate) fn first_kept(
+pub(crate) fn first_to_keep(
     alloc: Global,
     threshold: u32,
     pods: &[PodRow],
 ) -> Result<Option<Age>, NoMemory>
     requires { length pods.now ≤ 30000 }
-    ensures { IfOk result (λ kept. (age : Age) → comes_before_any age kept
-        ≡ nat_le (rank age (ages_from 0 pods.now)) (excess threshold (length (ages_from 0 pods.now)))) }
+    ensures { IfOk result (IsFirstToKeep threshold pods.now) }
 {
     let mut ages = ages_of(alloc, pods)?;
     ages.sort_unstable();
