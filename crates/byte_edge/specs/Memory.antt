@@ -53,4 +53,6 @@ taken_by plan call left asked = if fails_at call plan.fails then Err (record {})
 
 -- the answer to a call with `offered` bytes where `held` are held
 abbrev pub given_to : SinkPlan → ℕ → ℕ → ℕ → Result ℕ Failed
-given_to plan call held offered = if plan.room - held == 0 || fails_at call plan.fails then Err (record {}) else Ok (min (min plan.chunk offered) (plan.room - held))
+given_to plan call held offered =
+    if plan.room - held == 0 || fails_at call plan.fails then Err (record {})
+    else Ok (min (min plan.chunk offered) (plan.room - held))

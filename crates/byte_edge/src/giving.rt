@@ -1,5 +1,5 @@
 // All of a piece, in as many calls as the sink wants.
-ghost use Rattle.std.specs.Prelude.{◌≡◌, ◌≤◌, ◌<◌, ◌-◌, ◌^◌, OnOk, OnErr, IsErr};
+ghost use Rattle.std.specs.Prelude.{◌≤◌, ◌<◌, ◌-◌, OnOk, OnErr, IsErr};
 ghost use Rattle.byte_edge.specs.Bytes.{Rose, Gives, Gave};
 
 use crate::{Failed, Sink};

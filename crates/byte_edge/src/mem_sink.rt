@@ -66,7 +66,8 @@ impl Sink for MemSink {
 
     fn give(&mut self, bytes: &[u8]) -> Result<usize, Failed>
         requires { 0 < length bytes.now }
-        ensures given { IfOk result (λ n. (0 < n) × (n ≤ length bytes.now) × Gives (Some (held_by self.old)) (Some (held_by self.new)) (take n bytes.now)) }
+        ensures given { IfOk result (λ n. (0 < n) × (n ≤ length bytes.now)
+            × Gives (Some (held_by self.old)) (Some (held_by self.new)) (take n bytes.now)) }
         ensures kept { OnErr result (Some (held_by self.new) ≡ Some (held_by self.old)) }
         ensures counted { faults_of_sink self.old ≤ faults_of_sink self.new }
         ensures within { faults_of_sink self.new ≤ 2 ^ 64 - 1 }

@@ -58,13 +58,15 @@ impl Source for MemSource {
 
     fn take(&mut self, into: &mut [u8]) -> Result<usize, Failed>
         requires { 0 < length into.old }
-        ensures taken { IfOk result (λ n. (n ≤ length into.new) × Took (Some (left_of self.old)) (Some (left_of self.new)) (take n into.new)) }
+        ensures taken { IfOk result (λ n. (n ≤ length into.new)
+            × Took (Some (left_of self.old)) (Some (left_of self.new)) (take n into.new)) }
         ensures end { IfOk result (λ n. (n ≡ 0) ↔ (left_of self.old ≡ [])) }
         ensures kept { OnErr result (Some (left_of self.new) ≡ Some (left_of self.old)) }
         ensures counted { faults_of_source self.old ≤ faults_of_source self.new }
         ensures within { faults_of_source self.new ≤ 2 ^ 64 - 1 }
         ensures failed { IsErr result → Rose (faults_of_source self.old) (faults_of_source self.new) }
-        ensures planned { result ≡ taken_by (source_plan self.old) (calls_of_source self.old) (length (left_of self.old)) (length into.old) }
+        ensures planned { result
+            ≡ taken_by (source_plan self.old) (calls_of_source self.old) (length (left_of self.old)) (length into.old) }
         ensures plan { source_plan self.new ≡ source_plan self.old }
         ensures calls { calls_of_source self.new ≡ one_more (calls_of_source self.old) }
     {

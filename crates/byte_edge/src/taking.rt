@@ -1,5 +1,5 @@
 // All that a source has left, up to a limit.
-ghost use Rattle.std.specs.Prelude.{◌≡◌, ◌≢◌, ◌≤◌, ◌<◌, ◌+◌, ◌-◌, ◌^◌, length, IfOk, IfErr, OnErr, vec_len};
+ghost use Rattle.std.specs.Prelude.{◌≡◌, ◌≢◌, ◌≤◌, ◌<◌, ◌+◌, ◌-◌, ◌^◌, length, IfOk, IfErr, OnErr};
 ghost use Rattle.byte_edge.specs.Bytes.{Rose, TakesPiece, TookAll, TookAtMost, IsTooLarge};
 
 use crate::{Failed, Source};
