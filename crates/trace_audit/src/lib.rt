@@ -4,7 +4,7 @@
 mod audit_of;
 mod fault;
 mod pass;
-mod role_played;
+mod role;
 
 pub use audit_of::{BAD_TRACE, OUTSIDE, OVERLAP, Report, SPACING, audit};
 pub use fault::AuditFault;

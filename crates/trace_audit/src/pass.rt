@@ -1,11 +1,11 @@
 // The lines of a trace, read from the last to the first.
-ghost use Rattle.std.specs.Prelude.{◌≡◌, ◌+◌, ◌<◌, ◌≤◌, ◌^◌, ◌==◌, List, ℕ, [], ◌∷◌, length, OnOk, if◌then◌else◌, Some, None};
+ghost use Rattle.std.specs.Prelude.{◌≡◌, ◌+◌, ◌<◌, ◌≤◌, ◌^◌, ◌==◌, List, ℕ, [], ◌∷◌, OnOk, Some, None};
 ghost use Rattle.trace_lines.specs.declared.header.Header.{Header};
 ghost use Rattle.trace_lines.specs.Forms.{line_of};
 ghost use Rattle.trace_lines.specs.Reads.{seen};
 ghost use Rattle.trace_audit.specs.Passes.{PassStands, IsReady, is_below, wrong_with};
 
-use crate::role_played::role_played;
+use crate::role::role_of;
 use kube_base::NoMemory;
 use std::alloc::Global;
 use trace_lines::{Header, Line, read_line};
@@ -84,7 +84,7 @@ impl Pass {
             Some(_) => Ok(()),
             None => self
                 .review
-                .take(number, line.beat, line.actor, role_played(&line.says)),
+                .take(number, line.beat, line.actor, role_of(&line.says)),
         }
     }
 

@@ -15,7 +15,7 @@ returns-in-None-clause-stands c header text before lines is h =
     let right = right-before header c.args.number text before lines (seen c.args.line.now) c.args.self.now is h (sym c.wrong_with-self.ensures ∙ c.in-None.is) in
     on_ok_weaker c.take.result
     (λ r. stands-line header c.args.number text before lines (seen c.args.line.now) c.args.self.now _
-    (record { line = c.args.number; beat = c.args.line.now.beat; actor = c.args.line.now.actor.now; role = played c.role_played.result })
+    (record { line = c.args.number; beat = c.args.line.now.beat; actor = c.args.line.now.actor.now; role = played c.role_of.result })
     is h refl c.wrong_with-self.ensures refl
-    (ap (λ x. record { line = c.args.number; beat = c.args.line.now.beat; actor = c.args.line.now.actor.now; role = x }) c.role_played.ensures) r)
+    (ap (λ x. record { line = c.args.number; beat = c.args.line.now.beat; actor = c.args.line.now.actor.now; role = x }) c.role_of.ensures) r)
     (c.take.ensures.stands header.beat_millis header.end (entries_of (c.args.number + 1) (before ∷ lines)) right.0 right.1)

@@ -8,7 +8,7 @@ use trace_lines::Says;
 use trace_terms::Role;
 
 /// What the words of a line mean for the terms.
-pub(crate) fn role_played<'a>(says: &Says<&'a [u8]>) -> Role<&'a [u8]>
+pub(crate) fn role_of<'a>(says: &Says<&'a [u8]>) -> Role<&'a [u8]>
     ensures { played result ≡ role_of (said says.now) }
 {
     match says {
