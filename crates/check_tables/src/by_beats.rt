@@ -75,7 +75,7 @@ fn write_lines(
         beat_millis: document.settings.beat_millis,
         end: document.settings.end_beat,
     };
-    if !went(write_first(alloc, sink, &settings, lease_premise(document)))? {
+    if !is_written(write_first(alloc, sink, &settings, lease_premise(document)))? {
         return Ok(false);
     }
     let processes = process_names(alloc, document)?;
@@ -93,14 +93,14 @@ fn write_deeds(
     requires { All (IsWritable names.now (length processes.now)) deeds.now }
 {
     for deed in deeds {
-        if !went(write_deed(alloc, sink, names, processes, deed))? {
+        if !is_written(write_deed(alloc, sink, names, processes, deed))? {
             return Ok(false);
         }
     }
     Ok(true)
 }
 
-fn went(written: Result<(), WriteFault>) -> Result<bool, NoMemory> {
+fn is_written(written: Result<(), WriteFault>) -> Result<bool, NoMemory> {
     match written {
         Ok(()) => Ok(true),
         Err(WriteFault::Sink) => Ok(false),

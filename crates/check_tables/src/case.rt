@@ -1,7 +1,7 @@
 // The cases of rows.
 use crate::document::read_text;
-use crate::manifest::{holder_in, written_of};
-use crate::repeated::repeated;
+use crate::manifest::{holder_in, list_in};
+use crate::many::document_of;
 use crate::table::Kind;
 use crate::trial::{Trial, ample, both_write, ends, writes};
 use kube_base::NoMemory;
@@ -28,7 +28,7 @@ fn case_holds(
     wanted: &str,
     case: &str,
 ) -> Result<bool, NoMemory> {
-    let input = filled(alloc, form, case)?;
+    let input = fill(alloc, form, case)?;
     let lines = lines_of(alloc, wanted)?;
     match kind {
         Kind::Both => both_write(alloc, input.as_bytes(), lines.as_str()),
@@ -42,13 +42,13 @@ fn case_holds(
         Kind::Many => many_hold(alloc, case, lines.as_str()),
         Kind::Read => is_text(Some(read_text(alloc, input.as_str())?), wanted),
         Kind::Holder => is_text(holder_in(alloc, input.as_str())?, wanted),
-        Kind::Written => is_text(written_of(alloc, input.as_str())?, wanted),
+        Kind::Written => is_text(list_in(alloc, input.as_str())?, wanted),
         _ => Ok(false),
     }
 }
 
 /// The form with a case in the place of `CASE`.
-fn filled(alloc: Global, form: &str, case: &str) -> Result<String, NoMemory> {
+fn fill(alloc: Global, form: &str, case: &str) -> Result<String, NoMemory> {
     match form.split_once("CASE") {
         Some((before, after)) => Ok(format!(in alloc; "{before}{case}{after}")?),
         None => Ok(String::from_str(alloc, case)?),
@@ -82,7 +82,7 @@ fn is_text(text: Option<String>, wanted: &str) -> Result<bool, NoMemory> {
 }
 
 fn many_hold(alloc: Global, parts: &str, line: &str) -> Result<bool, NoMemory> {
-    match repeated(alloc, parts)? {
+    match document_of(alloc, parts)? {
         Some(document) => both_write(alloc, document.as_bytes(), line),
         None => Ok(false),
     }

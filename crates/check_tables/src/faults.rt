@@ -21,15 +21,15 @@ pub(crate) fn replays(alloc: Global, document: &str, trace: &str) -> Result<Tall
 /// Runs a document that has this trace over sources and sinks that fail, cut and with blanks behind it.
 pub(crate) fn after_faults(alloc: Global, document: &str, trace: &str) -> Result<Tally, NoMemory> {
     let bytes = document.as_bytes();
-    let mut tally = cut(alloc, bytes)?;
+    let mut tally = over_fronts(alloc, bytes)?;
     tally.join(over_failing_sources(alloc, bytes, trace)?);
     tally.join(over_full_sinks(alloc, bytes, trace)?);
-    tally.join(padded(alloc, bytes, trace)?);
+    tally.join(over_padding(alloc, bytes, trace)?);
     Ok(tally)
 }
 
 /// Each front of the document is no document.
-fn cut(alloc: Global, document: &[u8]) -> Result<Tally, NoMemory> {
+fn over_fronts(alloc: Global, document: &[u8]) -> Result<Tally, NoMemory> {
     let mut tally = Tally::new();
     for length in 0..document.len() {
         for word in COMMANDS {
@@ -86,7 +86,7 @@ fn over_full_sinks(alloc: Global, document: &[u8], trace: &str) -> Result<Tally,
 }
 
 /// Blanks behind the document change nothing, up to the most bytes that a document may have.
-fn padded(alloc: Global, document: &[u8], trace: &str) -> Result<Tally, NoMemory> {
+fn over_padding(alloc: Global, document: &[u8], trace: &str) -> Result<Tally, NoMemory> {
     let mut bytes = document.to_vec(alloc)?;
     bytes.resize(LARGEST, b' ')?;
     let mut tally = Tally::of(writes(alloc, "replay", &bytes, trace)?);

@@ -6,7 +6,7 @@ mod case;
 mod document;
 mod faults;
 mod manifest;
-mod repeated;
+mod many;
 mod table;
 mod tally;
 mod trial;

@@ -42,7 +42,7 @@ fn holder_text(alloc: Global, names: &Names, holder: Holder) -> Result<Option<St
 }
 
 /// How many items of the List are skipped, and the List that is written of the others, where it is read.
-pub(crate) fn written_of(alloc: Global, text: &str) -> Result<Option<String>, NoMemory> {
+pub(crate) fn list_in(alloc: Global, text: &str) -> Result<Option<String>, NoMemory> {
     let Ok(value) = Value::from_str(alloc, text) else {
         return Ok(None);
     };

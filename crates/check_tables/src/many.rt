@@ -4,7 +4,7 @@ use std::alloc::Global;
 
 /// The document of a row: how often the member stands in it, what stands before the members, the member, in which `#`
 /// stands for a number from 0, and what stands after the members.
-pub(crate) fn repeated(alloc: Global, row: &str) -> Result<Option<String>, NoMemory> {
+pub(crate) fn document_of(alloc: Global, row: &str) -> Result<Option<String>, NoMemory> {
     match parts_of(row) {
         Some(parts) => Ok(Some(parts.document(alloc)?)),
         None => Ok(None),
