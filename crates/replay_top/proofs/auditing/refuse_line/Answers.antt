@@ -1,4 +1,4 @@
-use Rattle.std.proofs.Common.{[], Some, ◌++◌, codes, decimal, ◌∙◌, subst}
+use Rattle.std.proofs.Common.{[], Some, ◌∙◌, subst}
 use Rattle.byte_edge.proofs.Fronts.{gave-nothing}
 use Rattle.replay_top.specs.Audited.{refusal_of}
 use Rattle.replay_top.specs.Outcome.{refused, Ends}
