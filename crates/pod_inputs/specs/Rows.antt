@@ -11,7 +11,6 @@ use Rattle.kube_objects.specs.declared.key.Kind.{Kind}
 use Rattle.kube_objects.specs.declared.node.Effect.TheVariants as effects
 use Rattle.kube_objects.specs.declared.node.Node.{Node}
 use Rattle.kube_objects.specs.declared.node.Ready.{Ready}
-use Rattle.kube_objects.specs.declared.node.ReadyStatus.{ReadyStatus}
 use Rattle.kube_objects.specs.declared.node.ReadyStatus.TheVariants as statuses
 use Rattle.kube_objects.specs.declared.node.Taint.{Taint}
 use Rattle.kube_objects.specs.declared.object.Object.{Object}
@@ -26,6 +25,7 @@ use Rattle.pod_inputs.specs.declared.row.Rows.{Rows}
 use Rattle.pod_inputs.specs.Fields.{flag_at}
 use Rattle.pod_tools.specs.declared.rows.NodeRow.{NodeRow}
 use Rattle.pod_tools.specs.declared.rows.PodRow.{PodRow}
+use Rattle.pod_tools.specs.Readiness.{has_status}
 
 -- ---- Pods
 
@@ -56,24 +56,6 @@ condition_holds kind (item d rest) =
     then is_text (codes "True") (option_and_then as_str (get (codes "status") d))
     else condition_holds kind rest
 
-abbrev pub is_not_ready : Option Ready → Bool
-is_not_ready None = false
-is_not_ready (Some ready) = is_false ready.status
-  where
-    is_false : ReadyStatus → Bool
-    is_false statuses.True = false
-    is_false statuses.False = true
-    is_false statuses.Unknown = false
-
-abbrev pub is_unreachable : Option Ready → Bool
-is_unreachable None = false
-is_unreachable (Some ready) = is_unknown ready.status
-  where
-    is_unknown : ReadyStatus → Bool
-    is_unknown statuses.True = false
-    is_unknown statuses.False = false
-    is_unknown statuses.Unknown = true
-
 abbrev pub derived_taint : ℕ → Taint
 derived_taint key = record { key = key; value = 0; effect = effects.NoSchedule; added = None }
 
@@ -87,8 +69,8 @@ mark_at names taints true text = do
 -- the NoSchedule taints by Ready
 unfoldable pub ready_marks_at : Texts → Option Ready → Result (List Taint × Texts) Refusal
 ready_marks_at names ready = do
-  one ← mark_at names [] (is_not_ready ready) (codes "node.kubernetes.io/not-ready")
-  mark_at one.1 one.0 (is_unreachable ready) (codes "node.kubernetes.io/unreachable")
+  one ← mark_at names [] (has_status ready statuses.False) (codes "node.kubernetes.io/not-ready")
+  mark_at one.1 one.0 (has_status ready statuses.Unknown) (codes "node.kubernetes.io/unreachable")
 
 -- those by the other conditions
 unfoldable pub pressure_marks_at : Texts → List Taint → Items → Result (List Taint × Texts) Refusal

@@ -1,5 +1,5 @@
 // Taints that follow from a Node's conditions.
-ghost use Rattle.std.specs.Prelude.{◌≡◌, []};
+ghost use Rattle.std.specs.Prelude.{◌≡◌};
 ghost use Rattle.serde_json.specs.View.{items_view};
 ghost use Rattle.manifest_json.specs.Faults.{Gives};
 ghost use Rattle.pod_inputs.specs.Rows as spec;
@@ -8,6 +8,7 @@ use kube_base::Names;
 use kube_objects::{Effect, Ready, ReadyStatus, Taint, Taints};
 use manifest_json::field::is_text;
 use manifest_json::{ReadFault, number};
+use pod_tools::has_status;
 use serde_json::Value;
 use std::alloc::Global;
 
@@ -42,13 +43,13 @@ fn ready_marks(alloc: Global, names: &mut Names, ready: Option<Ready>) -> Result
     mark(
         names,
         &mut taints,
-        is_not_ready(ready),
+        has_status(ready, ReadyStatus::False),
         "node.kubernetes.io/not-ready",
     )?;
     mark(
         names,
         &mut taints,
-        is_unreachable(ready),
+        has_status(ready, ReadyStatus::Unknown),
         "node.kubernetes.io/unreachable",
     )?;
     Ok(taints)
@@ -106,32 +107,6 @@ fn mark(names: &mut Names, taints: &mut Taints, holds: bool, key: &str) -> Resul
         added: None,
     })?;
     Ok(())
-}
-
-fn is_not_ready(ready: Option<Ready>) -> bool
-    ensures { result ≡ spec.is_not_ready ready }
-{
-    match ready {
-        Some(ready) => match ready.status {
-            ReadyStatus::True => false,
-            ReadyStatus::False => true,
-            ReadyStatus::Unknown => false,
-        },
-        None => false,
-    }
-}
-
-fn is_unreachable(ready: Option<Ready>) -> bool
-    ensures { result ≡ spec.is_unreachable ready }
-{
-    match ready {
-        Some(ready) => match ready.status {
-            ReadyStatus::True => false,
-            ReadyStatus::False => false,
-            ReadyStatus::Unknown => true,
-        },
-        None => false,
-    }
 }
 
 /// Whether the first condition of this type has the status True.
