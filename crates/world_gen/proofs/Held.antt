@@ -7,7 +7,7 @@ use Rattle.std.proofs.lemmas.Option.{slice_get_within}
 use Rattle.std.specs.List.{range_with_len}
 use Rattle.manifest_json.specs.Fields.{Texts, is_name, is_name_rest, is_small_letter_or_digit, is_label}
 use Rattle.manifest_json.specs.Readable.{IsHeld, IsNameNumber, IsLabelNumber}
-use Rattle.world_gen.specs.Numbers.{controller_number, node_number, region_number, zone_number, space_number, pod_number, lettered, all_lettered, controller_names, node_names, zones, zone_names, pod_names, generated_names}
+use Rattle.world_gen.specs.Numbers.{controller_number, node_number, region_number, zone_number, space_number, pod_number, short_name, short_names, controller_names, node_names, zones, zone_names, pod_names, generated_names}
 
 -- ---- places in joined lists
 
@@ -20,15 +20,15 @@ held-left [] ys i text h = absurd cc
 held-left (x ∷ xs) ys zero text h = h
 held-left (x ∷ xs) ys (suc i) text h = held-left xs ys i text h
 
-held-lettered : (letter start n i : ℕ) → i < n
-    → slice_get (map (lettered letter) (range_with_len start n)) i ≡ Some (lettered letter (start + i))
-held-lettered letter start zero i lt = absurd (omega arith)
-held-lettered letter start (suc n) zero lt = ap (λ k. Some (lettered letter k)) (omega arith)
-held-lettered letter start (suc n) (suc i) lt =
-    held-lettered letter (start + 1) n i (omega arith) ∙ ap (λ k. Some (lettered letter k)) (omega arith)
+held-short_name : (letter start n i : ℕ) → i < n
+    → slice_get (map (short_name letter) (range_with_len start n)) i ≡ Some (short_name letter (start + i))
+held-short_name letter start zero i lt = absurd (omega arith)
+held-short_name letter start (suc n) zero lt = ap (λ k. Some (short_name letter k)) (omega arith)
+held-short_name letter start (suc n) (suc i) lt =
+    held-short_name letter (start + 1) n i (omega arith) ∙ ap (λ k. Some (short_name letter k)) (omega arith)
 
-held-first : (letter n i : ℕ) → i < n → slice_get (all_lettered letter n) i ≡ Some (lettered letter i)
-held-first letter n i lt = held-lettered letter 0 n i lt ∙ ap (λ k. Some (lettered letter k)) (zero-add i)
+held-first : (letter n i : ℕ) → i < n → slice_get (short_names letter n) i ≡ Some (short_name letter i)
+held-first letter n i lt = held-short_name letter 0 n i lt ∙ ap (λ k. Some (short_name letter k)) (zero-add i)
 
 -- ---- a small letter and a decimal number are a name
 
@@ -56,9 +56,9 @@ name-rest last (d ∷ ds) small dot h =
     let rest = name-rest d ds digit (grind (arith, nat_tests, h)) h.2 in
     grind (arith, nat_tests, digit, rest, small, dot, h)
 
-pub lettered-name : (letter i : ℕ) → is_small_letter_or_digit letter ≡ true → (letter == 46) ≡ false → i < 10 ^ 9
-    → is_name (lettered letter i) ≡ true
-lettered-name letter i small dot few =
+pub short_name-is_name : (letter i : ℕ) → is_small_letter_or_digit letter ≡ true → (letter == 46) ≡ false → i < 10 ^ 9
+    → is_name (short_name letter i) ≡ true
+short_name-is_name letter i small dot few =
     let long = length-decimal-le 9 i (omega arith) few (omega arith) in
     let rest = name-rest letter (decimal i) small dot (are-digits i (omega arith)) in
     grind (arith, nat_tests, long, rest, small)
@@ -114,7 +114,7 @@ module _ (nodes pods : ℕ) where
   behind-nodes : (k i : ℕ) (text : List ℕ) → 13 + nodes + i ≡ k → slice_get behind_nodes i ≡ Some text → slice_get names k ≡ Some text
   behind-nodes k i text place h =
       behind-controllers k (nodes + i) text (omega arith)
-      (behind (node_names nodes) behind_nodes nodes (nodes + i) i text (length-map-range_with_len (lettered 110) 0 nodes) refl h)
+      (behind (node_names nodes) behind_nodes nodes (nodes + i) i text (length-map-range_with_len (short_name 110) 0 nodes) refl h)
 
   -- behind the zones
   behind-zones : (k i : ℕ) (text : List ℕ) → 14 + nodes + zones nodes + i ≡ k → slice_get (pod_names pods) i ≡ Some text
@@ -123,7 +123,7 @@ module _ (nodes pods : ℕ) where
       behind-nodes k (1 + (zones nodes + i)) text (omega arith)
       (behind (codes "r1" ∷ []) behind_region 1 (1 + (zones nodes + i)) (zones nodes + i) text refl refl
       (behind (zone_names nodes) (pod_names pods) (zones nodes) (zones nodes + i) i text
-      (length-map-range_with_len (lettered 122) 0 (zones nodes)) refl h))
+      (length-map-range_with_len (short_name 122) 0 (zones nodes)) refl h))
 
   pub fixed-held : (n : ℕ) → n < 10 → IsHeld names n
   fixed-held n lt = omega (arith, ap length names-are, length-append controller_names (node_names nodes ++ behind_nodes))
@@ -136,10 +136,10 @@ module _ (nodes pods : ℕ) where
 
   pub node-named : (i : ℕ) → i < nodes → nodes ≤ 1000 → IsNameNumber names (node_number i)
   node-named i lt few =
-      is-name names (node_number i) (lettered 110 i)
-      (behind-controllers (13 + i) i (lettered 110 i) refl
-      (held-left (node_names nodes) behind_nodes i (lettered 110 i) (held-first 110 nodes i lt)))
-      (lettered-name 110 i refl refl (omega arith))
+      is-name names (node_number i) (short_name 110 i)
+      (behind-controllers (13 + i) i (short_name 110 i) refl
+      (held-left (node_names nodes) behind_nodes i (short_name 110 i) (held-first 110 nodes i lt)))
+      (short_name-is_name 110 i refl refl (omega arith))
 
   pub region-label : IsLabelNumber names (region_number nodes)
   region-label = is-label names (region_number nodes) (codes "r1") (behind-nodes (13 + nodes) 0 (codes "r1") (omega arith) refl) refl
@@ -147,10 +147,10 @@ module _ (nodes pods : ℕ) where
   pub zone-label_number : (i : ℕ) → i < nodes → IsLabelNumber names (zone_number nodes i)
   zone-label_number i lt =
       let k = i % 5 in
-      let held = held-left (zone_names nodes) (pod_names pods) k (lettered 122 k) (held-first 122 (zones nodes) k (omega arith)) in
-      is-label names (zone_number nodes i) (lettered 122 k)
-      (behind-nodes (14 + nodes + k) (1 + k) (lettered 122 k) (omega arith)
-      (behind (codes "r1" ∷ []) behind_region 1 (1 + k) k (lettered 122 k) refl refl held))
+      let held = held-left (zone_names nodes) (pod_names pods) k (short_name 122 k) (held-first 122 (zones nodes) k (omega arith)) in
+      is-label names (zone_number nodes i) (short_name 122 k)
+      (behind-nodes (14 + nodes + k) (1 + k) (short_name 122 k) (omega arith)
+      (behind (codes "r1" ∷ []) behind_region 1 (1 + k) k (short_name 122 k) refl refl held))
       (ap (λ t. is_label (122 ∷ t)) (decimal_digit k (omega arith)) ∙ zone-label k (omega arith))
 
   pub space-named : (j : ℕ) → j < pods → IsNameNumber names (space_number nodes)
@@ -164,10 +164,10 @@ module _ (nodes pods : ℕ) where
 
   pub pod-named : (j : ℕ) → j < pods → pods ≤ 30000 → IsNameNumber names (pod_number nodes j)
   pod-named j lt few =
-      is-name names (pod_number nodes j) (lettered 112 j)
-      (behind-zones (pod_number nodes j) (suc j) (lettered 112 j) (omega arith) (pod-at pods j lt))
-      (lettered-name 112 j refl refl (omega arith))
+      is-name names (pod_number nodes j) (short_name 112 j)
+      (behind-zones (pod_number nodes j) (suc j) (short_name 112 j) (omega arith) (pod-at pods j lt))
+      (short_name-is_name 112 j refl refl (omega arith))
     where
-      pod-at : (n i : ℕ) → i < n → slice_get (pod_names n) (suc i) ≡ Some (lettered 112 i)
+      pod-at : (n i : ℕ) → i < n → slice_get (pod_names n) (suc i) ≡ Some (short_name 112 i)
       pod-at zero i small = absurd (omega arith)
       pod-at (suc n) i small = held-first 112 (suc n) i small

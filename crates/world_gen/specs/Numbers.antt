@@ -6,28 +6,28 @@ use Rattle.std.specs.List.{range_with_len}
 use Rattle.kube_base.specs.Names.{fixed_names}
 
 -- a letter and then the number in decimal
-abbrev pub lettered : ℕ → ℕ → List ℕ
-lettered letter i = letter ∷ decimal i
+abbrev pub short_name : ℕ → ℕ → List ℕ
+short_name letter i = letter ∷ decimal i
 
 -- so many texts, from 0 on
-abbrev pub all_lettered : ℕ → ℕ → List (List ℕ)
-all_lettered letter n = map (lettered letter) (range_with_len 0 n)
+abbrev pub short_names : ℕ → ℕ → List (List ℕ)
+short_names letter n = map (short_name letter) (range_with_len 0 n)
 
 -- n0, n1 and so on
 abbrev pub node_names : ℕ → List (List ℕ)
-node_names nodes = all_lettered 110 nodes
+node_names nodes = short_names 110 nodes
 
 -- z0 to z4
 abbrev pub zones : ℕ → ℕ
 zones nodes = min nodes 5
 
 abbrev pub zone_names : ℕ → List (List ℕ)
-zone_names nodes = all_lettered 122 (zones nodes)
+zone_names nodes = short_names 122 (zones nodes)
 
 -- p0, p1 and so on, behind their namespace
 abbrev pub pod_names : ℕ → List (List ℕ)
 pod_names zero = []
-pod_names (suc n) = codes "default" ∷ all_lettered 112 (suc n)
+pod_names (suc n) = codes "default" ∷ short_names 112 (suc n)
 
 -- the fixed names and then the controllers
 abbrev pub controller_names : List (List ℕ)

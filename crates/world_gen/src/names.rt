@@ -89,7 +89,7 @@ fn controller_names(alloc: Global) -> Result<Names, NoMemory>
 fn add_pods(alloc: Global, names: &mut Names, pods: u32) -> Result<(), NoMemory>
     requires few { length names.old + pods < 2 ^ 32 - 1 }
     requires space { list_any (bytes_eq (codes "default")) names.old ≡ false }
-    requires fresh { (i : ℕ) → list_any (bytes_eq (spec.lettered 112 i)) names.old ≡ false }
+    requires fresh { (i : ℕ) → list_any (bytes_eq (spec.short_name 112 i)) names.old ≡ false }
     ensures { OnOk result (names.new ≡ names.old ++ spec.pod_names pods) }
 {
     if pods > 0 {
@@ -114,20 +114,20 @@ fn add_new(names: &mut Names, text: &[u8]) -> Result<(), NoMemory>
 fn add_all(alloc: Global, names: &mut Names, letter: u8, count: u32) -> Result<(), NoMemory>
     requires few { length names.old + count < 2 ^ 32 }
     requires ascii { letter < 128 }
-    requires fresh { (i : ℕ) → i < count → list_any (bytes_eq (spec.lettered letter i)) names.old ≡ false }
-    ensures { OnOk result (names.new ≡ names.old ++ spec.all_lettered letter count) }
+    requires fresh { (i : ℕ) → i < count → list_any (bytes_eq (spec.short_name letter i)) names.old ≡ false }
+    ensures { OnOk result (names.new ≡ names.old ++ spec.short_names letter count) }
 {
     for i in 0..count {
-        let text = lettered(alloc, letter, i)?;
+        let text = short_name(alloc, letter, i)?;
         add_new(names, &text)?;
     }
     Ok(())
 }
 
 /// A letter and then a number in decimal.
-fn lettered(alloc: Global, letter: u8, i: u32) -> Result<Vec<u8>, NoMemory>
+fn short_name(alloc: Global, letter: u8, i: u32) -> Result<Vec<u8>, NoMemory>
     requires { letter < 128 }
-    ensures text { IfOk result (λ text. text.items ≡ spec.lettered letter i) }
+    ensures text { IfOk result (λ text. text.items ≡ spec.short_name letter i) }
     ensures utf8 { IfOk result (λ text. IsUtf8 text.items) }
 {
     let mut buffer = Buffer::new();

@@ -2,7 +2,7 @@ use Rattle.std.proofs.Common.{◌++◌, ◌∷◌, [], sym, subst, ap₂, ◌∙
 use Rattle.std.specs.Str.{IsUtf8}
 use Rattle.std.proofs.lemmas.Str.{IsUtf8-from_ascii, IsAscii-append}
 use Rattle.std.proofs.lemmas.Str.Ascii.{IsAscii-push}
-use Rattle.world_gen.proofs.names.lettered.Goals as goal
+use Rattle.world_gen.proofs.names.short_name.Goals as goal
 
 pub returns-clause-utf8 : goal.returns-clause-utf8
 returns-clause-utf8 c =
