@@ -35,8 +35,8 @@ abbrev pub default_for : ℕ → List Toleration → List Toleration
 default_for key tolerations = if list_any (speaks_of key) tolerations then [] else default_of key ∷ []
 
 -- the tolerations with the defaults for `node.kubernetes.io/not-ready` and `node.kubernetes.io/unreachable`
-abbrev pub with_defaults : List Toleration → List Toleration
-with_defaults tolerations = (tolerations ++ default_for NOT_READY tolerations) ++ default_for UNREACHABLE tolerations
+abbrev pub defaulted : List Toleration → List Toleration
+defaulted tolerations = (tolerations ++ default_for NOT_READY tolerations) ++ default_for UNREACHABLE tolerations
 
 -- ---- feasible nodes
 
@@ -66,7 +66,7 @@ feasible_from tolerations place (row ∷ rest) = place_of tolerations place row 
 -- the answer for the pod at a place
 abbrev pub placement : List NodeRow → ℕ → List Toleration → Placement
 placement nodes place tolerations =
-    record { pod = place; tolerations = length (with_defaults tolerations); nodes = feasible_from (with_defaults tolerations) 0 nodes }
+    record { pod = place; tolerations = length (defaulted tolerations); nodes = feasible_from (defaulted tolerations) 0 nodes }
 
 -- the answer for the pod at a place, if it names no node
 abbrev pub placement_for : List NodeRow → ℕ → PodRow → List Placement

@@ -8,8 +8,8 @@ use kube_objects::{Effect, Operator, Toleration, Tolerations};
 
 /// The tolerations with the defaults at their end: five minutes for NoExecute taints with the key `node.kubernetes.io/not-ready`,
 /// then `node.kubernetes.io/unreachable`, each unless a given toleration for that effect has that key or an empty one.
-pub fn with_defaults(tolerations: &Tolerations) -> Result<Tolerations, NoMemory>
-    ensures { IfOk result (λ all. all ≡ spec.with_defaults tolerations.now) }
+pub fn defaulted(tolerations: &Tolerations) -> Result<Tolerations, NoMemory>
+    ensures { IfOk result (λ all. all ≡ spec.defaulted tolerations.now) }
 {
     let mut all = tolerations.copy()?;
     add_default(&mut all, NOT_READY, tolerations.as_slice())?;

@@ -12,7 +12,7 @@ mod rows;
 mod texts;
 
 pub use collecting::{Cause, Pick, Picks, collect};
-pub use defaults::with_defaults;
+pub use defaults::defaulted;
 pub use pick_lines::collect_lines;
 pub use placement_lines::place_lines;
 pub use placing::{Placement, Placements, place};

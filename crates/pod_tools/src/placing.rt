@@ -4,7 +4,7 @@ ghost use Rattle.std.specs.List.{list_any, list_all};
 ghost use Rattle.kube_objects.specs.Tolerations.{tolerates};
 ghost use Rattle.pod_tools.specs.Feasible as spec;
 
-use crate::{NodeRow, PlaceInput, PodRow, with_defaults};
+use crate::{NodeRow, PlaceInput, PodRow, defaulted};
 use kube_base::{ListOf, NoMemory};
 use kube_objects::{Effect, NumberList, Taint, Toleration, Tolerations};
 use std::alloc::Global;
@@ -69,7 +69,7 @@ fn placement_of(
     requires tolerations { length given.now ≤ 100 }
     ensures { IfOk result (λ p. p ≡ spec.placement nodes.now pod given.now) }
 {
-    let tolerations = with_defaults(given)?;
+    let tolerations = defaulted(given)?;
     let nodes = feasible(alloc, tolerations.as_slice(), nodes)?;
     Ok(Placement {
         pod,
