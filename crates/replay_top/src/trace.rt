@@ -179,7 +179,7 @@ pub(crate) fn next_of(world: &World) -> Option<Beat>
     ensures { (doc : Doc) → AreLawfulFrom doc 0 doc.events → StandsForNext doc world.now → end_of world.now ≡ end_beat doc
         → IsNextBeat doc (at_of world.now) (beat_of result) }
 {
-    if world.is_past_end() {
+    if world.finished() {
         return None;
     }
     next_beat(world)

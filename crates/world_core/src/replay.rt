@@ -21,7 +21,7 @@ pub fn deeds_of(alloc: Global, document: Document, policies: &Policies) -> Resul
     let mut deeds = Deeds::new(alloc);
     let mut steps = Steps::new(Blank::new(1));
     let mut world = World::new(alloc, document)?;
-    'beats: while !world.is_past_end() {
+    'beats: while !world.finished() {
         let (next, printed) = world.beat(policies, &mut steps)?;
         world = next;
         deeds.append(&printed)?;

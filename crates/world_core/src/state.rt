@@ -138,7 +138,7 @@ impl State {
     }
 
     /// Whether the end is passed.
-    pub fn is_past_end(&self) -> bool
+    pub fn finished(&self) -> bool
         ensures { IsTrue result ↔ (end_of self.now < at_of self.now) }
     {
         self.beat.0 > self.end.0

@@ -78,10 +78,10 @@ impl World {
     }
 
     /// Whether the end is passed.
-    pub fn is_past_end(&self) -> bool
+    pub fn finished(&self) -> bool
         ensures { IsTrue result ↔ (end_of self.now < at_of self.now) }
     {
-        self.state.is_past_end()
+        self.state.finished()
     }
 
     /// Does one beat, and answers its printed entries. It counts one step.

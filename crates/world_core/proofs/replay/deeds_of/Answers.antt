@@ -29,7 +29,7 @@ beats-preserved g c =
     let k = at_of c.beats.world in
     let next = c.in_ok-next.next in
     let kept = c.in_ok-next.ensures.kept in
-    let inside = not-over (end_of c.beats.world) k c.is_past_end.result c.is_past_end.ensures c.beats-test.true in
+    let inside = not-over (end_of c.beats.world) k c.finished.result c.finished.ensures c.beats-test.true in
     let few = lawful-few doc k c.requires.lawful (omega (arith, inside, now.end)) in
     let done = c.in_ok-next.ensures.stands doc k (history doc k) few now.stands in
     let later : suc k ≡ at_of next = sym (kept.1 ∙ add-one k) in
@@ -45,6 +45,6 @@ pub returns : goal.returns
 returns g c =
     let doc = doc_of c.args.document in
     let now = c.beats.invariant in
-    let done = over (end_of c.beats.world) (at_of c.beats.world) c.is_past_end.result c.is_past_end.ensures c.beats-test.false now.within in
+    let done = over (end_of c.beats.world) (at_of c.beats.world) c.finished.result c.finished.ensures c.beats-test.false now.within in
     let last : at_of c.beats.world ≡ suc (end_beat doc) = done ∙ ap (λ n. n + 1) now.end ∙ add-one (end_beat doc) in
     now.told ∙ ap (λ n. printed (history doc n)) last
