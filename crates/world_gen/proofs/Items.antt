@@ -1,5 +1,5 @@
 -- The objects of a generated document: their keys, and how many there are of each kind.
-use Rattle.std.proofs.Common.{◌≡◌, ℕ, zero, suc, ◌+◌, ◌<◌, ◌≤◌, ◌==◌, ◌&&◌, ◌||◌, not, nat_lt, Bool, true, false, List, [], ◌∷◌, ◌++◌, map, cond, refl, sym, ap, subst, ◌∙◌, arith, inl, inr, append_assoc}
+use Rattle.std.proofs.Common.{◌≡◌, ℕ, zero, suc, ◌+◌, ◌<◌, ◌≤◌, ◌==◌, ◌&&◌, ◌||◌, not, nat_lt, Bool, true, false, List, [], ◌∷◌, ◌++◌, map, cond, refl, sym, ap, ap₂, subst, ◌∙◌, arith, inl, inr, append_assoc}
 use Rattle.std.proofs.lemmas.Bool.{cases_Bool}
 use Rattle.std.proofs.lemmas.Bool.Decides.{nat_tests}
 use Rattle.std.proofs.lemmas.List.Sums.{sum_by-append}
@@ -94,20 +94,22 @@ nodes-below : (nodes start n most : ℕ) → 13 + start + n ≤ most → AreBelo
 nodes-below nodes start zero most le = tt
 nodes-below nodes start (suc n) most le = (omega arith, nodes-below nodes (start + 1) n most (omega arith))
 
+-- one more of a kind or of another
+counted-more : (b : Bool) (n : ℕ) → cond b 1 0 + cond b n 0 ≡ cond b (suc n) 0
+counted-more true n = omega arith
+counted-more false n = refl
+
+counted-none : (b : Bool) → ◌≡◌ {A = ℕ} 0 (cond b 0 0)
+counted-none true = refl
+counted-none false = refl
+
 nodes-count : (kind : Kind) (nodes start n : ℕ)
     → kind_count kind (map (node_item nodes) (range_with_len start n)) ≡ cond (kind_rank kind == 0) n 0
-nodes-count kinds.Node nodes start zero = refl
-nodes-count kinds.Lease nodes start zero = refl
-nodes-count kinds.Pod nodes start zero = refl
-nodes-count kinds.Node nodes start (suc n) =
-    count-more kinds.Node (node_item nodes start) (map (node_item nodes) (range_with_len (start + 1) n))
-    ∙ omega (arith, nodes-count kinds.Node nodes (start + 1) n)
-nodes-count kinds.Lease nodes start (suc n) =
-    count-more kinds.Lease (node_item nodes start) (map (node_item nodes) (range_with_len (start + 1) n))
-    ∙ omega (arith, nodes-count kinds.Lease nodes (start + 1) n)
-nodes-count kinds.Pod nodes start (suc n) =
-    count-more kinds.Pod (node_item nodes start) (map (node_item nodes) (range_with_len (start + 1) n))
-    ∙ omega (arith, nodes-count kinds.Pod nodes (start + 1) n)
+nodes-count kind nodes start zero = counted-none (kind_rank kind == 0)
+nodes-count kind nodes start (suc n) =
+    count-more kind (node_item nodes start) (map (node_item nodes) (range_with_len (start + 1) n))
+    ∙ ap (λ m. cond (kind_rank kind == 0) 1 0 + m) (nodes-count kind nodes (start + 1) n)
+    ∙ counted-more (kind_rank kind == 0) n
 
 nodes-of_kind : (nodes start n : ℕ) → AllByRecursion (λ item. IsOfKind item.0 item.1) (map (node_item nodes) (range_with_len start n))
 nodes-of_kind nodes start zero = tt
@@ -137,12 +139,7 @@ of_kind-push (y ∷ ys) x all one = (all.0, of_kind-push ys x all.1 one)
 
 pods-stand : (nodes j : ℕ) (g : Lcg) → PodsStand nodes j (pod_items nodes j g).value
 unfolding pod_items
-pods-stand nodes zero g = record { rising = tt; below = tt; counts = λ kind. none kind; of_kind = tt }
-  where
-    none : (kind : Kind) → ◌≡◌ {A = ℕ} 0 (cond (kind_rank kind == 2) 0 0)
-    none kinds.Node = refl
-    none kinds.Lease = refl
-    none kinds.Pod = refl
+pods-stand nodes zero g = record { rising = tt; below = tt; counts = λ kind. counted-none (kind_rank kind == 2); of_kind = tt }
 pods-stand nodes (suc j) g =
     let before = pods-stand nodes j g in
     let items = (pod_items nodes j g).value in
@@ -177,28 +174,15 @@ module _ (nodes pods : ℕ) (g : Lcg) where
   pub all-of_kind : AllByRecursion (λ item. IsOfKind item.0 item.1) all_items
   all-of_kind = of_kind-append (node_items nodes) _ (nodes-of_kind nodes 0 nodes) (pods-stand nodes pods g).of_kind
 
+  all-counts : (kind : Kind) → kind_count kind all_items ≡ cond (kind_rank kind == 0) nodes 0 + cond (kind_rank kind == 2) pods 0
+  all-counts kind =
+      count-append kind (node_items nodes) (pod_items nodes pods g).value
+      ∙ ap₂ (λ m n. m + n) (nodes-count kind nodes 0 nodes) ((pods-stand nodes pods g).counts kind)
+
   pub all-few : nodes ≤ 1000 → pods ≤ 30000 → (kind : Kind) → kind_count kind all_items ≤ kind_limit kind
-  all-few few fewer kinds.Node =
-      omega (
-        arith,
-        count-append kinds.Node (node_items nodes) (pod_items nodes pods g).value,
-        nodes-count kinds.Node nodes 0 nodes,
-        (pods-stand nodes pods g).counts kinds.Node,
-      )
-  all-few few fewer kinds.Lease =
-      omega (
-        arith,
-        count-append kinds.Lease (node_items nodes) (pod_items nodes pods g).value,
-        nodes-count kinds.Lease nodes 0 nodes,
-        (pods-stand nodes pods g).counts kinds.Lease,
-      )
-  all-few few fewer kinds.Pod =
-      omega (
-        arith,
-        count-append kinds.Pod (node_items nodes) (pod_items nodes pods g).value,
-        nodes-count kinds.Pod nodes 0 nodes,
-        (pods-stand nodes pods g).counts kinds.Pod,
-      )
+  all-few few fewer kinds.Node = omega (arith, all-counts kinds.Node)
+  all-few few fewer kinds.Lease = omega (arith, all-counts kinds.Lease)
+  all-few few fewer kinds.Pod = omega (arith, all-counts kinds.Pod)
 
   pub all-fit : nodes ≤ 1000 → pods ≤ 30000 → items_fit [] all_items ≡ true
   all-fit few fewer =
