@@ -9,11 +9,13 @@ use Rattle.history_laws.specs.Tails.{IsTail}
 
 -- a request's number is one more than how many its sender had sent before
 abbrev pub NumbersCount : Type 0
-NumbersCount = (doc : Doc) (k : ℕ) (e : Entry) (before : List Entry) → IsTail (e ∷ before) (history doc k) → IfSome (sent_of e.actor e.fact) (λ s. s.call.number ≡ begun s.who before + 1)
+NumbersCount = (doc : Doc) (k : ℕ) (e : Entry) (before : List Entry) → IsTail (e ∷ before) (history doc k)
+    → IfSome (sent_of e.actor e.fact) (λ s. s.call.number ≡ begun s.who before + 1)
 
 -- two requests of one identity with one number are one entry
 abbrev pub NumbersDiffer : Type 0
-NumbersDiffer = (doc : Doc) (k : ℕ) (e f : Entry) (g h : List Entry) (x y : Sent) → IsTail (e ∷ g) (history doc k) → IsTail (f ∷ h) (history doc k)
+NumbersDiffer = (doc : Doc) (k : ℕ) (e f : Entry) (g h : List Entry) (x y : Sent)
+    → IsTail (e ∷ g) (history doc k) → IsTail (f ∷ h) (history doc k)
     → sent_of e.actor e.fact ≡ Some x → sent_of f.actor f.fact ≡ Some y → x.who ≡ y.who → x.call.number ≡ y.call.number → e ∷ g ≡ f ∷ h
 
 -- an identity sends at most one request in a beat

@@ -25,7 +25,8 @@ EntriesAreEarlier = (doc : Doc) (k : ℕ) (e : Entry) → In e (history doc k) �
 
 -- the history at a process's turn is a position of the history with that beat, and the history before the beat one of both
 abbrev pub TurnsArePositions : Type 0
-TurnsArePositions = (doc : Doc) (p k : ℕ) → p ≤ processes doc → IsTail (history doc k) (at_turn doc p k) × IsTail (at_turn doc p k) (history doc (suc k))
+TurnsArePositions = (doc : Doc) (p k : ℕ) → p ≤ processes doc
+    → IsTail (history doc k) (at_turn doc p k) × IsTail (at_turn doc p k) (history doc (suc k))
 
 -- the history before an earlier beat is a position of the history before a later one
 abbrev pub HistoriesArePositions : Type 0
@@ -33,4 +34,7 @@ HistoriesArePositions = (doc : Doc) (k m : ℕ) → k ≤ m → IsTail (history 
 
 -- each step only adds entries
 abbrev pub StepsOnlyAdd : Type 0
-StepsOnlyAdd = (doc : Doc) (k : ℕ) (h : List Entry) → IsTail h (step_one doc k h) × IsTail h (step_two k h) × IsTail h (step_three doc k h) × ((n : ℕ) → IsTail h (turns doc k n h))
+StepsOnlyAdd = (doc : Doc) (k : ℕ) (h : List Entry) → IsTail h (step_one doc k h)
+    × IsTail h (step_two k h)
+    × IsTail h (step_three doc k h)
+    × ((n : ℕ) → IsTail h (turns doc k n h))

@@ -22,8 +22,10 @@ VersionsAreGiven = (h : List Entry) (key : Key) (x : Held) → stored key h ≡ 
 
 -- at a later position of a history a key's version isn't lower
 abbrev pub VersionsRise : Type 0
-VersionsRise = (g h : List Entry) → IsTail g h → (key : Key) (x y : Held) → stored key g ≡ Some x → stored key h ≡ Some y → x.version.0 ≤ y.version.0
+VersionsRise = (g h : List Entry) → IsTail g h → (key : Key) (x y : Held)
+    → stored key g ≡ Some x → stored key h ≡ Some y → x.version.0 ≤ y.version.0
 
 -- equal versions of a key at two positions of a history are one write, with one content
 abbrev pub VersionsAreContents : Type 0
-VersionsAreContents = (g h : List Entry) → IsTail g h → (key : Key) (x y : Held) → stored key g ≡ Some x → stored key h ≡ Some y → x.version ≡ y.version → x ≡ y
+VersionsAreContents = (g h : List Entry) → IsTail g h → (key : Key) (x y : Held)
+    → stored key g ≡ Some x → stored key h ≡ Some y → x.version ≡ y.version → x ≡ y
