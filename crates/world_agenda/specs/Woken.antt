@@ -22,7 +22,8 @@ pub record IsTimeBeat (clock : Clocking) (at : Option ℕ) (b : Option Beat) : T
 
 -- the beat is the first up to the end at which the reading or the time of day is there that the process waits for
 pub record IsWoken (doc : Doc) (p : ℕ) (w : Wakes) (b : Option Beat) : Type 0 where
-  pub reached : (j : ℕ) → j ≤ end_beat doc → is_early j (beat_of b) ≡ (is_early (local doc p j) (reading_of w) && is_early (wall doc p j) w.wall)
+  pub reached : (j : ℕ) → j ≤ end_beat doc
+      → is_early j (beat_of b) ≡ (is_early (local doc p j) (reading_of w) && is_early (wall doc p j) w.wall)
   pub within : (n : ℕ) → beat_of b ≡ Some n → n ≤ end_beat doc
 
 -- none of the processes below p starts now; where none at all does, this is the next beat but for the turns from p on
