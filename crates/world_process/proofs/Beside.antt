@@ -5,7 +5,8 @@ use Rattle.kube_objects.specs.declared.object.Object.{Object}
 use Rattle.kube_objects.specs.Document.{Doc}
 use Rattle.kube_objects.specs.Entry.{Entry, Identity, Call, Fact, Answers, Tick, Ticks, entry}
 use Rattle.kube_objects.specs.Identities.{identity, is_by}
-use Rattle.kube_objects.specs.Process.{alive, ended}
+use Rattle.kube_objects.specs.Process.{alive, ended, starts}
+use Rattle.leader_elector.specs.Moves.{is_of_elector}
 use Rattle.leader_elector.proofs.Frames.{candidate-foreign, leading-foreign, candidate-quiet, leading-quiet}
 use Rattle.world_process.specs.declared.controller.Controller.{Controller}
 use Rattle.world_process.specs.declared.controller.Role.{Role}
@@ -13,6 +14,7 @@ use Rattle.world_process.specs.declared.controller.Role.TheVariants as role
 use Rattle.world_process.specs.Controllers.{RoleStands, ControllerStands, restart_reading}
 use Rattle.world_process.proofs.Lives.{is_event, alive-others, ended-others, starts-others}
 use Rattle.world_process.proofs.Names.{of_process-other, is_same-apart, is_same-other}
+use Rattle.world_process.proofs.Standing.{stands-role}
 
 -- an entry that leaves the life as it is, and is by another identity
 role-beside : (doc : Doc) (p i : ℕ) (e : Entry) (h : List Entry) (r : Role) → alive p (e ∷ h) ≡ alive p h → ended p (e ∷ h) ≡ ended p h → is_by (identity p i) e.actor ≡ false → RoleStands doc p i h r → RoleStands doc p i (e ∷ h) r
@@ -25,16 +27,8 @@ pub controller-others : (doc : Doc) (p k step : ℕ) (q : Identity) (d : Fact) (
 controller-others doc p k step q d h c other own s =
     let e = entry k step q d in
     let apart = of_process-other q p other in
-    record {
-      sort = s.sort;
-      me = s.me;
-      incarnation = s.incarnation ∙ sym (starts-others p e h apart);
-      timing = s.timing;
-      clock = s.clock;
-      up_first = s.up_first;
-      waking = s.waking;
-      role = role-beside doc p c.incarnation e h c.role (alive-others p e h apart) (ended-others p e h own apart) (is_same-apart q (identity p c.incarnation) other) s.role;
-    }
+    stands-role doc p h (e ∷ h) c c.role s (starts-others p e h apart)
+    (role-beside doc p c.incarnation e h c.role (alive-others p e h apart) (ended-others p e h own apart) (is_same-apart q (identity p c.incarnation) other) s.role)
 
 -- an entry of another incarnation of the process, which leaves its life as it is
 pub role-stranger : (doc : Doc) (p i j k step : ℕ) (d : Fact) (h : List Entry) (r : Role) → ¬ (j ≡ i) → is_event d ≡ false → ((g : List Entry) → alive p (entry k step (identity p j) d ∷ g) ≡ alive p g) → ((g : List Entry) → ended p (entry k step (identity p j) d ∷ g) ≡ ended p g) →
@@ -42,23 +36,22 @@ pub role-stranger : (doc : Doc) (p i j k step : ℕ) (d : Fact) (h : List Entry)
 role-stranger doc p i j k step d h r other own lives ends s =
     role-beside doc p i (entry k step (identity p j) d) h r (lives h) (ends h) (is_same-other p j i other) s
 
--- an answer of the store, whosever it is
+-- an entry of a kind that an elector doesn't look at, whosever it is
+role-quiet : (doc : Doc) (p i : ℕ) (e : Entry) (h : List Entry) (r : Role) → alive p (e ∷ h) ≡ alive p h → ended p (e ∷ h) ≡ ended p h → is_of_elector e.fact ≡ false → RoleStands doc p i h r → RoleStands doc p i (e ∷ h) r
+role-quiet doc p i e h (role.Down at) lives ends quiet s = (lives ∙ s.0, s.1 ∙ ap (restart_reading doc p) (sym ends))
+role-quiet doc p i e h (role.Candidate x) lives ends quiet s = (lives ∙ s.0, candidate-quiet doc (identity p i) e h x quiet s.1)
+role-quiet doc p i e h (role.Leading x) lives ends quiet s = (lives ∙ s.0, leading-quiet doc (identity p i) e h x quiet s.1)
+
+pub controller-quiet : (doc : Doc) (p : ℕ) (e : Entry) (h : List Entry) (c : Controller) → alive p (e ∷ h) ≡ alive p h → ended p (e ∷ h) ≡ ended p h → starts p (e ∷ h) ≡ starts p h → is_of_elector e.fact ≡ false →
+    ControllerStands doc p h c → ControllerStands doc p (e ∷ h) c
+controller-quiet doc p e h c lives ends count quiet s =
+    stands-role doc p h (e ∷ h) c c.role s count (role-quiet doc p c.incarnation e h c.role lives ends quiet s.role)
+
+-- an answer of the store
 pub controller-answered : (doc : Doc) (p k step : ℕ) (q : Identity) (call : Call) (reply : Reply) (comes : Option ℕ) (written : Option Object) (h : List Entry) (c : Controller) → ControllerStands doc p h c →
     ControllerStands doc p (entry k step q (Answers call reply comes written) ∷ h) c
-controller-answered doc p k step q call reply comes written h c s =
-    record { sort = s.sort; me = s.me; incarnation = s.incarnation; timing = s.timing; clock = s.clock; up_first = s.up_first; waking = s.waking; role = by_role c.role s.role }
-  where
-    by_role : (r : Role) → RoleStands doc p c.incarnation h r → RoleStands doc p c.incarnation (entry k step q (Answers call reply comes written) ∷ h) r
-    by_role (role.Down at) r = r
-    by_role (role.Candidate x) r = (r.0, candidate-quiet doc (identity p c.incarnation) (entry k step q (Answers call reply comes written)) h x refl r.1)
-    by_role (role.Leading x) r = (r.0, leading-quiet doc (identity p c.incarnation) (entry k step q (Answers call reply comes written)) h x refl r.1)
+controller-answered doc p k step q call reply comes written h c s = controller-quiet doc p (entry k step q (Answers call reply comes written)) h c refl refl refl refl s
 
--- an entry of a tick, whosever it is
+-- an entry of a tick
 pub controller-ticked : (doc : Doc) (p k step : ℕ) (q : Identity) (tick : Tick) (h : List Entry) (c : Controller) → ControllerStands doc p h c → ControllerStands doc p (entry k step q (Ticks tick) ∷ h) c
-controller-ticked doc p k step q tick h c s =
-    record { sort = s.sort; me = s.me; incarnation = s.incarnation; timing = s.timing; clock = s.clock; up_first = s.up_first; waking = s.waking; role = by_role c.role s.role }
-  where
-    by_role : (r : Role) → RoleStands doc p c.incarnation h r → RoleStands doc p c.incarnation (entry k step q (Ticks tick) ∷ h) r
-    by_role (role.Down at) r = r
-    by_role (role.Candidate x) r = (r.0, candidate-quiet doc (identity p c.incarnation) (entry k step q (Ticks tick)) h x refl r.1)
-    by_role (role.Leading x) r = (r.0, leading-quiet doc (identity p c.incarnation) (entry k step q (Ticks tick)) h x refl r.1)
+controller-ticked doc p k step q tick h c s = controller-quiet doc p (entry k step q (Ticks tick)) h c refl refl refl refl s

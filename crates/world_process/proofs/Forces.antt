@@ -1,5 +1,5 @@
 -- Watches and statuses in force: as the document has them, set by an event, and beside entries of other kinds.
-use Rattle.std.proofs.Common.{◌≡◌, ◌==◌, ◌<◌, ◌≤◌, ◌++◌, ◌⊎◌, ◌∙◌, Bool, true, false, ℕ, zero, suc, List, [], ◌∷◌, Option, Some, None, inl, inr, length, map, get_or, nat_lt, slice_get, slice_set, refl, sym, ap, subst, arith}
+use Rattle.std.proofs.Common.{◌≡◌, ◌==◌, ◌<◌, ◌≤◌, ◌++◌, ◌⊎◌, ◌∙◌, Bool, true, false, ℕ, zero, suc, List, [], ◌∷◌, Option, Some, None, inl, inr, length, length-set, map, get_or, nat_lt, slice_get, slice_set, refl, sym, ap, subst, arith}
 use Rattle.std.proofs.lemmas.Bool.Decides.{nat_tests}
 use Rattle.kube_base.specs.declared.numbers.ProcId.{ProcId}
 use Rattle.kube_objects.specs.declared.node.ReadyStatus.{ReadyStatus}
@@ -95,11 +95,16 @@ module _ (doc : Doc) (id : ProcId) (h g : List Entry) (change : Standing → Sta
   changed-stands items old each p s (inl mine) = subst (StandingOf doc p g) mine.1 (own p old (same-at id.0 p mine.0) (each p old mine.2))
   changed-stands items old each p s (inr theirs) = other p s theirs.0 (each p s theirs.1)
 
-  pub set-stands : (items : List Standing) (old : Standing) → old ≡ get_or items id.0 old → Each doc h items → Each doc g (slice_set items id.0 (change old))
-  set-stands items old was each p s at = changed-stands items old each p s (item-changed items id.0 p (change old) old s was at)
+  -- where it is kept of the process, and where it isn't
+  pub set-stands : (x y : InForce) (old : Standing) → y.standing.items ≡ slice_set x.standing.items id.0 (change old) → old ≡ get_or x.standing.items id.0 old → InForceStands doc h x → InForceStands doc g y
+  set-stands x y old set was s =
+      record {
+        count = ap length set ∙ length-set x.standing.items id.0 (change old) ∙ s.count;
+        each = λ p t at. changed-stands x.standing.items old s.each p t (item-changed x.standing.items id.0 p (change old) old t was (ap (λ l. slice_get l p) (sym set) ∙ at));
+      }
 
-  pub kept-stands : (items : List Standing) → length items ≤ id.0 → Each doc h items → Each doc g items
-  kept-stands items past each p s at = changed-stands items s each p s (item-kept items id.0 p (change s) s s past at)
+  pub kept-stands : (x : InForce) → length x.standing.items ≤ id.0 → InForceStands doc h x → InForceStands doc g x
+  kept-stands x past s = record { count = s.count; each = λ p t at. changed-stands x.standing.items t s.each p t (item-kept x.standing.items id.0 p (change t) t t past at) }
 
 -- by a watch's event
 module _ (doc : Doc) (k : ℕ) (id : ProcId) (on : Bool) (h : List Entry) where
@@ -115,10 +120,10 @@ module _ (doc : Doc) (k : ℕ) (id : ProcId) (on : Bool) (h : List Entry) where
   watch-other : (p : ℕ) (s : Standing) → (id.0 == p) ≡ false → StandingOf doc p h s → StandingOf doc p g s
   watch-other p s is was = record { watch = was.watch ∙ sym (watch-after p false is); status = was.status }
 
-  pub watch-set : (items : List Standing) (old : Standing) → old ≡ get_or items id.0 old → Each doc h items → Each doc g (slice_set items id.0 (record old { watch = on }))
+  pub watch-set : (x y : InForce) (old : Standing) → y.standing.items ≡ slice_set x.standing.items id.0 (record old { watch = on }) → old ≡ get_or x.standing.items id.0 old → InForceStands doc h x → InForceStands doc g y
   watch-set = set-stands doc id h g (λ s. record s { watch = on }) watch-own watch-other
 
-  pub watch-kept : (items : List Standing) → length items ≤ id.0 → Each doc h items → Each doc g items
+  pub watch-kept : (x : InForce) → length x.standing.items ≤ id.0 → InForceStands doc h x → InForceStands doc g x
   watch-kept = kept-stands doc id h g (λ s. record s { watch = on }) watch-own watch-other
 
 -- by a status's
@@ -135,10 +140,10 @@ module _ (doc : Doc) (k : ℕ) (id : ProcId) (status : ReadyStatus) (h : List En
   status-other : (p : ℕ) (s : Standing) → (id.0 == p) ≡ false → StandingOf doc p h s → StandingOf doc p f s
   status-other p s is was = record { watch = was.watch; status = was.status ∙ sym (status-after p false is) }
 
-  pub status-set : (items : List Standing) (old : Standing) → old ≡ get_or items id.0 old → Each doc h items → Each doc f (slice_set items id.0 (record old { status = status }))
+  pub status-set : (x y : InForce) (old : Standing) → y.standing.items ≡ slice_set x.standing.items id.0 (record old { status = status }) → old ≡ get_or x.standing.items id.0 old → InForceStands doc h x → InForceStands doc f y
   status-set = set-stands doc id h f (λ s. record s { status = status }) status-own status-other
 
-  pub status-kept : (items : List Standing) → length items ≤ id.0 → Each doc h items → Each doc f items
+  pub status-kept : (x : InForce) → length x.standing.items ≤ id.0 → InForceStands doc h x → InForceStands doc f x
   status-kept = kept-stands doc id h f (λ s. record s { status = status }) status-own status-other
 
 -- ---- entries of other kinds

@@ -30,7 +30,7 @@ use Rattle.world_process.proofs.Lives.{alive-others, alive-start, starts-others}
 use Rattle.world_process.proofs.Names.{is_same-apart, of_process-other, of_process-own}
 use Rattle.world_process.proofs.Plainly.{starts-start}
 use Rattle.world_process.proofs.Restarts.{starts-few}
-use Rattle.world_process.proofs.Scripted.{starts-script}
+use Rattle.world_process.proofs.Scripted.{begun-with, starts-script}
 
 -- a kubelet whose rounds changed stands for a history that started nothing since
 pub stands-rounds : (doc : Doc) (p : ℕ) (h g : List Entry) (b : Kubelet) (r : Option rounds.Kubelet) → KubeletStands doc p h b → starts p g ≡ starts p h → RoundsStand doc p b.incarnation g r → KubeletStands doc p g (record b { rounds = r })
@@ -110,9 +110,6 @@ kubelet-started doc k step p i h b x s is stands =
       waking = s.waking;
     }
 
-start-is : (doc : Doc) (k : ℕ) (id : ProcId) (h : List Entry) → alive id.0 h ≡ None → happens doc k (what.Start id) h ≡ start k 1 id.0 (script_entry k 1 (Event (what.Start id) None) ∷ h)
-start-is doc k id h down = ap (λ x. start_if_down k 1 id.0 x (script_entry k 1 (Event (what.Start id) None) ∷ h)) down
-
 pub kubelet-down : (doc : Doc) (p : ℕ) (h : List Entry) (b : Kubelet) → is_some b.rounds ≡ false → KubeletStands doc p h b → alive p h ≡ None
 kubelet-down doc p h b down s = by_rounds b.rounds down s.rounds
   where
@@ -120,21 +117,8 @@ kubelet-down doc p h b down s = by_rounds b.rounds down s.rounds
     by_rounds None none s = s
     by_rounds (Some x) none s = cc
 
-pub kubelet-few : (doc : Doc) (k : ℕ) (id : ProcId) (h : List Entry) → alive id.0 h ≡ None → IsFew (happens doc k (what.Start id) h) → starts id.0 (script_entry k 1 (Event (what.Start id) None) ∷ h) + 1 < 2 ^ 32
-kubelet-few doc k id h down few = starts-few k 1 id.0 (script_entry k 1 (Event (what.Start id) None) ∷ h) (subst IsFew (start-is doc k id h down) few)
-
 pub kubelet-begun : (doc : Doc) (k : ℕ) (id : ProcId) (h : List Entry) (new : Kubelet) → alive id.0 h ≡ None → KubeletStands doc id.0 (start k 1 id.0 (script_entry k 1 (Event (what.Start id) None) ∷ h)) new → Begun doc k id h new true
-kubelet-begun doc k id h new down stands =
-    let g = script_entry k 1 (Event (what.Start id) None) ∷ h in
-    let q = identity id.0 (starts id.0 h + 1) in
-    let next = start-is doc k id h down in
-    let same : starts id.0 h + 1 ≡ new.incarnation = sym (stands.incarnation ∙ starts-start k 1 q g) in
-    record {
-      stands = subst (λ x. KubeletStands doc id.0 x new) (sym next) stands;
-      told = ap printed next
-          ∙ ap (λ ds. ds ++ deeds_of k (actor_of q) (Some act.Start)) (append-nil (printed h))
-          ∙ ap (λ n. printed h ++ deeds_of k (actor_of (identity id.0 n)) (Some act.Start)) same;
-    }
+kubelet-begun doc k id h new down stands = begun-with doc k id h new.incarnation (λ x. KubeletStands doc id.0 x new) down stands.incarnation stands
 
 -- it is up
 pub kubelet-begun-not : (doc : Doc) (k : ℕ) (id : ProcId) (h : List Entry) (b : Kubelet) → is_some b.rounds ≡ true → KubeletStands doc id.0 h b → Begun doc k id h b false

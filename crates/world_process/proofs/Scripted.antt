@@ -23,29 +23,24 @@ use Rattle.history.specs.History.{put_all}
 use Rattle.history.specs.Printed.{printed, deeds_of}
 use Rattle.history.specs.Steps.{crash, event_version, happens, released, stamp, start, start_if_down, stop}
 use Rattle.leader_elector.specs.Moves.{Releases}
-use Rattle.leader_elector.proofs.Frames.{candidate-quiet, leading-quiet}
 use Rattle.world_process.specs.declared.controller.Controller.{Controller}
 use Rattle.world_process.specs.declared.controller.Role.{Role}
 use Rattle.world_process.specs.declared.controller.Role.TheVariants as role
 use Rattle.world_process.specs.Controllers.{AsksOn, Begun, ControllerStands, RoleStands, StoppedAs, is_up_as, restart_reading}
+use Rattle.world_process.specs.Moves as moves
 use Rattle.world_process.specs.Moves.{stop_in, stopped}
 use Rattle.world_process.specs.Plain.{IsFew, IsPlain}
-use Rattle.world_process.proofs.Beside.{controller-others}
+use Rattle.world_process.proofs.Beside.{controller-others, controller-quiet}
 use Rattle.world_process.proofs.Names.{eq-self, of_process-own}
 use Rattle.world_process.proofs.Plainly.{starts-start}
 use Rattle.world_process.proofs.Restarts.{starts-few}
+use Rattle.world_process.proofs.Standing.{stands-role}
 use Rattle.world_process.proofs.Unheard.{and-false}
 
 -- ---- entries of the script that aren't on the process
 
 pub controller-first : (doc : Doc) (p beat step : ℕ) (key : Key) (object : Object) (h : List Entry) (c : Controller) → ControllerStands doc p h c → ControllerStands doc p (script_entry beat step (First key object) ∷ h) c
-controller-first doc p beat step key object h c s =
-    record { sort = s.sort; me = s.me; incarnation = s.incarnation; timing = s.timing; clock = s.clock; up_first = s.up_first; waking = s.waking; role = by_role c.role s.role }
-  where
-    by_role : (r : Role) → RoleStands doc p c.incarnation h r → RoleStands doc p c.incarnation (script_entry beat step (First key object) ∷ h) r
-    by_role (role.Down at) r = r
-    by_role (role.Candidate x) r = (r.0, candidate-quiet doc (identity p c.incarnation) (script_entry beat step (First key object)) h x refl r.1)
-    by_role (role.Leading x) r = (r.0, leading-quiet doc (identity p c.incarnation) (script_entry beat step (First key object)) h x refl r.1)
+controller-first doc p beat step key object h c s = controller-quiet doc p (script_entry beat step (First key object)) h c refl refl refl refl s
 
 -- before beat 0
 pub controller-put_all : (doc : Doc) (p : ℕ) (items : List (Key × Object)) (h : List Entry) (c : Controller) → ControllerStands doc p h c → ControllerStands doc p (put_all doc items h) c
@@ -60,15 +55,8 @@ said now before = join (elim now as (λ o. Option (Option ℕ)) [ None ↦ befor
 
 pub controller-event : (doc : Doc) (p k step : ℕ) (event : What) (version : Option Version) (h : List Entry) (c : Controller) → cancels p event ≡ false → ControllerStands doc p h c → ControllerStands doc p (script_entry k step (Event event version) ∷ h) c
 controller-event doc p k step event version h c other s =
-    record { sort = s.sort; me = s.me; incarnation = s.incarnation; timing = s.timing; clock = s.clock; up_first = s.up_first; waking = s.waking; role = by_role c.role s.role }
-  where
-    ends : ended p (script_entry k step (Event event version) ∷ h) ≡ ended p h
-    ends = ap (λ b. said (when b None) (newest (λ e T. restart_says p e.beat e.actor e.fact) h)) other
-
-    by_role : (r : Role) → RoleStands doc p c.incarnation h r → RoleStands doc p c.incarnation (script_entry k step (Event event version) ∷ h) r
-    by_role (role.Down at) r = (r.0, r.1 ∙ ap (restart_reading doc p) (sym ends))
-    by_role (role.Candidate x) r = (r.0, candidate-quiet doc (identity p c.incarnation) (script_entry k step (Event event version)) h x refl r.1)
-    by_role (role.Leading x) r = (r.0, leading-quiet doc (identity p c.incarnation) (script_entry k step (Event event version)) h x refl r.1)
+    let ends = ap (λ b. said (when b None) (newest (λ e T. restart_says p e.beat e.actor e.fact) h)) other in
+    controller-quiet doc p (script_entry k step (Event event version)) h c refl ends refl refl s
 
 -- ---- events on another process, with all that they cause
 
@@ -143,35 +131,31 @@ down-is doc p i h (role.Leading x) down s = cc
 pub down-event : (doc : Doc) (p k step : ℕ) (event : What) (version : Option Version) (h : List Entry) (c : Controller) → cancels p event ≡ true → is_up_as c.role ≡ false → ControllerStands doc p h c →
     ControllerStands doc p (script_entry k step (Event event version) ∷ h) (record c { role = role.Down None })
 down-event doc p k step event version h c own down s =
-    record {
-      sort = s.sort;
-      me = s.me;
-      incarnation = s.incarnation;
-      timing = s.timing;
-      clock = s.clock;
-      up_first = s.up_first;
-      waking = s.waking;
-      role = (down-is doc p c.incarnation h c.role down s.role, ap (restart_reading doc p) (sym (cancelled doc p k step event version h own)));
-    }
+    stands-role doc p h (script_entry k step (Event event version) ∷ h) c (role.Down None) s refl
+    (down-is doc p c.incarnation h c.role down s.role, ap (restart_reading doc p) (sym (cancelled doc p k step event version h own)))
 
-start-is : (k : ℕ) (id : ProcId) (h : List Entry) (doc : Doc) → alive id.0 h ≡ None → happens doc k (what.Start id) h ≡ start k 1 id.0 (script_entry k 1 (Event (what.Start id) None) ∷ h)
-start-is k id h doc down = ap (λ up. start_if_down k 1 id.0 up (script_entry k 1 (Event (what.Start id) None) ∷ h)) down
+pub start-is : (doc : Doc) (k : ℕ) (id : ProcId) (h : List Entry) → alive id.0 h ≡ None → happens doc k (what.Start id) h ≡ start k 1 id.0 (script_entry k 1 (Event (what.Start id) None) ∷ h)
+start-is doc k id h down = ap (λ up. start_if_down k 1 id.0 up (script_entry k 1 (Event (what.Start id) None) ∷ h)) down
 
 pub begun-few : (doc : Doc) (k : ℕ) (id : ProcId) (h : List Entry) → alive id.0 h ≡ None → IsFew (happens doc k (what.Start id) h) → starts id.0 (script_entry k 1 (Event (what.Start id) None) ∷ h) + 1 < 2 ^ 32
-begun-few doc k id h down few = starts-few k 1 id.0 (script_entry k 1 (Event (what.Start id) None) ∷ h) (subst IsFew (start-is k id h doc down) few)
+begun-few doc k id h down few = starts-few k 1 id.0 (script_entry k 1 (Event (what.Start id) None) ∷ h) (subst IsFew (start-is doc k id h down) few)
 
-pub begun-starts : (doc : Doc) (k : ℕ) (id : ProcId) (h : List Entry) (c : Controller) → alive id.0 h ≡ None → ControllerStands doc id.0 (start k 1 id.0 (script_entry k 1 (Event (what.Start id) None) ∷ h)) c → Begun doc k id h c true
-begun-starts doc k id h c down s =
-    let g = script_entry k 1 (Event (what.Start id) None) ∷ h in
+-- a process of either sort that was down has started; i is its incarnation after it
+pub begun-with : (doc : Doc) (k : ℕ) (id : ProcId) (h : List Entry) (i : ℕ) (Stands : List Entry → Type 0) → alive id.0 h ≡ None → i ≡ starts id.0 (start k 1 id.0 (script_entry k 1 (Event (what.Start id) None) ∷ h)) →
+    Stands (start k 1 id.0 (script_entry k 1 (Event (what.Start id) None) ∷ h)) → moves.Begun doc k id h i Stands true
+begun-with doc k id h i Stands down count stands =
     let q = identity id.0 (starts id.0 h + 1) in
-    let is = start-is k id h doc down in
-    let same : starts id.0 h + 1 ≡ c.incarnation = sym (s.incarnation ∙ starts-start k 1 q g) in
+    let is = start-is doc k id h down in
+    let same : starts id.0 h + 1 ≡ i = sym (count ∙ starts-start k 1 q (script_entry k 1 (Event (what.Start id) None) ∷ h)) in
     record {
-      stands = subst (λ x. ControllerStands doc id.0 x c) (sym is) s;
+      stands = subst Stands (sym is) stands;
       told = ap printed is
           ∙ ap (λ ds. ds ++ deeds_of k (actor_of q) (Some act.Start)) (append-nil (printed h))
           ∙ ap (λ n. printed h ++ deeds_of k (actor_of (identity id.0 n)) (Some act.Start)) same;
     }
+
+pub begun-starts : (doc : Doc) (k : ℕ) (id : ProcId) (h : List Entry) (c : Controller) → alive id.0 h ≡ None → ControllerStands doc id.0 (start k 1 id.0 (script_entry k 1 (Event (what.Start id) None) ∷ h)) c → Begun doc k id h c true
+begun-starts doc k id h c down s = begun-with doc k id h c.incarnation (λ x. ControllerStands doc id.0 x c) down s.incarnation s
 
 -- ---- a leader is stopped
 
@@ -211,7 +195,7 @@ stopped-leading doc k id h c ask s up r =
     down = (alive-stop k 1 q (e ∷ h), ap (restart_reading doc p) (sym (cancelled doc p k 1 (what.Stop id) None h (eq-self p))))
 
     by_release : (o : Option Request) (ask : Option Ask) → Releases q h o ask → AsksOn doc k 1 p g (released k q o g) c' ask
-    by_release None None r = (refl, record { sort = s.sort; me = s.me; incarnation = s.incarnation; timing = s.timing; clock = s.clock; up_first = s.up_first; waking = s.waking; role = down })
+    by_release None None r = (refl, stands-role doc p h g c (role.Down None) s refl down)
     by_release None (Some ask) r = absurd r
     by_release (Some request) None r = absurd r
     by_release (Some request) (Some ask) r =
@@ -219,5 +203,5 @@ stopped-leading doc k id h c ask s up r =
           kind = Release;
           sent = ap (λ x. send k 1 q Release x g) (sym r.0);
           number = r.1;
-          stands = λ arrives. record { sort = s.sort; me = s.me; incarnation = s.incarnation; timing = s.timing; clock = s.clock; up_first = s.up_first; waking = s.waking; role = down };
+          stands = λ arrives. stands-role doc p h (entry k 1 q (Sends (next_call q k Release ask.request g) arrives) ∷ g) c (role.Down None) s refl down;
         }

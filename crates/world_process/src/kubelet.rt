@@ -18,7 +18,7 @@ ghost use Rattle.world_process.specs.Kubelets.{KubeletStands, SameKubelet, Crash
 ghost use Rattle.world_process.specs.Plain.{IsPlain, IsFew};
 
 use crate::clocks::{clock_for, picoseconds};
-use crate::moves::{Received, Turn, received_with, stays, turn_with};
+use crate::moves::{Received, Turn, effect_with, stays, turn_with};
 use crate::round_timing::RoundTiming;
 use crate::waking::Waking;
 use kube_base::{Beat, Local, NoMemory, ProcId};
@@ -150,7 +150,7 @@ impl Kubelet {
         let wall = self.clock.wall_at(now);
         match &mut self.rounds {
             None => stays(),
-            Some(rounds) => received_with(rounds.on_reply(number, *reply, now, wall)),
+            Some(rounds) => effect_with(rounds.on_reply(number, *reply, now, wall)),
         }
     }
 

@@ -71,11 +71,11 @@ pub fn stays() -> Received
 pub fn asks(ask: Ask) -> Received
     ensures { result ≡ record { lead = None; ask = Some ask } }
 {
-    received_with(Some(ask))
+    effect_with(Some(ask))
 }
 
 /// A reply that causes this.
-pub fn received_with(ask: Option<Ask>) -> Received
+pub fn effect_with(ask: Option<Ask>) -> Received
     ensures { result ≡ record { lead = None; ask = ask } }
 {
     Received { lead: None, ask }
@@ -87,12 +87,12 @@ pub fn leads(reply: &Reply) -> Received
     ensures lead { (version : Version) → reply.now ≡ Reply.Done version → result.lead ≡ Some version }
 {
     Received {
-        lead: done(reply),
+        lead: version_of(reply),
         ask: None,
     }
 }
 
-fn done(reply: &Reply) -> Option<Version>
+fn version_of(reply: &Reply) -> Option<Version>
     ensures { (version : Version) → reply.now ≡ Reply.Done version → result ≡ Some version }
 {
     match *reply {

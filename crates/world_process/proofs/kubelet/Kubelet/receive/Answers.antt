@@ -27,7 +27,7 @@ returns-in-Some-clause-stands c doc k p b h s at who number reply few =
     let reads = readings-are doc p k c.args.beat.0 c.local-now.result.0 c.wall_at-wall.result.0 self.clock s.clock at c.local-now.ensures.value c.wall_at-wall.ensures.value in
     let back = is-back b p c.args.incarnation self.incarnation c.args.number c.args.reply.now who c.if-incarnation-self.false number reply in
     let was = rounds-at doc p h self (Some c.in-Some.rounds) s c.in-Some.is in
-    subst (λ r. Replied doc k p b h (record self { rounds = Some c.on_reply.new.self }) r) (sym c.received_with.ensures)
+    subst (λ r. Replied doc k p b h (record self { rounds = Some c.on_reply.new.self }) r) (sym c.effect_with.ensures)
     (kubelet-answers doc k p b c.args.number c.args.reply.now h self c.on_reply.new.self s was.0 back c.on_reply.result
     (λ none call. c.on_reply.ensures.uncounted doc q h k was.1 reads.now was.0 none call)
     (λ call some. c.on_reply.ensures.counts doc q h k call was.1 reads.now reads.wall (few.calls q) some))
