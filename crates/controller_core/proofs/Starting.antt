@@ -1,7 +1,7 @@
 -- A term that begins stands for every history without ticks of its own.
 use Rattle.std.proofs.Common.{◌≡◌, ◌∙◌, ℕ, Bool, true, false, List, [], ◌∷◌, None, refl, arith}
 use Rattle.kube_objects.specs.Entry as model
-use Rattle.kube_objects.specs.Entry.{Entry, Identity, Fact, Tick, Ticks, Pass, Zone}
+use Rattle.kube_objects.specs.Entry.{Entry, Identity}
 use Rattle.kube_objects.specs.Health.{last_pass}
 use Rattle.kube_objects.specs.Newest.{added}
 use Rattle.kube_objects.specs.Tokens.{rated}

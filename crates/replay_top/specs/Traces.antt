@@ -1,6 +1,6 @@
 -- The text of a trace.
 use Rattle.std.specs.Prelude.{ℕ, List, ◌++◌}
-use Rattle.kube_objects.specs.Document.{Doc, end_beat}
+use Rattle.kube_objects.specs.Document.{Doc}
 use Rattle.history.specs.History.{history, whole_history}
 use Rattle.history.specs.Premise.{lease_premise}
 use Rattle.history.specs.Printed.{printed}

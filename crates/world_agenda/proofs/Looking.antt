@@ -7,15 +7,14 @@ use Rattle.kube_objects.specs.Clocks.{local, wall}
 use Rattle.kube_objects.specs.Document.{Doc, processes, end_beat, is_controller, is_up_first}
 use Rattle.kube_objects.specs.Entry.{Entry}
 use Rattle.history.specs.History.{history}
-use Rattle.history_laws.proofs.Plainly.{some_is, true_is, false_is, and_left, and_right, and_both}
+use Rattle.history_laws.proofs.Plainly.{some_is, true_is, and_left, and_right, and_both}
 use Rattle.agenda_laws.specs.Ahead.{IsAhead, IsNextStart, IsNextEvent, IsNextMessage, IsNextTurn, IsNextBelow, IsNextBeat, NoTurnsAreFirst, TurnsAreAdded, TheSoonestIsNext}
 use Rattle.agenda_laws.specs.Standing.{StandsAt}
 use Rattle.agenda_laws.specs.Times.{is_early, sooner}
-use Rattle.agenda_laws.specs.Waking.{IsAsleep, AreAsleep, EndsWakeToo, NextBeatsWake, acts_as, wakes_of}
+use Rattle.agenda_laws.specs.Waking.{AreAsleep, EndsWakeToo, NextBeatsWake, acts_as}
 use Rattle.world_core.specs.declared.wakes.Wakes.{Wakes}
-use Rattle.world_core.specs.Waits.{IsAsleepBy, WakesStand, beat_of, reading_of, starts_now}
+use Rattle.world_core.specs.Waits.{WakesStand, beat_of, reading_of, starts_now}
 use Rattle.world_agenda.specs.Woken.{IsLooked, IsWoken, not_before}
-use Rattle.world_core.proofs.Awake.{early-sooner}
 
 -- ---- not before a beat
 

@@ -1,5 +1,5 @@
 -- The beat at which a process is woken by a reading or a time of day.
-use Rattle.std.proofs.Common.{◌≡◌, ◌⊎◌, ℕ, ◌+◌, ◌*◌, ◌/◌, ◌<◌, ◌≤◌, ◌&&◌, nat_lt, min, max, Bool, true, false, ℤ, pos, negsuc, List, Option, Some, None, refl, sym, ap, ◌∙◌, subst, inl, inr, arith}
+use Rattle.std.proofs.Common.{◌≡◌, ◌⊎◌, ℕ, ◌+◌, ◌*◌, ◌/◌, ◌<◌, ◌≤◌, ◌&&◌, nat_lt, true, false, ℤ, pos, negsuc, Option, Some, sym, ap, ◌∙◌, subst, inl, inr, arith}
 use Rattle.std.proofs.Math.Nat.{div-mul-le_self}
 use Rattle.std.proofs.lemmas.Bool.{cases_lt}
 use Rattle.std.proofs.lemmas.Bool.Decides.{nat_tests}
@@ -16,7 +16,7 @@ use Rattle.world_process.proofs.Readings.{reading-local, wall-when}
 use Rattle.world_core.specs.declared.wakes.Wakes.{Wakes}
 use Rattle.world_core.specs.Waits.{IsTurnBeat, beat_of, reading_of}
 use Rattle.world_core.proofs.Awake.{early-sooner, sooner-within}
-use Rattle.world_agenda.specs.Woken.{IsTimeBeat, IsWoken, not_before}
+use Rattle.world_agenda.specs.Woken.{IsTimeBeat, IsWoken}
 
 -- ---- times of day
 

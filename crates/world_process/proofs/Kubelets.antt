@@ -1,5 +1,5 @@
 -- A kubelet through entries of others, and through its own life.
-use Rattle.std.proofs.Common.{◌≡◌, ℕ, ◌+◌, ◌<◌, ◌^◌, ◌++◌, true, false, List, [], ◌∷◌, Option, Some, None, is_some, refl, sym, ap, ◌∙◌, subst}
+use Rattle.std.proofs.Common.{◌≡◌, ℕ, ◌+◌, ◌++◌, true, false, List, [], ◌∷◌, Option, Some, None, is_some, refl, sym, ap, ◌∙◌, subst}
 use Rattle.std.proofs.lemmas.List.{append-nil}
 use Rattle.kube_base.specs.declared.numbers.ProcId.{ProcId}
 use Rattle.kube_base.specs.declared.numbers.Version.{Version}
@@ -25,11 +25,9 @@ use Rattle.kubelet_node.specs.Stands.{KubeletStands as AreRounds}
 use Rattle.kubelet_node.proofs.Frames.{kubelet-foreign, kubelet-quiet}
 use Rattle.world_process.specs.declared.kubelet.Kubelet.{Kubelet}
 use Rattle.world_process.specs.Kubelets.{Begun, Crashed, KubeletStands, RoundsStand}
-use Rattle.world_process.specs.Plain.{IsFew}
 use Rattle.world_process.proofs.Lives.{alive-others, alive-start, starts-others}
 use Rattle.world_process.proofs.Names.{is_same-apart, of_process-other, of_process-own}
 use Rattle.world_process.proofs.Plainly.{starts-start}
-use Rattle.world_process.proofs.Restarts.{starts-few}
 use Rattle.world_process.proofs.Scripted.{begun-with, starts-script}
 
 -- a kubelet whose rounds changed stands for a history that started nothing since
