@@ -37,7 +37,8 @@ newer (Some at) kept = Some at
 -- the reading of the last news, where these times are shown at a reading
 abbrev pub probe_after : Option Known → Option Wall → Option Wall → ℕ → ℕ
 probe_after None heartbeat renewed now = now
-probe_after (Some known) heartbeat renewed now = cond (is_news heartbeat known.heartbeat || is_later renewed known.renewal) now known.probe.0
+probe_after (Some known) heartbeat renewed now =
+    cond (is_news heartbeat known.heartbeat || is_later renewed known.renewal) now known.probe.0
 
 abbrev pub after_look : Option Known → Option Wall → Option Wall → ℕ → Known
 after_look x heartbeat renewed now = record {

@@ -46,7 +46,8 @@ pub record IsGraceOf (doc : Doc) (graces : Grace) : Type 0 where
   pub startup : graces.startup ≡ of_millis doc.settings.startup_grace_millis
 
 -- what a pass over this history shows of a node, and when
-pub record IsLook (doc : Doc) (k : ℕ) (q : Identity) (h : List Entry) (name : ℕ) (node : Node) (renewed : Option Wall) (now : ℕ) (grace : Grace) : Type 0 where
+pub record IsLook (doc : Doc) (k : ℕ) (q : Identity) (h : List Entry) (name : ℕ) (node : Node) (renewed : Option Wall) (now : ℕ)
+    (grace : Grace) : Type 0 where
   pub version : Version
   pub shown : seen_node q name h ≡ Some (version, node)
   pub lease : renewal q name h ≡ renewed

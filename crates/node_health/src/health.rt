@@ -58,9 +58,11 @@ impl Health {
         grace: &Grace,
     ) -> Result<Verdict, NoMemory>
         ensures verdict { IfOk result (λ verdict. verdict ≡ judged seen.now.ready
-            (nat_lt ((after_look (kept self.old node) (ready_heartbeat seen.now.ready) renewed now.0).probe.0 + grace_for grace.now seen.now.ready) now.0)) }
+            (nat_lt ((after_look (kept self.old node) (ready_heartbeat seen.now.ready) renewed now.0).probe.0
+            + grace_for grace.now seen.now.ready) now.0)) }
         ensures kept { OnOk result ((other : ℕ) → kept self.new other
-            ≡ (if node == other then Some (after_look (kept self.old node) (ready_heartbeat seen.now.ready) renewed now.0) else kept self.old other)) }
+            ≡ (if node == other then Some (after_look (kept self.old node) (ready_heartbeat seen.now.ready) renewed now.0)
+            else kept self.old other)) }
         ensures err { OnErr result ((other : ℕ) → kept self.new other ≡ kept self.old other) }
         ensures room { IsSome (kept self.old node) → IsOk result }
         ensures marks { (doc : Doc) (k : ℕ) (q : Identity) (h : List Entry) (looked : ℕ → Bool)
