@@ -1,8 +1,8 @@
 -- States and rates of counted zones.
 use Rattle.std.specs.declared.cmp.Ordering.{Ordering}
 use Rattle.std.specs.declared.cmp.Ordering.TheVariants.{Less, Equal, Greater}
-use Rattle.std.proofs.Common.{◌≡◌, ◌≤◌, ◌<◌, ◌+◌, ◌∙◌, ℕ, suc, ◌&&◌, Bool, true, false, List, [], ◌∷◌, map, length, min, nat_lt, refl, sym, ap, subst, arith}
-use Rattle.std.specs.List.{list_all, list_any}
+use Rattle.std.proofs.Common.{◌≡◌, ◌≤◌, ◌<◌, ◌+◌, ◌∙◌, ℕ, suc, ◌&&◌, Bool, true, false, List, [], ◌∷◌, map, length, min, nat_lt, refl, sym, ap, arith}
+use Rattle.std.specs.List.{list_all}
 use Rattle.std.proofs.lemmas.Bool.Decides.{nat_tests}
 use Rattle.std.proofs.lemmas.List.Sums.{count_by-le-length}
 use Rattle.kube_objects.specs.declared.node.Node.{Node}
@@ -10,10 +10,10 @@ use Rattle.kube_objects.specs.declared.node.ZoneState.{ZoneState}
 use Rattle.kube_objects.specs.declared.settings.Settings2.{Settings2}
 use Rattle.kube_objects.specs.Document.{Doc}
 use Rattle.kube_objects.specs.Entry.{Place}
-use Rattle.kube_objects.specs.Modes.{all_full, places, rate_in, ready_in, other_in, size_in, state_in, place_cmp}
+use Rattle.kube_objects.specs.Modes.{all_full, places, ready_in, other_in, size_in, state_in, place_cmp}
 use Rattle.kube_objects.specs.Modes as modes
 use Rattle.kube_objects.specs.Seen.{insert_once}
-use Rattle.kube_objects.specs.Zones.{rate_of, state_of}
+use Rattle.kube_objects.specs.Zones.{rate_of}
 use Rattle.tick_laws.proofs.Zoning.{size_split}
 use Rattle.zone_counts.specs.declared.counts.ZoneCount.{ZoneCount}
 use Rattle.zone_counts.specs.Counted.{is_full, zone_count, zone_counts}

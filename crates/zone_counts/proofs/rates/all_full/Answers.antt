@@ -1,4 +1,4 @@
-use Rattle.std.proofs.Common.{◌≡◌, ◌&&◌, ◌∙◌, false, true, ◌∷◌, [], length, refl, sym, ap, rules}
+use Rattle.std.proofs.Common.{◌≡◌, ◌&&◌, ◌∙◌, false, ◌∷◌, length, sym, ap, rules}
 use Rattle.zone_counts.specs.Counted.{is_full}
 use Rattle.zone_counts.proofs.RateLaws.{all_of, each_full, none_all, none_full, one_not}
 use Rattle.zone_counts.proofs.rates.all_full.Goals as goal

@@ -1,5 +1,5 @@
 use Rattle.std.proofs.Common.{◌≡◌, ap, ◌∙◌, ◌+◌, min, arith, rules}
-use Rattle.kube_objects.specs.Modes.{ready_in, other_in, size_in}
+use Rattle.kube_objects.specs.Modes.{size_in}
 use Rattle.zone_counts.proofs.RateLaws.{rates_same, size_fits}
 use Rattle.zone_counts.proofs.counts.ZoneCount.rate.Goals as goal
 
