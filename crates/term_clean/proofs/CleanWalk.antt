@@ -1,5 +1,5 @@
 -- The walk over the nodes that are to be untainted or swapped.
-use Rattle.std.proofs.Common.{◌≡◌, ◌∙◌, ℕ, ◌+◌, ◌<◌, ◌≤◌, ◌==◌, Bool, true, false, List, Option, Some, None, refl, sym, ap, subst, arith, Less}
+use Rattle.std.proofs.Common.{◌≡◌, ◌∙◌, ℕ, ◌<◌, ◌==◌, true, false, List, Option, Some, None, refl, sym, ap, arith, Less}
 use Rattle.std.proofs.lemmas.Bool.Decides.{nat_tests}
 use Rattle.std.specs.Ordering.{nat_cmp}
 use Rattle.kube_objects.specs.declared.deed.Deed.{Deed}
@@ -9,7 +9,6 @@ use Rattle.kube_objects.specs.Seen.{node_names}
 use Rattle.kube_objects.specs.Tick.{clean, cleaned, for_each}
 use Rattle.object_store.specs.declared.store.Store.{Store}
 use Rattle.tick_laws.specs.Judged.{is_dirty}
-use Rattle.tick_laws.specs.Steps.{tick_cost}
 use Rattle.tick_laws.specs.Walks.{Among, after, is_after}
 use Rattle.tick_laws.proofs.Cleaning.{clean_end, clean_next, clean_others, dirty_seen}
 use Rattle.tick_laws.proofs.Named.{node_is_named}
