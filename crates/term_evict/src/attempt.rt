@@ -34,7 +34,7 @@ fn note(
     ensures moved { (n : ℕ) → has_moved cluster.new n ≡ has_moved cluster.old n }
 {
     match answer {
-        None => lost(cluster, pod, eviction),
+        None => restore_due(cluster, pod, eviction),
         Some(Answer::Done(_)) => cluster.note_delete(pod),
         Some(Answer::Absent) => cluster.refuse_pod(pod),
         Some(Answer::Exists) => cluster.refuse_pod(pod),
@@ -43,7 +43,7 @@ fn note(
 }
 
 // The pod's due is set again.
-fn lost(cluster: &mut Cluster, pod: Key, eviction: &Eviction) -> Result<(), NoMemory>
+fn restore_due(cluster: &mut Cluster, pod: Key, eviction: &Eviction) -> Result<(), NoMemory>
     ensures stands { (q : Identity) (h g : List Entry) (pods : Key → Bool) → ClusterBut q h no_node pods cluster.old
         → IsChange q h g None None → seen_due q pod h ≡ At (eviction.now.due.0)
         → OnOk result (ClusterBut q g no_node (but_pod pod pods) cluster.new) }

@@ -3,7 +3,7 @@ use Rattle.kube_objects.specs.declared.pod.Due.TheVariants.{At}
 use Rattle.tick_laws.proofs.Tried.{same_dues}
 use Rattle.term_state.specs.ClusterStands.{no_node}
 use Rattle.term_state.proofs.Aside.{same_aside}
-use Rattle.term_evict.proofs.attempt.lost.Goals as goal
+use Rattle.term_evict.proofs.attempt.restore_due.Goals as goal
 
 pub returns-clause-stands : goal.returns-clause-stands
 returns-clause-stands c q h g pods s d at =
