@@ -13,8 +13,10 @@ use Rattle.kube_objects.specs.Modes.{mode, place_eq}
 use Rattle.kube_objects.specs.Newest.{only_if}
 use Rattle.kube_objects.specs.Seen.{node_names}
 use Rattle.kube_objects.specs.Tainting.{head_of, lacks, lacks_in, queued, waits}
-use Rattle.kube_objects.specs.Tick.{add, new_taint, tainted_with}
+use Rattle.kube_objects.specs.Tick.{add, new_taint, taint, tainted_with}
+use Rattle.kube_objects.specs.Tokens.{has_token}
 use Rattle.kube_objects.specs.Tries.{try_node}
+use Rattle.history_laws.proofs.Plainly.{some_is}
 use Rattle.taint_queue.specs.Order.{precedes}
 use Rattle.taint_zones.specs.declared.limit.Limit.{Limit}
 use Rattle.taint_zones.specs.declared.place.Place.{Place}
@@ -28,9 +30,10 @@ use Rattle.tick_laws.specs.Judged.{key_if, waits_since}
 use Rattle.tick_laws.proofs.Heads.{Precedes, head_least}
 use Rattle.tick_laws.proofs.Named.{node_is_named, node_names_ascend}
 use Rattle.tick_laws.proofs.Orders.{same_place}
-use Rattle.tick_laws.proofs.Tainting.{IsWaiting, accepted_waits, heading, heading_base, heading_base_elsewhere, heading_change, heading_own, heading_since, heading_since_elsewhere, since_waits, waiting}
+use Rattle.tick_laws.proofs.Tainting.{IsWaiting, accepted_waits, heading, heading_base, heading_base_elsewhere, heading_change, heading_own, heading_since, heading_since_elsewhere, since_waits, taint_adds, waiting}
 use Rattle.tick_laws.proofs.Tried.{refused_waits}
-use Rattle.term_taint.specs.Attempts.{requeued}
+use Rattle.term_taint.specs.declared.head.Lacking.{Lacking}
+use Rattle.term_taint.specs.Attempts.{headed, lacking_of, requeued}
 use Rattle.term_taint.specs.QueuesStand.{QueuesStand}
 
 precedes_is : (at n b m : ℕ) → precedes at n b m ≡ true → Precedes at n b m
@@ -71,6 +74,23 @@ first_is q h queues place name s (at, mine, least) =
       head = head_least q (entry_place place) name at (node_names h) h since_at
           (λ m b is. precedes_is at name b m (least m b (s (entry_place place) m ∙ is))) (node_names_ascend h) (node_is_named q name h w.x w.sees);
     }
+
+module _ (doc : Doc) (k : ℕ) (q : Identity) (h : List Entry) (place : entry.Place) (name : ℕ) (f : IsFirst q h place name) where
+  -- what it lacks
+  abbrev pub first_lacks : Lacking
+  first_lacks = lacking_of f.waiting.x.0 f.wanted (tainted_with (new_taint doc k q f.wanted) f.waiting.x.1)
+
+  -- where its zone has the token, the tick tries to write that
+  pub record TriesFirst (lacking : Lacking) : Type 0 where
+    pub is : lacking ≡ first_lacks
+    pub adds : headed k q place name first_lacks h ≡ taint doc k q place h
+
+  pub tries_first : (lacking : Lacking) → Some lacking ≡ Some first_lacks → has_token doc q k place h ≡ true → TriesFirst lacking
+  tries_first lacking found token =
+      record {
+        is = some_is lacking first_lacks found;
+        adds = sym (taint_adds doc k q place h f.at name f.wanted f.waiting.x token f.head f.waits f.waiting.sees);
+      }
 
 -- ---- after a try
 

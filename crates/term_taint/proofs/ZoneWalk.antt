@@ -1,5 +1,5 @@
 -- The walk over zones.
-use Rattle.std.proofs.Common.{◌≡◌, ◌∙◌, inl, inr, ℕ, ◌+◌, ◌-◌, ◌*◌, ◌<◌, not, Bool, true, false, cond, List, [], ◌∷◌, Option, Some, None, refl, sym, ap, subst, arith, Less, Equal, Greater}
+use Rattle.std.proofs.Common.{◌≡◌, ◌∙◌, inl, inr, ℕ, ◌+◌, ◌-◌, ◌*◌, ◌<◌, Bool, true, false, cond, List, [], ◌∷◌, Option, Some, None, refl, sym, ap, subst, arith, Less, Equal, Greater}
 use Rattle.std.proofs.lemmas.Bool.Decides.{nat_tests}
 use Rattle.std.proofs.lemmas.Cmp.{tied_itself}
 use Rattle.std.specs.Ordering.{is_eq, is_lt, nat_cmp, ordering_reverse, ordering_then}
@@ -19,16 +19,16 @@ use Rattle.taint_zones.specs.declared.zones.Zones.{Zones}
 use Rattle.taint_zones.specs.Places.{entry_place, of_place, zone_cmp}
 use Rattle.taint_zones.specs.Waiting.{IsAfter, IsEmpty, IsNextZone}
 use Rattle.tick_laws.specs.Judged.{key_if}
-use Rattle.tick_laws.specs.Ticked.{IsTicked}
 use Rattle.tick_laws.specs.Walks.{Above, Among, Ascends, IsStrict, after, is_after}
 use Rattle.tick_laws.proofs.Orders.{places_strict}
 use Rattle.tick_laws.proofs.Tainting.{heading_elsewhere, places_ascend, taint_either, taint_end, taint_nobody, waiting_place}
-use Rattle.tick_laws.proofs.Ticked.{taint_ticked, ticked_losses, ticked_watches}
+use Rattle.tick_laws.proofs.Ticked.{taint_ticked}
 use Rattle.tick_laws.proofs.Walks.{above_less, after_more, after_none, not_before, not_itself}
 use Rattle.term_state.specs.declared.cluster.Cluster.{Cluster}
 use Rattle.term_state.specs.declared.told.Told.{Told}
 use Rattle.term_state.specs.declared.view.View.{View}
 use Rattle.term_state.specs.Running.{IsView}
+use Rattle.term_state.proofs.Viewing.{view_ticked}
 use Rattle.term_taint.specs.Heading.{Heading}
 use Rattle.term_taint.specs.QueuesStand.{QueuesStand}
 
@@ -137,16 +137,6 @@ taint_elsewhere doc k q place other h apart m =
 
 place_apart : (a b : entry.Place) → place_cmp a b ≡ Less → place_eq a b ≡ false
 place_apart a b less = ap is_eq less
-
-pub view_ticked : (doc : Doc) (k : ℕ) (q : Identity) (h g : List Entry) (v : View) → IsTicked q k h g → IsView doc k q h v → IsView doc k q g v
-view_ticked doc k q h g v s view =
-    record {
-      watch = view.watch ∙ sym (ticked_watches q k h g s doc q.process);
-      passes = view.passes ∙ ap not (sym (ticked_losses q k h g s q.process));
-      beat = view.beat;
-      reading = view.reading;
-      time = view.time;
-    }
 
 -- ---- h is the history at the start, now the one that is reached, and c the zone that the walk is at
 

@@ -1,13 +1,12 @@
 // The queued taint of one zone.
-ghost use Rattle.std.specs.Prelude.{◌≡◌, ◌≤◌, ◌+◌, ◌==◌, ℕ, true, List, Some, None, OnOk, IfOk, if◌then◌else◌};
+ghost use Rattle.std.specs.Prelude.{◌≡◌, ◌≤◌, ◌+◌, ◌==◌, ℕ, true, List, Some, OnOk, IfOk, if◌then◌else◌};
 ghost use Rattle.kube_base.specs.Bounds.{most_local};
 ghost use Rattle.kube_objects.specs.Document.{Doc};
-ghost use Rattle.kube_objects.specs.Entry.{Entry, Head, Identity};
+ghost use Rattle.kube_objects.specs.Entry.{Entry, Identity};
 ghost use Rattle.kube_objects.specs.Entry as entry_words;
 ghost use Rattle.kube_objects.specs.Clocks.{wall};
 ghost use Rattle.kube_objects.specs.Seen.{is_synced, seen_node};
-ghost use Rattle.kube_objects.specs.Stored.{node_write, try_write};
-ghost use Rattle.kube_objects.specs.Tainting.{before_tick, waits};
+ghost use Rattle.kube_objects.specs.Tainting.{waits};
 ghost use Rattle.kube_objects.specs.Tick as tick;
 ghost use Rattle.kube_objects.specs.Tries as tries;
 ghost use Rattle.kube_objects.specs.declared.deed.Deed.{Deed};
@@ -15,19 +14,18 @@ ghost use Rattle.kube_objects.specs.declared.node.Node.{Node};
 ghost use Rattle.kube_base.specs.declared.numbers.Version.{Version};
 ghost use Rattle.taint_zones.specs.Places.{entry_place};
 ghost use Rattle.taint_zones.specs.Waiting.{since};
-ghost use Rattle.tick_laws.specs.Changes.{IsChange, noted_by};
-ghost use Rattle.tick_laws.specs.Steps.{own_cost, tick_cost};
+ghost use Rattle.tick_laws.specs.Steps.{tick_cost};
 ghost use Rattle.term_state.specs.ClusterStands.{ClusterStands};
-ghost use Rattle.term_state.specs.Running.{IsMoved, IsTold, IsView, Running};
+ghost use Rattle.term_state.specs.Running.{IsView, Running};
 ghost use Rattle.term_taint.specs.Heading.{Heading};
 ghost use Rattle.term_taint.specs.Attempts.{headed, lacking_of, requeued};
 
 use kube_base::{Beat, NoMemory, Steps, Version, Wall, whole_second};
-use kube_objects::{Act, Answer, Node};
+use kube_objects::{Answer, Node};
 use node_taints::{lacks, new_taint, with_taint};
 use object_store::Store;
 use taint_zones::{Place, Queues, Zones};
-use term_state::{Cluster, Told, View, try_node};
+use term_state::{Cluster, NodeWrite, Told, View, try_write};
 
 /// The first of a zone's queue gets the taint that it wants, where the zone's token is there.
 pub(crate) fn taint_first<L>(
@@ -121,22 +119,19 @@ fn attempt<L>(
         → Running q k before h cluster.old store.old told.old → IsView doc k q h view.entry.now
         → OnOk result (steps.new + tick_cost q k h ≤ steps.old + tick_cost q k (headed k q (entry_place place) name lacking h)) }
 {
-    let answer = try_node(store, view.passes, name, lacking.given, &lacking.written)?;
-    tell(told, name, lacking.wanted, answer)?;
+    let answer = try_write(
+        cluster,
+        store,
+        view,
+        told,
+        steps,
+        name,
+        lacking.given,
+        lacking.written,
+        NodeWrite::Taint(lacking.wanted),
+    )?;
     requeue(queues, place, name, view.beat, answer);
-    note(cluster, steps, name, lacking.written, answer)
-}
-
-// Tells of a try that was answered.
-fn tell(told: &mut Told, name: u32, wanted: u32, answer: Option<Answer>) -> Result<(), NoMemory>
-    ensures { (k : ℕ) (q : Identity) (before : List Deed) (h : List Entry) (place : entry_words.Place) (given : Version) (written : Node)
-        → IsTold q k before h told.old
-        → OnOk result (IsTold q k before (tick.add k q (Head place name wanted given written answer) h) told.new) }
-{
-    match answer {
-        None => Ok(()),
-        Some(answer) => told.add(Act::Tainted(name, wanted, answer)),
-    }
+    Ok(())
 }
 
 // A node that was written waits no longer, and another goes to the back of the queue.
@@ -146,63 +141,9 @@ fn requeue(queues: &mut Queues, place: Place, name: u32, at: Beat, answer: Optio
 {
     match answer {
         None => queues.to_back(place, name, at),
-        Some(answer) => requeue_answered(queues, place, name, at, answer),
-    }
-}
-
-fn requeue_answered(queues: &mut Queues, place: Place, name: u32, at: Beat, answer: Answer)
-    ensures { (zone : Place) (other : ℕ) → since queues.new zone other
-        ≡ (if name == other then requeued (Some answer) place zone at.0 (since queues.old zone name) else since queues.old zone other) }
-{
-    match answer {
-        Answer::Done(_) => queues.leave(name),
-        Answer::Absent => queues.to_back(place, name, at),
-        Answer::Exists => queues.to_back(place, name, at),
-        Answer::Conflict(_) => queues.to_back(place, name, at),
-    }
-}
-
-// What a try leaves: an accepted one is seen; a refused one makes nothing stale.
-fn note<L>(
-    cluster: &mut Cluster,
-    steps: &mut Steps<L>,
-    name: u32,
-    written: Node,
-    answer: Option<Answer>,
-) -> Result<(), NoMemory>
-    ensures stands { (q : Identity) (k : ℕ) (h g : List Entry) → ClusterStands q h cluster.old → IsMoved q k h cluster.old
-        → is_synced q h ≡ true → before_tick q k g ≡ before_tick q k h
-        → IsChange q h g (noted_by name written answer) None
-        → OnOk result (ClusterStands q g cluster.new × IsMoved q k g cluster.new) }
-    ensures counted { (q : Identity) (h g : List Entry) → ClusterStands q h cluster.old → is_synced q h ≡ true
-        → IsChange q h g (noted_by name written answer) None
-        → OnOk result (steps.new ≤ steps.old + own_cost q g (try_write (node_write name written) answer)) }
-{
-    match answer {
-        None => Ok(()),
-        Some(answer) => note_answer(cluster, steps, name, written, answer),
-    }
-}
-
-fn note_answer<L>(
-    cluster: &mut Cluster,
-    steps: &mut Steps<L>,
-    name: u32,
-    written: Node,
-    answer: Answer,
-) -> Result<(), NoMemory>
-    ensures stands { (q : Identity) (k : ℕ) (h g : List Entry) → ClusterStands q h cluster.old → IsMoved q k h cluster.old
-        → is_synced q h ≡ true → before_tick q k g ≡ before_tick q k h
-        → IsChange q h g (noted_by name written (Some answer)) None
-        → OnOk result (ClusterStands q g cluster.new × IsMoved q k g cluster.new) }
-    ensures counted { (q : Identity) (h g : List Entry) → ClusterStands q h cluster.old → is_synced q h ≡ true
-        → IsChange q h g (noted_by name written (Some answer)) None
-        → OnOk result (steps.new ≤ steps.old + own_cost q g (try_write (node_write name written) (Some answer))) }
-{
-    match answer {
-        Answer::Done(version) => cluster.note_node(name, version, written, steps),
-        Answer::Absent => Ok(()),
-        Answer::Exists => Ok(()),
-        Answer::Conflict(_) => Ok(()),
+        Some(Answer::Done(_)) => queues.leave(name),
+        Some(Answer::Absent) => queues.to_back(place, name, at),
+        Some(Answer::Exists) => queues.to_back(place, name, at),
+        Some(Answer::Conflict(_)) => queues.to_back(place, name, at),
     }
 }

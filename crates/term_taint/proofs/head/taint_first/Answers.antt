@@ -1,21 +1,19 @@
-use Rattle.std.proofs.Common.{◌≡◌, ◌∙◌, ◌==◌, ◌+◌, ◌≤◌, ℕ, cond, true, sym, subst}
+use Rattle.std.proofs.Common.{◌≡◌, ◌∙◌, ◌==◌, ◌+◌, ◌≤◌, ℕ, cond, ap, sym, subst}
 use Rattle.std.specs.Result.{OnOk}
 use Rattle.std.proofs.lemmas.Result.{on_ok_weaker}
-use Rattle.kube_objects.specs.Tick.{new_taint, tainted_with}
-use Rattle.kube_objects.specs.Tokens.{has_token}
 use Rattle.kube_objects.specs.Tries.{try_node}
-use Rattle.history_laws.proofs.Plainly.{none_is, some_is}
+use Rattle.history_laws.proofs.Plainly.{none_is}
 use Rattle.taint_zones.specs.declared.place.Place.{Place}
 use Rattle.taint_zones.specs.Places.{entry_place, of_place}
 use Rattle.taint_zones.specs.Waiting.{since}
 use Rattle.tick_laws.specs.Steps.{tick_cost}
-use Rattle.tick_laws.proofs.Tainting.{heading_fresh, taint_adds}
+use Rattle.tick_laws.proofs.Tainting.{heading_fresh}
 use Rattle.term_state.specs.Running.{Running}
-use Rattle.term_taint.specs.Attempts.{headed, lacking_of, requeued}
+use Rattle.term_state.proofs.Writing.{both_ok}
+use Rattle.term_taint.specs.Attempts.{headed, requeued}
 use Rattle.term_taint.specs.Heading.{Heading}
 use Rattle.term_taint.specs.QueuesStand.{QueuesStand}
-use Rattle.term_taint.proofs.Attempting.{both_ok}
-use Rattle.term_taint.proofs.Firsts.{first_is, limits_reached, queues_reached}
+use Rattle.term_taint.proofs.Firsts.{first_is, limits_reached, queues_reached, tries_first}
 use Rattle.term_taint.proofs.ZoneWalk.{zone_idle}
 use Rattle.term_taint.proofs.head.taint_first.Goals as goal
 
@@ -42,13 +40,11 @@ returns-clause-stands g c doc q k before h s v =
     let name = c.in-Some.name in
     let f = first_is q h c.args.zones.now.queues p name s.queues c.in-Some.ensures.first in
     let w = f.waiting in
-    let lacking = lacking_of w.x.0 f.wanted (tainted_with (new_taint doc k q f.wanted) w.x.1) in
-    let is : c.in-Some-2.lacking ≡ lacking = some_is c.in-Some-2.lacking lacking
-    (sym c.in-Some-2.is ∙ c.in_ok-lacking.ensures doc k q h (entry_place p) f.wanted w.x s.running.cluster s.running.synced v.time f.waits w.sees) in
-    let token : has_token doc q k (entry_place p) h ≡ true = sym (c.try_take.ensures.there doc q k h s.limits v.reading) ∙ c.if-not-try_take.false in
-    let adds = taint_adds doc k q (entry_place p) h f.at name f.wanted w.x token f.head f.waits w.sees in
+    let t = tries_first doc k q h (entry_place p) name f c.in-Some-2.lacking
+    (sym c.in-Some-2.is ∙ c.in_ok-lacking.ensures doc k q h (entry_place p) f.wanted w.x s.running.cluster s.running.synced v.time f.waits w.sees)
+    (sym (c.try_take.ensures.there doc q k h s.limits v.reading) ∙ c.if-not-try_take.false) in
     let queues : QueuesStand q h c.try_take.new.self.queues = λ zone n. c.try_take.ensures.queues (of_place zone) n ∙ s.queues zone n in
-    subst (λ more. OnOk c.attempt.result (Heading doc q k before more (record { limits = c.try_take.new.self.limits; queues = c.attempt.new.queues }) c.attempt.new.cluster c.attempt.new.store c.attempt.new.told)) (sym adds)
+    subst (λ more. OnOk c.attempt.result (Heading doc q k before more (record { limits = c.try_take.new.self.limits; queues = c.attempt.new.queues }) c.attempt.new.cluster c.attempt.new.store c.attempt.new.told)) t.adds
     (on_ok_weaker c.attempt.result
     (λ both. record {
       running = both.0;
@@ -57,23 +53,19 @@ returns-clause-stands g c doc q k before h s v =
       queues = queues_reached doc k q h p name f.wanted w c.try_take.new.self.queues c.attempt.new.queues queues both.1;
       fresh = λ place n. heading_fresh doc k q (entry_place p) h name f.wanted w place n (s.fresh place n);
     })
-    (both_ok c.attempt.result _ _
-    (subst (λ l. OnOk c.attempt.result (Running q k before (headed k q (entry_place p) name l h) c.attempt.new.cluster c.attempt.new.store c.attempt.new.told)) is (c.attempt.ensures.stands doc k q before h s.running v))
     (subst
     (λ l. OnOk c.attempt.result
-    ((zone : Place) (other : ℕ) → since c.attempt.new.queues zone other ≡ cond (name == other) (requeued (try_node q name l.given h) p zone k (since c.try_take.new.self.queues zone name)) (since c.try_take.new.self.queues zone other)))
-    is (c.attempt.ensures.queues doc k q before h s.running v))))
+    (Running q k before (headed k q (entry_place p) name l h) c.attempt.new.cluster c.attempt.new.store c.attempt.new.told
+    × ((zone : Place) (other : ℕ) → since c.attempt.new.queues zone other ≡ cond (name == other) (requeued (try_node q name l.given h) p zone k (since c.try_take.new.self.queues zone name)) (since c.try_take.new.self.queues zone other))))
+    t.is (both_ok c.attempt.result _ _ (c.attempt.ensures.stands doc k q before h s.running v) (c.attempt.ensures.queues doc k q before h s.running v))))
 
 pub returns-clause-counted : goal.returns-clause-counted
 returns-clause-counted g c doc q k before h s v =
     let p = c.args.place in
     let name = c.in-Some.name in
     let f = first_is q h c.args.zones.now.queues p name s.queues c.in-Some.ensures.first in
-    let w = f.waiting in
-    let lacking = lacking_of w.x.0 f.wanted (tainted_with (new_taint doc k q f.wanted) w.x.1) in
-    let is : c.in-Some-2.lacking ≡ lacking = some_is c.in-Some-2.lacking lacking
-    (sym c.in-Some-2.is ∙ c.in_ok-lacking.ensures doc k q h (entry_place p) f.wanted w.x s.running.cluster s.running.synced v.time f.waits w.sees) in
-    let token : has_token doc q k (entry_place p) h ≡ true = sym (c.try_take.ensures.there doc q k h s.limits v.reading) ∙ c.if-not-try_take.false in
-    let adds = taint_adds doc k q (entry_place p) h f.at name f.wanted w.x token f.head f.waits w.sees in
-    subst (λ more. OnOk c.attempt.result (c.attempt.new.steps + tick_cost q k h ≤ c.args.steps.now + tick_cost q k more)) (sym adds)
-    (subst (λ l. OnOk c.attempt.result (c.attempt.new.steps + tick_cost q k h ≤ c.args.steps.now + tick_cost q k (headed k q (entry_place p) name l h))) is (c.attempt.ensures.counted doc k q before h s.running v))
+    let t = tries_first doc k q h (entry_place p) name f c.in-Some-2.lacking
+    (sym c.in-Some-2.is ∙ c.in_ok-lacking.ensures doc k q h (entry_place p) f.wanted f.waiting.x s.running.cluster s.running.synced v.time f.waits f.waiting.sees)
+    (sym (c.try_take.ensures.there doc q k h s.limits v.reading) ∙ c.if-not-try_take.false) in
+    subst (λ more. OnOk c.attempt.result (c.attempt.new.steps + tick_cost q k h ≤ c.args.steps.now + tick_cost q k more)) (ap (λ l. headed k q (entry_place p) name l h) t.is ∙ t.adds)
+    (c.attempt.ensures.counted doc k q before h s.running v)
