@@ -1,3 +1,4 @@
+pub mod Listed
 pub mod Looking
 pub mod Marks
 pub mod Moding

@@ -1,6 +1,5 @@
 -- The nodes that a pass looks at, one after the other.
-use Rattle.std.proofs.Common.{◌≡◌, ◌∙◌, ◌≤◌, ◌+◌, ◌==◌, ◌&&◌, ◌||◌, ℕ, not, nat_lt, Bool, true, false, List, [], ◌∷◌, Option, Some, None, refl, sym, ap, subst, arith, Less}
-use Rattle.std.proofs.lemmas.Bool.{eqb-true}
+use Rattle.std.proofs.Common.{◌≡◌, ◌∙◌, ◌+◌, ◌==◌, ◌&&◌, ◌||◌, ℕ, not, nat_lt, Bool, true, false, List, [], ◌∷◌, Option, Some, None, refl, sym, ap, subst, arith, Less}
 use Rattle.std.proofs.lemmas.Bool.Decides.{nat_tests}
 use Rattle.std.specs.Ordering.{nat_cmp}
 use Rattle.kube_base.specs.declared.numbers.Version.{Version}
@@ -9,31 +8,35 @@ use Rattle.kube_objects.specs.declared.deed.Deed.{Deed}
 use Rattle.kube_objects.specs.declared.node.Node.{Node}
 use Rattle.kube_objects.specs.Clocks.{local, wall, whole_second}
 use Rattle.kube_objects.specs.Document.{Doc}
-use Rattle.kube_objects.specs.Entry.{Entry, Identity, Pass}
+use Rattle.kube_objects.specs.Entry.{Entry, Identity, Mark, Pass}
 use Rattle.kube_objects.specs.Health.{grace_of, is_silent, is_unknown, lease_renewal, mark_of, marked, probe, renewal, with_mark}
 use Rattle.kube_objects.specs.Newest.{has, when}
 use Rattle.kube_objects.specs.Answers.{as_kind, lease_in}
-use Rattle.kube_objects.specs.Seen.{is_synced, seen, seen_lease, seen_node}
+use Rattle.kube_objects.specs.Seen.{seen, seen_lease, seen_node}
 use Rattle.kube_objects.specs.Stored.{Held, node_lease}
 use Rattle.kube_objects.specs.Tick.{add, for_each, mark_as, mark_seen, mark, marks}
+use Rattle.kube_objects.specs.Tries.{try_node}
+use Rattle.history.specs.Printed.{reason_in}
 use Rattle.history_laws.proofs.Plainly.{false_is, true_is}
+use Rattle.node_health.specs.declared.grace.Grace.{Grace}
 use Rattle.node_health.specs.declared.health.Health.{Health}
-use Rattle.node_health.specs.declared.verdict.Verdict.{Verdict}
 use Rattle.node_health.specs.declared.verdict.Verdict.TheVariants.{Keep, MarkUnknown}
 use Rattle.node_health.specs.Kept.{is_listed, verdict_of}
-use Rattle.node_health.specs.Stands.{HealthStands, PassStands, and_looked}
+use Rattle.node_health.specs.Stands.{HealthStands, IsGraceOf, IsLook, and_looked}
 use Rattle.node_health.proofs.Frames.{pass-same}
 use Rattle.object_store.specs.declared.store.Store.{Store}
 use Rattle.term_state.specs.Running.{IsView, Running}
 use Rattle.term_state.specs.declared.cluster.Cluster.{Cluster}
 use Rattle.term_state.specs.declared.told.Told.{Told}
 use Rattle.term_state.specs.declared.view.View.{View}
+use Rattle.term_state.specs.declared.writes.NodeWrite.TheVariants as write
+use Rattle.term_state.specs.Writes.{IsWrite}
 use Rattle.term_pass.specs.Passing.{HaveCost, IsPassing}
-use Rattle.term_pass.proofs.Marks.{mark_probe, mark_view}
-use Rattle.tick_laws.specs.Steps.{tick_cost}
+use Rattle.term_pass.proofs.Listed.{listed_first, listed_later}
+use Rattle.term_pass.proofs.Marks.{mark_view, mark_write}
 use Rattle.tick_laws.specs.Walks.{Above, Ascends}
 use Rattle.tick_laws.proofs.Frames.{kept_node, pass_change}
-use Rattle.tick_laws.proofs.Marking.{mark_keeps, mark_others, marks_of_seen, names_ascend}
+use Rattle.tick_laws.proofs.Marking.{mark_others, marks_of_seen, names_ascend}
 use Rattle.tick_laws.specs.Judged.{shown}
 use Rattle.watch_cache.specs.Kept.{kept, of_kind}
 use Rattle.watch_cache.specs.Told.{AreNamed}
@@ -71,6 +74,30 @@ module _ (doc : Doc) (k : ℕ) (q : Identity) (name : ℕ) (node : Node) (h now 
 pub mark_is : (doc : Doc) (k : ℕ) (q : Identity) (name : ℕ) (now : List Entry) (x : Version × Node) (o : Option Node) → seen_node q name now ≡ Some x → mark_of doc q k name x.1 now ≡ o
     → mark doc k q name now ≡ mark_as k q name x.0 o now
 mark_is doc k q name now x o sees is = ap (λ y. mark_seen doc k q name y now) sees ∙ ap (λ y. mark_as k q name x.0 y now) is
+
+-- what a look is handed
+pub look_is : (doc : Doc) (k : ℕ) (q : Identity) (before : List Deed) (h now : List Entry) (looked : ℕ → Bool) (c : Cluster) (x : Health) (s : Store) (t : Told) (name : ℕ) (given : Version) (node : Node)
+    (renewed : Option Wall) (at : ℕ) (grace : Grace) → IsPassing doc k q before h now looked c x s t → Some (given, node) ≡ seen_node q name now → seen_node q name now ≡ seen_node q name h
+    → renewed ≡ renewal q name now → at ≡ local doc q.process k → IsGraceOf doc grace → IsLook doc k q h name node renewed at grace
+look_is doc k q before h now looked c x s t name given node renewed at grace p sees same lease reading graces =
+    record { version = given; shown = sym (sees ∙ same); lease = sym (lease ∙ p.leases name); reading = reading; graces = graces }
+
+-- the entry that a mark adds, and the write that it is
+pub record MarksBy (doc : Doc) (k : ℕ) (q : Identity) (now : List Entry) (name : ℕ) (given : Version) (written : Node) (reason : ℕ) : Type 0 where
+  pub adds : add k q (Mark name given written (try_node q name given now)) now ≡ mark doc k q name now
+  pub is : IsWrite (write.Mark reason) name written (try_node q name given now) (Mark name given written (try_node q name given now))
+
+pub marks_by : (doc : Doc) (k : ℕ) (q : Identity) (before : List Deed) (h now : List Entry) (looked : ℕ → Bool) (c : Cluster) (x : Health) (s : Store) (t : Told) (name : ℕ) (given : Version)
+    (node written : Node) (reason second at : ℕ) → IsPassing doc k q before h now looked c x s t → Some (given, node) ≡ seen_node q name now
+    → MarkUnknown reason ≡ verdict_of (mark_of doc q k name node (add k q Pass h)) → at ≡ wall doc q.process k → second ≡ whole_second at → written ≡ with_mark second node
+    → MarksBy doc k q now name given written reason
+marks_by doc k q before h now looked c x s t name given node written reason second at p sees says time second_is written_is =
+    let found = mark_some doc k q name node h now p.probes reason says in
+    let is : written ≡ with_mark (whole_second (wall doc q.process k)) node = written_is ∙ ap (λ n. with_mark n node) (second_is ∙ ap whole_second time) in
+    record {
+      adds = sym (mark_is doc k q name now (given, node) (Some (with_mark (whole_second (wall doc q.process k)) node)) (sym sees) found.0 ∙ ap (λ w. mark_as k q name given (Some w) now) (sym is));
+      is = mark_write name given written reason (try_node q name given now) (found.1 ∙ ap (λ w. reason_in w.ready) (sym is));
+    }
 
 -- ---- the loop
 
@@ -134,19 +161,6 @@ begin_looking doc k q before h names v c x s t old running health view are =
     }
 
 -- ---- one node more
-
-pub listed_first : (n : ℕ) (ns : List ℕ) → is_listed (n ∷ ns) n ≡ true
-listed_first n ns = ap (λ t. t || is_listed ns n) same
-  where
-    same : (n == n) ≡ true
-    same = grind (arith, nat_tests)
-
-listed_later : (n m : ℕ) (ns : List ℕ) → is_listed ns m ≡ true → is_listed (n ∷ ns) m ≡ true
-listed_later n m ns is = by_test (n == m) is
-  where
-    by_test : (b : Bool) → is_listed ns m ≡ true → (b || is_listed ns m) ≡ true
-    by_test true is = refl
-    by_test false is = is
 
 pub listed_apart : (n m : ℕ) (xs : List ℕ) → Above nat_cmp n xs → is_listed xs m ≡ true → (n == m) ≡ false
 listed_apart n m [] all there = absurd (false_is there)

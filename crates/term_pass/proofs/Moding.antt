@@ -1,10 +1,9 @@
 -- The mode through a pass.
-use Rattle.std.proofs.Common.{◌≡◌, ◌∙◌, ℕ, Bool, true, false, List, Result, Ok, Err, OnOk, refl, sym, ap, subst}
+use Rattle.std.proofs.Common.{◌≡◌, ◌∙◌, ℕ, Bool, true, false, List, Result, Ok, Err, OnOk, refl, sym, ap}
 use Rattle.kube_objects.specs.declared.deed.Deed.{Deed}
 use Rattle.kube_objects.specs.Document.{Doc}
-use Rattle.kube_objects.specs.Entry.{Entry, Identity, Ticks, Mode}
+use Rattle.kube_objects.specs.Entry.{Entry, Identity, Mode}
 use Rattle.kube_objects.specs.Modes.{all_full, mode, nodes}
-use Rattle.kube_objects.specs.Tainting.{before_tick}
 use Rattle.kube_objects.specs.Tick.{add, is_same_mode, mode_if, set_mode}
 use Rattle.node_health.specs.Stands.{HealthStands}
 use Rattle.node_health.specs.declared.health.Health.{Health}
@@ -16,7 +15,6 @@ use Rattle.term_state.specs.Running.{IsMoved, IsTold, Running}
 use Rattle.term_state.specs.declared.cluster.Cluster.{Cluster}
 use Rattle.term_state.specs.declared.told.Told.{Told}
 use Rattle.tick_laws.proofs.Frames.{mode_change}
-use Rattle.tick_laws.proofs.Ticked.{own_before}
 
 same_as : (on b : Bool) → on ≡ b → is_same_mode on b ≡ true
 same_as true true is = refl

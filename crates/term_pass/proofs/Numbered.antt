@@ -1,6 +1,5 @@
 -- The nodes of a pass, counted one after the other.
-use Rattle.std.proofs.Common.{◌≡◌, ◌∙◌, ◌++◌, ◌+◌, ◌<◌, ◌≤◌, ◌==◌, ◌||◌, ℕ, Bool, true, false, List, [], ◌∷◌, length, Option, Some, None, refl, sym, ap, subst, arith}
-use Rattle.std.proofs.lemmas.Bool.Decides.{nat_tests}
+use Rattle.std.proofs.Common.{◌≡◌, ◌∙◌, ◌++◌, ◌+◌, ◌<◌, ◌≤◌, ℕ, true, List, [], ◌∷◌, length, Option, Some, None, refl, sym, ap, subst, arith}
 use Rattle.std.proofs.lemmas.List.{length-append}
 use Rattle.kube_base.specs.declared.numbers.Version.{Version}
 use Rattle.kube_objects.specs.declared.node.Node.{Node}
@@ -13,6 +12,7 @@ use Rattle.watch_cache.specs.Listed.{is_named}
 use Rattle.watch_cache.specs.Told.{AreNamed}
 use Rattle.zone_counts.specs.Counted.{CountsStand}
 use Rattle.zone_counts.specs.declared.counts.Counts.{Counts}
+use Rattle.term_pass.proofs.Listed.{listed_first, listed_later}
 
 -- the names before the rest are counted
 pub record Counting (q : Identity) (h : List Entry) (names rest : List ℕ) (counts : Counts) : Type 0 where
@@ -28,22 +28,9 @@ assoc : {A : Type 0} (xs ys zs : List A) → (xs ++ ys) ++ zs ≡ xs ++ (ys ++ z
 assoc [] ys zs = refl
 assoc (x ∷ xs) ys zs = ap (λ ks. x ∷ ks) (assoc xs ys zs)
 
-named_first : (n : ℕ) (ns : List ℕ) → is_named (n ∷ ns) n ≡ true
-named_first n ns = ap (λ t. t || is_named ns n) same
-  where
-    same : (n == n) ≡ true
-    same = grind (arith, nat_tests)
-
-named_later : (n m : ℕ) (ns : List ℕ) → is_named ns m ≡ true → is_named (n ∷ ns) m ≡ true
-named_later n m ns is = by_test (n == m) is
-  where
-    by_test : (b : Bool) → is_named ns m ≡ true → (b || is_named ns m) ≡ true
-    by_test true is = refl
-    by_test false is = is
-
 -- the first of the rest is seen
 pub first_seen : (q : Identity) (h : List Entry) (names all ns : List ℕ) (n : ℕ) (counts : Counts) → all ≡ n ∷ ns → Counting q h names all counts → has (seen_node q n h) ≡ true
-first_seen q h names all ns n counts is s = s.seen n (ap (λ xs. is_named xs n) is ∙ named_first n ns)
+first_seen q h names all ns n counts is s = s.seen n (ap (λ xs. is_named xs n) is ∙ listed_first n ns)
 
 -- with it, there are no more than all
 among_short : (q : Identity) (h : List Entry) (front rest : List ℕ) → length (nodes_among q front h) ≤ length (nodes_among q (front ++ rest) h)
@@ -74,7 +61,7 @@ next_counting q h names all ns n x old new is s sees stands =
       front = s.front ++ n ∷ [];
       is = s.is ∙ ap (λ xs. s.front ++ xs) is ∙ sym (assoc s.front (n ∷ []) ns);
       stands = subst (λ g. CountsStand g new) (sym (among_more q h s.front n x sees)) stands;
-      seen = λ m there. s.seen m (ap (λ xs. is_named xs m) is ∙ named_later n m ns there);
+      seen = λ m there. s.seen m (ap (λ xs. is_named xs m) is ∙ listed_later n m ns there);
     }
 
 append_nil : {A : Type 0} (xs : List A) → xs ++ [] ≡ xs

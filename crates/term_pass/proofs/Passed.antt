@@ -1,5 +1,5 @@
 -- A pass begins, and what it leaves.
-use Rattle.std.proofs.Common.{◌≡◌, ◌∙◌, ◌≤◌, ◌+◌, ℕ, nat_lt, Bool, true, false, cond, List, [], ◌∷◌, map, length, Result, Ok, Err, OnOk, Option, Some, None, IfSome, refl, sym, ap, subst, arith}
+use Rattle.std.proofs.Common.{◌≡◌, ◌∙◌, ◌≤◌, ℕ, nat_lt, Bool, true, false, cond, List, [], ◌∷◌, map, length, Result, Ok, Err, OnOk, Some, None, IfSome, refl, sym, ap, subst, arith}
 use Rattle.std.proofs.lemmas.Bool.Decides.{nat_tests}
 use Rattle.kube_objects.specs.declared.node.Node.{Node}
 use Rattle.kube_objects.specs.declared.node.ZoneState.{ZoneState}
@@ -14,7 +14,6 @@ use Rattle.kube_objects.specs.Seen.{is_synced, node_names, seen_node}
 use Rattle.kube_objects.specs.Tick.{add, is_same_mode, mark, marks, mode_if, pass, pass_if, set_mode, set_zones, zone, zone_if}
 use Rattle.kube_objects.specs.Tries.{try_node}
 use Rattle.kube_objects.specs.Tokens.{base, is_rated, is_zone, rated}
-use Rattle.history_laws.proofs.Plainly.{false_is}
 use Rattle.node_health.proofs.Frames.{SaysSame, health-same, says-same, says-then, unheard-kind}
 use Rattle.node_health.specs.Kept.{is_listed}
 use Rattle.node_health.specs.Stands.{HealthStands, is_of_health}

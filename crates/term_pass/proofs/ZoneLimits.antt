@@ -1,20 +1,18 @@
 -- The limits of zones through a pass.
-use Rattle.std.proofs.Common.{◌≡◌, ◌∙◌, ℕ, ◌==◌, ◌&&◌, ◌||◌, not, nat_lt, Bool, true, false, cond, List, [], ◌∷◌, map, Option, Some, None, IfSome, refl, sym, ap, subst, arith}
-use Rattle.std.specs.List.{list_any}
+use Rattle.std.proofs.Common.{◌≡◌, ◌∙◌, ℕ, ◌==◌, ◌&&◌, not, Bool, true, false, cond, List, Option, Some, None, IfSome, refl, sym, ap, subst, arith}
 use Rattle.std.proofs.lemmas.Bool.Decides.{nat_tests}
 use Rattle.kube_objects.specs.declared.node.ZoneState.{ZoneState}
 use Rattle.kube_objects.specs.declared.node.ZoneState.TheVariants.{Normal, Partial, Full}
 use Rattle.kube_objects.specs.Clocks.{local}
 use Rattle.kube_objects.specs.Document.{Doc}
 use Rattle.kube_objects.specs.Entry.{Entry, Identity, Place as Zone, Zone as ZoneEntry}
-use Rattle.kube_objects.specs.Modes.{place_cmp, place_eq}
+use Rattle.kube_objects.specs.Modes.{place_eq}
 use Rattle.kube_objects.specs.Tick.{add, zone_as, zone_if}
 use Rattle.kube_objects.specs.Tokens.{rated, base, has_rate, is_rated, is_same_state}
 use Rattle.rate_bucket.specs.Filling.{Filling, empty_at, swapped}
 use Rattle.taint_zones.specs.declared.limit.Limit.{Limit}
-use Rattle.taint_zones.specs.Limits.{LimitStands, rated_of}
-use Rattle.tick_laws.specs.Walks.{Above}
-use Rattle.tick_laws.proofs.Orders.{place_itself, same_place}
+use Rattle.taint_zones.specs.Limits.{LimitStands}
+use Rattle.tick_laws.proofs.Orders.{place_itself}
 use Rattle.tick_laws.proofs.Zoning.{rated_zoned, base_zoned}
 
 -- ---- the limit of the zone itself

@@ -29,7 +29,8 @@ HaveCost q k h g old new = new + tick_cost q k h ≤ old + tick_cost q k g
 
 -- h is the history before the pass, and now has the marks so far; some nodes were looked at. Leases, and when nodes were last heard
 -- of, are as they were after the entry of the pass
-pub record IsPassing (doc : Doc) (k : ℕ) (q : Identity) (before : List Deed) (h now : List Entry) (looked : ℕ → Bool) (c : Cluster) (x : Health) (s : Store) (t : Told) : Type 0 where
+pub record IsPassing (doc : Doc) (k : ℕ) (q : Identity) (before : List Deed) (h now : List Entry) (looked : ℕ → Bool)
+    (c : Cluster) (x : Health) (s : Store) (t : Told) : Type 0 where
   pub running : Running q k before now c s t
   pub health : PassStands doc k q h looked x
   pub leases : (name : ℕ) → renewal q name now ≡ renewal q name h

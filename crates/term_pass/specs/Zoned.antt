@@ -1,5 +1,5 @@
 -- Zones within a pass.
-use Rattle.std.specs.Prelude.{◌≡◌, ℕ, List, None}
+use Rattle.std.specs.Prelude.{◌≡◌, List, None}
 use Rattle.kube_objects.specs.Document.{Doc}
 use Rattle.kube_objects.specs.Entry.{Entry, Identity, Place as Zone}
 use Rattle.kube_objects.specs.Modes.{nodes, size_in}

@@ -16,12 +16,12 @@ ghost use Rattle.term_pass.specs.Passing.{HaveCost, IsPassing};
 ghost use Rattle.node_health.specs.Kept as spec;
 ghost use Rattle.watch_cache.specs.Told.{AreNamed};
 
-use crate::marking::{mark, marked_node};
+use crate::marking::with_mark;
 use kube_base::{KUBE_NODE_LEASE, NoMemory, Steps, Wall, whole_second};
 use kube_objects::{Key, Kind, NumberList};
 use node_health::{Grace, Health, Verdict};
 use object_store::Store;
-use term_state::{Cluster, Told, View};
+use term_state::{Cluster, NodeWrite, Told, View, try_write};
 
 fn node_lease(name: u32) -> Key
     ensures { result ≡ stored_words.node_lease name }
@@ -58,7 +58,8 @@ fn look<L>(
         → IsPassing doc k q before h now looked cluster.old health.old store.old told.old → IsView doc k q now view.entry.now
         → IsGraceOf doc grace.now
         → looked name ≡ false → has (seen_node q name h) ≡ true → seen_node q name now ≡ seen_node q name h
-        → OnOk result (IsPassing doc k q before h (model.mark doc k q name now) (and_looked name looked) cluster.new health.new store.new told.new) }
+        → OnOk result (IsPassing doc k q before h (model.mark doc k q name now) (and_looked name looked)
+        cluster.new health.new store.new told.new) }
     ensures counted { (doc : Doc) (k : ℕ) (q : Identity) (before : List Deed) (h now : List Entry) (looked : ℕ → Bool)
         → IsPassing doc k q before h now looked cluster.old health.old store.old told.old → IsView doc k q now view.entry.now
         → IsGraceOf doc grace.now
@@ -72,10 +73,19 @@ fn look<L>(
     match health.look(name, node, renewed, view.now, grace)? {
         Verdict::Keep => Ok(()),
         Verdict::MarkUnknown(reason) => {
-            let written = marked_node(node, whole_second(view.wall))?;
-            mark(
-                name, given, written, reason, cluster, store, view, told, steps,
-            )
+            let written = with_mark(node, whole_second(view.wall))?;
+            try_write(
+                cluster,
+                store,
+                view,
+                told,
+                steps,
+                name,
+                given,
+                written,
+                NodeWrite::Mark(reason),
+            )?;
+            Ok(())
         }
     }
 }

@@ -1,6 +1,5 @@
-use Rattle.std.proofs.Common.{◌≡◌, ◌<◌, ◌++◌, ℕ, true, List, length}
+use Rattle.std.proofs.Common.{◌≡◌, ◌<◌, true, List, length}
 use Rattle.kube_objects.specs.Entry.{Entry, Identity}
-use Rattle.kube_objects.specs.Modes.{nodes_among}
 use Rattle.kube_objects.specs.Newest.{has}
 use Rattle.kube_objects.specs.Seen.{is_synced, seen_node}
 use Rattle.kube_objects.specs.Modes.{nodes}

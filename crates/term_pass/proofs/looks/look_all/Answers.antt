@@ -2,7 +2,8 @@ use Rattle.std.proofs.Common.{◌≡◌, ◌∙◌, ◌∷◌, [], false, true, 
 use Rattle.std.proofs.lemmas.Grind.{common_steps}
 use Rattle.kube_objects.specs.Entry.{Pass}
 use Rattle.node_health.specs.Kept.{is_listed}
-use Rattle.term_pass.proofs.Looking.{Looking, begin_looking, end_looking, first_new, listed_first, looked_of, next_looking}
+use Rattle.term_pass.proofs.Listed.{listed_first}
+use Rattle.term_pass.proofs.Looking.{Looking, begin_looking, end_looking, first_new, looked_of, next_looking}
 use Rattle.term_pass.proofs.Marks.{view_more}
 use Rattle.term_pass.proofs.looks.look_all.Goals as goal
 

@@ -1,4 +1,4 @@
-use Rattle.std.proofs.Common.{◌≡◌, ◌∙◌, refl, sym, ap, subst, rules, OnOk}
+use Rattle.std.proofs.Common.{◌≡◌, ◌∙◌, refl, sym, subst, rules}
 use Rattle.kube_objects.specs.Entry.{Mode}
 use Rattle.kube_objects.specs.Modes.{all_full, mode, nodes}
 use Rattle.kube_objects.specs.Tick.{add, set_mode}

@@ -1,21 +1,18 @@
-use Rattle.std.proofs.Common.{◌≡◌, ◌∙◌, ◌≤◌, ◌+◌, ◌<◌, ℕ, true, Some, ap, arith, length, option_map, refl, subst, sym}
+use Rattle.std.proofs.Common.{◌≡◌, ◌∙◌, ◌<◌, ℕ, true, Some, ap, arith, length, option_map, subst, sym}
 use Rattle.std.proofs.lemmas.Result.{on_ok_weaker}
-use Rattle.std.specs.Result.{OnOk}
 use Rattle.kube_objects.specs.Clocks.{local}
 use Rattle.kube_objects.specs.Document.{of_millis}
 use Rattle.kube_objects.specs.Entry.{Pass}
-use Rattle.kube_objects.specs.Health.{is_pass_due, last_pass}
-use Rattle.kube_objects.specs.Modes.{nodes}
+use Rattle.kube_objects.specs.Health.{is_pass_due}
 use Rattle.kube_objects.specs.Tick.{add, marks, set_mode, set_zones}
 use Rattle.node_health.proofs.Frames.{health-same}
 use Rattle.node_health.specs.Stands.{HealthStands, IsGraceOf}
 use Rattle.taint_zones.specs.Limits.{LimitsStand}
-use Rattle.term_pass.specs.Passing.{HaveCost, LastStands, reading_of}
+use Rattle.term_pass.specs.Passing.{HaveCost, LastStands}
 use Rattle.term_pass.proofs.Marks.{view_more}
 use Rattle.term_pass.proofs.Passed.{are_passed, found_named, marks_many, marks_named, marks_say, marks_view, moded, moded_nodes, ok_always, pass_is, pass_last, rest_cost, run_pass, zones_leave}
 use Rattle.term_state.specs.ClusterStands.{no_node, no_pod}
 use Rattle.term_state.specs.Running.{Running}
-use Rattle.tick_laws.specs.Steps.{tick_cost}
 use Rattle.tick_laws.proofs.Steps.{cost_grows}
 use Rattle.zone_counts.specs.Counted.{zone_counts}
 use Rattle.term_pass.proofs.passing.pass.Goals as goal

@@ -1,4 +1,4 @@
-use Rattle.std.proofs.Common.{◌≡◌, Some, subst, sym, rules}
+use Rattle.std.proofs.Common.{Some, subst, sym, rules}
 use Rattle.kube_objects.specs.Tick.{zone_as}
 use Rattle.taint_zones.specs.Limits.{LimitStands}
 use Rattle.term_pass.proofs.ZoneLimits.{went_on}

@@ -1,7 +1,5 @@
-use Rattle.std.proofs.Common.{◌≡◌, ◌∷◌, [], length, refl, sym, ap, ◌∙◌, rules}
-use Rattle.std.specs.BTreeMap.{get}
+use Rattle.std.proofs.Common.{◌≡◌, length, refl, rules}
 use Rattle.kube_objects.specs.Modes.{nodes}
-use Rattle.taint_zones.specs.Places.{zone_cmp}
 use Rattle.term_pass.proofs.ZoneWalk.{zone_step, zoning_begins, zoning_ends}
 use Rattle.term_pass.proofs.zones.set_zones.Goals as goal
 
