@@ -16,6 +16,6 @@ mod writes;
 pub use cluster::Cluster;
 pub use eviction::Eviction;
 pub use told::Told;
-pub use tries::{try_delete, try_node};
+pub use tries::try_delete;
 pub use view::View;
 pub use writes::{NodeWrite, try_write};

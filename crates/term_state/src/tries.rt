@@ -40,7 +40,7 @@ fn answer(outcome: Result<Version, StoreFault>) -> Result<Answer, NoMemory>
 
 /// Tries to write a node in the place of the one with that version. None where the try is lost, which is where requests
 /// don't pass.
-pub fn try_node(
+pub(crate) fn try_node(
     store: &mut Store,
     passes: bool,
     name: u32,
