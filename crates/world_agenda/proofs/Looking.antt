@@ -1,5 +1,5 @@
 -- The processes are gone through, and the soonest beat is kept.
-use Rattle.std.proofs.Common.{◌≡◌, ◌⊎◌, ℕ, suc, ◌+◌, ◌<◌, ◌≤◌, ◌==◌, ◌&&◌, ◌||◌, nat_lt, min, max, Bool, true, false, List, Option, Some, None, refl, sym, ap, ◌∙◌, subst, inl, inr, arith}
+use Rattle.std.proofs.Common.{◌≡◌, ◌⊎◌, ℕ, suc, ◌+◌, ◌<◌, ◌≤◌, ◌==◌, ◌&&◌, ◌||◌, nat_lt, not, min, max, Bool, true, false, List, Option, Some, None, refl, sym, ap, ◌∙◌, subst, inl, inr, arith}
 use Rattle.std.proofs.lemmas.Bool.{cases_lt, ltb-true}
 use Rattle.std.proofs.lemmas.Bool.Decides.{nat_tests}
 use Rattle.kube_base.specs.declared.numbers.Beat.{Beat}
@@ -8,7 +8,7 @@ use Rattle.kube_objects.specs.Document.{Doc, processes, end_beat, is_controller,
 use Rattle.kube_objects.specs.Entry.{Entry}
 use Rattle.history.specs.History.{history}
 use Rattle.history_laws.proofs.Plainly.{some_is, true_is, and_left, and_right, and_both}
-use Rattle.agenda_laws.specs.Ahead.{IsAhead, IsNextStart, IsNextEvent, IsNextMessage, IsNextTurn, IsNextBelow, IsNextBeat, NoTurnsAreFirst, TurnsAreAdded, TheSoonestIsNext}
+use Rattle.agenda_laws.specs.Ahead.{IsAhead, IsSilent, IsNextStart, IsNextEvent, IsNextMessage, IsNextTurn, IsNextBelow, IsNextBeat, NoTurnsAreFirst, TurnsAreAdded, TheSoonestIsNext}
 use Rattle.agenda_laws.specs.Standing.{StandsAt}
 use Rattle.agenda_laws.specs.Times.{is_early, sooner}
 use Rattle.agenda_laws.specs.Waking.{AreAsleep, EndsWakeToo, NextBeatsWake, acts_as}
@@ -165,3 +165,53 @@ at-once doc k p w at ends wakes start inside s wake now =
 
     awake : ¬ AreAsleep doc k (history doc k)
     awake asleep = by_cause asleep (or-some (starts_now doc k p) (acts_as doc k p (is_controller doc p) (history doc k)) (sym s.at_once ∙ wake))
+
+-- ---- an event or a message is there
+
+early-later : (k j : ℕ) (b : Option ℕ) → k ≤ j → is_early k b ≡ false → is_early j b ≡ true → ⊥
+early-later k j None from late early = true_is late
+early-later k j (Some n) from late early = let less = ltb-true j n early in let more : n ≤ k = grind (arith, nat_tests) in omega (arith, from, less, more)
+
+one-of : (a b : Option ℕ) (n : ℕ) → sooner a b ≡ Some n → (a ≡ Some n) ⊎ (b ≡ Some n)
+one-of None b n is = inr is
+one-of (Some a) None n is = inl is
+one-of (Some a) (Some b) n is = by_order (cases_lt a b)
+  where
+    by_order : (a < b) ⊎ (b ≤ a) → (Some a ≡ Some n) ⊎ (Some b ≡ Some n)
+    by_order (inl less) = let e = some_is (min a b) n is in let same : a ≡ n = omega (arith, e, less) in inl (ap (λ (m : ℕ). Some m) same)
+    by_order (inr more) = let e = some_is (min a b) n is in let same : b ≡ n = omega (arith, e, more) in inr (ap (λ (m : ℕ). Some m) same)
+
+not-true : (b : Bool) → not b ≡ true → b ≡ false
+not-true true is = absurd (true_is (sym is))
+not-true false is = refl
+
+pub late-at : (k n : ℕ) (b : Option ℕ) (r : Bool) → r ≡ not (is_early n b) → r ≡ true → n ≡ k → is_early k b ≡ false
+late-at k n b r is yes at = subst (λ m. is_early m b ≡ false) at (not-true (is_early n b) (sym is ∙ yes))
+
+pub there-now : (doc : Doc) (k : ℕ) (event message both : Option Beat) → NextBeatsWake → k ≤ end_beat doc → IsNextEvent doc k (beat_of event) → IsNextMessage doc k (history doc k) (beat_of message)
+    → beat_of both ≡ sooner (beat_of event) (beat_of message) → is_early k (beat_of both) ≡ false → IsNextBeat doc k (beat_of both)
+there-now doc k event message both wakes start e m is late =
+    record {
+      quiet = λ j from within early stands. early-later k j (beat_of both) from late early;
+      there = λ n some.
+          let reached : is_early k (Some n) ≡ false = ap (is_early k) (sym some) ∙ late in
+          let before : n ≤ k = grind (arith, nat_tests) in
+          by_one n before (one-of (beat_of event) (beat_of message) n (sym is ∙ some));
+    }
+  where
+    stands-at : (n : ℕ) → k ≡ n → ¬ AreAsleep doc k (history doc k) → IsAhead doc k n × StandsAt doc n
+    stands-at n same awake =
+        let stands = ((wakes doc k k (omega arith) start (λ j from less. absurd (omega (arith, from, less)))).1.1 awake) in
+        subst (λ m. IsAhead doc k m × StandsAt doc m) same (record { from = omega arith; within = start }, stands)
+
+    by_one : (n : ℕ) → n ≤ k → (beat_of event ≡ Some n) ⊎ (beat_of message ≡ Some n) → IsAhead doc k n × StandsAt doc n
+    by_one n before (inl some) =
+        let t = e.there n some in
+        let from = t.0.from in
+        let same : k ≡ n = omega (arith, before, from) in
+        stands-at n same (λ asleep. let none = asleep.events.events t.1.0 t.1.1 in let at = t.1.2 in let here : (t.1.0.beat.0 == k) ≡ true = grind (arith, nat_tests) in true_is (sym here ∙ none))
+    by_one n before (inr some) =
+        let t = m.there n some in
+        let from = t.0.from in
+        let same : k ≡ n = omega (arith, before, from) in
+        stands-at n same (λ asleep. t.1 (subst (λ j. IsSilent j (history doc k)) same (record { requests = asleep.requests; replies = asleep.replies })))

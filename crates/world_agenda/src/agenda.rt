@@ -1,10 +1,10 @@
 // The next beat of a world at which something happens.
-ghost use Rattle.std.specs.Prelude.{◌≡◌, ◌<◌, ◌≤◌, ℕ, List, false, min};
+ghost use Rattle.std.specs.Prelude.{◌≡◌, ◌<◌, ◌≤◌, not, ℕ, List, false, min};
 ghost use Rattle.kube_objects.specs.Document.{Doc, end_beat};
 ghost use Rattle.kube_objects.specs.Entry.{Entry};
 ghost use Rattle.history.specs.History.{history};
 ghost use Rattle.agenda_laws.specs.Ahead.{IsNextBeat};
-ghost use Rattle.agenda_laws.specs.Times.{sooner as soonest};
+ghost use Rattle.agenda_laws.specs.Times.{is_early, sooner as soonest};
 ghost use Rattle.script_reader.specs.Lawful.{AreLawfulFrom};
 ghost use Rattle.world_core.specs.Waits.{beat_of};
 ghost use Rattle.world_core.specs.Worlds.{IsReady, WorldStands, at_of, count_of, end_of};
@@ -26,7 +26,11 @@ pub fn next_beat(world: &World) -> Option<Beat>
     beats_wake_by_causes();
     next_beats_are_soonest();
     let at = world.at();
-    let mut next = sooner(world.next_event(), world.next_wire());
+    let first = sooner(world.next_event(), world.next_wire());
+    if is_there(first, at) {
+        return first;
+    }
+    let mut next = first;
     for i in 0..world.processes() {
         let who = ProcId(i);
         let wakes = world.wakes(who);
@@ -36,6 +40,16 @@ pub fn next_beat(world: &World) -> Option<Beat>
         next = sooner(next, beat_of_waking(world, who, &wakes));
     }
     not_before(next, at)
+}
+
+// Whether the beat of an event or a message is there.
+fn is_there(first: Option<Beat>, at: Beat) -> bool
+    ensures { result ≡ not (is_early at.0 (beat_of first)) }
+{
+    match first {
+        None => false,
+        Some(first) => first.0 <= at.0,
+    }
 }
 
 // The first beat at which the reading or the time of day is there for which a process waits.

@@ -4,14 +4,22 @@ use Rattle.history.specs.History.{history}
 use Rattle.world_core.specs.Waits.{beat_of}
 use Rattle.world_core.specs.Worlds.{at_of}
 use Rattle.world_agenda.specs.Woken.{not_before}
-use Rattle.world_agenda.proofs.Looking.{at-once, looked-first, looked-next, looked-all}
+use Rattle.world_agenda.proofs.Looking.{at-once, late-at, looked-first, looked-next, looked-all, there-now}
 use Rattle.world_agenda.proofs.agenda.next_beat.Goals as goal
 
 pub loop-i-init : goal.loop-i-init
 loop-i-init c doc events stands end =
     let k = at_of c.args.world.now in
-    looked-first doc k (history doc k) c.next_event.result c.next_wire.result c.sooner-next.result c.next_beats_are_soonest.ensures.first
-    (c.next_event.ensures doc k (history doc k) stands events) (c.next_wire.ensures doc k (history doc k) stands end) c.sooner-next.ensures
+    looked-first doc k (history doc k) c.next_event.result c.next_wire.result c.sooner-first.result c.next_beats_are_soonest.ensures.first
+    (c.next_event.ensures doc k (history doc k) stands events) (c.next_wire.ensures doc k (history doc k) stands end) c.sooner-first.ensures
+
+pub returns-then-is_there : goal.returns-then-is_there
+returns-then-is_there c doc events stands end =
+    let k = at_of c.args.world.now in
+    let start : k ≤ end_beat doc = omega (arith, c.requires.within, end) in
+    there-now doc k c.next_event.result c.next_wire.result c.sooner-first.result c.beats_wake_by_causes.ensures.next start
+    (c.next_event.ensures doc k (history doc k) stands events) (c.next_wire.ensures doc k (history doc k) stands end) c.sooner-first.ensures
+    (late-at k c.at-at.result.0 (beat_of c.sooner-first.result) c.is_there.result c.is_there.ensures c.if-is_there.true c.at-at.ensures)
 
 pub returns-then-wakes : goal.returns-then-wakes
 returns-then-wakes c doc events stands end =
@@ -30,8 +38,8 @@ loop-i-preserved c doc events stands end =
     let count = c.processes-i-end.ensures.stands doc k h stands in
     let inside : c.loop-i.i < processes doc = omega (arith, c.loop-i-test.true, count) in
     let wakes = c.wakes-wakes.ensures doc k h stands end in
-    looked-next doc k c.loop-i.i h c.wakes-wakes.result c.loop-i.next c.beat_of_waking.result c.sooner-next-in-loop-i.result c.next_beats_are_soonest.ensures.more start inside
-    (c.loop-i.invariant doc events stands end) wakes c.if-wakes.false (c.beat_of_waking.ensures doc k h stands end) c.sooner-next-in-loop-i.ensures
+    looked-next doc k c.loop-i.i h c.wakes-wakes.result c.loop-i.next c.beat_of_waking.result c.sooner-next.result c.next_beats_are_soonest.ensures.more start inside
+    (c.loop-i.invariant doc events stands end) wakes c.if-wakes.false (c.beat_of_waking.ensures doc k h stands end) c.sooner-next.ensures
 
 pub returns : goal.returns
 returns c doc events stands end =
