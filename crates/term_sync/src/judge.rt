@@ -1,5 +1,7 @@
 // Judging what was taken over.
-ghost use Rattle.std.specs.Prelude.{◌≡◌, ◌≤◌, ◌+◌, ◌*◌, ◌||◌, ℕ, Bool, true, List, ◌∷◌, OnOk, drop};
+ghost use Rattle.std.specs.Prelude.{◌≡◌, ◌≤◌, ◌+◌, ◌*◌, ◌||◌, ℕ, Bool, true, List, ◌∷◌, OnOk, if◌then◌else◌, drop};
+ghost use Rattle.std.specs.BTreeSet.{contains};
+ghost use Rattle.std.specs.Ordering.{nat_cmp};
 ghost use Rattle.kube_objects.specs.Entry.{Entry, Identity};
 ghost use Rattle.kube_objects.specs.Feeds.{is_among};
 ghost use Rattle.kube_objects.specs.Keys.{key_eq};
@@ -17,8 +19,8 @@ use object_store::Store;
 use std::collections::BTreeSet;
 use term_state::Cluster;
 
-// What follows from a node is exact again, with the pods on it where it is among those to judge. A key with a namespace is
-// no node's.
+// What follows from a node is exact again, with the pods on it where it is among those to judge. A key with a namespace
+// is no node's.
 fn judge_node<L>(
     cluster: &mut Cluster,
     key: Key,
@@ -30,7 +32,8 @@ fn judge_node<L>(
         → is_synced q g ≡ true → OnOk result (LeftBut q g rest to_judge.now cluster.new) }
     ensures moved { OnOk result ((n : ℕ) → has_moved cluster.new n ≡ (key_eq key (node_key n) || has_moved cluster.old n)) }
     ensures counted { (q : Identity) (g : List Entry) (nodes : ℕ → Bool) (pods : Key → Bool) → ClusterBut q g nodes pods cluster.old
-        → is_synced q g ≡ true → OnOk result (steps.new ≤ steps.old + 2 * pods_on q key.name g) }
+        → is_synced q g ≡ true
+        → OnOk result (steps.new ≤ steps.old + 2 * (if contains nat_cmp to_judge.now key.name then pods_on q key.name g else 0)) }
 {
     if key.space != 0 {
         return Ok(());
@@ -52,7 +55,7 @@ fn judge<L>(
         → is_synced q g ≡ true → OnOk result (LeftBut q g rest to_judge.now cluster.new) }
     ensures moved { OnOk result ((n : ℕ) → has_moved cluster.new n ≡ (key_eq key (node_key n) || has_moved cluster.old n)) }
     ensures counted { (q : Identity) (g : List Entry) (nodes : ℕ → Bool) (pods : Key → Bool) → ClusterBut q g nodes pods cluster.old
-        → is_synced q g ≡ true → OnOk result (steps.new ≤ steps.old + 2 * write_cost q g key) }
+        → is_synced q g ≡ true → OnOk result (steps.new ≤ steps.old + 2 * write_cost q (contains nat_cmp to_judge.now) g key) }
 {
     match key.kind {
         Kind::Node => judge_node(cluster, key, to_judge, steps),
@@ -76,7 +79,7 @@ pub(crate) fn judge_changes<L>(
         → has_moved cluster.new n ≡ (is_among (drop position (changed_in store.now)) (node_key n) || has_moved cluster.old n)) }
     ensures counted { (q : Identity) (g : List Entry) → let keys = drop position (changed_in store.now) in
         LeftBut q g keys to_judge.now cluster.old → is_synced q g ≡ true
-        → OnOk result (steps.new ≤ steps.old + 2 * write_costs q g keys) }
+        → OnOk result (steps.new ≤ steps.old + 2 * write_costs q (contains nat_cmp to_judge.now) g keys) }
 {
     let count = store.changes();
     let mut place = position;

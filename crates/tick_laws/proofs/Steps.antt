@@ -1,5 +1,5 @@
 -- What each entry of a tick adds to the pods that the tick may look at.
-use Rattle.std.proofs.Common.{◌≡◌, ℕ, ◌+◌, ◌*◌, ◌≤◌, Bool, true, false, List, [], ◌∷◌, length, Option, Some, refl, ap, subst, arith}
+use Rattle.std.proofs.Common.{◌≡◌, ℕ, ◌+◌, ◌*◌, ◌≤◌, Bool, true, false, cond, List, [], ◌∷◌, length, Option, Some, refl, ap, subst, arith}
 use Rattle.kube_base.specs.declared.numbers.Version.{Version}
 use Rattle.kube_objects.specs.declared.call.Answer.{Answer}
 use Rattle.kube_objects.specs.declared.call.Answer.TheVariants as answer
@@ -16,6 +16,7 @@ use Rattle.history_laws.proofs.Plainly.{false_is}
 use Rattle.tick_laws.specs.Since.{keys_since}
 use Rattle.tick_laws.specs.Steps.{pods_on, kind_cost, write_costs, own_cost, entry_cost, fact_cost, tick_cost}
 use Rattle.tick_laws.specs.Ticked.{IsTicked}
+use Rattle.tick_laws.specs.ToJudge.{is_to_judge}
 use Rattle.tick_laws.proofs.Ticked.{is_own_tick, before_short, ticked_keeps}
 use Rattle.watch_cache.proofs.Ticks.{is_sync}
 
@@ -27,7 +28,8 @@ module _ (q : Identity) (k : ℕ) (h : List Entry) where
   cost_grows t = omega (arith, cost_added t)
 
   -- a sync
-  pub cost_sync : tick_cost q k (add k q Sync h) ≡ (length (keys_since q h) + 2 * write_costs q (add k q Sync h) (keys_since q h)) + tick_cost q k h
+  pub cost_sync : tick_cost q k (add k q Sync h)
+      ≡ (length (keys_since q h) + 2 * write_costs q (is_to_judge q h (add k q Sync h)) (add k q Sync h) (keys_since q h)) + tick_cost q k h
   cost_sync = cost_added Sync
 
   -- an own write
@@ -52,10 +54,26 @@ module _ (q : Identity) (k : ℕ) (h : List Entry) where
       → 4 + tick_cost q k h ≤ tick_cost q k (add k q (Delete pod given node_given at (Some (answer.Done v))) h)
   cost_gone pod given node_given at v is = omega (arith, cost_added (Delete pod given node_given at (Some (answer.Done v))), by_kind pod.kind is)
     where
-      by_kind : (x : Kind) → is_pod x ≡ true → kind_cost q (add k q (Delete pod given node_given at (Some (answer.Done v))) h) pod.name x ≡ 1
+      by_kind : (x : Kind) → is_pod x ≡ true → kind_cost q (λ name. true) (add k q (Delete pod given node_given at (Some (answer.Done v))) h) pod.name x ≡ 1
       by_kind kind.Node is = absurd (false_is is)
       by_kind kind.Lease is = absurd (false_is is)
       by_kind kind.Pod is = refl
+
+-- a test that more nodes pass counts no less
+pub costs_grow : (q : Identity) (h : List Entry) (test more : ℕ → Bool) → ((n : ℕ) → test n ≡ true → more n ≡ true) → (keys : List Key)
+    → write_costs q test h keys ≤ write_costs q more h keys
+costs_grow q h test more all [] = omega arith
+costs_grow q h test more all (key ∷ keys) = omega (arith, by_kind key.kind, costs_grow q h test more all keys)
+  where
+    by_test : (a b : Bool) (n : ℕ) → (a ≡ true → b ≡ true) → cond a n 0 ≤ cond b n 0
+    by_test true true n passes = omega arith
+    by_test true false n passes = absurd (false_is (passes refl))
+    by_test false b n passes = omega arith
+
+    by_kind : (x : Kind) → kind_cost q test h key.name x ≤ kind_cost q more h key.name x
+    by_kind kind.Node = by_test (test key.name) (more key.name) (pods_on q key.name h) (all key.name)
+    by_kind kind.Lease = omega arith
+    by_kind kind.Pod = omega arith
 
 -- a phase adds to it, and takes nothing away
 pub cost_ticked : (q : Identity) (k : ℕ) (h g : List Entry) → IsTicked q k h g → tick_cost q k h ≤ tick_cost q k g

@@ -1,5 +1,5 @@
 -- How many pods a tick may look at, read from the history.
-use Rattle.std.specs.Prelude.{ℕ, ◌+◌, ◌*◌, true, false, List, [], ◌∷◌, length, count_by, Option, Some, None}
+use Rattle.std.specs.Prelude.{ℕ, ◌+◌, ◌*◌, Bool, true, false, cond, List, [], ◌∷◌, length, count_by, Option, Some, None}
 use Rattle.kube_objects.specs.declared.key.Key.{Key}
 use Rattle.kube_objects.specs.declared.key.Kind.{Kind}
 use Rattle.kube_objects.specs.declared.key.Kind.TheVariants as kind
@@ -8,32 +8,33 @@ use Rattle.kube_objects.specs.Seen.{seen_pod, pod_keys}
 use Rattle.kube_objects.specs.Stored.{Write, tick_write}
 use Rattle.kube_objects.specs.Tainting.{is_tick_of}
 use Rattle.tick_laws.specs.Since.{keys_since}
+use Rattle.tick_laws.specs.ToJudge.{is_to_judge}
 use Rattle.watch_cache.specs.Kept.{is_on}
 
 -- how many pods are seen on the node of that name
 abbrev pub pods_on : Identity → ℕ → List Entry → ℕ
 pods_on q name h = count_by (λ key. is_on name (seen_pod q key h)) (pod_keys h)
 
--- the pods that a write of a key may make due, as they are seen after it
-abbrev pub kind_cost : Identity → List Entry → ℕ → Kind → ℕ
-kind_cost q h name kind.Node = pods_on q name h
-kind_cost q h name kind.Lease = 0
-kind_cost q h name kind.Pod = 1
+-- the pods that a write of a key may make due, as they are seen after it: of a node those on it, where it passes a test
+abbrev pub kind_cost : Identity → (ℕ → Bool) → List Entry → ℕ → Kind → ℕ
+kind_cost q test h name kind.Node = cond (test name) (pods_on q name h) 0
+kind_cost q test h name kind.Lease = 0
+kind_cost q test h name kind.Pod = 1
 
-abbrev pub write_cost : Identity → List Entry → Key → ℕ
-write_cost q h key = kind_cost q h key.name key.kind
+abbrev pub write_cost : Identity → (ℕ → Bool) → List Entry → Key → ℕ
+write_cost q test h key = kind_cost q test h key.name key.kind
 
-abbrev pub write_costs : Identity → List Entry → List Key → ℕ
-write_costs q h [] = 0
-write_costs q h (key ∷ keys) = write_cost q h key + write_costs q h keys
+abbrev pub write_costs : Identity → (ℕ → Bool) → List Entry → List Key → ℕ
+write_costs q test h [] = 0
+write_costs q test h (key ∷ keys) = write_cost q test h key + write_costs q test h keys
 
 abbrev pub own_cost : Identity → List Entry → Option Write → ℕ
 own_cost q h None = 0
-own_cost q h (Some write) = 2 * write_cost q h write.0
+own_cost q h (Some write) = 2 * write_cost q (λ name. true) h write.0
 
 -- h is the history before the entry, and g the one with it
 abbrev pub entry_cost : Identity → List Entry → List Entry → Tick → ℕ
-entry_cost q h g Sync = length (keys_since q h) + 2 * write_costs q g (keys_since q h)
+entry_cost q h g Sync = length (keys_since q h) + 2 * write_costs q (is_to_judge q h g) g (keys_since q h)
 entry_cost q h g (Delete pod given node_given due tried) = 2 + own_cost q g (tick_write (Delete pod given node_given due tried))
 entry_cost q h g t = own_cost q g (tick_write t)
 
@@ -42,7 +43,8 @@ fact_cost q h g (Ticks t) = entry_cost q h g t
 fact_cost q h g _ = 0
 
 -- of the entries that the identity's tick at a beat has made so far: one for each write that a sync takes in, two for each delete,
--- and two for each pod that such a write, or an accepted write of the tick's own, may make due
+-- and two for each pod that such a write, or an accepted write of the tick's own, may make due. A node that a sync takes in makes
+-- pods due where its taints are others than were seen, or a key was stale
 abbrev pub tick_cost : Identity → ℕ → List Entry → ℕ
 tick_cost q k [] = 0
 tick_cost q k (e ∷ h) =

@@ -12,7 +12,7 @@ use Rattle.term_sync.proofs.judge.judge.Goals as goal
 
 pub returns-in-Node-clause-counted : goal.returns-in-Node-clause-counted
 returns-in-Node-clause-counted g c q g' nodes pods s synced =
-    subst (λ x. OnOk c.judge_node.result (c.judge_node.new.steps ≤ c.args.steps.now + 2 * kind_cost q g' c.args.key.name x)) (sym c.in-Node.is)
+    subst (λ x. OnOk c.judge_node.result (c.judge_node.new.steps ≤ c.args.steps.now + 2 * kind_cost q (contains nat_cmp c.args.to_judge.now) g' c.args.key.name x)) (sym c.in-Node.is)
     (c.judge_node.ensures.counted q g' nodes pods s synced)
 
 pub returns-in-Pod-clause-stands : goal.returns-in-Pod-clause-stands

@@ -30,6 +30,6 @@ loop-place-preserved g c =
       counted = λ q g' s synced.
           let one = c.in_ok-judge.ensures.counted q g' (λ n. is_among (drop place keys) (node_key n)) (is_open q g' (drop place keys) (contains nat_cmp c.args.to_judge.now)) (c.loop-place.invariant.stands q g' s synced) synced in
           let two = c.loop-place.invariant.counted q g' s synced in
-          let costs = ap (write_costs q g') split in
+          let costs = ap (write_costs q (contains nat_cmp c.args.to_judge.now) g') split in
           omega (arith, one, two, costs);
     }

@@ -1,4 +1,6 @@
 use Rattle.std.proofs.Common.{◌≡◌, ◌≤◌, ◌+◌, ◌-◌, ◌*◌, ◌||◌, ℕ, true, List, drop}
+use Rattle.std.specs.BTreeSet.{contains}
+use Rattle.std.specs.Ordering.{nat_cmp}
 use Rattle.kube_objects.specs.Entry.{Entry, Identity}
 use Rattle.kube_objects.specs.Feeds.{is_among}
 use Rattle.kube_objects.specs.Seen.{is_synced}
@@ -18,5 +20,6 @@ invariant-loop-place g l = record {
       → LeftBut q g (drop l.place (changed_in l.store)) l.to_judge l.cluster;
   moved : (n : ℕ) → (is_among (drop l.place (changed_in l.store)) (node_key n) || has_moved l.cluster n) ≡ (is_among (drop l.position (changed_in l.store)) (node_key n) || has_moved l.fn.cluster n);
   counted : (q : Identity) (g : List Entry) → LeftBut q g (drop l.position (changed_in l.store)) l.to_judge l.fn.cluster → is_synced q g ≡ true
-      → l.steps + 2 * write_costs q g (drop l.place (changed_in l.store)) ≤ l.fn.steps + 2 * write_costs q g (drop l.position (changed_in l.store));
+      → l.steps + 2 * write_costs q (contains nat_cmp l.to_judge) g (drop l.place (changed_in l.store))
+      ≤ l.fn.steps + 2 * write_costs q (contains nat_cmp l.to_judge) g (drop l.position (changed_in l.store));
 }

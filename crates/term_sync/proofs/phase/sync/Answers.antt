@@ -1,5 +1,7 @@
 use Rattle.std.proofs.Common.{◌≡◌, ◌∙◌, ◌||◌, ℕ, Bool, List, ◌+◌, ◌≤◌, ◌&&◌, not, false, true, ap, drop, sym, subst, arith}
 use Rattle.std.proofs.lemmas.Result.{on_ok_weaker}
+use Rattle.std.specs.BTreeSet.{contains}
+use Rattle.std.specs.Ordering.{nat_cmp}
 use Rattle.kube_objects.specs.Document.{Doc}
 use Rattle.kube_objects.specs.Entry.{Entry, Identity, Sync}
 use Rattle.kube_objects.specs.Feeds.{is_among}
@@ -8,8 +10,10 @@ use Rattle.kube_objects.specs.Seen.{is_fresh}
 use Rattle.kube_objects.specs.Stored.{node_key}
 use Rattle.object_store.specs.Stands.{changed_in}
 use Rattle.kube_objects.specs.Tick.{add, sync, sync_if}
+use Rattle.tick_laws.specs.Since.{keys_since}
 use Rattle.tick_laws.specs.Steps.{tick_cost, write_costs}
-use Rattle.tick_laws.proofs.Steps.{cost_sync}
+use Rattle.tick_laws.specs.ToJudge.{is_to_judge}
+use Rattle.tick_laws.proofs.Steps.{cost_sync, costs_grow}
 use Rattle.tick_laws.proofs.Syncing.{sync_synced}
 use Rattle.term_state.specs.ClusterStands.{ClusterStands}
 use Rattle.term_state.specs.Running.{IsMoved}
@@ -66,7 +70,9 @@ returns-clause-counted g c doc k q h s st r v =
     let is = comes doc k q h c.syncs.result (c.syncs.ensures doc q h s st v.watch) c.if-not-syncs.false in
     let since = changed_since q h c.args.store.now c.position-position.result st (c.position-position.ensures q h s) in
     let one = c.in_ok-to_judge.ensures.counted q h s st in
+    let names = contains nat_cmp c.in_ok-to_judge.to_judge in
+    let fewer = costs_grow q after names (is_to_judge q h after) (λ n there. (c.in_ok-to_judge.ensures.judged q k h s st n there).1) (keys_since q h) in
     on_ok_weaker c.judge_changes.result
     (λ two. subst (λ f. c.judge_changes.new.steps + tick_cost q k h ≤ c.args.steps.now + tick_cost q k f) (sym is)
-    (omega (arith, one, two, cost_sync q k h, ap (write_costs q after) since)))
+    (omega (arith, one, two, cost_sync q k h, ap (write_costs q names after) since, fewer)))
     (c.judge_changes.ensures.counted q after (subst (λ keys. LeftBut q after keys c.in_ok-to_judge.to_judge c.take_over.new.self) (sym since) (c.in_ok-to_judge.ensures.stands q k h s st r)) (sync_synced q k h))
