@@ -186,7 +186,7 @@ not-true true is = absurd (true_is (sym is))
 not-true false is = refl
 
 pub late-at : (k n : ℕ) (b : Option ℕ) (r : Bool) → r ≡ not (is_early n b) → r ≡ true → n ≡ k → is_early k b ≡ false
-late-at k n b r is yes at = subst (λ m. is_early m b ≡ false) at (not-true (is_early n b) (sym is ∙ yes))
+late-at k n b r is holds at = subst (λ m. is_early m b ≡ false) at (not-true (is_early n b) (sym is ∙ holds))
 
 pub there-now : (doc : Doc) (k : ℕ) (event message both : Option Beat) → NextBeatsWake → k ≤ end_beat doc → IsNextEvent doc k (beat_of event) → IsNextMessage doc k (history doc k) (beat_of message)
     → beat_of both ≡ sooner (beat_of event) (beat_of message) → is_early k (beat_of both) ≡ false → IsNextBeat doc k (beat_of both)
