@@ -1,7 +1,7 @@
-// A happy path of each call.
+// A happy path of each call, and what is refused on the way.
 ghost use Rattle.std.specs.Prelude.{◌≡◌};
 
-use crate::{Posted, Store};
+use crate::{Posted, Store, StoreFault};
 use kube_base::{ListOf, Version, Wall};
 use kube_objects::{
     Changed, Feed, Holder, Key, Kind, Lease, Node, Object, Pod, ReadyStatus, Reply, Request,
@@ -34,11 +34,16 @@ fn a_lease_is_written_and_shown(rt: HostRuntime) -> Result<(), Fail> {
     let a = key(Kind::Lease);
     let created = store.create(a, Object::Lease(lease()));
     assert_eq!(rt; created, Ok(Version(1)));
+    let again = store.create(a, Object::Lease(lease()));
+    assert_eq!(rt; again, Err(StoreFault::Exists));
+    let stale = store.update(a, Version(7), Object::Lease(lease()));
+    assert_eq!(rt; stale, Err(StoreFault::Conflict(Version(1))));
     let updated = store.update(a, Version(1), Object::Lease(lease()));
     assert_eq!(rt; updated, Ok(Version(2)));
     let answered = store.answer(Request::Get(a));
     assert_eq!(rt; answered, Ok(Reply::Found(Version(2), lease())));
     assert!(rt; store.get(&a).is_some());
+    assert!(rt; store.get(&key(Kind::Node)).is_none());
     assert_eq!(rt; store.objects()?.as_slice().len(), 1);
     assert_eq!(rt; store.changes(), 2);
     assert_eq!(rt; store.change(1), Some(a));
@@ -57,6 +62,9 @@ fn a_node_is_put_and_posted_and_goes_after_its_pod(rt: HostRuntime) {
     let mut store = Store::new(alloc);
     let n = key(Kind::Node);
     let p = key(Kind::Pod);
+    let no_pod = store.delete_pod(p, Version(1), n, Version(2));
+    assert_eq!(rt; no_pod, Err(StoreFault::Absent));
+    assert_eq!(rt; store.remove(n), Ok(None));
     let node = Node {
         region: 0,
         zone: 0,
