@@ -1,5 +1,5 @@
 -- A step, a turn and a tick add nothing exactly where each of their parts, done on the history by itself, adds nothing.
-use Rattle.std.proofs.Common.{◌≡◌, ◌==◌, Bool, true, false, ℕ, zero, suc, ◌<◌, Option, Some, None, List, [], ◌∷◌, refl, sym, ap, ◌∙◌, subst, inl, inr, arith}
+use Rattle.std.proofs.Common.{◌≡◌, ◌==◌, not, Bool, true, false, ℕ, zero, suc, ◌<◌, Option, Some, None, List, [], ◌∷◌, refl, sym, ap, ◌∙◌, subst, inl, inr, arith}
 use Rattle.std.proofs.lemmas.Bool.{cases_lt}
 use Rattle.kube_objects.specs.declared.call.Request.{Request}
 use Rattle.kube_objects.specs.declared.script.Event.{Event}
@@ -10,6 +10,8 @@ use Rattle.kube_objects.specs.Elector.{deadline, acts, release}
 use Rattle.kube_objects.specs.Entry.{Entry, Identity, Call, Event as Happens, Stops, script_entry, entry}
 use Rattle.kube_objects.specs.Identities.{identity}
 use Rattle.kube_objects.specs.Kubelet.{round_if, round}
+use Rattle.kube_objects.specs.Newest.{only_if}
+use Rattle.kube_objects.specs.Pauses.{is_paused}
 use Rattle.kube_objects.specs.Process.{alive, call_in, is_late, ended, is_restart_due}
 use Rattle.kube_objects.specs.Seen.{is_synced}
 use Rattle.kube_objects.specs.Tick.{sync, pass, cleaned, tainted, evicted, tick_if, tick}
@@ -90,12 +92,13 @@ module _ (doc : Doc) (k : ℕ) where
   effect_adds : (w : What) (before h : List Entry) → IsTail h (effect doc k w before h)
   effect_adds (what.Crash id) before h = crash_adds id.0 (alive id.0 before) h
   effect_adds (what.Start id) before h = start_adds id.0 (alive id.0 before) h
-  effect_adds (what.Stop id) before h = stop_adds id.0 (alive id.0 before) before h
+  effect_adds (what.Stop id) before h = stop_adds id.0 (only_if (not (is_paused doc id.0 k)) (alive id.0 before)) before h
   effect_adds (what.Rate id ppm) before h = tail_all h
   effect_adds (what.Delay id requests replies) before h = tail_all h
   effect_adds (what.Loss id requests replies) before h = tail_all h
   effect_adds (what.Watch id on) before h = tail_all h
   effect_adds (what.Ready id status) before h = tail_all h
+  effect_adds (what.Pause id beats) before h = tail_all h
   effect_adds (what.Put key object) before h = tail_all h
   effect_adds (what.Remove key) before h = tail_all h
 
@@ -229,7 +232,7 @@ module _ (doc : Doc) (k p : ℕ) where
 
   restart_if_adds : (o : Option ℕ) (h : List Entry) → IsTail h (restart_if doc k p o h)
   restart_if_adds (Some i) h = tail_all h
-  restart_if_adds None h = restart_as_adds (is_restart_due doc p k (ended p h)) h
+  restart_if_adds None h = restart_as_adds (is_restart_due doc p k (ended doc p h)) h
 
   restart_adds : (h : List Entry) → IsTail h (restart doc k p h)
   restart_adds h = restart_if_adds (alive p h) h

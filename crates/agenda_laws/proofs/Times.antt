@@ -44,7 +44,7 @@ module _ (doc : Doc) (k p : ℕ) (h : List Entry) where
 
   restart_waits : (o : Option ℕ) → Waits (restart_if doc k p o h) h (is_early (local doc p k) (restart_if_down doc p o h))
   restart_waits (Some i) = never h
-  restart_waits None = restart_waits_after (ended p h)
+  restart_waits None = restart_waits_after (ended doc p h)
 
   -- ---- an expiry
 

@@ -35,7 +35,7 @@ restart_after doc p (Some at) = Some (local doc p at + restart_delay doc)
 
 abbrev pub restart_if_down : Doc → ℕ → Option ℕ → List Entry → Option ℕ
 restart_if_down doc p (Some i) h = None
-restart_if_down doc p None h = restart_after doc p (ended p h)
+restart_if_down doc p None h = restart_after doc p (ended doc p h)
 
 -- of a controller that ended and is down
 abbrev pub restart_at : Doc → ℕ → List Entry → Option ℕ

@@ -14,7 +14,7 @@ use Rattle.kube_objects.specs.declared.key.Key.{Key}
 use Rattle.kube_objects.specs.declared.node.Ready.{Ready}
 use Rattle.kube_objects.specs.declared.script.What.{What}
 use Rattle.kube_objects.specs.declared.script.What.TheVariants as what
-use Rattle.kube_objects.specs.Entry.{Entry, Fact, Event, Starts, Crashes, Stops, Ends, Answers, Leads, Ticks, Tick, Mark, Mode, Zone, Untaint, Swap, Head, Delete}
+use Rattle.kube_objects.specs.Entry.{Entry, Fact, Event, Starts, Crashes, Stops, Ends, Stalls, Answers, Leads, Ticks, Tick, Mark, Mode, Zone, Untaint, Swap, Head, Delete}
 use Rattle.kube_objects.specs.Keys.{key_eq}
 use Rattle.kube_objects.specs.Newest.{or_zero}
 use Rattle.kube_objects.specs.Stored.{election}
@@ -67,6 +67,7 @@ act_of Starts = Some act.Start
 act_of Crashes = Some act.Crash
 act_of Stops = Some act.Stop
 act_of Ends = Some act.End
+act_of (Stalls beats) = Some (act.Pause beats)
 act_of (Answers call reply comes written) = answer_act call.request reply
 act_of (Leads version) = Some (act.Lead version)
 act_of (Ticks tick) = tick_act tick

@@ -1,5 +1,5 @@
 -- The four steps of a beat. Each adds its entries to the history before it. Source: profile.
-use Rattle.std.specs.Prelude.{ℕ, zero, suc, ◌+◌, ◌==◌, Bool, true, false, List, [], ◌∷◌, Option, Some, None}
+use Rattle.std.specs.Prelude.{ℕ, zero, suc, ◌+◌, ◌==◌, not, Bool, true, false, List, [], ◌∷◌, Option, Some, None}
 use Rattle.kube_base.specs.declared.numbers.Version.{Version}
 use Rattle.kube_objects.specs.declared.call.Reply.{Reply}
 use Rattle.kube_objects.specs.declared.call.Request.{Request}
@@ -10,10 +10,11 @@ use Rattle.kube_objects.specs.Answers.{answer, written}
 use Rattle.kube_objects.specs.Clocks.{store_wall, whole_second}
 use Rattle.kube_objects.specs.Document.{Doc, processes, is_controller, is_up_first}
 use Rattle.kube_objects.specs.Elector.{follow_on, leads, deadline, release, acts}
-use Rattle.kube_objects.specs.Entry.{Entry, Identity, Call, Release, Event as Happens, Starts, Crashes, Stops, Answers, Delivers, entry, script_entry}
+use Rattle.kube_objects.specs.Entry.{Entry, Identity, Call, Release, Event as Happens, Starts, Crashes, Stops, Stalls, Answers, Delivers, entry, script_entry}
 use Rattle.kube_objects.specs.Identities.{identity}
 use Rattle.kube_objects.specs.Kubelet.{next_request, send_next, round}
-use Rattle.kube_objects.specs.Newest.{when, has}
+use Rattle.kube_objects.specs.Newest.{when, only_if, has}
+use Rattle.kube_objects.specs.Pauses.{is_paused}
 use Rattle.kube_objects.specs.Process.{alive, starts, call_in, counted, ended, is_restart_due}
 use Rattle.kube_objects.specs.Stamps.{stamped}
 use Rattle.kube_objects.specs.Stored.{stored, next_version}
@@ -57,11 +58,16 @@ abbrev pub stop : Doc → ℕ → ℕ → Option ℕ → List Entry → List Ent
 stop doc k p None before h = h
 stop doc k p (Some i) before h = released k (identity p i) (release doc (identity p i) k before) (entry k 1 (identity p i) Stops ∷ h)
 
--- what an event causes; before is the history before it
+abbrev pub stall : ℕ → ℕ → ℕ → Option ℕ → List Entry → List Entry
+stall k p beats None h = h
+stall k p beats (Some i) h = entry k 1 (identity p i) (Stalls beats) ∷ h
+
+-- what an event causes; before is the history before it. A process that is paused can't be stopped
 abbrev pub effect : Doc → ℕ → What → List Entry → List Entry → List Entry
 effect doc k (what.Crash id) before h = crash k id.0 (alive id.0 before) h
 effect doc k (what.Start id) before h = start_if_down k 1 id.0 (alive id.0 before) h
-effect doc k (what.Stop id) before h = stop doc k id.0 (alive id.0 before) before h
+effect doc k (what.Stop id) before h = stop doc k id.0 (only_if (not (is_paused doc id.0 k)) (alive id.0 before)) before h
+effect doc k (what.Pause id beats) before h = stall k id.0 beats (alive id.0 before) h
 effect doc k _ before h = h
 
 -- a put as it is stored at a beat
@@ -101,21 +107,21 @@ abbrev pub comes_at : ℕ → Option ℕ → Bool
 comes_at k None = false
 comes_at k (Some at) = at == k
 
-abbrev pub answered : ℕ → Sent → List Entry → List Entry
-answered k s h = entry k 2 s.who (Answers s.call (answer s.call.request h) (reply_arrival s.who.process k h) (written s.call.request h)) ∷ h
+abbrev pub answered : Doc → ℕ → Sent → List Entry → List Entry
+answered doc k s h = entry k 2 s.who (Answers s.call (answer s.call.request h) (reply_arrival doc s.who.process k h) (written s.call.request h)) ∷ h
 
-abbrev pub answer_if : ℕ → Sent → Bool → List Entry → List Entry
-answer_if k s false h = h
-answer_if k s true h = answered k s h
+abbrev pub answer_if : Doc → ℕ → Sent → Bool → List Entry → List Entry
+answer_if doc k s false h = h
+answer_if doc k s true h = answered doc k s h
 
-abbrev pub answer_due : ℕ → Option Sent → List Entry → List Entry
-answer_due k None h = h
-answer_due k (Some s) h = answer_if k s (comes_at k s.arrives) h
+abbrev pub answer_due : Doc → ℕ → Option Sent → List Entry → List Entry
+answer_due doc k None h = h
+answer_due doc k (Some s) h = answer_if doc k s (comes_at k s.arrives) h
 
-abbrev pub step_two : ℕ → List Entry → List Entry
-step_two k h = each (λ e. answer_due k (sent_of e.actor e.fact)) h h
+abbrev pub step_two : Doc → ℕ → List Entry → List Entry
+step_two doc k h = each (λ e. answer_due doc k (sent_of e.actor e.fact)) h h
 
--- ---- step 3: replies that arrive are delivered, in the order of their answering
+-- ---- step 3: replies that arrive are delivered, in the order of their answering; none arrives in a pause
 
 -- what a kubelet sends next
 abbrev pub kubelet_react : Doc → ℕ → Identity → Call → Reply → List Entry → List Entry
@@ -158,7 +164,7 @@ restart_as k p true h = start k 4 p h
 
 abbrev pub restart_if : Doc → ℕ → ℕ → Option ℕ → List Entry → List Entry
 restart_if doc k p (Some i) h = h
-restart_if doc k p None h = restart_as k p (is_restart_due doc p k (ended p h)) h
+restart_if doc k p None h = restart_as k p (is_restart_due doc p k (ended doc p h)) h
 
 -- a controller that is down starts again once its clock has reached its restart
 abbrev pub restart : Doc → ℕ → ℕ → List Entry → List Entry
@@ -201,8 +207,13 @@ abbrev pub turn_as : Doc → ℕ → ℕ → Bool → List Entry → List Entry
 turn_as doc k p true h = controller_turn doc k p h
 turn_as doc k p false h = kubelet_turn doc k p h
 
+-- a process that is paused has no turn
+abbrev pub turn_unless : Doc → ℕ → ℕ → Bool → List Entry → List Entry
+turn_unless doc k p true h = h
+turn_unless doc k p false h = turn_as doc k p (is_controller doc p) h
+
 abbrev pub turn : Doc → ℕ → ℕ → List Entry → List Entry
-turn doc k p h = turn_as doc k p (is_controller doc p) h
+turn doc k p h = turn_unless doc k p (is_paused doc p k) h
 
 -- the turns of the processes below p
 abbrev pub turns : Doc → ℕ → ℕ → List Entry → List Entry

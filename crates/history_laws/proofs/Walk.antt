@@ -14,16 +14,17 @@ use Rattle.kube_objects.specs.Elector.{Follow, Fails, Asks, Succeeds, follow_on,
 use Rattle.kube_objects.specs.Entry.{Entry, Identity, Call, Plain, Release, Fact, Event as Happens, Starts, Crashes, Stops, Ends, Delivers, Expires, Leads, Ticks, actor_of, entry, script_entry}
 use Rattle.kube_objects.specs.Identities.{identity}
 use Rattle.kube_objects.specs.Kubelet.{node_of, is_post, has_round, next_request, post, send_next, is_post_call, round_if, is_round_due, round_timer, round}
-use Rattle.kube_objects.specs.Newest.{has}
+use Rattle.kube_objects.specs.Newest.{has, only_if}
+use Rattle.kube_objects.specs.Pauses.{is_paused}
 use Rattle.kube_objects.specs.Process.{alive, starts, begun, call_in, counted, is_late, ended, is_restart_due}
 use Rattle.kube_objects.specs.Stored.{election, node_lease}
 use Rattle.kube_objects.specs.Tick.{tick}
 use Rattle.kube_objects.specs.Turns.{lead_if, react, expire_as, expire_call, end_as, end_term, just_expired, is_fast_call, attempt_if, try}
 use Rattle.kube_objects.specs.Wire.{send, Sent, Back, sent_of, back_of}
 use Rattle.history.specs.History.{three_steps, history, at_turn}
-use Rattle.history.specs.Steps.{start, start_first, starts_below, first_starts, start_if_down, crash, released, stop, effect, stamp, event_version, happens_if, happen_all, step_one, each, comes_at, answered, answer_if, answer_due, step_two, react_as, deliver_as, deliver_if, deliver_due, step_three, if_up, restart_as, restart_if, restart, expire, finish, attempts, tick_as, ticks, controller_turn, kubelet_turn, turn_as, turn, turns, elector_turn}
+use Rattle.history.specs.Steps.{start, start_first, starts_below, first_starts, start_if_down, crash, released, stop, effect, stamp, event_version, happens_if, happen_all, step_one, each, comes_at, answered, answer_if, answer_due, step_two, react_as, deliver_as, deliver_if, deliver_due, step_three, if_up, restart_as, restart_if, restart, expire, finish, attempts, tick_as, ticks, controller_turn, kubelet_turn, turn_as, turn_unless, turn, turns, elector_turn}
 use Rattle.history_laws.specs.Tails.{In}
-use Rattle.history_laws.proofs.Counting.{counted_is}
+use Rattle.history_laws.proofs.Counting.{counted_is, only_test, only_value}
 use Rattle.history_laws.proofs.Expired.{expired_none}
 use Rattle.history_laws.proofs.Plainly.{true_is, and_left, not_true}
 use Rattle.history_laws.proofs.Ticks.{MadeTick, walk_tick}
@@ -79,13 +80,13 @@ pub record KeepsTurn (doc : Doc) (A : Identity → ℕ → Type 0) (P : ℕ → 
       → P k h → P k (entry k 4 (identity p i) (Expires call) ∷ h)
   pub ends : (k p i at : ℕ) (h : List Entry) → is_controller doc p ≡ true → alive p h ≡ Some i → deadline doc (identity p i) h ≡ Some at → nat_lt (local doc p k) at ≡ false
       → P k h → P k (entry k 4 (identity p i) Ends ∷ h)
-  pub polls : (k p i : ℕ) (h : List Entry) → is_controller doc p ≡ true → alive p h ≡ Some i → call_in (identity p i) h ≡ None
+  pub polls : (k p i : ℕ) (h : List Entry) → is_controller doc p ≡ true → alive p h ≡ Some i → is_paused doc p k ≡ false → call_in (identity p i) h ≡ None
       → P k h → P k (send k 4 (identity p i) Plain (Get election) h)
-  pub attempts : (k p i : ℕ) (h : List Entry) → is_controller doc p ≡ true → alive p h ≡ Some i → call_in (identity p i) h ≡ None
+  pub attempts : (k p i : ℕ) (h : List Entry) → is_controller doc p ≡ true → alive p h ≡ Some i → is_paused doc p k ≡ false → call_in (identity p i) h ≡ None
       → P k h → P k (send k 4 (identity p i) (attempt doc (identity p i) k h).0 (attempt doc (identity p i) k h).1 h)
-  pub seeks : (k p i : ℕ) (call : Call) (h : List Entry) → is_controller doc p ≡ false → alive p h ≡ Some i → just_expired (identity p i) k h ≡ Some call → is_post call.request ≡ true
+  pub seeks : (k p i : ℕ) (call : Call) (h : List Entry) → is_controller doc p ≡ false → alive p h ≡ Some i → is_paused doc p k ≡ false → just_expired (identity p i) k h ≡ Some call → is_post call.request ≡ true
       → P k h → P k (send k 4 (identity p i) Plain (Get (node_lease (node_of doc p))) h)
-  pub posts : (k p i : ℕ) (h : List Entry) → is_controller doc p ≡ false → alive p h ≡ Some i → has_round (identity p i) h ≡ false
+  pub posts : (k p i : ℕ) (h : List Entry) → is_controller doc p ≡ false → alive p h ≡ Some i → is_paused doc p k ≡ false → has_round (identity p i) h ≡ false
       → P k h → P k (send k 4 (identity p i) Plain (post doc (identity p i) k h) h)
   pub ticks : (k : ℕ) (q : Identity) (h : List Entry) → A q k → P k h → P k (tick doc k q h)
 
@@ -97,9 +98,9 @@ pub record Keeps (doc : Doc) (P : ℕ → ℕ → List Entry → Type 0) : Type 
   pub starts : (k step p : ℕ) (h : List Entry) → P k step h → P k step (start k step p h)
   pub crashes : (k p i : ℕ) (h : List Entry) → alive p h ≡ Some i → P k 1 h → P k 1 (entry k 1 (identity p i) Crashes ∷ h)
   pub stops : (k : ℕ) (id : ProcId) (i : ℕ) (h : List Entry) → Scripted doc k (what.Stop id) → alive id.0 h ≡ Some i → P k 1 h → P k 1 (entry k 1 (identity id.0 i) Stops ∷ h)
-  pub releases : (k : ℕ) (id : ProcId) (i : ℕ) (before : List Entry) (request : Request) → Scripted doc k (what.Stop id) → alive id.0 before ≡ Some i
+  pub releases : (k : ℕ) (id : ProcId) (i : ℕ) (before : List Entry) (request : Request) → Scripted doc k (what.Stop id) → alive id.0 before ≡ Some i → is_paused doc id.0 k ≡ false
       → release doc (identity id.0 i) k before ≡ Some request → P k 1 (script_entry k 1 (Happens (what.Stop id) None) ∷ before) → P k 1 (stopped_at k id i before) → P k 1 (send k 1 (identity id.0 i) Release request (stopped_at k id i before))
-  pub answers : (k : ℕ) (s : Sent) (h : List Entry) → Arriving k h s → P k 2 h → P k 2 (answered k s h)
+  pub answers : (k : ℕ) (s : Sent) (h : List Entry) → Arriving k h s → P k 2 h → P k 2 (answered doc k s h)
   pub ignores : (k : ℕ) (b : Back) (h : List Entry) → Coming k h b → counted doc b.who k b.call.number h ≡ None → P k 3 h → P k 3 (entry k 3 b.who (Delivers b.call b.reply false) ∷ h)
   pub counts : (k : ℕ) (b : Back) (waiting : Call) (h : List Entry) → Coming k h b → counted doc b.who k b.call.number h ≡ Some waiting → P k 3 h → P k 3 (after_reply k b waiting h)
   pub follows : (k : ℕ) (b : Back) (waiting : Call) (h : List Entry) (request : Request) → Coming k h b → counted doc b.who k b.call.number h ≡ Some waiting
@@ -136,10 +137,10 @@ all_turns doc A P more = record {
   restarts = λ k p h s. more k _ h refl refl ((p, refl), tt, tt) s;
   expires = λ k p i call h up waits late s. more k _ h refl refl (tt, tt, tt) s;
   ends = λ k p i at h role up is before s. more k _ h refl refl (tt, tt, tt) s;
-  polls = λ k p i h role up waits s. more k _ h refl refl (tt, refl, tt) s;
-  attempts = λ k p i h role up waits s. more k _ h refl refl (tt, refl, tt) s;
-  seeks = λ k p i call h role up expired late s. more k _ h refl refl (tt, refl, tt) s;
-  posts = λ k p i h role up none s. more k _ h refl refl (tt, refl, tt) s;
+  polls = λ k p i h role up awake waits s. more k _ h refl refl (tt, refl, tt) s;
+  attempts = λ k p i h role up awake waits s. more k _ h refl refl (tt, refl, tt) s;
+  seeks = λ k p i call h role up awake expired late s. more k _ h refl refl (tt, refl, tt) s;
+  posts = λ k p i h role up awake none s. more k _ h refl refl (tt, refl, tt) s;
   ticks = λ k q h acting s. walk_tick doc k q (P k) (λ t g made s. more k _ g refl refl (tt, tt, tt) s) h s;
 }
 
@@ -156,7 +157,7 @@ all_kinds doc P on next more = record {
   starts = λ k step p h s. more _ h ((p, refl), tt, tt) s;
   crashes = λ k p i h up s. more _ h (tt, tt, tt) s;
   stops = λ k id i h scripted up s. more _ h (tt, tt, tt) s;
-  releases = λ k id i before request scripted up is was s. more _ (stopped_at k id i before) (tt, refl, tt) s;
+  releases = λ k id i before request scripted up awake is was s. more _ (stopped_at k id i before) (tt, refl, tt) s;
   answers = λ k s h at t. more _ h (tt, tt, tt) t;
   ignores = λ k b h coming is s. more _ h (tt, tt, tt) s;
   counts = λ k b waiting h coming is s. more _ h (tt, tt, tt) s;
@@ -185,7 +186,7 @@ all_made doc P on next more = record {
   starts = λ k step p h s. more _ h tt s;
   crashes = λ k p i h up s. more _ h tt s;
   stops = λ k id i h scripted up s. more _ h tt s;
-  releases = λ k id i before request scripted up is was s. more _ (stopped_at k id i before) tt s;
+  releases = λ k id i before request scripted up awake is was s. more _ (stopped_at k id i before) tt s;
   answers = λ k s h at t. more _ h tt t;
   ignores = λ k b h coming is s. more _ h tt s;
   counts = λ k b waiting h coming is s. more _ h tt s;
@@ -196,10 +197,10 @@ all_made doc P on next more = record {
     restarts = λ k p h s. more _ h tt s;
     expires = λ k p i call h up waits late s. more _ h tt s;
     ends = λ k p i at h role up is before s. more _ h tt s;
-    polls = λ k p i h role up waits s. more _ h tt s;
-    attempts = λ k p i h role up waits s. more _ h tt s;
-    seeks = λ k p i call h role up expired late s. more _ h tt s;
-    posts = λ k p i h role up none s. more _ h tt s;
+    polls = λ k p i h role up awake waits s. more _ h tt s;
+    attempts = λ k p i h role up awake waits s. more _ h tt s;
+    seeks = λ k p i call h role up awake expired late s. more _ h tt s;
+    posts = λ k p i h role up awake none s. more _ h tt s;
     ticks = λ k q h acting s. walk_tick doc k q (P k 4) (λ t g made s. more _ g (q, refl, acting, made) s) h s;
   };
 }
@@ -217,7 +218,7 @@ module _ (doc : Doc) (A : Identity → ℕ → Type 0) (P : ℕ → List Entry �
 
   walk_restart : (k p : ℕ) (up : Option ℕ) (h : List Entry) → P k h → P k (restart_if doc k p up h)
   walk_restart k p (Some i) h s = s
-  walk_restart k p None h s = walk_restart_as k p (is_restart_due doc p k (ended p h)) h s
+  walk_restart k p None h s = walk_restart_as k p (is_restart_due doc p k (ended doc p h)) h s
 
   walk_expire_as : (k p i : ℕ) (call : Call) (h : List Entry) → alive p h ≡ Some i → call_in (identity p i) h ≡ Some call → (b : Bool) → is_late doc (identity p i) k call ≡ b → P k h → P k (expire_as k (identity p i) call b h)
   walk_expire_as k p i call h up waits false late s = s
@@ -235,15 +236,15 @@ module _ (doc : Doc) (A : Identity → ℕ → Type 0) (P : ℕ → List Entry �
   walk_end k p i role h up None is s = s
   walk_end k p i role h up (Some at) is s = walk_end_as k p i at role h up is (nat_lt (local doc p k) at) refl s
 
-  walk_attempt : (k p i : ℕ) → is_controller doc p ≡ true → (h : List Entry) → alive p h ≡ Some i → (fast due : Bool)
+  walk_attempt : (k p i : ℕ) → is_controller doc p ≡ true → (h : List Entry) → alive p h ≡ Some i → is_paused doc p k ≡ false → (fast due : Bool)
       → (fast ≡ true → call_in (identity p i) h ≡ None) → (due ≡ true → call_in (identity p i) h ≡ None) → P k h → P k (attempt_if doc k (identity p i) fast due h)
-  walk_attempt k p i role h up true due a b s = keeps.polls k p i h role up (a refl) s
-  walk_attempt k p i role h up false true a b s = keeps.attempts k p i h role up (b refl) s
-  walk_attempt k p i role h up false false a b s = s
+  walk_attempt k p i role h up awake true due a b s = keeps.polls k p i h role up awake (a refl) s
+  walk_attempt k p i role h up awake false true a b s = keeps.attempts k p i h role up awake (b refl) s
+  walk_attempt k p i role h up awake false false a b s = s
 
-  walk_try : (k p i : ℕ) → is_controller doc p ≡ true → (h : List Entry) → alive p h ≡ Some i → P k h → P k (try doc k (identity p i) h)
-  walk_try k p i role h up s =
-      walk_attempt k p i role h up (is_fast_call (just_expired (identity p i) k h)) (not (has (call_in (identity p i) h)) && not (nat_lt (local doc p k) (timer doc (identity p i) h)))
+  walk_try : (k p i : ℕ) → is_controller doc p ≡ true → (h : List Entry) → alive p h ≡ Some i → is_paused doc p k ≡ false → P k h → P k (try doc k (identity p i) h)
+  walk_try k p i role h up awake s =
+      walk_attempt k p i role h up awake (is_fast_call (just_expired (identity p i) k h)) (not (has (call_in (identity p i) h)) && not (nat_lt (local doc p k) (timer doc (identity p i) h)))
       (by_expiry (just_expired (identity p i) k h) refl) (by_call (call_in (identity p i) h)) s
     where
       by_expiry : (o : Option Call) → just_expired (identity p i) k h ≡ o → is_fast_call o ≡ true → call_in (identity p i) h ≡ None
@@ -264,17 +265,17 @@ module _ (doc : Doc) (A : Identity → ℕ → Type 0) (P : ℕ → List Entry �
   walk_finish : (k p : ℕ) → is_controller doc p ≡ true → (h : List Entry) → P k h → P k (finish doc k p h)
   walk_finish k p role h s = walk_if_up k p (λ q T. end_term doc k q (deadline doc q T) T) (λ i T up s. walk_end k p i role T up (deadline doc (identity p i) T) refl s) (alive p h) h refl s
 
-  pub walk_attempts : (k p : ℕ) → is_controller doc p ≡ true → (h : List Entry) → P k h → P k (attempts doc k p h)
-  walk_attempts k p role h s = walk_if_up k p (try doc k) (λ i T up s. walk_try k p i role T up s) (alive p h) h refl s
+  pub walk_attempts : (k p : ℕ) → is_controller doc p ≡ true → is_paused doc p k ≡ false → (h : List Entry) → P k h → P k (attempts doc k p h)
+  walk_attempts k p role awake h s = walk_if_up k p (try doc k) (λ i T up s. walk_try k p i role T up awake s) (alive p h) h refl s
 
   -- up to the tick
-  pub walk_to_tick : (k p : ℕ) → is_controller doc p ≡ true → (h : List Entry) → P k h → P k (elector_turn doc k p h)
-  walk_to_tick k p role h s =
+  pub walk_to_tick : (k p : ℕ) → is_controller doc p ≡ true → is_paused doc p k ≡ false → (h : List Entry) → P k h → P k (elector_turn doc k p h)
+  walk_to_tick k p role awake h s =
       let h1 = restart doc k p h in
       let s1 : P k h1 = walk_restart k p (alive p h) h s in
       let h2 = expire doc k p h1 in
       let s2 : P k h2 = walk_expiry k p h1 s1 in
-      walk_attempts k p role (finish doc k p h2) (walk_finish k p role h2 s2)
+      walk_attempts k p role awake (finish doc k p h2) (walk_finish k p role h2 s2)
 
   pub walk_ticks : (k p : ℕ) (h : List Entry) → ((i : ℕ) → alive p h ≡ Some i → acts doc (identity p i) k h ≡ true → A (identity p i) k) → P k h → P k (ticks doc k p h)
   walk_ticks k p h acting s = by_up (alive p h) refl
@@ -283,33 +284,37 @@ module _ (doc : Doc) (A : Identity → ℕ → Type 0) (P : ℕ → List Entry �
       by_up None up = s
       by_up (Some i) up = walk_tick_as k (identity p i) (acts doc (identity p i) k h) (acting i up) h s
 
-  walk_controller : (k p : ℕ) → is_controller doc p ≡ true → (h : List Entry) → Begins doc A k p h → P k h → P k (controller_turn doc k p h)
-  walk_controller k p role h begins s = walk_ticks k p (elector_turn doc k p h) (λ i up acting. begins i role up acting) (walk_to_tick k p role h s)
+  walk_controller : (k p : ℕ) → is_controller doc p ≡ true → is_paused doc p k ≡ false → (h : List Entry) → Begins doc A k p h → P k h → P k (controller_turn doc k p h)
+  walk_controller k p role awake h begins s = walk_ticks k p (elector_turn doc k p h) (λ i up acting. begins i role up acting) (walk_to_tick k p role awake h s)
 
-  walk_round_if : (k p i : ℕ) → is_controller doc p ≡ false → (h : List Entry) → alive p h ≡ Some i → (o : Option Call) → just_expired (identity p i) k h ≡ o → (late due : Bool) → is_post_call o ≡ late → (due ≡ true → has_round (identity p i) h ≡ false)
+  walk_round_if : (k p i : ℕ) → is_controller doc p ≡ false → (h : List Entry) → alive p h ≡ Some i → is_paused doc p k ≡ false → (o : Option Call) → just_expired (identity p i) k h ≡ o → (late due : Bool) → is_post_call o ≡ late → (due ≡ true → has_round (identity p i) h ≡ false)
       → P k h → P k (round_if doc k (identity p i) late due h)
-  walk_round_if k p i role h up None expired true due is none s = absurd (true_is (sym is))
-  walk_round_if k p i role h up (Some call) expired true due is none s = keeps.seeks k p i call h role up expired is s
-  walk_round_if k p i role h up o expired false true is none s = keeps.posts k p i h role up (none refl) s
-  walk_round_if k p i role h up o expired false false is none s = s
+  walk_round_if k p i role h up awake None expired true due is none s = absurd (true_is (sym is))
+  walk_round_if k p i role h up awake (Some call) expired true due is none s = keeps.seeks k p i call h role up awake expired is s
+  walk_round_if k p i role h up awake o expired false true is none s = keeps.posts k p i h role up awake (none refl) s
+  walk_round_if k p i role h up awake o expired false false is none s = s
 
-  walk_round : (k p i : ℕ) → is_controller doc p ≡ false → (h : List Entry) → alive p h ≡ Some i → P k h → P k (round doc k (identity p i) h)
-  walk_round k p i role h up s =
+  walk_round : (k p i : ℕ) → is_controller doc p ≡ false → (h : List Entry) → alive p h ≡ Some i → is_paused doc p k ≡ false → P k h → P k (round doc k (identity p i) h)
+  walk_round k p i role h up awake s =
       let q = identity p i in
-      walk_round_if k p i role h up (just_expired q k h) refl (is_post_call (just_expired q k h)) (is_round_due doc k q h) refl
+      walk_round_if k p i role h up awake (just_expired q k h) refl (is_post_call (just_expired q k h)) (is_round_due doc k q h) refl
       (λ due. not_true (has_round q h) (and_left (not (has_round q h)) (not (nat_lt (local doc p k) (round_timer doc q h))) due)) s
 
-  walk_kubelet : (k p : ℕ) → is_controller doc p ≡ false → (h : List Entry) → P k h → P k (kubelet_turn doc k p h)
-  walk_kubelet k p role h s =
+  walk_kubelet : (k p : ℕ) → is_controller doc p ≡ false → is_paused doc p k ≡ false → (h : List Entry) → P k h → P k (kubelet_turn doc k p h)
+  walk_kubelet k p role awake h s =
       let h1 = expire doc k p h in
-      walk_if_up k p (round doc k) (λ i T up s. walk_round k p i role T up s) (alive p h1) h1 refl (walk_expiry k p h s)
+      walk_if_up k p (round doc k) (λ i T up s. walk_round k p i role T up awake s) (alive p h1) h1 refl (walk_expiry k p h s)
 
-  walk_turn_as : (k p : ℕ) (b : Bool) → is_controller doc p ≡ b → (h : List Entry) → Begins doc A k p h → P k h → P k (turn_as doc k p b h)
-  walk_turn_as k p true role h begins s = walk_controller k p role h begins s
-  walk_turn_as k p false role h begins s = walk_kubelet k p role h s
+  walk_turn_as : (k p : ℕ) (b : Bool) → is_controller doc p ≡ b → is_paused doc p k ≡ false → (h : List Entry) → Begins doc A k p h → P k h → P k (turn_as doc k p b h)
+  walk_turn_as k p true role awake h begins s = walk_controller k p role awake h begins s
+  walk_turn_as k p false role awake h begins s = walk_kubelet k p role awake h s
+
+  walk_turn_unless : (k p : ℕ) (b : Bool) → is_paused doc p k ≡ b → (h : List Entry) → Begins doc A k p h → P k h → P k (turn_unless doc k p b h)
+  walk_turn_unless k p true rests h begins s = s
+  walk_turn_unless k p false awake h begins s = walk_turn_as k p (is_controller doc p) refl awake h begins s
 
   pub walk_turn : (k p : ℕ) (h : List Entry) → Begins doc A k p h → P k h → P k (turn doc k p h)
-  walk_turn k p h begins s = walk_turn_as k p (is_controller doc p) refl h begins s
+  walk_turn k p h begins s = walk_turn_unless k p (is_paused doc p k) refl h begins s
 
   pub walk_turns : (k n : ℕ) (h : List Entry) → ((p : ℕ) → Begins doc A k p (turns doc k p h)) → P k h → P k (turns doc k n h)
   walk_turns k zero h begins s = s
@@ -325,8 +330,8 @@ module _ (doc : Doc) (P : ℕ → List Entry → Type 0) (keeps : KeepsTurn doc 
   walk_any_turn k p h s = walk_turn doc Anyone P keeps k p h (λ i role up acting. tt) s
 
   -- from the end of a term on
-  pub walk_any_after_end : (k p : ℕ) → is_controller doc p ≡ true → (h : List Entry) → P k h → P k (ticks doc k p (attempts doc k p h))
-  walk_any_after_end k p role h s = walk_ticks doc Anyone P keeps k p (attempts doc k p h) (λ i up acting. tt) (walk_attempts doc Anyone P keeps k p role h s)
+  pub walk_any_after_end : (k p : ℕ) → is_controller doc p ≡ true → is_paused doc p k ≡ false → (h : List Entry) → P k h → P k (ticks doc k p (attempts doc k p h))
+  walk_any_after_end k p role awake h s = walk_ticks doc Anyone P keeps k p (attempts doc k p h) (λ i up acting. tt) (walk_attempts doc Anyone P keeps k p role awake h s)
 
   pub walk_any_turns : (k n : ℕ) (h : List Entry) → P k h → P k (turns doc k n h)
   walk_any_turns k n h s = walk_turns doc Anyone P keeps k n h (λ p i role up acting. tt) s
@@ -356,28 +361,29 @@ module _ (doc : Doc) (P : ℕ → ℕ → List Entry → Type 0) (keeps : Keeps 
   walk_crash k p None h is s = s
   walk_crash k p (Some i) h is s = keeps.crashes k p i h is s
 
-  walk_released : (k : ℕ) (id : ProcId) (i : ℕ) (before : List Entry) → Scripted doc k (what.Stop id) → alive id.0 before ≡ Some i → (o : Option Request) → release doc (identity id.0 i) k before ≡ o
+  walk_released : (k : ℕ) (id : ProcId) (i : ℕ) (before : List Entry) → Scripted doc k (what.Stop id) → alive id.0 before ≡ Some i → is_paused doc id.0 k ≡ false → (o : Option Request) → release doc (identity id.0 i) k before ≡ o
       → P k 1 (script_entry k 1 (Happens (what.Stop id) None) ∷ before) → P k 1 (stopped_at k id i before) → P k 1 (released k (identity id.0 i) o (stopped_at k id i before))
-  walk_released k id i before scripted up None is was s = s
-  walk_released k id i before scripted up (Some request) is was s = keeps.releases k id i before request scripted up is was s
+  walk_released k id i before scripted up awake None is was s = s
+  walk_released k id i before scripted up awake (Some request) is was s = keeps.releases k id i before request scripted up awake is was s
 
-  walk_stop : (k : ℕ) (id : ProcId) (up : Option ℕ) (before : List Entry) → Scripted doc k (what.Stop id) → alive id.0 before ≡ up
+  walk_stop : (k : ℕ) (id : ProcId) (up : Option ℕ) (before : List Entry) → Scripted doc k (what.Stop id) → ((i : ℕ) → up ≡ Some i → (alive id.0 before ≡ Some i) × (is_paused doc id.0 k ≡ false))
       → P k 1 (script_entry k 1 (Happens (what.Stop id) None) ∷ before) → P k 1 (stop doc k id.0 up before (script_entry k 1 (Happens (what.Stop id) None) ∷ before))
   walk_stop k id None before scripted is s = s
   walk_stop k id (Some i) before scripted is s =
-      walk_released k id i before scripted is (release doc (identity id.0 i) k before) refl s
-      (keeps.stops k id i (script_entry k 1 (Happens (what.Stop id) None) ∷ before) scripted is s)
+      walk_released k id i before scripted (is i refl).0 (is i refl).1 (release doc (identity id.0 i) k before) refl s
+      (keeps.stops k id i (script_entry k 1 (Happens (what.Stop id) None) ∷ before) scripted (is i refl).0 s)
 
   walk_effect : (k : ℕ) (w : What) (before : List Entry) → Scripted doc k w → P k 1 (script_entry k 1 (Happens (stamp doc k w) (event_version w before)) ∷ before)
       → P k 1 (effect doc k w before (script_entry k 1 (Happens (stamp doc k w) (event_version w before)) ∷ before))
   walk_effect k (what.Crash id) before scripted s = walk_crash k id.0 (alive id.0 before) (script_entry k 1 (Happens (what.Crash id) None) ∷ before) refl s
   walk_effect k (what.Start id) before scripted s = walk_start k id.0 (alive id.0 before) (script_entry k 1 (Happens (what.Start id) None) ∷ before) s
-  walk_effect k (what.Stop id) before scripted s = walk_stop k id (alive id.0 before) before scripted refl s
+  walk_effect k (what.Stop id) before scripted s = walk_stop k id (only_if (not (is_paused doc id.0 k)) (alive id.0 before)) before scripted (λ i up. (only_value (not (is_paused doc id.0 k)) (alive id.0 before) i up, not_true (is_paused doc id.0 k) (only_test (not (is_paused doc id.0 k)) (alive id.0 before) i up))) s
   walk_effect k (what.Rate id ppm) before scripted s = s
   walk_effect k (what.Delay id requests replies) before scripted s = s
   walk_effect k (what.Loss id requests replies) before scripted s = s
   walk_effect k (what.Watch id on) before scripted s = s
   walk_effect k (what.Ready id status) before scripted s = s
+  walk_effect k (what.Pause id beats) before scripted s = s
   walk_effect k (what.Put key object) before scripted s = s
   walk_effect k (what.Remove key) before scripted s = s
 
@@ -407,16 +413,16 @@ module _ (doc : Doc) (P : ℕ → ℕ → List Entry → Type 0) (keeps : Keeps 
   more_over : (g : List Entry) (k step : ℕ) (x : Entry) (h : List Entry) → Over g k step h → P k step (x ∷ h) → Over g k step (x ∷ h)
   more_over g k step x h s new = (new, λ e at. inr (s.1 e at))
 
-  walk_answer_if : (k : ℕ) (g : List Entry) (e : Entry) (x : Sent) (b : Bool) → In e g → sent_of e.actor e.fact ≡ Some x → comes_at k x.arrives ≡ b → (h : List Entry) → Over g k 2 h → Over g k 2 (answer_if k x b h)
+  walk_answer_if : (k : ℕ) (g : List Entry) (e : Entry) (x : Sent) (b : Bool) → In e g → sent_of e.actor e.fact ≡ Some x → comes_at k x.arrives ≡ b → (h : List Entry) → Over g k 2 h → Over g k 2 (answer_if doc k x b h)
   walk_answer_if k g e x false stands is now h s = s
   walk_answer_if k g e x true stands is now h s = more_over g k 2 _ h s (keeps.answers k x h (record { e = e; stands = s.1 e stands; is = is; now = now }) s.0)
 
-  walk_answer : (k : ℕ) (g : List Entry) (e : Entry) (o : Option Sent) → In e g → sent_of e.actor e.fact ≡ o → (h : List Entry) → Over g k 2 h → Over g k 2 (answer_due k o h)
+  walk_answer : (k : ℕ) (g : List Entry) (e : Entry) (o : Option Sent) → In e g → sent_of e.actor e.fact ≡ o → (h : List Entry) → Over g k 2 h → Over g k 2 (answer_due doc k o h)
   walk_answer k g e None stands is h s = s
   walk_answer k g e (Some x) stands is h s = walk_answer_if k g e x (comes_at k x.arrives) stands is refl h s
 
-  pub walk_two : (k : ℕ) (h : List Entry) → P k 2 h → P k 2 (step_two k h)
-  walk_two k h s = (walk_each k 2 (λ e. answer_due k (sent_of e.actor e.fact)) h (λ e stands g t. walk_answer k h e (sent_of e.actor e.fact) stands refl g t) h (λ e at. at) h (s, λ e at. at)).0
+  pub walk_two : (k : ℕ) (h : List Entry) → P k 2 h → P k 2 (step_two doc k h)
+  walk_two k h s = (walk_each k 2 (λ e. answer_due doc k (sent_of e.actor e.fact)) h (λ e stands g t. walk_answer k h e (sent_of e.actor e.fact) stands refl g t) h (λ e at. at) h (s, λ e at. at)).0
 
   walk_lead : (k : ℕ) (g : List Entry) (b : Back) (waiting : Call) (h : List Entry) (led : Bool) (version : Version)
       → Over g k 3 (after_reply k b waiting h) → (P k 3 (after_reply k b waiting h) → P k 3 (entry k 3 b.who (Leads version) ∷ after_reply k b waiting h))
@@ -461,7 +467,7 @@ module _ (doc : Doc) (P : ℕ → ℕ → List Entry → Type 0) (keeps : Keeps 
   walk_steps k h s =
       let h1 = step_one doc k h in
       let s1 : P k 1 h1 = walk_one k h s in
-      let h2 = step_two k h1 in
+      let h2 = step_two doc k h1 in
       let s2 : P k 2 h2 = walk_two k h1 (keeps.on k 1 h1 s1) in
       let h3 = step_three doc k h2 in
       let s3 : P k 3 h3 = walk_three k h2 (keeps.on k 2 h2 s2) in

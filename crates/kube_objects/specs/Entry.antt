@@ -57,6 +57,8 @@ pub data Fact : Type 0 where
   Crashes : Fact
   Stops : Fact
   Ends : Fact
+  -- a process that is up stands still for so many beats
+  Stalls : (beats : ℕ) → Fact
   -- a request is sent; it arrives at that beat, or is lost
   Sends : (call : Call) (arrives : Option ℕ) → Fact
   -- a request of the actor is answered; the reply comes at that beat, or is lost; the object that it wrote

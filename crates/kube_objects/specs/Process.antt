@@ -9,6 +9,7 @@ use Rattle.kube_objects.specs.Entry.{Entry, Identity, Call, CallKind, Plain, Fas
 use Rattle.kube_objects.specs.Entry.{Fact, Event, Starts, Crashes, Stops, Ends, Sends, Delivers, Expires}
 use Rattle.kube_objects.specs.Identities.{is_by, of_process}
 use Rattle.kube_objects.specs.Newest.{newest, count, when, only_if, join, has}
+use Rattle.kube_objects.specs.Pauses.{is_paused}
 
 -- ---- up and down
 
@@ -99,22 +100,23 @@ counted doc q k number h = only_if (is_present (alive q.process h) q.incarnation
 
 -- ---- restarts
 
-abbrev pub cancels : ℕ → What → Bool
-cancels p (what.Crash id) = id.0 == p
-cancels p (what.Start id) = id.0 == p
-cancels p (what.Stop id) = id.0 == p
-cancels p _ = false
+-- a stop at a beat at which the process is paused does nothing
+abbrev pub cancels : Doc → ℕ → ℕ → What → Bool
+cancels doc p k (what.Crash id) = id.0 == p
+cancels doc p k (what.Start id) = id.0 == p
+cancels doc p k (what.Stop id) = (id.0 == p) && not (is_paused doc p k)
+cancels doc p k _ = false
 
 -- the beat of an end, or that a start or an event on the process came later
-abbrev pub restart_says : ℕ → ℕ → Actor → Fact → Option (Option ℕ)
-restart_says p k who Ends = when (has (of_process p who)) (Some k)
-restart_says p k who Starts = when (has (of_process p who)) None
-restart_says p k who (Event event version) = when (cancels p event) None
-restart_says p k who _ = None
+abbrev pub restart_says : Doc → ℕ → ℕ → Actor → Fact → Option (Option ℕ)
+restart_says doc p k who Ends = when (has (of_process p who)) (Some k)
+restart_says doc p k who Starts = when (has (of_process p who)) None
+restart_says doc p k who (Event event version) = when (cancels doc p k event) None
+restart_says doc p k who _ = None
 
 -- the beat of the end that a process restarts after
-abbrev pub ended : ℕ → List Entry → Option ℕ
-ended p h = join (newest (λ e T. restart_says p e.beat e.actor e.fact) h)
+abbrev pub ended : Doc → ℕ → List Entry → Option ℕ
+ended doc p h = join (newest (λ e T. restart_says doc p e.beat e.actor e.fact) h)
 
 abbrev pub is_restart_due : Doc → ℕ → ℕ → Option ℕ → Bool
 is_restart_due doc p k None = false

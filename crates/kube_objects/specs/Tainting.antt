@@ -92,14 +92,14 @@ before_tick q k (e ∷ h) = elim (is_tick_of q k e.beat e.actor e.fact) [ true �
 
 -- whether a node's time in the queue begins anew: at its own queued taint, which puts it last, and in a tick before which it
 -- didn't wait; that isn't asked within a tick, in which a sync may show the node ready and a mark make it wait again
-abbrev pub is_queueing : Identity → Place → ℕ → ℕ → Actor → Fact → List Entry → Bool
-is_queueing q place name k who (Ticks (Head at node wanted given written tried)) h = (node == name) && is_by q who
-is_queueing q place name k who (Ticks tick) h = is_by q who && not (has (waits q place name (before_tick q k h)))
-is_queueing q place name k who _ h = false
+abbrev pub begins_row : Identity → Place → ℕ → ℕ → Actor → Fact → List Entry → Bool
+begins_row q place name k who (Ticks (Head at node wanted given written tried)) h = (node == name) && is_by q who
+begins_row q place name k who (Ticks tick) h = is_by q who && not (has (waits q place name (before_tick q k h)))
+begins_row q place name k who _ h = false
 
 -- the beat by which a node that waits in a zone has its place in the zone's queue
 abbrev pub queued : Identity → Place → ℕ → List Entry → ℕ
-queued q place name h = or_zero (newest (λ e T. when (is_queueing q place name e.beat e.actor e.fact T) e.beat) h)
+queued q place name h = or_zero (newest (λ e T. when (begins_row q place name e.beat e.actor e.fact T) e.beat) h)
 
 -- a beat and a node's name
 abbrev pub Queued : Type 0

@@ -18,6 +18,8 @@ pub enum Act {
     Stop,
     /// A leader has reached its renew deadline.
     End,
+    /// A process stands still for so many beats.
+    Pause(u32),
     Lead(Version),
     Create(Key, Answer, u32),
     Update(Key, Answer, u32),

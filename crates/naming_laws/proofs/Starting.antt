@@ -135,7 +135,7 @@ module _ (doc : Doc) (lawful : IsLawfulDoc doc) where
 
   good_restart : (k p : ℕ) → p < processes doc → (up : Option ℕ) (h : List Entry) → Good h → Good (restart_if doc k p up h)
   good_restart k p below (Some i) h s = s
-  good_restart k p below None h s = by (is_restart_due doc p k (ended p h))
+  good_restart k p below None h s = by (is_restart_due doc p k (ended doc p h))
     where
       by : (b : Bool) → Good (restart_as k p b h)
       by true = (below, s)

@@ -3,16 +3,17 @@ use Rattle.std.proofs.Common.{◌≡◌, ◌∙◌, ℕ, ◌+◌, ◌&&◌, not,
 use Rattle.std.proofs.lemmas.Bool.{eq-eqb}
 use Rattle.kube_objects.specs.Clocks.{local}
 use Rattle.kube_objects.specs.Document.{Doc}
-use Rattle.kube_objects.specs.Elector.{deadline, is_before, timer, acts}
+use Rattle.kube_objects.specs.Elector.{deadline, is_before, timer, in_term, acts}
 use Rattle.kube_objects.specs.Entry.{Entry, Identity, Call, Ends, entry}
 use Rattle.kube_objects.specs.Identities.{identity}
 use Rattle.kube_objects.specs.Newest.{when, join, has}
+use Rattle.kube_objects.specs.Pauses.{is_paused}
 use Rattle.kube_objects.specs.Process.{born, gone, life, alive, starts, is_present, call_in, is_late, ended, is_restart_due}
 use Rattle.kube_objects.specs.Turns.{expire_as, expire_call, end_as, end_term, just_expired, is_fast_call, attempt_if, try}
 use Rattle.history.specs.History.{at_turn}
 use Rattle.history.specs.Safe.{Acts}
 use Rattle.history.specs.Steps.{start, if_up, restart_as, restart_if, restart, expire, finish, attempts, elector_turn}
-use Rattle.history_laws.proofs.Plainly.{upper, some_is, none_is, false_is, and_right}
+use Rattle.history_laws.proofs.Plainly.{upper, some_is, none_is, false_is, and_left, and_right, and_both}
 use Rattle.history_laws.proofs.Walk.{Ticking}
 use Rattle.spacing_laws.proofs.Born.{no_deadline}
 
@@ -86,23 +87,29 @@ module _ (doc : Doc) (q : Identity) (k at : ℕ) where
           absurd (none_is at (sym (no_deadline doc p k q (omega (arith, new))) ∙ s.until))
 
       by_up : (o : Option ℕ) → Leading doc q at (restart_if doc k q.process o h) → Leading doc q at h
-      by_up None s = by_due (is_restart_due doc q.process k (ended q.process h)) s
+      by_up None s = by_due (is_restart_due doc q.process k (ended doc q.process h)) s
       by_up (Some i) s = s
 
-acts_from : (doc : Doc) (q : Identity) (k at : ℕ) (h : List Entry) → Leading doc q at h → nat_lt (local doc q.process k) at ≡ true → acts doc q k h ≡ true
+acts_from : (doc : Doc) (q : Identity) (k at : ℕ) (h : List Entry) → Leading doc q at h → nat_lt (local doc q.process k) at ≡ true → in_term doc q k h ≡ true
 acts_from doc q k at h s before =
     subst (λ o. (is_present o q.incarnation && is_before (local doc q.process k) (deadline doc q h)) ≡ true) (sym s.up)
     (subst (λ b. (b && is_before (local doc q.process k) (deadline doc q h)) ≡ true) (sym (eq-eqb q.incarnation q.incarnation refl))
     (subst (λ o. is_before (local doc q.process k) o ≡ true) (sym s.until) before))
 
 pub acts_at_turn : (doc : Doc) (q : Identity) (k : ℕ) → Ticking doc q k → Acts doc q k
-acts_at_turn doc q k ticking = (ticking.role, by_deadline (deadline doc q h) refl (and_right (is_present (alive q.process h) q.incarnation) (is_before (local doc q.process k) (deadline doc q h)) ticking.acting))
+acts_at_turn doc q k ticking = (ticking.role, by_deadline (deadline doc q h) refl (and_right (is_present (alive q.process h) q.incarnation) (is_before (local doc q.process k) (deadline doc q h)) term))
   where
     h0 : List Entry
     h0 = at_turn doc q.process k
 
     h : List Entry
     h = elector_turn doc k q.process h0
+
+    awake : not (is_paused doc q.process k) ≡ true
+    awake = and_left (not (is_paused doc q.process k)) (in_term doc q k h) ticking.acting
+
+    term : in_term doc q k h ≡ true
+    term = and_right (not (is_paused doc q.process k)) (in_term doc q k h) ticking.acting
 
     by_deadline : (o : Option ℕ) → deadline doc q h ≡ o → is_before (local doc q.process k) o ≡ true → acts doc q k h0 ≡ true
     by_deadline None is before = absurd (false_is before)
@@ -111,4 +118,4 @@ acts_at_turn doc q k ticking = (ticking.role, by_deadline (deadline doc q h) ref
         let h2 = expire doc k q.process h1 in
         let s : Leading doc q at h0 =
         before_restart doc q k at q.process (before_expire doc q k at h1 (before_finish doc q k at h2 (before_attempts doc q k at (finish doc k q.process h2) (record { up = ticking.up; until = is })))) in
-        acts_from doc q k at h0 s before
+        and_both (not (is_paused doc q.process k)) (in_term doc q k h0) awake (acts_from doc q k at h0 s before)

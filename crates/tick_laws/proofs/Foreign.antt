@@ -5,7 +5,7 @@ use Rattle.kube_objects.specs.Entry.{Entry, Identity, Place, Fact, Ticks, Tick, 
 use Rattle.kube_objects.specs.Identities.{is_by}
 use Rattle.kube_objects.specs.Modes.{mode_says}
 use Rattle.kube_objects.specs.Newest.{when, has, join, or_else, or_zero}
-use Rattle.kube_objects.specs.Tainting.{waits, before_tick, is_queueing, queued}
+use Rattle.kube_objects.specs.Tainting.{waits, before_tick, begins_row, queued}
 use Rattle.tick_laws.specs.Changes.{IsSame}
 use Rattle.tick_laws.specs.Judged.{key_if, waits_since}
 use Rattle.tick_laws.specs.Since.{is_sync_of, AreReached}
@@ -62,11 +62,11 @@ module _ (q : Identity) (h : List Entry) (e : Entry) (other : is_tick_by q e.act
       and_false true = refl
       and_false false = refl
 
-      of_tick : (who : Actor) (t : Tick) → is_by q who ≡ false → is_queueing q place name e.beat who (Ticks t) h ≡ false
+      of_tick : (who : Actor) (t : Tick) → is_by q who ≡ false → begins_row q place name e.beat who (Ticks t) h ≡ false
       of_tick who (Head at node wanted given written a) is = ap (λ b. (node == name) && b) is ∙ and_false (node == name)
       of_tick who t is = ap (λ b. b && not (has (waits q place name (before_tick q e.beat h)))) is
 
-      by_fact : (who : Actor) (d : Fact) → is_tick_by q who d ≡ false → is_queueing q place name e.beat who d h ≡ false
+      by_fact : (who : Actor) (d : Fact) → is_tick_by q who d ≡ false → begins_row q place name e.beat who d h ≡ false
       by_fact who (Ticks t) is = of_tick who t is
       by_fact who d is = refl
 

@@ -9,7 +9,7 @@ use Rattle.kube_objects.specs.Entry.{Entry, Identity, Place, Fact, Ticks, Tick, 
 use Rattle.kube_objects.specs.Identities.{is_by}
 use Rattle.kube_objects.specs.Newest.{newest, when, has, or_zero}
 use Rattle.kube_objects.specs.Seen.{is_pod}
-use Rattle.kube_objects.specs.Tainting.{waits, is_tick_of, before_tick, is_queueing, queued}
+use Rattle.kube_objects.specs.Tainting.{waits, is_tick_of, before_tick, begins_row, queued}
 use Rattle.kube_objects.specs.Tick.{add}
 use Rattle.history_laws.proofs.Plainly.{false_is, none_is, and_left, and_right}
 use Rattle.tick_laws.specs.Judged.{key_if, waits_since}
@@ -21,7 +21,7 @@ use Rattle.watch_cache.proofs.Frames.{upper}
 use Rattle.watch_cache.proofs.Ticks.{same_self}
 
 abbrev pub last_key : Identity → Place → ℕ → List Entry → Option ℕ
-last_key q place name = newest (λ e T. when (is_queueing q place name e.beat e.actor e.fact T) e.beat)
+last_key q place name = newest (λ e T. when (begins_row q place name e.beat e.actor e.fact T) e.beat)
 
 -- ---- within a tick without a queued taint so far
 
@@ -48,7 +48,7 @@ rows_more q k place name e h old none = by_test (is_tick_of q k e.beat e.actor e
         (subst (λ j. After q k place name e h (before_tick q k h) (when (not (has (waits q place name (before_tick q j h)))) e.beat)) (sym at)
         (says_now (has (waits q place name (before_tick q k h))) e.beat at refl heads))
 
-    by_fact : (d : Fact) → is_tick_of q k e.beat e.actor d ≡ true → (is_no_head d && no_heads q k h) ≡ true → After q k place name e h (before_tick q k h) (when (is_queueing q place name e.beat e.actor d h) e.beat)
+    by_fact : (d : Fact) → is_tick_of q k e.beat e.actor d ≡ true → (is_no_head d && no_heads q k h) ≡ true → After q k place name e h (before_tick q k h) (when (begins_row q place name e.beat e.actor d h) e.beat)
     by_fact (Ticks (Head p n wanted given written a)) is heads = absurd (false_is heads)
     by_fact (Ticks t) is heads = of_tick (and_right (e.beat == k) (is_by q e.actor) is) (eqb-true e.beat k (and_left (e.beat == k) (is_by q e.actor) is)) heads
     by_fact d is heads = absurd (false_is is)
