@@ -15,7 +15,7 @@ use Rattle.kube_objects.specs.Identities.{identity}
 use Rattle.kube_objects.specs.Kubelet.{next_request, send_next, round}
 use Rattle.kube_objects.specs.Newest.{when, only_if, has}
 use Rattle.kube_objects.specs.Pauses.{is_paused}
-use Rattle.kube_objects.specs.Process.{alive, starts, call_in, counted, ended, is_restart_due}
+use Rattle.kube_objects.specs.Process.{alive, starts, counted, ended, is_restart_due}
 use Rattle.kube_objects.specs.Stamps.{stamped}
 use Rattle.kube_objects.specs.Stored.{stored, next_version}
 use Rattle.kube_objects.specs.Tick.{tick}

@@ -1,3 +1,5 @@
 pub mod CallFrames
+pub mod Clocks
 pub mod KeyOrder
 pub mod OwnCalls
+pub mod Pauses

@@ -3,13 +3,7 @@ use Rattle.std.proofs.Common.{◌≡◌, ◌≤◌, ℕ, zero, suc, ◌+◌, ◌
 use Rattle.std.proofs.Math.Nat.{mul-le-mul_left}
 use Rattle.kube_objects.specs.Clocks.{local, rate}
 use Rattle.kube_objects.specs.Document.{Doc, beat_micros, end_beat}
-
-local_next : (doc : Doc) (p o n : ℕ) → local doc p (o + suc n) ≡ local doc p (o + n) + beat_micros doc * rate doc p (o + n)
-local_next doc p o n = let e : o + suc n ≡ suc (o + n) = omega arith in ap (local doc p) e
-
-local_rises : (doc : Doc) (p o n : ℕ) → local doc p o ≤ local doc p (o + n)
-local_rises doc p o zero = let e : o + 0 ≡ o = omega arith in omega (arith, ap (local doc p) e)
-local_rises doc p o (suc n) = omega (arith, local_next doc p o n, local_rises doc p o n)
+use Rattle.kube_objects.proofs.Clocks.{local_next}
 
 local_most : (doc : Doc) (high p : ℕ) → ((k : ℕ) → k ≤ end_beat doc → rate doc p k ≤ high) → (o n : ℕ) → o + n ≤ end_beat doc + 1 → local doc p (o + n) ≤ local doc p o + n * (beat_micros doc * high)
 local_most doc high p greatest o zero within = let e : o + 0 ≡ o = omega arith in omega (arith, ap (local doc p) e)
@@ -20,9 +14,6 @@ local_least : (doc : Doc) (low : ℕ) (p : ℕ) → ((k : ℕ) → k ≤ end_bea
 local_least doc low p least o zero within = let e : o + 0 ≡ o = omega arith in omega (arith, ap (local doc p) e)
 local_least doc low p least o (suc n) within =
     omega (arith, local_next doc p o n, local_least doc low p least o n (omega (arith, within)), mul-le-mul_left (beat_micros doc) (least (o + n) (omega (arith, within))))
-
-pub local_up : (doc : Doc) (p o k : ℕ) → o ≤ k → local doc p o ≤ local doc p k
-local_up doc p o k le = let e : o + (k - o) ≡ k = omega (arith, le) in subst (λ n. local doc p o ≤ local doc p n) e (local_rises doc p o (k - o))
 
 pub local_at_most : (doc : Doc) (high p : ℕ) → ((k : ℕ) → k ≤ end_beat doc → rate doc p k ≤ high) → (o k : ℕ) → o ≤ k → k ≤ end_beat doc → local doc p k ≤ local doc p o + (k - o) * (beat_micros doc * high)
 local_at_most doc high p greatest o k le end =
