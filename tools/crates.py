@@ -91,13 +91,13 @@ class Crates:
         place = {name: index for index, name in enumerate(self.names)}
         return [(name, library) for name in self.names for library in self.own(name) if place[library] > place[name]]
 
-    def chain(self, minutes):
-        """The crates that stand on each other whose proofs together take longest, lowest first, and those minutes."""
-        best = {}
-        for name in sorted(self.names, key=lambda crate: len(self.below(crate))):
+    def chain(self, minutes, top=None):
+        """The crates that stand on each other whose proofs together take longest, lowest first, and those minutes; up to `top`, where it is given."""
+        best, crates = {}, self.names if top is None else [*self.below(top), top]
+        for name in sorted(crates, key=lambda crate: len(self.below(crate))):
             longest = max((best[library] for library in self.own(name)), default=(0.0, []))
             best[name] = (longest[0] + minutes.get(name, Minutes()).proof, [*longest[1], name])
-        taken, names = max(best.values(), default=(0.0, []))
+        taken, names = max(best.values(), default=(0.0, [])) if top is None else best[top]
         return names, taken
 
 
