@@ -1,0 +1,310 @@
+#!/usr/bin/env python3
+"""Tests the scripts that read crates.txt: what stands on what, where a library is taken from, edits, tables and pictures.
+
+    python3 tools/test_prove_one.py [--prove CRATE] [TEST ..]
+
+Nothing is proved, but with --prove: then tools/prove-one proves this crate and what is below it, from nothing, in a copy of the sources, and
+refuses it with one of its wrong bodies of each kind. For `rate_bucket` that takes some three processor minutes.
+"""
+import importlib.machinery
+import importlib.util
+import os
+import shutil
+import subprocess
+import sys
+import tempfile
+import time
+import unittest
+
+import crates
+import edits
+import proving
+
+LIST = """# Comment alone
+
+# The base: all stand on it
+low: indexmap
+mid: low std_io   # a comment
+# Above
+other: low
+top staticlib opt_level=1: mid other itoa
+"""
+TABLE = """| Crate | Proof | Tests | Wrong bodies | Programs | All |
+|---|---|---|---|---|---|
+| `low` | 1.0 | 0.5 |  |  | 1.5 |
+| `top` | 2.0 |  | 3.0 | 0.4 | 5.4 |
+| `mid` | 0.2 |  |  |  | 0.2 |
+| all | 3.2 | 0.5 | 3.0 | 0.4 | 7.1 |
+"""
+PROVE = None
+
+
+def script(name):
+    """A script of this folder as a module."""
+    path = os.path.join(crates.TOP, 'tools', name)
+    loader = importlib.machinery.SourceFileLoader(name.replace('-', '_'), path)
+    module = importlib.util.module_from_spec(importlib.util.spec_from_loader(loader.name, loader))
+    loader.exec_module(module)
+    return module
+
+
+def write(text, *path):
+    os.makedirs(os.path.dirname(os.path.join(*path)), exist_ok=True)
+    with open(os.path.join(*path), 'w', encoding='utf-8') as file:
+        file.write(text)
+
+
+def make(top):
+    """A checkout of four small crates."""
+    write(LIST, top, 'crates.txt')
+    for name in ('low', 'mid', 'other', 'top'):
+        write(f'// {name}\n', top, 'crates', name, 'src', 'lib.rt')
+    return proving.Checkout(top)
+
+
+def keep(checkout, name, noted=True):
+    """A library, as if it had been proved just now."""
+    write('1', checkout.library(name), 'format')
+    later = time.time() + 5
+    os.utime(os.path.join(checkout.library(name), 'format'), (later, later))
+    if noted:
+        write(checkout.stamp(name), checkout.note(name))
+
+
+class OfCrates(unittest.TestCase):
+    def setUp(self):
+        self.table = crates.Crates(LIST)
+
+    def test_lines(self):
+        self.assertEqual(self.table.names, ['low', 'mid', 'other', 'top'])
+        self.assertEqual(self.table.own('top'), ['mid', 'other'])
+        self.assertEqual(self.table.of_the_kit('top'), ['itoa'])
+        self.assertEqual(self.table.of_the_kit('mid'), ['std_io'])
+
+    def test_groups(self):
+        self.assertEqual(self.table.groups, [('The base: all stand on it', ['low', 'mid']), ('Above', ['other', 'top'])])
+
+    def test_below_is_lowest_first(self):
+        self.assertEqual(self.table.below('top'), ['low', 'mid', 'other'])
+        self.assertEqual(self.table.below('low'), [])
+
+    def test_above(self):
+        self.assertEqual(self.table.above('low'), ['mid', 'other', 'top'])
+        self.assertEqual(self.table.above('other'), ['top'])
+
+    def test_unknown_crates_are_told(self):
+        for call in (self.table.below, self.table.above, self.table.of_the_kit):
+            self.assertRaises(crates.Unknown, call, 'itoa')
+
+    def test_order(self):
+        self.assertEqual(self.table.out_of_order(), [])
+        self.assertEqual(crates.Crates('top: low\nlow:\n').out_of_order(), [('top', 'low')])
+
+    def test_chain_takes_the_dearer_way(self):
+        costs = {'low': crates.Minutes(1), 'mid': crates.Minutes(0.25, wrong=9), 'other': crates.Minutes(0.5), 'top': crates.Minutes(2)}
+        self.assertEqual(self.table.chain(costs), (['low', 'other', 'top'], 3.5))
+
+
+class OfTables(unittest.TestCase):
+    def test_minutes(self):
+        found = crates.minutes_in(TABLE)
+        self.assertEqual(found, {'low': crates.Minutes(1.0, 0.5), 'mid': crates.Minutes(0.2), 'top': crates.Minutes(2.0, 0.0, 3.0, 0.4)})
+
+    def test_rows_are_dearest_first_with_their_sum(self):
+        text = crates.rows(crates.minutes_in(TABLE))
+        self.assertEqual([line.split('`')[1] for line in text.splitlines() if '`' in line], ['top', 'low', 'mid'])
+        self.assertEqual(text.splitlines()[-1], '| all | 3.2 | 0.5 | 3.0 | 0.4 | 7.1 |')
+        self.assertEqual(crates.minutes_in(text), crates.minutes_in(TABLE))
+
+    def test_a_page_gets_what_was_measured_and_keeps_the_rest(self):
+        with tempfile.TemporaryDirectory() as room:
+            page = os.path.join(room, 'page.md')
+            write('# Page\n\nbefore\n\n' + TABLE + '\nbehind\n', page)
+            script('gate-times').put_into(page, {'low': crates.Minutes(9.0)})
+            with open(page, encoding='utf-8') as file:
+                text = file.read()
+        self.assertEqual(crates.minutes_in(text)['low'], crates.Minutes(9.0))
+        self.assertEqual(crates.minutes_in(text)['top'], crates.Minutes(2.0, 0.0, 3.0, 0.4))
+        self.assertTrue(text.startswith('# Page\n\nbefore\n\n| Crate'))
+        self.assertTrue(text.endswith('|\n\nbehind\n'))
+
+    def test_kinds_of_processes(self):
+        place_of = script('gate-times').place_of
+        words = ['/kit/bin/rattle', 'build', '--crate-name', 'low', 'src/lib.rt', '--statements']
+        self.assertEqual(place_of(words, {'low'}), ('low', 'proof'))
+        self.assertEqual(place_of(words[:-1], {'low'}), ('low', 'programs'))
+        self.assertEqual(place_of([words[0], 'check', *words[2:]], {'low'}), ('low', 'wrong'))
+        self.assertEqual(place_of([*words[:-1], '-o', 'out/low_tests.o'], {'low'}), ('low', 'tests'))
+        self.assertEqual(place_of(['/room/low.by-rattle', 'a'], {'low'}), ('low', 'programs'))
+        self.assertIsNone(place_of(['python3', 'rt', 'ci'], {'low'}))
+
+    def test_times_of_a_process_and_of_one_below_it(self):
+        gate_times = script('gate-times')
+        count = 'import time\nwhile time.process_time() < 1.2: pass'
+        inner = [sys.executable, '-c', count, '--crate-name', 'low', '--statements']
+        outer = [sys.executable, '-c', f'import subprocess\nsubprocess.run({inner!r})', '--crate-name', 'top']
+        status, found, seen, taken = gate_times.measure(outer, {'low', 'top'})
+        self.assertEqual(status, 0)
+        self.assertGreater(found['low'].proof * 60, 0.4)
+        self.assertLess(found['low'].proof * 60, 1.7)
+        self.assertLess(found['top'].all * 60, 0.7)
+        self.assertLessEqual(seen, taken + 0.02)
+
+
+class OfShelves(unittest.TestCase):
+    def setUp(self):
+        self.room = tempfile.TemporaryDirectory()
+        self.addCleanup(self.room.cleanup)
+        self.own = make(os.path.join(self.room.name, 'own'))
+
+    def test_stamps_tell_changes_below(self):
+        before = {name: self.own.stamp(name) for name in self.own.crates.names}
+        write('// new\n', self.own.folder('other'), 'specs', 'Lib.antt')
+        after = {name: proving.Checkout(self.own.top).stamp(name) for name in self.own.crates.names}
+        self.assertEqual([name for name in before if before[name] != after[name]], ['other', 'top'])
+
+    def test_stamps_are_those_of_a_copy(self):
+        copy = make(os.path.join(self.room.name, 'copy'))
+        self.assertEqual(copy.stamp('top'), self.own.stamp('top'))
+        write('// low\n', copy.folder('low'), 'src', 'more.rt')
+        self.assertNotEqual(proving.Checkout(copy.top).stamp('top'), self.own.stamp('top'))
+
+    def test_nothing_is_kept_at_first(self):
+        self.assertEqual(proving.Shelf(self.own).from_source('top'), ['low', 'mid', 'other'])
+
+    def test_noted_libraries_are_taken_until_a_source_changes(self):
+        keep(self.own, 'low')
+        keep(self.own, 'mid')
+        self.assertEqual(proving.Shelf(self.own).from_source('top'), ['other'])
+        write('// changed\n', self.own.folder('low'), 'src', 'lib.rt')
+        changed = os.path.join(self.own.folder('low'), 'src', 'lib.rt')
+        os.utime(changed, (time.time() + 60, time.time() + 60))
+        self.assertEqual(proving.Shelf(proving.Checkout(self.own.top)).from_source('top'), ['low', 'mid', 'other'])
+
+    def test_what_rt_made_counts_where_it_is_newer(self):
+        keep(self.own, 'low', noted=False)
+        self.assertEqual(proving.Shelf(self.own).from_source('mid'), [])
+        os.utime(os.path.join(self.own.library('low'), 'format'), (1, 1))
+        self.assertEqual(proving.Shelf(self.own).from_source('mid'), ['low'])
+
+    def test_another_checkout_serves_where_all_is_equal(self):
+        other = make(os.path.join(self.room.name, 'other'))
+        for name in ('low', 'mid', 'other'):
+            keep(other, name, noted=False)
+        self.assertEqual(proving.Shelf(self.own, other).from_source('top'), [])
+        write('// changed\n', self.own.folder('mid'), 'src', 'lib.rt')
+        own = proving.Checkout(self.own.top)
+        self.assertEqual(proving.Shelf(own, proving.Checkout(other.top)).from_source('top'), ['mid'])
+
+    def test_words(self):
+        keep(self.own, 'low')
+        keep(self.own, 'mid')
+        found = proving.words(proving.Shelf(self.own), 'mid', False, '/kit')
+        self.assertIn('low=' + self.own.library('low'), found)
+        self.assertNotIn('--lib', found)
+        above = proving.words(proving.Shelf(self.own), 'top', True, '/kit')
+        self.assertIn('--test', above)
+        self.assertEqual(above[above.index('--lib') + 1], f'other:core,std,low={self.own.folder("other")}/src/lib.rt')
+        self.assertIn('low=' + self.own.library('low'), above)
+        self.assertIn('itoa=/kit/rlibs/itoa.rlib', above)
+
+
+class OfEdits(unittest.TestCase):
+    def fault(self, text):
+        with tempfile.TemporaryDirectory() as room:
+            write('one\ntwo two\n', room, 'src', 'lib.rt')
+            write(text, room, 'it.edit')
+            return edits.fault_of(os.path.join(room, 'it.edit'), room)
+
+    def test_edits_that_apply(self):
+        self.assertIsNone(self.fault('file: src/lib.rt\nold: one\nnew: three\n'))
+        self.assertIsNone(self.fault('file: src/lib.rt\nold: one\nnew: three\nold: three\nnew: four\n'))
+        self.assertIsNone(self.fault('file: src/lib.rt\nold: one\nnew: \n'))
+
+    def test_edits_that_do_not(self):
+        self.assertIn('2 times', self.fault('file: src/lib.rt\nold: two\nnew: three\n'))
+        self.assertIn('0 times', self.fault('file: src/lib.rt\nold: none\nnew: three\n'))
+        self.assertIn('no file', self.fault('file: src/other.rt\nold: one\nnew: three\n'))
+        self.assertIn('no pair', self.fault('file: src/lib.rt\n'))
+        self.assertIn('no pair', self.fault('file: src/lib.rt\nold: one\n'))
+        self.assertIn('before it', self.fault('old: one\nnew: three\n'))
+
+    def test_lines_of_outcomes(self):
+        line = script('wrong-bodies').LINE
+        self.assertEqual(line.match('must-fail low/x.edit: refused, as it must be: src/a.rt:1:1: error').groups()[:3], ('low', 'x', 'refused'))
+        self.assertEqual(line.match('must-fail low/x_2.edit: NOT REFUSED: the crate is still proved').groups()[:3], ('low', 'x_2', 'NOT REFUSED'))
+        self.assertEqual(line.match('rt: must-fail low/x.edit: BAD EDIT: it').groups()[:3], ('low', 'x', 'BAD EDIT'))
+        self.assertIsNone(line.match('low: 2 of its 8 must-fail edits were tried by an earlier run'))
+
+
+class OfPictures(unittest.TestCase):
+    def setUp(self):
+        self.drawing = script('architecture-picture')
+
+    def test_implied_lines_are_left_out(self):
+        table = crates.Crates('# A\na:\n# B\nb: a\nc: a b\nd: c b\n')
+        self.assertEqual(self.drawing.lines_of(table), [('c', 'b'), ('d', 'c')])
+
+    def test_every_crate_has_a_box_and_none_lies_on_another(self):
+        table = crates.Crates.of()
+        groups = [self.drawing.rows_of(table, group) for _, group in table.groups]
+        self.assertEqual(sorted(name for rows in groups for row in rows for name in row), sorted(table.names))
+        begins = self.drawing.places([row for rows in groups for row in rows], self.drawing.lines_of(table))
+        for row in (row for rows in groups for row in rows):
+            boxes = sorted((begins[name], begins[name] + self.drawing.wide(name)) for name in row)
+            self.assertGreaterEqual(boxes[0][0], 0)
+            self.assertLessEqual(boxes[-1][1], self.drawing.WIDTH)
+            for (_, end), (begin, _) in zip(boxes, boxes[1:]):
+                self.assertLess(end, begin)
+
+    def test_it_is_the_same_each_time(self):
+        self.assertEqual(self.drawing.picture(crates.Crates.of()), self.drawing.picture(crates.Crates.of()))
+
+
+class OfMaps(unittest.TestCase):
+    def setUp(self):
+        self.check = script('check-map')
+
+    def test_groups_of_a_page(self):
+        page = '### One\n\n| Crate | Room of |\n|---|---|\n| `a` | x |\n| `b` | y |\n\n### Two\ntext\n'
+        self.assertEqual(self.check.groups_of(page), [('One', ['a', 'b'])])
+
+    def test_differences_are_told(self):
+        groups = [('One', ['a', 'b'])]
+        self.assertEqual(list(self.check.differences(groups, groups)), [])
+        self.assertEqual(len(list(self.check.differences([('One', ['b', 'a'])], groups))), 1)
+        self.assertEqual(len(list(self.check.differences([('Other', ['a', 'b'])], groups))), 1)
+
+
+class OfProofs(unittest.TestCase):
+    """What needs the prover, where --prove names a crate."""
+
+    def test_a_crate_and_its_wrong_bodies(self):
+        if PROVE is None or shutil.which('rt') is None:
+            self.skipTest('needs rt and --prove CRATE')
+        with tempfile.TemporaryDirectory() as room:
+            shutil.copytree(os.path.join(crates.TOP, 'crates'), os.path.join(room, 'crates'), ignore=shutil.ignore_patterns('out'))
+            shutil.copytree(os.path.join(crates.TOP, 'tools'), os.path.join(room, 'tools'))
+            shutil.copy(os.path.join(crates.TOP, 'crates.txt'), room)
+            command = [sys.executable, os.path.join(room, 'tools', 'prove-one'), PROVE]
+            self.assertEqual(subprocess.run([*command, '--deps'], stdout=subprocess.DEVNULL).returncode, 0)
+            for edit in [*edits.kept(PROVE)[:1], *edits.moved(PROVE)[:1]]:
+                self.refuses(edit, os.path.join(room, 'crates', PROVE), command)
+
+    def refuses(self, edit, folder, command):
+        """Applies an edit of one file, sees that prove-one refuses it, and takes it back."""
+        self.assertIsNone(edits.fault_of(edit, folder))
+        lines = dict(line.split(': ', 1) for line in edits.text_of(edit).splitlines())
+        path = os.path.join(folder, lines['file'])
+        before = edits.text_of(path)
+        write(before.replace(lines['old'], lines['new']), path)
+        self.assertNotEqual(subprocess.run(command, stdout=subprocess.DEVNULL).returncode, 0)
+        write(before, path)
+
+
+if __name__ == '__main__':
+    if '--prove' in sys.argv[:-1]:
+        place = sys.argv.index('--prove')
+        PROVE = sys.argv[place + 1]
+        del sys.argv[place:place + 2]
+    unittest.main()
