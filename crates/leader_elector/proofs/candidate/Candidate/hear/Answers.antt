@@ -7,6 +7,7 @@ use Rattle.kube_objects.specs.Turns.{lead_if, react, with_reply}
 use Rattle.kube_objects.specs.Wire.{next_call, send}
 use Rattle.leader_elector.specs.Calls.{TakesReply}
 use Rattle.leader_elector.specs.Moves.{Asked, Received, reacted}
+use Rattle.leader_elector.specs.Plain.{moment_of}
 use Rattle.leader_elector.specs.Stands.{ElectorStands, follow_of}
 use Rattle.leader_elector.proofs.Own.{settled-own}
 use Rattle.leader_elector.proofs.candidate.Candidate.hear.Goals as goal
@@ -65,7 +66,7 @@ returns-in-Asks-clause-takes c w counts waits =
 
 pub returns-in-Succeeds-clause-takes : goal.returns-in-Succeeds-clause-takes
 returns-in-Succeeds-clause-takes c w counts waits = (
-      subst (λ e. TakesReply false c.args.self.old.elector _ w c.args.reply.now e true None) (sym c.win.ensures.0)
+  subst (λ e. TakesReply false c.args.self.now.elector (moment_of c.args.self.now.elector c.args.now.0 c.args.wall.0) w c.args.reply.now e true None) (sym c.win.ensures.0)
       (takes-silent c.in-Some.follow (Succeeds c.in-Succeeds.field-0) (ap follow_of c.in-Succeeds.is) refl (c.in-Some.ensures.held w counts waits)),
-      ap (λ (x : Local). x.0) c.win.ensures.1,
-    )
+  ap (λ (x : Local). x.0) c.win.ensures.1,
+)
