@@ -103,6 +103,7 @@ class OfCrates(unittest.TestCase):
     def test_chain_takes_the_dearer_way(self):
         costs = {'low': crates.Minutes(1), 'mid': crates.Minutes(0.25, wrong=9), 'other': crates.Minutes(0.5), 'top': crates.Minutes(2)}
         self.assertEqual(self.table.chain(costs), (['low', 'other', 'top'], 3.5))
+        self.assertEqual(self.table.chain(costs, 'mid'), (['low', 'mid'], 1.25))
 
 
 class OfTables(unittest.TestCase):
