@@ -103,6 +103,7 @@ class OfCrates(unittest.TestCase):
     def test_chain_takes_the_dearer_way(self):
         costs = {'low': crates.Minutes(1), 'mid': crates.Minutes(0.25, wrong=9), 'other': crates.Minutes(0.5), 'top': crates.Minutes(2)}
         self.assertEqual(self.table.chain(costs), (['low', 'other', 'top'], 3.5))
+        self.assertEqual(self.table.chain(costs, 'mid'), (['low', 'mid'], 1.25))
 
 
 class OfTables(unittest.TestCase):
@@ -235,6 +236,47 @@ class OfEdits(unittest.TestCase):
         self.assertEqual(line.match('must-fail low/x_2.edit: NOT REFUSED: the crate is still proved').groups()[:3], ('low', 'x_2', 'NOT REFUSED'))
         self.assertEqual(line.match('rt: must-fail low/x.edit: BAD EDIT: it').groups()[:3], ('low', 'x', 'BAD EDIT'))
         self.assertIsNone(line.match('low: 2 of its 8 must-fail edits were tried by an earlier run'))
+
+
+class OfWrongBodies(unittest.TestCase):
+    """The whole script, with a stand-in for `rt` that says of each edit in must-fail what a line of it has."""
+
+    STAND_IN = """#!/bin/sh
+[ "$1" = must-fail ] || exit 2
+for edit in crates/$2/must-fail/*.edit; do
+    name=$(basename "$edit")
+    sed -n "s/^says: /must-fail $2\\/$name: /p" "$edit"
+done
+"""
+
+    def outcome(self, **says):
+        """What the script prints and ends with where each edit gets this outcome; those in capitals stand at the gate."""
+        with tempfile.TemporaryDirectory() as room:
+            make(room)
+            write('Handles allowed: none.\n', room, 'HANDLES')
+            write(self.STAND_IN, room, 'bin', 'rt')
+            os.chmod(os.path.join(room, 'bin', 'rt'), 0o755)
+            shutil.copytree(os.path.join(crates.TOP, 'tools'), os.path.join(room, 'tools'))
+            for name, said in says.items():
+                place = ('crates', 'low', 'must-fail') if name.isupper() else ('wrong-bodies', 'low')
+                write(f'file: src/lib.rt\nold: low\nnew: high\nsays: {said}\n', room, *place, f'{name}.edit')
+            command = [sys.executable, os.path.join(room, 'tools', 'wrong-bodies'), 'low']
+            path = os.path.join(room, 'bin') + os.pathsep + os.environ['PATH']
+            ran = subprocess.run(command, env={**os.environ, 'PATH': path}, capture_output=True, text=True)
+            self.assertFalse(os.path.exists(os.path.join(room, 'crates', 'low', 'must-fail', 'b.edit')))
+        return [line.split()[:3] for line in ran.stdout.splitlines()[:-1] if not line.startswith('#')], ran.returncode
+
+    def test_both_kinds_are_tried(self):
+        found = self.outcome(A='refused, as it must be', b='refused, as it must be: src/lib.rt:1:1: error')
+        self.assertEqual(found, ([['refused', 'low/A'], ['refused', 'low/b']], 0))
+
+    def test_one_that_is_not_refused_fails(self):
+        found, status = self.outcome(A='NOT REFUSED: the crate is still proved', b='refused, as it must be')
+        self.assertEqual((found[0], found[1], status), (['NOT', 'REFUSED', 'low/A'], ['refused', 'low/b'], 1))
+
+    def test_bad_edits_and_those_without_a_word_fail(self):
+        found, status = self.outcome(a='BAD EDIT: it cannot be applied', b='')
+        self.assertEqual((found[0][:2], found[1][:2], status), (['BAD', 'EDIT'], ['NOT', 'TRIED'], 1))
 
 
 class OfPictures(unittest.TestCase):
