@@ -8,7 +8,6 @@ OVER_SECONDS = 0.5
 PASS_SECONDS = 5.5  # more than a pass and what its phase makes
 RULES = [
     Rule("b b2 g", "lead", "any", ["jitter"]),
-    Rule("b2", "end", "any", ["store"]),
     # Held were the election's calls alone, which no document can say, so what the old leader did to nodes isn't foretold.
     Rule("h", ".*", "any", ["messages"]),
     Rule("d2", "evict n2-(none|s0|slow)", "later", ["store"], 60),
@@ -16,14 +15,14 @@ RULES = [
     Rule("*", "evict .*-slow", "there", ["terminating"]),
     Rule("d2 d3", "evict .*-late30", "any", ["late pod"]),
     Rule("d3", "evict n1-s120", "any", ["first eviction time"]),
-    Rule("e", "(taint|untaint|evict).*", "here", ["one pass later"], 0),
     Rule("e e2", "(taint|evict).*", "any", ["order of names", "queued once"], 360),
+    Rule("e", "(taint|untaint|evict).*", "here", ["one pass later"]),
     Rule("*", "taint", "there", ["queued once"]),
     Rule("f f2 h2 d2", "evict n1-s(30|60|120)", "later", ["due time"]),
     Rule("d2 d3", "(taint|evict) n[12](-none|-s0|-slow)?$", "later", ["next pass"], -60),
     Rule("*", "untaint", "later", ["next pass"]),
     Rule("d4", "unknown", "any", ["first pass"]),
-    Rule("*", "(unknown|mode)", "sooner", ["passes slide"]),
+    Rule("*", "unknown", "sooner", ["passes slide"]),
     Rule("*", "unknown", "later", ["first pass"]),
     Rule("f", "(taint|evict).*", "sooner", ["first pass"]),
     Rule("*", "taint", "later", ["one pass later"]),

@@ -19,8 +19,6 @@ def key_of(actor, deed):
         return None
     if deed[0] == "lead":
         return f"lead {actor.rsplit('_', 1)[0]}"
-    if deed[0] == "mode":
-        return f"mode {deed[1]}"
     if deed[0] in ("unknown", "untaint") and is_accepted(deed):
         return f"{deed[0]} {deed[1]}"
     if deed[0] in ("taint", "swap") and is_accepted(deed):
@@ -46,8 +44,9 @@ def by_key(events):
 
 
 def ends(scenario, events):
-    """When leaders ended by themselves: there the process exits, here it has the line `end`."""
-    exits = [it["at"] for it in scenario.of("kcm-exit") if it["rc"] == 255]
+    """When leaders ended by themselves: there the process exits before anybody kills it, here it has the line `end`."""
+    killed = [(it["who"], it["at"]) for it in scenario.signals("SIGKILL", "SIGTERM")]
+    exits = [it["at"] for it in scenario.of("kcm-exit") if it["rc"] == 255 and not any(it["who"] == who and at <= it["at"] for who, at in killed)]
     return exits, [second for second, actor, deed in events if deed[0] == "end" and not actor.startswith("kubelet")]
 
 
