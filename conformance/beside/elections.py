@@ -1,0 +1,101 @@
+"""Leader election: accepted settings, instants of attempts and ends, failovers, two leaders at once."""
+from .documents import LEADS, document
+from .elector import Elector
+from .tally import EXACT, differs, left, unnamed
+
+DAY_SECONDS = 86_400
+LATER_ATTEMPT = differs("retry grid", "another instant of the third attempt after a failure, or of a later one")
+MORE_ATTEMPTS = differs("retry grid", "one attempt more or less before the deadline")
+OTHER_END = differs("retry grid", "another end, after attempts on the grid")
+LONGER = differs("jitter", "longer without a leader than the longest here")
+SHORTER = differs("jitter", "shorter without a leader than the shortest here")
+
+
+def election_config(cases, program):
+    return [it for verdicts in program.each(lambda case: config_verdicts(case, program), cases) for it in verdicts]
+
+
+def config_verdicts(case, program):
+    """As the document's settings, and as a controller's own timings."""
+    timings = {"leaseDurationSeconds": case["lease_seconds"], "renewDeadlineMillis": case["renew_ms"], "retryPeriodMillis": case["retry_ms"]}
+    if case["lease_seconds"] > DAY_SECONDS or max(case["renew_ms"], case["retry_ms"]) > DAY_SECONDS * 1000:
+        return [left("longer than a day")] * 2
+    own = document({"endBeat": 0}, controllers=[dict(timings, name="c")], version=2)
+    answers = ((program.answer("check", document(dict(timings, endBeat=0))), "/settings"), (program.answer("check", own), "/controllers/0"))
+    same = (answer.startswith("ok ") if case["ok"] else answer == f"refused 7 {place}" for answer, place in answers)
+    return [EXACT if it else unnamed("accepted here and not there, or the reverse") for it in same]
+
+
+def election_timeouts(cases, program):
+    return [it for verdicts in program.each(lambda case: instants_verdicts(case, program), cases) for it in verdicts]
+
+
+def instants_verdicts(case, program):
+    """The start of each attempt up to the first that differs, and the end; in ms from the lead on."""
+    elector = Elector(case)
+    if not elector.is_as_foreseen(program.replay(elector.document())):
+        return [unnamed("the trace isn't as foreseen")]
+    lead = case["lead_us"] // 1000
+    there_stop = -1 if case["stop_us"] < 0 else case["stop_us"] // 1000 - lead
+    here_stop = elector.stop if elector.stop < 0 else elector.stop - LEADS
+    here = [it - LEADS for it in elector.starts]
+    # An attempt at the deadline itself is a race upstream.
+    there = [it for it in (call["at_us"] // 1000 - lead for call in case["calls"]) if it != there_stop]
+    equal = next((at for at, (a, b) in enumerate(zip(here, there)) if a != b), min(len(here), len(there)))
+    verdicts = [EXACT] * equal
+    is_same = len(here) == len(there) == equal
+    if equal < min(len(here), len(there)):
+        verdicts.append(LATER_ATTEMPT)
+    elif not is_same:
+        verdicts.append(MORE_ATTEMPTS)
+    if here_stop == there_stop:
+        return verdicts + [EXACT]
+    return verdicts + [unnamed("another end") if is_same else OTHER_END]
+
+
+def gap_here(case, program):
+    """For how many ms nobody leads in the document of a recorded crash."""
+    beat = min(case["one_way_ms"], 1000)
+    crash = LEADS + case["crash_ms"] // beat
+    names = ["abc"[at] for at in range(case["candidates"] + 1)]
+    settings = {"beatMillis": beat, "endBeat": crash + (case["lease_ms"] + 20_000) // beat, "leaseDurationSeconds": case["lease_ms"] // 1000}
+    events = [{"beat": LEADS, "type": "start", "process": it} for it in names[1:]]
+    events.append({"beat": crash, "type": "crash", "process": "a"})
+    trace = program.replay(document(settings, (), events, [{"name": it, "up": it == "a"} for it in names]))
+    return ([at for at, _, deed in trace if deed[0] == "lead"][1] - crash) * beat
+
+
+def failovers(cases, program):
+    """Gaps here and there, in ms, by lease, beat and number of rivals."""
+    groups = {}
+    for case, here in zip(cases, program.each(lambda it: gap_here(it, program), cases)):
+        key = case["lease_ms"], min(case["one_way_ms"], 1000), case["candidates"]
+        groups.setdefault(key, []).append((here, case["gap_ms"]))
+    return groups
+
+
+def election_failover(cases, program):
+    """Rivals have jitter there, so a gap is compared with the span of those here."""
+    verdicts = []
+    for gaps in failovers(cases, program).values():
+        low, high = min(it for it, _ in gaps), max(it for it, _ in gaps)
+        verdicts += [LONGER if it > high else SHORTER if it < low else EXACT for _, it in gaps]
+    return verdicts
+
+
+def overlaps(cases, program):
+    """What the first line says of each setting, beside for how many ms two led at once in each run there."""
+    groups = {}
+    for case in cases:
+        groups.setdefault((case["lease_ms"], case["timeout_ms"]), []).append(case["overlap_ms"])
+    premises = {}
+    for lease, timeout in groups:
+        settings = {"endBeat": 0, "leaseDurationSeconds": lease // 1000, "callTimeoutMillis": timeout}
+        premises[lease, timeout] = program.answer("check", document(settings)).rsplit("=", 1)[1]
+    return {key: (premises[key], runs) for key, runs in groups.items()}
+
+
+def election_two_leaders(cases, program):
+    same = ((premise == "yes") == (max(runs) <= 0) for premise, runs in overlaps(cases, program).values())
+    wrong = unnamed("two leaders and the premise holds, or none and it doesn't")
+    return [EXACT if it else wrong for it in same]

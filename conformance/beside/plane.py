@@ -1,0 +1,85 @@
+"""The events of a real control plane beside those that its document foretells."""
+from collections import defaultdict, namedtuple
+
+from .program import is_accepted
+from .scenario_document import ScenarioDocument, with_late_reply
+from .scenarios import Scenario
+
+# Seconds; None where an event is on one side alone.
+Pair = namedtuple("Pair", "what observed foretold")
+ALONE_SECONDS = 50  # what it costs to leave an event without its like
+# In these the rival's attempts are fitted to its real takeover, so that what follows it can be compared.
+FITTED = ("d2", "e", "f", "f2", "h", "h2")
+NAMES = ("a", "a2", "b", "b2", "c", "c2", "c3", "c4", "c6", "d", "d2", "d3", "d4", "e", "e2", "f", "f2", "g", "h", "h2")
+
+
+def key_of(actor, deed):
+    """What an event is matched by, None where it isn't compared."""
+    if actor.startswith("kubelet") or actor == "script":
+        return None
+    if deed[0] == "lead":
+        return f"lead {actor.rsplit('_', 1)[0]}"
+    if deed[0] in ("unknown", "untaint") and is_accepted(deed):
+        return f"{deed[0]} {deed[1]}"
+    if deed[0] in ("taint", "swap") and is_accepted(deed):
+        return f"taint {deed[1]}"
+    return f"evict {deed[1].split('/')[1]}" if deed[0] == "evict" and is_accepted(deed) else None
+
+
+def foretold(scenario, program):
+    made = ScenarioDocument(scenario, scenario.name in FITTED).made()
+    trace = program.replay(made)
+    if scenario.of("proxy"):
+        trace = program.replay(with_late_reply(made, scenario, trace))
+    millis = scenario.settings["beatMillis"]
+    return [(beat * millis / 1000, actor, deed) for beat, actor, deed in trace]
+
+
+def by_key(events):
+    found = defaultdict(list)
+    for second, actor, deed in events:
+        if key_of(actor, deed):
+            found[key_of(actor, deed)].append(second)
+    return found
+
+
+def ends(scenario, events):
+    """When leaders ended by themselves: there the process exits before anybody kills it, here it has the line `end`."""
+    killed = [(it["who"], it["at"]) for it in scenario.signals("SIGKILL", "SIGTERM")]
+    exits = [it["at"] for it in scenario.of("kcm-exit") if it["rc"] == 255 and not any(it["who"] == who and at <= it["at"] for who, at in killed)]
+    return exits, [second for second, actor, deed in events if deed[0] == "end" and not actor.startswith("kubelet")]
+
+
+def aligned(there, here):
+    """Both rows of instants in order, each paired with one of the other or left alone, at the least cost in seconds."""
+    best = {(0, 0): (0, [])}
+    for at in range(len(there) + 1):
+        for to in range(len(here) + 1):
+            ways = []
+            if at and to:
+                cost, found = best[at - 1, to - 1]
+                ways.append((cost + abs(there[at - 1] - here[to - 1]), found + [(there[at - 1], here[to - 1])]))
+            if at:
+                cost, found = best[at - 1, to]
+                ways.append((cost + ALONE_SECONDS, found + [(there[at - 1], None)]))
+            if to:
+                cost, found = best[at, to - 1]
+                ways.append((cost + ALONE_SECONDS, found + [(None, here[to - 1])]))
+            if ways:
+                best[at, to] = min(ways, key=lambda it: it[0])
+    return best[len(there), len(here)][1]
+
+
+def pairs(scenario, program):
+    events = foretold(scenario, program)
+    there = by_key((second, actor, text.split()) for second, actor, text in scenario.observed())
+    here = by_key(events)
+    there["end"], here["end"] = ends(scenario, events)
+    if not there["end"]:
+        here["end"] = []  # nobody waited for an exit
+    found = [Pair(key, *both) for key in {**there, **here} for both in aligned(there[key], here[key])]
+    return sorted(found, key=lambda it: it.foretold if it.observed is None else it.observed)
+
+
+def compared(name, program):
+    return pairs(Scenario(name), program)

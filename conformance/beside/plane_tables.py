@@ -1,0 +1,140 @@
+"""The tables of docs/upstream.md on a real control plane."""
+from statistics import median
+
+from .causes import is_over, rows_of
+from .plane import FITTED, foretold, pairs
+from .stalls import stall_of
+from .tables import table
+from .verdicts import WAYS, verdict
+
+WORDS = {
+    "a": "a leader renews, while two more planes start", "a2": "a leader renews", "b": "five kills of the leader",
+    "b2": "twelve kills, lease 6 s, renew deadline 4 s, retry period 1 s", "c": "the leader is stopped for 19 s and goes on",
+    "c2": "for 45 s", "c3": "for 25 s", "c4": "for 20 s", "c6": "for 45 s, lease 23 s", "d": "two nodes die and come back",
+    "d2": "Ready False, then silence, a late pod; the store stands still", "d3": "the same, and the store doesn't",
+    "d4": "two nodes die, grace 42 s", "e": "zones go down and come back; the store stands still", "e2": "the same, and the store doesn't",
+    "f": "the leader is killed 20 s after a taint", "f2": "the leader is killed at once after a taint", "g": "SIGTERM of the leader",
+    "h": "one reply to the leader is 9.5 s late, then none", "h2": "the same, lease 23 s",
+}
+
+
+def at(second):
+    return "" if second is None else f"{second:.2f}"
+
+
+def scenarios(found):
+    """`found` has the pairs of each scenario, None where no document says it."""
+    rows = []
+    for name, it in found.items():
+        if it is None:
+            rows.append((name, WORDS[name], "no document of versions 1 and 2 says it", "", ""))
+        else:
+            over = sum(map(is_over, it))
+            rows.append((name, WORDS[name], len(it), len(it) - over, over))
+    return table(("Scenario", "What was done", "Events compared", "Within 0.5 s", "Over 0.5 s, or on one side alone"), rows)
+
+
+def differences(found):
+    rows = []
+    for name, it in found.items():
+        for words, pair, causes in grouped(name, [one for one in it or [] if is_over(one)]):
+            both = None not in (pair.observed, pair.foretold)
+            rows.append((name, words, at(pair.observed), at(pair.foretold), f"{pair.observed - pair.foretold:+.2f}" if both else "", ", ".join(causes)))
+    return table(("Scenario", "Event", "Observed", "Foretold", "Difference", "Rows of the profile"), rows)
+
+
+def grouped(name, over):
+    """Evictions of one node at one instant, with the same causes, are one line."""
+    groups = []
+    for pair in over:
+        key = key_of_group(name, pair)
+        if groups and groups[-1][0] == key:
+            groups[-1][1].append(pair)
+        else:
+            groups.append((key, [pair]))
+    for _, group in groups:
+        words = group[0].what + "".join(", " + it.what.split()[1] for it in group[1:])
+        yield words, group[0], rows_of(name, group[0])
+
+
+def key_of_group(name, pair):
+    if not pair.what.startswith("evict"):
+        return object()
+    return pair.what.split("-")[0], pair.observed is None, pair.foretold, *rows_of(name, pair)
+
+
+def kills(found, scenario_of):
+    """How long nobody led after each signal that ended a leader."""
+    rows = []
+    for name, it in found.items():
+        for signal in ending_signals(scenario_of(name)) if it else []:
+            leads = [pair for pair in it if pair.what.startswith("lead")]
+            there = next((pair.observed for pair in leads if pair.observed is not None and pair.observed > signal["at"]), None)
+            here = next((pair.foretold for pair in leads if pair.foretold is not None and pair.foretold > signal["at"]), None)
+            if None not in (there, here):
+                rows.append((name, signal["sig"], gap(there, signal), "fitted" if name in FITTED else gap(here, signal)))
+    return table(("Scenario", "Signal", "Nobody led, observed", "Foretold"), rows)
+
+
+def gap(second, signal):
+    return f"{second - signal['at']:.1f} s"
+
+
+def ending_signals(scenario):
+    """Those to processes that hadn't ended by themselves."""
+    exits = scenario.of("kcm-exit")
+    return [signal for signal in scenario.signals("SIGKILL", "SIGTERM")
+            if next(it["rc"] for it in exits if it["who"] == signal["who"] and it["at"] >= signal["at"]) < 0]
+
+
+def renewals(scenario_of, program):
+    rows = []
+    for name in ("a", "a2"):
+        scenario = scenario_of(name)
+        leader = scenario.renewals()[0].user
+        there = [it.ended for it in scenario.renewals() if it.user == leader and it.verb == "update"]
+        asks = sorted(it.received for it in scenario.elections if it.user != leader and it.verb == "get")
+        here = [second for second, actor, deed in foretold(scenario, program) if actor.startswith(leader) and deed[:2] == ["update", "election"]]
+        rows.append((name, "between renewals", *map(spread, (gaps(there), gaps(here)))))
+        rows.append((name, "between the rival's Gets", spread(gaps(asks)), "no line"))
+    return table(("Scenario", "Seconds", "Observed", "Foretold"), rows)
+
+
+def gaps(instants):
+    return [after - before for before, after in zip(instants, instants[1:])]
+
+
+def spread(found):
+    return f"{min(found):.3f} to {max(found):.3f}, median {median(found):.3f}"
+
+
+def stalls(scenario_of, names):
+    rows = []
+    for name in names:
+        it = stall_of(scenario_of(name))
+        rows.append((name, f"{it.lease} s", f"{it.seconds:.0f} s", at(it.rival) or "never", at(it.woke), f"{it.first_write * 1000:.0f} ms later",
+                     at(it.exit) or "never", f"{it.both:.2f} s" if it.both else "", it.writes if it.both else ""))
+    head = ("Scenario", "Lease", "Stopped for", "Rival leads at", "Goes on at", "First write", "Exits at", "Both acted for",
+            "Its accepted writes of nodes and pods then")
+    return table(head, rows)
+
+
+def verdicts(scenario_of, names, program):
+    rows = []
+    for name in names:
+        found = [verdict(scenario_of(name), way, program) for way in WAYS]
+        rows.append((name, *(f"{code} at `{line}`" if line else code for code, line in found)))
+    return table(("Scenario", *(f"`--terms {it}`" for it in WAYS)), rows)
+
+
+def faults(found, profile):
+    """Differences that no row of the profile names with their scenario."""
+    for name, it in found.items():
+        for pair in it or []:
+            causes = rows_of(name, pair) if is_over(pair) else [None]
+            if not causes or any(row and not profile.names_scenario(row, name) for row in causes):
+                yield f"scenario {name}: no row of docs/profile.md known by 'plane: {name}' for: {pair.what} ({', '.join(causes)})"
+
+
+def compared(scenario_of, names, program):
+    return {name: None if scenario_of(name).is_stalled() else pairs(scenario_of(name), program) for name in names}

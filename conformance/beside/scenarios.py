@@ -1,0 +1,69 @@
+"""What was done to a real control plane, and what its audit log tells."""
+import argparse
+import json
+import os
+import sys
+from datetime import datetime, timezone
+
+from .recorded import TOP
+
+sys.path.insert(0, os.path.join(os.path.dirname(TOP), "tools"))
+from audit_log.entries import Log
+from audit_log.identities import Identities
+from audit_log.story import Story
+
+BEAT_MILLIS = 2  # four messages of a beat each make a round of renewal 8 ms longer than the retry period, as on the plane
+FLAGS = {"--leader-elect-lease-duration": ("leaseDurationSeconds", 1), "--leader-elect-renew-deadline": ("renewDeadlineMillis", 1000),
+         "--leader-elect-retry-period": ("retryPeriodMillis", 1000), "--node-monitor-grace-period": ("gracePeriodMillis", 1000)}
+OPTIONS = argparse.Namespace(by="user", lease="kube-system/kube-controller-manager", kubelets="^system:node:",
+                             controllers="^kube-controller-manager/", rates=[100, 10, 50, 55])
+
+
+class Scenario:
+    """`notes` tell what was done and when; all seconds count from the start of the kubelets."""
+
+    def __init__(self, name):
+        folder = f"{TOP}/logs/{name}"
+        with open(f"{folder}/driver.jsonl", encoding="utf-8") as file:
+            notes = [json.loads(line) for line in file]
+        self.name, self.base = name, next(it["t"] for it in notes if it["what"] == "base")
+        self.notes = [dict(it, at=it["t"] - self.base) for it in notes]
+        self.end = next(it["at"] for it in self.notes if it["what"] == "end")
+        self.log = Log(until=self.base + self.end)
+        self.log.read(f"{folder}/audit.jsonl.gz")
+        self.log.sort()
+        self.identities = Identities(self.log, OPTIONS)
+        self.elections = [it for it in self.log.entries if self.identities.is_election(it) and it.user.startswith("kcm-")]
+        self.settings = {"beatMillis": BEAT_MILLIS, "callTimeoutMillis": 10_000, "restartMillis": 86_400_000}
+        self.settings["epoch"] = datetime.fromtimestamp(self.base, timezone.utc).strftime("%Y-%m-%dT%H:%M:%S.%fZ")
+        self.take_flags()
+
+    def take_flags(self):
+        for flag in (it for note in self.of("kcm-start") for it in note["flags"]):
+            name, value = flag.split("=")
+            key, times = FLAGS[name]
+            self.settings[key] = int(value.rstrip("s")) * times
+        self.settings["callTimeoutMillis"] = self.settings.get("renewDeadlineMillis", 10_000)
+
+    def of(self, *whats):
+        return [it for it in self.notes if it["what"] in whats]
+
+    def signals(self, *names):
+        return [it for it in self.of("kcm-signal") if it["sig"] in names]
+
+    def is_stalled(self):
+        """Whether a process was stopped and went on, which versions 1 and 2 of a document can't say."""
+        return bool(self.signals("SIGSTOP"))
+
+    def observed(self):
+        """Events from the kubelets' start on: seconds, actor and text."""
+        story = Story(self.log, self.identities, OPTIONS)
+        return [(it.second - self.base, it.actor, it.text) for it in story.events if it.second >= self.base]
+
+    def renewals(self):
+        return [it for it in self.elections if it.verb in ("create", "update") and it.is_ok()]
+
+    def takeover(self):
+        """The first successful write by another controller than the first leader, None where there is none."""
+        writes = self.renewals()
+        return next((it for it in writes if it.user != writes[0].user), None)

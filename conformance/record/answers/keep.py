@@ -1,0 +1,35 @@
+#!/usr/bin/env python3
+"""Takes recorded answers into answers/: keep.py FOLDER [--all]
+
+FOLDER is that of record.sh. Kept is every second case of each set, so that the other half can check what was made of this one; all of them
+with --all. Sets that no comparison reads are left out.
+"""
+import gzip
+import json
+import os
+import sys
+
+TOP = os.path.dirname(os.path.dirname(os.path.dirname(os.path.abspath(__file__))))
+sys.path.insert(0, TOP)
+from beside.recorded import SETS
+
+WHOLE = ("election_two_leaders", "runs")  # few cases, or no list
+
+
+def main():
+    folder, step = sys.argv[1], 1 if "--all" in sys.argv else 2
+    for name in SETS:
+        path = os.path.join(folder, f"{name}.json")
+        if not os.path.exists(path):
+            print(f"{name}: not recorded")
+            continue
+        with open(path, encoding="utf-8") as file:
+            cases = json.load(file)
+        kept = cases if name in WHOLE or isinstance(cases, dict) else cases[::step]
+        with open(f"{TOP}/answers/{name}.json.gz", "wb") as file, gzip.GzipFile("", "wb", 9, file, mtime=0) as packed:
+            packed.write(json.dumps(kept, separators=(",", ":"), sort_keys=True).encode())
+        print(f"{name}: {len(kept)} of {len(cases)} cases")
+
+
+if __name__ == "__main__":
+    main()

@@ -1,0 +1,111 @@
+#!/usr/bin/env python3
+"""Compares the program with recorded answers of Kubernetes 1.20.2, and with what a real control plane did.
+
+    conformance/run.py [--exe COMMAND] [SET ..]
+
+COMMAND is the program without its command word; else it is the built one, crates/kube_replay/out/kube_replay. Ends with 1 where a
+count isn't that of counts.json, where a kind of difference has no row in docs/profile.md that names its set or scenario, or where a
+table of docs/upstream.md isn't the one that is printed here; else with 0. With sets it looks at these alone. --write writes counts.json
+and the tables in place of comparing them.
+"""
+import argparse
+import functools
+import json
+import os
+import sys
+import time
+
+from beside import page, plane, plane_tables, tables
+from beside.profile import Profile
+from beside.program import NoAnswer, Program
+from beside.recorded import SETS, TOP, tally_of
+from beside.tally import row_of
+
+ROOT = os.path.dirname(TOP)
+BUILT = os.path.join(ROOT, "crates/kube_replay/out/kube_replay")
+PAGE = os.path.join(ROOT, "docs/upstream.md")
+
+
+def told(name, counts):
+    parts = [f"{counts['exact']} exact", f"{counts['near']} near", f"{sum(counts['differ'].values())} differ"]
+    return f"{name}: {counts['cases']} cases, {sum(counts['not expressed'].values())} not expressed, {', '.join(parts)}"
+
+
+def faults_of(name, counts, wanted, profile):
+    """What is wrong with the counts of a set, as sentences."""
+    if counts != wanted:
+        yield f"{name}: other counts than in counts.json: {json.dumps(counts)}"
+    for kind in counts["differ"]:
+        if not profile.names_set(row_of(kind), name):
+            yield f"{name}: no row of docs/profile.md is named '{row_of(kind)}' and known by `{name}`, for: {kind}"
+
+
+def of_sets(names, program, profile, is_written):
+    with open(f"{TOP}/counts.json", encoding="utf-8") as file:
+        wanted = json.load(file)
+    counts, faults = {}, []
+    for name in names:
+        counts[name] = tally_of(name, program).as_json()
+        print(told(name, counts[name]), flush=True)
+        faults += faults_of(name, counts[name], counts[name] if is_written else wanted.get(name), profile)
+    if is_written:
+        with open(f"{TOP}/counts.json", "w", encoding="utf-8") as file:
+            json.dump({**wanted, **counts}, file, indent=1)
+            file.write("\n")
+    return counts, faults
+
+
+def of_plane(program, profile):
+    """The tables of the scenarios, and what no row names."""
+    scenario_of = functools.lru_cache(None)(plane.Scenario)
+    found = plane_tables.compared(scenario_of, plane.NAMES, program)
+    stalled = [name for name, it in found.items() if it is None]
+    over = sum(plane_tables.is_over(it) for pairs in found.values() for it in pairs or [])
+    print(f"real control plane: {len(found)} scenarios, {sum(len(it or []) for it in found.values())} events, {over} over 0.5 s", flush=True)
+    made = {
+        "scenarios": plane_tables.scenarios(found), "renewals": plane_tables.renewals(scenario_of, program),
+        "kills": plane_tables.kills(found, scenario_of), "plane differences": plane_tables.differences(found),
+        "stalls": plane_tables.stalls(scenario_of, stalled), "verdicts": plane_tables.verdicts(scenario_of, plane.NAMES, program),
+    }
+    return made, list(plane_tables.faults(found, profile))
+
+
+def of_page(made, is_written):
+    with open(PAGE, encoding="utf-8") as file:
+        text = file.read()
+    wanted = page.filled(text, made)
+    if is_written:
+        with open(PAGE, "w", encoding="utf-8") as file:
+            file.write(wanted)
+    if text == wanted or is_written:
+        return []
+    lines = next((pair for pair in zip(text.splitlines(), wanted.splitlines()) if pair[0] != pair[1]), ("", "more lines"))
+    return [f"docs/upstream.md has the line {lines[0]!r}, and what is printed here is {lines[1]!r}; --write writes the tables anew"]
+
+
+def main():
+    parser = argparse.ArgumentParser(description=__doc__, formatter_class=argparse.RawDescriptionHelpFormatter)
+    parser.add_argument("--exe", default=BUILT)
+    parser.add_argument("--write", action="store_true")
+    parser.add_argument("sets", nargs="*", metavar="SET", help=", ".join(SETS))
+    given = parser.parse_args()
+    begin = time.monotonic()
+    program, profile = Program(given.exe), Profile(os.path.join(ROOT, "docs/profile.md"))
+    counts, faults = of_sets(given.sets or SETS, program, profile, given.write)
+    if not given.sets:
+        made, unnamed = of_plane(program, profile)
+        made.update({"answers": tables.answers(counts), "differences": tables.differences(counts), "not said": tables.not_said(counts),
+                     "two leaders": tables.two_leaders(program), "failovers": tables.failovers(program), "evictions": tables.evictions(program)})
+        faults += unnamed + of_page(made, given.write)
+    for fault in faults:
+        print(f"FAULT: {fault}")
+    cases = sum(it["cases"] for it in counts.values())
+    print(f"conformance: {cases} cases, {program.runs()} runs of the program, {time.monotonic() - begin:.0f} s, {len(faults)} faults")
+    return 1 if faults else 0
+
+
+if __name__ == "__main__":
+    try:
+        sys.exit(main())
+    except (OSError, ValueError, NoAnswer) as error:
+        sys.exit(f"conformance: {error}")
