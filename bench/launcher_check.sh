@@ -1,5 +1,5 @@
 #!/bin/sh
-# Tries the launcher ./kube_replay where its words, its input or its output are at fault, and where its input is slow.
+# Tries the launcher ./kube_replay: help, words that are no command, input and output at fault, input that is slow, and a signal.
 #
 #     bench/launcher_check.sh [unproved|proved]
 #
@@ -22,6 +22,7 @@ slowly() {
 }
 
 run() {
+    began=$(date +%s)
     "$launcher" "$@" >"$room/output" 2>"$room/errors"
     echo $? >"$room/status"
 }
@@ -33,43 +34,115 @@ run_into() {
     echo $? >"$room/status"
 }
 
-# Whether the last run ended with this status, wrote this text, and said that it is unproved just where it is.
+# Whether the last run ended with this status, wrote this text, and said on standard error what it has to. The program is
+# the one that this mode has, so the unproved build says what it is.
 expect() {
-    status=$(cat "$room/status")
     said=same
     grep -q 'this build is not proved' "$room/errors" && is=unproved || is=proved
     [ "$is" = "$mode" ] || said="ran the $is program"
+    compare "$@"
+}
+
+# The same of what the launcher answers by itself: within three seconds, and without a build.
+expect_at_once() {
+    said=same
+    ! grep -q 'this build is not proved' "$room/errors" || said="ran the unproved program"
+    [ $(($(date +%s) - began)) -le 3 ] || said="took longer than 3 s"
+    compare "$@"
+}
+
+compare() {
+    status=$(cat "$room/status")
+    told=$(grep -v -e 'this build is not proved' -e 'to have answers at once' "$room/errors" | tail -1)
     [ "$(cat "$room/output")" = "$3" ] || said="wrote '$(head -c 100 "$room/output")', and not '$3'"
     [ "$status" -eq "$2" ] || said="ended with $status, and not with $2"
+    case "$told" in "${4:+kube_replay: }$4"*) ;; *) said="said '$told', and not '$4'" ;; esac
+    [ -n "$4" ] || [ -z "$told" ] || said="said '$told'"
     [ "$said" = same ] || wrong=1
     printf '%-10s %-34s %2d  %s\n' "$mode" "$1" "$status" "$said"
 }
 
-try_all() {
-    slowly | run check
-    expect 'input that pauses' 0 "$line"
-    run check </
-    expect 'a directory as input' 3 ''
-    run check <&-
-    expect 'no standard input' 3 ''
-    run check </dev/zero
-    expect 'input without end' 1 'refused 33 /'
-    run_into >/dev/full
-    expect 'a full device as output' 4 ''
-    run_into >&-
-    expect 'no standard output' 4 ''
-    { sleep 1; run_into; } | :
-    expect 'a reader that has gone' 4 ''
-    run "$(printf 'check\377')" <"$room/document.json"
-    expect "an argument that isn't UTF-8" 6 ''
+# The processes of the launcher's own child, by its session or as the child itself.
+left_of() {
+    awk -v child="$1" '{ sub(/^.*\) /, ""); split(FILENAME, path, "/"); if (($4 == child || path[3] == child) && $1 != "Z") print path[3] }' \
+        /proc/[0-9]*/stat 2>/dev/null
+}
+
+# A signal to the launcher ends the launcher within five seconds, and what it started.
+try_signal() {
+    mkfifo "$room/never" 2>/dev/null
+    sleep 60 >"$room/never" &
+    writer=$!
+    if [ "$mode" = proved ]; then input=$room/never; else input=$room/document.json; fi
+    "$launcher" check <"$input" >"$room/output" 2>"$room/errors" &
+    started=$!
+    sleep 3
+    child=$(awk -v parent="$started" '{ sub(/^.*\) /, ""); split(FILENAME, path, "/"); if ($2 == parent) print path[3] }' /proc/[0-9]*/stat 2>/dev/null)
+    before=$(left_of "$child" | wc -l)
+    began=$(date +%s)
+    kill -TERM "$started"
+    wait "$started"
+    echo $? >"$room/status"
+    kill "$writer" 2>/dev/null
+    sleep 1
+    expect 'a signal TERM' 143 '' ''
+    [ "$before" -gt 0 ] && [ -z "$(left_of "$child")" ] && [ $(($(date +%s) - began)) -le 5 ] && return
+    wrong=1
+    echo "$mode: $before processes before the signal, and after it: $(left_of "$child" | tr '\n' ' ')"
+}
+
+try_words() {
+    for word in --help -h help; do
+        run "$word" </
+        grep -q '^  ./kube_replay audit < TRACE ' "$room/output" && grep -q '^Exit status: ' "$room/output" && echo told >"$room/output"
+        expect_at_once "$word" 0 told ''
+    done
+    run --version </
+    expect_at_once '--version' 0 "kube_replay $(cat "$top/VERSION")" ''
+    usage='usage: kube_replay COMMAND'
+    run </
+    expect_at_once 'no words' 2 "$usage" 'a command is missing'
+    run chek </
+    expect_at_once "a word that isn't a command" 2 "$usage" "'chek' is no command"
     run check "$top" </
-    expect "words that aren't a command" 2 'usage: kube_replay COMMAND'
+    expect_at_once 'a file as a word' 2 "$usage" 'check takes no further word'
+    run replay --help </
+    expect_at_once 'a word behind a command' 2 "$usage" 'replay takes no further word'
+    run generate 7 0 3 60 </
+    expect_at_once 'a number that is out of range' 2 "$usage" 'generate takes four numbers'
+    run generate 18446744073709551616 1 3 60 </
+    expect_at_once 'a seed that is too great' 2 "$usage" 'generate takes four numbers'
+    run "$(printf 'check\377')" <"$room/document.json"
+    expect_at_once "an argument that isn't UTF-8" 6 '' "a word of the command isn't UTF-8"
+}
+
+try_all() {
+    unwritten="standard output can't be written"
+    try_words
+    slowly | run check
+    expect 'input that pauses' 0 "$line" ''
+    run check </
+    expect 'a directory as input' 3 '' 'standard input is a directory'
+    run check <&-
+    expect 'no standard input' 3 '' "standard input can't be read"
+    run check </dev/zero
+    expect 'input without end' 1 'refused 33 /' ''
+    run_into >/dev/full
+    expect 'a full device as output' 4 '' "$unwritten"
+    run_into >&-
+    expect 'no standard output' 4 '' "$unwritten"
+    { sleep 1; run_into; } | :
+    expect 'a reader that has gone' 4 '' "$unwritten"
+    run generate 18446744073709551615 1 0 60
+    # The first leader crashes in the middle, and with a lease of 20 s there is a second one before the end.
+    expect 'the greatest seed' 0 "generated controllers=3 nodes=1 pods=0 beats=60 leads=2 taints=0 evictions=0" ''
+    try_signal
 }
 
 if [ "${1:-unproved}" = unproved ]; then
     mode=unproved launcher=$room/sources/kube_replay
     mkdir "$room/sources"
-    tar -C "$top" -cf - --exclude=out crates crates.txt kube_replay | tar -C "$room/sources" -xf - || exit 1
+    tar -C "$top" -cf - --exclude=out crates crates.txt kube_replay VERSION | tar -C "$room/sources" -xf - || exit 1
     try_all
 fi
 if [ "${1:-proved}" = proved ]; then

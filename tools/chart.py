@@ -1,6 +1,7 @@
 """The picture of a sweep, as SVG: for each question the answer against the value, one line for each second value, or a map of cells."""
 import json
 import math
+import re
 from html import escape
 
 import questions
@@ -9,6 +10,32 @@ WIDTH, HEIGHT, LEFT, RIGHT, TOP, BOTTOM = 760, 320, 76, 170, 34, 48
 # Lines differ in shape and lightness too, for those who see colours otherwise.
 COLOURS = ['#0b4f8a', '#c05a00', '#2b9b8f', '#8a5c9b', '#6b6b6b', '#c9a100']
 MOST_LINES = len(COLOURS)
+
+
+# What a key's last word says of its unit: the unit that is shown, and how many of the key's make one of it.
+UNITS = {'Seconds': ('s', 1), 'Millis': ('s', 1_000), 'Ppm': ('ppm', 1), 'Percent': ('%', 1), 'Beats': ('s', None), 'Beat': ('s', None)}
+
+
+def axis_of(document, path):
+    """The words for what a path changes, with the unit, and how many of the path's units make one of it."""
+    *before, key = path.split('/')[1:]
+    last, words = re.findall('[A-Z]?[a-z]+', key), key
+    unit, per = UNITS.get(last[-1].capitalize() if last else '', ('', 1))
+    if unit:
+        words = ' '.join(last[:-1])
+    elif last:
+        words = ' '.join(last)
+    words = re.sub(' +', ' ', words).lower()
+    if before[:1] == ['events'] and key == 'beat':
+        event = document['events'][int(before[1])]
+        words = 'time of the %s of %s' % (event['type'], event.get('process') or event.get('name') or event['object']['metadata']['name'])
+    elif before[:1] in (['controllers'], ['kubelets']):
+        words += ' of %s' % ('each of the ' + before[0] if before[1] == '*' else before[1])
+    elif before[:1] == ['objects']:
+        words += ' of %s' % ' '.join(part for part in before[1:4] if part != '*')
+    if per is None:
+        per = 1_000 / document['settings'].get('beatMillis', 100)
+    return (words.strip() or key) + (' (%s)' % unit if unit else ''), per
 
 
 def number(value):
@@ -74,10 +101,12 @@ def shape(kind, x, y, colour, radius=3.2):
     return '<path transform="translate(%.1f %.1f) scale(%.1f)" d="%s" %s/>' % (x, y, r, paths[kind], paint)
 
 
-def frame(top, title, label, xs, ys):
-    """Title, axes and the names of ticks. `ys` are pairs of a height and its words."""
+def frame(top, title, label, xs, ys, of=''):
+    """Title, what it is of, axes and the names of ticks. `ys` are pairs of a height and its words."""
     right, foot = WIDTH - RIGHT, top + HEIGHT - BOTTOM
     out = [text(LEFT, top + 16, title, 'start', ' font-weight="bold"'), text((LEFT + right) / 2, foot + 36, label)]
+    if of:
+        out.append(text(WIDTH - 8, foot + 36, of, 'end', ' fill="#5c6773"'))
     for y, words in ys:
         out.append('<path d="M%d %.1fH%d" stroke="#d9dee4"/>' % (LEFT, y, right))
         out.append(text(LEFT - 7, y + 4, words, 'end'))
@@ -97,16 +126,16 @@ def lines(plan, question, rows, top, across, by):
     high = max(heights[-1], greatest)
     y = lambda value: foot - (foot - head - 12) * value / high
     xs = Scale([run[across] for run in plan['runs']], LEFT + 8, WIDTH - RIGHT - 8)
-    out = frame(top, questions.title(question), plan['paths'][across], xs, [(y(value), short(value)) for value in heights])
+    out = frame(top, questions.title(question), plan['axes'][across], xs, [(y(value), short(value)) for value in heights], plan['of'])
     groups = list(dict.fromkeys(run[by] for run in plan['runs'])) if by is not None else [None]
     for place, group in enumerate(groups):
         points = [(xs(run[across]), row) for run, row in zip(plan['runs'], rows) if by is None or run[by] == group]
         out += one_line(points, question, y, place, foot, head, plan['drawn'][across])
-    return out + (legend(plan['paths'][by], groups, head) if by is not None else []) + notes(rows, question, foot)
+    return out + (legend(plan['axes'][by], groups, head) if by is not None else []) + notes(rows, question, foot)
 
 
 def legend(path, groups, head):
-    x, out = WIDTH - RIGHT + 18, [text(WIDTH - RIGHT + 10, head - 4, path.rpartition('/')[2], 'start')]
+    x, out = WIDTH - RIGHT + 18, [text(WIDTH - RIGHT + 10, head - 4, path, 'start')]
     for place, group in enumerate(groups):
         out.append(shape(place, x, head + 12 + 18 * place, COLOURS[place]))
         out.append(text(x + 10, head + 16 + 18 * place, short(group), 'start'))
@@ -119,7 +148,10 @@ def one_line(points, question, y, place, foot, head, drawn):
         value = row[question]
         if number(value):
             path += '%s%.1f %.1f' % ('L' if path and path[-1] != ' ' else 'M', x, y(value))
-            out.append(shape(place, x, y(value), COLOURS[place], 2.2 if len(points) > 60 else 3.2))
+            radius = 2.2 if len(points) > 60 else 3.2
+            out.append(shape(place, x, y(value), COLOURS[place], radius))
+            if row['premise'] == 'no':
+                out.append('<circle cx="%.1f" cy="%.1f" r="%.1f" fill="none" stroke="#a33a00"/>' % (x, y(value), radius + 2.4))
             continue
         path += ' '
         if value == 'never':
@@ -137,7 +169,9 @@ def notes(rows, question, foot):
     refused = sum(row['outcome'] != 'done' for row in rows)
     never = sum(row[question] == 'never' for row in rows)
     silent = sum(row[question] is None for row in rows) - refused
-    for count, words in ((never, '%d times never (crosses)'), (refused, '%d refused (strokes)'), (silent, '%d without an answer')):
+    unsafe = sum(row['premise'] == 'no' for row in rows)
+    for count, words in ((unsafe, '%d premise=no (ringed)'),
+                         (never, '%d times never (crosses)'), (refused, '%d refused (strokes)'), (silent, '%d without an answer')):
         if count > 0:
             out.append(text(x, foot - 4 - 16 * len(out), words % count, 'start', ' fill="#5c6773"'))
     return out
@@ -151,7 +185,7 @@ def cells(plan, question, rows, top):
     foot, head, right = top + HEIGHT - BOTTOM, top + TOP, WIDTH - RIGHT
     across, up = Scale(xs, LEFT, right, not drawn), Scale(ys, foot, head, not drawn)
     wide, tall = (9, 9) if drawn else (across.size(), up.size())
-    out = frame(top, questions.title(question) + ', against ' + plan['paths'][1], plan['paths'][0], across, up.ticks())
+    out = frame(top, questions.title(question) + ', against ' + plan['axes'][1], plan['axes'][0], across, up.ticks(), plan['of'])
     for run, row in zip(plan['runs'], rows):
         x, y, value = across(run[0]), up(run[1]), row[question]
         fill = shade(value, low, high) if number(value) else 'none'
@@ -159,6 +193,8 @@ def cells(plan, question, rows, top):
                    % (x - wide / 2, y - tall / 2, wide, tall, fill))
         if value == 'never':
             out.append(shape(5, x, y, '#a33a00', min(4, tall / 3)))
+        elif row['premise'] == 'no':
+            out.append(shape(3, x, y, '#a33a00', min(3, tall / 3)).replace('fill="white"', 'fill="none"'))
     return out + shades(low, high, right + 12, head + 90) + notes(rows, question, foot)
 
 
@@ -186,8 +222,15 @@ def axes(plan):
     return (1 - by, by) if counts[by] <= MOST_LINES else None
 
 
+def shown(value, per):
+    return value / per if number(value) and per != 1 else value if number(value) else plain(value)
+
+
 def picture(plan, asked, rows):
-    plan = {**plan, 'runs': [[value if number(value) else plain(value) for value in run] for run in plan['runs']]}
+    axes_of = [axis_of(plan['document'], path) for path in plan['paths']]
+    of = ', '.join([plan.get('name') or '', *(setting.rpartition('/')[2] for setting in plan.get('set', []))]).strip(', ')
+    plan = {**plan, 'axes': [words for words, _ in axes_of], 'of': of,
+            'runs': [[shown(value, per) for value, (_, per) in zip(run, axes_of)] for run in plan['runs']]}
     place = axes(plan)
     out = ['<svg xmlns="http://www.w3.org/2000/svg" width="%d" height="%d"' % (WIDTH, HEIGHT * len(asked)),
            ' font-family="DejaVu Sans, Verdana, sans-serif" font-size="12" fill="#16202b">',

@@ -1,4 +1,5 @@
-"""What a sweep asks of a trace. Each answer is taken from the lines alone: a number, `never`, or None where there is nothing to tell."""
+"""What a sweep asks of a trace. Each answer is taken from the lines, that of a pod's delay from the document too: a number, `never`, or
+None where there is nothing to tell."""
 
 
 class Unknown(Exception):
@@ -25,9 +26,9 @@ class Trace:
         if accepted and words[0] == 'unknown':
             self.unknown.append((beat, words[1]))
         if accepted and words[0] == 'taint':
-            self.taints.append(beat)
+            self.taints.append((beat, words[1]))
         if accepted and words[0] == 'evict':
-            self.evictions.append(beat)
+            self.evictions.append((beat, words[1]))
 
     def seconds(self, beats):
         return beats * self.millis / 1000
@@ -71,7 +72,13 @@ def evictions(trace):
 
 
 def taints_a_minute(trace):
-    return len(trace.taints) * 60 / trace.seconds(trace.end) if trace.end else None
+    """The most in any minute: from one of them on, up to but not with a minute later."""
+    beats, most, last = [beat for beat, _ in trace.taints], 0, 0
+    for first, beat in enumerate(beats):
+        while last < len(beats) and (beats[last] - beat) * trace.millis < 60_000:
+            last += 1
+        most = max(most, last - first)
+    return most
 
 
 def eviction_delay(trace, node=None):
@@ -80,8 +87,56 @@ def eviction_delay(trace, node=None):
         return None
     beat, node = marked[0]
     signs = [at for at, name in trace.signs if name == node and at <= beat]
-    after = [at for at in trace.evictions if at >= beat]
+    after = [at for at, _ in trace.evictions if at >= beat]
     return trace.seconds(after[-1] - signs[-1]) if signs and after else None
+
+
+class Told:
+    """What the document tells: the node of each pod, and when something befell a kubelet: a crash, or the loss of its requests."""
+
+    def __init__(self, document):
+        items = (document.get('objects') or {}).get('items', [])
+        events = document.get('events', [])
+        placed = [item for item in items if item.get('kind') == 'Pod']
+        placed += [event['object'] for event in events if event['type'] == 'put' and event['object'].get('kind') == 'Pod']
+        self.pods = {'%s/%s' % (pod['metadata'].get('namespace', 'default'), pod['metadata']['name']): pod.get('spec', {}).get('nodeName')
+                     for pod in placed}
+        self.strokes = [(event['beat'], event['process'].removeprefix('kubelet/')) for event in events
+                        if event['type'] == 'crash' or event['type'] == 'loss' and (event['requests'] or event['replies'])]
+
+
+def pod_lives(trace, told):
+    """Of each pod on a node that was marked or tainted: its node, since when that was silent, when it was marked, when tainted, and
+    when the pod was evicted, each the first time after the stroke that led to it; and the seconds from silent to evicted."""
+    gone = {}
+    for beat, pod in trace.evictions:
+        gone.setdefault(pod, beat)
+    lives = []
+    for pod, node in told.pods.items():
+        evicted = gone.get(pod)
+        tainted = last([beat for beat, name in trace.taints if name == node and (evicted is None or beat <= evicted)])
+        unknown = last([beat for beat, name in trace.unknown if name == node and (tainted is None or beat <= tainted)])
+        if unknown is None and tainted is None:
+            continue
+        until = unknown if unknown is not None else tainted
+        silent = last([beat for beat, name in told.strokes if name == node and beat <= until])
+        if silent is None:
+            silent = last([beat for beat, name in trace.signs if name == node and beat <= until])
+        times = [None if beat is None else trace.seconds(beat) for beat in (silent, unknown, tainted, evicted)]
+        lives.append((pod, node, *times, times[3] - times[0] if times[3] is not None and times[0] is not None else None))
+    return lives
+
+
+def last(values):
+    return values[-1] if values else None
+
+
+def pod_delay(trace, told, pod=None):
+    """The longest of all pods, or that of one; a pod that a toleration keeps has none."""
+    lives = {life[0]: life[-1] for life in pod_lives(trace, told)}
+    if pod:
+        return lives[pod] if lives.get(pod) is not None else 'never'
+    return max((delay for delay in lives.values() if delay is not None), default=None)
 
 
 QUESTIONS = {
@@ -89,16 +144,19 @@ QUESTIONS = {
     'failover': (failover, 'seconds from the loss of the leader to the next lead; the longest, `never` where none follows'),
     'two-leaders': (two_leaders, 'seconds in which two or more lead'),
     'evictions': (evictions, 'evictions'),
-    'taints-a-minute': (taints_a_minute, 'taints a minute, over the whole trace'),
+    'taints-a-minute': (taints_a_minute, 'taints in the minute with most of them'),
     'eviction-delay': (eviction_delay, "seconds from the last line of a silent node's kubelet to the last eviction; "
                                        '`eviction-delay:NODE` for one node, else the first that is marked Unknown'),
+    'pod-delay': (pod_delay, "seconds from the silence of a pod's node to the pod's eviction; the longest of all pods, "
+                             '`pod-delay:NAMESPACE/NAME` that of one, `never` where it stays'),
 }
+WITH_MORE = ('eviction-delay', 'pod-delay')
 
 
 def find(question):
     """The function of a question, and what stands behind its colon."""
     name, _, more = question.partition(':')
-    if name not in QUESTIONS or (more and name != 'eviction-delay'):
+    if name not in QUESTIONS or (more and name not in WITH_MORE):
         raise Unknown('no question %s; there are %s' % (question, ', '.join(QUESTIONS)))
     return QUESTIONS[name][0], [more] if more else []
 
@@ -107,11 +165,15 @@ def title(question):
     return QUESTIONS[question.partition(':')[0]][1].partition(';')[0]
 
 
+def need_document(asked):
+    return any(question.partition(':')[0] == 'pod-delay' for question in asked)
+
+
 def told():
     return '\n'.join('%-16s %s' % (name, words) for name, (_, words) in QUESTIONS.items())
 
 
-def answers(file, asked):
+def answers(file, asked, told_by=None):
     """The premise, the outcome (`done`, or the line of a refusal) and the answers of a trace."""
     head = file.readline().strip()
     if not head.startswith('trace 1 '):
@@ -119,5 +181,5 @@ def answers(file, asked):
     trace, row = Trace(head, file), {}
     for question in asked:
         ask, more = find(question)
-        row[question] = ask(trace, *more)
+        row[question] = ask(trace, told_by, *more) if ask is pod_delay else ask(trace, *more)
     return {'premise': trace.premise, 'outcome': 'done', **row}

@@ -6,11 +6,12 @@
     tools/sweep.py replay FOLDER                replays the documents that have no trace yet
     tools/sweep.py missing FOLDER               names these documents, for GNU parallel
     tools/sweep.py table FOLDER                 reads the traces, and writes answers.csv and answers.svg
-    tools/sweep.py measure TRACE .. --ask QUESTION      the answers of any traces
+    tools/sweep.py measure TRACE .. --ask QUESTION [--document DOCUMENT]      the answers of any traces
+    tools/sweep.py pods DOCUMENT TRACE          each pod on a node that fell silent: when the node did, and when the pod was evicted
     tools/sweep.py questions                    what can be asked
 
-PATH is /settings/KEY, /controllers/NAME/KEY, /kubelets/NODE/KEY or /events/PLACE/KEY; `*` for NAME or NODE is each of them. VALUES is
-FROM..TO, FROM..TO..STEP, a list A,B,C, or random:FROM..TO:COUNT. --set PATH=VALUE changes the document for all runs. A sweep that was
+PATH is /settings/KEY, /controllers/NAME/KEY, /kubelets/NODE/KEY, /events/PLACE/KEY, or of what is stored /objects/Node/NAME/.. and
+/objects/Pod/NAMESPACE/NAME/.. with the keys of the manifest behind; `*` for a name or a place is each of them. VALUES is FROM..TO, FROM..TO..STEP, a list A,B,C, or random:FROM..TO:COUNT. --set PATH=VALUE changes the document for all runs. A sweep that was
 broken off goes on where it stopped, by the same command. docs/pictures.md tells more.
 """
 import argparse
@@ -80,11 +81,38 @@ def holders(document, path):
         found = [each for each in document.get(parts[0], []) if parts[1] in ('*', each[name])]
     elif len(parts) == 3 and parts[0] == 'events' and parts[1].isdecimal():
         found = document.get('events', [])[int(parts[1]):][:1]
+    elif len(parts) > 3 and parts[0] == 'objects' and parts[1] in ('Node', 'Pod', 'Lease'):
+        found = stored(document, parts)
     else:
-        raise Wrong('%s is no key of settings, of a process or of an event' % path)
+        raise Wrong('%s is no key of settings, of a process, of an event or of an object' % path)
     if not found:
-        raise Wrong('%s: the document has no such process or event' % path)
-    return found, parts[2]
+        raise Wrong('%s: the document has no such process, event or object' % path)
+    return found, parts[-1].replace('~1', '/')
+
+
+def stored(document, parts):
+    """What stands in the objects of the document at a path, but for its last key. `*` is each name, key or place; ~1 is a slash."""
+    kind, rest = parts[1], parts[2:]
+    names = 1 if kind == 'Node' else 2
+    wanted, keys = rest[:names], [key.replace('~1', '/') for key in rest[names:-1]]
+    found = [item for item in (document.get('objects') or {}).get('items', []) if item.get('kind') == kind and is_named(item, wanted)]
+    for key in keys:
+        found = [part for each in found for part in parts_at(each, key)]
+    return [each for each in found if isinstance(each, dict)]
+
+
+def is_named(item, wanted):
+    meta = item['metadata']
+    names = ([] if len(wanted) == 1 else [meta.get('namespace', 'default')]) + [meta['name']]
+    return all(want in ('*', name) for want, name in zip(wanted, names))
+
+
+def parts_at(value, key):
+    if isinstance(value, list):
+        return value if key == '*' else value[int(key):][:1] if key.isdecimal() else []
+    if isinstance(value, dict):
+        return list(value.values()) if key == '*' else [value[key]] if key in value else []
+    return []
 
 
 def changed(document, changes):
@@ -118,7 +146,14 @@ def make_plan(given):
     if not 0 < len(runs) <= MOST_RUNS:
         raise Wrong('these are %d runs' % len(runs))
     return {'document': changed(document, fixed), 'paths': [path for path, _ in varied], 'runs': runs, 'ask': asked,
-            'drawn': ['=random:' in text for text in given.vary]}
+            'drawn': ['=random:' in text for text in given.vary], 'name': name_of(given.document), 'set': given.set}
+
+
+def name_of(path):
+    """What a document is called: its file, or the folder where that says more."""
+    name = os.path.basename(path).removesuffix('.json')
+    folder = os.path.basename(os.path.dirname(os.path.abspath(path)))
+    return '' if path == '-' else folder if name == 'document' and folder else name
 
 
 def write_plan(given):
@@ -126,7 +161,7 @@ def write_plan(given):
     plan, path = make_plan(given), os.path.join(given.folder, 'plan.json')
     if os.path.exists(path):
         old = read_plan(given.folder)
-        if {**old, 'ask': None} != {**plan, 'ask': None}:
+        if any(old.get(key) != plan[key] for key in ('document', 'paths', 'runs', 'drawn')):
             raise Wrong('%s holds another sweep' % given.folder)
     os.makedirs(os.path.join(given.folder, 'runs'), exist_ok=True)
     write_whole(path, json.dumps(plan))
@@ -248,9 +283,16 @@ def replay(folder, program, jobs, share='0/1'):
 # The table and the picture
 
 def answer(task):
-    path, asked = task
+    """The answers of a trace; its document, if one is named, is read where a question needs it."""
+    path, asked, document = task
+    told = questions.Told(load(document)) if document and questions.need_document(asked) else None
     with open(path) as trace:
-        return questions.answers(trace, asked)
+        return questions.answers(trace, asked, told)
+
+
+def load(path):
+    with open(path) as file:
+        return json.load(file)
 
 
 def write_table(folder, ask=()):
@@ -258,7 +300,7 @@ def write_table(folder, ask=()):
     asked, left = ask or plan['ask'], missing(folder)
     if left:
         raise Wrong('%d of %d runs have no trace yet' % (len(left), len(plan['runs'])))
-    tasks = [(run_path(folder, number, '.trace'), asked) for number in range(len(plan['runs']))]
+    tasks = [(run_path(folder, number, '.trace'), asked, run_path(folder, number, '.json')) for number in range(len(plan['runs']))]
     with ProcessPoolExecutor() as pool:
         rows = list(pool.map(answer, tasks, chunksize=16))
     path = os.path.join(folder, 'answers.csv')
@@ -282,12 +324,27 @@ def text(value):
     return '' if value is None else '%.6g' % value if isinstance(value, float) else value
 
 
-def measure(paths, asked):
+def measure(paths, asked, document):
+    if questions.need_document(asked) and not document:
+        raise Wrong('pod-delay needs the document: --document FILE')
     table = csv.writer(sys.stdout, lineterminator='\n')
     table.writerow(['trace', 'premise', 'outcome', *asked])
     for path in paths:
-        row = answer((path, asked))
+        row = answer((path, asked, document))
         table.writerow([path, row['premise'], row['outcome'], *(text(row[question]) for question in asked)])
+
+
+def pods(document, path):
+    """A row for each pod on a node that fell silent, in seconds from beat 0."""
+    with (sys.stdin if path == '-' else open(path)) as trace:
+        head = trace.readline().strip()
+        if not head.startswith('trace 1 '):
+            raise Wrong('%s is no trace; its first line is: %s' % (path, head[:80]))
+        lives = questions.pod_lives(questions.Trace(head, trace), questions.Told(load(document)))
+    table = csv.writer(sys.stdout, lineterminator='\n')
+    table.writerow(['pod', 'node', 'silent', 'unknown', 'tainted', 'evicted', 'delay'])
+    for life in lives:
+        table.writerow([text(value) for value in life])
 
 
 # The command line
@@ -295,7 +352,7 @@ def measure(paths, asked):
 def options():
     parser = argparse.ArgumentParser(description=__doc__, formatter_class=argparse.RawDescriptionHelpFormatter)
     commands = parser.add_subparsers(dest='command', required=True)
-    for name in ('all', 'plan', 'replay', 'missing', 'table', 'measure', 'questions'):
+    for name in ('all', 'plan', 'replay', 'missing', 'table', 'measure', 'pods', 'questions'):
         command = commands.add_parser(name)
         if name in ('all', 'plan'):
             command.add_argument('document')
@@ -304,6 +361,10 @@ def options():
             command.add_argument('--seed', type=int, default=1)
         if name == 'measure':
             command.add_argument('trace', nargs='+')
+            command.add_argument('--document')
+        elif name == 'pods':
+            command.add_argument('document')
+            command.add_argument('trace')
         elif name != 'questions':
             command.add_argument('folder')
         if name in ('all', 'plan', 'table', 'measure'):
@@ -322,7 +383,7 @@ def program_of(given):
         return shlex.split(given.program), given.jobs or os.cpu_count()
     if os.path.exists(BUILT):
         return [BUILT], given.jobs or os.cpu_count()
-    print('sweep: the program is not built; each run takes half a minute or more', file=sys.stderr)
+    print('sweep: the program is not built; each run takes a minute or more', file=sys.stderr)
     return [os.path.join(TOP, 'kube_replay')], given.jobs or 1
 
 
@@ -336,7 +397,10 @@ def run(given):
     if given.command == 'missing':
         print('\n'.join(run_path(given.folder, number, '.json') for number in missing(given.folder)))
     if given.command == 'measure':
-        measure(given.trace, given.ask or list(questions.QUESTIONS))
+        known = [name for name in questions.QUESTIONS if given.document or name != 'pod-delay']
+        measure(given.trace, given.ask or known, given.document)
+    if given.command == 'pods':
+        pods(given.document, given.trace)
     if given.command == 'questions':
         print(questions.told())
 
@@ -344,5 +408,8 @@ def run(given):
 if __name__ == '__main__':
     try:
         run(options())
+        sys.stdout.flush()
+    except BrokenPipeError:
+        os.dup2(os.open(os.devnull, os.O_WRONLY), 1)
     except (Wrong, questions.Unknown, OSError, ValueError) as fault:
         sys.exit('sweep: %s' % fault)

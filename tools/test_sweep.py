@@ -256,7 +256,7 @@ def test_shares(given, folder):
 def test_written_by_hand(given, folder):
     """Answers come from the trace alone: one that was written by hand is measured, also where it stands in for a program's."""
     wanted = {'premise': 'no', 'outcome': 'done', 'leaderless': '12.5', 'failover': 'never', 'two-leaders': '1.5', 'evictions': '1',
-              'taints-a-minute': '2', 'eviction-delay': '1.5', 'eviction-delay:n.2': ''}
+              'taints-a-minute': '1', 'eviction-delay': '1.5', 'eviction-delay:n.2': ''}
     asked = [word for question in list(wanted)[2:] for word in ('--ask', question)]
     found = list(csv.DictReader(sweep('measure', EVERY_FORM, *asked, folder=folder).splitlines()))
     same('measured', [{key: row[key] for key in wanted} for row in found], [wanted])
@@ -267,6 +267,54 @@ def test_written_by_hand(given, folder):
     sweep('all', CRASHES, 'hand', '--vary', '/settings/endBeat=1..3', *asked, '--program', stand_in, folder=folder)
     rows = read_csv(os.path.join(folder, 'hand', 'answers.csv'))
     same('stood in', [{key: row[key] for key in wanted} for row in rows], [wanted] * 3)
+
+
+TOLERATIONS = os.path.join(TOP, 'examples', 'tolerations')
+
+
+def test_pods(given, folder):
+    """Each pod's delay: silent at 15 s, marked and tainted at 62 s, and then what the pod tolerates."""
+    words = ('pods', os.path.join(TOLERATIONS, 'document.json'), os.path.join(TOLERATIONS, 'trace.txt'))
+    rows = {row.pop('pod'): row for row in csv.DictReader(sweep(*words, folder=folder).splitlines())}
+    tolerated = {'default/none': 0, 'default/zero': 0, 'default/half-a-minute': 30, 'default/five-minutes': 300, 'default/for-ever': None}
+    wanted = {pod: {'node': 'node-c', 'silent': '15', 'unknown': '62', 'tainted': '62', 'evicted': '' if seconds is None else str(62 + seconds),
+                    'delay': '' if seconds is None else str(47 + seconds)} for pod, seconds in tolerated.items()}
+    same('pods', rows, wanted)
+
+
+def test_objects(given, folder):
+    """A key of a manifest is varied: the delay follows what the pod tolerates; and of the longest of all pods."""
+    sweep('all', words_of_tolerations(), 'objects', '--vary', '/objects/Pod/default/half-a-minute/spec/tolerations/*/tolerationSeconds=0..300..60',
+          '--ask', 'pod-delay:default/half-a-minute', '--ask', 'pod-delay', '--ask', 'pod-delay:default/for-ever', '--program', given.program, folder=folder)
+    rows = read_csv(os.path.join(folder, 'objects', 'answers.csv'))
+    same('objects', [[row[key] for key in list(row)[-3:]] for row in rows], [[str(47 + seconds), '347', 'never'] for seconds in range(0, 301, 60)])
+
+
+def words_of_tolerations():
+    return os.path.join(TOLERATIONS, 'document.json')
+
+
+def test_worst_minute(given, folder):
+    """Taints every ten seconds for eight minutes in a trace of half an hour are six a minute."""
+    path = os.path.join(folder, 'taints.txt')
+    with open(path, 'w') as file:
+        file.write('trace 1 beat=1000 end=1800 premise=yes\n0 c_1 start\n4 c_1 lead v=1\n')
+        file.writelines('%d c_1 taint n%d unreachable v=%d\n' % (100 + 10 * i, i, i + 2) for i in range(48))
+    row = next(csv.DictReader(sweep('measure', path, '--ask', 'taints-a-minute', folder=folder).splitlines()))
+    same('the worst minute', row['taints-a-minute'], '6')
+
+
+def test_picture(given, folder):
+    """The picture marks each run with premise=no, has its axis in words and seconds, and the name of the document."""
+    sweep('all', CRASHES, 'marked', '--set', '/settings/endBeat=500', '--vary', '/settings/leaseDurationSeconds=12,15', '--vary', '/events/0/beat=10..60..10',
+          '--ask', 'failover', '--program', given.program, folder=folder)
+    rows = read_csv(os.path.join(folder, 'marked', 'answers.csv'))
+    with open(os.path.join(folder, 'marked', 'answers.svg')) as file:
+        picture = file.read()
+    unsafe = sum(row['premise'] == 'no' for row in rows)
+    same('rings', (picture.count('fill="none" stroke="#a33a00"/>'), unsafe), (6, 6))
+    for words in ('6 premise=no (ringed)', 'time of the crash of cp-east-1 (s)', 'lease duration (s)', 'leader-crashes, endBeat=500', '>6</text>'):
+        same('the picture says ' + words, words in picture, True)
 
 
 def test_refused_words(given, folder):
@@ -282,7 +330,7 @@ def test_refused_words(given, folder):
 
 
 TESTS = [test_written_by_hand, test_lease_duration, test_crash_beat, test_two_values, test_document_with_nodes, test_grace_period,
-         test_broken_off, test_over_ssh, test_shares, test_refused_words]
+         test_pods, test_objects, test_worst_minute, test_picture, test_broken_off, test_over_ssh, test_shares, test_refused_words]
 
 
 def main():

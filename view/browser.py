@@ -90,8 +90,12 @@ class Browser:
 
     def open(self, path):
         """Opens a page, and tells the seconds until it was drawn."""
+        return self.open_link(path, '')
+
+    def open_link(self, path, link):
+        """The same of a page and the words behind its `#`."""
         begin = time.monotonic()
-        self.call('Page.navigate', url='file://' + os.path.abspath(path))
+        self.call('Page.navigate', url='file://' + os.path.abspath(path) + link)
         while not self.run('document.readyState === "complete" && !!window.timeline'):
             time.sleep(.02)
         self.frame()

@@ -10,6 +10,7 @@ status is 1 where anything differs. --pictures writes screenshots, --only runs t
 import argparse
 import glob
 import os
+import re
 import statistics
 import subprocess
 import sys
@@ -42,15 +43,19 @@ def title(path):
     return name.removesuffix('.txt')
 
 
-def page_of(folder, path):
+def page_of(folder, path, document=None):
     page = os.path.join(folder, 'page.html')
     with open(path) as trace, open(page, 'w') as out:
-        subprocess.run([os.path.join(TOP, 'timeline')], stdin=trace, stdout=out, check=True)
+        subprocess.run([os.path.join(TOP, 'timeline'), *(['--document', document] if document else [])], stdin=trace, stdout=out, check=True)
     return page
 
 
-def open_trace(browser, folder, path):
-    return browser.open(page_of(folder, path))
+def open_trace(browser, folder, path, document=None):
+    return browser.open(page_of(folder, path, document))
+
+
+def text_of(browser, name):
+    return browser.run('document.getElementById(%r).textContent' % name)
 
 
 def per_beat(spans, layer, end):
@@ -243,7 +248,18 @@ def test_looks(browser, folder, pictures):
 def test_wrong_text(browser, folder, pictures):
     """What is no trace is refused, and a line that isn't known is told."""
     head = 'trace 1 beat=100 end=9 premise=yes\n'
-    cases = [('refused 6 /settings\n', 'is no trace'), ('', 'Open the text'), (head + '0 c1_1 jump\n', 'line 2'), (head + '0 c1_1 constructor\n', 'line 2'),
+    browser.open(os.path.join(HERE, 'timeline.html'))
+    true('a page without a trace', 'Open the text' in text_of(browser, 'facts'))
+    for text in ('refused 6 /settings\n', ''):
+        refused = subprocess.run([os.path.join(TOP, 'timeline')], input=text, stdout=subprocess.PIPE, stderr=subprocess.PIPE, text=True)
+        same('./timeline of %r' % text, (refused.returncode, refused.stdout, 'is no trace' in refused.stderr), (1, '', True))
+    path = os.path.join(folder, 'refused.txt')
+    with open(path, 'w') as file:
+        file.write('refused 6 /settings\n')
+    browser.choose_file('#file', path)
+    browser.run('new Promise(done => setTimeout(done, 300))')
+    true('a chosen file that is no trace', 'is no trace' in text_of(browser, 'facts'))
+    cases = [(head + '0 c1_1 jump\n', 'line 2'), (head + '0 c1_1 constructor\n', 'line 2'),
              (head + '5 c1_1 start\n4 c1_1 crash\n', 'line 3'), (head + '0 c1_1 st', 'cut short'),
              (head + '1 <b>_1 start\n1 a&amp;_1 start\n', '2 lines')]
     for text, wanted in cases:
@@ -254,6 +270,177 @@ def test_wrong_text(browser, folder, pictures):
         facts = browser.run('document.getElementById("facts").textContent')
         true('%r is answered by %r' % (text, facts), wanted in facts)
     same('names stay as they are', browser.run('[...timeline.model.lanes.keys()].slice(2)'), ['controller <b>', 'controller a&amp;'])
+
+
+def drawn_texts(browser):
+    """All words that the chart draws, with where they begin and end."""
+    return browser.run('''(() => {
+      const seen = [], c = timeline.canvas.getContext('2d'), real = c.fillText;
+      c.fillText = function (text, x, y) {
+        const width = this.measureText(text).width, left = this.textAlign === 'right' ? x - width : this.textAlign === 'center' ? x - width / 2 : x;
+        seen.push([String(text), left, left + width, y]);
+        real.call(this, text, x, y);
+      };
+      timeline.drawNow();
+      delete c.fillText;
+      return seen;
+    })()''')
+
+
+def example(name):
+    return [os.path.join(TOP, 'examples', name, file) for file in ('trace.txt', 'document.json')]
+
+
+def test_lateness(browser, folder, pictures):
+    """Lateness is that by the clock of the controller that evicts, and without the document none is told."""
+    trace, document = example('fast-clock')
+    lane = 'timeline.model.lanes.get("pod default/web")'
+    open_trace(browser, folder, trace)
+    texts = [text for text, *_ in drawn_texts(browser)]
+    same('no lateness without the document', ([text for text in texts if text.startswith('+')], browser.run(lane + '.due')), ([], []))
+    same('the field has no time', browser.run('document.getElementById("epoch").value'), '')
+    open_trace(browser, folder, trace, document)
+    # 00:05:59 is 359 s after the epoch; the clock goes 5 % fast, so it shows that after 341.9 s, in beat 684.
+    same('due by the fast clock', browser.run(lane + '.due.map(due => [due.beat, due.done])'), [[684, 684]])
+    true('on time', '+0 s' in [text for text, *_ in drawn_texts(browser)])
+    same('title', (browser.run('document.title'), text_of(browser, 'title')), ('fast-clock', 'fast-clock'))
+    same("the document's time", browser.run('document.getElementById("epoch").value'), '2024-01-01T00:00:00Z')
+    same("a pod's node", browser.run(lane + '.node'), 'node-c')
+    same('Ready from the document on', browser.run('timeline.data().lanes.find(lane => lane.name === "node-a").spans[0].slice(0, 2)'), ['base', 0])
+    line = browser.run(lane + '.loud.lines[0]')
+    browser.run('timeline.goToLine(%d)' % line)
+    true('the line tells it', 'On node node-c, due by the clock of cp-1 at beat 684: evicted 0 s later' in text_of(browser, 'details'))
+    trace, document = example('failover-in-a-wave')
+    open_trace(browser, folder, trace, document)
+    head, rows = lines.read(trace)
+    wanted = [(beat, words[1]) for _, beat, _, words in rows if words[0] == 'evict']
+    found = browser.run('timeline.model.dues.map(due => [due.lane.due[0].beat, due.lane.name])')
+    same('exact clocks: each is evicted in its beat', [tuple(each) for each in found], wanted)
+    test_dropped_document(browser, trace, document)
+
+
+def test_dropped_document(browser, trace, document):
+    """A document may be opened on the page too, before its trace or after it."""
+    for paths in ((trace, document), (document, trace)):
+        browser.open(os.path.join(HERE, 'timeline.html'))
+        for path in paths:
+            browser.choose_file('#file', path)
+            browser.run('new Promise(done => setTimeout(done, 400))')
+        same('a document that is opened', browser.run('[document.title, timeline.model.dues[0].lane.due.length]'), ['document.json', 1])
+
+
+def columns(browser, y, left, right):
+    """Which of the pixels of a row aren't the background's."""
+    return browser.run('''(() => {
+      timeline.drawNow();
+      const c = timeline.canvas.getContext('2d'), data = c.getImageData(%d, %d, %d, 1).data, paper = [255, 255, 255];
+      return Array.from({ length: data.length / 4 }, (_, i) => paper.some((part, j) => Math.abs(data[4 * i + j] - part) > 60));
+    })()''' % (left, y, right - left))
+
+
+def test_bands(browser, folder, pictures):
+    """Even renewals that are closer than pixels are a band without gaps, whatever the zoom; a gap is a longer distance."""
+    path = os.path.join(folder, 'renewals.txt')
+    with open(path, 'w') as file:
+        file.write('trace 1 beat=100 end=60000 premise=yes\n0 c1_1 start\n4 c1_1 lead v=1\n')
+        file.writelines('%d c1_1 update election v=%d t=0\n' % (7 + 24 * i, i + 2) for i in range(2_499) if not 1_200 <= i < 1_220)
+    open_trace(browser, folder, path)
+    browser.run('timeline.theme = "light", timeline.applyTheme()')
+    gap = (7 + 24 * 1_199, 7 + 24 * 1_220)
+    for width in (60_001, 42_000, 30_500, 25_000):
+        browser.run('timeline.chart.setWindow(%d, %d)' % (gap[0] - width / 2, gap[0] + width / 2))
+        y, left, right, first, past = browser.run('''(() => {
+          const { chart, model } = timeline, row = chart.rowOf(model.lanes.get('controller c1'));
+          return [AXIS + row.y - timeline.scroller.scrollTop + 25, Math.ceil(Math.max(chart.left, chart.x(7))), Math.floor(Math.min(chart.x(59_950), chart.width - MARGIN)),
+                  chart.x(%d), chart.x(%d)];
+        })()''' % gap)
+        inked = columns(browser, y, left, right)
+        white = [left + i for i, ink in enumerate(inked) if not ink]
+        true('%d beats in view: white just where renewals are missing (%s)' % (width, white[:5]),
+             white and all(first - 1 <= x <= past + 1 for x in white) and len(white) >= past - first - 4)
+    browser.run('timeline.fit()')
+
+
+def test_edges(browser, folder, pictures):
+    """Rows don't show through the axis, labels aren't cut, headings stay in their column, facts stay legible, paper is white."""
+    trace, document = example('dead-node')
+    open_trace(browser, folder, trace, document)
+    browser.size(1280, 420)
+    browser.frame()
+    browser.run('timeline.scroller.scrollTop = 77')
+    browser.frame()
+    paper = browser.run('''(() => { timeline.drawNow(); const c = timeline.canvas.getContext('2d');
+      const data = c.getImageData(timeline.chart.gutter + 4, AXIS - 10, 200, 8).data, colours = new Set();
+      for (let i = 0; i < data.length; i += 4) colours.add(data.slice(i, i + 3).join());
+      return [...colours]; })()''')
+    true('nothing but paper and ticks in the axis (%s)' % paper, len([colour for colour in paper if colour != '255,255,255']) <= 12)
+    browser.size(1280, 800)
+    for width in (1280, 600):
+        browser.size(width, 700)
+        browser.frame()
+        for window in ((0, 365), (100, 365), (0, 61), (300, 365)):
+            browser.run('timeline.chart.setWindow(%d, %d)' % window)
+            cut = [text for text in drawn_texts(browser) if text[2] > browser.run('timeline.chart.width') + .5]
+            same('%d wide, %s: words past the edge' % (width, window), cut, [])
+    open_large(browser, folder)
+    browser.size(600, 500)
+    browser.frame()
+    gutter = browser.run('timeline.chart.gutter')
+    headings = [text for text in drawn_texts(browser) if text[0].startswith(('▾', '▸'))]
+    same('headings within their column', [text for text in headings if text[2] > gutter], [])
+    true('facts have their height', browser.run('document.getElementById("facts").clientHeight') >= 40)
+    same('a lane of one mark', browser.run('(timeline.showLane({ name: "x", loud: { beats: [1] }, ticks: { beats: [] } }), document.getElementById("details").textContent)'),
+         'x: 1 mark. n and p step through them.')
+    browser.size(1280, 800)
+    browser.run('timeline.theme = "dark", timeline.applyTheme()')
+    browser.call('Emulation.setEmulatedMedia', media='print')
+    same('paper is white', browser.run('[getComputedStyle(document.documentElement).backgroundColor, getComputedStyle(document.body).backgroundColor, '
+                                       'getComputedStyle(document.documentElement).colorScheme]'), ['rgb(255, 255, 255)', 'rgb(255, 255, 255)', 'light'])
+    browser.call('Emulation.setEmulatedMedia', media='')
+    browser.run('timeline.theme = "light", timeline.applyTheme()')
+
+
+def open_large(browser, folder):
+    """A thousand quiet nodes, fifty crashes at one beat."""
+    path = os.path.join(folder, 'many.txt')
+    with open(path, 'w') as file:
+        file.write('trace 1 beat=1000 end=400000 premise=yes\n0 c1_1 start\n' + ''.join('0 kubelet/n%d_1 start\n' % i for i in range(1_000)))
+        file.write('4 c1_1 lead v=1\n')
+        file.writelines('5000 kubelet/n%d_1 crash\n' % i for i in range(50))
+        file.write('9000 c1_1 unknown n1 NodeStatusUnknown v=2\n9000 c1_1 taint n1 unreachable v=3\n200000 c1_1 crash\n200015 c1_2 start\n200020 c1_2 lead v=4\n')
+    open_trace(browser, folder, path)
+
+
+def test_helps(browser, folder, pictures):
+    """Counts, next gap, search by kind and without case, details of a span, hours, a link to the view."""
+    open_large(browser, folder)
+    true('fifty marks at one place', '×50' in [text for text, *_ in drawn_texts(browser)])
+    true('hours on the axis', any(re.fullmatch(r'(\d d )?\d+:\d\d:\d\d', text) for text, *_ in drawn_texts(browser)))
+    browser.run('timeline.chart.setWindow(100, 1000)')
+    browser.key('g', 'g')
+    same('next gap', (browser.run('timeline.state.beat'), 'nobody leads, beats 200000 to 200019' in text_of(browser, 'details')), (200_000, True))
+    browser.key('G', 'G')
+    same('the gap before', browser.run('timeline.state.beat'), 0)
+    browser.run('document.getElementById("gap").click()')
+    same('by the button', browser.run('timeline.state.beat'), 200_000)
+    browser.run('timeline.search("CRASH")')
+    same('a kind of line, whatever its case', (text_of(browser, 'found'), browser.run('timeline.model.lineText(timeline.state.line)')), ('1 of 51 lines', '5000 kubelet/n0_1 crash'))
+    browser.run('timeline.search("N999")')
+    same('a name, whatever its case', browser.run('timeline.matches.map(lane => lane.name)'), ['n999'])
+    browser.run('timeline.search("nothing like this")')
+    same('nothing found', text_of(browser, 'found'), '0 found')
+    browser.run('timeline.search(""), timeline.fit()')
+    x, y = browser.run('''(() => { const { chart, model } = timeline, row = chart.rowOf(model.lanes.get('controller c1')), box = timeline.canvas.getBoundingClientRect();
+      timeline.reveal(model.lanes.get('controller c1')); timeline.drawNow();
+      return [box.left + chart.x(100_000), box.top + AXIS + row.y - timeline.scroller.scrollTop + 12]; })()''')
+    browser.click(x, y)
+    same('a span', text_of(browser, 'details'), 'c1: c1_1, beats 4 to 199999 (4 s to 2 d 7:33:20), for 2 d 7:33:16')
+    browser.run('timeline.chart.setWindow(199_000, 201_000), timeline.goToLine(1058), timeline.drawNow()')
+    browser.run('new Promise(done => setTimeout(done, 400))')
+    link, view = browser.run('[location.hash, [Math.round(timeline.chart.from), Math.round(timeline.chart.to), timeline.state.line]]')
+    browser.call('Page.navigate', url='about:blank')
+    browser.open_link(os.path.join(folder, 'page.html'), link)
+    same('a link to the view ' + link, browser.run('[Math.round(timeline.chart.from), Math.round(timeline.chart.to), timeline.state.line]'), view)
 
 
 def one_leader(file):
@@ -355,7 +542,8 @@ def test_pictures(browser, folder, pictures):
     browser.call('Emulation.setEmulatedVisionDeficiency', type='none')
 
 
-TESTS = [test_traces, test_moves, test_search, test_looks, test_wrong_text, test_large, test_pictures]
+TESTS = [test_traces, test_moves, test_search, test_looks, test_wrong_text, test_lateness, test_bands, test_edges, test_helps,
+         test_large, test_pictures]
 
 
 def main():
