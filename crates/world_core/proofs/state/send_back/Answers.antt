@@ -21,5 +21,5 @@ returns-clause-ok c doc processes k step arriving coming h q call wrote s at who
     ∙ ap (λ n. sent_as_told (arrival (loses_replies c.args.to.now.who.0 h) n (reply_delay c.args.to.now.who.0 h))) at
     ∙ ap (λ n. sent_as_told (arrival (loses_replies n h) k (reply_delay n h))) (sym same)
     ∙ ap sent_as_told (sym held) in
-    c.reply.ensures.ok processes k step arriving coming h q call (reply_arrival doc p k h) wrote s who number travels
+    c.in_ok-reply.ensures.ok processes k step arriving coming h q call (reply_arrival doc p k h) wrote s who number travels
     (subst (λ o. IfSome o (λ j. k < j)) (sym held) (later (loses_replies p h) k (reply_delay p h) (s.delays p).1.0))
