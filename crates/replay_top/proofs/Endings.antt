@@ -1,5 +1,6 @@
 -- How a run ends, by the outcome of its words and bytes.
-use Rattle.std.proofs.Common.{◌≡◌, ◌⊎◌, ℕ, List, Option, Result, Ok, Err, sym, ap, ◌∙◌, subst, inl, inr, refl}
+use Rattle.std.proofs.Common.{◌≡◌, ◌⊎◌, ◌<◌, ℕ, cond, List, length, drop, Option, Result, Ok, Err, sym, ap, ◌∙◌, subst, inl, inr, refl}
+use Rattle.std.proofs.lemmas.Bool.{lt-leb}
 use Rattle.replay_top.specs.declared.status.Status.{Status}
 use Rattle.replay_top.specs.declared.status.Status.TheVariants.{Done, Refused, Usage, SourceFault, SinkFault, OutOfMemory}
 use Rattle.manifest_json.specs.declared.fault.Refusal.{Refusal}
@@ -11,8 +12,9 @@ use Rattle.replay_top.specs.declared.task.Task.{Task}
 use Rattle.replay_top.specs.Tasks.{task_of}
 use Rattle.replay_top.specs.Traces.{trace}
 use Rattle.replay_top.specs.Summary.{summary}
-use Rattle.replay_top.specs.Outcome.{Outcome, outcome, outcome_of, answer_to, done, Ends, IsRunEnd, IsWhole}
-use Rattle.replay_top.specs.Replays.{IsUndone}
+use Rattle.replay_top.specs.Outcome.{Outcome, outcome, outcome_of, obeyed, answered, answer_to, refused, of_whole, done, Ends, IsRunEnd, IsWhole}
+use Rattle.replay_top.specs.Replays.{IsUnread, IsUndone}
+use Rattle.replay_top.specs.Readings.{Means}
 
 pub ends-moved : (o p : Outcome) (now left before after : Option (List ℕ)) (s : Status) → p ≡ o → left ≡ now → Ends o now before after s → Ends p left before after s
 ends-moved o p now left before after s same rest ends =
@@ -32,11 +34,24 @@ document_in (Err r) other = other
 pub same-read : (bytes : List ℕ) (a b : Document) → document_walk bytes ≡ Ok a → document_walk bytes ≡ Ok b → a ≡ b
 same-read bytes a b one two = ap (λ x. document_in x a) (sym one ∙ two)
 
-pub read-refused : (bytes : List ℕ) (d : Document) (r : Refusal) → document_walk bytes ≡ Ok d → document_walk bytes ≡ Err r → ⊥
+read-refused : (bytes : List ℕ) (d : Document) (r : Refusal) → document_walk bytes ≡ Ok d → document_walk bytes ≡ Err r → ⊥
 read-refused bytes d r one two = never (sym one ∙ two)
   where
     never : Ok d ≡ Err r → ⊥
     never same = cc
+
+-- too many bytes are no document that is read
+read-large : (bytes : List ℕ) (d : Document) → Means bytes (λ command. answer_to command d) → 16777216 < length bytes → ⊥
+unfolding obeyed
+read-large bytes d means long =
+    let large : obeyed Check bytes ≡ refused (of_whole 33) (drop 16777217 bytes)
+    = ap (λ b. cond b (answered Check (document_walk bytes)) (refused (of_whole 33) (drop 16777217 bytes))) (lt-leb (length bytes) 16777216 long) in
+    let never : Refused ≡ Done = ap (λ o. o.status) (sym large ∙ means Check) in
+    cc
+
+pub read-unread : (bytes : List ℕ) (d : Document) → Means bytes (λ command. answer_to command d) → document_walk bytes ≡ Ok d → IsUnread bytes → ⊥
+read-unread bytes d means read (inl long) = read-large bytes d means long
+read-unread bytes d means read (inr refusal) = read-refused bytes d refusal.0 read refusal.1
 
 pub answer-checked : (command : Command) (d : Document) → command ≡ Check → answer_to command d ≡ done (summary d)
 answer-checked command d is = ap (λ c. answer_to c d) is

@@ -1,7 +1,8 @@
 -- A document that is replayed, and the steps that a run counts.
-use Rattle.std.specs.Prelude.{◌≡◌, ℕ, true, List, Option, Some, Ok}
+use Rattle.std.specs.Prelude.{◌≡◌, ◌⊎◌, ◌<◌, ℕ, true, List, length, Option, Some, Ok, Err}
 use Rattle.kube_objects.specs.Document.{Doc}
 use Rattle.history.specs.Premise.{lease_premise}
+use Rattle.manifest_json.specs.declared.fault.Refusal.{Refusal}
 use Rattle.script_reader.specs.declared.document.Document.{Document}
 use Rattle.script_reader.specs.Documents.{doc_of}
 use Rattle.script_reader.specs.Walk.{document_walk}
@@ -24,6 +25,10 @@ WhereReplayedUnderPremise words left P = (d : Document) → Replays words left d
 -- this holds of every document that can be read where the lease premise holds
 abbrev pub WhereReadUnderPremise : (Doc → Type 0) → Type 0
 WhereReadUnderPremise P = (bytes : List ℕ) (d : Document) → document_walk bytes ≡ Ok d → lease_premise (doc_of d) ≡ true → P (doc_of d)
+
+-- these bytes are no document that is read: there are more than a document may have, or they are refused
+abbrev pub IsUnread : List ℕ → Type 0
+IsUnread bytes = (16777216 < length bytes) ⊎ ((r : Refusal) × (document_walk bytes ≡ Err r))
 
 -- the run ended before a document was there to be run
 abbrev pub IsUndone : Status → Type 0

@@ -1,11 +1,10 @@
 // The commands.
-ghost use Rattle.std.specs.Prelude.{◌≡◌, ◌≢◌, ◌⊎◌, ◌≤◌, ◌+◌, ℕ, List, [], Some, None, Ok, Err, ◌++◌, OnOk, map, string_bytes};
+ghost use Rattle.std.specs.Prelude.{◌≡◌, ◌≢◌, ◌⊎◌, ◌≤◌, ◌+◌, ℕ, List, [], Some, None, Ok, ◌++◌, OnOk, map, string_bytes};
 ghost use Rattle.agenda_laws.specs.Standing.{standing_beats};
 ghost use Rattle.byte_edge.specs.Bytes.{Rose};
 ghost use Rattle.history.specs.Evictions.{NotEarly, Prompt};
 ghost use Rattle.history.specs.Safe.{Holder, Exclusive};
 ghost use Rattle.history.specs.Spacing.{Spacing};
-ghost use Rattle.manifest_json.specs.declared.fault.Refusal.{Refusal};
 ghost use Rattle.script_reader.specs.declared.document.Document.{Document};
 ghost use Rattle.script_reader.specs.Documents.{doc_of};
 ghost use Rattle.script_reader.specs.Lawful.{IsLawfulDoc, IsWellNamed};
@@ -17,7 +16,7 @@ ghost use Rattle.replay_top.specs.Sizes.{sizes_of};
 ghost use Rattle.replay_top.specs.Tasks.{IsRead, IsWithin, task_of};
 ghost use Rattle.replay_top.specs.Outcome.{outcome, usage, performed, obeyed, answer_to, refused, refusal_text, done};
 ghost use Rattle.replay_top.specs.Outcome.{Ends, EndsAs, IsWhole, IsRunEnd};
-ghost use Rattle.replay_top.specs.Replays.{Replays, WhereReplayedUnderPremise, WhereReadUnderPremise, IsUndone};
+ghost use Rattle.replay_top.specs.Replays.{Replays, WhereReplayedUnderPremise, WhereReadUnderPremise, IsUnread, IsUndone};
 ghost use Rattle.replay_top.specs.Traces.{trace};
 ghost use Rattle.replay_top.specs.Summary.{summary};
 
@@ -98,10 +97,10 @@ pub fn run<S: Source, K: Sink, L>(
     // And by its first tick that reaches the store.
     ensures prompt { (d : Document) → Replays (map string_bytes words.now.items) (S.left source.old) d → Prompt (doc_of d) }
 
-    // No more beats are done than have entries, and none where there is no document, or with other words.
+    // No more beats are done than have entries, and none where there is no document or too large a one, or with other words.
     ensures counted { (d : Document) → Replays (map string_bytes words.now.items) (S.left source.old) d
         → steps.new ≤ steps.old + standing_beats (doc_of d) }
-    ensures unread { (bytes : List ℕ) (r : Refusal) → S.left source.old ≡ Some bytes → document_walk bytes ≡ Err r
+    ensures unread { (bytes : List ℕ) → S.left source.old ≡ Some bytes → IsUnread bytes
         → sizes_of (map string_bytes words.now.items) ≡ None → steps.new ≡ steps.old }
     ensures undone { IsUndone result → steps.new ≡ steps.old }
     ensures unasked { command_of (map string_bytes words.now.items) ≢ Some Command.Replay
@@ -134,8 +133,7 @@ fn perform<S: Source, K: Sink, L>(
     ensures sink_fault { result ≡ Status.SinkFault → Rose (K.faults sink.old) (K.faults sink.new) }
     ensures counted { (bytes : List ℕ) (d : Document) → S.left source.old ≡ Some bytes → document_walk bytes ≡ Ok d → IsRead task
         → steps.new ≤ steps.old + standing_beats (doc_of d) }
-    ensures unread { (bytes : List ℕ) (r : Refusal) → S.left source.old ≡ Some bytes → document_walk bytes ≡ Err r → IsRead task
-        → steps.new ≡ steps.old }
+    ensures unread { (bytes : List ℕ) → S.left source.old ≡ Some bytes → IsUnread bytes → IsRead task → steps.new ≡ steps.old }
     ensures undone { IsUndone result → steps.new ≡ steps.old }
     ensures unasked { task ≢ Task.Document Command.Replay → IsRead task → steps.new ≡ steps.old }
     ensures generated { (sizes : Sizes) → task ≡ Task.Generate sizes
@@ -194,7 +192,7 @@ fn obey<S: Source, K: Sink, L>(
     ensures sink_fault { result ≡ Status.SinkFault → Rose (K.faults sink.old) (K.faults sink.new) }
     ensures counted { (bytes : List ℕ) (d : Document) → S.left source.old ≡ Some bytes → document_walk bytes ≡ Ok d
         → steps.new ≤ steps.old + standing_beats (doc_of d) }
-    ensures unread { (bytes : List ℕ) (r : Refusal) → S.left source.old ≡ Some bytes → document_walk bytes ≡ Err r → steps.new ≡ steps.old }
+    ensures unread { (bytes : List ℕ) → S.left source.old ≡ Some bytes → IsUnread bytes → steps.new ≡ steps.old }
     ensures undone { IsUndone result → steps.new ≡ steps.old }
     ensures unasked { command ≢ Command.Replay → steps.new ≡ steps.old }
 {

@@ -3,7 +3,7 @@ use Rattle.byte_edge.proofs.Fronts.{gave-nothing}
 use Rattle.replay_top.specs.Outcome.{obeyed, answer_to, refused, of_whole, Ends}
 use Rattle.agenda_laws.specs.Standing.{standing_beats}
 use Rattle.script_reader.specs.Documents.{doc_of}
-use Rattle.replay_top.proofs.Endings.{ends-moved, same-read, read-refused}
+use Rattle.replay_top.proofs.Endings.{ends-moved, same-read, read-unread}
 use Rattle.replay_top.proofs.running.obey.Goals as goal
 
 pub returns-after-command-clause-text : goal.returns-after-command-clause-text
@@ -20,7 +20,9 @@ returns-after-command-clause-counted g c bytes d told read =
     subst (λ x. c.answer.new.steps ≤ c.args.steps.now + standing_beats (doc_of x)) (same-read bytes c.in-Document.document d reads.2 read) c.answer.ensures.counted
 
 pub returns-after-command-clause-unread : goal.returns-after-command-clause-unread
-returns-after-command-clause-unread g c bytes r told read = absurd (read-refused bytes c.in-Document.document r (c.in-Document.ensures.told bytes told).2 read)
+returns-after-command-clause-unread g c bytes told unread =
+    let reads = c.in-Document.ensures.told bytes told in
+    absurd (read-unread bytes c.in-Document.document reads.1 reads.2 unread)
 
 pub returns-after-command-clause-undone : goal.returns-after-command-clause-undone
 returns-after-command-clause-undone g c undone = absurd (c.answer.ensures.done undone)

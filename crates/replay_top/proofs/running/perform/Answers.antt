@@ -49,7 +49,7 @@ pub returns-in-Generate-clause-counted : goal.returns-in-Generate-clause-counted
 returns-in-Generate-clause-counted g c bytes d told read reads = absurd (subst IsRead c.in-Generate.is reads)
 
 pub returns-in-Generate-clause-unread : goal.returns-in-Generate-clause-unread
-returns-in-Generate-clause-unread g c bytes r told read reads = absurd (subst IsRead c.in-Generate.is reads)
+returns-in-Generate-clause-unread g c bytes told unread reads = absurd (subst IsRead c.in-Generate.is reads)
 
 pub returns-in-Generate-clause-undone : goal.returns-in-Generate-clause-undone
 returns-in-Generate-clause-undone g c undone = absurd (run-undone c.write_generated.result c.write_generated.ensures.ended undone)

@@ -49,9 +49,9 @@ returns-in-Some-clause-counted g c d replays =
     (task-read words c.in-Some.task (sym c.task_in.ensures.task ∙ c.in-Some.is) (command-unsized words Replay replays.command))
 
 pub returns-in-Some-clause-unread : goal.returns-in-Some-clause-unread
-returns-in-Some-clause-unread g c bytes r told read none =
+returns-in-Some-clause-unread g c bytes told unread none =
     let words : List (List ℕ) = map string_bytes c.args.words.now.items in
-    c.perform.ensures.unread bytes r told read (task-read words c.in-Some.task (sym c.task_in.ensures.task ∙ c.in-Some.is) none)
+    c.perform.ensures.unread bytes told unread (task-read words c.in-Some.task (sym c.task_in.ensures.task ∙ c.in-Some.is) none)
 
 pub returns-in-Some-clause-generated : goal.returns-in-Some-clause-generated
 returns-in-Some-clause-generated g c sizes asked =
