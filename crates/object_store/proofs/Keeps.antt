@@ -1,5 +1,5 @@
 -- How a write of the map is a write of the history.
-use Rattle.std.proofs.Common.{◌≡◌, ℕ, ◌+◌, Bool, true, false, cond, List, [], ◌∷◌, ◌++◌, Option, Some, None, Result, Ok, Err, IfOk, IfErr, OnOk, refl, sym, ap, ◌∙◌, vec_len, subst}
+use Rattle.std.proofs.Common.{◌≡◌, ℕ, ◌+◌, Bool, true, false, cond, List, [], ◌∷◌, ◌++◌, Option, Some, None, Result, Ok, Err, IfOk, IfErr, OnOk, refl, sym, ap, ◌∙◌, vec_len, subst, arith}
 use Rattle.kube_base.specs.declared.numbers.Version.{Version}
 use Rattle.kube_objects.specs.declared.call.Reply.TheVariants as reply
 use Rattle.kube_objects.specs.declared.key.Key.{Key}
@@ -57,6 +57,15 @@ store-beside h e s stands none =
       changes = stands.changes ∙ ap (λ w. and_key w (changed_keys h)) (sym none);
       count = stands.count ∙ ap (λ w. added (has w) (writes h)) (sym none);
     }
+
+-- a history without an accepted write is as the empty one
+pub stands_unwritten : (h : List Entry) (s : Store) → StoreStands [] s → writes h ≡ 0 → StoreStands h s
+stands_unwritten [] s stands none = stands
+stands_unwritten (e ∷ h) s stands none = by_write (write_of e.fact) refl none
+  where
+    by_write : (w : Option Write) → write_of e.fact ≡ w → added (has w) (writes h) ≡ 0 → StoreStands (e ∷ h) s
+    by_write None is none = store-beside h e s (stands_unwritten h s stands none) is
+    by_write (Some write) is none = absurd (omega (arith, none))
 
 -- ---- the map's own clauses, in the words of the store
 

@@ -42,9 +42,9 @@ impl Store {
     ghost use Rattle.object_store.specs.Stands.{StoreStands, Writes, SameStore, shown_in, version_in, changed_in};
     ghost use Rattle.object_store.specs.Stands.{node_in_pair, object_in_pair, start_since, keys_since, shown_since};
 
-    /// Holds nothing; its version is 0.
+    /// Holds nothing; its version is 0. It stands for each history without an accepted write.
     pub fn new(alloc: Global) -> Store
-        ensures { StoreStands [] result }
+        ensures { (h : List Entry) → stored_words.writes h ≡ 0 → StoreStands h result }
     {
         Store {
             objects: KeyMap::new(alloc),

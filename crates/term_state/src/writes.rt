@@ -91,7 +91,7 @@ impl Cluster {
             → OnOk result (ClusterStands q g self.new × IsMoved q k g self.new) }
         ensures counted { (q : Identity) (h g : List Entry) → ClusterStands q h self.old → is_synced q h ≡ true
             → IsChange q h g (noted_by name written answer) (stale_by write name answer)
-            → OnOk result (steps.new ≤ steps.old + own_cost q g (stored_words.try_write (node_write name written) answer)) }
+            → OnOk result (steps.new ≤ steps.old + own_cost q h g (stored_words.try_write (node_write name written) answer)) }
     {
         let Some(answer) = answer else {
             return Ok(());
@@ -119,7 +119,7 @@ impl Cluster {
 /// which is where requests don't pass.
 ///
 /// What is answered is told, and an accepted write is seen. A refused untaint or swap makes the node stale until the next
-/// sync. It counts at most two steps for each pod on the node.
+/// sync. It counts at most two steps for each pod on the node, and none where its taints are as they were seen.
 pub fn try_write<L>(
     cluster: &mut Cluster,
     store: &mut Store,

@@ -1,22 +1,21 @@
 -- What each entry of a tick adds to the pods that the tick may look at.
-use Rattle.std.proofs.Common.{◌≡◌, ℕ, ◌+◌, ◌*◌, ◌≤◌, Bool, true, false, cond, List, [], ◌∷◌, length, Option, Some, refl, ap, subst, arith}
+use Rattle.std.proofs.Common.{◌≡◌, ℕ, ◌+◌, ◌*◌, ◌≤◌, Bool, true, false, cond, List, [], ◌∷◌, length, Option, Some, refl, ap, arith}
 use Rattle.kube_base.specs.declared.numbers.Version.{Version}
 use Rattle.kube_objects.specs.declared.call.Answer.{Answer}
 use Rattle.kube_objects.specs.declared.call.Answer.TheVariants as answer
 use Rattle.kube_objects.specs.declared.key.Key.{Key}
 use Rattle.kube_objects.specs.declared.key.Kind.{Kind}
 use Rattle.kube_objects.specs.declared.key.Kind.TheVariants as kind
-use Rattle.kube_objects.specs.declared.node.Node.{Node}
 use Rattle.kube_objects.specs.Entry.{Entry, Identity, Tick, Sync, Delete}
 use Rattle.kube_objects.specs.Seen.{is_pod}
-use Rattle.kube_objects.specs.Stored.{tick_write, node_write}
+use Rattle.kube_objects.specs.Stored.{tick_write}
 use Rattle.kube_objects.specs.Tainting.{is_tick_of, before_tick}
 use Rattle.kube_objects.specs.Tick.{add}
 use Rattle.history_laws.proofs.Plainly.{false_is}
 use Rattle.tick_laws.specs.Since.{keys_since}
 use Rattle.tick_laws.specs.Steps.{pods_on, kind_cost, write_costs, own_cost, entry_cost, fact_cost, tick_cost}
 use Rattle.tick_laws.specs.Ticked.{IsTicked}
-use Rattle.tick_laws.specs.ToJudge.{is_to_judge}
+use Rattle.tick_laws.specs.ToJudge.{has_new_taints, is_to_judge}
 use Rattle.tick_laws.proofs.Ticked.{is_own_tick, before_short, ticked_keeps}
 use Rattle.watch_cache.proofs.Ticks.{is_sync}
 
@@ -33,18 +32,13 @@ module _ (q : Identity) (k : ℕ) (h : List Entry) where
   cost_sync = cost_added Sync
 
   -- an own write
-  own_least : (g : List Entry) (t : Tick) → is_sync t ≡ false → own_cost q g (tick_write t) ≤ entry_cost q h g t
+  own_least : (g : List Entry) (t : Tick) → is_sync t ≡ false → own_cost q h g (tick_write t) ≤ entry_cost q h g t
   own_least g Sync other = omega arith
   own_least g (Delete pod given node_given at a) other = omega arith
   own_least g t other = omega arith
 
-  pub cost_own : (t : Tick) → is_sync t ≡ false → own_cost q (add k q t h) (tick_write t) + tick_cost q k h ≤ tick_cost q k (add k q t h)
+  pub cost_own : (t : Tick) → is_sync t ≡ false → own_cost q h (add k q t h) (tick_write t) + tick_cost q k h ≤ tick_cost q k (add k q t h)
   cost_own t other = omega (arith, cost_added t, own_least (add k q t h) t other)
-
-  -- an accepted write of a node
-  pub cost_noted : (name : ℕ) (written : Node) (v : Version) (t : Tick) → is_sync t ≡ false → tick_write t ≡ Some (node_write name written)
-      → 2 * pods_on q name (add k q t h) + tick_cost q k h ≤ tick_cost q k (add k q t h)
-  cost_noted name written v t other wrote = subst (λ o. own_cost q (add k q t h) o + tick_cost q k h ≤ tick_cost q k (add k q t h)) wrote (cost_own t other)
 
   -- a delete
   pub cost_delete : (pod : Key) (given node_given : Version) (at : ℕ) (a : Option Answer) → 2 + tick_cost q k h ≤ tick_cost q k (add k q (Delete pod given node_given at a) h)
@@ -54,7 +48,10 @@ module _ (q : Identity) (k : ℕ) (h : List Entry) where
       → 4 + tick_cost q k h ≤ tick_cost q k (add k q (Delete pod given node_given at (Some (answer.Done v))) h)
   cost_gone pod given node_given at v is = omega (arith, cost_added (Delete pod given node_given at (Some (answer.Done v))), by_kind pod.kind is)
     where
-      by_kind : (x : Kind) → is_pod x ≡ true → kind_cost q (λ name. true) (add k q (Delete pod given node_given at (Some (answer.Done v))) h) pod.name x ≡ 1
+      gone : List Entry
+      gone = add k q (Delete pod given node_given at (Some (answer.Done v))) h
+
+      by_kind : (x : Kind) → is_pod x ≡ true → kind_cost q (has_new_taints q h gone) gone pod.name x ≡ 1
       by_kind kind.Node is = absurd (false_is is)
       by_kind kind.Lease is = absurd (false_is is)
       by_kind kind.Pod is = refl

@@ -8,7 +8,7 @@ use Rattle.kube_objects.specs.Seen.{seen_pod, pod_keys}
 use Rattle.kube_objects.specs.Stored.{Write, tick_write}
 use Rattle.kube_objects.specs.Tainting.{is_tick_of}
 use Rattle.tick_laws.specs.Since.{keys_since}
-use Rattle.tick_laws.specs.ToJudge.{is_to_judge}
+use Rattle.tick_laws.specs.ToJudge.{has_new_taints, is_to_judge}
 use Rattle.watch_cache.specs.Kept.{is_on}
 
 -- how many pods are seen on the node of that name
@@ -28,23 +28,24 @@ abbrev pub write_costs : Identity → (ℕ → Bool) → List Entry → List Key
 write_costs q test h [] = 0
 write_costs q test h (key ∷ keys) = write_cost q test h key + write_costs q test h keys
 
-abbrev pub own_cost : Identity → List Entry → Option Write → ℕ
-own_cost q h None = 0
-own_cost q h (Some write) = 2 * write_cost q (λ name. true) h write.0
-
 -- h is the history before the entry, and g the one with it
+abbrev pub own_cost : Identity → List Entry → List Entry → Option Write → ℕ
+own_cost q h g None = 0
+own_cost q h g (Some write) = 2 * write_cost q (has_new_taints q h g) g write.0
+
 abbrev pub entry_cost : Identity → List Entry → List Entry → Tick → ℕ
 entry_cost q h g Sync = length (keys_since q h) + 2 * write_costs q (is_to_judge q h g) g (keys_since q h)
-entry_cost q h g (Delete pod given node_given due tried) = 2 + own_cost q g (tick_write (Delete pod given node_given due tried))
-entry_cost q h g t = own_cost q g (tick_write t)
+entry_cost q h g (Delete pod given node_given due tried) = 2 + own_cost q h g (tick_write (Delete pod given node_given due tried))
+entry_cost q h g t = own_cost q h g (tick_write t)
 
 abbrev pub fact_cost : Identity → List Entry → List Entry → Fact → ℕ
 fact_cost q h g (Ticks t) = entry_cost q h g t
 fact_cost q h g _ = 0
 
 -- of the entries that the identity's tick at a beat has made so far: one for each write that a sync takes in, two for each delete,
--- and two for each pod that such a write, or an accepted write of the tick's own, may make due. A node that a sync takes in makes
--- pods due where its taints are others than were seen, or a key was stale
+-- and two for each pod that such a write, or an accepted write of the tick's own, may make due. A node makes pods due where its
+-- taints are others than were seen, and one that a sync takes in also where a key was stale. So a mark, which leaves the taints as
+-- they were, makes none
 abbrev pub tick_cost : Identity → ℕ → List Entry → ℕ
 tick_cost q k [] = 0
 tick_cost q k (e ∷ h) =

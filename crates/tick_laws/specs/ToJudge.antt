@@ -27,7 +27,10 @@ has_stale q h = or_else false (newest (λ e T. refusal_says q e.actor e.fact) h)
 abbrev pub seen_taints : Identity → ℕ → List Entry → List Taint
 seen_taints q name h = taints_in (shown q (node_key name) h)
 
--- whether a sync, before which the history is h and after which g, judges the pods on a changed node: where it is seen with other
--- taints after it, or any key was stale before it
+-- whether a node is seen with other taints after an entry, before which the history is h and after which g
+abbrev pub has_new_taints : Identity → List Entry → List Entry → ℕ → Bool
+has_new_taints q h g name = not (taints_eq (seen_taints q name h) (seen_taints q name g))
+
+-- whether a sync judges the pods on a changed node: where it is seen with other taints after it, or any key was stale before it
 abbrev pub is_to_judge : Identity → List Entry → List Entry → ℕ → Bool
-is_to_judge q h g name = has_stale q h || not (taints_eq (seen_taints q name h) (seen_taints q name g))
+is_to_judge q h g name = has_stale q h || has_new_taints q h g name

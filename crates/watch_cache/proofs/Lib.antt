@@ -2,6 +2,7 @@ pub mod Frames
 pub mod IndexLaws
 pub mod Lists
 pub mod Looks
+pub mod Moves
 pub mod Orders
 pub mod Same
 pub mod Settling

@@ -37,7 +37,7 @@ second_of : (b c : Bool) → (b && c) ≡ true → c ≡ true
 second_of true c is = is
 second_of false c is = absurd (cc)
 
-same_number : (a b : ℕ) → (a == b) ≡ true → a ≡ b
+pub same_number : (a b : ℕ) → (a == b) ≡ true → a ≡ b
 same_number a b is = grind (arith, nat_tests)
 
 own_number : (a : ℕ) → (a == a) ≡ true
@@ -67,6 +67,23 @@ same_listing (Pod m k) (Pod n l) is =
     let name : m ≡ n = same_number m n (first_of (m == n) ((keys.eq-value).it k l) is) in
     let key : k ≡ l = same_key k l (second_of (m == n) ((keys.eq-value).it k l) is) in
     λ i. Pod (name i) (key i)
+
+-- a listing is told equal to itself
+own_kind : (a : Kind) → (kinds.eq-value).it a a ≡ true
+own_kind kind.Node = refl
+own_kind kind.Lease = refl
+own_kind kind.Pod = refl
+
+own_key : (a : Key) → (keys.eq-value).it a a ≡ true
+own_key a =
+    ap (λ b. b && ((a.space == a.space) && (a.name == a.name))) (own_kind a.kind)
+    ∙ ap (λ b. b && (a.name == a.name)) (own_number a.space)
+    ∙ own_number a.name
+
+pub own_listing : (a : Listing) → (listings.eq-value).it a a ≡ true
+own_listing Nowhere = refl
+own_listing (Node m) = own_number m
+own_listing (Pod m k) = ap (λ b. b && (keys.eq-value).it k k) (own_number m) ∙ own_key k
 
 -- ---- taints
 

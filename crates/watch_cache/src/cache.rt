@@ -1,5 +1,5 @@
 // What a term has seen of the store.
-ghost use Rattle.std.specs.Prelude.{◌≡◌, ℕ, ◌+◌, ◌||◌, ◌∷◌, [], true, false, List, Some, None, IfOk, OnOk, length, if◌then◌else◌};
+ghost use Rattle.std.specs.Prelude.{◌≡◌, ℕ, ◌+◌, ◌||◌, ◌∷◌, [], true, false, List, Some, None, IfOk, OnOk, OnErr, length, if◌then◌else◌};
 ghost use Rattle.kube_objects.specs.Answers.{as_kind, node_in, lease_in};
 ghost use Rattle.kube_objects.specs.Entry.{Entry, Identity, Sync, Tick};
 ghost use Rattle.kube_objects.specs.Feeds.{is_among};
@@ -21,8 +21,7 @@ use std::collections::BTreeSet;
 /// objects are kept, and so does an own write that moves no object in the lists; one that moves an object costs the
 /// logarithm of the nodes or pods. A list of pods costs that logarithm and the keys that it gives, and the names of the
 /// nodes cost as many as they are. To make a key stale, or to ask whether it is, costs the logarithm of the stale keys.
-/// A pod is listed for the node that its latest version names. Where an answer is `NoMemory` of a call that changes the
-/// cache, the cache may only be dropped.
+/// A pod is listed for the node that its latest version names. After `NoMemory` of a sync the cache may only be dropped.
 #[derive(Drop)]
 pub struct Cache {
     pub(crate) objects: Objects,
@@ -97,9 +96,11 @@ impl Cache {
         Ok(())
     }
 
-    /// Takes over an own accepted write: the object with its version, or none where it was removed.
+    /// Takes over an own accepted write: the object with its version, or none where it was removed. Where memory is wanting
+    /// the cache is as before.
     pub fn note_own(&mut self, key: Key, written: Option<(Version, Object)>) -> Result<(), NoMemory>
         ensures kept { OnOk result ((k : Key) → kept_in self.new k ≡ (if key_eq key k then written else kept_in self.old k)) }
+        ensures err { OnErr result ((k : Key) → kept_in self.new k ≡ kept_in self.old k) }
         ensures stale { (k : Key) → stale_in self.new k ≡ stale_in self.old k }
         ensures synced { synced_in self.new ≡ synced_in self.old }
         ensures position { position_in self.new ≡ position_in self.old }
@@ -190,9 +191,10 @@ impl Cache {
         }
     }
 
-    /// Makes a key stale until the next sync.
+    /// Makes a key stale until the next sync. Where memory is wanting the cache is as before.
     pub fn set_stale(&mut self, key: Key) -> Result<(), NoMemory>
         ensures stale { OnOk result ((k : Key) → stale_in self.new k ≡ (key_eq key k || stale_in self.old k)) }
+        ensures err { OnErr result ((k : Key) → stale_in self.new k ≡ stale_in self.old k) }
         ensures kept { (k : Key) → kept_in self.new k ≡ kept_in self.old k }
         ensures synced { synced_in self.new ≡ synced_in self.old }
         ensures position { position_in self.new ≡ position_in self.old }

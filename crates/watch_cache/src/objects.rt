@@ -47,34 +47,6 @@ fn unlist(index: &mut Index, key: Key, old: Option<(Version, Object)>)
     }
 }
 
-// The index lists an object's listing in the place of the old object's. Where they are one it is left as it is.
-fn relist(
-    index: &mut Index,
-    key: Key,
-    old: Option<(Version, Object)>,
-    entered: Listing,
-) -> Result<(), NoMemory>
-    requires nodes { (n : ℕ) → (key_eq key (node_key n) && is_node_in old) ≡ true → has_node index.old n ≡ true }
-    requires pods { (n : ℕ) (k : Key) → (is_pod_in n old && key_eq key k) ≡ true → has_pod index.old n k ≡ true }
-    ensures nodes { OnOk result ((n : ℕ)
-        → has_node index.new n ≡ (lists_node entered n || (not (key_eq key (node_key n) && is_node_in old) && has_node index.old n))) }
-    ensures pods { OnOk result ((n : ℕ) (k : Key)
-        → has_pod index.new n k ≡ (lists_pod entered n k || (not (is_pod_in n old && key_eq key k) && has_pod index.old n k))) }
-    ensures left_nodes { OnErr result ((n : ℕ)
-        → has_node index.new n ≡ (not (key_eq key (node_key n) && is_node_in old) && has_node index.old n)) }
-    ensures left_pods { OnErr result ((n : ℕ) (k : Key)
-        → has_pod index.new n k ≡ (not (is_pod_in n old && key_eq key k) && has_pod index.old n k)) }
-{
-    if let Some(old) = old {
-        let left = listed_as(key, &old.1);
-        if left == entered {
-            return Ok(());
-        }
-        index.leave(left);
-    }
-    index.enter(entered)
-}
-
 impl Objects {
     ghost use Rattle.kube_base.specs.Steps.{counted};
     ghost use Rattle.kube_objects.specs.Feeds.{is_among};
@@ -101,13 +73,14 @@ impl Objects {
         }
     }
 
-    /// Puts an object under a key in the place of what is there, or takes that out.
+    /// Puts an object under a key in the place of what is there, or takes that out. Where memory is wanting nothing changes.
     pub(crate) fn write(
         &mut self,
         key: Key,
         written: Option<(Version, Object)>,
     ) -> Result<(), NoMemory>
-        ensures { OnOk result ((k : Key) → object_at self.new k ≡ (if key_eq key k then written else object_at self.old k)) }
+        ensures ok { OnOk result ((k : Key) → object_at self.new k ≡ (if key_eq key k then written else object_at self.old k)) }
+        ensures err { OnErr result ((k : Key) → object_at self.new k ≡ object_at self.old k) }
     {
         match written {
             None => {
@@ -125,19 +98,39 @@ impl Objects {
         unlist(&mut self.index, key, old);
     }
 
-    // Where the index has no room for the object, nothing is left under the key.
+    // The index is entered first, so that nothing changes where it has no room.
     fn put(&mut self, key: Key, version: Version, object: Object) -> Result<(), NoMemory>
-        ensures { OnOk result ((k : Key)
+        ensures ok { OnOk result ((k : Key)
             → object_at self.new k ≡ (if key_eq key k then Some (version, object) else object_at self.old k)) }
+        ensures err { OnErr result ((k : Key) → object_at self.new k ≡ object_at self.old k) }
     {
+        let left = self.listing_at(key);
         let entered = listed_as(key, &object);
-        let old = self.map.insert(key, (version, object))?;
-        match relist(&mut self.index, key, old, entered) {
-            Ok(()) => Ok(()),
+        if left == entered {
+            self.map.insert(key, (version, object))?;
+            return Ok(());
+        }
+        self.index.enter(entered)?;
+        match self.map.insert(key, (version, object)) {
+            Ok(_) => {
+                self.index.leave(left);
+                Ok(())
+            }
             Err(NoMemory) => {
-                let _ = self.map.remove(&key);
+                self.index.leave(entered);
                 Err(NoMemory)
             }
+        }
+    }
+
+    // Where the index lists what is under a key.
+    fn listing_at(&self, key: Key) -> Listing
+        ensures nodes { (n : ℕ) → lists_node result n ≡ (key_eq key (node_key n) && is_node_in (object_at self.now key)) }
+        ensures pods { (n : ℕ) (k : Key) → lists_pod result n k ≡ (is_pod_in n (object_at self.now key) && key_eq key k) }
+    {
+        match self.map.get(&key) {
+            Some(kept) => listed_as(key, &kept.1),
+            None => Listing::Nowhere,
         }
     }
 

@@ -6,7 +6,7 @@ use Rattle.tick_laws.specs.Steps.{own_cost}
 use Rattle.term_state.specs.ClusterStands.{no_node, no_pod}
 use Rattle.term_state.specs.Writes.{stale_by}
 use Rattle.term_state.proofs.Aside.{refused_moved, same_aside}
-use Rattle.term_state.proofs.Writing.{both_ok, ok_always, refusal_change, unstale}
+use Rattle.term_state.proofs.Writing.{both_ok, ok_always, own_counted, refusal_change, unstale}
 use Rattle.term_state.proofs.cluster.Cluster.note_answer.Goals as goal
 
 -- lost
@@ -29,8 +29,9 @@ returns-in-Done-clause-counted g c q h more s synced change =
     let is = c.in-Some.is ∙ ap Some c.in-Done.is in
     let d0 = subst (λ a. IsChange q h more (noted_by c.args.name c.args.written a) (stale_by c.args.write c.args.name a)) is change in
     let d = subst (λ b. IsChange q h more (noted c.args.name c.in-Done.version c.args.written) b) (unstale c.args.write c.args.name) d0 in
-    subst (λ a. OnOk c.note_node.result (c.note_node.new.steps ≤ c.args.steps.now + own_cost q more (try_write (node_write c.args.name c.args.written) a))) (sym is)
-    (c.note_node.ensures.counted q h more s synced d)
+    subst (λ a. OnOk c.note_node.result (c.note_node.new.steps ≤ c.args.steps.now + own_cost q h more (try_write (node_write c.args.name c.args.written) a))) (sym is)
+    (own_counted q h more c.args.name c.in-Done.version c.args.written c.note_node.result c.args.steps.now c.note_node.new.steps d
+    (c.note_node.ensures.counted q h more s synced d) (c.note_node.ensures.uncounted q h s))
 
 -- refused
 pub returns-in_default-answer : goal.returns-in_default-answer

@@ -1,0 +1,87 @@
+-- An object is listed before its old listing goes, or the new one goes again.
+use Rattle.std.proofs.Common.{◌≡◌, ℕ, ◌==◌, ◌&&◌, ◌||◌, not, Bool, true, false, Option, Some, None, refl, sym, ap, ◌∙◌, subst, arith}
+use Rattle.std.proofs.lemmas.Bool.Decides.{nat_tests}
+use Rattle.kube_base.specs.declared.numbers.Version.{Version}
+use Rattle.kube_objects.specs.declared.key.Key.{Key}
+use Rattle.kube_objects.specs.declared.object.Object.{Object}
+use Rattle.kube_objects.specs.Keys.{key_eq}
+use Rattle.kube_objects.specs.Stored.{node_key}
+use Rattle.kube_objects.proofs.KeyOrder.{same_key}
+use Rattle.watch_cache.specs.declared.index.Index.{Index}
+use Rattle.watch_cache.specs.declared.listing.Listing.{Listing}
+use Rattle.watch_cache.specs.declared.listing.Listing.TheVariants.{Nowhere, Node, Pod}
+use Rattle.watch_cache.specs.contracts.listing.ListingPartialEq.TheImpl as listings
+use Rattle.watch_cache.specs.Indexed.{IsIndexed}
+use Rattle.watch_cache.specs.Kept.{is_node_in, is_pod_in}
+use Rattle.watch_cache.specs.Listed.{has_node, has_pod, lists_node, lists_pod}
+use Rattle.watch_cache.proofs.IndexLaws.{Shown}
+use Rattle.watch_cache.proofs.Same.{own_listing, same_number}
+
+first_of : (b c : Bool) → (b && c) ≡ true → b ≡ true
+first_of true c is = refl
+first_of false c is = is
+
+second_of : (b c : Bool) → (b && c) ≡ true → c ≡ true
+second_of true c is = is
+second_of false c is = absurd (cc)
+
+-- ---- one entry of the index
+
+-- it is entered, and then what was listed leaves
+pub moved : (left entered has : Bool) → (left ≡ true → entered ≡ true → ⊥) → (not left && (entered || has)) ≡ (entered || (not left && has))
+moved true true has apart = absurd (apart refl refl)
+moved true false has apart = refl
+moved false entered has apart = refl
+
+-- it is entered, and leaves again
+pub undone : (entered has : Bool) → (entered ≡ true → has ≡ false) → (not entered && (entered || has)) ≡ has
+undone true has none = sym (none refl)
+undone false has none = refl
+
+-- ---- listings with a common entry are one
+
+same_node : (a b : Listing) (n : ℕ) → lists_node a n ≡ true → lists_node b n ≡ true → a ≡ b
+same_node (Node i) (Node j) n is also = ap Node (same_number i n is ∙ sym (same_number j n also))
+same_node (Node i) Nowhere n is also = absurd (cc)
+same_node (Node i) (Pod j k) n is also = absurd (cc)
+same_node Nowhere b n is also = absurd (cc)
+same_node (Pod i k) b n is also = absurd (cc)
+
+same_pod : (a b : Listing) (n : ℕ) (key : Key) → lists_pod a n key ≡ true → lists_pod b n key ≡ true → a ≡ b
+same_pod (Pod i k) (Pod j l) n key is also =
+    let node : i ≡ j = same_number i n (first_of (i == n) (key_eq k key) is) ∙ sym (same_number j n (first_of (j == n) (key_eq l key) also)) in
+    let pod : k ≡ l = same_key k key (second_of (i == n) (key_eq k key) is) ∙ sym (same_key l key (second_of (j == n) (key_eq l key) also)) in
+    λ x. Pod (node x) (pod x)
+same_pod (Pod i k) Nowhere n key is also = absurd (cc)
+same_pod (Pod i k) (Node j) n key is also = absurd (cc)
+same_pod Nowhere b n key is also = absurd (cc)
+same_pod (Node i) b n key is also = absurd (cc)
+
+differ : (a b : Listing) → (listings.eq-value).it a b ≡ false → a ≡ b → ⊥
+differ a b other same = let never : true ≡ false = sym (subst (λ x. (listings.eq-value).it a x ≡ true) same (own_listing a)) ∙ other in absurd (cc)
+
+pub apart_nodes : (a b : Listing) (n : ℕ) → (listings.eq-value).it a b ≡ false → lists_node a n ≡ true → lists_node b n ≡ true → ⊥
+apart_nodes a b n other is also = differ a b other (same_node a b n is also)
+
+pub apart_pods : (a b : Listing) (n : ℕ) (key : Key) → (listings.eq-value).it a b ≡ false → lists_pod a n key ≡ true → lists_pod b n key ≡ true → ⊥
+apart_pods a b n key other is also = differ a b other (same_pod a b n key is also)
+
+-- ---- where nothing is under a key, nothing is listed for it
+
+pub node_absent : (objects : Shown) (index : Index) (key : Key) (n : ℕ) (b : Bool) → IsIndexed objects index → objects key ≡ None
+    → (key_eq key (node_key n) && b) ≡ true → has_node index n ≡ false
+node_absent objects index key n b s none is =
+    s.nodes n
+    ∙ ap (λ k. is_node_in (objects k)) (sym (same_key key (node_key n) (first_of (key_eq key (node_key n)) b is)))
+    ∙ ap is_node_in none
+
+pub pod_absent : (objects : Shown) (index : Index) (key k : Key) (n : ℕ) (b : Bool) → IsIndexed objects index → objects key ≡ None
+    → (b && key_eq key k) ≡ true → has_pod index n k ≡ false
+pod_absent objects index key k n b s none is =
+    s.pods n k ∙ ap (λ k. is_pod_in n (objects k)) (sym (same_key key k (second_of b (key_eq key k) is))) ∙ ap (is_pod_in n) none
+
+-- ---- another index with the same entries
+
+pub indexed_alike : (objects : Shown) (old new : Index) → IsIndexed objects old → ((n : ℕ) → has_node new n ≡ has_node old n)
+    → ((n : ℕ) (k : Key) → has_pod new n k ≡ has_pod old n k) → IsIndexed objects new
+indexed_alike objects old new s nodes pods = record { nodes = λ n. nodes n ∙ s.nodes n; pods = λ n k. pods n k ∙ s.pods n k }
