@@ -61,11 +61,11 @@ store-beside h e s stands none =
 -- a history without an accepted write is as the empty one
 pub stands_unwritten : (h : List Entry) (s : Store) → StoreStands [] s → writes h ≡ 0 → StoreStands h s
 stands_unwritten [] s stands none = stands
-stands_unwritten (e ∷ h) s stands none = by_write (write_of e.fact) refl none
+stands_unwritten (e ∷ h) s stands none = by_write (write_of e.fact) refl none (λ before. stands_unwritten h s stands before)
   where
-    by_write : (w : Option Write) → write_of e.fact ≡ w → added (has w) (writes h) ≡ 0 → StoreStands (e ∷ h) s
-    by_write None is none = store-beside h e s (stands_unwritten h s stands none) is
-    by_write (Some write) is none = absurd (omega (arith, none))
+    by_write : (w : Option Write) → write_of e.fact ≡ w → added (has w) (writes h) ≡ 0 → (writes h ≡ 0 → StoreStands h s) → StoreStands (e ∷ h) s
+    by_write None is none more = store-beside h e s (more none) is
+    by_write (Some write) is none more = absurd (omega (arith, none))
 
 -- ---- the map's own clauses, in the words of the store
 
