@@ -1,5 +1,5 @@
 -- An object is listed before its old listing goes, or the new one goes again.
-use Rattle.std.proofs.Common.{◌≡◌, ℕ, ◌==◌, ◌&&◌, ◌||◌, not, Bool, true, false, Option, Some, None, refl, sym, ap, ◌∙◌, subst, arith}
+use Rattle.std.proofs.Common.{◌≡◌, ℕ, ◌==◌, ◌&&◌, ◌||◌, not, Bool, true, false, Option, Some, None, Result, Ok, Err, OnOk, OnErr, refl, sym, ap, ◌∙◌, subst, arith}
 use Rattle.std.proofs.lemmas.Bool.Decides.{nat_tests}
 use Rattle.kube_base.specs.declared.numbers.Version.{Version}
 use Rattle.kube_objects.specs.declared.key.Key.{Key}
@@ -14,7 +14,7 @@ use Rattle.watch_cache.specs.contracts.listing.ListingPartialEq.TheImpl as listi
 use Rattle.watch_cache.specs.Indexed.{IsIndexed}
 use Rattle.watch_cache.specs.Kept.{is_node_in, is_pod_in}
 use Rattle.watch_cache.specs.Listed.{has_node, has_pod, lists_node, lists_pod}
-use Rattle.watch_cache.proofs.IndexLaws.{Shown}
+use Rattle.watch_cache.proofs.IndexLaws.{Shown, indexed_as, indexed_over, node_there, pod_there, stays, with}
 use Rattle.watch_cache.proofs.Same.{own_listing, same_number}
 
 first_of : (b c : Bool) → (b && c) ≡ true → b ≡ true
@@ -79,6 +79,23 @@ pub pod_absent : (objects : Shown) (index : Index) (key k : Key) (n : ℕ) (b : 
     → (b && key_eq key k) ≡ true → has_pod index n k ≡ false
 pod_absent objects index key k n b s none is =
     s.pods n k ∙ ap (λ k. is_pod_in n (objects k)) (sym (same_key key k (second_of b (key_eq key k) is))) ∙ ap (is_pod_in n) none
+
+-- ---- the same index
+
+-- an object is put under a key where it is listed as what was there, or nothing changes
+pub put_in_place : {A B : Type 0} (r : Result A B) (objects now : Shown) (index : Index) (key : Key) (w : Option (Version × Object)) → IsIndexed objects index
+    → ((n : ℕ) → (key_eq key (node_key n) && is_node_in w) ≡ (key_eq key (node_key n) && is_node_in (objects key)))
+    → ((n : ℕ) (k : Key) → (is_pod_in n w && key_eq key k) ≡ (is_pod_in n (objects key) && key_eq key k))
+    → OnOk r ((k : Key) → now k ≡ with key w objects k) → OnErr r ((k : Key) → now k ≡ objects k) → IsIndexed now index
+put_in_place (Err e) objects now index key w s nodes pods put same = indexed_as objects now index s same
+put_in_place (Ok x) objects now index key w s nodes pods put same =
+    indexed_as (with key w objects) now index
+    (indexed_over objects index index key w s
+    (λ n. stays (key_eq key (node_key n) && is_node_in w) (key_eq key (node_key n) && is_node_in (objects key)) (has_node index n) (nodes n)
+    (node_there objects index key (objects key) n s refl))
+    (λ n k. stays (is_pod_in n w && key_eq key k) (is_pod_in n (objects key) && key_eq key k) (has_pod index n k) (pods n k)
+    (pod_there objects index key (objects key) n k s refl)))
+    put
 
 -- ---- another index with the same entries
 

@@ -30,7 +30,7 @@ loop-place-preserved g c =
     let written : c.in_ok-written.written ≡ shown key = c.in_ok-written.ensures ∙ c.object.ensures ∙ ap (shown_at shown) is in
     record {
       taken = λ k. taken_more shown keys place key k (object_at c.args.self.now k) (object_at c.loop-place.self k) (object_at c.write.new.self k) is
-          (c.loop-place.invariant.taken k) (c.in_ok-write.ensures k ∙ ap (λ w. cond (key_eq key k) w (object_at c.loop-place.self k)) written);
+          (c.loop-place.invariant.taken k) (c.in_ok-write.ensures.ok k ∙ ap (λ w. cond (key_eq key k) w (object_at c.loop-place.self k)) written);
       counted = c.tick.ensures ∙ ap (λ n. counted n 1) c.loop-place.invariant.counted ∙ counted_more c.args.steps.now place;
       within = omega (arith, c.loop-place-test.true);
     }
