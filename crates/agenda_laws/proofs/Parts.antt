@@ -16,7 +16,7 @@ use Rattle.kube_objects.specs.Process.{alive, call_in, is_late, ended, is_restar
 use Rattle.kube_objects.specs.Seen.{is_synced}
 use Rattle.kube_objects.specs.Tick.{sync, pass, cleaned, tainted, evicted, tick_if, tick}
 use Rattle.kube_objects.specs.Turns.{expire_as, expire_call, end_as, end_term, attempt_if, try}
-use Rattle.history.specs.Steps.{start_first, starts_below, first_starts, start_if_down, crash, released, stop, effect, stamp, event_version, happens_if, happen_all, step_one, restart_as, restart_if, restart, expire, finish, attempts, tick_as, ticks, elector_turn, controller_turn, rounds, kubelet_turn}
+use Rattle.history.specs.Steps.{start_first, starts_below, first_starts, start_if_down, crash, stall, released, stop, effect, stamp, event_version, happens_if, happen_all, step_one, restart_as, restart_if, restart, expire, finish, attempts, tick_as, ticks, elector_turn, controller_turn, rounds, kubelet_turn}
 use Rattle.history_laws.specs.Tails.{IsTail}
 use Rattle.history_laws.proofs.Tailed.{tail_all, tail_trans}
 use Rattle.history_laws.proofs.Ticks.{walk_sync, walk_pass, walk_cleaned, walk_tainted, walk_evicted, walk_tick}
@@ -79,6 +79,10 @@ module _ (doc : Doc) (k : ℕ) where
   crash_adds p None h = tail_all h
   crash_adds p (Some i) h = inr (tail_all h)
 
+  stall_adds : (p beats : ℕ) (o : Option ℕ) (h : List Entry) → IsTail h (stall k p beats o h)
+  stall_adds p beats None h = tail_all h
+  stall_adds p beats (Some i) h = inr (tail_all h)
+
   released_adds : (q : Identity) (o : Option Request) (h : List Entry) → IsTail h (released k q o h)
   released_adds q None h = tail_all h
   released_adds q (Some request) h = inr (tail_all h)
@@ -98,7 +102,7 @@ module _ (doc : Doc) (k : ℕ) where
   effect_adds (what.Loss id requests replies) before h = tail_all h
   effect_adds (what.Watch id on) before h = tail_all h
   effect_adds (what.Ready id status) before h = tail_all h
-  effect_adds (what.Pause id beats) before h = tail_all h
+  effect_adds (what.Pause id beats) before h = stall_adds id.0 beats (alive id.0 before) h
   effect_adds (what.Put key object) before h = tail_all h
   effect_adds (what.Remove key) before h = tail_all h
 

@@ -12,6 +12,7 @@ use Rattle.kube_base.specs.Names.{number_of}
 use Rattle.kube_base.specs.declared.numbers.ProcId.{ProcId}
 use Rattle.kube_objects.specs.Kinds.{IsOfKind}
 use Rattle.kube_objects.specs.Document.{Doc, is_controller, processes, end_beat}
+use Rattle.kube_objects.specs.Pauses.{IsNoPause, AreUnpaused}
 use Rattle.kube_objects.specs.declared.key.Key.{Key}
 use Rattle.kube_objects.specs.declared.key.Kind.{Kind}
 use Rattle.kube_objects.specs.declared.key.Kind.TheVariants as kinds
@@ -99,6 +100,7 @@ readable-grows g known held (whats.Start id) h = tt
 readable-grows g known held (whats.Stop id) h = tt
 readable-grows g known held (whats.Watch id on) h = tt
 readable-grows g known held (whats.Ready id status) h = tt
+readable-grows g known held (whats.Pause id beats) h = tt
 readable-grows g known held (whats.Put key object) h = IsReadableItem-grows g known held (key, object) h
 readable-grows g known held (whats.Remove key) h = (IsNameNumber-grows g key.name h.0, space-grows g key.kind key.space h.1)
 
@@ -130,7 +132,7 @@ module _ (cast : Cast) where
 
   -- ---- what events do
 
-  -- the same as `IsLawfulWhat`, but for the rule on the election Lease
+  -- the same as `IsLawfulWhat`, but for the rule on the election Lease, and nothing that is read is a pause
   abbrev IsKnown : What → Type 0
   IsKnown (whats.Rate id ppm) = IsProcess id × (500000 ≤ ppm) × (ppm ≤ 2000000)
   IsKnown (whats.Delay id requests replies) = IsProcess id × IsIn 1 6000 requests × IsIn 1 6000 replies
@@ -140,8 +142,22 @@ module _ (cast : Cast) where
   IsKnown (whats.Stop id) = IsController id
   IsKnown (whats.Watch id on) = IsController id
   IsKnown (whats.Ready id status) = IsKubelet id × IsPosted status
+  IsKnown (whats.Pause id beats) = ⊥
   IsKnown (whats.Put key object) = IsOfKind key object
   IsKnown (whats.Remove key) = Unit {0}
+
+  no_pause : (what : What) → IsKnown what → IsNoPause what
+  no_pause (whats.Rate id ppm) known = tt
+  no_pause (whats.Delay id requests replies) known = tt
+  no_pause (whats.Loss id requests replies) known = tt
+  no_pause (whats.Crash id) known = tt
+  no_pause (whats.Start id) known = tt
+  no_pause (whats.Stop id) known = tt
+  no_pause (whats.Watch id on) known = tt
+  no_pause (whats.Ready id status) known = tt
+  no_pause (whats.Pause id beats) known = known
+  no_pause (whats.Put key object) known = tt
+  no_pause (whats.Remove key) known = tt
 
   abbrev IsNamed : Texts → What → Type 0
   IsNamed names what = IsKnown what × IsReadableWhat names cast.controllers what
@@ -253,6 +269,7 @@ module _ (cast : Cast) where
     lawful (whats.Watch id on) known leaves = is-controller id known
     lawful (whats.Ready id status) known leaves =
         (le-ltb id.0 (length doc.controllers) (omega (arith, known.0.0, of.controllers)), is-process id known.0.1, known.1)
+    lawful (whats.Pause id beats) known leaves = absurd known
     lawful (whats.Put key object) known leaves = (leaves, known)
     lawful (whats.Remove key) known leaves = leaves
 
@@ -289,13 +306,14 @@ module _ (cast : Cast) where
   -- events behind the beat `last`
   record AreEvents (end last many : ℕ) (names : Texts) (es : List Event) : Type 0 where
     pub lawful : (doc : Doc) → IsOf end doc → AreLawfulFrom doc last es
+    pub unpaused : AreUnpaused es
     pub count : length es ≡ many
     pub readable : All (λ e. IsReadableWhat names cast.controllers e.what) es
 
   events_from-reads : (end : ℕ) (names : Texts) (place last : ℕ) (rest : Items) → AreHeld names cast.controllers → Reads names (AreEvents end last (items_len rest)) (events_from cast end names place last rest)
   unfolding events_from
   events_from-reads end names place last no_items held =
-      done _ (Grows-none names, record { lawful = λ doc of. tt; count = refl; readable = All-nil (λ e. IsReadableWhat names cast.controllers e.what) })
+      done _ (Grows-none names, record { lawful = λ doc of. tt; unpaused = tt; count = refl; readable = All-nil (λ e. IsReadableWhat names cast.controllers e.what) })
   events_from-reads end names place last (item d rest) held =
       and_then (event-reads end names last (member_path [] (codes "/events/") place) d held) (λ next n.
       and_then (events_from-reads end next.1 (place + 1) next.0.beat.0 rest (AreHeld-grows n.0 cast.controllers held)) (λ more m.
@@ -305,6 +323,7 @@ module _ (cast : Cast) where
         Grows-then n.0 m.0,
         record {
           lawful = λ doc of. (one.after, rw of.end one.within, lawful end doc of next.0.what one.named.0 one.leaves, m.1.lawful doc of);
+          unpaused = (no_pause next.0.what one.named.0, m.1.unpaused);
           count = omega (arith, m.1.count);
           readable = All-cons (λ e. IsReadableWhat more.1 cast.controllers e.what) next.0 more.0 stands m.1.readable;
         },
@@ -313,14 +332,15 @@ module _ (cast : Cast) where
   -- at most 100,000 events, from beat 0 on
   pub record AreAll (end : ℕ) (names : Texts) (es : List Event) : Type 0 where
     pub lawful : (doc : Doc) → IsOf end doc → AreLawfulFrom doc 0 es
+    pub unpaused : AreUnpaused es
     pub few : length es ≤ 100000
     pub readable : All (λ e. IsReadableWhat names cast.controllers e.what) es
 
   pub AreAll-none : (end : ℕ) (names : Texts) → AreAll end names []
-  AreAll-none end names = record { lawful = λ doc of. tt; few = omega arith; readable = All-nil (λ e. IsReadableWhat names cast.controllers e.what) }
+  AreAll-none end names = record { lawful = λ doc of. tt; unpaused = tt; few = omega arith; readable = All-nil (λ e. IsReadableWhat names cast.controllers e.what) }
 
   pub events-reads : (end : ℕ) (names : Texts) (d : Data) → AreHeld names cast.controllers → Reads names (AreAll end) (events_in cast end names d)
   unfolding events_in
   events-reads end names d held =
       and_then (array-few 100000 (codes "/events") d) (λ all few.
-      weaker (events_from-reads end names 0 0 all held) (λ r h. (h.0, record { lawful = h.1.lawful; few = omega (arith, h.1.count, few); readable = h.1.readable })))
+      weaker (events_from-reads end names 0 0 all held) (λ r h. (h.0, record { lawful = h.1.lawful; unpaused = h.1.unpaused; few = omega (arith, h.1.count, few); readable = h.1.readable })))

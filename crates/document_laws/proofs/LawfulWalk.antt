@@ -90,6 +90,7 @@ document-whole value =
         few_objects = λ kind. kinds-few kind objects.0.items o.1.fit;
         events = e.1.lawful doc of;
         few_events = e.1.few;
+        unpaused = e.1.unpaused;
       };
       named = record {
         controllers = named-grow (Grows-then k.0 from_kubelets) controllers.0 c.1.0.named;

@@ -6,7 +6,7 @@ use Rattle.kube_objects.specs.declared.deed.Actor.{Actor}
 use Rattle.kube_objects.specs.declared.deed.Actor.TheVariants as actor
 use Rattle.kube_objects.specs.Clocks.{store_wall, whole_second}
 use Rattle.kube_objects.specs.Document.{Doc}
-use Rattle.kube_objects.specs.Entry.{Entry, Call, Fact, First, Event, Starts, Crashes, Stops, Ends, Sends, Answers, Delivers, Expires, Leads, Ticks, script_entry}
+use Rattle.kube_objects.specs.Entry.{Entry, Call, Fact, First, Event, Starts, Crashes, Stops, Stalls, Ends, Sends, Answers, Delivers, Expires, Leads, Ticks, script_entry}
 use Rattle.kube_objects.specs.Identities.{identity, is_same, is_by, identity_of}
 use Rattle.kube_objects.specs.Newest.{added}
 use Rattle.kube_objects.specs.Process.{begun, is_send}
@@ -56,6 +56,7 @@ sent_counts e h s is = cases e.actor e.fact is
     cases who Starts is = absurd (none_is s is)
     cases who Crashes is = absurd (none_is s is)
     cases who Stops is = absurd (none_is s is)
+    cases who (Stalls beats) is = absurd (none_is s is)
     cases who Ends is = absurd (none_is s is)
     cases who (Sends call arrives) is = by_actor who call arrives is
     cases who (Answers call reply comes written) is = absurd (none_is s is)

@@ -6,7 +6,7 @@ use Rattle.kube_objects.specs.declared.call.Request.{Request}
 use Rattle.kube_objects.specs.declared.call.Request.TheVariants.{Get, Create, Update, PostStatus}
 use Rattle.kube_objects.specs.declared.deed.Actor.{Actor}
 use Rattle.kube_objects.specs.Document.{Doc}
-use Rattle.kube_objects.specs.Entry.{Entry, Identity, Call, Fact, First, Event, Starts, Crashes, Stops, Ends, Sends, Answers, Delivers, Expires, Leads, Ticks}
+use Rattle.kube_objects.specs.Entry.{Entry, Identity, Call, Fact, First, Event, Starts, Crashes, Stops, Stalls, Ends, Sends, Answers, Delivers, Expires, Leads, Ticks}
 use Rattle.kube_objects.specs.Identities.{is_by}
 use Rattle.kube_objects.specs.Kubelet.{is_post, ends_round, round_says, has_round, next_request}
 use Rattle.kube_objects.specs.Newest.{newest, when, join, or_else}
@@ -101,6 +101,7 @@ runs_more q x h own s = cases x.actor x.fact (is_by q x.actor) refl own
     cases who Starts b is own = plain (is_by q who)
     cases who Crashes b is own = plain (is_by q who)
     cases who Stops b is own = plain (is_by q who)
+    cases who (Stalls beats) b is own = plain (is_by q who)
     cases who Ends b is own = plain (is_by q who)
     cases who (Answers call reply comes written) b is own = plain (is_by q who)
     cases who (Leads version) b is own = plain (is_by q who)

@@ -11,7 +11,7 @@ use Rattle.kube_objects.specs.declared.script.What.TheVariants as what
 use Rattle.kube_objects.specs.Clocks.{local}
 use Rattle.kube_objects.specs.Document.{Doc, processes, is_controller, is_up_first}
 use Rattle.kube_objects.specs.Elector.{Follow, Fails, Asks, Succeeds, follow_on, leads, deadline, timer, attempt, release, acts}
-use Rattle.kube_objects.specs.Entry.{Entry, Identity, Call, Plain, Release, Fact, Event as Happens, Starts, Crashes, Stops, Ends, Delivers, Expires, Leads, Ticks, actor_of, entry, script_entry}
+use Rattle.kube_objects.specs.Entry.{Entry, Identity, Call, Plain, Release, Fact, Event as Happens, Starts, Crashes, Stops, Stalls, Ends, Delivers, Expires, Leads, Ticks, actor_of, entry, script_entry}
 use Rattle.kube_objects.specs.Identities.{identity}
 use Rattle.kube_objects.specs.Kubelet.{node_of, is_post, has_round, next_request, post, send_next, is_post_call, round_if, is_round_due, round_timer, round}
 use Rattle.kube_objects.specs.Newest.{has, only_if}
@@ -22,7 +22,7 @@ use Rattle.kube_objects.specs.Tick.{tick}
 use Rattle.kube_objects.specs.Turns.{lead_if, react, expire_as, expire_call, end_as, end_term, just_expired, is_fast_call, attempt_if, try}
 use Rattle.kube_objects.specs.Wire.{send, Sent, Back, sent_of, back_of}
 use Rattle.history.specs.History.{three_steps, history, at_turn}
-use Rattle.history.specs.Steps.{start, start_first, starts_below, first_starts, start_if_down, crash, released, stop, effect, stamp, event_version, happens_if, happen_all, step_one, each, comes_at, answered, answer_if, answer_due, step_two, react_as, deliver_as, deliver_if, deliver_due, step_three, if_up, restart_as, restart_if, restart, expire, finish, attempts, tick_as, ticks, controller_turn, kubelet_turn, turn_as, turn_unless, turn, turns, elector_turn}
+use Rattle.history.specs.Steps.{start, start_first, starts_below, first_starts, start_if_down, crash, stall, released, stop, effect, stamp, event_version, happens_if, happen_all, step_one, each, comes_at, answered, answer_if, answer_due, step_two, react_as, deliver_as, deliver_if, deliver_due, step_three, if_up, restart_as, restart_if, restart, expire, finish, attempts, tick_as, ticks, controller_turn, kubelet_turn, turn_as, turn_unless, turn, turns, elector_turn}
 use Rattle.history_laws.specs.Tails.{In}
 use Rattle.history_laws.proofs.Counting.{counted_is, only_test, only_value}
 use Rattle.history_laws.proofs.Expired.{expired_none}
@@ -97,6 +97,7 @@ pub record Keeps (doc : Doc) (P : ℕ → ℕ → List Entry → Type 0) : Type 
   pub event : (k : ℕ) (w : What) (h : List Entry) → Scripted doc k w → P k 1 h → P k 1 (script_entry k 1 (Happens (stamp doc k w) (event_version w h)) ∷ h)
   pub starts : (k step p : ℕ) (h : List Entry) → P k step h → P k step (start k step p h)
   pub crashes : (k p i : ℕ) (h : List Entry) → alive p h ≡ Some i → P k 1 h → P k 1 (entry k 1 (identity p i) Crashes ∷ h)
+  pub stalls : (k : ℕ) (id : ProcId) (beats i : ℕ) (h : List Entry) → Scripted doc k (what.Pause id beats) → alive id.0 h ≡ Some i → P k 1 h → P k 1 (entry k 1 (identity id.0 i) (Stalls beats) ∷ h)
   pub stops : (k : ℕ) (id : ProcId) (i : ℕ) (h : List Entry) → Scripted doc k (what.Stop id) → alive id.0 h ≡ Some i → P k 1 h → P k 1 (entry k 1 (identity id.0 i) Stops ∷ h)
   pub releases : (k : ℕ) (id : ProcId) (i : ℕ) (before : List Entry) (request : Request) → Scripted doc k (what.Stop id) → alive id.0 before ≡ Some i → is_paused doc id.0 k ≡ false
       → release doc (identity id.0 i) k before ≡ Some request → P k 1 (script_entry k 1 (Happens (what.Stop id) None) ∷ before) → P k 1 (stopped_at k id i before) → P k 1 (send k 1 (identity id.0 i) Release request (stopped_at k id i before))
@@ -156,6 +157,7 @@ all_kinds doc P on next more = record {
   event = λ k w h scripted s. more _ h (tt, tt, tt) s;
   starts = λ k step p h s. more _ h ((p, refl), tt, tt) s;
   crashes = λ k p i h up s. more _ h (tt, tt, tt) s;
+  stalls = λ k id beats i h scripted up s. more _ h (tt, tt, tt) s;
   stops = λ k id i h scripted up s. more _ h (tt, tt, tt) s;
   releases = λ k id i before request scripted up awake is was s. more _ (stopped_at k id i before) (tt, refl, tt) s;
   answers = λ k s h at t. more _ h (tt, tt, tt) t;
@@ -185,6 +187,7 @@ all_made doc P on next more = record {
   event = λ k w h scripted s. more _ h tt s;
   starts = λ k step p h s. more _ h tt s;
   crashes = λ k p i h up s. more _ h tt s;
+  stalls = λ k id beats i h scripted up s. more _ h tt s;
   stops = λ k id i h scripted up s. more _ h tt s;
   releases = λ k id i before request scripted up awake is was s. more _ (stopped_at k id i before) tt s;
   answers = λ k s h at t. more _ h tt t;
@@ -361,6 +364,10 @@ module _ (doc : Doc) (P : ℕ → ℕ → List Entry → Type 0) (keeps : Keeps 
   walk_crash k p None h is s = s
   walk_crash k p (Some i) h is s = keeps.crashes k p i h is s
 
+  walk_stall : (k : ℕ) (id : ProcId) (beats : ℕ) (up : Option ℕ) (h : List Entry) → Scripted doc k (what.Pause id beats) → alive id.0 h ≡ up → P k 1 h → P k 1 (stall k id.0 beats up h)
+  walk_stall k id beats None h scripted is s = s
+  walk_stall k id beats (Some i) h scripted is s = keeps.stalls k id beats i h scripted is s
+
   walk_released : (k : ℕ) (id : ProcId) (i : ℕ) (before : List Entry) → Scripted doc k (what.Stop id) → alive id.0 before ≡ Some i → is_paused doc id.0 k ≡ false → (o : Option Request) → release doc (identity id.0 i) k before ≡ o
       → P k 1 (script_entry k 1 (Happens (what.Stop id) None) ∷ before) → P k 1 (stopped_at k id i before) → P k 1 (released k (identity id.0 i) o (stopped_at k id i before))
   walk_released k id i before scripted up awake None is was s = s
@@ -383,7 +390,7 @@ module _ (doc : Doc) (P : ℕ → ℕ → List Entry → Type 0) (keeps : Keeps 
   walk_effect k (what.Loss id requests replies) before scripted s = s
   walk_effect k (what.Watch id on) before scripted s = s
   walk_effect k (what.Ready id status) before scripted s = s
-  walk_effect k (what.Pause id beats) before scripted s = s
+  walk_effect k (what.Pause id beats) before scripted s = walk_stall k id beats (alive id.0 before) (script_entry k 1 (Happens (what.Pause id beats) None) ∷ before) scripted refl s
   walk_effect k (what.Put key object) before scripted s = s
   walk_effect k (what.Remove key) before scripted s = s
 

@@ -74,11 +74,11 @@ CandidateReplies doc k q h next (candidate.Ask c ask) = Asked k 3 q h next (λ x
 CandidateReplies doc k q h next (candidate.Lead l) =
     (version : Version) × (next ≡ entry k 3 q (Leads version) ∷ h) × LeadingStands doc q next l
 
--- the same, where the candidate is to become a leader
+-- the same, where the candidate may become a leader
 abbrev pub CandidateHears : Doc → ℕ → Identity → List Entry → List Entry → Candidate → Heard → Type 0
 CandidateHears doc k q h next c heard.Stays = (next ≡ h) × CandidateStands doc q h c
 CandidateHears doc k q h next c (heard.Asks ask) = Asked k 3 q h next (λ x. CandidateStands doc q x c) ask
-CandidateHears doc k q h next c heard.Leads = (version : Version) × (next ≡ entry k 3 q (Leads version) ∷ h) × IsChosen doc q h c
+CandidateHears doc k q h next c (heard.Wins won) = (version : Version) × (next ≡ entry k 3 q (Leads version) ∷ h) × IsChosen doc q k h won
 
 abbrev pub LeadingReplies : Doc → ℕ → Identity → List Entry → List Entry → LeadingNext → Type 0
 LeadingReplies doc k q h next (leading.Stay l) = (next ≡ h) × LeadingStands doc q h l

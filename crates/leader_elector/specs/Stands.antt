@@ -19,6 +19,7 @@ use Rattle.leader_elector.specs.declared.leading.Leading.{Leading}
 use Rattle.leader_elector.specs.declared.seen.Seen.{Seen}
 use Rattle.leader_elector.specs.declared.timing.Timing.{Timing}
 use Rattle.leader_elector.specs.declared.waiting.Waiting.{Waiting}
+use Rattle.leader_elector.specs.declared.won.Won.{Won}
 use Rattle.kube_objects.specs.CallSlots.{CallSlotStands}
 
 -- the timings are those of a process of the document
@@ -84,9 +85,10 @@ pub record CandidateStands (doc : Doc) (q : Identity) (h : List Entry) (c : Cand
   pub settled : IsSettled q h
   pub leads : leads q h ≡ false
 
--- a candidate that a reply has made the holder, and that is to lead
-abbrev pub IsChosen : Doc → Identity → List Entry → Candidate → Type 0
-IsChosen doc q h c = ElectorStands doc q h c.elector
+-- a candidate that a reply at beat k has made the holder, and that is to lead
+pub record IsChosen (doc : Doc) (q : Identity) (k : ℕ) (h : List Entry) (w : Won) : Type 0 where
+  pub elector : ElectorStands doc q h w.elector
+  pub now : w.now.0 ≡ local doc q.process k
 
 pub record LeadingStands (doc : Doc) (q : Identity) (h : List Entry) (l : Leading) : Type 0 where
   pub elector : ElectorStands doc q h l.elector

@@ -1,27 +1,27 @@
 // A candidate asks for the election Lease until it leads.
-ghost use Rattle.std.specs.Prelude.{◌≡◌, ◌≤◌, ◌<◌, ◌+◌, ◌^◌, ℕ, nat_lt, true, false, List, ◌∷◌, Some, None};
-ghost use Rattle.kube_base.specs.declared.numbers.Version.{Version};
+ghost use Rattle.std.specs.Prelude.{◌≡◌, ◌≤◌, ◌<◌, ◌+◌, ◌^◌, ℕ, true, false, List, ◌∷◌, Some, None};
 ghost use Rattle.kube_base.specs.Bounds.{most_local};
 ghost use Rattle.kube_objects.specs.Clocks.{local, wall as wall_at};
 ghost use Rattle.kube_objects.specs.Document.{Doc};
 ghost use Rattle.kube_objects.specs.Elector.{timer};
-ghost use Rattle.kube_objects.specs.Entry.{Call, Delivers, Entry, Identity, Leads, Starts, entry};
+ghost use Rattle.kube_objects.specs.Entry.{Call, Delivers, Entry, Identity, Starts, entry};
 ghost use Rattle.kube_objects.specs.Process.{alive, begun, call_in, counted};
 ghost use Rattle.kube_objects.specs.Turns.{expired, with_reply};
 ghost use Rattle.leader_elector.specs.declared.candidate.Heard.TheVariants as heard;
 ghost use Rattle.leader_elector.specs.Moves.{CandidateHears, CandidateReplies, CandidateStays, CandidateTurns, IsLeast, after_turn};
 ghost use Rattle.leader_elector.specs.Moves.{becomes_leader, candidate_turn, reacted, wake_from};
-ghost use Rattle.leader_elector.specs.Stands.{CandidateStands, IsChosen, IsNew, IsTimingOf, LeadingStands};
-ghost use Rattle.leader_elector.specs.Calls.{BeginsTerm, CandidateFollows, CandidateTakesReply, CandidateTakesTurn, TakesTurn, counts_in};
+ghost use Rattle.leader_elector.specs.Stands.{CandidateStands, IsNew, IsTimingOf};
+ghost use Rattle.leader_elector.specs.Calls.{CandidateFollows, CandidateTakesReply, CandidateTakesTurn, TakesTurn, counts_in};
 ghost use Rattle.leader_elector.specs.Plain.{identity_of, kept_of, moment_of, wake_in};
 ghost use Rattle.leader_elector.specs.Stands.{Wait, waiting_of};
 ghost use Rattle.leader_elector.specs.declared.candidate.CandidateNext.TheVariants as next;
 
 use crate::elector::Elector;
 use crate::follow::Follow;
-use crate::{Leading, Timing};
+use crate::{Leading, Timing, Won};
 use kube_base::{Local, ProcId, Wall};
 use kube_objects::{Ask, Reply};
+use std::mem;
 
 /// A process that is up and doesn't lead.
 #[derive(Drop)]
@@ -37,12 +37,12 @@ pub enum CandidateNext {
     Lead(Leading),
 }
 
-/// What a reply makes a candidate do: nothing, a request, or it is to lead.
-#[derive(Clone, Copy, Debug)]
+/// What a reply makes a candidate do: nothing, a request, or it has won the lead.
+#[derive(Drop)]
 pub enum Heard {
     Stays,
     Asks(Ask),
-    Leads,
+    Wins(Won),
 }
 
 impl Candidate {
@@ -109,11 +109,11 @@ impl Candidate {
         match self.hear(number, &reply, now, wall) {
             Heard::Stays => CandidateNext::Stay(self),
             Heard::Asks(ask) => CandidateNext::Ask(self, ask),
-            Heard::Leads => CandidateNext::Lead(self.lead(now)),
+            Heard::Wins(won) => CandidateNext::Lead(won.lead()),
         }
     }
 
-    /// As `on_reply`, in place. Where it is to lead, `lead` makes it a leader at the same reading.
+    /// As `on_reply`, in place. Where it wins, what it kept goes into the answer, and this is one that has just started.
     pub fn hear(&mut self, number: u64, reply: &Reply, now: Local, wall: Wall) -> Heard
         requires now { now.0 ≤ most_local }
         ensures stays { counts_in self.old.elector number now.0 ≡ false → (result ≡ heard.Stays) × (self.new ≡ self.old) }
@@ -136,19 +136,21 @@ impl Candidate {
         match follow {
             Follow::Fails => Heard::Stays,
             Follow::Asks(request) => Heard::Asks(self.elector.ask(request, false, now)),
-            Follow::Succeeds(_) => Heard::Leads,
+            Follow::Succeeds(_) => Heard::Wins(self.win(now)),
         }
     }
 
-    /// Leads from this reading on, which is that of the reply by which it is to lead.
-    pub fn lead(self, now: Local) -> Leading
+    // Hands out what it kept.
+    fn win(&mut self, now: Local) -> Won
         requires now { now.0 ≤ most_local }
-        ensures begins { BeginsTerm self.elector now.0 result }
-        ensures stands { (doc : Doc) (q : Identity) (h : List Entry) (k step : ℕ) (version : Version)
-            → IsChosen doc q h self → now.0 ≡ local doc q.process k
-            → LeadingStands doc q (entry k step q (Leads version) ∷ h) result }
+        ensures { (result.elector ≡ self.old.elector) × (result.now ≡ now) }
     {
-        Leading::new(self.elector, now)
+        let elector = &self.elector;
+        let fresh = Elector::start(elector.me, elector.incarnation, elector.timing, now);
+        Won {
+            elector: mem::replace(&mut self.elector, fresh),
+            now,
+        }
     }
 
     /// The least reading at which `on_timer` does anything: that at which the call that waits has expired, or else the timer.

@@ -1,6 +1,6 @@
 //! Leader election as client-go's `leaderelection` does it, as typed states: a candidate, a leader, and the end of a term.
 //!
-//! Its `acquire` is `Candidate` (`candidate.rt`): `turn` is one round of the loop, `hear` takes a reply, `lead` is the success.
+//! Its `acquire` is `Candidate` (`candidate.rt`): `turn` is one round of the loop, `hear` takes a reply, `Won` (`won.rt`) is the success, from which alone a term begins.
 //! Its `renew` is `Leading` (`leading.rt`), with `on_timer`, `on_reply` and the `deadline`; its `release` is `Leading::release`.
 //! An attempt of either, `tryAcquireOrRenew`, goes through `Elector` (`elector.rt`):
 //! 1. `expire` forgets a call without a reply; where it is time `attempt` begins, with a Get or, in `renew`, the fast path's update.
@@ -19,12 +19,14 @@ mod leading;
 mod seen;
 mod timing;
 mod waiting;
+mod won;
 
 pub use acting::Acting;
 pub use candidate::{Candidate, CandidateNext, Heard};
 pub use ended::{Ended, Released};
 pub use leading::{Leading, LeadingNext};
 pub use timing::Timing;
+pub use won::Won;
 
 #[cfg(test)]
 mod tests;

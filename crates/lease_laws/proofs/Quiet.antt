@@ -7,7 +7,7 @@ use Rattle.kube_objects.specs.declared.key.Kind.TheVariants as kind
 use Rattle.kube_objects.specs.declared.script.What.{What}
 use Rattle.kube_objects.specs.Document.{Doc}
 use Rattle.kube_objects.specs.Elector.{shows, shown, newly, observed, leads, deadline_says, deadline}
-use Rattle.kube_objects.specs.Entry.{Entry, Identity, Call, Ticks, Tick, Sync, Pass, Mark, Mode, Zone, Untaint, Swap, Head, Delete, entry}
+use Rattle.kube_objects.specs.Entry.{Entry, Identity, Call, Stalls, Ticks, Tick, Sync, Pass, Mark, Mode, Zone, Untaint, Swap, Head, Delete, entry}
 use Rattle.kube_objects.specs.Identities.{identity, is_by, of_process}
 use Rattle.kube_objects.specs.Keys.{key_eq}
 use Rattle.kube_objects.specs.Newest.{added, when, join, has, or_zero, or_else}
@@ -113,6 +113,21 @@ stored_tick doc k q t h made = top_stays (entry k 4 q (Ticks t)) h (quiet_write 
 pub quiet_tick : (k : ℕ) (q : Identity) (t : Tick) → DeletesElsewhere t → Quiet (entry k 4 q (Ticks t))
 quiet_tick k q t other = record {
   write = quiet_write t other;
+  life = λ p. refl;
+  start = refl;
+  stop = refl;
+  send = refl;
+  call = λ p. refl;
+  shows = λ p. refl;
+  deadline = λ doc p led. refl;
+  event = λ f. refl;
+  sent = refl;
+  back = refl;
+}
+
+pub quiet_stall : (k step : ℕ) (q : Identity) (beats : ℕ) → Quiet (entry k step q (Stalls beats))
+quiet_stall k step q beats = record {
+  write = refl;
   life = λ p. refl;
   start = refl;
   stop = refl;

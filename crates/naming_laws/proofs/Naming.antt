@@ -17,7 +17,7 @@ use Rattle.kube_objects.specs.declared.script.What.{What}
 use Rattle.kube_objects.specs.declared.script.What.TheVariants as what
 use Rattle.kube_objects.specs.Clocks.{store_wall, whole_second}
 use Rattle.kube_objects.specs.Document.{Doc, processes, process_at, field, is_controller, end_beat}
-use Rattle.kube_objects.specs.Entry.{Entry, Identity, Call, Fact, First, Event as Happens, Starts, Crashes, Stops, Ends, Sends, Answers, Delivers, Expires, Leads, Ticks, actor_of, entry, script_entry}
+use Rattle.kube_objects.specs.Entry.{Entry, Identity, Call, Fact, First, Event as Happens, Starts, Crashes, Stops, Stalls, Ends, Sends, Answers, Delivers, Expires, Leads, Ticks, actor_of, entry, script_entry}
 use Rattle.kube_objects.specs.Identities.{identity, of_process}
 use Rattle.kube_objects.specs.InForce.{first_status}
 use Rattle.kube_objects.specs.Kubelet.{node_of}
@@ -89,6 +89,7 @@ up_within n p i (e ∷ h) are up = cases (λ up. up_within n p i h are.1 up) e.a
     cases below who Starts is up = starts below who is up
     cases below who Crashes is up = ends below who up
     cases below who Stops is up = ends below who up
+    cases below who (Stalls beats) is up = below up
     cases below who Ends is up = ends below who up
     cases below who (First key object) is up = below up
     cases below who (Happens event version) is up = below up
@@ -117,6 +118,7 @@ sent_fit names c n who (Happens event version) is carries = tt
 sent_fit names c n who Starts is carries = tt
 sent_fit names c n who Crashes is carries = tt
 sent_fit names c n who Stops is carries = tt
+sent_fit names c n who (Stalls beats) is carries = tt
 sent_fit names c n who Ends is carries = tt
 sent_fit names c n who (Answers call reply comes written) is carries = tt
 sent_fit names c n who (Delivers call reply counts) is carries = tt
@@ -132,6 +134,7 @@ back_fit names c n who (Happens event version) is carries = tt
 back_fit names c n who Starts is carries = tt
 back_fit names c n who Crashes is carries = tt
 back_fit names c n who Stops is carries = tt
+back_fit names c n who (Stalls beats) is carries = tt
 back_fit names c n who Ends is carries = tt
 back_fit names c n who (Sends call arrives) is carries = tt
 back_fit names c n who (Delivers call reply counts) is carries = tt
@@ -202,6 +205,7 @@ module _ (names : Texts) (doc : Doc) (fixed : HoldsFixed names) (lawful : IsLawf
   stamped_what k (what.Start id) le fit = tt
   stamped_what k (what.Stop id) le fit = tt
   stamped_what k (what.Watch id on) le fit = tt
+  stamped_what k (what.Pause id beats) le fit = tt
 
   event_fact : (w : What) (h : List Entry) → IsFitWhat names c w → IsFitFact names c actor.Script (Happens w (event_version w h))
   event_fact (what.Put key object) h fit = record { told = (record { form = refl; held = (fit.space, (fit.name, tt)); timely = tt }, refl); wrote = fit; carries = fit }
@@ -218,6 +222,7 @@ module _ (names : Texts) (doc : Doc) (fixed : HoldsFixed names) (lawful : IsLawf
   event_fact (what.Start id) h fit = record { told = tt; wrote = tt; carries = tt }
   event_fact (what.Stop id) h fit = record { told = tt; wrote = tt; carries = tt }
   event_fact (what.Watch id on) h fit = record { told = tt; wrote = tt; carries = tt }
+  event_fact (what.Pause id beats) h fit = record { told = tt; wrote = tt; carries = tt }
 
   event_at : (k : ℕ) (w : What) (h : List Entry) → Scripted doc k w → k ≤ end_beat doc + 1 → IsFitFact names c actor.Script (Happens (stamp doc k w) (event_version w h))
   event_at k w h scripted le = subst (λ v. IsFitFact names c actor.Script (Happens (stamp doc k w) v)) (same w) (event_fact (stamp doc k w) h (stamped_what k w le (scripted_fit names doc fixed lawful named k w scripted)))
@@ -233,6 +238,7 @@ module _ (names : Texts) (doc : Doc) (fixed : HoldsFixed names) (lawful : IsLawf
       same (what.Start id) = refl
       same (what.Stop id) = refl
       same (what.Watch id on) = refl
+      same (what.Pause id beats) = refl
 
   -- ---- simple facts of processes
 
@@ -244,6 +250,9 @@ module _ (names : Texts) (doc : Doc) (fixed : HoldsFixed names) (lawful : IsLawf
 
   stop_fact : (q : Identity) → IsFitFact names c (actor_of q) Stops
   stop_fact q = record { told = (record { form = refl; held = tt; timely = tt }, refl); wrote = tt; carries = tt }
+
+  stall_fact : (q : Identity) (beats : ℕ) → IsFitFact names c (actor_of q) (Stalls beats)
+  stall_fact q beats = record { told = (record { form = refl; held = tt; timely = tt }, refl); wrote = tt; carries = tt }
 
   end_fact : (q : Identity) → IsFitFact names c (actor_of q) Ends
   end_fact q = record { told = (record { form = refl; held = tt; timely = tt }, refl); wrote = tt; carries = tt }
@@ -290,13 +299,13 @@ module _ (names : Texts) (doc : Doc) (fixed : HoldsFixed names) (lawful : IsLawf
     expires = λ k p i call h up waits late s le good. let well = s le good.1 in
         more k 4 (identity p i) (Expires call) h (up_within n p i h well.actors up) (expire_fact (identity p i) call) well;
     ends = λ k p i at h role up is before s le good. more k 4 (identity p i) Ends h (controller_within p role) (end_fact (identity p i)) (s le good.1);
-    polls = λ k p i h role up waits s le good. more k 4 (identity p i) (Sends _ _) h (controller_within p role) (send_fact (identity p i) _ _ (election_key names c fixed)) (s le good.1);
-    attempts = λ k p i h role up waits s le good. let well = s le good.1 in
+    polls = λ k p i h role up awake waits s le good. more k 4 (identity p i) (Sends _ _) h (controller_within p role) (send_fact (identity p i) _ _ (election_key names c fixed)) (s le good.1);
+    attempts = λ k p i h role up awake waits s le good. let well = s le good.1 in
         more k 4 (identity p i) (Sends _ _) h (controller_within p role)
         (send_fact (identity p i) _ _ (attempt_fit names c fixed doc (identity p i) k (controller_below p role) (early p k le) h well.fit)) well;
-    seeks = λ k p i call h role up expired post s le good. let well = s le good.1 in
+    seeks = λ k p i call h role up awake expired post s le good. let well = s le good.1 in
         more k 4 (identity p i) (Sends _ _) h (up_within n p i h well.actors up) (send_fact (identity p i) _ _ (node_lease_key names c fixed (node_of doc p) (node_held p))) well;
-    posts = λ k p i h role up none s le good. let well = s le good.1 in
+    posts = λ k p i h role up awake none s le good. let well = s le good.1 in
         more k 4 (identity p i) (Sends _ _) h (up_within n p i h well.actors up)
         (send_fact (identity p i) _ _ (post_fit names c fixed doc (identity p i) k (node_held p) (early p k le) h (first_posted p) well.fit)) well;
     ticks = λ k q h ticking s le good. tick_well k q h ticking s le good;
@@ -309,9 +318,10 @@ module _ (names : Texts) (doc : Doc) (fixed : HoldsFixed names) (lawful : IsLawf
     event = λ k w h scripted s le good. record { fit = (event_at k w h scripted le, (s le good.1).fit); actors = (tt, (s le good.1).actors) };
     starts = λ k step p h s le good. record { fit = (start_fact _, (s le good.1).fit); actors = (good.0, (s le good.1).actors) };
     crashes = λ k p i h up s le good. let well = s le good.1 in more k 1 (identity p i) Crashes h (up_within n p i h well.actors up) (crash_fact (identity p i)) well;
+    stalls = λ k id beats i h scripted up s le good. let well = s le good.1 in more k 1 (identity id.0 i) (Stalls beats) h (up_within n id.0 i h well.actors up) (stall_fact (identity id.0 i) beats) well;
     stops = λ k id i h scripted up s le good.
         more k 1 (identity id.0 i) Stops h (controller_within id.0 (scripted_lawful names doc fixed lawful named k (what.Stop id) scripted)) (stop_fact (identity id.0 i)) (s le good.1);
-    releases = λ k id i before request scripted up is was s le good.
+    releases = λ k id i before request scripted up awake is was s le good.
         let role = scripted_lawful names doc fixed lawful named k (what.Stop id) scripted in
         let well = s le good.1 in
         more k 1 (identity id.0 i) (Sends _ _) (stopped_at k id i before) (controller_within id.0 role)

@@ -15,7 +15,7 @@ use Rattle.kube_objects.specs.declared.script.What.TheVariants as what
 use Rattle.kube_objects.specs.Clocks.{local, wall}
 use Rattle.kube_objects.specs.Document.{Doc}
 use Rattle.kube_objects.specs.Elector.{Shown, Follow, Fails, Asks, told, shows, shown, observed_at, leads, renewed, taken, updated, given_up, follow_on, not_done, is_blocked, is_valid, attempt, attempt_from, release, release_from}
-use Rattle.kube_objects.specs.Entry.{Entry, Identity, Call, CallKind, Plain, Fast, Release, Fact, First, Event as Happens, Starts, Crashes, Stops, Ends, Sends, Answers, Delivers, Expires, Leads, Ticks}
+use Rattle.kube_objects.specs.Entry.{Entry, Identity, Call, CallKind, Plain, Fast, Release, Fact, First, Event as Happens, Starts, Crashes, Stops, Stalls, Ends, Sends, Answers, Delivers, Expires, Leads, Ticks}
 use Rattle.kube_objects.specs.Identities.{is_by, is_own}
 use Rattle.kube_objects.specs.InForce.{status_of, first_status}
 use Rattle.kube_objects.specs.Kubelet.{node_of, heartbeat_lease, next_request, post}
@@ -94,6 +94,7 @@ module _ (names : Texts) (c : ℕ) (fixed : HoldsFixed names) where
       cases below who Starts carries is = below is
       cases below who Crashes carries is = below is
       cases below who Stops carries is = below is
+      cases below who (Stalls beats) carries is = below is
       cases below who Ends carries is = below is
       cases below who (Sends call arrives) carries is = below is
       cases below who (Answers call reply comes written) carries is = below is
@@ -130,6 +131,7 @@ module _ (names : Texts) (c : ℕ) (fixed : HoldsFixed names) where
       cases below who Starts carries is = below is
       cases below who Crashes carries is = below is
       cases below who Stops carries is = below is
+      cases below who (Stalls beats) carries is = below is
       cases below who Ends carries is = below is
       cases below who (Answers call reply comes written) carries is = below is
       cases below who (Leads version) carries is = below is
@@ -244,6 +246,7 @@ module _ (names : Texts) (c : ℕ) (fixed : HoldsFixed names) where
         by_event below (what.Start id) fit is = below is
         by_event below (what.Stop id) fit is = below is
         by_event below (what.Watch id on) fit is = below is
+        by_event below (what.Pause id beats) fit is = below is
         by_event below (what.Put key object) fit is = below is
         by_event below (what.Remove key) fit is = below is
 
@@ -253,6 +256,7 @@ module _ (names : Texts) (c : ℕ) (fixed : HoldsFixed names) where
         cases below Starts carries is = below is
         cases below Crashes carries is = below is
         cases below Stops carries is = below is
+        cases below (Stalls beats) carries is = below is
         cases below Ends carries is = below is
         cases below (Sends call arrives) carries is = below is
         cases below (Answers call reply comes written) carries is = below is

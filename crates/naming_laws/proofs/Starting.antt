@@ -14,14 +14,15 @@ use Rattle.kube_objects.specs.Elector.{Follow, Fails, Asks, Succeeds, follow_on,
 use Rattle.kube_objects.specs.Entry.{Entry, Identity, Call, Fact, First, Event as Happens, Starts, Stops, Delivers, entry, script_entry}
 use Rattle.kube_objects.specs.Identities.{identity}
 use Rattle.kube_objects.specs.Kubelet.{next_request, send_next, is_post_call, round_if, is_round_due, round}
-use Rattle.kube_objects.specs.Newest.{has}
+use Rattle.kube_objects.specs.Newest.{only_if, has}
+use Rattle.kube_objects.specs.Pauses.{is_paused}
 use Rattle.kube_objects.specs.Process.{alive, call_in, counted, ended, is_late, is_restart_due}
 use Rattle.kube_objects.specs.Stamps.{stamped}
 use Rattle.kube_objects.specs.Turns.{react, expire_as, expire_call, end_as, end_term, just_expired, is_fast_call, attempt_if, try}
 use Rattle.kube_objects.specs.Wire.{Sent, Back, sent_of, back_of}
 use Rattle.kube_objects.specs.Writable.{IsOneOf}
 use Rattle.history.specs.History.{put_all, three_steps, history}
-use Rattle.history.specs.Steps.{start_first, starts_below, first_starts, start_if_down, crash, released, stop, effect, stamp, event_version, happens_if, happen_all, step_one, each, comes_at, answer_if, answer_due, step_two, react_as, deliver_as, deliver_if, deliver_due, if_up, restart_as, restart_if, restart, expire, finish, attempts, tick_as, turn_as, turns}
+use Rattle.history.specs.Steps.{start_first, starts_below, first_starts, start_if_down, crash, stall, released, stop, effect, stamp, event_version, happens_if, happen_all, step_one, each, comes_at, answer_if, answer_due, step_two, react_as, deliver_as, deliver_if, deliver_due, if_up, restart_as, restart_if, restart, expire, finish, attempts, tick_as, turn_as, turn_unless, turns}
 use Rattle.history_laws.proofs.Ticks.{walk_tick}
 use Rattle.script_reader.specs.Lawful.{IsLawfulWhat, AreLawfulFrom, IsLawfulDoc}
 
@@ -66,11 +67,16 @@ module _ (doc : Doc) (lawful : IsLawfulDoc doc) where
       by : (o : Option ℕ) → Good (start_if_down k 1 id.0 o h)
       by None = (ok, s)
       by (Some i) = s
-  good_effect k (what.Stop id) ok before h s = by (alive id.0 before)
+  good_effect k (what.Stop id) ok before h s = by (only_if (not (is_paused doc id.0 k)) (alive id.0 before))
     where
       by : (o : Option ℕ) → Good (stop doc k id.0 o before h)
       by None = s
       by (Some i) = good_released k (identity id.0 i) (release doc (identity id.0 i) k before) (entry k 1 (identity id.0 i) Stops ∷ h) (tt, s)
+  good_effect k (what.Pause id beats) ok before h s = by (alive id.0 before)
+    where
+      by : (o : Option ℕ) → Good (stall k id.0 beats o h)
+      by None = s
+      by (Some i) = (tt, s)
   good_effect k (what.Rate id ppm) ok before h s = s
   good_effect k (what.Delay id requests replies) ok before h s = s
   good_effect k (what.Loss id requests replies) ok before h s = s
@@ -93,11 +99,11 @@ module _ (doc : Doc) (lawful : IsLawfulDoc doc) where
   good_each f one [] h s = s
   good_each f one (e ∷ l) h s = one e (each f l h) (good_each f one l h s)
 
-  good_answer : (k : ℕ) (o : Option Sent) (h : List Entry) → Good h → Good (answer_due k o h)
+  good_answer : (k : ℕ) (o : Option Sent) (h : List Entry) → Good h → Good (answer_due doc k o h)
   good_answer k None h s = s
   good_answer k (Some x) h s = by (comes_at k x.arrives)
     where
-      by : (b : Bool) → Good (answer_if k x b h)
+      by : (b : Bool) → Good (answer_if doc k x b h)
       by true = (tt, s)
       by false = s
 
@@ -194,9 +200,13 @@ module _ (doc : Doc) (lawful : IsLawfulDoc doc) where
       let h1 = expire doc k p h in
       good_up p (round doc k) (good_round k) (alive p h1) h1 (good_expiry k p h s)
 
+  good_unless : (k p : ℕ) → p < processes doc → (b : Bool) (h : List Entry) → Good h → Good (turn_unless doc k p b h)
+  good_unless k p below true h s = s
+  good_unless k p below false h s = good_turn k p below (is_controller doc p) h s
+
   good_turns : (k n : ℕ) (h : List Entry) → n ≤ processes doc → Good h → Good (turns doc k n h)
   good_turns k zero h le s = s
-  good_turns k (suc p) h le s = good_turn k p (omega (arith, le)) (is_controller doc p) (turns doc k p h) (good_turns k p h (omega (arith, le)) s)
+  good_turns k (suc p) h le s = good_unless k p (omega (arith, le)) (is_paused doc p k) (turns doc k p h) (good_turns k p h (omega (arith, le)) s)
 
   good_put : (xs : List (Key × Object)) (h : List Entry) → Good h → Good (put_all doc xs h)
   good_put [] h s = s
@@ -205,9 +215,9 @@ module _ (doc : Doc) (lawful : IsLawfulDoc doc) where
   good_three : (k : ℕ) (h : List Entry) → Good h → Good (three_steps doc k h)
   good_three k h s =
       let h1 = step_one doc k h in
-      let h2 = step_two k h1 in
+      let h2 = step_two doc k h1 in
       let s1 : Good h1 = good_all k 0 doc.events lawful.events (first_starts doc k h) (good_starts k h s) in
-      let s2 : Good h2 = good_each (λ e. answer_due k (sent_of e.actor e.fact)) (λ e g s. good_answer k (sent_of e.actor e.fact) g s) h1 h1 s1 in
+      let s2 : Good h2 = good_each (λ e. answer_due doc k (sent_of e.actor e.fact)) (λ e g s. good_answer k (sent_of e.actor e.fact) g s) h1 h1 s1 in
       good_each (λ e. deliver_due doc k (back_of e.actor e.fact)) (λ e g s. good_deliver k (back_of e.actor e.fact) g s) h2 h2 s2
 
   pub starts_are_of_one : (k : ℕ) → Good (history doc k)

@@ -1,5 +1,5 @@
 -- The rates of a clock, read from the last set to the first, and the least and the greatest of them over the beats.
-use Rattle.std.proofs.Common.{◌≡◌, ℕ, zero, suc, ◌+◌, ◌-◌, ◌*◌, ◌<◌, ◌≤◌, min, max, nat_le, nat_lt, List, [], ◌∷◌, ◌++◌, length, get_or, drop, slice_get, Option, Some, None, inl, inr, refl, sym, ap, subst, ◌∙◌, arith, drop-cons, eq-eqb}
+use Rattle.std.proofs.Common.{◌≡◌, ℕ, zero, suc, ◌+◌, ◌-◌, ◌*◌, ◌<◌, ◌≤◌, min, max, nat_le, nat_lt, List, [], ◌∷◌, ◌++◌, length, get_or, drop, slice_get, Option, Some, None, inl, inr, refl, sym, ap, ap₂, subst, ◌∙◌, arith, drop-cons, eq-eqb}
 use Rattle.std.proofs.lemmas.Bool.{cases_lt, le-leb, lt-leb, lt-ltb, le-ltb}
 use Rattle.std.proofs.lemmas.Bool.Decides.{nat_tests}
 use Rattle.kube_objects.specs.Clocks.{rate, rate_of, last_rate}
@@ -8,8 +8,9 @@ use Rattle.kube_objects.specs.Document.{Doc, end_beat, field, first_rate, of_sec
 use Rattle.kube_objects.specs.Newest.{when, only_if, or_else}
 use Rattle.kube_objects.specs.declared.script.Event.{Event}
 use Rattle.kube_objects.specs.declared.script.Proc.{Proc}
-use Rattle.kube_objects.specs.declared.script.What.TheVariants.{Rate}
-use Rattle.history.specs.Premise.{less, more, least_rate, greatest_rate}
+use Rattle.kube_objects.specs.declared.script.What.TheVariants.{Rate, Pause}
+use Rattle.kube_objects.specs.Pauses.{pause_of}
+use Rattle.history.specs.Premise.{less, more, least_rate, greatest_rate, stands, longest_below}
 use Rattle.script_reader.specs.ClockRates.{Spans, IsBetween, with_earlier}
 use Rattle.script_reader.specs.declared.premise.ClockRates.{ClockRates}
 
@@ -189,21 +190,30 @@ rates-end doc p place ppm events old new first same none spans step =
     let more : Spans (end_beat doc) (with_earlier 0 (first_rate doc p) (λ k. last_rate p k doc.events)) new = subst (λ n. Spans (end_beat doc) (with_earlier 0 n (λ k. last_rate p k doc.events)) new) first (step (end_beat doc) (λ k. last_rate p k doc.events) all) in
     (least-is doc p new more, greatest-is doc p new more)
 
-lt-scaled : (a b : ℕ) → nat_lt a b ≡ nat_lt (a * 1000000000) (b * 1000000000)
+-- ---- the longest pause
+
+pause_of-own : (p : ℕ) (e : Event) (id : ProcId) (beats : ℕ) → e.what ≡ Pause id beats → id.0 ≡ p → pause_of p e.what ≡ Some beats
+pause_of-own p e id beats is same = ap (pause_of p) is ∙ ap (λ b. when b beats) (eq-eqb id.0 p same)
+
+-- a pause that begins before the others
+pub longest-event : (p place so_far longer : ℕ) (events : List Event) (e : Event) (id : ProcId) (beats : ℕ) → 0 < place → place ≤ length events → e ≡ get_or events (place - 1) e → e.what ≡ Pause id beats → id.0 ≡ p → so_far ≡ longest_below p (drop place events) → longer ≡ more so_far (stands (Some beats)) → longer ≡ longest_below p (drop (place - 1) events)
+longest-event p place so_far longer events e id beats some inside is what own before step =
+    step ∙ ap (λ n. more n (stands (Some beats))) before ∙ ap (λ o. more (longest_below p (drop place events)) (stands o)) (sym (pause_of-own p e id beats what own))
+    ∙ ap (longest_below p) (drop-before events place e some inside is)
+
+-- ---- the lease
+
+lt-scaled : (a b : ℕ) → nat_lt a b ≡ nat_lt (a * 1000) (b * 1000)
 lt-scaled a b =
     elim (cases_lt a b) [
-      | inl less ↦ lt-ltb a b less ∙ sym (lt-ltb (a * 1000000000) (b * 1000000000) (omega arith))
-      | inr more ↦ le-ltb a b more ∙ sym (le-ltb (a * 1000000000) (b * 1000000000) (omega arith))
+      | inl less ↦ lt-ltb a b less ∙ sym (lt-ltb (a * 1000) (b * 1000) (omega arith))
+      | inr more ↦ le-ltb a b more ∙ sym (le-ltb (a * 1000) (b * 1000) (omega arith))
     ]
 
--- in units of 10^-12 s as in milliseconds
-in_units : (timeout retry renew lease high low : ℕ) → nat_lt ((timeout + retry + renew) * high) (lease * 1000 * low) ≡ nat_lt ((of_millis timeout + of_millis retry + of_millis renew) * high) (of_seconds lease * low)
+-- in units of 10^-12 s, of which 10^6 are parts per million, as in milliseconds
+pub in_units : (longest beat timeout retry renew lease high low : ℕ) → nat_lt (longest * beat * high * low + (timeout + retry + renew) * 1000000 * high) (lease * 1000000000 * low) ≡ nat_lt (longest * (beat * 1000 * high) * low + (of_millis timeout + of_millis retry + of_millis renew) * high) (of_seconds lease * low)
 unfolding of_seconds of_millis
-in_units timeout retry renew lease high low =
-    let acting : (timeout + retry + renew) * high * 1000000000 ≡ (timeout * 1000000000 + retry * 1000000000 + renew * 1000000000) * high = omega arith in
-    let leased : lease * 1000 * low * 1000000000 ≡ lease * 1000000000000 * low = omega arith in
-    lt-scaled ((timeout + retry + renew) * high) (lease * 1000 * low) ∙ ap (λ x. nat_lt x (lease * 1000 * low * 1000000000)) acting ∙ ap (λ x. nat_lt ((timeout * 1000000000 + retry * 1000000000 + renew * 1000000000) * high) x) leased
-
-pub outlasts-is : (timeout retry renew lease high low timeout' retry' renew' lease' high' low' : ℕ) → timeout' ≡ timeout → retry' ≡ retry → renew' ≡ renew → lease' ≡ lease → high' ≡ high → low' ≡ low → nat_lt ((timeout' + retry' + renew') * high') (lease' * 1000 * low') ≡ nat_lt ((of_millis timeout + of_millis retry + of_millis renew) * high) (of_seconds lease * low)
-outlasts-is timeout retry renew lease high low timeout' retry' renew' lease' high' low' a b c d e f =
-    ap (λ x. nat_lt x (lease' * 1000 * low')) (λ i. (a i + b i + c i) * e i) ∙ ap (λ x. nat_lt ((timeout + retry + renew) * high) x) (λ i. d i * 1000 * f i) ∙ in_units timeout retry renew lease high low
+in_units longest beat timeout retry renew lease high low =
+    let acting : (longest * beat * high * low + (timeout + retry + renew) * 1000000 * high) * 1000 ≡ longest * (beat * 1000 * high) * low + (timeout * 1000000000 + retry * 1000000000 + renew * 1000000000) * high = omega arith in
+    let leased : lease * 1000000000 * low * 1000 ≡ lease * 1000000000000 * low = omega arith in
+    lt-scaled (longest * beat * high * low + (timeout + retry + renew) * 1000000 * high) (lease * 1000000000 * low) ∙ ap₂ nat_lt acting leased

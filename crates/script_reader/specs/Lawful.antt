@@ -10,11 +10,12 @@ use Rattle.kube_objects.specs.declared.node.ReadyStatus.TheVariants as status
 use Rattle.kube_objects.specs.declared.script.Event.{Event}
 use Rattle.kube_objects.specs.declared.script.Proc.{Proc}
 use Rattle.kube_objects.specs.declared.script.What.{What}
-use Rattle.kube_objects.specs.declared.script.What.TheVariants.{Rate, Delay, Loss, Crash, Start, Stop, Watch, Ready, Put, Remove}
+use Rattle.kube_objects.specs.declared.script.What.TheVariants.{Rate, Delay, Loss, Crash, Start, Stop, Watch, Ready, Pause, Put, Remove}
 use Rattle.kube_objects.specs.declared.settings.Settings.{Settings}
 use Rattle.kube_objects.specs.Document.{Doc, is_controller, processes, end_beat}
 use Rattle.kube_objects.specs.Keys.{key_eq}
 use Rattle.kube_objects.specs.Kinds.{IsOfKind}
+use Rattle.kube_objects.specs.Pauses.{AreUnpaused}
 use Rattle.kube_objects.specs.Stored.{election}
 use Rattle.manifest_json.specs.Fields.{Texts}
 use Rattle.manifest_json.specs.Readable.{IsNameNumber, IsReadableItem, AreKeyedApart, IsReadable}
@@ -92,6 +93,7 @@ IsLawfulWhat doc (Start id) = id.0 < processes doc
 IsLawfulWhat doc (Stop id) = is_controller doc id.0 ≡ true
 IsLawfulWhat doc (Watch id on) = is_controller doc id.0 ≡ true
 IsLawfulWhat doc (Ready id status) = (is_controller doc id.0 ≡ false) × (id.0 < processes doc) × IsPosted status
+IsLawfulWhat doc (Pause id beats) = (id.0 < processes doc) × (1 ≤ beats) × (beats ≤ 604800000)
 IsLawfulWhat doc (Put key object) = (key_eq key election ≡ false) × IsOfKind key object
 IsLawfulWhat doc (Remove key) = key_eq key election ≡ false
 
@@ -115,6 +117,7 @@ pub record IsLawfulDoc (doc : Doc) : Type 0 where
   pub few_objects : (kind : Kind) → kind_count kind doc.objects ≤ kind_limit kind
   pub events : AreLawfulFrom doc 0 doc.events
   pub few_events : length doc.events ≤ 100000
+  pub unpaused : AreUnpaused doc.events
 
 -- ---- names
 

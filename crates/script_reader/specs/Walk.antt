@@ -435,6 +435,7 @@ edits_election (whats.Start who) = false
 edits_election (whats.Stop who) = false
 edits_election (whats.Watch who on) = false
 edits_election (whats.Ready who status) = false
+edits_election (whats.Pause who beats) = false
 edits_election (whats.Put key object) = is_election key
 edits_election (whats.Remove key) = is_election key
 

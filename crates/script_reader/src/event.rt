@@ -146,6 +146,7 @@ fn edits_election(what: &What) -> bool
         What::Stop(_) => false,
         What::Watch(_, _) => false,
         What::Ready(_, _) => false,
+        What::Pause(_, _) => false,
     }
 }
 

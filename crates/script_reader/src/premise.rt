@@ -1,13 +1,13 @@
 // The lease premise of a document.
-ghost use Rattle.std.specs.Prelude.{◌≡◌, ℕ, ◌+◌, ◌*◌, ◌<◌, nat_lt, length, Option, None};
+ghost use Rattle.std.specs.Prelude.{◌≡◌, ℕ, ◌+◌, ◌*◌, ◌<◌, ◌≤◌, nat_lt, length, Option, Some, None};
 ghost use Rattle.kube_objects.specs.Document.{end_beat, of_seconds, of_millis};
-ghost use Rattle.history.specs.Premise.{least_rate, greatest_rate, is_long, lease_premise};
+ghost use Rattle.history.specs.Premise.{least_rate, greatest_rate, more, stands, longest, is_long, lease_premise};
 ghost use Rattle.script_reader.specs.Documents.{doc_of};
 ghost use Rattle.script_reader.specs.ClockRates.{Spans, with_earlier};
 
 use crate::Document;
 use kube_base::Beat;
-use kube_objects::What;
+use kube_objects::{Proc, What};
 
 // The least and greatest of a clock's rates from a beat on, in parts per million.
 #[derive(Clone, Copy, Debug)]
@@ -66,22 +66,49 @@ fn rates_of(document: &Document, controller: usize) -> ClockRates
     )
 }
 
-// Whether a lease in seconds at the least rate outlasts the times in milliseconds at the greatest rate.
-fn outlasts(
-    lease_seconds: u32,
-    timeout_millis: u32,
-    retry_millis: u32,
-    renew_millis: u32,
-    least: u32,
-    greatest: u32,
-) -> bool
-    ensures { result ≡ nat_lt
-        ((of_millis timeout_millis + of_millis retry_millis + of_millis renew_millis) * greatest)
-        (of_seconds lease_seconds * least) }
+// With one more pause of so many beats.
+fn with_pause(longest: u64, beats: u32) -> u64
+    requires { longest ≤ 4294967296 }
+    ensures is { result ≡ more longest (stands (Some beats)) }
+    ensures fits { result ≤ 4294967296 }
 {
-    let acting = u128::from(timeout_millis) + u128::from(retry_millis) + u128::from(renew_millis);
-    let lease = u128::from(lease_seconds) * 1000;
-    acting * u128::from(greatest) < lease * u128::from(least)
+    longest.max(u64::from(beats) + 1)
+}
+
+// One more than the beats of a controller's longest pause, or nothing where it has none.
+fn longest(document: &Document, controller: usize) -> u64
+    ensures is { result ≡ longest (doc_of document.now) controller }
+    ensures fits { result ≤ 4294967296 }
+{
+    let events = document.events.as_slice();
+    let mut longest: u64 = 0;
+    for place in (0..events.len()).rev() {
+        let event = &events[place];
+        if let What::Pause(id, beats) = event.what
+            && id.0 as usize == controller
+        {
+            longest = with_pause(longest, beats);
+        }
+    }
+    longest
+}
+
+// Whether a lease at the least rate outlasts the times of a leader and its longest pause at the greatest rate.
+fn outlasts(process: Proc, longest: u64, beat_millis: u32, least: u32, greatest: u32) -> bool
+    requires { longest ≤ 4294967296 }
+    ensures { result ≡ nat_lt
+        (longest * (beat_millis * 1000 * greatest) * least
+        + (of_millis process.timeout_millis + of_millis process.retry_millis + of_millis process.renew_millis) * greatest)
+        (of_seconds process.lease_seconds * least) }
+{
+    let paused_millis = longest * u64::from(beat_millis);
+    let paused = u128::from(paused_millis) * u128::from(greatest) * u128::from(least);
+    let acting_millis = u128::from(process.timeout_millis)
+        + u128::from(process.retry_millis)
+        + u128::from(process.renew_millis);
+    let acting = acting_millis * 1_000_000 * u128::from(greatest);
+    let lease = u128::from(process.lease_seconds) * 1_000_000_000 * u128::from(least);
+    paused + acting < lease
 }
 
 // Whether a controller's lease is long enough for a greatest rate of any controller.
@@ -91,17 +118,16 @@ fn is_long(document: &Document, controller: usize, greatest: u32) -> bool
 {
     let process = document.controllers.as_slice()[controller];
     outlasts(
-        process.lease_seconds,
-        process.timeout_millis,
-        process.retry_millis,
-        process.renew_millis,
+        process,
+        longest(document, controller),
+        document.settings.beat_millis,
         rates_of(document, controller).least,
         greatest,
     )
 }
 
-/// Whether every controller's lease outlasts what a leader may act on after its last sent success, at any clock rates of the document.
-/// Takes no memory.
+/// Whether every controller's lease outlasts what a leader may act on after its last sent success, at any clock rates of the document
+/// and in its longest pause. Takes no memory.
 pub fn lease_premise(document: &Document) -> bool
     ensures { result ≡ lease_premise (doc_of document.now) }
 {

@@ -11,7 +11,7 @@ use Rattle.trace_terms.specs.declared.role.Role.{Role}
 use Rattle.trace_terms.specs.declared.role.Role.TheVariants.{Leads, Ends, Zones, Taints, Acts, Idles}
 use Rattle.trace_terms.specs.Entries.{Entry}
 use Rattle.trace_terms.specs.Terms.{Term, terms, term_of, own, own_with, is_lead, is_acting}
-use Rattle.trace_terms.specs.Findings.{earlier, least, numbers, crosses, crossed, outside_term, outside, strays, strays_with, unspaced}
+use Rattle.trace_terms.specs.Findings.{earlier, least, numbers, crosses, crossed, outside_term, outside, strays, unspaced}
 use Rattle.trace_audit.specs.declared.audit_of.Report.{Report}
 use Rattle.trace_audit.specs.declared.fault.AuditFault.{AuditFault}
 use Rattle.trace_audit.specs.Entries.{lines_of, entries_of, first_wrong}
@@ -120,7 +120,7 @@ stray-own who a (e ∷ es) h is = by e.role (bytes_eq e.actor who) refl h (λ i.
         absurd (let bad : false ≡ true = ap (λ b. not b) (sym same) ∙ tested in cc)
     leads false q h f = f ((of-filter (λ x. not (bytes_eq x.actor e.actor)) a (strays es) h).0)
 
-    by : (r : Role (List ℕ)) (b : Bool) → bytes_eq e.actor who ≡ b → In a (strays_with r e (strays es)) → (In a (strays es) → In a (own who es))
+    by : (r : Role (List ℕ)) (b : Bool) → bytes_eq e.actor who ≡ b → In a (cond (is_lead r) (filter (λ x. not (bytes_eq x.actor e.actor)) (strays es)) (cond (is_acting r) (e ∷ strays es) (strays es))) → (In a (strays es) → In a (own who es))
         → In a (cond b (own_with r e (own who es)) (own who es))
     by Leads b q h f = leads b q h f
     by Ends b q h f = rests b (f h)
@@ -159,7 +159,7 @@ sheltered stop a (e ∷ es) h acting = by e.role refl h (λ i. sheltered stop a 
     leads is (inr i) f = elim (f i) [ inl s ↦ turns s (bytes_eq a.actor e.actor) refl | inr t ↦ inr (t.0, inr t.1, t.2, t.3) ]
 
     by : (r : Role (List ℕ)) → e.role ≡ r → (e ≡ a) ⊎ In a es → (In a es → In a (strays es) ⊎ Held a (terms stop es))
-        → In a (strays_with r e (strays es)) ⊎ Held a (cond (is_lead r) (term_of stop e es ∷ terms stop es) (terms stop es))
+        → In a (cond (is_lead r) (filter (λ x. not (bytes_eq x.actor e.actor)) (strays es)) (cond (is_acting r) (e ∷ strays es) (strays es))) ⊎ Held a (cond (is_lead r) (term_of stop e es ∷ terms stop es) (terms stop es))
     by Leads is h f = leads is h f
     by Ends is h f = rests Ends is refl h f
     by (Zones zone rate) is h f = acts h f

@@ -191,6 +191,12 @@ evict text = do
   answer ← change_of word.1
   if is_spaced pod.0 then Some (says.Evict pod.0 time answer) else None
 
+-- `beats=N`, 1 to 604,800,000
+unfoldable pub pause : List ℕ → Option (Says (List ℕ))
+pause text = do
+  beats ← labelled_number (codes "beats") 604800000 text
+  if beats == 0 then None else Some (says.Pause beats)
+
 -- ---- what is said, by the sort of the actor
 
 abbrev pub bare : Sort → List ℕ → Option (Says (List ℕ))
@@ -221,7 +227,8 @@ unfoldable pub by_kubelet : List ℕ → List ℕ → Option (Says (List ℕ))
 by_kubelet word text =
     if bytes_eq word (codes "status") then status text
     else (if bytes_eq word (codes "create") then node_lease Create text
-    else (if bytes_eq word (codes "update") then node_lease Update text else None))
+    else (if bytes_eq word (codes "update") then node_lease Update text
+    else (if bytes_eq word (codes "pause") then pause text else None)))
 
 -- the lines that only a leader writes
 unfoldable pub by_leader : List ℕ → List ℕ → Option (Says (List ℕ))
@@ -238,7 +245,8 @@ unfoldable pub by_controller : List ℕ → List ℕ → Option (Says (List ℕ)
 by_controller word text =
     if bytes_eq word (codes "update") then election Update text
     else (if bytes_eq word (codes "create") then election Create text
-    else (if bytes_eq word (codes "lead") then lead text else by_leader word text))
+    else (if bytes_eq word (codes "lead") then lead text
+    else (if bytes_eq word (codes "pause") then pause text else by_leader word text)))
 
 abbrev pub form : Sort → List ℕ → List ℕ → Option (Says (List ℕ))
 form Script word text = by_script word text

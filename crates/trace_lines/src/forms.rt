@@ -177,8 +177,23 @@ fn by_kubelet<'a>(word: &[u8], text: &'a [u8]) -> Option<Says<&'a [u8]>>
         node_lease(Verb::Create, text)
     } else if is(word, b"update") {
         node_lease(Verb::Update, text)
+    } else if is(word, b"pause") {
+        pause(text)
     } else {
         None
+    }
+}
+
+/// `beats=N`, 1 to 604,800,000
+#[tactic(auto, unfolding(crate::specs::Forms::pause))]
+fn pause(text: &[u8]) -> Option<Says<&[u8]>>
+    ensures { Reads said result (spec.pause text.now) }
+{
+    let beats = labelled_number(text, b"beats", LAST_BEAT)?;
+    if beats == 0 {
+        None
+    } else {
+        Some(Says::Pause(beats as u32))
     }
 }
 
@@ -266,6 +281,8 @@ fn by_controller<'a>(word: &[u8], text: &'a [u8]) -> Option<Says<&'a [u8]>>
         election(Verb::Create, text)
     } else if is(word, b"lead") {
         lead(text)
+    } else if is(word, b"pause") {
+        pause(text)
     } else {
         by_leader(word, text)
     }

@@ -27,6 +27,8 @@ pub enum Says<T> {
     Crash,
     Stop,
     End,
+    /// For how many beats a process stands still.
+    Pause(u32),
     /// The version of the success.
     Lead(u64),
     /// A write of the election Lease: how it was answered, and the transitions written, 0 where it wasn't taken.

@@ -12,7 +12,7 @@ use Rattle.trace_terms.specs.declared.role.Role.TheVariants.{Leads, Taints, Idle
 use Rattle.trace_terms.specs.declared.seat.Seat.{Seat}
 use Rattle.trace_terms.specs.Entries.{Entry}
 use Rattle.trace_terms.specs.Terms.{Term, terms, term_of, ended, own, is_lead, is_taint}
-use Rattle.trace_terms.specs.Findings.{earlier, least, numbers, crosses, crossed, outside_term, outside, strays, soon, unspaced, unspaced_acts, zones_of, rate_of, start_of, taints_of}
+use Rattle.trace_terms.specs.Findings.{earlier, least, numbers, crosses, crossed, outside_term, outside, strays, breaking, unspaced, unspaced_acts, zones_of, rate_of, start_of, taints_of}
 use Rattle.trace_terms.specs.Near.{another, begun_before, live, others, IsFirst, IsOther, NearestStands}
 use Rattle.trace_terms.specs.Seats.{blank, after, SeatStands, AllSit, AreAfter, Once, first_acting}
 use Rattle.trace_terms.specs.Reviews.{ReviewStands, Led, Played}
@@ -141,17 +141,17 @@ outside-more stop e es s later sits =
     (sits.late ∙ ap (λ l. least (numbers l)) (sym (late-outside e.beat (ended stop e.actor es) e.line (own e.actor es) (own-after e.beat e.line e.actor es later))))
     ∙ sym (least-append (outside_term (term_of stop e es)) (flat_map outside_term (terms stop es)))
 
-soon-seat : (millis : ℕ) (acts : List Entry) (s : Seat) → s.rate ≡ rate_of acts → s.zones ≡ zones_of acts → s.start ≡ start_of acts → s.taints ≡ taints_of acts
-    → soon millis s.rate (length s.zones) s.start s.taints ≡ unspaced_acts millis acts
+breaking-seat : (millis : ℕ) (acts : List Entry) (s : Seat) → s.rate ≡ rate_of acts → s.zones ≡ zones_of acts → s.start ≡ start_of acts → s.taints ≡ taints_of acts
+    → breaking millis s.rate (length s.zones) s.start s.taints ≡ unspaced_acts millis acts
 unfolding unspaced_acts
-soon-seat millis acts s r z b t =
-    ap (λ n. soon millis n (length s.zones) s.start s.taints) r ∙ ap (λ l. soon millis (rate_of acts) (length l) s.start s.taints) z
-    ∙ ap (λ o. soon millis (rate_of acts) (length (zones_of acts)) o s.taints) b ∙ ap (λ l. soon millis (rate_of acts) (length (zones_of acts)) (start_of acts) l) t
+breaking-seat millis acts s r z b t =
+    ap (λ n. breaking millis n (length s.zones) s.start s.taints) r ∙ ap (λ l. breaking millis (rate_of acts) (length l) s.start s.taints) z
+    ∙ ap (λ o. breaking millis (rate_of acts) (length (zones_of acts)) o s.taints) b ∙ ap (λ l. breaking millis (rate_of acts) (length (zones_of acts)) (start_of acts) l) t
 
 unspaced-more : (millis stop : ℕ) (e : Entry) (es : List Entry) (s : Seat) → SeatStands stop es e.actor s
-    → earlier (least (soon millis s.rate (length s.zones) s.start s.taints)) (least (unspaced millis (terms stop es))) ≡ least (unspaced millis (term_of stop e es ∷ terms stop es))
+    → earlier (least (breaking millis s.rate (length s.zones) s.start s.taints)) (least (unspaced millis (terms stop es))) ≡ least (unspaced millis (term_of stop e es ∷ terms stop es))
 unspaced-more millis stop e es s sits =
-    ap (λ l. earlier (least l) (least (unspaced millis (terms stop es)))) (soon-seat millis (own e.actor es) s sits.rate sits.zones sits.start sits.taints)
+    ap (λ l. earlier (least l) (least (unspaced millis (terms stop es)))) (breaking-seat millis (own e.actor es) s sits.rate sits.zones sits.start sits.taints)
     ∙ sym (least-append (unspaced_acts millis (own e.actor es)) (unspaced millis (terms stop es)))
 
 pub review-led : (millis end place : ℕ) (e : Entry) (es : List Entry) (old new : Review) → e.role ≡ Leads → AreAfter e.beat e.line es
@@ -183,8 +183,8 @@ review-led millis end place e es old new is later at led h = by (all-sit-at (Sea
           ∙ ap (λ ts. least (crossed ts)) (sym (terms-more (end + 1) e es granted));
       outside_is = ap (λ x. x.outside) (led.findings s get) ∙ ap (λ l. earlier s.late l) h.outside_is ∙ outside-more (end + 1) e es s later sits
           ∙ ap (λ ts. least (flat_map outside_term ts)) (sym (terms-more (end + 1) e es granted));
-      unspaced_is = ap (λ x. x.unspaced) (led.findings s get) ∙ ap (λ m. earlier (least (soon m s.rate (length s.zones) s.start s.taints)) old.findings.unspaced) h.millis_is
-          ∙ ap (λ l. earlier (least (soon millis s.rate (length s.zones) s.start s.taints)) l) h.unspaced_is
+      unspaced_is = ap (λ x. x.unspaced) (led.findings s get) ∙ ap (λ m. earlier (least (breaking m s.rate (length s.zones) s.start s.taints)) old.findings.unspaced) h.millis_is
+          ∙ ap (λ l. earlier (least (breaking millis s.rate (length s.zones) s.start s.taints)) l) h.unspaced_is
           ∙ unspaced-more millis (end + 1) e es s sits ∙ ap (λ ts. least (unspaced millis ts)) (sym (terms-more (end + 1) e es granted));
       leads_is = led.leads ∙ ap (λ n. n + 1) h.leads_is ∙ one-lead ∙ count-more (λ e. is_lead e.role) e es;
       taints_is = led.taints ∙ h.taints_is ∙ no-taint ∙ count-more (λ e. is_taint e.role) e es;

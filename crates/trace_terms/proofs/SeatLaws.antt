@@ -1,14 +1,15 @@
 -- What is kept of an identity stands behind one line more.
-use Rattle.std.proofs.Common.{◌≡◌, ℕ, nat_le, Bool, true, false, cond, ◌&&◌, List, [], ◌∷◌, ◌++◌, max, Some, refl, sym, ap, subst, ◌∙◌}
-use Rattle.std.specs.List.{filter}
+use Rattle.std.proofs.Common.{◌≡◌, ℕ, nat_le, Bool, true, false, cond, ◌&&◌, List, [], ◌∷◌, ◌++◌, map, reverse, slice_get, max, Some, refl, sym, ap, subst, ◌∙◌}
+use Rattle.std.specs.List.{filter, cons_option}
+use mathlib.Core.List.{reverse-cons}
 use Rattle.std.specs.Str.{bytes_eq}
 use Rattle.kube_base.specs.Names.{with_name}
 use Rattle.trace_terms.specs.declared.role.Role.{Role}
 use Rattle.trace_terms.specs.declared.role.Role.TheVariants.{Leads, Ends, Zones, Taints, Acts, Idles}
 use Rattle.trace_terms.specs.declared.seat.Seat.{Seat}
 use Rattle.trace_terms.specs.Entries.{Entry}
-use Rattle.trace_terms.specs.Terms.{ended, own, own_with, is_lead, is_end, is_acting}
-use Rattle.trace_terms.specs.Findings.{earlier, least, numbers, zones_of, zones_with, rate_of, rate_with, start_of, start_with, taints_of, taints_with, mark_of}
+use Rattle.trace_terms.specs.Terms.{ended, own, own_with, is_lead, is_end, is_acting, is_taint}
+use Rattle.trace_terms.specs.Findings.{earlier, least, numbers, zone_line, zone_lines, different, greatest, zones_of, rate_of, start_of, taints_of, mark_of}
 use Rattle.trace_terms.specs.Seats.{blank, acted, after, Sits, SeatStands, AreAfter}
 
 -- ---- one line more
@@ -52,38 +53,68 @@ sits-end beat line to acts s later h = record {
 acts-as : (role : Role (List ℕ)) → Type 0
 acts-as role = is_acting role ≡ true
 
+-- the `zone` lines with one line more, of this role
+lines-with : (role : Role (List ℕ)) (e : Entry) (acts : List Entry) → e.role ≡ role → zone_lines (e ∷ acts) ≡ cons_option (zone_line e.beat role) (zone_lines acts)
+lines-with role e acts is = ap (λ r. cons_option (zone_line e.beat r) (zone_lines acts)) is
+
+-- and the `taint` lines
+marks-with : (role : Role (List ℕ)) (e : Entry) (acts : List Entry) → e.role ≡ role → taints_of (e ∷ acts) ≡ cond (is_taint role) (taints_of acts ++ mark_of e ∷ []) (taints_of acts)
+marks-with role e acts is = ap (λ r. reverse (map mark_of (cond (is_taint r) (e ∷ taints) taints))) is ∙ by (is_taint role)
+  where
+    taints : List Entry
+    taints = filter (λ a. is_taint a.role) acts
+
+    by : (b : Bool) → reverse (map mark_of (cond b (e ∷ taints) taints)) ≡ cond b (taints_of acts ++ mark_of e ∷ []) (taints_of acts)
+    by true = reverse-cons (mark_of e) (map mark_of taints)
+    by false = refl
+
+-- with a line that is of no zone the zone lines are as before
+unzoned : (e : Entry) (acts : List Entry) (to : ℕ) (s : Seat) → zone_lines (e ∷ acts) ≡ zone_lines acts → Sits to acts s
+    → (s.zones ≡ zones_of (e ∷ acts)) × (s.rate ≡ rate_of (e ∷ acts)) × (s.start ≡ start_of (e ∷ acts))
+unzoned e acts to s same h = (
+  h.zones ∙ ap (λ ls. different (map (λ z. z.zone) ls)) (sym same),
+  h.rate ∙ ap (λ ls. greatest (map (λ z. z.rate) ls)) (sym same),
+  h.start ∙ ap (λ ls. slice_get (map (λ z. z.beat) ls) 0) (sym same),
+)
+
 sits-act : (role : Role (List ℕ)) (to : ℕ) (e : Entry) (acts : List Entry) (s : Seat) → e.role ≡ role → is_acting role ≡ true → Sits to acts s
     → Sits to (e ∷ acts) (after role e.beat e.line s)
 sits-act Leads to e acts s is acting h = absurd (let denied : false ≡ true = acting in cc)
 sits-act Ends to e acts s is acting h = absurd (let denied : false ≡ true = acting in cc)
 sits-act Idles to e acts s is acting h = absurd (let denied : false ≡ true = acting in cc)
-sits-act (Zones zone rate) to e acts s is acting h = record {
-  until = h.until;
-  first = ap (λ l. earlier (Some e.line) l) h.first;
-  late = acted-late to e acts s h;
-  zones = ap (λ zs. with_name zs zone) h.zones ∙ ap (λ r. zones_with r (zones_of acts)) (sym is);
-  rate = ap (λ n. max n rate) h.rate ∙ ap (λ r. rate_with r (rate_of acts)) (sym is);
-  start = ap (λ r. start_with r e.beat (start_of acts)) (sym is);
-  taints = h.taints ∙ ap (λ r. taints_with r (mark_of e) (taints_of acts)) (sym is);
-}
-sits-act Taints to e acts s is acting h = record {
-  until = h.until;
-  first = ap (λ l. earlier (Some e.line) l) h.first;
-  late = acted-late to e acts s h;
-  zones = h.zones ∙ ap (λ r. zones_with r (zones_of acts)) (sym is);
-  rate = h.rate ∙ ap (λ r. rate_with r (rate_of acts)) (sym is);
-  start = h.start ∙ ap (λ r. start_with r e.beat (start_of acts)) (sym is);
-  taints = ap (λ ts. ts ++ mark_of e ∷ []) h.taints ∙ ap (λ r. taints_with r (mark_of e) (taints_of acts)) (sym is);
-}
-sits-act Acts to e acts s is acting h = record {
-  until = h.until;
-  first = ap (λ l. earlier (Some e.line) l) h.first;
-  late = acted-late to e acts s h;
-  zones = h.zones ∙ ap (λ r. zones_with r (zones_of acts)) (sym is);
-  rate = h.rate ∙ ap (λ r. rate_with r (rate_of acts)) (sym is);
-  start = h.start ∙ ap (λ r. start_with r e.beat (start_of acts)) (sym is);
-  taints = h.taints ∙ ap (λ r. taints_with r (mark_of e) (taints_of acts)) (sym is);
-}
+sits-act (Zones zone rate) to e acts s is acting h =
+    let more = lines-with (Zones zone rate) e acts is in
+    record {
+      until = h.until;
+      first = ap (λ l. earlier (Some e.line) l) h.first;
+      late = acted-late to e acts s h;
+      zones = ap (λ zs. with_name zs zone) h.zones ∙ ap (λ ls. different (map (λ z. z.zone) ls)) (sym more);
+      rate = ap (λ n. max n rate) h.rate ∙ ap (λ ls. greatest (map (λ z. z.rate) ls)) (sym more);
+      start = ap (λ ls. slice_get (map (λ z. z.beat) ls) 0) (sym more);
+      taints = h.taints ∙ sym (marks-with (Zones zone rate) e acts is);
+    }
+sits-act Taints to e acts s is acting h =
+    let same = unzoned e acts to s (lines-with Taints e acts is) h in
+    record {
+      until = h.until;
+      first = ap (λ l. earlier (Some e.line) l) h.first;
+      late = acted-late to e acts s h;
+      zones = same.0;
+      rate = same.1;
+      start = same.2;
+      taints = ap (λ ts. ts ++ mark_of e ∷ []) h.taints ∙ sym (marks-with Taints e acts is);
+    }
+sits-act Acts to e acts s is acting h =
+    let same = unzoned e acts to s (lines-with Acts e acts is) h in
+    record {
+      until = h.until;
+      first = ap (λ l. earlier (Some e.line) l) h.first;
+      late = acted-late to e acts s h;
+      zones = same.0;
+      rate = same.1;
+      start = same.2;
+      taints = h.taints ∙ sym (marks-with Acts e acts is);
+    }
 
 -- ---- lines behind a beat
 

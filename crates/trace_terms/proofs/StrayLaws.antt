@@ -7,8 +7,8 @@ use Rattle.trace_terms.specs.declared.role.Role.{Role}
 use Rattle.trace_terms.specs.declared.role.Role.TheVariants.{Leads, Ends, Zones, Taints, Acts, Idles}
 use Rattle.trace_terms.specs.declared.seat.Seat.{Seat}
 use Rattle.trace_terms.specs.Entries.{Entry}
-use Rattle.trace_terms.specs.Terms.{own, own_with}
-use Rattle.trace_terms.specs.Findings.{earlier, least, numbers, strays, strays_with}
+use Rattle.trace_terms.specs.Terms.{own, own_with, is_lead, is_acting}
+use Rattle.trace_terms.specs.Findings.{earlier, least, numbers, strays}
 use Rattle.trace_terms.specs.Seats.{SeatStands, AllSit, blank, first_acting}
 use Rattle.trace_terms.proofs.Least.{least_by, by_actor, AreHeld, least-grouped, least_by-same}
 
@@ -59,7 +59,7 @@ strays-own who (e ∷ es) = by e.role (strays-own who es)
     pass false rest = rest
 
     by : (role : Role (List ℕ)) → by_actor who (strays es) ≡ own who es
-        → by_actor who (strays_with role e (strays es)) ≡ cond (bytes_eq e.actor who) (own_with role e (own who es)) (own who es)
+        → by_actor who (cond (is_lead role) (without e.actor (strays es)) (cond (is_acting role) (e ∷ strays es) (strays es))) ≡ cond (bytes_eq e.actor who) (own_with role e (own who es)) (own who es)
     by Leads rest = lead (bytes_eq e.actor who) refl rest
     by Ends rest = pass (bytes_eq e.actor who) rest
     by (Zones zone rate) rest = act (bytes_eq e.actor who) rest

@@ -1,14 +1,14 @@
 -- What is wrong with the terms of a trace: the lines at fault, of which the first one is told.
 use Rattle.std.specs.Prelude.{ℕ, ◌-◌, ◌*◌, ◌&&◌, not, nat_le, nat_lt, Bool, true, if◌then◌else◌}
-use Rattle.std.specs.Prelude.{List, [], ◌∷◌, ◌++◌, length, map, slice_get, Option, Some, None, min, max}
+use Rattle.std.specs.Prelude.{List, [], ◌∷◌, ◌++◌, length, map, reverse, slice_get, filter_map, Option, Some, None, min, max}
 use Rattle.std.specs.List.{filter, flat_map}
 use Rattle.std.specs.Str.{bytes_eq}
 use Rattle.kube_base.specs.Names.{with_name}
 use Rattle.trace_terms.specs.declared.role.Role.{Role}
-use Rattle.trace_terms.specs.declared.role.Role.TheVariants.{Leads, Ends, Zones, Taints, Acts, Idles}
+use Rattle.trace_terms.specs.declared.role.Role.TheVariants.{Zones}
 use Rattle.trace_terms.specs.declared.mark.Mark.{Mark}
 use Rattle.trace_terms.specs.Entries.{Entry}
-use Rattle.trace_terms.specs.Terms.{Term}
+use Rattle.trace_terms.specs.Terms.{Term, is_lead, is_acting, is_taint}
 
 -- ---- the first of some lines
 
@@ -41,103 +41,83 @@ crossed (t ∷ ts) = map (λ u. u.line) (filter (crosses t) ts) ++ crossed ts
 abbrev pub outside_term : Term → List ℕ
 outside_term t = numbers (filter (λ a. not (nat_le t.from a.beat && nat_lt a.beat t.to)) t.acts)
 
-abbrev pub strays_with : Role (List ℕ) → Entry → List Entry → List Entry
-strays_with Leads e es = filter (λ a. not (bytes_eq a.actor e.actor)) es
-strays_with Ends e es = es
-strays_with (Zones zone rate) e es = e ∷ es
-strays_with Taints e es = e ∷ es
-strays_with Acts e es = e ∷ es
-strays_with Idles e es = es
-
 -- the acting lines with no `lead` line of their actor before them
 unfoldable pub strays : List Entry → List Entry
 strays [] = []
-strays (e ∷ es) = strays_with e.role e (strays es)
+strays (e ∷ es) =
+    if is_lead e.role then filter (λ a. not (bytes_eq a.actor e.actor)) (strays es)
+    else (if is_acting e.role then e ∷ strays es else strays es)
 
 abbrev pub outside : List Entry → List Term → List ℕ
 outside es ts = flat_map outside_term ts ++ numbers (strays es)
 
--- ---- the spacing of taints
+-- ---- the `zone` and `taint` lines of a term
 
-abbrev pub zones_with : Role (List ℕ) → List (List ℕ) → List (List ℕ)
-zones_with Leads zones = zones
-zones_with Ends zones = zones
-zones_with (Zones zone rate) zones = with_name zones zone
-zones_with Taints zones = zones
-zones_with Acts zones = zones
-zones_with Idles zones = zones
+-- what a `zone` line says: its beat, the zone and the rate
+pub record ZoneLine : Type 0 where
+  pub beat : ℕ
+  pub zone : List ℕ
+  pub rate : ℕ
 
--- the different zones of some lines
+abbrev pub zone_line : ℕ → Role (List ℕ) → Option ZoneLine
+zone_line beat (Zones zone rate) = Some (record { beat = beat; zone = zone; rate = rate })
+zone_line beat _ = None
+
+abbrev pub zone_lines : List Entry → List ZoneLine
+zone_lines acts = filter_map (λ a. zone_line a.beat a.role) acts
+
+-- the different ones of some texts
+abbrev pub different : List (List ℕ) → List (List ℕ)
+different [] = []
+different (text ∷ texts) = with_name (different texts) text
+
+abbrev pub greatest : List ℕ → ℕ
+greatest [] = 0
+greatest (n ∷ ns) = max (greatest ns) n
+
+-- the different zones of a term
 abbrev pub zones_of : List Entry → List (List ℕ)
-zones_of [] = []
-zones_of (e ∷ es) = zones_with e.role (zones_of es)
-
-abbrev pub rate_with : Role (List ℕ) → ℕ → ℕ
-rate_with Leads rate = rate
-rate_with Ends rate = rate
-rate_with (Zones zone r) rate = max rate r
-rate_with Taints rate = rate
-rate_with Acts rate = rate
-rate_with Idles rate = rate
+zones_of acts = different (map (λ z. z.zone) (zone_lines acts))
 
 -- the greatest rate of a zone
 abbrev pub rate_of : List Entry → ℕ
-rate_of [] = 0
-rate_of (e ∷ es) = rate_with e.role (rate_of es)
+rate_of acts = greatest (map (λ z. z.rate) (zone_lines acts))
 
-abbrev pub start_with : Role (List ℕ) → ℕ → Option ℕ → Option ℕ
-start_with Leads beat start = start
-start_with Ends beat start = start
-start_with (Zones zone rate) beat start = Some beat
-start_with Taints beat start = start
-start_with Acts beat start = start
-start_with Idles beat start = start
-
--- the beat of the first zone line
+-- the beat of the first `zone` line
 abbrev pub start_of : List Entry → Option ℕ
-start_of [] = None
-start_of (e ∷ es) = start_with e.role e.beat (start_of es)
-
-abbrev pub taints_with : Role (List ℕ) → Mark → List Mark → List Mark
-taints_with Leads mark marks = marks
-taints_with Ends mark marks = marks
-taints_with (Zones zone rate) mark marks = marks
-taints_with Taints mark marks = marks ++ mark ∷ []
-taints_with Acts mark marks = marks
-taints_with Idles mark marks = marks
+start_of acts = slice_get (map (λ z. z.beat) (zone_lines acts)) 0
 
 abbrev pub mark_of : Entry → Mark
 mark_of e = record { beat = e.beat; line = e.line }
 
--- the taint lines, the last one first
+-- the `taint` lines, the last one first
 abbrev pub taints_of : List Entry → List Mark
-taints_of [] = []
-taints_of (e ∷ es) = taints_with e.role (mark_of e) (taints_of es)
+taints_of acts = reverse (map mark_of (filter (λ a. is_taint a.role) acts))
+
+-- ---- the spacing of taints
 
 -- a step from a beat to another at a rate is so long that a bucket of one taint is full again, at any clocks
 -- that a document may have: (to - from) * millis * 1000 * 2000000 * rate >= 10^15
 abbrev pub is_wide : ℕ → ℕ → ℕ → ℕ → Bool
 is_wide millis rate from to = nat_le 1_000_000_000_000_000 ((to - from) * millis * 1000 * 2_000_000 * rate)
 
-abbrev pub or_start : Option Mark → Option ℕ → Option ℕ
-or_start None start = start
-or_start (Some mark) start = Some mark.beat
+-- A taint line breaks the spacing of its term, which has m different zones, in three cases: the term has no `zone` line; or it is one of
+-- the term's first m taint lines, and the step from the first `zone` line to it isn't wide; or it is a later one, and the step to it from
+-- the taint line that stands m taint lines before it isn't wide.
+abbrev pub breaks : ℕ → ℕ → Option ℕ → Option Mark → ℕ → Bool
+breaks millis rate None before to = true
+breaks millis rate (Some first) None to = not (is_wide millis rate first to)
+breaks millis rate (Some first) (Some before) to = not (is_wide millis rate before.beat to)
 
-abbrev pub is_soon : ℕ → ℕ → Option ℕ → ℕ → Bool
-is_soon millis rate None to = true
-is_soon millis rate (Some from) to = not (is_wide millis rate from to)
+-- the taint lines that break the spacing, of those that stand here from the last to the first
+abbrev pub breaking : ℕ → ℕ → ℕ → Option ℕ → List Mark → List ℕ
+breaking millis rate m first [] = []
+breaking millis rate m first (mark ∷ older) =
+    (if breaks millis rate first (slice_get (mark ∷ older) m) mark.beat then mark.line ∷ [] else []) ++ breaking millis rate m first older
 
--- the taint lines that come too soon after the one as many taint lines before as there are zones, or after the first zone line
--- where there are fewer; with no zone line all of them
-abbrev pub soon : ℕ → ℕ → ℕ → Option ℕ → List Mark → List ℕ
-soon millis rate zones start [] = []
-soon millis rate zones start (mark ∷ older) =
-    (if is_soon millis rate (or_start (slice_get (mark ∷ older) zones) start) mark.beat then mark.line ∷ [] else [])
-    ++ soon millis rate zones start older
-
--- the taint lines of a term that break the spacing
+-- those of a term, at the greatest rate of its zones
 unfoldable pub unspaced_acts : ℕ → List Entry → List ℕ
-unspaced_acts millis acts = soon millis (rate_of acts) (length (zones_of acts)) (start_of acts) (taints_of acts)
+unspaced_acts millis acts = breaking millis (rate_of acts) (length (zones_of acts)) (start_of acts) (taints_of acts)
 
 abbrev pub unspaced : ℕ → List Term → List ℕ
 unspaced millis ts = flat_map (λ t. unspaced_acts millis t.acts) ts

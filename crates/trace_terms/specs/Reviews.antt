@@ -7,7 +7,7 @@ use Rattle.trace_terms.specs.declared.review.Findings.{Findings}
 use Rattle.trace_terms.specs.declared.review.Review.{Review}
 use Rattle.trace_terms.specs.Entries.{Entry}
 use Rattle.trace_terms.specs.Terms.{terms, is_lead, is_taint}
-use Rattle.trace_terms.specs.Findings.{earlier, least, crossed, outside_term, soon, unspaced}
+use Rattle.trace_terms.specs.Findings.{earlier, least, crossed, outside_term, breaking, unspaced}
 use Rattle.trace_terms.specs.Near.{NearestStands, another, begun_before}
 use Rattle.trace_terms.specs.declared.role.Role.{Role}
 use Rattle.trace_terms.specs.declared.seat.Seat.{Seat}
@@ -43,7 +43,7 @@ abbrev pub findings_with : ℕ → ℕ → Seat → Review → Findings
 findings_with place beat s r = record {
   crossed = crossed_with place beat s.to r;
   outside = earlier s.late r.findings.outside;
-  unspaced = earlier (least (soon r.millis s.rate (length s.zones) s.start s.taints)) r.findings.unspaced;
+  unspaced = earlier (least (breaking r.millis s.rate (length s.zones) s.start s.taints)) r.findings.unspaced;
 }
 
 abbrev pub nearest_with : ℕ → ℕ → ℕ → ℕ → Review → Nearest

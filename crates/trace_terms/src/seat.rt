@@ -1,6 +1,6 @@
 // What follows a place of the trace, for one identity.
 ghost use Rattle.std.specs.Prelude.{◌≡◌, length, OnOk};
-ghost use Rattle.trace_terms.specs.Findings.{least, soon};
+ghost use Rattle.trace_terms.specs.Findings.{least, breaking};
 ghost use Rattle.trace_terms.specs.Entries.{played};
 ghost use Rattle.trace_terms.specs.Seats as spec;
 
@@ -8,7 +8,7 @@ use crate::earlier::earlier;
 use crate::mark::Mark;
 use crate::role::Role;
 use crate::roll::Roll;
-use crate::spacing::first_soon;
+use crate::spacing::first_breaking;
 use kube_base::{ListOf, NoMemory};
 use std::alloc::Global;
 
@@ -96,9 +96,9 @@ impl Seat {
 
     /// The first taint line that breaks the spacing.
     pub fn spacing_fault(&self, millis: u32) -> Option<u64>
-        ensures { result ≡ least (soon millis self.now.rate (length self.now.zones) self.now.start self.now.taints) }
+        ensures { result ≡ least (breaking millis self.now.rate (length self.now.zones) self.now.start self.now.taints) }
     {
-        first_soon(
+        first_breaking(
             millis,
             self.rate,
             self.zones.len(),

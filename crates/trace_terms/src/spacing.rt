@@ -5,45 +5,48 @@ ghost use Rattle.trace_terms.specs.Findings as spec;
 use crate::earlier::earlier;
 use crate::mark::Mark;
 
-/// The first of the taint lines of a term, which stand here from the last to the first, that comes too soon after the one as many
-/// taint lines before it as there are zones, or after the first zone line where there are fewer.
-pub(crate) fn first_soon(
+/// The first of the taint lines of a term, which stand here from the last to the first, that breaks the spacing: where there is no zone
+/// line, or where it comes too soon after the one as many taint lines before it as there are zones, or after the first zone line where
+/// there are fewer.
+pub(crate) fn first_breaking(
     millis: u32,
     rate: u32,
     zones: usize,
     start: Option<u32>,
     taints: &[Mark],
 ) -> Option<u64>
-    ensures { result ≡ spec.least (spec.soon millis rate zones start taints.now) }
+    ensures { result ≡ spec.least (spec.breaking millis rate zones start taints.now) }
 {
     let mut found = None;
     for index in 0..taints.len() {
         let (_, rest) = taints.split_at(index);
-        let base = base(zones, start, rest);
         let taint = taints[index];
-        if is_soon(millis, rate, base, taint.beat) {
+        if breaks(millis, rate, start, before(zones, rest), taint.beat) {
             found = earlier(found, Some(taint.line));
         }
     }
     found
 }
 
-/// From which beat the first of these taint lines is measured.
-fn base(zones: usize, start: Option<u32>, taints: &[Mark]) -> Option<u32>
-    ensures { result ≡ spec.or_start (slice_get taints.now zones) start }
+/// Whether a taint line at a beat breaks the spacing: there is no zone line, or it comes too soon after the first one, or after the taint
+/// line that stands as many taint lines before as there are zones.
+fn breaks(millis: u32, rate: u32, first: Option<u32>, before: Option<Mark>, to: u32) -> bool
+    ensures { result ≡ spec.breaks millis rate first before to }
 {
-    match taints.get(zones) {
-        Some(mark) => Some(mark.beat),
-        None => start,
+    match (first, before) {
+        (None, _) => true,
+        (Some(first), None) => !is_wide(millis, rate, first, to),
+        (Some(_), Some(before)) => !is_wide(millis, rate, before.beat, to),
     }
 }
 
-fn is_soon(millis: u32, rate: u32, from: Option<u32>, to: u32) -> bool
-    ensures { result ≡ spec.is_soon millis rate from to }
+/// The taint line that stands as many taint lines before the first of these as there are zones.
+fn before(zones: usize, taints: &[Mark]) -> Option<Mark>
+    ensures { result ≡ slice_get taints.now zones }
 {
-    match from {
-        Some(from) => !is_wide(millis, rate, from, to),
-        None => true,
+    match taints.get(zones) {
+        Some(mark) => Some(*mark),
+        None => None,
     }
 }
 

@@ -80,6 +80,7 @@ fn add_act(alloc: Global, text: &mut Vec<u8>, names: &Names, act: Act) -> Result
         Act::Crash => add(text, b"crash"),
         Act::Stop => add(text, b"stop"),
         Act::End => add(text, b"end"),
+        Act::Pause(beats) => add_pause(text, beats),
         Act::Lead(version) => add_version(text, b"lead v=", version),
         Act::Create(key, answer, changes) => add_lease(
             text, b"create ", names, &key, answer, changes,
@@ -98,6 +99,14 @@ fn add_act(alloc: Global, text: &mut Vec<u8>, names: &Names, act: Act) -> Result
         Act::Untainted(node, answer) => add_untaint(text, names, node, answer),
         Act::Evicted(key, due, answer) => add_eviction(alloc, text, names, &key, due, answer),
     }
+}
+
+/// Adds for how many beats a process stands still.
+fn add_pause(text: &mut Vec<u8>, beats: u32) -> Result<(), NoMemory>
+    ensures { OnOk result (text.new.items ≡ text.old.items ++ (codes "pause beats=" ++ decimal beats)) }
+{
+    add(text, b"pause beats=")?;
+    add_number(text, u64::from(beats))
 }
 
 /// Adds a word and a version behind it.

@@ -21,6 +21,13 @@ const CREATE: Deed = Deed {
     act: Act::Create(Key::ELECTION, Answer::Done(Version(6)), 0),
 };
 
+/// The first controller stands still for 45 beats.
+const PAUSE: Deed = Deed {
+    beat: Beat(20),
+    actor: Actor::Proc(ProcId(0), 1),
+    act: Act::Pause(45),
+};
+
 /// The node of the fixed name 7 isn't tainted, since another write was before.
 const TAINT: Deed = Deed {
     beat: Beat(104),
@@ -45,6 +52,7 @@ const EVICTION: Deed = Deed {
 
 const LINES: &str = "trace 1 beat=100 end=204 premise=yes
 3 c1_1 create election v=6 t=0
+20 c1_1 pause beats=45
 104 c1_1 taint kube-system not-ready conflict v=8
 104 c1_1 evict kube-system/kube-controller-manager due=2024-01-01T00:00:01Z absent
 ";
@@ -60,6 +68,7 @@ fn write(
 {
     write_first(alloc, sink, &SETTINGS, true)?;
     write_deed(alloc, sink, names, processes, &CREATE)?;
+    write_deed(alloc, sink, names, processes, &PAUSE)?;
     write_deed(alloc, sink, names, processes, &TAINT)?;
     write_deed(alloc, sink, names, processes, &EVICTION)
 }

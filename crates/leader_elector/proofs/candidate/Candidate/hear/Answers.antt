@@ -1,10 +1,13 @@
 use Rattle.leader_elector.proofs.Taken.{answered-never, takes-ask, takes-silent}
-use Rattle.std.proofs.Common.{◌≡◌, ◌∙◌, ◌∷◌, true, sym, ap, subst, refl}
+use Rattle.std.proofs.Common.{◌≡◌, ◌∙◌, ◌∷◌, None, true, false, sym, ap, subst, refl}
+use Rattle.kube_base.specs.declared.numbers.Local.{Local}
 use Rattle.kube_objects.specs.Elector.{Fails, Succeeds, leads}
 use Rattle.kube_objects.specs.Entry.{Delivers, Leads, Plain, Sends, entry}
 use Rattle.kube_objects.specs.Turns.{lead_if, react, with_reply}
 use Rattle.kube_objects.specs.Wire.{next_call, send}
+use Rattle.leader_elector.specs.Calls.{TakesReply}
 use Rattle.leader_elector.specs.Moves.{Asked, Received, reacted}
+use Rattle.leader_elector.specs.Plain.{moment_of}
 use Rattle.leader_elector.specs.Stands.{ElectorStands, follow_of}
 use Rattle.leader_elector.proofs.Own.{settled-own}
 use Rattle.leader_elector.proofs.candidate.Candidate.hear.Goals as goal
@@ -49,7 +52,7 @@ returns-in-Succeeds-clause-counts c doc q h k call s now wall room is =
     let t = c.in-Some.ensures.counts doc q h k call s.elector s.leads now wall is in
     let next : reacted doc k q call c.args.reply.now h ≡ entry k 3 q (Leads version) ∷ g =
     ap (λ f. react k q (leads q h) f g) (sym t.0 ∙ ap follow_of c.in-Succeeds.is) ∙ ap (λ b. lead_if k q b version g) s.leads in
-    (version, next, t.1)
+    (version, next, record { elector = subst (λ e. ElectorStands doc q g e) (sym c.win.ensures.0) t.1; now = ap (λ (x : Local). x.0) c.win.ensures.1 ∙ now })
 
 pub returns-in_default-clause-takes : goal.returns-in_default-clause-takes
 returns-in_default-clause-takes c w counts waits = absurd (answered-never c.receive.result c.in_default.is (c.receive.ensures.held w counts waits))
@@ -62,5 +65,8 @@ returns-in-Asks-clause-takes c w counts waits =
     takes-ask c.in-Some.follow c.in-Asks.request c.ask.result (ap follow_of c.in-Asks.is) (c.in-Some.ensures.held w counts waits) c.ask.ensures.same c.ask.ensures.asks
 
 pub returns-in-Succeeds-clause-takes : goal.returns-in-Succeeds-clause-takes
-returns-in-Succeeds-clause-takes c w counts waits =
-    takes-silent c.in-Some.follow (Succeeds c.in-Succeeds.field-0) (ap follow_of c.in-Succeeds.is) refl (c.in-Some.ensures.held w counts waits)
+returns-in-Succeeds-clause-takes c w counts waits = (
+  subst (λ e. TakesReply false c.args.self.now.elector (moment_of c.args.self.now.elector c.args.now.0 c.args.wall.0) w c.args.reply.now e true None) (sym c.win.ensures.0)
+      (takes-silent c.in-Some.follow (Succeeds c.in-Succeeds.field-0) (ap follow_of c.in-Succeeds.is) refl (c.in-Some.ensures.held w counts waits)),
+  ap (λ (x : Local). x.0) c.win.ensures.1,
+)
