@@ -7,10 +7,12 @@ use Rattle.kube_objects.specs.declared.object.Object.{Object}
 use Rattle.kube_objects.specs.declared.script.Proc.{Proc}
 use Rattle.kube_objects.specs.Document.{Doc, end_beat, first_rate, of_seconds, of_millis}
 use Rattle.kube_objects.specs.Newest.{or_else}
-use Rattle.history.specs.Premise.{less, more, least_rate, greatest_rate, lease_premise}
+use Rattle.history.proofs.Pauses.{no_longest}
+use Rattle.history.specs.Premise.{less, more, least_rate, greatest_rate, longest, lease_premise}
 use Rattle.world_gen.specs.declared.crash.Crash.{Crash}
 use Rattle.world_gen.specs.Draws.{start, crashes}
 use Rattle.world_gen.specs.Generated.{settings, controllers, kubelets, node_items, pod_items, by_beat, event, middle, generated}
+use Rattle.world_gen.proofs.Ranges.{crashes-pause_nobody}
 
 module _ (beats : ℕ) (others : List Proc) (items : List (Key × Object)) (xs : List Crash) where
   abbrev doc : Doc
@@ -38,6 +40,9 @@ module _ (beats : ℕ) (others : List Proc) (items : List (Key × Object)) (xs :
   greatest-is p zero = rate-stands p 0
   greatest-is p (suc k) = ap₂ more (greatest-is p k) (rate-stands p (suc k)) ∙ more-itself (first_rate doc p)
 
+  none-stands : (p : ℕ) → longest doc p ≡ 0
+  none-stands p = no_longest doc p (crashes-pause_nobody xs)
+
   premise-holds : lease_premise doc ≡ true
   unfolding of_seconds of_millis
   premise-holds =
@@ -48,6 +53,9 @@ module _ (beats : ℕ) (others : List Proc) (items : List (Key × Object)) (xs :
         least-is 0 (end_beat doc),
         least-is 1 (end_beat doc),
         least-is 2 (end_beat doc),
+        none-stands 0,
+        none-stands 1,
+        none-stands 2,
       ) refl
 
 pub generated-premise : (seed nodes pods beats : ℕ) → lease_premise (generated seed nodes pods beats) ≡ true

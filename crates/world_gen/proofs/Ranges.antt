@@ -8,6 +8,7 @@ use Rattle.std.specs.List.{range_with_len, AllByRecursion, IsDistinct}
 use Rattle.rand_pcg.specs.Lcg.{Lcg}
 use Rattle.kube_objects.specs.declared.script.Event.{Event}
 use Rattle.kube_objects.specs.Document.{Doc, processes, end_beat}
+use Rattle.kube_objects.specs.Pauses.{AreUnpaused}
 use Rattle.script_reader.specs.Lawful.{AreLawful, IsLawful, AreNamedApart, AreLawfulFrom}
 use Rattle.script_reader.specs.Walk.{numbers_of}
 use Rattle.world_gen.specs.declared.crash.Crash.{Crash}
@@ -230,3 +231,7 @@ short p (y ∷ ys) = let rest = short p ys in grind (arith, rest)
 
 pub events-few : (n : ℕ) (ys : List Crash) → length (map event (by_beat n ys)) ≤ length ys
 events-few n ys = omega (arith, length-map (by_beat n ys) event, length-by_beat n ys, short (λ crash. nat_lt crash.beat n) ys)
+
+pub crashes-pause_nobody : (ys : List Crash) → AreUnpaused (map event ys)
+crashes-pause_nobody [] = tt
+crashes-pause_nobody (y ∷ ys) = (tt, crashes-pause_nobody ys)

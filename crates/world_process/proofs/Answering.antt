@@ -23,7 +23,7 @@ use Rattle.history.specs.Steps.{deliver_as, react_as, delivered}
 use Rattle.leader_elector.specs.Moves.{Asked, reacted}
 use Rattle.world_process.specs.declared.controller.Controller.{Controller}
 use Rattle.world_process.specs.declared.controller.Role.{Role}
-use Rattle.world_process.specs.Controllers.{RoleStands, ControllerStands, IsLed, Replied}
+use Rattle.world_process.specs.Controllers.{RoleStands, ControllerStands, Replied}
 use Rattle.world_process.specs.Moves as moves
 use Rattle.world_process.specs.Plain.{AreQuiet, with_facts}
 use Rattle.world_process.proofs.Names.{eq-isnt}
@@ -286,8 +286,3 @@ pub replied-down : (doc : Doc) (k p : ℕ) (b : Back) (n : ℕ) (reply : Reply) 
 replied-down doc k p b n reply h c at s is back =
     let down = role-at doc p h c (role.Down at) s is in
     replied-uncounted doc k p c.incarnation b n reply h c (role.Down at) s back (absent-uncounted doc k (identity p c.incarnation) n h (down-absent p c.incarnation h down.0)) down
-
-pub led-role : (doc : Doc) (p i : ℕ) (r : Role) → Makes doc p i (λ g. IsLed doc (identity p i) g r) r
-led-role doc p i (role.Down at) g up led = absurd led
-led-role doc p i (role.Candidate x) g up led = absurd led
-led-role doc p i (role.Leading x) g up led = (up, led)

@@ -17,7 +17,7 @@ use Rattle.world_process.proofs.Names.{of_process-other, is_same-apart, is_same-
 use Rattle.world_process.proofs.Standing.{stands-role}
 
 -- an entry that leaves the life as it is, and is by another identity
-role-beside : (doc : Doc) (p i : ℕ) (e : Entry) (h : List Entry) (r : Role) → alive p (e ∷ h) ≡ alive p h → ended p (e ∷ h) ≡ ended p h → is_by (identity p i) e.actor ≡ false → RoleStands doc p i h r → RoleStands doc p i (e ∷ h) r
+role-beside : (doc : Doc) (p i : ℕ) (e : Entry) (h : List Entry) (r : Role) → alive p (e ∷ h) ≡ alive p h → ended doc p (e ∷ h) ≡ ended doc p h → is_by (identity p i) e.actor ≡ false → RoleStands doc p i h r → RoleStands doc p i (e ∷ h) r
 role-beside doc p i e h (role.Down at) lives ends other s = (lives ∙ s.0, s.1 ∙ ap (restart_reading doc p) (sym ends))
 role-beside doc p i e h (role.Candidate x) lives ends other s = (lives ∙ s.0, candidate-foreign doc (identity p i) e h x other s.1)
 role-beside doc p i e h (role.Leading x) lives ends other s = (lives ∙ s.0, leading-foreign doc (identity p i) e h x other s.1)
@@ -28,21 +28,21 @@ controller-others doc p k step q d h c other own s =
     let e = entry k step q d in
     let apart = of_process-other q p other in
     stands-role doc p h (e ∷ h) c c.role s (starts-others p e h apart)
-    (role-beside doc p c.incarnation e h c.role (alive-others p e h apart) (ended-others p e h own apart) (is_same-apart q (identity p c.incarnation) other) s.role)
+    (role-beside doc p c.incarnation e h c.role (alive-others p e h apart) (ended-others doc p e h own apart) (is_same-apart q (identity p c.incarnation) other) s.role)
 
 -- an entry of another incarnation of the process, which leaves its life as it is
-pub role-stranger : (doc : Doc) (p i j k step : ℕ) (d : Fact) (h : List Entry) (r : Role) → ¬ (j ≡ i) → is_event d ≡ false → ((g : List Entry) → alive p (entry k step (identity p j) d ∷ g) ≡ alive p g) → ((g : List Entry) → ended p (entry k step (identity p j) d ∷ g) ≡ ended p g) →
+pub role-stranger : (doc : Doc) (p i j k step : ℕ) (d : Fact) (h : List Entry) (r : Role) → ¬ (j ≡ i) → is_event d ≡ false → ((g : List Entry) → alive p (entry k step (identity p j) d ∷ g) ≡ alive p g) → ((g : List Entry) → ended doc p (entry k step (identity p j) d ∷ g) ≡ ended doc p g) →
     RoleStands doc p i h r → RoleStands doc p i (entry k step (identity p j) d ∷ h) r
 role-stranger doc p i j k step d h r other own lives ends s =
     role-beside doc p i (entry k step (identity p j) d) h r (lives h) (ends h) (is_same-other p j i other) s
 
 -- an entry of a kind that an elector doesn't look at, whosever it is
-role-quiet : (doc : Doc) (p i : ℕ) (e : Entry) (h : List Entry) (r : Role) → alive p (e ∷ h) ≡ alive p h → ended p (e ∷ h) ≡ ended p h → is_of_elector e.fact ≡ false → RoleStands doc p i h r → RoleStands doc p i (e ∷ h) r
+role-quiet : (doc : Doc) (p i : ℕ) (e : Entry) (h : List Entry) (r : Role) → alive p (e ∷ h) ≡ alive p h → ended doc p (e ∷ h) ≡ ended doc p h → is_of_elector e.fact ≡ false → RoleStands doc p i h r → RoleStands doc p i (e ∷ h) r
 role-quiet doc p i e h (role.Down at) lives ends quiet s = (lives ∙ s.0, s.1 ∙ ap (restart_reading doc p) (sym ends))
 role-quiet doc p i e h (role.Candidate x) lives ends quiet s = (lives ∙ s.0, candidate-quiet doc (identity p i) e h x quiet s.1)
 role-quiet doc p i e h (role.Leading x) lives ends quiet s = (lives ∙ s.0, leading-quiet doc (identity p i) e h x quiet s.1)
 
-pub controller-quiet : (doc : Doc) (p : ℕ) (e : Entry) (h : List Entry) (c : Controller) → alive p (e ∷ h) ≡ alive p h → ended p (e ∷ h) ≡ ended p h → starts p (e ∷ h) ≡ starts p h → is_of_elector e.fact ≡ false →
+pub controller-quiet : (doc : Doc) (p : ℕ) (e : Entry) (h : List Entry) (c : Controller) → alive p (e ∷ h) ≡ alive p h → ended doc p (e ∷ h) ≡ ended doc p h → starts p (e ∷ h) ≡ starts p h → is_of_elector e.fact ≡ false →
     ControllerStands doc p h c → ControllerStands doc p (e ∷ h) c
 controller-quiet doc p e h c lives ends count quiet s =
     stands-role doc p h (e ∷ h) c c.role s count (role-quiet doc p c.incarnation e h c.role lives ends quiet s.role)

@@ -1,5 +1,5 @@
 -- The steps of a beat only add entries.
-use Rattle.std.proofs.Common.{◌≡◌, ℕ, zero, suc, ◌+◌, ◌≤◌, ◌==◌, ◌&&◌, Bool, true, false, List, [], ◌∷◌, length, Option, Some, None, sym, subst, arith}
+use Rattle.std.proofs.Common.{◌≡◌, ℕ, zero, suc, ◌+◌, ◌≤◌, ◌==◌, ◌&&◌, not, Bool, true, false, List, [], ◌∷◌, length, Option, Some, None, sym, subst, arith}
 use Rattle.std.specs.Ordering.{nat_cmp}
 use Rattle.std.specs.declared.cmp.Ordering.{Ordering}
 use Rattle.std.specs.declared.cmp.Ordering.TheVariants.{Less, Equal, Greater}
@@ -14,13 +14,15 @@ use Rattle.kube_objects.specs.Elector.{Follow, Fails, Asks, Succeeds, deadline, 
 use Rattle.kube_objects.specs.Entry.{Entry, Identity, Call, Stops, Event, Delivers, entry, script_entry}
 use Rattle.kube_objects.specs.Identities.{identity, is_by}
 use Rattle.kube_objects.specs.Kubelet.{next_request, send_next, round_if, round}
+use Rattle.kube_objects.specs.Newest.{only_if}
+use Rattle.kube_objects.specs.Pauses.{is_paused}
 use Rattle.kube_objects.specs.Process.{alive, begun, starts, is_send, call_in, counted, ended, is_late, is_restart_due}
 use Rattle.kube_objects.specs.Seen.{insert_once, insert_named, named, node_name, node_names}
 use Rattle.kube_objects.specs.Stored.{write_of}
 use Rattle.kube_objects.specs.Tick.{add}
 use Rattle.kube_objects.specs.Turns.{lead_if, react, expire_as, expire_call, end_as, end_term, attempt_if, try}
 use Rattle.kube_objects.specs.Wire.{Sent, Back, sent_of, back_of}
-use Rattle.history.specs.Steps.{start_if_down, crash, released, stop, effect, stamp, event_version, happens, happens_if, happen_all, start_first, starts_below, first_starts, each, answer_if, answer_due, step_two, react_as, deliver_as, delivered, deliver_if, deliver_due, step_three, if_up, restart_as, restart_if, restart, expire, finish, attempts, tick_as, ticks, elector_turn, controller_turn, kubelet_turn, turn_as, turn, turns, comes_at}
+use Rattle.history.specs.Steps.{start_if_down, crash, stall, released, stop, effect, stamp, event_version, happens, happens_if, happen_all, start_first, starts_below, first_starts, each, answer_if, answer_due, step_two, react_as, deliver_as, delivered, deliver_if, deliver_due, step_three, if_up, restart_as, restart_if, restart, expire, finish, attempts, tick_as, ticks, elector_turn, controller_turn, kubelet_turn, turn_as, turn_unless, turn, turns, comes_at}
 use Rattle.history_laws.proofs.Ticks.{walk_tick}
 use Rattle.world_process.specs.Plain.{IsFew}
 use Rattle.world_process.proofs.Plainly.{added-more, starts-more}
@@ -98,13 +100,18 @@ grows-stop doc k p (Some i) before h =
     let g = entry k 1 (identity p i) Stops ∷ h in
     grows-on h g (released k (identity p i) (release doc (identity p i) k before) g) (grows-entry _ h) (grows-released k (identity p i) (release doc (identity p i) k before) g)
 
+grows-stall : (k p beats : ℕ) (up : Option ℕ) (h : List Entry) → Grows h (stall k p beats up h)
+grows-stall k p beats None h = grows-same h
+grows-stall k p beats (Some i) h = grows-entry _ h
+
 grows-effect : (doc : Doc) (k : ℕ) (event : What) (before h : List Entry) → Grows h (effect doc k event before h)
 grows-effect doc k (what.Rate id ppm) before h = grows-same h
 grows-effect doc k (what.Delay id requests replies) before h = grows-same h
 grows-effect doc k (what.Loss id requests replies) before h = grows-same h
 grows-effect doc k (what.Crash id) before h = grows-crash k id.0 (alive id.0 before) h
 grows-effect doc k (what.Start id) before h = grows-start_if_down k 1 id.0 (alive id.0 before) h
-grows-effect doc k (what.Stop id) before h = grows-stop doc k id.0 (alive id.0 before) before h
+grows-effect doc k (what.Stop id) before h = grows-stop doc k id.0 (only_if (not (is_paused doc id.0 k)) (alive id.0 before)) before h
+grows-effect doc k (what.Pause id beats) before h = grows-stall k id.0 beats (alive id.0 before) h
 grows-effect doc k (what.Watch id on) before h = grows-same h
 grows-effect doc k (what.Ready id status) before h = grows-same h
 grows-effect doc k (what.Put key object) before h = grows-same h
@@ -131,16 +138,16 @@ pub grows-each : (f : Entry → List Entry → List Entry) → ((e : Entry) (h :
 grows-each f more [] h = grows-same h
 grows-each f more (e ∷ l) h = grows-on h (each f l h) (f e (each f l h)) (grows-each f more l h) (more e (each f l h))
 
-grows-answer_if : (k : ℕ) (s : Sent) (b : Bool) (h : List Entry) → Grows h (answer_if k s b h)
-grows-answer_if k s false h = grows-same h
-grows-answer_if k s true h = grows-entry _ h
+grows-answer_if : (doc : Doc) (k : ℕ) (s : Sent) (b : Bool) (h : List Entry) → Grows h (answer_if doc k s b h)
+grows-answer_if doc k s false h = grows-same h
+grows-answer_if doc k s true h = grows-entry _ h
 
-grows-answer_due : (k : ℕ) (s : Option Sent) (h : List Entry) → Grows h (answer_due k s h)
-grows-answer_due k None h = grows-same h
-grows-answer_due k (Some s) h = grows-answer_if k s (comes_at k s.arrives) h
+grows-answer_due : (doc : Doc) (k : ℕ) (s : Option Sent) (h : List Entry) → Grows h (answer_due doc k s h)
+grows-answer_due doc k None h = grows-same h
+grows-answer_due doc k (Some s) h = grows-answer_if doc k s (comes_at k s.arrives) h
 
-pub grows-step_two : (k : ℕ) (h : List Entry) → Grows h (step_two k h)
-grows-step_two k h = grows-each (λ e. answer_due k (sent_of e.actor e.fact)) (λ e h. grows-answer_due k (sent_of e.actor e.fact) h) h h
+pub grows-step_two : (doc : Doc) (k : ℕ) (h : List Entry) → Grows h (step_two doc k h)
+grows-step_two doc k h = grows-each (λ e. answer_due doc k (sent_of e.actor e.fact)) (λ e h. grows-answer_due doc k (sent_of e.actor e.fact) h) h h
 
 grows-lead_if : (k : ℕ) (q : Identity) (led : Bool) (version : Version) (h : List Entry) → Grows h (lead_if k q led version h)
 grows-lead_if k q true version h = grows-same h
@@ -186,7 +193,7 @@ grows-restart_as k p false h = grows-same h
 grows-restart_as k p true h = grows-entry _ h
 
 grows-restart_if : (doc : Doc) (k p : ℕ) (up : Option ℕ) (h : List Entry) → Grows h (restart_if doc k p up h)
-grows-restart_if doc k p None h = grows-restart_as k p (is_restart_due doc p k (ended p h)) h
+grows-restart_if doc k p None h = grows-restart_as k p (is_restart_due doc p k (ended doc p h)) h
 grows-restart_if doc k p (Some i) h = grows-same h
 
 grows-expire_as : (k : ℕ) (q : Identity) (call : Call) (b : Bool) (h : List Entry) → Grows h (expire_as k q call b h)
@@ -263,8 +270,12 @@ grows-turn_as : (doc : Doc) (k p : ℕ) (b : Bool) (h : List Entry) → Grows h 
 grows-turn_as doc k p true h = grows-controller_turn doc k p h
 grows-turn_as doc k p false h = grows-kubelet_turn doc k p h
 
+grows-turn_unless : (doc : Doc) (k p : ℕ) (b : Bool) (h : List Entry) → Grows h (turn_unless doc k p b h)
+grows-turn_unless doc k p true h = grows-same h
+grows-turn_unless doc k p false h = grows-turn_as doc k p (is_controller doc p) h
+
 pub grows-turn : (doc : Doc) (k p : ℕ) (h : List Entry) → Grows h (turn doc k p h)
-grows-turn doc k p h = grows-turn_as doc k p (is_controller doc p) h
+grows-turn doc k p h = grows-turn_unless doc k p (is_paused doc p k) h
 
 pub grows-turns : (doc : Doc) (k n : ℕ) (h : List Entry) → Grows h (turns doc k n h)
 grows-turns doc k zero h = grows-same h

@@ -50,6 +50,6 @@ pub process-put_all : (doc : Doc) (p : ℕ) (items : List (Key × Object)) (h : 
 process-put_all doc p items h (Controller c) s = controller-put_all doc p items h c s
 process-put_all doc p items h (Kubelet b) s = kubelet-put_all doc p items h b s
 
-pub process-event : (doc : Doc) (p k step : ℕ) (event : What) (version : Option Version) (h : List Entry) (x : Process) → cancels p event ≡ false → ProcessStands doc p h x → ProcessStands doc p (script_entry k step (Event event version) ∷ h) x
+pub process-event : (doc : Doc) (p k step : ℕ) (event : What) (version : Option Version) (h : List Entry) (x : Process) → cancels doc p k event ≡ false → ProcessStands doc p h x → ProcessStands doc p (script_entry k step (Event event version) ∷ h) x
 process-event doc p k step event version h (Controller c) other s = controller-event doc p k step event version h c other s
 process-event doc p k step event version h (Kubelet b) other s = kubelet-event doc p k step event version h b s

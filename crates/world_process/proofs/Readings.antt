@@ -1,7 +1,11 @@
 -- A controller's clock reads what the definitions say.
-use Rattle.std.proofs.Common.{◌≡◌, ℕ, zero, suc, ◌+◌, ◌*◌, ◌/◌, refl, ap, ◌∙◌}
+use Rattle.std.proofs.Common.{◌≡◌, ℕ, zero, suc, ◌+◌, ◌*◌, ◌/◌, refl, sym, ap, ◌∙◌}
 use Rattle.kube_objects.specs.Clocks.{local, wall, moved}
-use Rattle.kube_objects.specs.Document.{Doc, beat_micros, offset_millis}
+use Rattle.kube_objects.specs.Document.{Doc, beat_micros, offset_millis, retry_period}
+use Rattle.kube_objects.specs.Pauses.{AreUnpaused, can_at}
+use Rattle.kube_objects.proofs.Pauses.{can_now}
+use Rattle.leader_elector.specs.declared.timing.Timing.{Timing}
+use Rattle.leader_elector.specs.Stands.{IsTimingOf}
 use Rattle.skew_clock.specs.Clocking.{Clocking, rate_at, reading, wall_when}
 use Rattle.world_process.specs.Clocked.{ClockStands}
 
@@ -28,3 +32,8 @@ pub readings-are : (doc : Doc) (p k beat now shown : ℕ) (c : Clocking) → Clo
 readings-are doc p k beat now shown c s at reads shows =
     let now_is : now ≡ local doc p k = reads ∙ reading-local doc p beat c s ∙ ap (local doc p) at in
     record { now = now_is; wall = shows ∙ wall-when doc p k now c s now_is }
+
+-- the reading at which the next attempt can begin, where nobody is paused
+pub next-at : (doc : Doc) (p k now : ℕ) (t : Timing) → IsTimingOf doc p t → now ≡ local doc p k → AreUnpaused doc.events → now + t.retry ≡ can_at doc p (local doc p k + retry_period doc p)
+next-at doc p k now t s at none =
+    ap (λ n. n + t.retry) at ∙ ap (λ n. local doc p k + n) s.retry ∙ sym (can_now doc p (local doc p k + retry_period doc p) none)

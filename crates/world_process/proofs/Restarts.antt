@@ -42,7 +42,7 @@ restarted-not doc k p h c s same =
     }
 
 -- where the process is down with this reading
-pub down-at : (doc : Doc) (p i : ℕ) (h : List Entry) (r : Role) (at : Local) → RoleStands doc p i h r → waiting_of r ≡ Some at → (alive p h ≡ None) × (Some at.0 ≡ restart_reading doc p (ended p h))
+pub down-at : (doc : Doc) (p i : ℕ) (h : List Entry) (r : Role) (at : Local) → RoleStands doc p i h r → waiting_of r ≡ Some at → (alive p h ≡ None) × (Some at.0 ≡ restart_reading doc p (ended doc p h))
 down-at doc p i h (role.Down o) at s is = (s.0, ap reading_of (sym is) ∙ s.1)
 down-at doc p i h (role.Candidate x) at s is = cc
 down-at doc p i h (role.Leading x) at s is = cc
@@ -51,7 +51,7 @@ down-at doc p i h (role.Leading x) at s is = cc
 pub restart-waits : (doc : Doc) (k p : ℕ) (h : List Entry) (c : Controller) (at : Local) → ControllerStands doc p h c → waiting_of c.role ≡ Some at → local doc p k < at.0 → restart doc k p h ≡ h
 restart-waits doc k p h c at s is less =
     let down = down-at doc p c.incarnation h c.role at s.role is in
-    restart-down doc k p h false down.0 (due-is doc p k at.0 (ended p h) down.1 ∙ ap not (lt-true (local doc p k) at.0 less))
+    restart-down doc k p h false down.0 (due-is doc p k at.0 (ended doc p h) down.1 ∙ ap not (lt-true (local doc p k) at.0 less))
 
 pub restarted-waits : (doc : Doc) (k p : ℕ) (h : List Entry) (c : Controller) (at : Local) → ControllerStands doc p h c → waiting_of c.role ≡ Some at → local doc p k < at.0 → Restarted doc k p h c false
 restarted-waits doc k p h c at s is less = restarted-not doc k p h c s (restart-waits doc k p h c at s is less)
@@ -61,7 +61,7 @@ pub restart-never : (doc : Doc) (k p : ℕ) (h : List Entry) (c : Controller) �
 restart-never doc k p h c s is = by_role c.role s.role is
   where
     by_role : (r : Role) → RoleStands doc p c.incarnation h r → waiting_of r ≡ None → restart doc k p h ≡ h
-    by_role (role.Down o) down none = restart-down doc k p h false down.0 (due-never doc p k (ended p h) (ap reading_of (sym none) ∙ down.1))
+    by_role (role.Down o) down none = restart-down doc k p h false down.0 (due-never doc p k (ended doc p h) (ap reading_of (sym none) ∙ down.1))
     by_role (role.Candidate x) up none = restart-up doc k p c.incarnation h up.0
     by_role (role.Leading x) up none = restart-up doc k p c.incarnation h up.0
 
@@ -72,7 +72,7 @@ restarted-never doc k p h c s is = restarted-not doc k p h c s (restart-never do
 pub restart-is : (doc : Doc) (k p : ℕ) (h : List Entry) (c : Controller) (at : Local) → ControllerStands doc p h c → waiting_of c.role ≡ Some at → at.0 ≤ local doc p k → restart doc k p h ≡ start k 4 p h
 restart-is doc k p h c at s is most =
     let down = down-at doc p c.incarnation h c.role at s.role is in
-    restart-down doc k p h true down.0 (due-is doc p k at.0 (ended p h) down.1 ∙ ap not (lt-false (local doc p k) at.0 most))
+    restart-down doc k p h true down.0 (due-is doc p k at.0 (ended doc p h) down.1 ∙ ap not (lt-false (local doc p k) at.0 most))
 
 pub restarted-starts : (doc : Doc) (k p : ℕ) (h : List Entry) (c : Controller) → restart doc k p h ≡ start k 4 p h → ControllerStands doc p (start k 4 p h) c → Restarted doc k p h c true
 restarted-starts doc k p h c is s =

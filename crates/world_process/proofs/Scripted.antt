@@ -1,5 +1,5 @@
 -- A controller through the script's entries: those on others, and those on itself.
-use Rattle.std.proofs.Common.{◌≡◌, ℕ, ◌+◌, ◌<◌, ◌^◌, ◌++◌, ◌==◌, true, false, List, [], ◌∷◌, Option, Some, None, refl, sym, ap, ◌∙◌, subst}
+use Rattle.std.proofs.Common.{◌≡◌, ℕ, ◌+◌, ◌<◌, ◌^◌, ◌++◌, ◌&&◌, not, true, false, List, [], ◌∷◌, Option, Some, None, refl, sym, ap, ◌∙◌, subst}
 use Rattle.std.proofs.lemmas.List.{append-nil}
 use Rattle.kube_base.specs.declared.numbers.ProcId.{ProcId}
 use Rattle.kube_base.specs.declared.numbers.Version.{Version}
@@ -13,15 +13,16 @@ use Rattle.kube_objects.specs.declared.script.What.TheVariants as what
 use Rattle.kube_objects.specs.Clocks.{store_wall, whole_second}
 use Rattle.kube_objects.specs.Document.{Doc}
 use Rattle.kube_objects.specs.Elector.{release}
-use Rattle.kube_objects.specs.Entry.{Entry, Identity, Fact, First, Event, Starts, Crashes, Stops, Sends, Release, entry, script_entry, actor_of}
+use Rattle.kube_objects.specs.Entry.{Entry, Identity, Fact, First, Event, Stops, Sends, Release, entry, script_entry, actor_of}
 use Rattle.kube_objects.specs.Identities.{identity}
-use Rattle.kube_objects.specs.Newest.{added, newest, when, join}
+use Rattle.kube_objects.specs.Newest.{added, newest, when, only_if, join}
+use Rattle.kube_objects.specs.Pauses.{is_paused}
 use Rattle.kube_objects.specs.Process.{alive, gone, life, cancels, ended, is_start, restart_says, starts}
 use Rattle.kube_objects.specs.Stamps.{stamped}
 use Rattle.kube_objects.specs.Wire.{next_call, send}
 use Rattle.history.specs.History.{put_all}
 use Rattle.history.specs.Printed.{printed, deeds_of}
-use Rattle.history.specs.Steps.{crash, event_version, happens, released, stamp, start, start_if_down, stop}
+use Rattle.history.specs.Steps.{happens, released, start, start_if_down, stop}
 use Rattle.leader_elector.specs.Moves.{Releases}
 use Rattle.world_process.specs.declared.controller.Controller.{Controller}
 use Rattle.world_process.specs.declared.controller.Role.{Role}
@@ -30,7 +31,7 @@ use Rattle.world_process.specs.Controllers.{AsksOn, Begun, ControllerStands, Rol
 use Rattle.world_process.specs.Moves as moves
 use Rattle.world_process.specs.Moves.{stop_in, stopped}
 use Rattle.world_process.specs.Plain.{IsFew, IsPlain}
-use Rattle.world_process.proofs.Beside.{controller-others, controller-quiet}
+use Rattle.world_process.proofs.Beside.{controller-quiet}
 use Rattle.world_process.proofs.Names.{eq-self, of_process-own}
 use Rattle.world_process.proofs.Plainly.{starts-start}
 use Rattle.world_process.proofs.Restarts.{starts-few}
@@ -53,62 +54,10 @@ controller-put_all doc p (x ∷ xs) h c s =
 abbrev said : Option (Option ℕ) → Option (Option ℕ) → Option ℕ
 said now before = join (elim now as (λ o. Option (Option ℕ)) [ None ↦ before | Some y ↦ Some y ])
 
-pub controller-event : (doc : Doc) (p k step : ℕ) (event : What) (version : Option Version) (h : List Entry) (c : Controller) → cancels p event ≡ false → ControllerStands doc p h c → ControllerStands doc p (script_entry k step (Event event version) ∷ h) c
+pub controller-event : (doc : Doc) (p k step : ℕ) (event : What) (version : Option Version) (h : List Entry) (c : Controller) → cancels doc p k event ≡ false → ControllerStands doc p h c → ControllerStands doc p (script_entry k step (Event event version) ∷ h) c
 controller-event doc p k step event version h c other s =
-    let ends = ap (λ b. said (when b None) (newest (λ e T. restart_says p e.beat e.actor e.fact) h)) other in
+    let ends = ap (λ b. said (when b None) (newest (λ e T. restart_says doc p e.beat e.actor e.fact) h)) other in
     controller-quiet doc p (script_entry k step (Event event version)) h c refl ends refl refl s
-
--- ---- events on another process, with all that they cause
-
-apart : (p : ℕ) (id : ProcId) → (id.0 == p) ≡ false → ¬ (id.0 ≡ p)
-apart p id other same = let self : (p == p) ≡ true = eq-self p in let now : (id.0 == p) ≡ true = ap (λ n. n == p) same ∙ self in cc
-
-pub controller-stop_in : (doc : Doc) (p k : ℕ) (id : ProcId) (up : Option ℕ) (h : List Entry) (c : Controller) → ¬ (id.0 ≡ p) → ControllerStands doc p h c → ControllerStands doc p (stop_in k id.0 up h) c
-controller-stop_in doc p k id None h c other s = s
-controller-stop_in doc p k id (Some i) h c other s = controller-others doc p k 1 (identity id.0 i) Stops h c other refl s
-
--- with a stop, before its release
-pub controller-stopped : (doc : Doc) (p k : ℕ) (id : ProcId) (h : List Entry) (c : Controller) → (id.0 == p) ≡ false → ControllerStands doc p h c → ControllerStands doc p (stopped k id h) c
-controller-stopped doc p k id h c other s =
-    controller-stop_in doc p k id (alive id.0 h) (script_entry k 1 (Event (what.Stop id) None) ∷ h) c (apart p id other) (controller-event doc p k 1 (what.Stop id) None h c other s)
-
-controller-released : (doc : Doc) (p k : ℕ) (q : Identity) (o : Option Request) (h : List Entry) (c : Controller) → ¬ (q.process ≡ p) → ControllerStands doc p h c → ControllerStands doc p (released k q o h) c
-controller-released doc p k q None h c other s = s
-controller-released doc p k q (Some request) h c other s = controller-others doc p k 1 q (Sends (next_call q k Release request h) _) h c other refl s
-
--- an event on another process, or on none
-pub controller-happens : (doc : Doc) (p k : ℕ) (event : What) (h : List Entry) (c : Controller) → cancels p event ≡ false → ControllerStands doc p h c → ControllerStands doc p (happens doc k event h) c
-controller-happens doc p k (what.Crash id) h c other s = by_life (alive id.0 h)
-  where
-    after : ControllerStands doc p (script_entry k 1 (Event (what.Crash id) None) ∷ h) c
-    after = controller-event doc p k 1 (what.Crash id) None h c other s
-
-    by_life : (up : Option ℕ) → ControllerStands doc p (crash k id.0 up (script_entry k 1 (Event (what.Crash id) None) ∷ h)) c
-    by_life None = after
-    by_life (Some i) = controller-others doc p k 1 (identity id.0 i) Crashes _ c (apart p id other) refl after
-controller-happens doc p k (what.Start id) h c other s = by_life (alive id.0 h)
-  where
-    after : ControllerStands doc p (script_entry k 1 (Event (what.Start id) None) ∷ h) c
-    after = controller-event doc p k 1 (what.Start id) None h c other s
-
-    by_life : (up : Option ℕ) → ControllerStands doc p (start_if_down k 1 id.0 up (script_entry k 1 (Event (what.Start id) None) ∷ h)) c
-    by_life None = controller-others doc p k 1 (identity id.0 (starts id.0 h + 1)) Starts _ c (apart p id other) refl after
-    by_life (Some i) = after
-controller-happens doc p k (what.Stop id) h c other s = by_life (alive id.0 h)
-  where
-    after : ControllerStands doc p (script_entry k 1 (Event (what.Stop id) None) ∷ h) c
-    after = controller-event doc p k 1 (what.Stop id) None h c other s
-
-    by_life : (up : Option ℕ) → ControllerStands doc p (stop doc k id.0 up h (script_entry k 1 (Event (what.Stop id) None) ∷ h)) c
-    by_life None = after
-    by_life (Some i) = controller-released doc p k (identity id.0 i) (release doc (identity id.0 i) k h) _ c (apart p id other) (controller-others doc p k 1 (identity id.0 i) Stops _ c (apart p id other) refl after)
-controller-happens doc p k (what.Rate id ppm) h c other s = controller-event doc p k 1 (what.Rate id ppm) None h c refl s
-controller-happens doc p k (what.Delay id requests replies) h c other s = controller-event doc p k 1 (what.Delay id requests replies) None h c refl s
-controller-happens doc p k (what.Loss id requests replies) h c other s = controller-event doc p k 1 (what.Loss id requests replies) None h c refl s
-controller-happens doc p k (what.Watch id on) h c other s = controller-event doc p k 1 (what.Watch id on) None h c refl s
-controller-happens doc p k (what.Ready id status) h c other s = controller-event doc p k 1 (what.Ready id status) None h c refl s
-controller-happens doc p k (what.Put key object) h c other s = controller-event doc p k 1 (stamp doc k (what.Put key object)) (event_version (what.Put key object) h) h c refl s
-controller-happens doc p k (what.Remove key) h c other s = controller-event doc p k 1 (what.Remove key) (event_version (what.Remove key) h) h c refl s
 
 -- ---- an event on the process itself
 
@@ -119,8 +68,8 @@ pub plain-script : (n k step : ℕ) (d : Fact) (h : List Entry) → IsPlain n h 
 plain-script n k step d h s = record { fresh = λ p i less. (refl, s.fresh p i (subst (λ m. m < i) (starts-script p k step d h) less)); all = (tt, s.all) }
 
 -- a restart that waits is cancelled
-pub cancelled : (doc : Doc) (p k step : ℕ) (event : What) (version : Option Version) (h : List Entry) → cancels p event ≡ true → ended p (script_entry k step (Event event version) ∷ h) ≡ None
-cancelled doc p k step event version h own = ap (λ b. said (when b None) (newest (λ e T. restart_says p e.beat e.actor e.fact) h)) own
+pub cancelled : (doc : Doc) (p k step : ℕ) (event : What) (version : Option Version) (h : List Entry) → cancels doc p k event ≡ true → ended doc p (script_entry k step (Event event version) ∷ h) ≡ None
+cancelled doc p k step event version h own = ap (λ b. said (when b None) (newest (λ e T. restart_says doc p e.beat e.actor e.fact) h)) own
 
 pub down-is : (doc : Doc) (p i : ℕ) (h : List Entry) (r : Role) → is_up_as r ≡ false → RoleStands doc p i h r → alive p h ≡ None
 down-is doc p i h (role.Down at) down s = s.0
@@ -128,7 +77,7 @@ down-is doc p i h (role.Candidate x) down s = cc
 down-is doc p i h (role.Leading x) down s = cc
 
 -- a controller that is down, as it stands after an event on it
-pub down-event : (doc : Doc) (p k step : ℕ) (event : What) (version : Option Version) (h : List Entry) (c : Controller) → cancels p event ≡ true → is_up_as c.role ≡ false → ControllerStands doc p h c →
+pub down-event : (doc : Doc) (p k step : ℕ) (event : What) (version : Option Version) (h : List Entry) (c : Controller) → cancels doc p k event ≡ true → is_up_as c.role ≡ false → ControllerStands doc p h c →
     ControllerStands doc p (script_entry k step (Event event version) ∷ h) (record c { role = role.Down None })
 down-event doc p k step event version h c own down s =
     stands-role doc p h (script_entry k step (Event event version) ∷ h) c (role.Down None) s refl
@@ -162,9 +111,9 @@ begun-starts doc k id h c down s = begun-with doc k id h c.incarnation (λ x. Co
 alive-stop : (k step : ℕ) (q : Identity) (h : List Entry) → alive q.process (entry k step q Stops ∷ h) ≡ None
 alive-stop k step q h = ap (λ o. join (elim (gone o) as (λ x. Option (Option ℕ)) [ None ↦ life q.process h | Some y ↦ Some y ])) (of_process-own q)
 
-pub stopped-leading : (doc : Doc) (k : ℕ) (id : ProcId) (h : List Entry) (c : Controller) (ask : Option Ask) → ControllerStands doc id.0 h c → alive id.0 h ≡ Some c.incarnation →
+pub stopped-leading : (doc : Doc) (k : ℕ) (id : ProcId) (h : List Entry) (c : Controller) (ask : Option Ask) → is_paused doc id.0 k ≡ false → ControllerStands doc id.0 h c → alive id.0 h ≡ Some c.incarnation →
     Releases (identity id.0 c.incarnation) h (release doc (identity id.0 c.incarnation) k h) ask → StoppedAs doc k id h (record c { role = role.Down None }) (record { stopped = true; ask = ask })
-stopped-leading doc k id h c ask s up r =
+stopped-leading doc k id h c ask awake s up r =
     record {
       told = ap printed base ∙ ap (λ ds. ds ++ deeds_of k (actor_of q) (Some act.Stop)) (append-nil (printed h));
       asks = subst (λ x. AsksOn doc k 1 p x (happens doc k (what.Stop id) h) c' ask) (sym base) (subst (λ x. AsksOn doc k 1 p g x c' ask) (sym next) (by_release (release doc q k h) ask r));
@@ -185,14 +134,14 @@ stopped-leading doc k id h c ask s up r =
     g : List Entry
     g = entry k 1 q Stops ∷ e ∷ h
 
-    base : stopped k id h ≡ g
-    base = ap (λ x. stop_in k p x (e ∷ h)) up
+    base : stopped doc k id h ≡ g
+    base = ap (λ b. stop_in k p (only_if (not b) (alive p h)) (e ∷ h)) awake ∙ ap (λ x. stop_in k p x (e ∷ h)) up
 
     next : happens doc k (what.Stop id) h ≡ released k q (release doc q k h) g
-    next = ap (λ x. stop doc k p x h (e ∷ h)) up
+    next = ap (λ b. stop doc k p (only_if (not b) (alive p h)) h (e ∷ h)) awake ∙ ap (λ x. stop doc k p x h (e ∷ h)) up
 
     down : RoleStands doc p c.incarnation g (role.Down None)
-    down = (alive-stop k 1 q (e ∷ h), ap (restart_reading doc p) (sym (cancelled doc p k 1 (what.Stop id) None h (eq-self p))))
+    down = (alive-stop k 1 q (e ∷ h), ap (restart_reading doc p) (sym (cancelled doc p k 1 (what.Stop id) None h (ap (λ a. a && not (is_paused doc p k)) (eq-self p) ∙ ap not awake))))
 
     by_release : (o : Option Request) (ask : Option Ask) → Releases q h o ask → AsksOn doc k 1 p g (released k q o g) c' ask
     by_release None None r = (refl, stands-role doc p h g c (role.Down None) s refl down)

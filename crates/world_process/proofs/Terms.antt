@@ -5,9 +5,10 @@ use Rattle.kube_objects.specs.declared.deed.Actor.{Actor}
 use Rattle.kube_objects.specs.Clocks.{local}
 use Rattle.kube_objects.specs.Document.{Doc, renew_deadline, retry_period}
 use Rattle.kube_objects.specs.Elector.{lead_says, leads, deadline_says, deadline, succeeds}
-use Rattle.kube_objects.specs.Entry.{Entry, Identity, Fact, First, Event, Starts, Crashes, Stops, Ends, Sends, Answers, Delivers, Expires, Leads, Ticks}
+use Rattle.kube_objects.specs.Entry.{Entry, Identity, Fact, First, Event, Starts, Crashes, Stops, Stalls, Ends, Sends, Answers, Delivers, Expires, Leads, Ticks}
 use Rattle.kube_objects.specs.Identities.{is_by}
 use Rattle.kube_objects.specs.Newest.{newest, when, has}
+use Rattle.kube_objects.specs.Pauses.{can_at}
 use Rattle.world_process.proofs.Unheard.{and-false, newest-none}
 
 last_lead : Identity → List Entry → Option Version
@@ -37,12 +38,13 @@ by_fact doc q k who led (First key object) unled none = refl
 by_fact doc q k who led (Event what version) unled none = refl
 by_fact doc q k who led Starts unled none = refl
 by_fact doc q k who led Crashes unled none = refl
+by_fact doc q k who led (Stalls beats) unled none = refl
 by_fact doc q k who led Stops unled none = refl
 by_fact doc q k who led Ends unled none = refl
 by_fact doc q k who led (Sends call arrives) unled none = refl
 by_fact doc q k who led (Answers call reply comes written) unled none = refl
 by_fact doc q k who led (Delivers call reply counted) unled none =
-    let at = local doc q.process k + retry_period doc q.process + renew_deadline doc q.process in
+    let at = can_at doc q.process (local doc q.process k + retry_period doc q.process) + renew_deadline doc q.process in
     ap (λ b. when ((counted && is_by q who) && (b && succeeds call.request reply)) at) unled
     ∙ ap (λ b. when b at) (and-false (counted && is_by q who))
 by_fact doc q k who led (Expires call) unled none = refl

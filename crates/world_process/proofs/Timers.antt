@@ -6,7 +6,7 @@ use Rattle.kube_objects.specs.declared.call.Ask.{Ask}
 use Rattle.kube_objects.specs.declared.deed.Act.TheVariants as act
 use Rattle.kube_objects.specs.Clocks.{local}
 use Rattle.kube_objects.specs.Document.{Doc, restart_delay}
-use Rattle.kube_objects.specs.Elector.{acts, is_before, leads}
+use Rattle.kube_objects.specs.Elector.{in_term, is_before, leads}
 use Rattle.kube_objects.specs.Entry.{Entry, Identity, Ends, Sends, entry, actor_of}
 use Rattle.kube_objects.specs.Identities.{identity}
 use Rattle.kube_objects.specs.Process.{alive, ended, is_present}
@@ -133,7 +133,7 @@ leading-ends doc k p h c at s up goes at_is =
     let e = expired doc k q h in
     let g = entry k 4 q Ends ∷ e in
     let down : alive p g ≡ None = alive-end k 4 q e in
-    let restarts : Some at.0 ≡ restart_reading doc p (ended p g) = ap (λ (n : ℕ). Some n) at_is ∙ ap (restart_reading doc p) (sym (ended-end k 4 q e)) in
+    let restarts : Some at.0 ≡ restart_reading doc p (ended doc p g) = ap (λ (n : ℕ). Some n) at_is ∙ ap (restart_reading doc p) (sym (ended-end doc k 4 q e)) in
     timed-from doc k p h g (record c { role = role.Down (Some at) }) true None (up-settled doc k p c.incarnation h up ∙ goes) (ap (λ ds. ds ++ deeds_of k (actor_of q) (Some act.End)) (printed-expired doc k q h))
     (attempts-down doc k p g down, stands-role doc p h g c (role.Down (Some at)) s (starts-expired doc k p q h) (down, restarts))
 
@@ -143,8 +143,8 @@ pub candidate-turned : (doc : Doc) (k p : ℕ) (h : List Entry) (c : Controller)
 candidate-turned doc k p h c x None s up t = candidate-stays doc k p h c x s up t.0 t.1
 candidate-turned doc k p h c x (Some ask) s up t = candidate-asks doc k p h c x ask s up t
 
--- who doesn't lead doesn't act
-pub unled-acts : (doc : Doc) (k : ℕ) (q : Identity) (h : List Entry) → leads q h ≡ false → acts doc q k h ≡ false
-unled-acts doc k q h unled =
+-- who doesn't lead isn't in a term
+pub unled-over : (doc : Doc) (k : ℕ) (q : Identity) (h : List Entry) → leads q h ≡ false → in_term doc q k h ≡ false
+unled-over doc k q h unled =
     let present = is_present (alive q.process h) q.incarnation in
     ap (λ at. present && is_before (local doc q.process k) at) (no_deadline doc q h unled) ∙ and-false present

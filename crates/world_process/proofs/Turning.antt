@@ -14,7 +14,7 @@ use Rattle.leader_elector.specs.Moves.{tested}
 pub restart-up : (doc : Doc) (k p i : ℕ) (h : List Entry) → alive p h ≡ Some i → restart doc k p h ≡ h
 restart-up doc k p i h up = ap (λ x. restart_if doc k p x h) up
 
-pub restart-down : (doc : Doc) (k p : ℕ) (h : List Entry) (b : Bool) → alive p h ≡ None → is_restart_due doc p k (ended p h) ≡ b → restart doc k p h ≡ restart_as k p b h
+pub restart-down : (doc : Doc) (k p : ℕ) (h : List Entry) (b : Bool) → alive p h ≡ None → is_restart_due doc p k (ended doc p h) ≡ b → restart doc k p h ≡ restart_as k p b h
 restart-down doc k p h b down due = ap (λ x. restart_if doc k p x h) down ∙ ap (λ x. restart_as k p x h) due
 
 pub expire-up : (doc : Doc) (k p i : ℕ) (h : List Entry) → alive p h ≡ Some i → expire doc k p h ≡ expired doc k (identity p i) h
@@ -47,7 +47,7 @@ expired-same f doc k q h same = by_call (call_in q h)
     by_call None = refl
     by_call (Some call) = by_late call (is_late doc q k call)
 
--- an expiry leaves the life as it is, prints nothing, and starts and ends nothing
+-- an expiry leaves the life as it is, prints nothing, and starts nothing
 pub alive-expired : (doc : Doc) (k p : ℕ) (q : Identity) (h : List Entry) → alive p (expired doc k q h) ≡ alive p h
 alive-expired doc k p q h = expired-same (alive p) doc k q h (λ call. refl)
 
@@ -56,6 +56,3 @@ printed-expired doc k q h = expired-same printed doc k q h (λ call. append-nil 
 
 pub starts-expired : (doc : Doc) (k p : ℕ) (q : Identity) (h : List Entry) → starts p (expired doc k q h) ≡ starts p h
 starts-expired doc k p q h = expired-same (starts p) doc k q h (λ call. refl)
-
-pub ended-expired : (doc : Doc) (k p : ℕ) (q : Identity) (h : List Entry) → ended p (expired doc k q h) ≡ ended p h
-ended-expired doc k p q h = expired-same (ended p) doc k q h (λ call. refl)

@@ -59,7 +59,7 @@ restart-is_after doc p (Some at) = refl
 
 pub down-reading : (doc : Doc) (p i : ℕ) (h : List Entry) (at : Option Local) → RoleStands doc p i h (role.Down at) → reading_of at ≡ elector_reading doc p h
 down-reading doc p i h at s =
-    s.1 ∙ restart-is_after doc p (ended p h) ∙ sym (sooner-none (restart_after doc p (ended p h))) ∙ ap (λ o. reading_as doc p o h) (sym s.0)
+    s.1 ∙ restart-is_after doc p (ended doc p h) ∙ sym (sooner-none (restart_after doc p (ended doc p h))) ∙ ap (λ o. reading_as doc p o h) (sym s.0)
 
 -- without a deadline
 waits-alone : (doc : Doc) (q : Identity) (at : ℕ) (o : Option Call) → Some (wake_from doc q at o) ≡ sooner (late_at doc q o) (sooner None (unless_waiting o at))

@@ -5,7 +5,7 @@ use Rattle.kube_base.specs.declared.numbers.ProcId.{ProcId}
 use Rattle.kube_objects.specs.declared.call.Ask.{Ask}
 use Rattle.kube_objects.specs.Clocks.{local}
 use Rattle.kube_objects.specs.Document.{Doc, is_controller, is_up_first, restart_delay}
-use Rattle.kube_objects.specs.Entry.{Entry, Identity}
+use Rattle.kube_objects.specs.Entry.{Entry}
 use Rattle.kube_objects.specs.Identities.{identity}
 use Rattle.kube_objects.specs.Process.{alive, starts, ended}
 use Rattle.kube_objects.specs.Wire.{Back}
@@ -41,7 +41,7 @@ is_up_as (Leading l) = true
 
 -- the role is that of a process in an incarnation
 abbrev pub RoleStands : Doc → ℕ → ℕ → List Entry → Role → Type 0
-RoleStands doc p i h (Down at) = (alive p h ≡ None) × (reading_of at ≡ restart_reading doc p (ended p h))
+RoleStands doc p i h (Down at) = (alive p h ≡ None) × (reading_of at ≡ restart_reading doc p (ended doc p h))
 RoleStands doc p i h (Candidate c) = (alive p h ≡ Some i) × CandidateStands doc (identity p i) h c
 RoleStands doc p i h (Leading l) = (alive p h ≡ Some i) × LeadingStands doc (identity p i) h l
 
@@ -61,12 +61,6 @@ pub record SameController (old new : Controller) : Type 0 where
   pub timing : new.timing ≡ old.timing
   pub clock : new.clock ≡ old.clock
   pub up_first : new.up_first ≡ old.up_first
-
--- the role is that of a leader
-abbrev pub IsLed : Doc → Identity → List Entry → Role → Type 0
-IsLed doc q h (Down at) = ⊥
-IsLed doc q h (Candidate c) = ⊥
-IsLed doc q h (Leading l) = LeadingStands doc q h l
 
 -- ---- what it did, in the words of every process
 

@@ -1,5 +1,5 @@
 -- What a process did, against the history: i is its incarnation after it, and Stands is what it stands for.
-use Rattle.std.specs.Prelude.{◌≡◌, ℕ, ◌++◌, Bool, true, false, List, ◌∷◌, Option, Some, None, option_map}
+use Rattle.std.specs.Prelude.{◌≡◌, ℕ, ◌++◌, not, Bool, true, false, List, ◌∷◌, Option, Some, None, option_map}
 use Rattle.kube_base.specs.declared.numbers.ProcId.{ProcId}
 use Rattle.kube_base.specs.declared.numbers.Version.{Version}
 use Rattle.kube_objects.specs.declared.call.Ask.{Ask}
@@ -9,7 +9,8 @@ use Rattle.kube_objects.specs.declared.script.What.TheVariants as what
 use Rattle.kube_objects.specs.Document.{Doc, is_controller}
 use Rattle.kube_objects.specs.Entry.{Entry, Identity, Call, Fact, Event as Happens, Stops, Delivers, entry, script_entry, actor_of}
 use Rattle.kube_objects.specs.Identities.{identity}
-use Rattle.kube_objects.specs.Newest.{when}
+use Rattle.kube_objects.specs.Newest.{when, only_if}
+use Rattle.kube_objects.specs.Pauses.{is_paused}
 use Rattle.kube_objects.specs.Process.{alive}
 use Rattle.kube_objects.specs.Wire.{Back}
 use Rattle.history.specs.Printed.{printed, deeds_of}
@@ -51,14 +52,14 @@ abbrev pub stop_in : ℕ → ℕ → Option ℕ → List Entry → List Entry
 stop_in k p None h = h
 stop_in k p (Some i) h = entry k 1 (identity p i) Stops ∷ h
 
--- the history with a stop's event and the stop, before the release
-abbrev pub stopped : ℕ → ProcId → List Entry → List Entry
-stopped k id h = stop_in k id.0 (alive id.0 h) (script_entry k 1 (Happens (what.Stop id) None) ∷ h)
+-- the history with a stop's event and the stop, before the release; a process that is paused isn't stopped
+abbrev pub stopped : Doc → ℕ → ProcId → List Entry → List Entry
+stopped doc k id h = stop_in k id.0 (only_if (not (is_paused doc id.0 k)) (alive id.0 h)) (script_entry k 1 (Happens (what.Stop id) None) ∷ h)
 
 -- a process was stopped, where it was up, and asks its release
 pub record StoppedAs (doc : Doc) (k : ℕ) (id : ProcId) (h : List Entry) (i : ℕ) (Stands : List Entry → Type 0) (s : Stopped) : Type 0 where
-  pub told : printed (stopped k id h) ≡ printed h ++ stopped_deeds k (identity id.0 i) s.stopped
-  pub asks : AsksOn k 1 (identity id.0 i) (stopped k id h) (happens doc k (what.Stop id) h) Stands s.ask
+  pub told : printed (stopped doc k id h) ≡ printed h ++ stopped_deeds k (identity id.0 i) s.stopped
+  pub asks : AsksOn k 1 (identity id.0 i) (stopped doc k id h) (happens doc k (what.Stop id) h) Stands s.ask
 
 -- ---- a turn
 

@@ -1,6 +1,6 @@
 -- What holds of every history, at any point of a beat, that the world keeps in mind.
 use Rattle.std.specs.Prelude.{◌≡◌, Bool, ℕ, ◌+◌, ◌<◌, ◌≤◌, ◌^◌, true, false, List, [], ◌∷◌, length, IfSome}
-use Rattle.kube_objects.specs.Entry.{Entry, Identity, Fact, Starts, Crashes, Stops, Ends, Delivers, Expires, Leads, entry}
+use Rattle.kube_objects.specs.Entry.{Entry, Identity, Fact, Starts, Crashes, Stops, Stalls, Ends, Delivers, Expires, Leads, entry}
 use Rattle.kube_objects.specs.Identities.{identity, is_by, identity_of}
 use Rattle.kube_objects.specs.Process.{starts, begun}
 use Rattle.kube_objects.specs.Seen.{node_names}
@@ -45,6 +45,7 @@ pub record IsFew (h : List Entry) : Type 0 where
 abbrev pub is_quiet : Fact → Bool
 is_quiet Starts = true
 is_quiet Crashes = true
+is_quiet (Stalls beats) = true
 is_quiet Stops = true
 is_quiet Ends = true
 is_quiet (Delivers call reply counted) = true

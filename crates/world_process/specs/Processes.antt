@@ -3,7 +3,7 @@ use Rattle.std.specs.Prelude.{◌≡◌, ℕ, Bool, true, false, List, Option, S
 use Rattle.kube_base.specs.declared.numbers.ProcId.{ProcId}
 use Rattle.kube_objects.specs.declared.call.Ask.{Ask}
 use Rattle.kube_objects.specs.Document.{Doc, is_controller}
-use Rattle.kube_objects.specs.Elector.{acts}
+use Rattle.kube_objects.specs.Elector.{in_term}
 use Rattle.kube_objects.specs.Entry.{Entry}
 use Rattle.kube_objects.specs.Identities.{identity}
 use Rattle.kube_objects.specs.Process.{alive}
@@ -50,20 +50,20 @@ pub record SameProcess (old new : Process) : Type 0 where
   pub me : me_of new ≡ me_of old
   pub clock : clock_of new ≡ clock_of old
 
--- ---- whether it acts
+-- ---- whether it is in its term
 
--- where it is up in an incarnation that acts as the leader
-abbrev pub acts_if_up : Doc → ℕ → ℕ → Option ℕ → List Entry → Bool
-acts_if_up doc k p None h = false
-acts_if_up doc k p (Some i) h = acts doc (identity p i) k h
+-- where it is up in an incarnation whose term isn't over
+abbrev pub in_term_if_up : Doc → ℕ → ℕ → Option ℕ → List Entry → Bool
+in_term_if_up doc k p None h = false
+in_term_if_up doc k p (Some i) h = in_term doc (identity p i) k h
 
--- a kubelet never does
-abbrev pub acts_as : Doc → ℕ → ℕ → Bool → List Entry → Bool
-acts_as doc k p true h = acts_if_up doc k p (alive p h) h
-acts_as doc k p false h = false
+-- a kubelet never is
+abbrev pub in_term_as : Doc → ℕ → ℕ → Bool → List Entry → Bool
+in_term_as doc k p true h = in_term_if_up doc k p (alive p h) h
+in_term_as doc k p false h = false
 
-abbrev pub acts_now : Doc → ℕ → ℕ → List Entry → Bool
-acts_now doc k p h = acts_as doc k p (is_controller doc p) h
+abbrev pub in_term_now : Doc → ℕ → ℕ → List Entry → Bool
+in_term_now doc k p h = in_term_as doc k p (is_controller doc p) h
 
 -- ---- what it did
 

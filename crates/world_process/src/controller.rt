@@ -1,29 +1,28 @@
 // A controller of the world: its clock and its part in the election.
-ghost use Rattle.std.specs.Prelude.{◌≡◌, ◌+◌, ◌<◌, ◌≤◌, ◌^◌, ◌∷◌, ℕ, true, false, List, [], Option, Some, None, IfOk, IfSome, is_some};
+ghost use Rattle.std.specs.Prelude.{◌≡◌, ◌+◌, ◌<◌, ◌≤◌, ◌^◌, ℕ, true, false, List, [], Option, Some, None, IfOk, IfSome, is_some};
 ghost use Rattle.kube_base.specs.Bounds.{most_local};
 ghost use Rattle.kube_base.specs.declared.numbers.Local.{Local};
 ghost use Rattle.kube_base.specs.declared.numbers.ProcId.{ProcId};
-ghost use Rattle.kube_base.specs.declared.numbers.Version.{Version};
 ghost use Rattle.kube_objects.specs.declared.script.What.TheVariants as what;
 ghost use Rattle.kube_objects.specs.Clocks.{local, wall as wall_in};
 ghost use Rattle.kube_objects.specs.Document.{Doc, is_controller, restart_delay};
-ghost use Rattle.kube_objects.specs.Entry.{Entry, Identity, Leads, entry};
+ghost use Rattle.kube_objects.specs.Entry.{Entry};
 ghost use Rattle.kube_objects.specs.Identities.{identity};
+ghost use Rattle.kube_objects.specs.Pauses.{AreUnpaused, is_paused};
 ghost use Rattle.kube_objects.specs.Process.{alive, starts};
 ghost use Rattle.kube_objects.specs.Wire.{Back};
 ghost use Rattle.history.specs.Steps.{happens, start, restart};
 ghost use Rattle.agenda_laws.specs.Times.{elector_reading};
-ghost use Rattle.leader_elector.specs.declared.candidate.Candidate.{Candidate};
 ghost use Rattle.leader_elector.specs.declared.leading.Leading.{Leading};
-ghost use Rattle.leader_elector.specs.Stands.{IsChosen, acting_identity};
+ghost use Rattle.leader_elector.specs.Stands.{acting_identity};
 ghost use Rattle.script_reader.specs.Lawful.{AreLawful, IsLawful};
 ghost use Rattle.world_process.specs.declared.controller.Role.TheVariants as role;
 ghost use Rattle.world_process.specs.Beats.{reading_of};
 ghost use Rattle.world_process.specs.Clocked.{AreEventsFrom, IsMadeOf};
-ghost use Rattle.world_process.specs.Controllers.{ControllerStands, SameController, IsLed, is_up_as, waiting_of};
+ghost use Rattle.world_process.specs.Controllers.{ControllerStands, SameController, is_up_as, waiting_of};
 ghost use Rattle.world_process.specs.Controllers.{Crashed, Begun, StoppedAs, Restarted, Timed, Turned, Replied};
 ghost use Rattle.world_process.specs.Plain.{IsPlain, IsFew};
-ghost use Rattle.world_process.specs.Processes.{acts_as};
+ghost use Rattle.world_process.specs.Processes.{in_term_as};
 
 use crate::clocks::{clock_for, picoseconds};
 use crate::moves::{Received, Stopped, Turn, asks, final_turn, leads, stays, stop_with, turn_with};
@@ -117,7 +116,7 @@ impl Controller {
     }
 
     /// Starts where it is down; a restart that waits is cancelled. Tells whether it was down.
-    pub fn begin(&mut self, beat: Beat) -> bool
+    pub fn start_if_down(&mut self, beat: Beat) -> bool
         requires { beat.0 ≤ self.old.clock.end }
         ensures same { SameController self.old self.new }
         ensures stands { (doc : Doc) (n k : ℕ) (id : ProcId) (h : List Entry) → ControllerStands doc id.0 h self.old → beat.0 ≡ k
@@ -139,7 +138,7 @@ impl Controller {
         ensures same { SameController self.old self.new }
         ensures incarnation { self.new.incarnation ≡ self.old.incarnation }
         ensures stands { (doc : Doc) (k : ℕ) (id : ProcId) (h : List Entry) → ControllerStands doc id.0 h self.old → beat.0 ≡ k
-            → IsFew h → StoppedAs doc k id h self.new result }
+            → is_paused doc id.0 k ≡ false → IsFew h → StoppedAs doc k id h self.new result }
     {
         match mem::replace(&mut self.role, Role::Down(None)) {
             Role::Down(_) => stop_with(false, None),
@@ -188,11 +187,11 @@ impl Controller {
         }
     }
 
-    /// The leadership that it has at a beat, which shows that it acts; None where it doesn't.
+    /// The leadership that it has at a beat, in a term that isn't over; None where it has none.
     pub fn leadership(&self, beat: Beat) -> Option<Acting<'_>>
         requires { beat.0 ≤ self.now.clock.end }
-        ensures acts { (doc : Doc) (k p : ℕ) (h : List Entry) → ControllerStands doc p h self.now → beat.0 ≡ k
-            → is_some result ≡ acts_as doc k p true h }
+        ensures in_term { (doc : Doc) (k p : ℕ) (h : List Entry) → ControllerStands doc p h self.now → beat.0 ≡ k
+            → is_some result ≡ in_term_as doc k p true h }
         ensures identity { (doc : Doc) (p : ℕ) (h : List Entry) → ControllerStands doc p h self.now
             → IfSome result (λ a. acting_identity a ≡ identity p self.now.incarnation) }
         ensures up { (doc : Doc) (p : ℕ) (h : List Entry) → ControllerStands doc p h self.now
@@ -277,7 +276,7 @@ impl Controller {
         ensures incarnation { self.new.incarnation ≡ self.old.incarnation }
         ensures stands { (doc : Doc) (k p : ℕ) (b : Back) (h : List Entry) → ControllerStands doc p h self.old → beat.0 ≡ k
             → b.who ≡ identity p incarnation → b.call.number ≡ number → b.reply ≡ reply.now
-            → IsFew h → Replied doc k p b h self.new result }
+            → IsFew h → AreUnpaused doc.events → Replied doc k p b h self.new result }
     {
         if incarnation != self.incarnation {
             return stays();
@@ -289,27 +288,13 @@ impl Controller {
             Role::Candidate(candidate) => match candidate.hear(number, reply, now, wall) {
                 Heard::Stays => stays(),
                 Heard::Asks(ask) => asks(ask),
-                Heard::Leads => {
-                    self.lead(now);
+                Heard::Wins(won) => {
+                    self.role = Role::Leading(won.lead());
                     leads(reply)
                 }
             },
             Role::Leading(_) => self.hear(number, *reply, now, wall),
         }
-    }
-
-    // A candidate that is to lead leads from this reading on.
-    fn lead(&mut self, now: Local)
-        requires { now.0 ≤ most_local }
-        ensures same { self.new ≡ record self.old { role = self.new.role } }
-        ensures leads { (doc : Doc) (q : Identity) (h : List Entry) (k : ℕ) (version : Version) (c : Candidate)
-            → self.old.role ≡ role.Candidate c → IsChosen doc q h c → now.0 ≡ local doc q.process k
-            → IsLed doc q (entry k 3 q (Leads version) ∷ h) self.new.role }
-    {
-        let Role::Candidate(candidate) = mem::replace(&mut self.role, Role::Down(None)) else {
-            return;
-        };
-        self.role = Role::Leading(candidate.lead(now));
     }
 
     // A reply that comes to a leader.
@@ -319,12 +304,14 @@ impl Controller {
         ensures incarnation { self.new.incarnation ≡ self.old.incarnation }
         ensures stands { (doc : Doc) (k p : ℕ) (b : Back) (h : List Entry) (l : Leading) → ControllerStands doc p h self.old
             → self.old.role ≡ role.Leading l → now.0 ≡ local doc p k → wall.0 ≡ wall_in doc p k → b.who ≡ identity p self.old.incarnation
-            → b.call.number ≡ number → b.reply ≡ reply → IsFew h → Replied doc k p b h self.new result }
+            → b.call.number ≡ number → b.reply ≡ reply → IsFew h → AreUnpaused doc.events → Replied doc k p b h self.new result }
     {
         let Role::Leading(leading) = mem::replace(&mut self.role, Role::Down(None)) else {
             return stays();
         };
-        match leading.on_reply(number, reply, now, wall) {
+        // Nobody stands still, so the next attempt can begin when it is due.
+        let next = Local(now.0 + self.timing.retry);
+        match leading.on_reply(number, reply, now, next, wall) {
             LeadingNext::Stay(leading) => {
                 self.role = Role::Leading(leading);
                 stays()

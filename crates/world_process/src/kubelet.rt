@@ -105,7 +105,7 @@ impl Kubelet {
     }
 
     /// Starts where it is down. Tells whether it was down.
-    pub fn begin(&mut self, beat: Beat) -> bool
+    pub fn start_if_down(&mut self, beat: Beat) -> bool
         requires { beat.0 ≤ self.old.clock.end }
         ensures same { SameKubelet self.old self.new }
         ensures stands { (doc : Doc) (n k : ℕ) (id : ProcId) (h : List Entry) → KubeletStands doc id.0 h self.old → beat.0 ≡ k

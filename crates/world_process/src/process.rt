@@ -1,5 +1,5 @@
 // A process of the world, and what the world asks of each.
-ghost use Rattle.std.specs.Prelude.{◌≡◌, ◌↔◌, ◌+◌, ◌<◌, ◌≤◌, ◌^◌, ℕ, true, List, Option, Some, IfSome, is_some};
+ghost use Rattle.std.specs.Prelude.{◌≡◌, ◌↔◌, ◌+◌, ◌<◌, ◌≤◌, ◌^◌, ℕ, true, false, List, Option, Some, IfSome, is_some};
 ghost use Rattle.kube_base.specs.declared.numbers.Local.{Local};
 ghost use Rattle.kube_base.specs.declared.numbers.ProcId.{ProcId};
 ghost use Rattle.kube_objects.specs.declared.deed.Actor.TheVariants as actor;
@@ -8,6 +8,7 @@ ghost use Rattle.kube_objects.specs.Document.{Doc, is_controller, restart_delay}
 ghost use Rattle.kube_objects.specs.Entry.{Entry};
 ghost use Rattle.kube_objects.specs.Identities.{identity};
 ghost use Rattle.kube_objects.specs.InForce.{posted_status};
+ghost use Rattle.kube_objects.specs.Pauses.{AreUnpaused, is_paused};
 ghost use Rattle.kube_objects.specs.Process.{alive, starts};
 ghost use Rattle.kube_objects.specs.Wire.{Back};
 ghost use Rattle.history.specs.Steps.{happens, start};
@@ -17,7 +18,7 @@ ghost use Rattle.world_process.specs.Beats.{IsBeatOf, beat_in, own_reading, read
 ghost use Rattle.world_process.specs.Moves.{own_turn};
 ghost use Rattle.world_process.specs.Plain.{IsPlain, IsFew};
 ghost use Rattle.world_process.specs.Processes.{ProcessStands, SameProcess, Crashed, Begun, StoppedAs, Turned, Replied};
-ghost use Rattle.world_process.specs.Processes.{acts_now, me_of, incarnation_of, clock_of, waking_of, is_up_first_as};
+ghost use Rattle.world_process.specs.Processes.{in_term_now, me_of, incarnation_of, clock_of, waking_of, is_up_first_as};
 
 use crate::controller::Controller;
 use crate::kubelet::Kubelet;
@@ -100,7 +101,7 @@ impl Process {
     }
 
     /// Starts where it is down. Tells whether it was down.
-    pub fn begin(&mut self, beat: Beat) -> bool
+    pub fn start_if_down(&mut self, beat: Beat) -> bool
         requires { beat.0 ≤ (clock_of self.old).end }
         ensures same { SameProcess self.old self.new }
         ensures stands { (doc : Doc) (n k : ℕ) (id : ProcId) (h : List Entry) → ProcessStands doc id.0 h self.old → beat.0 ≡ k
@@ -108,8 +109,8 @@ impl Process {
             → IsFew (happens doc k (what.Start id) h) → Begun doc k id h self.new result }
     {
         match self {
-            Process::Controller(controller) => controller.begin(beat),
-            Process::Kubelet(kubelet) => kubelet.begin(beat),
+            Process::Controller(controller) => controller.start_if_down(beat),
+            Process::Kubelet(kubelet) => kubelet.start_if_down(beat),
         }
     }
 
@@ -119,7 +120,7 @@ impl Process {
         ensures same { SameProcess self.old self.new }
         ensures stands { (doc : Doc) (k : ℕ) (id : ProcId) (h : List Entry) → ProcessStands doc id.0 h self.old
             → is_controller doc id.0 ≡ true
-            → beat.0 ≡ k → IsFew h → StoppedAs doc k id h self.new result }
+            → beat.0 ≡ k → is_paused doc id.0 k ≡ false → IsFew h → StoppedAs doc k id h self.new result }
     {
         match self {
             Process::Controller(controller) => controller.stop(beat),
@@ -200,11 +201,11 @@ impl Process {
         }
     }
 
-    /// The leadership that it has at a beat, which shows that it acts; None where it doesn't, as a kubelet never does.
+    /// The leadership that it has at a beat, in a term that isn't over; None where it has none, as a kubelet never has.
     pub fn leadership(&self, beat: Beat) -> Option<Acting<'_>>
         requires { beat.0 ≤ (clock_of self.now).end }
-        ensures acts { (doc : Doc) (k p : ℕ) (h : List Entry) → ProcessStands doc p h self.now → beat.0 ≡ k
-            → is_some result ≡ acts_now doc k p h }
+        ensures in_term { (doc : Doc) (k p : ℕ) (h : List Entry) → ProcessStands doc p h self.now → beat.0 ≡ k
+            → is_some result ≡ in_term_now doc k p h }
         ensures identity { (doc : Doc) (p : ℕ) (h : List Entry) → ProcessStands doc p h self.now
             → IfSome result (λ a. acting_identity a ≡ identity p (incarnation_of self.now)) }
         ensures up { (doc : Doc) (p : ℕ) (h : List Entry) → ProcessStands doc p h self.now
@@ -222,7 +223,7 @@ impl Process {
         ensures same { SameProcess self.old self.new }
         ensures stands { (doc : Doc) (k p : ℕ) (b : Back) (h : List Entry) → ProcessStands doc p h self.old
             → beat.0 ≡ k → b.who ≡ identity p incarnation → b.call.number ≡ number → b.reply ≡ reply.now → IsFew h
-            → Replied doc k p b h self.new result }
+            → AreUnpaused doc.events → Replied doc k p b h self.new result }
     {
         match self {
             Process::Controller(controller) => controller.receive(incarnation, number, reply, beat),

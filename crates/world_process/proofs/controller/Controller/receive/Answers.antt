@@ -1,64 +1,63 @@
-use Rattle.std.proofs.Common.{None, sym, ap, ◌∙◌, subst, refl}
+use Rattle.std.proofs.Common.{None, sym, ap, ◌∙◌, subst}
 use Rattle.kube_objects.specs.Identities.{identity}
 use Rattle.kube_objects.specs.Turns.{with_reply}
-use Rattle.leader_elector.specs.Stands.{CandidateStands}
+use Rattle.leader_elector.specs.Stands.{CandidateStands, LeadingStands}
 use Rattle.world_process.specs.declared.controller.Role.TheVariants as role
-use Rattle.world_process.specs.Controllers.{IsLed, Replied}
-use Rattle.world_process.proofs.Answering.{is-back, answers-stays, answers-asks, answers-leads, led-role, replied-other, replied-down}
+use Rattle.world_process.specs.Controllers.{Replied}
+use Rattle.world_process.proofs.Answering.{is-back, answers-stays, answers-asks, answers-leads, replied-other, replied-down}
 use Rattle.world_process.proofs.Readings.{readings-are}
 use Rattle.world_process.proofs.Standing.{role-at}
 use Rattle.world_process.proofs.controller.Controller.receive.Goals as goal
 
 pub returns-then-incarnation-self-clause-stands : goal.returns-then-incarnation-self-clause-stands
-returns-then-incarnation-self-clause-stands c doc k p b h s at who number reply few =
+returns-then-incarnation-self-clause-stands c doc k p b h s at who number reply few none =
     subst (λ r. Replied doc k p b h c.args.self.now r) (sym c.stays.ensures) (replied-other doc k p c.args.incarnation b c.args.number c.args.reply.now h c.args.self.now s (record { who = who; number = number; reply = reply }) c.if-incarnation-self.true)
 
 pub returns-in-Down-clause-stands : goal.returns-in-Down-clause-stands
-returns-in-Down-clause-stands c doc k p b h s at who number reply few =
+returns-in-Down-clause-stands c doc k p b h s at who number reply few none =
     let self = c.args.self.now in
     let back = is-back b p c.args.incarnation self.incarnation c.args.number c.args.reply.now who c.if-incarnation-self.false number reply in
     subst (λ r. Replied doc k p b h (record self { role = self.role }) r) (sym c.stays-in-Down.ensures) (subst (λ x. Replied doc k p b h (record self { role = x }) (record { lead = None; ask = None })) (sym c.in-Down.is) (replied-down doc k p b c.args.number c.args.reply.now h self c.in-Down.field-0 s c.in-Down.is back))
 
 pub returns-in-Stays-clause-stands : goal.returns-in-Stays-clause-stands
-returns-in-Stays-clause-stands c doc k p b h s at who number reply few =
+returns-in-Stays-clause-stands c doc k p b h s at who number reply few none =
     let self = c.args.self.now in
     let q = identity p self.incarnation in
     let reads = readings-are doc p k c.args.beat.0 c.local-now.result.0 c.wall_at-wall.result.0 self.clock s.clock at c.local-now.ensures.value c.wall_at-wall.ensures.value in
     let was = role-at doc p h self (role.Candidate c.in-Candidate.candidate) s c.in-Candidate.is in
     let back = is-back b p c.args.incarnation self.incarnation c.args.number c.args.reply.now who c.if-incarnation-self.false number reply in
     subst (λ r. Replied doc k p b h (record self { role = role.Candidate c.hear.new.self }) r) (sym c.stays-in-Stays.ensures) (answers-stays doc k p b c.args.number c.args.reply.now h self (role.Candidate c.hear.new.self) (λ g. CandidateStands doc q g c.hear.new.self) s back was.0 (λ g up stands. (up, stands))
-    (λ none call. (c.in-Stays.ensures.uncounted doc q h k was.1 reads.now was.0 none call).1)
+    (λ off call. (c.in-Stays.ensures.uncounted doc q h k was.1 reads.now was.0 off call).1)
     (λ call some. c.in-Stays.ensures.counts doc q h k call was.1 reads.now reads.wall (few.calls q) some))
 
 pub returns-in-Asks-clause-stands : goal.returns-in-Asks-clause-stands
-returns-in-Asks-clause-stands c doc k p b h s at who number reply few =
+returns-in-Asks-clause-stands c doc k p b h s at who number reply few none =
     let self = c.args.self.now in
     let q = identity p self.incarnation in
     let reads = readings-are doc p k c.args.beat.0 c.local-now.result.0 c.wall_at-wall.result.0 self.clock s.clock at c.local-now.ensures.value c.wall_at-wall.ensures.value in
     let was = role-at doc p h self (role.Candidate c.in-Candidate.candidate) s c.in-Candidate.is in
     let back = is-back b p c.args.incarnation self.incarnation c.args.number c.args.reply.now who c.if-incarnation-self.false number reply in
     subst (λ r. Replied doc k p b h (record self { role = role.Candidate c.hear.new.self }) r) (sym c.asks.ensures) (answers-asks doc k p b c.args.number c.args.reply.now h self (role.Candidate c.hear.new.self) c.in-Asks.ask (λ g. CandidateStands doc q g c.hear.new.self) s back was.0 (λ g up stands. (up, stands))
-    (λ none. let no = (c.in-Asks.ensures.uncounted doc q h k was.1 reads.now was.0 none b.call).0 in cc)
+    (λ off. let no = (c.in-Asks.ensures.uncounted doc q h k was.1 reads.now was.0 off b.call).0 in cc)
     (λ call some. c.in-Asks.ensures.counts doc q h k call was.1 reads.now reads.wall (few.calls q) some))
 
-pub returns-in-Leads-clause-stands : goal.returns-in-Leads-clause-stands
-returns-in-Leads-clause-stands c doc k p b h s at who number reply few =
+pub returns-in-Wins-clause-stands : goal.returns-in-Wins-clause-stands
+returns-in-Wins-clause-stands c doc k p b h s at who number reply few none =
     let self = c.args.self.now in
     let q = identity p self.incarnation in
     let reads = readings-are doc p k c.args.beat.0 c.local-now.result.0 c.wall_at-wall.result.0 self.clock s.clock at c.local-now.ensures.value c.wall_at-wall.ensures.value in
     let was = role-at doc p h self (role.Candidate c.in-Candidate.candidate) s c.in-Candidate.is in
     let back = is-back b p c.args.incarnation self.incarnation c.args.number c.args.reply.now who c.if-incarnation-self.false number reply in
-    let led = c.lead.new.self.role in
-    subst (λ x. Replied doc k p b h x c.leads.result) (sym c.lead.ensures.same)
-    (subst (λ a. Replied doc k p b h (record self { role = led }) (record { lead = c.leads.result.lead; ask = a })) (sym c.leads.ensures.none)
-    (answers-leads doc k p b c.args.number c.args.reply.now h self led c.leads.result.lead (λ g. IsLed doc q g led) s back was.0 (led-role doc p self.incarnation led) c.leads.ensures.lead
-    (λ none. let no = (c.in-Leads.ensures.uncounted doc q h k was.1 reads.now was.0 none b.call).0 in cc)
+    let led = role.Leading c.lead.result in
+    subst (λ a. Replied doc k p b h (record self { role = led }) (record { lead = c.leads.result.lead; ask = a })) (sym c.leads.ensures.none)
+    (answers-leads doc k p b c.args.number c.args.reply.now h self led c.leads.result.lead (λ g. LeadingStands doc q g c.lead.result) s back was.0 (λ g up stands. (up, stands)) c.leads.ensures.lead
+    (λ off. let no = (c.in-Wins.ensures.uncounted doc q h k was.1 reads.now was.0 off b.call).0 in cc)
     (λ call some.
-    let t = c.in-Leads.ensures.counts doc q h k call was.1 reads.now reads.wall (few.calls q) some in
-    (t.0, t.1, subst (λ g. IsLed doc q g led) (sym t.1) (c.lead.ensures.leads doc q (with_reply k q call c.args.reply.now h) k t.0 c.hear.new.self refl t.2 reads.now)))))
+    let t = c.in-Wins.ensures.counts doc q h k call was.1 reads.now reads.wall (few.calls q) some in
+    (t.0, t.1, subst (λ g. LeadingStands doc q g c.lead.result) (sym t.1) (c.lead.ensures.stands doc q (with_reply k q call c.args.reply.now h) k 3 t.0 t.2))))
 
 pub returns-in-Leading-clause-stands : goal.returns-in-Leading-clause-stands
-returns-in-Leading-clause-stands c doc k p b h s at who number reply few =
+returns-in-Leading-clause-stands c doc k p b h s at who number reply few none =
     let self = c.args.self.now in
     let reads = readings-are doc p k c.args.beat.0 c.local-now.result.0 c.wall_at-wall.result.0 self.clock s.clock at c.local-now.ensures.value c.wall_at-wall.ensures.value in
-    c.hear-in-Leading.ensures.stands doc k p b h c.in-Leading.field-0 s c.in-Leading.is reads.now reads.wall (who ∙ ap (identity p) c.if-incarnation-self.false) number reply few
+    c.hear-in-Leading.ensures.stands doc k p b h c.in-Leading.field-0 s c.in-Leading.is reads.now reads.wall (who ∙ ap (identity p) c.if-incarnation-self.false) number reply few none

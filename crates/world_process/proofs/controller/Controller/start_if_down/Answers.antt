@@ -4,7 +4,7 @@ use Rattle.kube_objects.specs.Entry.{Event, script_entry}
 use Rattle.world_process.specs.Controllers.{is_up_as}
 use Rattle.world_process.proofs.Names.{eq-self}
 use Rattle.world_process.proofs.Scripted.{begun-few, begun-starts, down-event, down-is, plain-script}
-use Rattle.world_process.proofs.controller.Controller.begin.Goals as goal
+use Rattle.world_process.proofs.controller.Controller.start_if_down.Goals as goal
 
 pub returns-clause-stands : goal.returns-clause-stands
 returns-clause-stands c doc n k id h s at plain few =

@@ -3,7 +3,7 @@ use Rattle.kube_objects.specs.declared.script.What.TheVariants as what
 use Rattle.kube_objects.specs.Entry.{Event, script_entry}
 use Rattle.world_process.proofs.Kubelets.{kubelet-begun, kubelet-begun-not, kubelet-down, kubelet-event}
 use Rattle.world_process.proofs.Scripted.{begun-few, plain-script}
-use Rattle.world_process.proofs.kubelet.Kubelet.begin.Goals as goal
+use Rattle.world_process.proofs.kubelet.Kubelet.start_if_down.Goals as goal
 
 pub returns-then-is_some-clause-stands : goal.returns-then-is_some-clause-stands
 returns-then-is_some-clause-stands c doc n k id h s at plain few = kubelet-begun-not doc k id h c.args.self.now (sym c.is_some.ensures ∙ c.if-is_some.true) s

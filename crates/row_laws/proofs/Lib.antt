@@ -1,0 +1,4 @@
+pub mod Rows
+pub mod Probes
+pub mod Keys
+pub mod Bases
