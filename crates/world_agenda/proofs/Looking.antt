@@ -6,12 +6,14 @@ use Rattle.kube_base.specs.declared.numbers.Beat.{Beat}
 use Rattle.kube_objects.specs.Clocks.{local, wall}
 use Rattle.kube_objects.specs.Document.{Doc, processes, end_beat, is_controller, is_up_first}
 use Rattle.kube_objects.specs.Entry.{Entry}
+use Rattle.kube_objects.specs.Pauses.{AreUnpaused}
 use Rattle.history.specs.History.{history}
 use Rattle.history_laws.proofs.Plainly.{some_is, true_is, and_left, and_right, and_both}
 use Rattle.agenda_laws.specs.Ahead.{IsAhead, IsSilent, IsNextStart, IsNextEvent, IsNextMessage, IsNextTurn, IsNextBelow, IsNextBeat, NoTurnsAreFirst, TurnsAreAdded, TheSoonestIsNext}
 use Rattle.agenda_laws.specs.Standing.{StandsAt}
 use Rattle.agenda_laws.specs.Times.{is_early, sooner}
 use Rattle.agenda_laws.specs.Waking.{AreAsleep, EndsWakeToo, NextBeatsWake, acts_as}
+use Rattle.agenda_laws.proofs.Waking.{rests_asleep}
 use Rattle.world_core.specs.declared.wakes.Wakes.{Wakes}
 use Rattle.world_core.specs.Waits.{WakesStand, beat_of, reading_of, starts_now}
 use Rattle.world_agenda.specs.Woken.{IsLooked, IsWoken, not_before}
@@ -64,24 +66,24 @@ since-same k (Some n) from = let least = from n refl in let same : max k n ≡ n
 -- ---- one process
 
 -- who isn't woken at once is woken by its reading or its time of day
-next-turn : (doc : Doc) (k p : ℕ) (h : List Entry) (w : Wakes) (b : Option Beat) → k ≤ end_beat doc → starts_now doc k p ≡ false → w.at_once ≡ false → WakesStand doc k p h w → IsWoken doc p w b
+next-turn : (doc : Doc) (k p : ℕ) (h : List Entry) (w : Wakes) (b : Option Beat) → k ≤ end_beat doc → starts_now doc k p ≡ false → AreUnpaused doc.events → w.at_once ≡ false → WakesStand doc k p h w → IsWoken doc p w b
     → IsNextTurn doc k p h (not_before k (beat_of b))
-next-turn doc k p h w b start idle calm s woken =
+next-turn doc k p h w b start idle none calm s woken =
     record {
       quiet = λ j from within early.
           let both = sym (woken.reached j within) ∙ (sym (since-early k j (beat_of b) from) ∙ early) in
-          (s.asleep idle j from within).0
+          (rests_asleep doc j p h none).1 ((s.asleep idle j from within).0
           (record {
             at_once = calm;
             local = and_left (is_early (local doc p j) (reading_of w)) (is_early (wall doc p j) w.wall) both;
             wall = and_right (is_early (local doc p j) (reading_of w)) (is_early (wall doc p j) w.wall) both;
-          });
+          }));
       there = λ n is.
           let from = since-from k (beat_of b) n is in
           let within = since-within k (end_beat doc) (beat_of b) start woken.within n is in (
             record { from = from; within = within },
-            λ asleep.
-                let by = (s.asleep idle n from within).1 asleep in
+            λ rests.
+                let by = (s.asleep idle n from within).1 ((rests_asleep doc n p h none).0 rests) in
                 since-reached k (beat_of b) n is
                 (woken.reached n within ∙ and_both (is_early (local doc p n) (reading_of w)) (is_early (wall doc p n) w.wall) by.local by.wall),
           );
@@ -121,13 +123,13 @@ looked-first doc k h event message both law e m is =
         let at : (k == 0) ≡ true = grind (arith, nat_tests) in
         sym (ap (λ b. b && is_up_first doc p) at) ∙ idle
 
-pub looked-next : (doc : Doc) (k p : ℕ) (h : List Entry) (w : Wakes) (next turn both : Option Beat) → TurnsAreAdded → k ≤ end_beat doc → p < processes doc → IsLooked doc k p h next
+pub looked-next : (doc : Doc) (k p : ℕ) (h : List Entry) (w : Wakes) (next turn both : Option Beat) → TurnsAreAdded → k ≤ end_beat doc → p < processes doc → AreUnpaused doc.events → IsLooked doc k p h next
     → WakesStand doc k p h w → w.at_once ≡ false → IsWoken doc p w turn → beat_of both ≡ sooner (beat_of next) (beat_of turn) → IsLooked doc k (p + 1) h both
-looked-next doc k p h w next turn both law start inside looked s calm woken is =
+looked-next doc k p h w next turn both law start inside none looked s calm woken is =
     record {
       idle = λ i less. by_place i less (cases_lt i p);
       below = λ idle.
-          let one = next-turn doc k p h w turn start (idle p inside) calm s woken in
+          let one = next-turn doc k p h w turn start (idle p inside) none calm s woken in
           let more = law doc k p h (not_before k (beat_of next)) (not_before k (beat_of turn)) inside (looked.below idle) one in
           let same : sooner (not_before k (beat_of next)) (not_before k (beat_of turn)) ≡ not_before k (beat_of both) = sym (ap (not_before k) is ∙ since-sooner k (beat_of next) (beat_of turn)) in
           let count : suc p ≡ p + 1 = omega arith in
@@ -146,9 +148,9 @@ looked-all doc k p next last law start count looked is =
 
 -- ---- somebody is woken at once
 
-pub at-once : (doc : Doc) (k p : ℕ) (w : Wakes) (at : Beat) → EndsWakeToo → NextBeatsWake → k ≤ end_beat doc → p < processes doc → WakesStand doc k p (history doc k) w → w.at_once ≡ true → at.0 ≡ k
+pub at-once : (doc : Doc) (k p : ℕ) (w : Wakes) (at : Beat) → EndsWakeToo → NextBeatsWake → k ≤ end_beat doc → p < processes doc → AreUnpaused doc.events → WakesStand doc k p (history doc k) w → w.at_once ≡ true → at.0 ≡ k
     → IsNextBeat doc k (beat_of (Some at))
-at-once doc k p w at ends wakes start inside s wake now =
+at-once doc k p w at ends wakes start inside none s wake now =
     record {
       quiet = λ j from within early stands. let less = ltb-true j at.0 early in omega (arith, less, now, from);
       there = λ n is.
@@ -161,7 +163,7 @@ at-once doc k p w at ends wakes start inside s wake now =
     by_cause asleep (inl starts) =
         let zero : k ≡ 0 = grind (arith, nat_tests) in
         true_is (sym (and_right (k == 0) (is_up_first doc p) starts) ∙ asleep.events.starts zero p inside)
-    by_cause asleep (inr acts) = true_is (sym acts ∙ ((ends doc k p (history doc k)).0 (asleep.turns p inside)).at_once)
+    by_cause asleep (inr acts) = true_is (sym acts ∙ ((ends doc k p (history doc k)).0 ((rests_asleep doc k p (history doc k) none).0 (asleep.turns p inside))).at_once)
 
     awake : ¬ AreAsleep doc k (history doc k)
     awake asleep = by_cause asleep (or-some (starts_now doc k p) (acts_as doc k p (is_controller doc p) (history doc k)) (sym s.at_once ∙ wake))

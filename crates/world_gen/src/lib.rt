@@ -4,9 +4,11 @@
 mod crash;
 mod draw;
 mod generating;
+mod law;
 mod names;
 mod node;
 mod pod;
 mod process;
 
 pub use generating::generate;
+pub use law::generated_documents_are_lawful;

@@ -27,7 +27,7 @@ returns-then-wakes c doc events stands end =
     let start : k ≤ end_beat doc = omega (arith, c.requires.within, end) in
     let count = c.processes-i-end.ensures.stands doc k (history doc k) stands in
     let inside : c.loop-i.i < processes doc = omega (arith, c.loop-i-test.true, count) in
-    at-once doc k c.loop-i.i c.wakes-wakes.result c.at-at.result c.beats_wake_by_causes.ensures.ends c.beats_wake_by_causes.ensures.next start inside
+    at-once doc k c.loop-i.i c.wakes-wakes.result c.at-at.result c.beats_wake_by_causes.ensures.ends c.beats_wake_by_causes.ensures.next start inside stands.within.rest.document.unpaused
     (c.wakes-wakes.ensures doc k (history doc k) stands end) c.if-wakes.true c.at-at.ensures
 
 pub loop-i-preserved : goal.loop-i-preserved
@@ -38,7 +38,7 @@ loop-i-preserved c doc events stands end =
     let count = c.processes-i-end.ensures.stands doc k h stands in
     let inside : c.loop-i.i < processes doc = omega (arith, c.loop-i-test.true, count) in
     let wakes = c.wakes-wakes.ensures doc k h stands end in
-    looked-next doc k c.loop-i.i h c.wakes-wakes.result c.loop-i.next c.beat_of_waking.result c.sooner-next.result c.next_beats_are_soonest.ensures.more start inside
+    looked-next doc k c.loop-i.i h c.wakes-wakes.result c.loop-i.next c.beat_of_waking.result c.sooner-next.result c.next_beats_are_soonest.ensures.more start inside stands.within.rest.document.unpaused
     (c.loop-i.invariant doc events stands end) wakes c.if-wakes.false (c.beat_of_waking.ensures doc k h stands end) c.sooner-next.ensures
 
 pub returns : goal.returns
