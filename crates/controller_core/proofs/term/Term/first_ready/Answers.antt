@@ -42,8 +42,8 @@ loop-next-preserved c =
     record {
       least = omega (arith, c.earlier-least.ensures.least, i.least);
       there = λ doc q h s. either c.earlier-least.ensures.there
-      (λ same. subst (λ at. (at ≡ c.args.given) ⊎ ((p : entry.Place) × IsTokenReading doc q h p at.0)) (sym same) (i.there doc q h s))
-      (λ new. inr (entry_place place, subst (λ o. IfSome o (λ at. IsTokenReading doc q h (entry_place place) at.0)) new (c.ready.ensures.reading doc q h s)));
+          (λ same. subst (λ at. (at ≡ c.args.given) ⊎ ((p : entry.Place) × IsTokenReading doc q h p at.0)) (sym same) (i.there doc q h s))
+          (λ new. inr (entry_place place, subst (λ o. IfSome o (λ at. IsTokenReading doc q h (entry_place place) at.0)) new (c.ready.ensures.reading doc q h s)));
       walk = (
         Some place,
         c.next_zone-next-in-Some.ensures,
