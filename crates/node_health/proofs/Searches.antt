@@ -1,27 +1,19 @@
--- A search for a name in a list that ascends.
-use Rattle.std.proofs.Common.{◌≡◌, ◌==◌, ◌<◌, ◌≤◌, ℕ, Bool, true, false, nat_lt, List, [], ◌∷◌, length, Result, Ok, Err, refl, sym, ap, arith}
+-- A search for a name in a list.
+use Rattle.std.proofs.Common.{◌≡◌, ◌==◌, ◌<◌, ◌≤◌, ℕ, Bool, true, false, nat_lt, List, length, Result, Ok, Err, refl, sym, arith}
 use Rattle.std.proofs.Math.ListN.{get_or}
 use Rattle.std.proofs.lemmas.List.{get_or_default}
 use Rattle.std.proofs.lemmas.Bool.Decides.{nat_tests}
 use Rattle.std.proofs.lemmas.List.Folds.{list_any_at, list_any_none}
-use Rattle.std.proofs.lemmas.List.Kept.{AllPairs-from_increasing}
 use Rattle.std.proofs.lemmas.List.Sorted.{searched}
-use Rattle.std.proofs.lemmas.Map.Keys.{IsStrictlyIncreasing-from_sorted}
-use Rattle.std.specs.List.Sorted.{IsBinarySearchResult, IsStrictlySortedBy}
+use Rattle.std.specs.Bool.{MatchBool}
+use Rattle.std.specs.List.Sorted.{IsBinarySearchResult, IsNonDecreasing}
 use Rattle.std.specs.Ordering.{nat_cmp}
 use Rattle.std.specs.Result.{MatchResult, is_ok}
 use Rattle.node_health.specs.Kept.{is_listed}
 
-never_falls : (xs : List ℕ) → IsStrictlySortedBy nat_cmp xs → (i j : ℕ) → i ≤ j → j < length xs → get_or xs i 0 ≤ get_or xs j 0
-never_falls xs sorted i j up within = by_test (nat_lt i j) refl
-  where
-    by_test : (b : Bool) → nat_lt i j ≡ b → get_or xs i 0 ≤ get_or xs j 0
-    by_test true is = omega (arith, AllPairs-from_increasing xs (IsStrictlyIncreasing-from_sorted xs sorted) i j 0 (grind (arith, nat_tests, is)) within)
-    by_test false is = let same : i ≡ j = grind (arith, nat_tests, is, up) in omega (arith, ap (λ n. get_or xs n 0) same)
-
-pub found-listed : (names : List ℕ) (name : ℕ) (r : Result ℕ ℕ) → IsStrictlySortedBy nat_cmp names
+pub found-listed : (names : List ℕ) (name : ℕ) (r : Result ℕ ℕ) → IsNonDecreasing names
     → IsBinarySearchResult (λ y. nat_cmp y name) names r → is_ok r ≡ is_listed names name
-found-listed names name r sorted found = by_result r (searched names name r found (never_falls names sorted))
+found-listed names name r sorted found = by_result r (searched names name r found (λ i j. sorted i j 0))
   where
     apart : (i k : ℕ) → ((k : ℕ) → k < i → get_or names k 0 < name) → ((k : ℕ) → i ≤ k → k < length names → name < get_or names k 0) → k < length names → (get_or names k 0 == name) ≡ false
     apart i k below above within = by_side (nat_lt k i) refl
@@ -34,6 +26,6 @@ found-listed names name r sorted found = by_result r (searched names name r foun
     by_result (Ok i) m = let same : (get_or names i 0 == name) ≡ true = grind (arith, nat_tests, m.1) in sym (list_any_at (λ other. other == name) names i 0 m.0 same)
     by_result (Err i) m = sym (list_any_none (λ other. other == name) names (λ k d within. rw (get_or_default names k d 0 within) (apart i k m.1 m.2 within)))
 
-pub one-ascends : (name : ℕ) → IsStrictlySortedBy nat_cmp (name ∷ [])
-unfolding IsStrictlySortedBy
-one-ascends name = (tt, tt)
+pub when_true : (A B : Type 0) (told : Bool) → MatchBool told A B → told ≡ true → A
+when_true A B true m is = m
+when_true A B false m is = absurd (cc)

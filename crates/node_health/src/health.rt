@@ -1,8 +1,6 @@
 // The health of the nodes that a leader knows.
 ghost use Rattle.std.specs.Prelude.{◌≡◌, ◌==◌, ◌+◌, ℕ, nat_lt, Bool, true, false, List, ◌∷◌, Option, Some, None, option_map};
 ghost use Rattle.std.specs.Prelude.{IfOk, IsOk, OnOk, OnErr, IsSome, if◌then◌else◌};
-ghost use Rattle.std.specs.List.Sorted.{IsStrictlySortedBy};
-ghost use Rattle.std.specs.Ordering.{nat_cmp};
 ghost use Rattle.kube_base.specs.declared.numbers.Local.{Local as Reading};
 ghost use Rattle.kube_objects.specs.Clocks.{local};
 ghost use Rattle.kube_objects.specs.Document.{Doc};
@@ -76,9 +74,9 @@ impl Health {
         Ok(judge(seen.ready, is_silent(probe, grace.of(seen.ready), now)))
     }
 
-    /// Forgets each known node that isn't in the list, which ascends. Takes no memory.
+    /// Forgets each known node that isn't in the list. Takes no memory. A list that ascends is searched by halves, any other
+    /// is gone through.
     pub fn forget_others(&mut self, nodes: &NumberList)
-        requires ascend { IsStrictlySortedBy nat_cmp nodes.now }
         ensures kept { (node : ℕ) → kept self.new node ≡ (if spec.is_listed nodes.now node then kept self.old node else None) }
         ensures stands { (doc : Doc) (k : ℕ) (q : Identity) (h : List Entry)
             → PassStands doc k q h (spec.is_listed nodes.now) self.old
@@ -86,7 +84,9 @@ impl Health {
             → HealthStands doc q (add k q Pass h) self.new }
     {
         let listed = nodes.as_slice();
-        self.nodes.retain(|node, _| is_listed(listed, *node));
+        let ascends = listed.is_sorted();
+        self.nodes
+            .retain(|node, _| is_listed(listed, ascends, *node));
     }
 
     /// Each known node is heard of at this reading: the all-Full mode has ended. Takes no memory.

@@ -83,11 +83,13 @@ fn nodes_are_forgotten_and_heard_of_again(rt: HostRuntime) -> Result<(), Fail> {
         );
     }
     let mut found = NumberList::new(rt.alloc());
-    found.push(11)?;
+    // The list needs no order.
+    found.push(12)?;
+    found.push(10)?;
     health.forget_others(&found);
     health.reset_probes(Local(9));
     // the name, and the probe
-    let table = [(10, None), (11, Some(Local(9))), (12, None)];
+    let table = [(10, Some(Local(9))), (11, None), (12, Some(Local(9)))];
     for (name, probe) in table {
         assert_eq!(rt; health.probe(name), probe);
     }
