@@ -1,15 +1,15 @@
 -- Which entries the wire stands through, and from beat to beat.
-use Rattle.std.proofs.Common.{◌≡◌, ℕ, ◌+◌, false, List, [], ◌∷◌, map, Option, Some, None, refl, sym, ap, ◌∙◌, subst}
+use Rattle.std.proofs.Common.{◌≡◌, ℕ, ◌+◌, Bool, true, false, List, [], ◌∷◌, map, Option, Some, None, refl, sym, ap, ◌∙◌, subst, arith}
 use Rattle.kube_objects.specs.declared.deed.Actor.{Actor}
 use Rattle.kube_objects.specs.declared.script.What.{What}
 use Rattle.kube_objects.specs.declared.script.What.TheVariants as what
 use Rattle.kube_objects.specs.Entry.{Entry, Fact, Event, Sends, Answers}
 use Rattle.kube_objects.specs.InFlight.{requests_due, replies_due, and_request, and_reply}
-use Rattle.kube_objects.specs.Newest.{or_else}
+use Rattle.kube_objects.specs.Newest.{added, or_else}
 use Rattle.kube_objects.specs.Wire.{Sent, Back, sent_of, back_of, of_event, in_force, request_delay, reply_delay, request_delay_of, reply_delay_of, request_loss_of, reply_loss_of}
 use Rattle.wire_calls.specs.declared.wire.Wire.{Wire}
 use Rattle.wire_calls.specs.InFlight.{pending}
-use Rattle.wire_calls.specs.WireStands.{WireStands, IsDelay, as_arrived, as_delivered, link_in, is_of_wire}
+use Rattle.wire_calls.specs.WireStands.{WireStands, IsDelay, as_arrived, as_delivered, link_in, is_of_wire, wire_entries}
 use Rattle.wire_calls.proofs.Orders.{in_order-next}
 
 -- from the end of a beat to the next one
@@ -77,3 +77,17 @@ wire-beside processes k arriving coming h e w unseen s =
         ∙ ap (λ o. record (record (link_in p h) { request_delay = request_delay p (e ∷ h) }) { reply_delay = or_else 1 o }) (in_force-beside (reply_delay_of p) e h (b.reply_delays p))
         ∙ ap (λ o. record (record (record (link_in p h) { request_delay = request_delay p (e ∷ h) }) { reply_delay = reply_delay p (e ∷ h) }) { loses_requests = or_else false o }) (in_force-beside (request_loss_of p) e h (b.request_losses p))
         ∙ ap (λ o. record (link_in p (e ∷ h)) { loses_replies = or_else false o }) (in_force-beside (reply_loss_of p) e h (b.reply_losses p))
+
+-- a history without an entry that the wire looks at is as the empty one
+pub wire-untouched : (processes k : ℕ) (h : List Entry) (w : Wire) → WireStands processes k [] [] [] w → wire_entries h ≡ 0 → WireStands processes k [] [] h w
+wire-untouched processes k [] w s none = s
+wire-untouched processes k (e ∷ h) w s none =
+    wire-beside processes k [] [] h e w (unseen (is_of_wire e.fact) none) (wire-untouched processes k h w s (before (is_of_wire e.fact) none))
+  where
+    unseen : (b : Bool) → added b (wire_entries h) ≡ 0 → b ≡ false
+    unseen true none = absurd (omega (arith, none))
+    unseen false none = refl
+
+    before : (b : Bool) → added b (wire_entries h) ≡ 0 → wire_entries h ≡ 0
+    before true none = absurd (omega (arith, none))
+    before false none = none

@@ -4,6 +4,7 @@ use Rattle.kube_base.specs.declared.numbers.Beat.{Beat}
 use Rattle.kube_objects.specs.declared.script.What.TheVariants.{Delay, Loss}
 use Rattle.kube_objects.specs.Entry.{Entry, Fact, Event, Sends, Answers}
 use Rattle.kube_objects.specs.InFlight.{requests_due, replies_due}
+use Rattle.kube_objects.specs.Newest.{count}
 use Rattle.kube_objects.specs.Wire.{Sent, Back, request_delay, reply_delay, loses_requests, loses_replies}
 use Rattle.wire_calls.specs.InFlight.{pending, IsLive}
 use Rattle.wire_calls.specs.declared.link.Link.{Link}
@@ -97,6 +98,10 @@ is_of_wire (Event (Loss id requests replies) version) = true
 is_of_wire (Sends call arrives) = true
 is_of_wire (Answers call reply comes written) = true
 is_of_wire _ = false
+
+-- how many entries are of that kind
+abbrev pub wire_entries : List Entry → ℕ
+wire_entries = count (λ e. is_of_wire e.fact)
 
 -- ---- measures
 

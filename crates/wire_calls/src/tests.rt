@@ -78,23 +78,30 @@ fn replies_and_loses(rt: HostRuntime) -> Result<(), Fail> {
         return Ok(());
     };
     let reply = Reply::Done(Version(1));
-    let sent = wire.reply(&arrived, reply, Beat(1))?;
-    assert_eq!(rt; sent, Sent::InFlight(Beat(61)));
-    assert_eq!(rt; wire.next(), Some(Beat(61)));
-    assert!(rt; !wire.has_reply(Beat(60)));
-    assert_eq!(rt; wire.delivery(Beat(60)), None);
-    assert!(rt; wire.has_reply(Beat(61)));
-    match wire.delivery(Beat(61)) {
-        Some(delivered) => {
-            assert_eq!(rt; delivered.who, who);
-            assert_eq!(rt; delivered.incarnation, 2);
-            assert_eq!(rt; delivered.number, 7);
-            assert_eq!(rt; delivered.reply, reply);
+    let travels = wire.reply_travel(who, Beat(1));
+    assert_eq!(rt; travels, Sent::InFlight(Beat(61)));
+    wire.reply(&arrived, reply, travels)?;
+    // A reply comes at the beat that is handed in, and a lost one never.
+    wire.reply(&arrived, Reply::Absent, Sent::InFlight(Beat(70)))?;
+    wire.reply(&arrived, Reply::Exists, Sent::Lost)?;
+    for (beat, told) in [(61, reply), (70, Reply::Absent)] {
+        assert_eq!(rt; wire.next(), Some(Beat(beat)));
+        assert!(rt; !wire.has_reply(Beat(beat - 1)));
+        assert_eq!(rt; wire.delivery(Beat(beat - 1)), None);
+        assert!(rt; wire.has_reply(Beat(beat)));
+        match wire.delivery(Beat(beat)) {
+            Some(delivered) => {
+                assert_eq!(rt; delivered.who, who);
+                assert_eq!(rt; delivered.incarnation, 2);
+                assert_eq!(rt; delivered.number, 7);
+                assert_eq!(rt; delivered.reply, told);
+            }
+            None => assert!(rt; false, "it comes"),
         }
-        None => assert!(rt; false, "it comes"),
     }
+    assert_eq!(rt; wire.next(), None);
     wire.set_loss(who, false, true);
     assert!(rt; wire.passes(who));
-    assert_eq!(rt; wire.reply(&arrived, reply, Beat(61))?, Sent::Lost);
+    assert_eq!(rt; wire.reply_travel(who, Beat(70)), Sent::Lost);
     Ok(())
 }
