@@ -39,7 +39,7 @@ returns-clause-stands c = record {
       store = c.in_ok-store.ensures doc refl;
       wire = subst (λ ss. WireStands (processes doc) 0 ss (replies_due 0 (history doc 0)) (history doc 0) c.in_ok-wire.wire) (sym (put-requests doc 0 doc.objects []))
           (subst (λ bs. WireStands (processes doc) 0 [] bs (history doc 0) c.in_ok-wire.wire) (sym (put-replies doc 0 doc.objects []))
-          (put-wire doc (processes doc) doc.objects [] c.in_ok-wire.wire (subst (λ n. WireStands n 0 [] [] [] c.in_ok-wire.wire) (c.len.ensures ∙ c.in_ok-processes.processes.ok.0 ∙ count) (c.in_ok-wire.ensures 0))));
+          (put-wire doc (processes doc) doc.objects [] c.in_ok-wire.wire (subst (λ n. WireStands n 0 [] [] [] c.in_ok-wire.wire) (c.len.ensures ∙ c.in_ok-processes.processes.ok.0 ∙ count) (c.in_ok-wire.ensures 0 [] refl))));
       in_force = put-in_force doc doc.objects [] c.in_ok-in_force.in_force (c.in_ok-in_force.ensures doc refl refl);
     };
     processes = put-each doc doc.objects [] c.in_ok-processes.processes.items (c.in_ok-processes.ensures.stands doc (record { settings = refl; controllers = refl; kubelets = refl; events = sym c.as_slice.ensures }));
