@@ -1,4 +1,4 @@
-use Rattle.std.proofs.Common.{All, ◌≡◌, ◌+◌, ◌*◌, ◌++◌, ℕ, [], ◌∷◌, Some, take, sym, ap, ◌∙◌, subst, arith}
+use Rattle.std.proofs.Common.{All, ◌≡◌, ◌+◌, ◌*◌, ◌++◌, ℕ, [], ◌∷◌, Some, take, refl, sym, ap, ◌∙◌, subst, arith}
 use Rattle.std.proofs.lemmas.List.{take_more, take_all}
 use Rattle.std.proofs.lemmas.List.Elements.{All-get_or}
 use Rattle.kube_objects.specs.declared.key.Key.{Key}
@@ -22,6 +22,9 @@ put-requires c =
     let all = subst (All IsItemOfKind) (sym c.as_slice-item-items.ensures) c.requires in
     let own : IsItemOfKind x = subst IsItemOfKind (sym c.item-item.is) (All-get_or IsItemOfKind xs c.loop-item.item-index x c.loop-item-test.true all) in
     record { kind = own ∙ ap kind_of (sym c.in_ok-copy.ensures) }
+
+pub loop-item-init : goal.loop-item-init
+loop-item-init c doc epoch = c.new-store.ensures [] refl
 
 pub loop-item-preserved : goal.loop-item-preserved
 loop-item-preserved c = λ doc epoch. (
