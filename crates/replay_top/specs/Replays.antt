@@ -1,4 +1,4 @@
--- A document that is replayed, and the steps that a run counts.
+-- A document that is replayed or generated, and the steps that a run counts.
 use Rattle.std.specs.Prelude.{◌≡◌, ◌⊎◌, ◌<◌, ℕ, true, List, length, Option, Some, Ok, Err}
 use Rattle.kube_objects.specs.Document.{Doc}
 use Rattle.history.specs.Premise.{lease_premise}
@@ -9,7 +9,11 @@ use Rattle.script_reader.specs.Walk.{document_walk}
 use Rattle.replay_top.specs.declared.command.Command.TheVariants.{Replay}
 use Rattle.replay_top.specs.declared.status.Status.{Status}
 use Rattle.replay_top.specs.declared.status.Status.TheVariants.{Refused, Usage, SourceFault}
+use Rattle.replay_top.specs.declared.sizes.Sizes.{Sizes}
+use Rattle.replay_top.specs.declared.task.Task.TheVariants.{Generate}
 use Rattle.replay_top.specs.Commands.{command_of}
+use Rattle.replay_top.specs.Generated.{document_of}
+use Rattle.replay_top.specs.Tasks.{task_of}
 
 -- the words are `replay`, and the source tells bytes that are this document
 pub record Replays (words : List (List ℕ)) (left : Option (List ℕ)) (d : Document) : Type 0 where
@@ -29,6 +33,10 @@ WhereReadUnderPremise P = (bytes : List ℕ) (d : Document) → document_walk by
 -- these bytes are no document that is read: there are more than a document may have, or they are refused
 abbrev pub IsUnread : List ℕ → Type 0
 IsUnread bytes = (16777216 < length bytes) ⊎ ((r : Refusal) × (document_walk bytes ≡ Err r))
+
+-- this holds of the document that is generated where the words ask for one
+abbrev pub WhereGenerated : List (List ℕ) → (Doc → Type 0) → Type 0
+WhereGenerated words P = (sizes : Sizes) → task_of words ≡ Some (Generate sizes) → P (document_of sizes)
 
 -- the run ended before a document was there to be run
 abbrev pub IsUndone : Status → Type 0

@@ -1,4 +1,4 @@
-// The words that are commands.
+// The words that are commands on a document.
 ghost use Rattle.std.specs.Prelude.{◌≡◌, [], ◌∷◌, map, string_bytes};
 ghost use Rattle.replay_top.specs.Commands.{command_of};
 

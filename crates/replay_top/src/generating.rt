@@ -6,22 +6,28 @@ ghost use Rattle.kube_objects.specs.Document.{Doc, end_beat};
 ghost use Rattle.history.specs.History.{history};
 ghost use Rattle.script_reader.specs.Lawful.{IsLawfulDoc};
 ghost use Rattle.world_core.specs.Worlds.{at_of, end_of, IsReady, WorldStands};
+ghost use Rattle.replay_top.specs.Claims.{IsSafe};
 ghost use Rattle.replay_top.specs.Generated.{counted_line, counts_text, document_of, generated_line, sizes_text, whole_counts};
 ghost use Rattle.replay_top.specs.Outcome.{Ends, IsRunEnd, unread};
 ghost use Rattle.replay_top.specs.Runs.{Runs};
 ghost use Rattle.replay_top.specs.Sizes.{AreWithin};
+ghost use Rattle.replay_top.specs.declared.sizes.Sizes.{Sizes};
 
 use crate::counts::Counts;
 use crate::sizes::Sizes;
 use crate::status::Status;
 use crate::trace::{beat_at, next_of};
 use byte_edge::{Failed, Sink, give_all};
+use document_laws::lawful_documents_are_sound;
+use eviction_laws::evictions_are_timely;
 use itoa::Buffer;
 use kube_base::{NoMemory, Steps};
+use lease_laws::lease_is_safe;
+use spacing_laws::taints_are_spaced;
 use std::alloc::Global;
 use trace_writer::add;
 use world_core::World;
-use world_gen::generate;
+use world_gen::{generate, generated_documents_are_lawful};
 use zone_state::Policies;
 
 /// Runs the generated document of these sizes and writes its line.
@@ -37,7 +43,9 @@ pub(crate) fn write_generated<K: Sink, L>(
     ensures ended { IsRunEnd result }
     ensures sink_fault { result ≡ Status.SinkFault → Rose (K.faults sink.old) (K.faults sink.new) }
     ensures counted { steps.new ≤ steps.old + standing_beats (document_of sizes) }
+    ensures safe { IsSafe (document_of sizes) }
 {
+    generated_documents_are_safe();
     match line_of(alloc, sizes, policies, steps) {
         Ok(text) => match give_all(sink, &text) {
             Ok(()) => Status::Done,
@@ -45,6 +53,17 @@ pub(crate) fn write_generated<K: Sink, L>(
         },
         Err(NoMemory) => Status::OutOfMemory,
     }
+}
+
+/// What was proved of every generated document, for which nothing is done.
+fn generated_documents_are_safe()
+    ensures { (sizes : Sizes) → AreWithin sizes → IsSafe (document_of sizes) }
+{
+    generated_documents_are_lawful();
+    lawful_documents_are_sound();
+    lease_is_safe();
+    taints_are_spaced();
+    evictions_are_timely();
 }
 
 /// The line of the generated document of these sizes, which is run.

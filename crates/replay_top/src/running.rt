@@ -10,13 +10,14 @@ ghost use Rattle.script_reader.specs.Documents.{doc_of};
 ghost use Rattle.script_reader.specs.Lawful.{IsLawfulDoc, IsWellNamed};
 ghost use Rattle.script_reader.specs.Walk.{document_walk};
 ghost use Rattle.trace_audit.specs.Alone.{entries_in, OneActs};
+ghost use Rattle.replay_top.specs.Claims.{IsSafe};
 ghost use Rattle.replay_top.specs.Commands.{command_of};
 ghost use Rattle.replay_top.specs.Generated.{document_of, generated_line};
 ghost use Rattle.replay_top.specs.Sizes.{sizes_of};
 ghost use Rattle.replay_top.specs.Tasks.{IsRead, IsWithin, task_of};
 ghost use Rattle.replay_top.specs.Outcome.{outcome, usage, performed, obeyed, answer_to, refused, refusal_text, done};
 ghost use Rattle.replay_top.specs.Outcome.{Ends, EndsAs, IsWhole, IsRunEnd};
-ghost use Rattle.replay_top.specs.Replays.{Replays, WhereReplayedUnderPremise, WhereReadUnderPremise, IsUnread, IsUndone};
+ghost use Rattle.replay_top.specs.Replays.{Replays, WhereGenerated, WhereReplayedUnderPremise, WhereReadUnderPremise, IsUnread, IsUndone};
 ghost use Rattle.replay_top.specs.Traces.{trace};
 ghost use Rattle.replay_top.specs.Summary.{summary};
 
@@ -97,6 +98,9 @@ pub fn run<S: Source, K: Sink, L>(
     // And by its first tick that reaches the store.
     ensures prompt { (d : Document) → Replays (map string_bytes words.now.items) (S.left source.old) d → Prompt (doc_of d) }
 
+    // In the history of a generated document all five always hold: its lease premise does.
+    ensures safe { WhereGenerated (map string_bytes words.now.items) IsSafe }
+
     // No more beats are done than have entries, and none where there is no document or too large a one, or with other words.
     ensures counted { (d : Document) → Replays (map string_bytes words.now.items) (S.left source.old) d
         → steps.new ≤ steps.old + standing_beats (doc_of d) }
@@ -140,6 +144,7 @@ fn perform<S: Source, K: Sink, L>(
         → (S.left source.new ≡ S.left source.old) × (S.faults source.new ≡ S.faults source.old) × IsRunEnd result
         × Ends (done (generated_line sizes)) (Some []) (K.taken sink.old) (K.taken sink.new) result
         × (steps.new ≤ steps.old + standing_beats (document_of sizes)) }
+    ensures safe { (sizes : Sizes) → task ≡ Task.Generate sizes → IsSafe (document_of sizes) }
     ensures alone { (bytes : List ℕ) → S.left source.old ≡ Some bytes → task ≡ Task.Audit → result ≡ Status.Done
         → OneActs (entries_in bytes) }
 {

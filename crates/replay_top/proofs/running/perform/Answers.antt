@@ -2,6 +2,7 @@ use Rattle.std.proofs.Common.{◌≡◌, ◌≤◌, ◌+◌, [], Some, refl, sym
 use Rattle.agenda_laws.specs.Standing.{standing_beats}
 use Rattle.replay_top.specs.declared.sizes.Sizes.{Sizes}
 use Rattle.replay_top.specs.declared.task.Task.TheVariants.{Document, Pods, Audit, Generate}
+use Rattle.replay_top.specs.Claims.{IsSafe}
 use Rattle.replay_top.specs.Generated.{document_of, generated_line}
 use Rattle.replay_top.specs.Outcome.{asked, audited, obeyed, performed, done, unread, Ends}
 use Rattle.replay_top.specs.Tasks.{IsRead}
@@ -83,3 +84,19 @@ returns-in-Audit-clause-generated g c sizes is = absurd (let never : Audit ≡ G
 
 pub returns-in-Pods-clause-generated : goal.returns-in-Pods-clause-generated
 returns-in-Pods-clause-generated g c sizes is = absurd (let never : Pods c.in-Pods.question ≡ Generate sizes = sym c.in-Pods.is ∙ is in cc)
+
+pub returns-in-Generate-clause-safe : goal.returns-in-Generate-clause-safe
+returns-in-Generate-clause-safe g c sizes is =
+    let found : Generate c.in-Generate.sizes ≡ Generate sizes = sym c.in-Generate.is ∙ is in
+    let same : c.in-Generate.sizes ≡ sizes = cc in
+    subst (λ s. IsSafe (document_of s)) same c.write_generated.ensures.safe
+
+pub returns-in-Document-clause-safe : goal.returns-in-Document-clause-safe
+returns-in-Document-clause-safe g c sizes is =
+    absurd (let never : Document c.in-Document.command ≡ Generate sizes = sym c.in-Document.is ∙ is in cc)
+
+pub returns-in-Audit-clause-safe : goal.returns-in-Audit-clause-safe
+returns-in-Audit-clause-safe g c sizes is = absurd (let never : Audit ≡ Generate sizes = sym c.in-Audit.is ∙ is in cc)
+
+pub returns-in-Pods-clause-safe : goal.returns-in-Pods-clause-safe
+returns-in-Pods-clause-safe g c sizes is = absurd (let never : Pods c.in-Pods.question ≡ Generate sizes = sym c.in-Pods.is ∙ is in cc)

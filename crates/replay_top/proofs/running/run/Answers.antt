@@ -58,6 +58,11 @@ returns-in-Some-clause-generated g c sizes asked =
     let found : Some c.in-Some.task ≡ Some (Generate sizes) = sym c.in-Some.is ∙ c.task_in.ensures.task ∙ asked in
     c.perform.ensures.generated sizes (cc)
 
+pub returns-in-Some-clause-safe : goal.returns-in-Some-clause-safe
+returns-in-Some-clause-safe g c sizes asked =
+    let found : Some c.in-Some.task ≡ Some (Generate sizes) = sym c.in-Some.is ∙ c.task_in.ensures.task ∙ asked in
+    c.perform.ensures.safe sizes (cc)
+
 pub returns-in-Some-clause-unasked : goal.returns-in-Some-clause-unasked
 returns-in-Some-clause-unasked g c other none =
     let words : List (List ℕ) = map string_bytes c.args.words.now.items in
@@ -118,4 +123,8 @@ returns-in-None-clause-alone g c bytes told asked done =
 
 pub returns-in-None-clause-generated : goal.returns-in-None-clause-generated
 returns-in-None-clause-generated g c sizes asked =
+    absurd (let found : None ≡ Some (Generate sizes) = sym c.in-None.is ∙ c.task_in.ensures.task ∙ asked in cc)
+
+pub returns-in-None-clause-safe : goal.returns-in-None-clause-safe
+returns-in-None-clause-safe g c sizes asked =
     absurd (let found : None ≡ Some (Generate sizes) = sym c.in-None.is ∙ c.task_in.ensures.task ∙ asked in cc)

@@ -1,0 +1,16 @@
+use Rattle.replay_top.specs.Generated.{document_of}
+use Rattle.replay_top.proofs.generating.generated_documents_are_safe.Goals as goal
+
+pub returns : goal.returns
+returns c s within =
+    let doc = document_of s in
+    let lawful = c.generated_documents_are_lawful.ensures.lawful s.seed s.nodes s.pods s.beats within.nodes within.pods within.beats in
+    let premise = c.generated_documents_are_lawful.ensures.premise s.seed s.nodes s.pods s.beats in
+    let sound = c.lawful_documents_are_sound.ensures doc lawful in
+    record {
+      holder = c.lease_is_safe.ensures.holder doc premise sound;
+      exclusive = c.lease_is_safe.ensures.exclusive doc premise sound;
+      spacing = c.taints_are_spaced.ensures doc premise sound lawful.settings.secondary;
+      not_early = c.evictions_are_timely.ensures.not_early doc;
+      prompt = c.evictions_are_timely.ensures.prompt doc;
+    }
