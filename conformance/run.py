@@ -64,7 +64,8 @@ def of_plane(program, profile):
     print(f"real control plane: {len(found)} scenarios, {sum(len(it or []) for it in found.values())} events, {over} over 0.5 s", flush=True)
     made = {
         "scenarios": plane_tables.scenarios(found), "renewals": plane_tables.renewals(scenario_of, program),
-        "kills": plane_tables.kills(found, scenario_of), "plane differences": plane_tables.differences(found),
+        "kills": plane_tables.kills(found, scenario_of), "late reply": plane_tables.late_reply(found, scenario_of, program),
+        "plane differences": plane_tables.differences(found),
         "stalls": plane_tables.stalls(scenario_of, stalled), "verdicts": plane_tables.verdicts(scenario_of, plane.NAMES, program),
     }
     return made, list(plane_tables.faults(found, profile))

@@ -3,6 +3,7 @@ from statistics import median
 
 from .causes import is_over, rows_of
 from .plane import FITTED, foretold, pairs
+from .scenario_document import ScenarioDocument
 from .stalls import stall_of
 from .tables import table
 from .verdicts import WAYS, verdict
@@ -74,6 +75,21 @@ def kills(found, scenario_of):
             if None not in (there, here):
                 rows.append((name, signal["sig"], gap(there, signal), "fitted" if name in FITTED else gap(here, signal)))
     return table(("Scenario", "Signal", "Nobody led, observed", "Foretold"), rows)
+
+
+def late_reply(found, scenario_of, program):
+    """Whether two act at once where one reply to a renewal comes late, and then none."""
+    rows = []
+    for name, it in found.items():
+        if not scenario_of(name).of("proxy"):
+            continue
+        premise = program.answer("check", ScenarioDocument(scenario_of(name), False).made()).rsplit("=", 1)[1]
+        end = next(pair for pair in it if pair.what == "end")
+        lead = [pair for pair in it if pair.what.startswith("lead")][1]
+        both = [f"{max(0, old - new):.2f} s" for old, new in ((end.observed, lead.observed), (end.foretold, lead.foretold))]
+        rows.append((name, f"`premise={premise}`", at(end.observed), at(end.foretold), at(lead.observed), *both))
+    head = ("Scenario", "First line", "Old leader ends, observed", "Foretold", "Rival leads (fitted)", "Both act, observed", "Foretold")
+    return table(head, rows)
 
 
 def gap(second, signal):
