@@ -59,7 +59,7 @@ def of_plane(program, profile):
     """The tables of the scenarios, and what no row names."""
     scenario_of = functools.lru_cache(None)(plane.Scenario)
     found = plane_tables.compared(scenario_of, plane.NAMES, program)
-    stalled = [name for name, it in found.items() if it is None]
+    stalled = [name for name in plane.NAMES if scenario_of(name).is_stalled()]
     over = sum(plane_tables.is_over(it) for pairs in found.values() for it in pairs or [])
     print(f"real control plane: {len(found)} scenarios, {sum(len(it or []) for it in found.values())} events, {over} over 0.5 s", flush=True)
     made = {

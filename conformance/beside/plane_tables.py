@@ -136,10 +136,10 @@ def stalls(scenario_of, names):
 
 
 def verdicts(scenario_of, names, program):
-    rows = []
-    for name in names:
-        found = [verdict(scenario_of(name), way, program) for way in WAYS]
-        rows.append((name, *(f"{code} at `{line}`" if line else code for code, line in found)))
+    asked = [(name, way) for name in names for way in WAYS]
+    told = dict(zip(asked, program.each(lambda it: verdict(scenario_of(it[0]), it[1], program), asked)))
+    words = {key: f"{code} at `{line}`" if line else code for key, (code, line) in told.items()}
+    rows = [(name, *(words[name, way] for way in WAYS)) for name in names]
     return table(("Scenario", *(f"`--terms {it}`" for it in WAYS)), rows)
 
 
@@ -153,4 +153,6 @@ def faults(found, profile):
 
 
 def compared(scenario_of, names, program):
-    return {name: None if scenario_of(name).is_stalled() else pairs(scenario_of(name), program) for name in names}
+    said = [name for name in names if scenario_of(name).is_said()]
+    found = dict(zip(said, program.each(lambda name: pairs(scenario_of(name), program), said)))
+    return {name: found.get(name) for name in names}
