@@ -4,8 +4,8 @@
     conformance/run.py [--exe COMMAND] [SET ..]
 
 COMMAND is the program without its command word; else it is the built one, crates/kube_replay/out/kube_replay. Ends with 1 where a
-count isn't that of counts.json, where a kind of difference has no row in docs/profile.md that names its set or scenario, or where a
-table of docs/upstream.md isn't the one that is printed here; else with 0. With sets it looks at these alone. --write writes counts.json
+count isn't that of counts.json, where a row of docs/profile.md doesn't say how it is known, where a kind of difference has no row there
+that names its set or scenario, or where a table of docs/upstream.md isn't the one that is printed here; else with 0. With sets it looks at these alone. --write writes counts.json
 and the tables in place of comparing them.
 """
 import argparse
@@ -93,6 +93,7 @@ def main():
     begin = time.monotonic()
     program, profile = Program(given.exe), Profile(os.path.join(ROOT, "docs/profile.md"))
     counts, faults = of_sets(given.sets or SETS, program, profile, given.write)
+    faults += profile.faults()
     if not given.sets:
         made, unnamed = of_plane(program, profile)
         made.update({"answers": tables.answers(counts), "differences": tables.differences(counts), "not said": tables.not_said(counts),
