@@ -4,9 +4,9 @@
     conformance/run.py [--exe COMMAND] [SET ..]
 
 COMMAND is the program without its command word; else it is the built one, crates/kube_replay/out/kube_replay. Ends with 1 where a
-count isn't that of counts.json, where a row of docs/profile.md doesn't say how it is known, where a kind of difference has no row there
-that names its set or scenario, or where a table of docs/upstream.md isn't the one that is printed here; else with 0. With sets it looks at these alone. --write writes counts.json
-and the tables in place of comparing them.
+count isn't that of counts.json, where a row of docs/profile.md doesn't say how it is known, where a kind of difference has no row
+there that names its set or scenario, or where a table of docs/upstream.md isn't the one that is printed here; else with 0. With sets
+it looks at these alone. --write writes counts.json and the tables in place of comparing them.
 """
 import argparse
 import functools
