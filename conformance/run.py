@@ -90,6 +90,8 @@ def main():
     parser.add_argument("--write", action="store_true")
     parser.add_argument("sets", nargs="*", metavar="SET", help=", ".join(SETS))
     given = parser.parse_args()
+    if given.exe == BUILT and not os.path.exists(BUILT):
+        sys.exit("conformance: the program isn't built; README.md tells how, or name one by --exe")
     begin = time.monotonic()
     program, profile = Program(given.exe), Profile(os.path.join(ROOT, "docs/profile.md"))
     counts, faults = of_sets(given.sets or SETS, program, profile, given.write)

@@ -13,6 +13,7 @@ import unittest
 
 TOOL = os.path.join(os.path.dirname(os.path.abspath(__file__)), "from-audit-log")
 AGENT = "kube-controller-manager/v1.20.2 (linux/amd64) kubernetes/x/leader-election"
+EVICTS = AGENT.replace("leader-election", "node-controller")
 NODE_LABELS = {"topology.kubernetes.io/region": "r1", "topology.kubernetes.io/zone": "za"}
 UNREACHABLE = {"key": "node.kubernetes.io/unreachable", "effect": "NoExecute", "timeAdded": "2024-01-01T00:00:40Z"}
 
@@ -112,7 +113,7 @@ class Logs(unittest.TestCase):
             node_list(0.5, node(1)), *self.LED,
             event(35, "update", "nodes", "n1", "kcm-a", 200, node(1, "Unknown"), node(8, "Unknown"), subresource="status"),
             event(40, "patch", "nodes", "n1", "kcm-a", 200, {"spec": {"taints": [UNREACHABLE]}}, node(9, "Unknown", [UNREACHABLE])),
-            event(70, "delete", "pods", "web", "kcm-a", 200, None, pod, namespace="default"),
+            event(70, "delete", "pods", "web", "kcm-a", 200, None, pod, namespace="default", agent=EVICTS),
             event(80, "patch", "nodes", "n1", "kcm-a", 200, {"spec": {"taints": []}}, node(13))])
         self.assertEqual(lines[2:4], ["5 kcm-a_1 lead v=5", "5 kcm-a_1 zone r1/za Normal rate=100"])
         self.assertEqual(lines[6:], [
@@ -126,10 +127,19 @@ class Logs(unittest.TestCase):
         for second in range(7, 20, 2):
             events += [election(second - 1, "get", None, 7, address="10.0.0.2"), election(second - 0.1, "get", None, 7),
                        election(second, "update", "host-a_x", version)]
-        self.assertIn("TWO CONTROLLERS CAN'T BE TOLD APART: user kcm-a acts by 2 of --by address", self.run_tool(events).stderr)
+        self.assertIn("CONTROLLERS CAN'T BE TOLD APART: user kcm-a acts by 2 of --by address", self.run_tool(events).stderr)
         self.assertNotIn("WARNING", self.run_tool(events, "--by=address").stderr)
         one_address = [dict(it, sourceIPs=["10.0.0.1"]) for it in events]
         self.assertIn("user kcm-a asks for the Lease while it leads", self.run_tool(one_address).stderr)
+
+    def test_other_deletes_and_actors_without_a_lease(self):
+        pod = {"kind": "Pod", "metadata": {"name": "web", "namespace": "default", "resourceVersion": "12"}, "spec": {}}
+        delete = event(7, "delete", "pods", "web", "kcm-a", 200, None, pod, namespace="default", agent=AGENT.replace("leader-election", "replicaset-controller"))
+        self.assertEqual(self.trace([*self.LED, delete])[-1], "60 script remove pod/default/web v=12")
+        self.assertNotIn("WARNING", self.run_tool([*self.LED, delete]).stderr)
+        other = event(7, "delete", "pods", "web", "system:serviceaccount:kube-system:node-controller", 200, None, pod, namespace="default", agent=EVICTS)
+        self.assertIn("node-controller taints or evicts and never writes the Lease", self.run_tool([*self.LED, other]).stderr)
+        self.assertIn("60 kcm-a_1 evict default/web due=2024-01-01T00:00:07Z v=12", [it.replace("10-0-0-1", "kcm-a").replace("host-a", "kcm-a") for it in self.trace([*self.LED, other], "--by=address")])
 
     def test_what_is_left_out_is_told(self):
         events = ["no JSON", *self.LED, event(7, "delete", "pods", "web", "kcm-a", 500, namespace="default")]

@@ -19,7 +19,7 @@ STALLS_VERSION = 3
 FLAGS = {"--leader-elect-lease-duration": ("leaseDurationSeconds", 1), "--leader-elect-renew-deadline": ("renewDeadlineMillis", 1000),
          "--leader-elect-retry-period": ("retryPeriodMillis", 1000), "--node-monitor-grace-period": ("gracePeriodMillis", 1000)}
 OPTIONS = argparse.Namespace(by="user", lease="kube-system/kube-controller-manager", kubelets="^system:node:",
-                             controllers="^kube-controller-manager/", rates=[100, 10, 50, 55])
+                             controllers="^kube-controller-manager/", evictors="node-controller", rates=[100, 10, 50, 55])
 
 
 class Scenario:
