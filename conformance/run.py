@@ -4,9 +4,9 @@
     conformance/run.py [--exe COMMAND] [SET ..]
 
 COMMAND is the program without its command word; else it is the built one, crates/kube_replay/out/kube_replay. Ends with 1 where a
-count isn't that of counts.json, where a kind of difference has no row in docs/profile.md that names its set or scenario, or where a
-table of docs/upstream.md isn't the one that is printed here; else with 0. With sets it looks at these alone. --write writes counts.json
-and the tables in place of comparing them.
+count isn't that of counts.json, where a row of docs/profile.md doesn't say how it is known, where a kind of difference has no row
+there that names its set or scenario, or where a table of docs/upstream.md isn't the one that is printed here; else with 0. With sets
+it looks at these alone. --write writes counts.json and the tables in place of comparing them.
 """
 import argparse
 import functools
@@ -59,12 +59,13 @@ def of_plane(program, profile):
     """The tables of the scenarios, and what no row names."""
     scenario_of = functools.lru_cache(None)(plane.Scenario)
     found = plane_tables.compared(scenario_of, plane.NAMES, program)
-    stalled = [name for name, it in found.items() if it is None]
+    stalled = [name for name in plane.NAMES if scenario_of(name).is_stalled()]
     over = sum(plane_tables.is_over(it) for pairs in found.values() for it in pairs or [])
     print(f"real control plane: {len(found)} scenarios, {sum(len(it or []) for it in found.values())} events, {over} over 0.5 s", flush=True)
     made = {
         "scenarios": plane_tables.scenarios(found), "renewals": plane_tables.renewals(scenario_of, program),
-        "kills": plane_tables.kills(found, scenario_of), "plane differences": plane_tables.differences(found),
+        "kills": plane_tables.kills(found, scenario_of), "late reply": plane_tables.late_reply(found, scenario_of, program),
+        "plane differences": plane_tables.differences(found),
         "stalls": plane_tables.stalls(scenario_of, stalled), "verdicts": plane_tables.verdicts(scenario_of, plane.NAMES, program),
     }
     return made, list(plane_tables.faults(found, profile))
@@ -89,9 +90,12 @@ def main():
     parser.add_argument("--write", action="store_true")
     parser.add_argument("sets", nargs="*", metavar="SET", help=", ".join(SETS))
     given = parser.parse_args()
+    if given.exe == BUILT and not os.path.exists(BUILT):
+        sys.exit("conformance: the program isn't built; README.md tells how, or name one by --exe")
     begin = time.monotonic()
     program, profile = Program(given.exe), Profile(os.path.join(ROOT, "docs/profile.md"))
     counts, faults = of_sets(given.sets or SETS, program, profile, given.write)
+    faults += profile.faults()
     if not given.sets:
         made, unnamed = of_plane(program, profile)
         made.update({"answers": tables.answers(counts), "differences": tables.differences(counts), "not said": tables.not_said(counts),

@@ -7,7 +7,9 @@ Rule = namedtuple("Rule", "scenarios what when rows after", defaults=(0,))
 OVER_SECONDS = 0.5
 PASS_SECONDS = 5.5  # more than a pass and what its phase makes
 RULES = [
-    Rule("b b2 g", "lead", "any", ["jitter"]),
+    Rule("b b2 c g", "lead", "any", ["jitter"]),
+    # Both leaders delete the same pods within some ms.
+    Rule("c2 c3 c6", "evict .*-(none|s0)", "there", ["delete by versions"]),
     # Held were the election's calls alone, which no document can say, so what the old leader did to nodes isn't foretold.
     Rule("h", ".*", "any", ["messages"]),
     Rule("d2", "evict n2-(none|s0|slow)", "later", ["store"], 60),

@@ -3,7 +3,7 @@ from collections import Counter, namedtuple
 
 from .documents import LEADS, document, lease, micro_stamp, node, put, removed_node, stamp, taint
 from .stored_nodes import by_beat
-from .tally import EXACT, NEAR, differs, left, unnamed
+from .tally import EXACT, NEAR, differs, left
 
 Look = namedtuple("Look", "beat after nodes zone_of")
 NEVER_SEEN = {"ready": "", "reason": "", "heartbeat_s": None, "taints": []}

@@ -9,7 +9,7 @@ from .scenarios import Scenario
 Pair = namedtuple("Pair", "what observed foretold")
 ALONE_SECONDS = 50  # what it costs to leave an event without its like
 # In these the rival's attempts are fitted to its real takeover, so that what follows it can be compared.
-FITTED = ("d2", "e", "f", "f2", "h", "h2")
+FITTED = ("c2", "c3", "c4", "c6", "d2", "e", "f", "f2", "h", "h2")
 NAMES = ("a", "a2", "b", "b2", "c", "c2", "c3", "c4", "c6", "d", "d2", "d3", "d4", "e", "e2", "f", "f2", "g", "h", "h2")
 
 

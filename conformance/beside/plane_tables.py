@@ -3,6 +3,7 @@ from statistics import median
 
 from .causes import is_over, rows_of
 from .plane import FITTED, foretold, pairs
+from .scenario_document import ScenarioDocument
 from .stalls import stall_of
 from .tables import table
 from .verdicts import WAYS, verdict
@@ -76,6 +77,21 @@ def kills(found, scenario_of):
     return table(("Scenario", "Signal", "Nobody led, observed", "Foretold"), rows)
 
 
+def late_reply(found, scenario_of, program):
+    """Whether two act at once where one reply to a renewal comes late, and then none."""
+    rows = []
+    for name, it in found.items():
+        if not scenario_of(name).of("proxy"):
+            continue
+        premise = program.answer("check", ScenarioDocument(scenario_of(name), False).made()).rsplit("=", 1)[1]
+        end = next(pair for pair in it if pair.what == "end")
+        lead = [pair for pair in it if pair.what.startswith("lead")][1]
+        both = [f"{max(0, old - new):.2f} s" for old, new in ((end.observed, lead.observed), (end.foretold, lead.foretold))]
+        rows.append((name, f"`premise={premise}`", at(end.observed), at(end.foretold), at(lead.observed), *both))
+    head = ("Scenario", "First line", "Old leader ends, observed", "Foretold", "Rival leads (fitted)", "Both act, observed", "Foretold")
+    return table(head, rows)
+
+
 def gap(second, signal):
     return f"{second - signal['at']:.1f} s"
 
@@ -120,10 +136,10 @@ def stalls(scenario_of, names):
 
 
 def verdicts(scenario_of, names, program):
-    rows = []
-    for name in names:
-        found = [verdict(scenario_of(name), way, program) for way in WAYS]
-        rows.append((name, *(f"{code} at `{line}`" if line else code for code, line in found)))
+    asked = [(name, way) for name in names for way in WAYS]
+    told = dict(zip(asked, program.each(lambda it: verdict(scenario_of(it[0]), it[1], program), asked)))
+    words = {key: f"{code} at `{line}`" if line else code for key, (code, line) in told.items()}
+    rows = [(name, *(words[name, way] for way in WAYS)) for name in names]
     return table(("Scenario", *(f"`--terms {it}`" for it in WAYS)), rows)
 
 
@@ -137,4 +153,6 @@ def faults(found, profile):
 
 
 def compared(scenario_of, names, program):
-    return {name: None if scenario_of(name).is_stalled() else pairs(scenario_of(name), program) for name in names}
+    said = [name for name in names if scenario_of(name).is_said()]
+    found = dict(zip(said, program.each(lambda name: pairs(scenario_of(name), program), said)))
+    return {name: found.get(name) for name in names}

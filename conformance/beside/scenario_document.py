@@ -1,5 +1,6 @@
 """The document that says what was done to a real control plane."""
 from .documents import document, listed
+from .scenarios import STALLS_VERSION
 
 STALL_SHARE = 0.8  # a leader's call that took so much of its timeout, or that the store failed, met a stall of the store
 HELD_SECONDS = 9.5  # for so long the proxy held one reply; then it let no further call through
@@ -30,6 +31,9 @@ class ScenarioDocument:
             self.add_start(note)
         elif what == "kcm-signal" and note["sig"] in ("SIGKILL", "SIGTERM"):
             self.add(second, "crash", f"kcm-{note['who']}")
+        elif what == "kcm-signal" and note["sig"] == "SIGSTOP":
+            goes_on = next(it["at"] for it in self.scenario.signals("SIGCONT") if it["at"] > second)
+            self.add(second, "pause", f"kcm-{note['who']}", beats=self.beat(goes_on) - self.beat(second))
         elif what == "kubelet-ready":
             self.add(second, "ready", f"kubelet/{note['node']}", status=note["status"])
         elif what == "kubelet-start":
@@ -110,7 +114,8 @@ class ScenarioDocument:
         nodes = self.scenario.of("base")[0]["nodes"]
         settings = dict(self.scenario.settings, endBeat=end)
         made = document(settings, (), [dict(it, beat=beat) for beat, it in events if beat <= end],
-                        [dict({"name": it, "up": False}, **self.own.get(it, {})) for it in controllers], 2)
+                        [dict({"name": it, "up": False}, **self.own.get(it, {})) for it in controllers],
+                        STALLS_VERSION if self.scenario.is_stalled() else 2)
         return dict(made, kubelets=[{"node": it, "up": False} for it in nodes], objects=listed(self.objects()))
 
 

@@ -13,10 +13,13 @@ from audit_log.identities import Identities
 from audit_log.story import Story
 
 BEAT_MILLIS = 2  # four messages of a beat each make a round of renewal 8 ms longer than the retry period, as on the plane
+# The newest version of a document that the program reads. From 3 on a document says that a process stands still and goes on.
+DOCUMENT_VERSION = 2
+STALLS_VERSION = 3
 FLAGS = {"--leader-elect-lease-duration": ("leaseDurationSeconds", 1), "--leader-elect-renew-deadline": ("renewDeadlineMillis", 1000),
          "--leader-elect-retry-period": ("retryPeriodMillis", 1000), "--node-monitor-grace-period": ("gracePeriodMillis", 1000)}
 OPTIONS = argparse.Namespace(by="user", lease="kube-system/kube-controller-manager", kubelets="^system:node:",
-                             controllers="^kube-controller-manager/", rates=[100, 10, 50, 55])
+                             controllers="^kube-controller-manager/", evictors="node-controller", rates=[100, 10, 50, 55])
 
 
 class Scenario:
@@ -52,8 +55,11 @@ class Scenario:
         return [it for it in self.of("kcm-signal") if it["sig"] in names]
 
     def is_stalled(self):
-        """Whether a process was stopped and went on, which versions 1 and 2 of a document can't say."""
+        """Whether a process was stopped and went on."""
         return bool(self.signals("SIGSTOP"))
+
+    def is_said(self):
+        return DOCUMENT_VERSION >= STALLS_VERSION or not self.is_stalled()
 
     def observed(self):
         """Events from the kubelets' start on: seconds, actor and text."""

@@ -43,6 +43,10 @@ class Identities:
     def is_controller(self, entry):
         return bool(re.search(self.options.controllers, entry.agent)) and not self.is_kubelet(entry)
 
+    def is_node_controller(self, entry):
+        """Whether it is the part of a controller manager that taints and evicts: others delete pods too, as a ReplicaSet's does."""
+        return self.is_controller(entry) and bool(re.search(self.options.evictors, entry.agent))
+
     def of_client(self, client):
         return [it for it in self.by_raw.values() if it.client == client]
 
@@ -62,9 +66,15 @@ class Identities:
         for client, found in others.items():
             if len(found) > 1:
                 yield f"{self.options.by} {client} acts by {len(found)} of --by {other_way}: {', '.join(sorted(found))}"
+        for client in sorted({self.client_of(it) for it in log.entries if self.is_acting(it)}):
+            if not self.of_client(client):
+                yield f"{self.options.by} {client} taints or evicts and never writes the Lease, so whose acts these are isn't known"
         for client in others:
             if self.has_rivals(elections, client):
                 yield f"{self.options.by} {client} asks for the Lease while it leads: two controllers share it"
+
+    def is_acting(self, entry):
+        return self.is_node_controller(entry) and entry.resource in ("nodes", "pods") and entry.verb in ("update", "patch", "delete")
 
     def has_rivals(self, elections, client):
         """A leader asks once between two of its renewals; where that is seen more often a second process asks too."""

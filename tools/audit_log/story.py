@@ -188,8 +188,9 @@ class Story:
         if answer is None:
             self.passed[f"delete of a pod answered {entry.code}"] += 1
             return
+        is_eviction = actor and self.identities.is_node_controller(entry)
         pod = entry.response if entry.response.get("spec") else self.cluster.pods.get(key)
-        if actor:
+        if is_eviction:
             due = self.cluster.due_of(pod, entry.ended)
             self.tell(entry, actor, f"evict {entry.namespace}/{entry.name} due={due} {answer}")
         elif entry.is_ok():
