@@ -1,5 +1,5 @@
 -- When a zone's queued taint is made.
-use Rattle.std.proofs.Common.{◌≡◌, ◌∙◌, ℕ, ◌*◌, ◌-◌, ◌≤◌, ◌^◌, nat_le, Bool, true, false, List, Option, Some, None, IfSome, IsNone, ◌↔◌, refl, sym, ap, subst, arith, Less, Equal, Greater}
+use Rattle.std.proofs.Common.{◌≡◌, ◌∙◌, ℕ, ◌*◌, ◌-◌, ◌≤◌, ◌^◌, nat_le, Bool, true, false, List, Option, Some, None, IfSome, IfNone, IsNone, ◌↔◌, ◌⊎◌, inl, inr, zero, suc, refl, sym, ap, subst, arith, Less, Equal, Greater}
 use Rattle.std.proofs.lemmas.Bool.Decides.{nat_tests}
 use Rattle.std.specs.Ordering.{is_lt, ordering_reverse}
 use Rattle.std.specs.declared.cmp.Ordering.{Ordering}
@@ -11,7 +11,7 @@ use Rattle.kube_objects.specs.Entry.{Entry, Identity}
 use Rattle.kube_objects.specs.Modes.{place_cmp}
 use Rattle.kube_objects.specs.Newest.{has}
 use Rattle.kube_objects.specs.Tainting.{queued, waits}
-use Rattle.kube_objects.specs.Tokens.{has_token}
+use Rattle.kube_objects.specs.Tokens.{Rated, base, is_grown, rated, token_size}
 use Rattle.history_laws.proofs.Plainly.{false_is}
 use Rattle.rate_bucket.specs.Filling.{HasToken}
 use Rattle.taint_zones.specs.declared.limit.Limit.{Limit}
@@ -20,12 +20,11 @@ use Rattle.taint_zones.specs.declared.queues.Queues.{Queues}
 use Rattle.taint_zones.specs.Limits.{LimitStands}
 use Rattle.taint_zones.specs.Places.{entry_place, of_place, zone_cmp}
 use Rattle.taint_zones.specs.Waiting.{IsAfter, IsEmpty, IsNextZone}
-use Rattle.taint_zones.proofs.Tokening.{no_token, token_is}
 use Rattle.term_taint.specs.QueuesStand.{QueuesStand}
 use Rattle.term_taint.proofs.ZoneWalk.{number}
 use Rattle.tick_laws.specs.Judged.{key_if}
 use Rattle.tick_laws.proofs.Orders.{places_strict}
-use Rattle.controller_core.specs.Wakes.{IsHeadDue, is_reached}
+use Rattle.controller_core.specs.Wakes.{IsHeadDue, IsTokenReading, is_token_at}
 
 le_true : (a b : ℕ) → a ≤ b → nat_le a b ≡ true
 le_true a b le = grind (arith, nat_tests)
@@ -35,38 +34,92 @@ true_le a b is = grind (arith, nat_tests)
 
 -- ---- tokens
 
-pub grown_is : (doc : Doc) (q : Identity) (k : ℕ) (h : List Entry) (place : entry.Place) (limit : Limit) → LimitStands doc q h place (Some limit)
-    → nat_le 1000000000000000 ((local doc q.process k - limit.bucket.base) * limit.bucket.rate) ≡ has_token doc q k place h
-grown_is doc q k h place limit s =
-    let span = (local doc q.process k - limit.bucket.base) * limit.bucket.rate in
-    token_is doc q k h place limit (local doc q.process k) (nat_le 1000000000000000 span) s refl (true_le 1000000000000000 span, le_true 1000000000000000 span)
+-- what a limit says of the token of its zone
+grown_at : (doc : Doc) (q : Identity) (h : List Entry) (place : entry.Place) (limit : Limit) (at : ℕ) → LimitStands doc q h place (Some limit)
+    → nat_le 1000000000000000 ((at - limit.bucket.base) * limit.bucket.rate) ≡ is_token_at doc q place h at
+unfolding token_size
+grown_at doc q h place limit at s =
+    ap (λ r. nat_le 1000000000000000 ((at - limit.bucket.base) * r)) s.rate
+    ∙ ap (λ b. nat_le 1000000000000000 ((at - b) * limit.rate)) s.base
+    ∙ ap (is_grown (at - local doc q.process (base q place h))) s.rated
 
--- what is there at a reading is there later
-later_there : (base rate at now : ℕ) → 1000000000000000 ≤ (at - base) * rate → at ≤ now → 1000000000000000 ≤ (now - base) * rate
-later_there base rate at now there le = grind (arith, nat_tests)
+pub token_there : (doc : Doc) (q : Identity) (h : List Entry) (place : entry.Place) (limit : Limit) (at : ℕ) → LimitStands doc q h place (Some limit)
+    → HasToken limit.bucket at → is_token_at doc q place h at ≡ true
+token_there doc q h place limit at s there = sym (grown_at doc q h place limit at s) ∙ le_true 1000000000000000 ((at - limit.bucket.base) * limit.bucket.rate) there
 
-pub reached_token : (doc : Doc) (q : Identity) (k : ℕ) (h : List Entry) (place : entry.Place) (limit : Limit) (at : ℕ) → LimitStands doc q h place (Some limit)
-    → 1000000000000000 ≤ (at - limit.bucket.base) * limit.bucket.rate → nat_le at (local doc q.process k) ≡ true → has_token doc q k place h ≡ true
-reached_token doc q k h place limit at s there is =
-    sym (grown_is doc q k h place limit s)
-    ∙ le_true 1000000000000000 ((local doc q.process k - limit.bucket.base) * limit.bucket.rate) (later_there limit.bucket.base limit.bucket.rate at (local doc q.process k) there (true_le at (local doc q.process k) is))
+pub there_token : (doc : Doc) (q : Identity) (h : List Entry) (place : entry.Place) (limit : Limit) (at : ℕ) → LimitStands doc q h place (Some limit)
+    → is_token_at doc q place h at ≡ true → HasToken limit.bucket at
+there_token doc q h place limit at s is = true_le 1000000000000000 ((at - limit.bucket.base) * limit.bucket.rate) (grown_at doc q h place limit at s ∙ is)
 
-pub token_reached : (doc : Doc) (q : Identity) (k : ℕ) (h : List Entry) (place : entry.Place) (limit : Limit) (at : ℕ) → LimitStands doc q h place (Some limit)
-    → ((earlier : ℕ) → 1000000000000000 ≤ (earlier - limit.bucket.base) * limit.bucket.rate → at ≤ earlier) → has_token doc q k place h ≡ true → nat_le at (local doc q.process k) ≡ true
-token_reached doc q k h place limit at s least token =
-    le_true at (local doc q.process k)
-    (least (local doc q.process k) (true_le 1000000000000000 ((local doc q.process k - limit.bucket.base) * limit.bucket.rate) (grown_is doc q k h place limit s ∙ token)))
-
-pub no_rate_none : (doc : Doc) (q : Identity) (k : ℕ) (h : List Entry) (place : entry.Place) (limit : Limit) → LimitStands doc q h place (Some limit) → limit.bucket.rate ≡ 0 → has_token doc q k place h ≡ true → ⊥
-no_rate_none doc q k h place limit s zero token =
-    let there = true_le 1000000000000000 ((local doc q.process k - limit.bucket.base) * limit.bucket.rate) (grown_is doc q k h place limit s ∙ token) in
-    by_rate (local doc q.process k - limit.bucket.base) (subst (λ r. 1000000000000000 ≤ (local doc q.process k - limit.bucket.base) * r) zero there)
+pub no_rate_none : (doc : Doc) (q : Identity) (h : List Entry) (place : entry.Place) (limit : Limit) (at : ℕ) → LimitStands doc q h place (Some limit) → limit.bucket.rate ≡ 0
+    → is_token_at doc q place h at ≡ true → ⊥
+no_rate_none doc q h place limit at s none is =
+    by_rate (at - limit.bucket.base) (subst (λ r. 1000000000000000 ≤ (at - limit.bucket.base) * r) none (there_token doc q h place limit at s is))
   where
     by_rate : (n : ℕ) → 1000000000000000 ≤ n * 0 → ⊥
     by_rate n le = omega (arith, le)
 
-pub no_limit_none : (doc : Doc) (q : Identity) (k : ℕ) (h : List Entry) (place : entry.Place) → LimitStands doc q h place None → has_token doc q k place h ≡ true → ⊥
-no_limit_none doc q k h place s token = false_is (no_token doc q k h place s ∙ token)
+pub no_limit_none : (doc : Doc) (q : Identity) (h : List Entry) (place : entry.Place) (at : ℕ) → LimitStands doc q h place None → is_token_at doc q place h at ≡ true → ⊥
+no_limit_none doc q h place at s is = false_is (ap (is_grown (at - local doc q.process (base q place h))) s.rated ∙ is)
+
+-- a token that is there at a reading is there later
+grown_later : (o : Option Rated) (start at now : ℕ) → at ≤ now → is_grown (at - start) o ≡ true → is_grown (now - start) o ≡ true
+grown_later None start at now le is = absurd (false_is is)
+grown_later (Some x) start at now le is = le_true token_size ((now - start) * x.1) (more (true_le token_size ((at - start) * x.1) is))
+  where
+    more : token_size ≤ (at - start) * x.1 → token_size ≤ (now - start) * x.1
+    more there = grind (arith, nat_tests)
+
+pub token_later : (doc : Doc) (q : Identity) (h : List Entry) (place : entry.Place) (at now : ℕ) → at ≤ now → is_token_at doc q place h at ≡ true → is_token_at doc q place h now ≡ true
+token_later doc q h place at now = grown_later (rated q place h) (local doc q.process (base q place h)) at now
+
+-- ---- the least number that passes a test
+
+abbrev IsFirst : (ℕ → Bool) → ℕ → Type 0
+IsFirst test n = (test n ≡ true) × ((m : ℕ) → test m ≡ true → n ≤ m)
+
+first_within : (test : ℕ → Bool) (n : ℕ) → ((m : ℕ) × (m ≤ n) × IsFirst test m) ⊎ ((m : ℕ) → m ≤ n → test m ≡ false)
+first_within test zero = by_test (test 0) refl
+  where
+    by_test : (b : Bool) → test 0 ≡ b → ((m : ℕ) × (m ≤ 0) × IsFirst test m) ⊎ ((m : ℕ) → m ≤ 0 → test m ≡ false)
+    by_test true is = inl (0, omega arith, (is, λ m there. omega arith))
+    by_test false is = inr (λ m le. ap test (let zero : m ≡ 0 = omega (arith, le) in zero) ∙ is)
+first_within test (suc n) = by_rest (first_within test n)
+  where
+    by_rest : ((m : ℕ) × (m ≤ n) × IsFirst test m) ⊎ ((m : ℕ) → m ≤ n → test m ≡ false) → ((m : ℕ) × (m ≤ suc n) × IsFirst test m) ⊎ ((m : ℕ) → m ≤ suc n → test m ≡ false)
+    by_rest (inl found) = inl (found.0, omega (arith, found.1), found.2)
+    by_rest (inr none) = by_test (test (suc n)) refl
+      where
+        above : (m : ℕ) → test m ≡ true → suc n ≤ m
+        above m there = by_place (nat_le m n) refl
+          where
+            by_place : (b : Bool) → nat_le m n ≡ b → suc n ≤ m
+            by_place true le = absurd (false_is (sym (none m (true_le m n le)) ∙ there))
+            by_place false more = grind (arith, nat_tests)
+
+        at_or_below : (m : ℕ) → m ≤ suc n → test (suc n) ≡ false → test m ≡ false
+        at_or_below m le is = by_place (nat_le m n) refl
+          where
+            by_place : (b : Bool) → nat_le m n ≡ b → test m ≡ false
+            by_place true within = none m (true_le m n within)
+            by_place false more = ap test (let same : m ≡ suc n = grind (arith, nat_tests) in same) ∙ is
+
+        by_test : (b : Bool) → test (suc n) ≡ b → ((m : ℕ) × (m ≤ suc n) × IsFirst test m) ⊎ ((m : ℕ) → m ≤ suc n → test m ≡ false)
+        by_test true is = inl (suc n, omega arith, (is, above))
+        by_test false is = inr (λ m le. at_or_below m le is)
+
+-- where a queued taint is due, its reading has come
+pub head_reading : (doc : Doc) (k : ℕ) (q : Identity) (h : List Entry) (place : entry.Place) → IsHeadDue doc k q h place → (at : ℕ) × (at ≤ local doc q.process k) × IsTokenReading doc q h place at
+head_reading doc k q h place due = by_first (first_within (is_token_at doc q place h) (local doc q.process k))
+  where
+    by_first : ((m : ℕ) × (m ≤ local doc q.process k) × IsFirst (is_token_at doc q place h) m) ⊎ ((m : ℕ) → m ≤ local doc q.process k → is_token_at doc q place h m ≡ false)
+        → (at : ℕ) × (at ≤ local doc q.process k) × IsTokenReading doc q h place at
+    by_first (inl found) = (found.0, found.1, record { there = found.2.0; least = found.2.1; name = due.name; waiting = due.waiting })
+    by_first (inr none) = absurd (false_is (sym (none (local doc q.process k) (omega arith)) ∙ due.token))
+
+-- and where its reading has come, it is due
+pub reading_head : (doc : Doc) (k : ℕ) (q : Identity) (h : List Entry) (place : entry.Place) (at : ℕ) → IsTokenReading doc q h place at → at ≤ local doc q.process k → IsHeadDue doc k q h place
+reading_head doc k q h place at r le = record { token = token_later doc q h place at (local doc q.process k) le r.there; name = r.name; waiting = r.waiting }
 
 -- ---- who waits
 
@@ -103,47 +156,60 @@ less_is Equal is = absurd (false_is is)
 less_is Greater is = absurd (false_is is)
 
 -- of the zones up to this one none has a queued taint before the least reading
-abbrev pub AreCovered : Doc → ℕ → Identity → List Entry → Option Place → ℕ → Type 0
-AreCovered doc k q h c least = (place : entry.Place) → is_past c (of_place place) ≡ false → IsHeadDue doc k q h place → least ≤ local doc q.process k
+abbrev pub AreCovered : Doc → Identity → List Entry → Option Place → ℕ → Type 0
+AreCovered doc q h c least = (place : entry.Place) (at : ℕ) → is_past c (of_place place) ≡ false → IsTokenReading doc q h place at → least ≤ at
 
-module _ (doc : Doc) (k : ℕ) (q : Identity) (h : List Entry) (queues : Queues) (s : QueuesStand q h queues) where
-  pub next_covered : (c : Option Place) (p : Place) (old new : ℕ) → IsNextZone queues c (Some p) → new ≤ old → AreCovered doc k q h c old → (IsHeadDue doc k q h (entry_place p) → new ≤ local doc q.process k)
-      → AreCovered doc k q h (Some p) new
-  next_covered c p old new next le covered here place out due = by_order (place_cmp (entry_place p) place) refl out
+module _ (doc : Doc) (q : Identity) (h : List Entry) (queues : Queues) (s : QueuesStand q h queues) where
+  pub next_covered : (c : Option Place) (p : Place) (old new : ℕ) → IsNextZone queues c (Some p) → new ≤ old → AreCovered doc q h c old
+      → ((at : ℕ) → IsTokenReading doc q h (entry_place p) at → new ≤ at) → AreCovered doc q h (Some p) new
+  next_covered c p old new next le covered here place at out r = by_order (place_cmp (entry_place p) place) refl out
     where
       below : place_cmp (entry_place p) place ≡ Greater → place_cmp place (entry_place p) ≡ Less
       below greater = places_strict.total.antisymm place (entry_place p) ∙ ap ordering_reverse greater
 
-      by_past : (b : Bool) → is_past c (of_place place) ≡ b → place_cmp (entry_place p) place ≡ Greater → new ≤ local doc q.process k
+      by_past : (b : Bool) → is_past c (of_place place) ≡ b → place_cmp (entry_place p) place ≡ Greater → new ≤ at
       by_past true past greater =
-          absurd (nobody q h queues place due.name s (next.1 (of_place place) (past_is c (of_place place) past) (ap is_lt (below greater))) due.waiting)
-      by_past false past greater = let earlier = covered place past due in omega (arith, earlier, le)
+          absurd (nobody q h queues place r.name s (next.1 (of_place place) (past_is c (of_place place) past) (ap is_lt (below greater))) r.waiting)
+      by_past false past greater = let earlier = covered place at past r in omega (arith, earlier, le)
 
-      by_order : (o : Ordering) → place_cmp (entry_place p) place ≡ o → is_lt o ≡ false → new ≤ local doc q.process k
+      by_order : (o : Ordering) → place_cmp (entry_place p) place ≡ o → is_lt o ≡ false → new ≤ at
       by_order Less is no_less = absurd (false_is (sym no_less))
-      by_order Equal is no_less = here (subst (IsHeadDue doc k q h) (sym (places_strict.same (entry_place p) place is)) due)
+      by_order Equal is no_less = here at (subst (λ place. IsTokenReading doc q h place at) (sym (places_strict.same (entry_place p) place is)) r)
       by_order Greater is no_less = by_past (is_past c (of_place place)) refl is
 
-  pub end_covered : (c : Option Place) (least : ℕ) → IsNextZone queues c None → AreCovered doc k q h c least → (place : entry.Place) → IsHeadDue doc k q h place → least ≤ local doc q.process k
-  end_covered c least none covered place due = by_past (is_past c (of_place place)) refl
+  pub end_covered : (c : Option Place) (least : ℕ) → IsNextZone queues c None → AreCovered doc q h c least → (place : entry.Place) (at : ℕ) → IsTokenReading doc q h place at → least ≤ at
+  end_covered c least none covered place at r = by_past (is_past c (of_place place)) refl
     where
-      by_past : (b : Bool) → is_past c (of_place place) ≡ b → least ≤ local doc q.process k
-      by_past true past = absurd (nobody q h queues place due.name s (none (of_place place) (past_is c (of_place place) past)) due.waiting)
-      by_past false past = covered place past due
+      by_past : (b : Bool) → is_past c (of_place place) ≡ b → least ≤ at
+      by_past true past = absurd (nobody q h queues place r.name s (none (of_place place) (past_is c (of_place place) past)) r.waiting)
+      by_past false past = covered place at past r
 
 -- how many zones there are from this one on
 abbrev pub zones_left : Option Place → ℕ
 zones_left None = 0
 zones_left (Some place) = 2 ^ 64 - number place
 
--- ---- the reading at which a limit's token is there
+-- ---- the reading of a zone
 
-module _ (doc : Doc) (k : ℕ) (q : Identity) (h : List Entry) (place : entry.Place) (limit : Limit) (s : LimitStands doc q h place (Some limit)) where
-  pub ready_there : (o : Option Local) → IfSome o (λ at. HasToken limit.bucket at.0) → is_reached o (local doc q.process k) ≡ true → has_token doc q k place h ≡ true
-  ready_there None there is = absurd (false_is is)
-  ready_there (Some at) there is = reached_token doc q k h place limit at.0 s there is
+-- a reading that is answered is at most the zone's, and where none is answered the zone has none
+pub answered_all : (doc : Doc) (q : Identity) (h : List Entry) (place : entry.Place) (o : Option Local) (new : ℕ) → IfSome o (λ at. IsTokenReading doc q h place at.0)
+    → IfNone o ((at : ℕ) → IsTokenReading doc q h place at → ⊥) → IfSome o (λ at. new ≤ at.0) → (at : ℕ) → IsTokenReading doc q h place at → new ≤ at
+answered_all doc q h place None new there none le at r = absurd (none at r)
+answered_all doc q h place (Some x) new there none le at r = omega (arith, le, there.least at r.there)
 
-  pub ready_all : (o : Option Local) → IsNone o ↔ (limit.bucket.rate ≡ 0) → IfSome o (λ at. (earlier : ℕ) → HasToken limit.bucket earlier → at.0 ≤ earlier) → has_token doc q k place h ≡ true
-      → is_reached o (local doc q.process k) ≡ true
-  ready_all None never least token = absurd (no_rate_none doc q k h place limit s (never.0 refl) token)
-  ready_all (Some at) never least token = token_reached doc q k h place limit at.0 s least token
+-- what a bucket answers is the reading of its zone
+pub bucket_reading : (doc : Doc) (q : Identity) (h : List Entry) (place : entry.Place) (limit : Limit) (name : ℕ) (o : Option Local) → LimitStands doc q h place (Some limit)
+    → has (waits q place name h) ≡ true → IfSome o (λ at. HasToken limit.bucket at.0) → IfSome o (λ at. (earlier : ℕ) → HasToken limit.bucket earlier → at.0 ≤ earlier)
+    → IfSome o (λ at. IsTokenReading doc q h place at.0)
+bucket_reading doc q h place limit name None s waiting there least = tt
+bucket_reading doc q h place limit name (Some at) s waiting there least = record {
+  there = token_there doc q h place limit at.0 s there;
+  least = λ earlier is. least earlier (there_token doc q h place limit earlier s is);
+  name = name;
+  waiting = waiting;
+}
+
+pub bucket_none : (doc : Doc) (q : Identity) (h : List Entry) (place : entry.Place) (limit : Limit) (o : Option Local) → LimitStands doc q h place (Some limit) → IsNone o ↔ (limit.bucket.rate ≡ 0)
+    → IfNone o ((at : ℕ) → IsTokenReading doc q h place at → ⊥)
+bucket_none doc q h place limit None s never = λ at r. no_rate_none doc q h place limit at s (never.0 refl) r.there
+bucket_none doc q h place limit (Some x) s never = tt

@@ -1,14 +1,16 @@
 -- When a pass is due.
-use Rattle.std.proofs.Common.{◌≡◌, ◌∙◌, ℕ, ◌+◌, ◌*◌, ◌<◌, ◌≤◌, nat_le, true, false, List, Option, Some, None, option_map, refl, sym, ap, arith}
+use Rattle.std.proofs.Common.{◌≡◌, ◌∙◌, ℕ, ◌+◌, ◌*◌, ◌<◌, ◌≤◌, nat_le, true, false, List, Option, Some, None, option_map, refl, sym, ap, subst, arith}
 use Rattle.std.proofs.lemmas.Bool.Decides.{nat_tests}
+use Rattle.kube_base.specs.Bounds.{most_local}
 use Rattle.kube_base.specs.declared.numbers.Local.{Local}
 use Rattle.kube_objects.specs.Clocks.{local}
 use Rattle.kube_objects.specs.Document.{Doc, of_millis}
 use Rattle.kube_objects.specs.Entry.{Entry, Identity}
 use Rattle.kube_objects.specs.Health.{is_after_pass, is_pass_due, last_pass}
 use Rattle.term_pass.specs.Passing.{LastStands}
+use Rattle.controller_core.specs.Wakes.{pass_reading}
 
-some_number : (a b : ℕ) → ◌≡◌ {A = Option ℕ} (Some a) (Some b) → a ≡ b
+pub some_number : (a b : ℕ) → ◌≡◌ {A = Option ℕ} (Some a) (Some b) → a ≡ b
 some_number a b is = cc
 
 some_none : (a : ℕ) → ◌≡◌ {A = Option ℕ} (Some a) None → ⊥
@@ -25,6 +27,24 @@ due_from doc k q h last period s is = by_pass (last_pass q h) refl s
         ap (is_after_pass doc k q) same
         ∙ ap (λ n. nat_le (n + of_millis doc.settings.monitor_period_millis) (local doc q.process k)) (sym (some_number last.0 (local doc q.process at) stands))
         ∙ ap (λ p. nat_le (last.0 + p) (local doc q.process k)) (sym is)
+
+-- the reading of the next pass
+pub pass_is : (doc : Doc) (q : Identity) (h : List Entry) (last : Local) (period : ℕ) → LastStands doc q h (Some last) → period ≡ of_millis doc.settings.monitor_period_millis
+    → pass_reading doc q h ≡ Some (last.0 + period)
+pass_is doc q h last period s is = by_pass (last_pass q h) s
+  where
+    by_pass : (o : Option ℕ) → Some last.0 ≡ option_map (local doc q.process) o → option_map (λ k. local doc q.process k + of_millis doc.settings.monitor_period_millis) o ≡ Some (last.0 + period)
+    by_pass None stands = absurd (some_none last.0 stands)
+    by_pass (Some at) stands =
+        ap (λ n. Some (n + of_millis doc.settings.monitor_period_millis)) (sym (some_number last.0 (local doc q.process at) stands))
+        ∙ ap (λ p. Some (last.0 + p)) (sym is)
+
+pub last_fits : (doc : Doc) (q : Identity) (h : List Entry) (last : Local) → LastStands doc q h (Some last) → ((k : ℕ) → last_pass q h ≡ Some k → local doc q.process k ≤ most_local) → last.0 ≤ most_local
+last_fits doc q h last s fits = by_pass (last_pass q h) refl s
+  where
+    by_pass : (o : Option ℕ) → last_pass q h ≡ o → Some last.0 ≡ option_map (local doc q.process) o → last.0 ≤ most_local
+    by_pass None same stands = absurd (some_none last.0 stands)
+    by_pass (Some at) same stands = subst (λ n. n ≤ most_local) (sym (some_number last.0 (local doc q.process at) stands)) (fits at same)
 
 pub not_none : (doc : Doc) (q : Identity) (h : List Entry) (last : Local) → LastStands doc q h (Some last) → last_pass q h ≡ None → ⊥
 not_none doc q h last s none = some_none last.0 (s ∙ ap (option_map (local doc q.process)) none)

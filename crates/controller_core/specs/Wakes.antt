@@ -1,11 +1,12 @@
--- When a queued taint is made.
-use Rattle.std.specs.Prelude.{◌≡◌, ℕ, nat_le, Bool, true, false, List, Option, Some, None}
-use Rattle.kube_base.specs.declared.numbers.Local.{Local}
-use Rattle.kube_objects.specs.Document.{Doc}
+-- The readings for which a term waits.
+use Rattle.std.specs.Prelude.{◌≡◌, ◌⊎◌, ◌+◌, ◌-◌, ◌≤◌, ℕ, Bool, true, List, Option, Some, option_map}
+use Rattle.kube_objects.specs.Clocks.{local}
+use Rattle.kube_objects.specs.Document.{Doc, of_millis}
 use Rattle.kube_objects.specs.Entry.{Entry, Identity, Place}
+use Rattle.kube_objects.specs.Health.{last_pass}
 use Rattle.kube_objects.specs.Newest.{has}
 use Rattle.kube_objects.specs.Tainting.{waits}
-use Rattle.kube_objects.specs.Tokens.{has_token}
+use Rattle.kube_objects.specs.Tokens.{base, has_token, is_grown, rated}
 
 -- the zone's token is there at a beat, and somebody waits in the zone
 pub record IsHeadDue (doc : Doc) (k : ℕ) (q : Identity) (h : List Entry) (place : Place) : Type 0 where
@@ -13,7 +14,25 @@ pub record IsHeadDue (doc : Doc) (k : ℕ) (q : Identity) (h : List Entry) (plac
   pub name : ℕ
   pub waiting : has (waits q place name h) ≡ true
 
--- whether there is a reading, and it is reached
-abbrev pub is_reached : Option Local → ℕ → Bool
-is_reached None now = false
-is_reached (Some at) now = nat_le at.0 now
+-- whether a zone's token is there at a reading
+abbrev pub is_token_at : Doc → Identity → Place → List Entry → ℕ → Bool
+is_token_at doc q place h at = is_grown (at - local doc q.process (base q place h)) (rated q place h)
+
+-- the least reading at which the zone's token is there, and somebody waits in the zone
+pub record IsTokenReading (doc : Doc) (q : Identity) (h : List Entry) (place : Place) (at : ℕ) : Type 0 where
+  pub there : is_token_at doc q place h at ≡ true
+  pub least : (earlier : ℕ) → is_token_at doc q place h earlier ≡ true → at ≤ earlier
+  pub name : ℕ
+  pub waiting : has (waits q place name h) ≡ true
+
+-- a period after the last pass
+abbrev pub pass_reading : Doc → Identity → List Entry → Option ℕ
+pass_reading doc q h = option_map (λ k. local doc q.process k + of_millis doc.settings.monitor_period_millis) (last_pass q h)
+
+abbrev pub IsAwaited : Doc → Identity → List Entry → ℕ → Type 0
+IsAwaited doc q h at = (pass_reading doc q h ≡ Some at) ⊎ ((place : Place) × IsTokenReading doc q h place at)
+
+-- the least of the readings for which a term waits
+pub record IsLeastAwaited (doc : Doc) (q : Identity) (h : List Entry) (at : ℕ) : Type 0 where
+  pub there : IsAwaited doc q h at
+  pub least : (other : ℕ) → IsAwaited doc q h other → at ≤ other

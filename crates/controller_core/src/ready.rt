@@ -1,5 +1,5 @@
 // The readings at which a tick has a pass or a queued taint.
-ghost use Rattle.std.specs.Prelude.{◌≡◌, ◌≤◌, ◌<◌, ◌⊎◌, ℕ, true, false, List, None, IfSome, IfNone};
+ghost use Rattle.std.specs.Prelude.{◌≡◌, ◌≤◌, ◌<◌, ◌⊎◌, ℕ, true, false, List, Some, None, IfSome, IfNone};
 ghost use Rattle.kube_base.specs.Bounds.{most_local};
 ghost use Rattle.kube_objects.specs.Clocks.{local};
 ghost use Rattle.kube_objects.specs.Document.{Doc};
@@ -7,7 +7,7 @@ ghost use Rattle.kube_objects.specs.Entry as model;
 ghost use Rattle.kube_objects.specs.Entry.{Entry, Identity};
 ghost use Rattle.kube_objects.specs.Health.{is_pass_due, last_pass};
 ghost use Rattle.taint_zones.specs.Places.{entry_place};
-ghost use Rattle.controller_core.specs.Wakes.{IsHeadDue, is_reached};
+ghost use Rattle.controller_core.specs.Wakes.{IsHeadDue, IsLeastAwaited, IsTokenReading};
 
 use crate::Term;
 use kube_base::Local;
@@ -16,8 +16,8 @@ use taint_zones::Place;
 // The earlier of two readings, where there is another.
 fn earlier(least: Local, other: Option<Local>) -> Local
     ensures least { result.0 ≤ least.0 }
-    ensures other { (now : ℕ) → is_reached other now ≡ true → result.0 ≤ now }
-    ensures there { (now : ℕ) → result.0 ≤ now → (least.0 ≤ now) ⊎ (is_reached other now ≡ true) }
+    ensures other { IfSome other (λ at. result.0 ≤ at.0) }
+    ensures there { (result ≡ least) ⊎ (other ≡ Some result) }
 {
     match other {
         None => least,
@@ -35,10 +35,10 @@ impl Term {
 
     // The reading at which a zone's token is there, where somebody waits in the zone.
     fn ready(&self, place: Place) -> Option<Local>
-        ensures there { (doc : Doc) (k : ℕ) (q : Identity) (h : List Entry) → TermStands doc q h self.now
-            → is_reached result (local doc q.process k) ≡ true → IsHeadDue doc k q h (entry_place place) }
-        ensures all { (doc : Doc) (k : ℕ) (q : Identity) (h : List Entry) → TermStands doc q h self.now
-            → IsHeadDue doc k q h (entry_place place) → is_reached result (local doc q.process k) ≡ true }
+        ensures reading { (doc : Doc) (q : Identity) (h : List Entry) → TermStands doc q h self.now
+            → IfSome result (λ at. IsTokenReading doc q h (entry_place place) at.0) }
+        ensures none { (doc : Doc) (q : Identity) (h : List Entry) → TermStands doc q h self.now
+            → IfNone result ((at : ℕ) → ¬ IsTokenReading doc q h (entry_place place) at) }
     {
         let Some(_) = self.zones.queues.head(place) else {
             return None;
@@ -52,10 +52,10 @@ impl Term {
     // The least of this reading and of those at which a queued taint is made of somebody who waits now.
     fn first_ready(&self, given: Local) -> Local
         ensures least { result.0 ≤ given.0 }
-        ensures all { (doc : Doc) (k : ℕ) (q : Identity) (h : List Entry) (place : model.Place) → TermStands doc q h self.now
-            → IsHeadDue doc k q h place → result.0 ≤ local doc q.process k }
-        ensures there { (doc : Doc) (k : ℕ) (q : Identity) (h : List Entry) → TermStands doc q h self.now → result.0 ≤ local doc q.process k
-            → (given.0 ≤ local doc q.process k) ⊎ ((place : model.Place) × IsHeadDue doc k q h place) }
+        ensures all { (doc : Doc) (q : Identity) (h : List Entry) (place : model.Place) (at : ℕ) → TermStands doc q h self.now
+            → IsTokenReading doc q h place at → result.0 ≤ at }
+        ensures there { (doc : Doc) (q : Identity) (h : List Entry) → TermStands doc q h self.now
+            → (result ≡ given) ⊎ ((place : model.Place) × IsTokenReading doc q h place result.0) }
     {
         let mut least = given;
         let mut next = self.zones.queues.next_zone(None);
@@ -66,12 +66,16 @@ impl Term {
         least
     }
 
-    /// The least reading at which a tick has a pass, or a queued taint of those who wait now; none exactly where there was no
-    /// pass. Readings are at most `most_local`.
+    /// The least reading at which a tick has a pass, or a queued taint of those who wait now: a period after the last pass, or
+    /// where the token of a zone is there in which somebody waits. None exactly where there was no pass. Readings are at most
+    /// `most_local`.
     pub fn wake(&self) -> Option<Local>
         ensures none { (doc : Doc) (q : Identity) (h : List Entry) → TermStands doc q h self.now → IfNone result (last_pass q h ≡ None) }
         ensures some { (doc : Doc) (q : Identity) (h : List Entry) → TermStands doc q h self.now
             → IfSome result (λ at. ¬ (last_pass q h ≡ None)) }
+        ensures reading { (doc : Doc) (q : Identity) (h : List Entry) → TermStands doc q h self.now
+            → ((k : ℕ) → last_pass q h ≡ Some k → local doc q.process k ≤ most_local)
+            → IfSome result (λ at. IsLeastAwaited doc q h at.0) }
         ensures early { (doc : Doc) (k : ℕ) (q : Identity) (h : List Entry) → TermStands doc q h self.now
             → local doc q.process k ≤ most_local → IfSome result (λ at. local doc q.process k < at.0
             → (is_pass_due doc k q h ≡ false) × ((place : model.Place) → ¬ IsHeadDue doc k q h place)) }

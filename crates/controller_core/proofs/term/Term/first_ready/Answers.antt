@@ -1,12 +1,13 @@
-use Rattle.std.proofs.Common.{◌≡◌, inl, inr, ◌<◌, ◌⊎◌, Option, Some, None, sym, subst, arith, rules}
+use Rattle.std.proofs.Common.{◌≡◌, inl, inr, ◌<◌, ◌⊎◌, Option, Some, None, IfSome, refl, sym, subst, arith, rules}
 use Rattle.history_laws.proofs.Plainly.{false_is}
-use Rattle.kube_objects.specs.Clocks.{local}
+use Rattle.kube_objects.specs.Entry as entry
 use Rattle.taint_zones.specs.declared.place.Place.{Place}
 use Rattle.taint_zones.specs.declared.queues.Queues.{Queues}
 use Rattle.taint_zones.specs.Places.{entry_place}
 use Rattle.taint_zones.specs.Waiting.{IsNextZone}
 use Rattle.term_taint.proofs.ZoneWalk.{number_grows}
-use Rattle.controller_core.proofs.Readying.{end_covered, next_covered, zones_left}
+use Rattle.controller_core.specs.Wakes.{IsTokenReading}
+use Rattle.controller_core.proofs.Readying.{answered_all, end_covered, next_covered, zones_left}
 use Rattle.controller_core.proofs.term.Term.first_ready.Goals as goal
 
 either : {A B C : Type 0} → A ⊎ B → (A → C) → (B → C) → C
@@ -21,8 +22,8 @@ zones_fewer queues place (Some next) is region zone = let more = number_grows pl
 pub loop-next-init : goal.loop-next-init
 loop-next-init c = record {
   least = omega arith;
-  there = λ doc k q h s le. inl le;
-  walk = (None, c.next_zone-next.ensures, λ doc k q h s place out due. absurd (false_is (sym out)));
+  there = λ doc q h s. inl refl;
+  walk = (None, c.next_zone-next.ensures, λ doc q h s place at out r. absurd (false_is (sym out)));
 }
 
 pub loop-next-smaller : goal.loop-next-smaller
@@ -40,24 +41,26 @@ loop-next-preserved c =
     let next = subst (IsNextZone queues i.walk.0) c.in-Some.is i.walk.1 in
     record {
       least = omega (arith, c.earlier-least.ensures.least, i.least);
-      there = λ doc k q h s le. either (c.earlier-least.ensures.there (local doc q.process k) le) (λ old. i.there doc k q h s old) (λ reached. inr (entry_place place, c.ready.ensures.there doc k q h s reached));
+      there = λ doc q h s. either c.earlier-least.ensures.there
+          (λ same. subst (λ at. (at ≡ c.args.given) ⊎ ((p : entry.Place) × IsTokenReading doc q h p at.0)) (sym same) (i.there doc q h s))
+          (λ new. inr (entry_place place, subst (λ o. IfSome o (λ at. IsTokenReading doc q h (entry_place place) at.0)) new (c.ready.ensures.reading doc q h s)));
       walk = (
         Some place,
         c.next_zone-next-in-Some.ensures,
-        λ doc k q h s. next_covered doc k q h queues s.queues i.walk.0 place c.loop-next.least.0 c.earlier-least.result.0 next c.earlier-least.ensures.least (i.walk.2 doc k q h s)
-            (λ due. c.earlier-least.ensures.other (local doc q.process k) (c.ready.ensures.all doc k q h s due)),
+        λ doc q h s. next_covered doc q h queues s.queues i.walk.0 place c.loop-next.least.0 c.earlier-least.result.0 next c.earlier-least.ensures.least (i.walk.2 doc q h s)
+            (answered_all doc q h (entry_place place) c.ready.result c.earlier-least.result.0 (c.ready.ensures.reading doc q h s) (c.ready.ensures.none doc q h s) c.earlier-least.ensures.other),
       );
     }
 
 pub returns-clause-all : goal.returns-clause-all
-returns-clause-all c doc k q h place s due =
+returns-clause-all c doc q h place at s r =
     let i = c.loop-next.invariant in
     let queues = c.args.self.now.zones.queues in
     let none : c.loop-next.next ≡ None = search rules in
-    end_covered doc k q h queues s.queues i.walk.0 c.loop-next.least.0 (subst (IsNextZone queues i.walk.0) none i.walk.1) (i.walk.2 doc k q h s) place due
+    end_covered doc q h queues s.queues i.walk.0 c.loop-next.least.0 (subst (IsNextZone queues i.walk.0) none i.walk.1) (i.walk.2 doc q h s) place at r
 
 pub returns-clause-least : goal.returns-clause-least
 returns-clause-least c = c.loop-next.invariant.least
 
 pub returns-clause-there : goal.returns-clause-there
-returns-clause-there c doc k q h s le = c.loop-next.invariant.there doc k q h s le
+returns-clause-there c doc q h s = c.loop-next.invariant.there doc q h s

@@ -1,12 +1,11 @@
-use Rattle.std.proofs.Common.{◌≤◌, ◌⊎◌, ℕ, List, Option}
-use Rattle.kube_objects.specs.Clocks.{local}
+use Rattle.std.proofs.Common.{◌≡◌, ◌≤◌, ◌⊎◌, List, Option}
 use Rattle.kube_objects.specs.Document.{Doc}
 use Rattle.kube_objects.specs.Entry as entry
 use Rattle.kube_objects.specs.Entry.{Entry, Identity}
 use Rattle.taint_zones.specs.declared.place.Place.{Place}
 use Rattle.taint_zones.specs.Waiting.{IsNextZone}
 use Rattle.controller_core.specs.TermStands.{TermStands}
-use Rattle.controller_core.specs.Wakes.{IsHeadDue}
+use Rattle.controller_core.specs.Wakes.{IsTokenReading}
 use Rattle.controller_core.proofs.Readying.{AreCovered, zones_left}
 use Rattle.controller_core.proofs.term.Term.first_ready.Given as goal
 
@@ -16,8 +15,8 @@ decreases-loop-next l = zones_left l.next
 abbrev pub invariant-loop-next : goal.invariant-loop-next
 invariant-loop-next l = record {
   least : l.least.0 ≤ l.fn.given.0;
-  there : (doc : Doc) (k : ℕ) (q : Identity) (h : List Entry) → TermStands doc q h l.self → l.least.0 ≤ local doc q.process k
-      → (l.fn.given.0 ≤ local doc q.process k) ⊎ ((place : entry.Place) × IsHeadDue doc k q h place);
+  there : (doc : Doc) (q : Identity) (h : List Entry) → TermStands doc q h l.self
+      → (l.least ≡ l.fn.given) ⊎ ((place : entry.Place) × IsTokenReading doc q h place l.least.0);
   walk : (c : Option Place) × IsNextZone l.self.zones.queues c l.next
-      × ((doc : Doc) (k : ℕ) (q : Identity) (h : List Entry) → TermStands doc q h l.self → AreCovered doc k q h c l.least.0);
+      × ((doc : Doc) (q : Identity) (h : List Entry) → TermStands doc q h l.self → AreCovered doc q h c l.least.0);
 }

@@ -2,36 +2,32 @@ use Rattle.std.proofs.Common.{◌≡◌, Some, None, IfNone, subst, rules}
 use Rattle.taint_zones.specs.Limits.{LimitStands, limit_at}
 use Rattle.taint_zones.specs.Places.{entry_place}
 use Rattle.taint_zones.specs.Waiting.{IsEmpty}
-use Rattle.controller_core.proofs.Readying.{nobody, no_limit_none, ready_all, ready_there, somebody}
+use Rattle.controller_core.proofs.Readying.{bucket_none, bucket_reading, nobody, no_limit_none, somebody}
 use Rattle.controller_core.proofs.term.Term.ready.Goals as goal
 
-pub returns-in_default-clause-all : goal.returns-in_default-clause-all
-returns-in_default-clause-all c doc k q h s due =
+pub returns-in_default-clause-none : goal.returns-in_default-clause-none
+returns-in_default-clause-none c doc q h s at r =
     let empty = subst (λ o. IfNone o (IsEmpty c.args.self.now.zones.queues c.args.place)) c.in_default.is c.head.ensures.none in
-    absurd (nobody q h c.args.self.now.zones.queues (entry_place c.args.place) due.name s.queues empty due.waiting)
+    absurd (nobody q h c.args.self.now.zones.queues (entry_place c.args.place) r.name s.queues empty r.waiting)
 
-pub returns-in-None-clause-all : goal.returns-in-None-clause-all
-returns-in-None-clause-all c doc k q h s due =
+pub returns-in-None-clause-none : goal.returns-in-None-clause-none
+returns-in-None-clause-none c doc q h s at r =
     let none : limit_at c.args.self.now.zones (entry_place c.args.place) ≡ None = search rules in
-    absurd (no_limit_none doc q k h (entry_place c.args.place) (subst (LimitStands doc q h (entry_place c.args.place)) none (s.limits (entry_place c.args.place))) due.token)
+    absurd (no_limit_none doc q h (entry_place c.args.place) at (subst (LimitStands doc q h (entry_place c.args.place)) none (s.limits (entry_place c.args.place))) r.there)
 
-pub returns-in-Some-get-clause-there : goal.returns-in-Some-get-clause-there
-returns-in-Some-get-clause-there c doc k q h s reached =
+pub returns-in-Some-get-clause-reading : goal.returns-in-Some-get-clause-reading
+returns-in-Some-get-clause-reading c doc q h s =
     let place = entry_place c.args.place in
     let limit = c.in-Some-get.limit.now in
     let found : limit_at c.args.self.now.zones place ≡ Some limit = search rules in
     let stands = subst (LimitStands doc q h place) found (s.limits place) in
     let first = c.in-Some.ensures.first in
-    record {
-      token = ready_there doc k q h place limit stands c.ready_at.result c.ready_at.ensures.there reached;
-      name = c.in-Some.field-0;
-      waiting = somebody q h c.args.self.now.zones.queues place c.in-Some.field-0 first.0 _ (s.queues place c.in-Some.field-0) first.1;
-    }
+    bucket_reading doc q h place limit c.in-Some.field-0 c.ready_at.result stands
+    (somebody q h c.args.self.now.zones.queues place c.in-Some.field-0 first.0 _ (s.queues place c.in-Some.field-0) first.1) c.ready_at.ensures.there c.ready_at.ensures.least
 
-pub returns-in-Some-get-clause-all : goal.returns-in-Some-get-clause-all
-returns-in-Some-get-clause-all c doc k q h s due =
+pub returns-in-Some-get-clause-none : goal.returns-in-Some-get-clause-none
+returns-in-Some-get-clause-none c doc q h s =
     let place = entry_place c.args.place in
     let limit = c.in-Some-get.limit.now in
     let found : limit_at c.args.self.now.zones place ≡ Some limit = search rules in
-    let stands = subst (LimitStands doc q h place) found (s.limits place) in
-    ready_all doc k q h place limit stands c.ready_at.result c.ready_at.ensures.never c.ready_at.ensures.least due.token
+    bucket_none doc q h place limit c.ready_at.result (subst (LimitStands doc q h place) found (s.limits place)) c.ready_at.ensures.never
