@@ -53,8 +53,8 @@ there_token doc q h place limit at s is = true_le 1000000000000000 ((at - limit.
 
 pub no_rate_none : (doc : Doc) (q : Identity) (h : List Entry) (place : entry.Place) (limit : Limit) (at : ℕ) → LimitStands doc q h place (Some limit) → limit.bucket.rate ≡ 0
     → is_token_at doc q place h at ≡ true → ⊥
-no_rate_none doc q h place limit at s zero is =
-    by_rate (at - limit.bucket.base) (subst (λ r. 1000000000000000 ≤ (at - limit.bucket.base) * r) zero (there_token doc q h place limit at s is))
+no_rate_none doc q h place limit at s none is =
+    by_rate (at - limit.bucket.base) (subst (λ r. 1000000000000000 ≤ (at - limit.bucket.base) * r) none (there_token doc q h place limit at s is))
   where
     by_rate : (n : ℕ) → 1000000000000000 ≤ n * 0 → ⊥
     by_rate n le = omega (arith, le)
@@ -82,7 +82,7 @@ first_within : (test : ℕ → Bool) (n : ℕ) → ((m : ℕ) × (m ≤ n) × Is
 first_within test zero = by_test (test 0) refl
   where
     by_test : (b : Bool) → test 0 ≡ b → ((m : ℕ) × (m ≤ 0) × IsFirst test m) ⊎ ((m : ℕ) → m ≤ 0 → test m ≡ false)
-    by_test true is = inl (0, omega arith, is, λ m there. omega arith)
+    by_test true is = inl (0, omega arith, (is, λ m there. omega arith))
     by_test false is = inr (λ m le. ap test (let zero : m ≡ 0 = omega (arith, le) in zero) ∙ is)
 first_within test (suc n) = by_rest (first_within test n)
   where
@@ -105,7 +105,7 @@ first_within test (suc n) = by_rest (first_within test n)
             by_place false more = ap test (let same : m ≡ suc n = grind (arith, nat_tests) in same) ∙ is
 
         by_test : (b : Bool) → test (suc n) ≡ b → ((m : ℕ) × (m ≤ suc n) × IsFirst test m) ⊎ ((m : ℕ) → m ≤ suc n → test m ≡ false)
-        by_test true is = inl (suc n, omega arith, is, above)
+        by_test true is = inl (suc n, omega arith, (is, above))
         by_test false is = inr (λ m le. at_or_below m le is)
 
 -- where a queued taint is due, its reading has come
@@ -211,5 +211,5 @@ bucket_reading doc q h place limit name (Some at) s waiting there least = record
 
 pub bucket_none : (doc : Doc) (q : Identity) (h : List Entry) (place : entry.Place) (limit : Limit) (o : Option Local) → LimitStands doc q h place (Some limit) → IsNone o ↔ (limit.bucket.rate ≡ 0)
     → IfNone o ((at : ℕ) → IsTokenReading doc q h place at → ⊥)
-bucket_none doc q h place limit None s never at r = no_rate_none doc q h place limit at s (never.0 refl) r.there
+bucket_none doc q h place limit None s never = λ at r. no_rate_none doc q h place limit at s (never.0 refl) r.there
 bucket_none doc q h place limit (Some x) s never = tt
