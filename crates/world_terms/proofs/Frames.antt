@@ -5,7 +5,7 @@ use Rattle.std.proofs.lemmas.Bool.Decides.{nat_tests}
 use Rattle.kube_objects.specs.declared.deed.Actor.{Actor}
 use Rattle.kube_objects.specs.declared.deed.Actor.TheVariants as actor
 use Rattle.kube_objects.specs.Document.{Doc}
-use Rattle.kube_objects.specs.Entry.{Entry, Identity, Fact, First, Event, Starts, Crashes, Stalls, Stops, Ends, Sends, Answers, Delivers, Expires, Leads, Ticks, entry}
+use Rattle.kube_objects.specs.Entry.{Entry, Identity, Fact, First, Event, Starts, Crashes, Stops, Stalls, Ends, Sends, Answers, Delivers, Expires, Leads, Ticks, entry}
 use Rattle.kube_objects.specs.Identities.{identity, of_process}
 use Rattle.kube_objects.specs.Newest.{has, join, when}
 use Rattle.kube_objects.specs.Process.{alive, born, gone, life, life_says, starts}
@@ -40,6 +40,7 @@ was-up p i e h is = by_fact e.actor e.fact is
     by_fact : (who : Actor) (d : Fact) → is_beside d ≡ true → join (upper (life_says p who d) (life p h)) ≡ Some i → join (life p h) ≡ Some i
     by_fact who Starts is up = absurd (false_is is)
     by_fact who Crashes is up = lost (of_process p who) (life p h) i up
+    by_fact who (Stalls beats) is up = up
     by_fact who Stops is up = lost (of_process p who) (life p h) i up
     by_fact who Ends is up = lost (of_process p who) (life p h) i up
     by_fact who (First key object) is up = up
@@ -49,7 +50,6 @@ was-up p i e h is = by_fact e.actor e.fact is
     by_fact who (Delivers call reply counted) is up = up
     by_fact who (Expires call) is up = up
     by_fact who (Leads version) is up = up
-    by_fact who (Stalls beats) is up = up
     by_fact who (Ticks tick) is up = absurd (false_is is)
 
 pub terms-beside : (doc : Doc) (h : List Entry) (e : Entry) (x : Terms) → is_beside e.fact ≡ true → TermsStand doc h x → TermsStand doc (e ∷ h) x
