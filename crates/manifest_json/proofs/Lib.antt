@@ -4,5 +4,6 @@ pub mod KeptLemmas
 pub mod ListsBack
 pub mod Loops
 pub mod PartsBack
+pub mod NamesKept
 pub mod Places
 pub mod WriteLoops

@@ -1,5 +1,5 @@
 -- Fields of a manifest's objects. A null counts as a missing key (profile: what the Kubernetes API server does with it).
-use Rattle.std.specs.Prelude.{ℕ, ◌-◌, ◌==◌, ◌&&◌, ◌||◌, not, nat_le, nat_lt, ◌^◌, Bool, false, List, [], ◌∷◌, length, slice_index}
+use Rattle.std.specs.Prelude.{◌≡◌, ℕ, ◌-◌, ◌==◌, ◌&&◌, ◌||◌, not, nat_le, nat_lt, ◌^◌, Bool, false, List, [], ◌∷◌, length, slice_get, slice_index}
 use Rattle.std.specs.Prelude.{Option, Some, None, option_and_then, is_some, Result, Ok, Err, ℤ, pos, negsuc, if◌then◌else◌}
 use Rattle.std.specs.Char.{is_ascii_digit, is_ascii_lowercase, is_ascii_uppercase}
 use Rattle.std.specs.List.{list_all}
@@ -121,6 +121,10 @@ signed_at path (Some d) = some_or_refuse (option_and_then fits (option_and_then 
 
 abbrev pub Texts : Type 0
 Texts = List (List ℕ)
+
+-- each name that is held keeps its number: the names after are those before, and further ones behind
+abbrev pub AreKept : Texts → Texts → Type 0
+AreKept before after = (number : ℕ) (text : List ℕ) → slice_get before number ≡ Some text → slice_get after number ≡ Some text
 
 -- a text's number, and the names that are held then
 unfoldable pub numbered : Texts → List ℕ → Result (ℕ × Texts) Refusal

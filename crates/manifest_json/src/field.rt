@@ -6,6 +6,7 @@ ghost use Rattle.manifest_json.specs.Faults.{Gives};
 ghost use Rattle.serde_json.specs.Find.{as_str};
 ghost use Rattle.kube_base.specs.Times as times;
 ghost use Rattle.manifest_json.specs.Fields as spec;
+ghost use Rattle.manifest_json.specs.Fields.{AreKept};
 ghost use Rattle.manifest_json.specs.Walk.{hundred, is_text};
 
 use crate::codes::{BAD_NAME, BAD_NUMBER, BAD_TIME, TOO_MANY, WRONG_JSON};
@@ -183,7 +184,8 @@ pub(crate) fn integer(
 /// A text's number. A full table of names counts as want of memory.
 #[tactic(auto, unfolding(crate::specs::Fields::numbered))]
 pub fn number(names: &mut Names, text: &str) -> Result<u32, ReadFault>
-    ensures { Gives (λ n. (n, names.new)) result (spec.numbered names.old text.now) }
+    ensures gives { Gives (λ n. (n, names.new)) result (spec.numbered names.old text.now) }
+    ensures names { AreKept names.old names.new }
 {
     if names.len() >= u32::MAX as usize {
         return Err(ReadFault::NoMemory);
@@ -201,7 +203,8 @@ pub(crate) fn name_number(
     key: &str,
     text: &str,
 ) -> Result<u32, ReadFault>
-    ensures { Gives (λ n. (n, names.new)) result (spec.named names.old (path.now ++ key.now) text.now) }
+    ensures gives { Gives (λ n. (n, names.new)) result (spec.named names.old (path.now ++ key.now) text.now) }
+    ensures names { AreKept names.old names.new }
 {
     if is_name(text) {
         number(names, text)

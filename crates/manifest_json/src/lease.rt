@@ -4,6 +4,7 @@ ghost use Rattle.std.specs.Option.{option_map};
 ghost use Rattle.serde_json.specs.View.{view};
 ghost use Rattle.kube_base.specs.Names.{number_of};
 ghost use Rattle.manifest_json.specs.Faults.{Gives};
+ghost use Rattle.manifest_json.specs.Fields.{AreKept};
 ghost use Rattle.manifest_json.specs.Walk as walk;
 
 use crate::codes::WRONG_JSON;
@@ -23,8 +24,9 @@ pub(crate) fn lease(
     value: &Value,
 ) -> Result<(Key, Object), ReadFault>
     requires { length known.now < 2 ^ 32 }
-    ensures { Gives (λ found. (found, names.new)) result
+    ensures gives { Gives (λ found. (found, names.new)) result
         (walk.lease_at names.old known.now path.now (view value.now)) }
+    ensures names { AreKept names.old names.new }
 {
     let metadata = parent(path, "/metadata", field(value, "metadata"))?;
     let key = spaced_key(names, path, Kind::Lease, metadata)?;
@@ -41,8 +43,9 @@ fn lease_spec(
     spec: Option<&Value>,
 ) -> Result<Lease, ReadFault>
     requires { length known.now < 2 ^ 32 }
-    ensures { Gives (λ lease. (lease, names.new)) result
+    ensures gives { Gives (λ lease. (lease, names.new)) result
         (walk.lease_spec_at names.old known.now path.now (option_map (λ v. view v.now) spec.entry)) }
+    ensures names { AreKept names.old names.new }
 {
     let text = text(
         WRONG_JSON,
@@ -76,8 +79,9 @@ fn lease_spec(
 #[tactic(auto, unfolding(crate::specs::Walk::holder_of))]
 fn holder(names: &mut Names, known: &[u32], text: &str) -> Result<Holder, ReadFault>
     requires { length known.now < 2 ^ 32 }
-    ensures { Gives (λ holder. (holder, names.new)) result
+    ensures gives { Gives (λ holder. (holder, names.new)) result
         (walk.holder_of names.old known.now text.now) }
+    ensures names { AreKept names.old names.new }
 {
     if text.is_empty() {
         return Ok(Holder::Nobody);

@@ -2,6 +2,7 @@
 ghost use Rattle.std.specs.Prelude.{◌≡◌, ◌<◌, ◌^◌, ◌+◌, ◌++◌, codes, [], length, ◌≤◌, IfOk, OnOk};
 ghost use Rattle.serde_json.specs.View.{view, items_view};
 ghost use Rattle.manifest_json.specs.Faults.{Gives};
+ghost use Rattle.manifest_json.specs.Fields.{AreKept};
 ghost use Rattle.manifest_json.specs.Kept.{Stands};
 ghost use Rattle.manifest_json.specs.Walk as walk;
 
@@ -35,8 +36,9 @@ pub fn read_list(
     path: &Path,
 ) -> Result<Objects, ReadFault>
     requires { length known.now < 2 ^ 32 }
-    ensures { Gives (λ objects. ((objects.items, objects.skipped), names.new)) result
+    ensures gives { Gives (λ objects. ((objects.items, objects.skipped), names.new)) result
         (walk.list_walk names.old known.now path.now (view value.now)) }
+    ensures names { AreKept names.old names.new }
 {
     let value = object(path, value)?;
     if !is_list(value) {
@@ -60,8 +62,9 @@ fn objects_of(
     list: &[Value],
 ) -> Result<Objects, ReadFault>
     requires { length known.now < 2 ^ 32 }
-    ensures { Gives (λ objects. ((objects.items, objects.skipped), names.new)) result
+    ensures gives { Gives (λ objects. ((objects.items, objects.skipped), names.new)) result
         (walk.list_from names.old known.now path.now 0 [] 0 (items_view list.now)) }
+    ensures names { AreKept names.old names.new }
 {
     let mut kept = Kept::new(alloc);
     let mut skipped: u64 = 0;
@@ -93,6 +96,7 @@ fn step_in(
         (walk.list_step names.old known.now (walk.member_path path.now (codes "/items/") place) kept.old.items (view value.now)) }
     ensures stands { OnOk result (Stands kept.new) }
     ensures few { IfOk result (λ skipped. skipped ≤ 1) }
+    ensures names { AreKept names.old names.new }
 {
     let path = path.member("/items/", place)?;
     step(alloc, names, known, &path, kept, value)
@@ -113,6 +117,7 @@ fn step(
         (walk.list_step names.old known.now path.now kept.old.items (view value.now)) }
     ensures stands { OnOk result (Stands kept.new) }
     ensures few { IfOk result (λ skipped. skipped ≤ 1) }
+    ensures names { AreKept names.old names.new }
 {
     let Some(found) = item(alloc, names, known, path, value)? else {
         return Ok(1);

@@ -3,6 +3,7 @@ ghost use Rattle.std.specs.Prelude.{◌≡◌, ◌++◌, codes};
 ghost use Rattle.std.specs.Option.{option_map};
 ghost use Rattle.serde_json.specs.View.{view};
 ghost use Rattle.manifest_json.specs.Faults.{Gives};
+ghost use Rattle.manifest_json.specs.Fields.{AreKept};
 ghost use Rattle.manifest_json.specs.Walk as walk;
 
 use crate::codes::{BAD_NAME, WRONG_JSON};
@@ -20,8 +21,9 @@ pub(crate) fn name(
     path: &Path,
     metadata: Option<&Value>,
 ) -> Result<u32, ReadFault>
-    ensures { Gives (λ n. (n, names.new)) result
+    ensures gives { Gives (λ n. (n, names.new)) result
         (walk.name_at names.old path.now (option_map (λ v. view v.now) metadata.entry)) }
+    ensures names { AreKept names.old names.new }
 {
     let text = name_text(path, field_in(metadata, "name"))?;
     name_number(names, path, "/metadata/name", text)
@@ -43,8 +45,9 @@ fn name_text<'v>(path: &Path, value: Option<&'v Value>) -> Result<&'v str, ReadF
 /// The number of `metadata.namespace`.
 #[tactic(auto, unfolding(crate::specs::Walk::space_at))]
 fn space(names: &mut Names, path: &Path, metadata: Option<&Value>) -> Result<u32, ReadFault>
-    ensures { Gives (λ n. (n, names.new)) result
+    ensures gives { Gives (λ n. (n, names.new)) result
         (walk.space_at names.old path.now (option_map (λ v. view v.now) metadata.entry)) }
+    ensures names { AreKept names.old names.new }
 {
     let text = space_text(path, field_in(metadata, "namespace"))?;
     name_number(names, path, "/metadata/namespace", text)
@@ -71,8 +74,9 @@ pub(crate) fn spaced_key(
     kind: Kind,
     metadata: Option<&Value>,
 ) -> Result<Key, ReadFault>
-    ensures { Gives (λ key. (key, names.new)) result
+    ensures gives { Gives (λ key. (key, names.new)) result
         (walk.spaced_key_at names.old path.now kind (option_map (λ v. view v.now) metadata.entry)) }
+    ensures names { AreKept names.old names.new }
 {
     let space = space(names, path, metadata)?;
     let name = name(names, path, metadata)?;
@@ -87,8 +91,9 @@ pub(crate) fn text_number(
     key: &str,
     value: Option<&Value>,
 ) -> Result<u32, ReadFault>
-    ensures { Gives (λ n. (n, names.new)) result
+    ensures gives { Gives (λ n. (n, names.new)) result
         (walk.text_number_at names.old path.now key.now (option_map (λ v. view v.now) value.entry)) }
+    ensures names { AreKept names.old names.new }
 {
     let text = text(WRONG_JSON, path, key, value)?;
     number(names, text)

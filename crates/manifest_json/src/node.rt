@@ -5,6 +5,7 @@ ghost use Rattle.std.specs.Option.{option_map};
 ghost use Rattle.serde_json.specs.Find.{as_str};
 ghost use Rattle.serde_json.specs.View.{view, items_view};
 ghost use Rattle.manifest_json.specs.Faults.{Gives};
+ghost use Rattle.manifest_json.specs.Fields.{AreKept};
 ghost use Rattle.manifest_json.specs.Walk as walk;
 
 use crate::codes::{
@@ -28,7 +29,8 @@ pub(crate) fn node(
     path: &Path,
     value: &Value,
 ) -> Result<(Key, Object), ReadFault>
-    ensures { Gives (λ found. (found, names.new)) result (walk.node_at names.old path.now (view value.now)) }
+    ensures gives { Gives (λ found. (found, names.new)) result (walk.node_at names.old path.now (view value.now)) }
+    ensures names { AreKept names.old names.new }
 {
     let metadata = parent(path, "/metadata", field(value, "metadata"))?;
     let name = name(names, path, metadata)?;
@@ -56,8 +58,9 @@ pub(crate) fn node(
 /// Region and zone.
 #[tactic(auto, unfolding(crate::specs::Walk::labels_at))]
 fn labels(names: &mut Names, path: &Path, metadata: Option<&Value>) -> Result<(u32, u32), ReadFault>
-    ensures { Gives (λ places. (places.0, places.1, names.new)) result
+    ensures gives { Gives (λ places. (places.0, places.1, names.new)) result
         (walk.labels_at names.old path.now (option_map (λ v. view v.now) metadata.entry)) }
+    ensures names { AreKept names.old names.new }
 {
     let labels = parent(path, "/metadata/labels", field_in(metadata, "labels"))?;
     let region = label(
@@ -85,8 +88,9 @@ fn label(
     key: &str,
     labels: Option<&Value>,
 ) -> Result<u32, ReadFault>
-    ensures { Gives (λ n. (n, names.new)) result
+    ensures gives { Gives (λ n. (n, names.new)) result
         (walk.label_at names.old path.now place.now key.now (option_map (λ v. view v.now) labels.entry)) }
+    ensures names { AreKept names.old names.new }
 {
     let text = text(WRONG_JSON, path, place, field_in(labels, key))?;
     if is_label(text) {
@@ -104,8 +108,9 @@ fn taints(
     path: &Path,
     spec: Option<&Value>,
 ) -> Result<Taints, ReadFault>
-    ensures { Gives (λ taints. (taints, names.new)) result
+    ensures gives { Gives (λ taints. (taints, names.new)) result
         (walk.taints_at names.old path.now (option_map (λ v. view v.now) spec.entry)) }
+    ensures names { AreKept names.old names.new }
 {
     let all = items(path, "/spec/taints", field_in(spec, "taints"))?;
     let few = hundred(path, "/spec/taints", all)?;
@@ -118,8 +123,9 @@ fn taints_of(
     path: &Path,
     list: &[Value],
 ) -> Result<Taints, ReadFault>
-    ensures { Gives (λ taints. (taints, names.new)) result
+    ensures gives { Gives (λ taints. (taints, names.new)) result
         (walk.taints_from names.old path.now 0 [] (items_view list.now)) }
+    ensures names { AreKept names.old names.new }
 {
     let mut taints = Taints::new(alloc);
     for (place, item) in list.iter().enumerate() {
@@ -138,8 +144,9 @@ fn taint_in(
     earlier: &Taints,
     value: &Value,
 ) -> Result<Taint, ReadFault>
-    ensures { Gives (λ taint. (taint, names.new)) result
+    ensures gives { Gives (λ taint. (taint, names.new)) result
         (walk.taint_at names.old (walk.member_path path.now (codes "/spec/taints/") place) earlier.now (view value.now)) }
+    ensures names { AreKept names.old names.new }
 {
     let path = path.member("/spec/taints/", place)?;
     taint(names, &path, earlier.as_slice(), value)
@@ -152,8 +159,9 @@ fn taint(
     earlier: &[Taint],
     value: &Value,
 ) -> Result<Taint, ReadFault>
-    ensures { Gives (λ taint. (taint, names.new)) result
+    ensures gives { Gives (λ taint. (taint, names.new)) result
         (walk.taint_at names.old path.now earlier.now (view value.now)) }
+    ensures names { AreKept names.old names.new }
 {
     let value = object(path, value)?;
     let key = taint_key(names, path, value)?;
@@ -185,7 +193,8 @@ fn in_seconds(at: Option<Wall>) -> Option<Wall>
 /// The number of a taint's key, which isn't empty.
 #[tactic(auto, unfolding(crate::specs::Walk::taint_key_at))]
 fn taint_key(names: &mut Names, path: &Path, value: &Value) -> Result<u32, ReadFault>
-    ensures { Gives (λ n. (n, names.new)) result (walk.taint_key_at names.old path.now (view value.now)) }
+    ensures gives { Gives (λ n. (n, names.new)) result (walk.taint_key_at names.old path.now (view value.now)) }
+    ensures names { AreKept names.old names.new }
 {
     let text = taint_text(path, field(value, "key"))?;
     if text.is_empty() {
@@ -265,16 +274,18 @@ fn conditions(
     path: &Path,
     status: Option<&Value>,
 ) -> Result<Option<Ready>, ReadFault>
-    ensures { Gives (λ ready. (ready, names.new)) result
+    ensures gives { Gives (λ ready. (ready, names.new)) result
         (walk.conditions_at names.old path.now (option_map (λ v. view v.now) status.entry)) }
+    ensures names { AreKept names.old names.new }
 {
     let list = items(path, "/status/conditions", field_in(status, "conditions"))?;
     conditions_of(names, path, list)
 }
 
 fn conditions_of(names: &mut Names, path: &Path, list: &[Value]) -> Result<Option<Ready>, ReadFault>
-    ensures { Gives (λ ready. (ready, names.new)) result
+    ensures gives { Gives (λ ready. (ready, names.new)) result
         (walk.conditions_from names.old path.now 0 None (items_view list.now)) }
+    ensures names { AreKept names.old names.new }
 {
     let mut ready = None;
     for (place, item) in list.iter().enumerate() {
@@ -293,8 +304,9 @@ fn condition_in(
     found: Option<Ready>,
     value: &Value,
 ) -> Result<Option<Ready>, ReadFault>
-    ensures { Gives (λ ready. (ready, names.new)) result
+    ensures gives { Gives (λ ready. (ready, names.new)) result
         (walk.condition_at names.old (walk.member_path path.now (codes "/status/conditions/") place) found (view value.now)) }
+    ensures names { AreKept names.old names.new }
 {
     let path = path.member("/status/conditions/", place)?;
     condition(names, &path, found, value)
@@ -307,8 +319,9 @@ fn condition(
     found: Option<Ready>,
     value: &Value,
 ) -> Result<Option<Ready>, ReadFault>
-    ensures { Gives (λ ready. (ready, names.new)) result
+    ensures gives { Gives (λ ready. (ready, names.new)) result
         (walk.condition_at names.old path.now found (view value.now)) }
+    ensures names { AreKept names.old names.new }
 {
     let value = object(path, value)?;
     match found {
@@ -330,7 +343,8 @@ fn is_ready_type(value: &Value) -> bool
 
 #[tactic(auto, unfolding(crate::specs::Walk::ready_at))]
 fn ready(names: &mut Names, path: &Path, value: &Value) -> Result<Ready, ReadFault>
-    ensures { Gives (λ ready. (ready, names.new)) result (walk.ready_at names.old path.now (view value.now)) }
+    ensures gives { Gives (λ ready. (ready, names.new)) result (walk.ready_at names.old path.now (view value.now)) }
+    ensures names { AreKept names.old names.new }
 {
     let status = status(path, field(value, "status"))?;
     let reason = text_number(names, path, "/reason", field(value, "reason"))?;

@@ -6,6 +6,7 @@ ghost use Rattle.serde_json.specs.View.{view};
 ghost use Rattle.manifest_json.specs.declared.codes.TheConstants.{BAD_KIND};
 ghost use Rattle.manifest_json.specs.Faults.{Gives};
 ghost use Rattle.manifest_json.specs.Fields as fields;
+ghost use Rattle.manifest_json.specs.Fields.{AreKept};
 ghost use Rattle.manifest_json.specs.Walk as walk;
 
 use crate::codes::BAD_KIND;
@@ -32,8 +33,9 @@ pub fn read_object(
     path: &Path,
 ) -> Result<(Key, Object), ReadFault>
     requires { length known.now < 2 ^ 32 }
-    ensures { Gives (λ found. (found, names.new)) result
+    ensures gives { Gives (λ found. (found, names.new)) result
         (walk.object_walk names.old known.now path.now (view value.now)) }
+    ensures names { AreKept names.old names.new }
 {
     let value = object(path, value)?;
     let Some(kind) = kind(path, value)? else {
@@ -52,8 +54,9 @@ pub(crate) fn item(
     value: &Value,
 ) -> Result<Option<(Key, Object)>, ReadFault>
     requires { length known.now < 2 ^ 32 }
-    ensures { Gives (λ found. (found, names.new)) result
+    ensures gives { Gives (λ found. (found, names.new)) result
         (walk.item_at names.old known.now path.now (view value.now)) }
+    ensures names { AreKept names.old names.new }
 {
     let value = object(path, value)?;
     let Some(kind) = kind(path, value)? else {
@@ -108,8 +111,9 @@ fn of_kind(
     kind: Kind,
 ) -> Result<(Key, Object), ReadFault>
     requires { length known.now < 2 ^ 32 }
-    ensures { Gives (λ found. (found, names.new)) result
+    ensures gives { Gives (λ found. (found, names.new)) result
         (walk.of_kind_at names.old known.now path.now (view value.now) kind) }
+    ensures names { AreKept names.old names.new }
 {
     match kind {
         Kind::Node => node(alloc, names, path, value),

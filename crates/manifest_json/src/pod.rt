@@ -3,6 +3,7 @@ ghost use Rattle.std.specs.Prelude.{◌≡◌, ◌++◌, codes, []};
 ghost use Rattle.std.specs.Option.{option_map};
 ghost use Rattle.serde_json.specs.View.{view, items_view};
 ghost use Rattle.manifest_json.specs.Faults.{Gives};
+ghost use Rattle.manifest_json.specs.Fields.{AreKept};
 ghost use Rattle.manifest_json.specs.Walk as walk;
 
 use crate::codes::{BAD_EFFECT, BAD_OPERATOR, BAD_TOLERATION, WRONG_JSON};
@@ -26,7 +27,8 @@ pub(crate) fn pod(
     path: &Path,
     value: &Value,
 ) -> Result<(Key, Object), ReadFault>
-    ensures { Gives (λ found. (found, names.new)) result (walk.pod_at names.old path.now (view value.now)) }
+    ensures gives { Gives (λ found. (found, names.new)) result (walk.pod_at names.old path.now (view value.now)) }
+    ensures names { AreKept names.old names.new }
 {
     let metadata = parent(path, "/metadata", field(value, "metadata"))?;
     let key = spaced_key(names, path, Kind::Pod, metadata)?;
@@ -39,8 +41,9 @@ pub(crate) fn pod(
 /// The number of `spec.nodeName`.
 #[tactic(auto, unfolding(crate::specs::Walk::node_name_at))]
 fn node_name(names: &mut Names, path: &Path, spec: Option<&Value>) -> Result<u32, ReadFault>
-    ensures { Gives (λ n. (n, names.new)) result
+    ensures gives { Gives (λ n. (n, names.new)) result
         (walk.node_name_at names.old path.now (option_map (λ v. view v.now) spec.entry)) }
+    ensures names { AreKept names.old names.new }
 {
     let text = text(
         WRONG_JSON,
@@ -63,8 +66,9 @@ fn tolerations(
     path: &Path,
     spec: Option<&Value>,
 ) -> Result<Tolerations, ReadFault>
-    ensures { Gives (λ tolerations. (tolerations, names.new)) result
+    ensures gives { Gives (λ tolerations. (tolerations, names.new)) result
         (walk.tolerations_at names.old path.now (option_map (λ v. view v.now) spec.entry)) }
+    ensures names { AreKept names.old names.new }
 {
     let all = items(path, "/spec/tolerations", field_in(spec, "tolerations"))?;
     let few = hundred(path, "/spec/tolerations", all)?;
@@ -77,8 +81,9 @@ fn tolerations_of(
     path: &Path,
     list: &[Value],
 ) -> Result<Tolerations, ReadFault>
-    ensures { Gives (λ tolerations. (tolerations, names.new)) result
+    ensures gives { Gives (λ tolerations. (tolerations, names.new)) result
         (walk.tolerations_from names.old path.now 0 [] (items_view list.now)) }
+    ensures names { AreKept names.old names.new }
 {
     let mut tolerations = Tolerations::new(alloc);
     for (place, item) in list.iter().enumerate() {
@@ -96,8 +101,9 @@ fn toleration_in(
     place: usize,
     value: &Value,
 ) -> Result<Toleration, ReadFault>
-    ensures { Gives (λ toleration. (toleration, names.new)) result
+    ensures gives { Gives (λ toleration. (toleration, names.new)) result
         (walk.toleration_at names.old (walk.member_path path.now (codes "/spec/tolerations/") place) (view value.now)) }
+    ensures names { AreKept names.old names.new }
 {
     let path = path.member("/spec/tolerations/", place)?;
     toleration(names, &path, value)
@@ -105,8 +111,9 @@ fn toleration_in(
 
 #[tactic(auto, unfolding(crate::specs::Walk::toleration_at))]
 fn toleration(names: &mut Names, path: &Path, value: &Value) -> Result<Toleration, ReadFault>
-    ensures { Gives (λ toleration. (toleration, names.new)) result
+    ensures gives { Gives (λ toleration. (toleration, names.new)) result
         (walk.toleration_at names.old path.now (view value.now)) }
+    ensures names { AreKept names.old names.new }
 {
     let value = object(path, value)?;
     let key = text_number(names, path, "/key", field(value, "key"))?;

@@ -1,5 +1,6 @@
 use Rattle.std.proofs.Common.{◌≡◌, ◌≤◌, [], drop}
 use Rattle.serde_json.specs.View.{items_view}
+use Rattle.manifest_json.specs.Fields.{AreKept}
 use Rattle.manifest_json.specs.Kept.{Stands}
 use Rattle.manifest_json.specs.Walk.{list_from}
 use Rattle.manifest_json.proofs.list.objects_of.Given as goal
@@ -10,4 +11,5 @@ invariant-loop-place l = record {
   rest : list_from l.initial.names l.known l.path 0 [] 0 (items_view l.list) ≡ list_from l.names l.known l.path l.place l.kept.items l.skipped (items_view (drop l.place l.list));
   stands : Stands l.kept;
   few : l.skipped ≤ l.place;
+  kept : AreKept l.initial.names l.names;
 }

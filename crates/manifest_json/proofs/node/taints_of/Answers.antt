@@ -1,11 +1,14 @@
 use Rattle.manifest_json.proofs.Loops.{taints-fail, taints-step, taints-end}
 use Rattle.manifest_json.proofs.node.taints_of.Goals as goal
 
-pub returns-in-Err : goal.returns-in-Err
-returns-in-Err c = taints-fail c.loop-place.names c.args.path.now c.loop-place.place c.args.list.now c.loop-place.taints _ c.loop-place.invariant c.index-list-place.result c.in-Err.fault c.loop-place-test.true c.index-list-place.is c.in-Err.ensures
+pub returns-in-Err-clause-gives : goal.returns-in-Err-clause-gives
+returns-in-Err-clause-gives c = taints-fail c.loop-place.names c.args.path.now c.loop-place.place c.args.list.now c.loop-place.taints _ c.loop-place.invariant.rest c.index-list-place.result c.in-Err.fault c.loop-place-test.true c.index-list-place.is c.in-Err.ensures.gives
 
 pub loop-place-preserved : goal.loop-place-preserved
-loop-place-preserved c = taints-step c.loop-place.names c.args.path.now c.loop-place.place c.args.list.now c.loop-place.taints _ c.loop-place.invariant c.index-list-place.result c.taint_in.new.names c.in-Ok.taint c.push.new.self c.loop-place-test.true c.index-list-place.is c.in_ok-push-in-Ok.ensures.ok c.in-Ok.ensures
+loop-place-preserved c = record {
+  rest = taints-step c.loop-place.names c.args.path.now c.loop-place.place c.args.list.now c.loop-place.taints _ c.loop-place.invariant.rest c.index-list-place.result c.taint_in.new.names c.in-Ok.taint c.push.new.self c.loop-place-test.true c.index-list-place.is c.in_ok-push-in-Ok.ensures.ok c.in-Ok.ensures.gives;
+  kept = λ number text held. c.in-Ok.ensures.names number text (c.loop-place.invariant.kept number text held);
+}
 
-pub returns : goal.returns
-returns c = taints-end c.loop-place.names c.args.path.now c.loop-place.place c.args.list.now c.loop-place.taints _ c.loop-place.invariant c.loop-place-test.false
+pub returns-clause-gives : goal.returns-clause-gives
+returns-clause-gives c = taints-end c.loop-place.names c.args.path.now c.loop-place.place c.args.list.now c.loop-place.taints _ c.loop-place.invariant.rest c.loop-place-test.false
