@@ -5,7 +5,7 @@ use Rattle.kube_objects.specs.declared.deed.Actor.TheVariants as actor
 use Rattle.kube_objects.specs.Clocks.{local}
 use Rattle.kube_objects.specs.Document.{Doc, is_controller, processes}
 use Rattle.kube_objects.specs.Elector.{deadline}
-use Rattle.kube_objects.specs.Entry.{Entry, Identity, Call, Fact, First, Event, Starts, Crashes, Stops, Ends, Sends, Answers, Delivers, Expires, Leads, Ticks, entry, actor_of}
+use Rattle.kube_objects.specs.Entry.{Entry, Identity, Call, Fact, First, Event, Starts, Crashes, Stops, Stalls, Ends, Sends, Answers, Delivers, Expires, Leads, Ticks, entry, actor_of}
 use Rattle.kube_objects.specs.Identities.{identity, is_by, of_process}
 use Rattle.kube_objects.specs.Newest.{has, join, when}
 use Rattle.kube_objects.specs.Process.{life_says, life, alive, born, gone, starts, call_in, is_late, ended, is_restart_due}
@@ -115,6 +115,7 @@ says-not p i who (First key object) other is = cc
 says-not p i who (Event what version) other is = cc
 says-not p i who Starts other is = born-is p i who other is
 says-not p i who Crashes other is = gone-is p i (of_process p who) is
+says-not p i who (Stalls beats) other is = cc
 says-not p i who Stops other is = gone-is p i (of_process p who) is
 says-not p i who Ends other is = gone-is p i (of_process p who) is
 says-not p i who (Sends call arrives) other is = cc
@@ -154,7 +155,7 @@ around-restart doc k i arriving coming h w within s = by_life (alive i h)
     by_due false = s
 
     by_life : (up : Option ℕ) → Around doc k i arriving coming (restart_if doc k i up h) w
-    by_life None = by_due (is_restart_due doc i k (ended i h))
+    by_life None = by_due (is_restart_due doc i k (ended doc i h))
     by_life (Some j) = s
 
 around-expire : (doc : Doc) (k i : ℕ) (arriving : List Sent) (coming : List Back) (h : List Entry) (w : State) → i < processes doc → Around doc k i arriving coming h w → Around doc k i arriving coming (expire doc k i h) w

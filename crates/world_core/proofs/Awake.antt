@@ -7,7 +7,7 @@ use Rattle.kube_base.specs.declared.numbers.Beat.{Beat}
 use Rattle.kube_base.specs.declared.numbers.Local.{Local}
 use Rattle.kube_objects.specs.Clocks.{local, wall}
 use Rattle.kube_objects.specs.Document.{Doc, end_beat, is_controller, is_up_first}
-use Rattle.kube_objects.specs.Elector.{acts, deadline, is_before}
+use Rattle.kube_objects.specs.Elector.{in_term, deadline, is_before}
 use Rattle.kube_objects.specs.Entry.{Entry}
 use Rattle.kube_objects.specs.Identities.{identity}
 use Rattle.kube_objects.specs.Newest.{has, only_if}
@@ -25,14 +25,14 @@ use Rattle.world_process.specs.Beats.{IsBeatOf, beat_in, own_reading, own_readin
 use Rattle.world_process.specs.Clocked.{ClockStands}
 use Rattle.world_process.specs.declared.process.Process.{Process}
 use Rattle.world_process.specs.declared.process.Process.TheVariants.{Controller, Kubelet}
-use Rattle.world_process.specs.Processes.{ProcessStands, acts_now, acts_if_up, clock_of, is_up_first_as}
+use Rattle.world_process.specs.Processes.{ProcessStands, in_term_now, in_term_if_up, clock_of, is_up_first_as}
 use Rattle.world_process.specs.Processes as processes
 use Rattle.world_process.proofs.Names.{eq-self, eq-isnt, le-from}
 use Rattle.world_process.proofs.Processes.{process-up_first}
 use Rattle.world_process.proofs.Readings.{reading-local}
 use Rattle.world_core.specs.declared.wakes.Wakes.{Wakes}
 use Rattle.world_core.specs.Waits.{IsTurnBeat, WakesStand, acting_reading, acting_time, beat_of, local_of, reading_at, reading_of, starts_now, time_at}
-use Rattle.world_core.proofs.Ticking.{ActsAs}
+use Rattle.world_core.proofs.Ticking.{InTermAs}
 
 -- ---- beats and readings as numbers
 
@@ -123,10 +123,10 @@ module _ (doc : Doc) (k j p : ℕ) (h : List Entry) (later : local doc p k ≤ l
 
   -- it acts exactly where it leads, or its deadline is reached at beat j
   data Reaches (i : ℕ) : Type 0 where
-    Alike : acts doc (identity p i) k h ≡ has (deadline doc (identity p i) h) → Reaches i
+    Alike : in_term doc (identity p i) k h ≡ has (deadline doc (identity p i) h) → Reaches i
     Reached : is_early (local doc p j) (deadline doc (identity p i) h) ≡ false → Reaches i
 
-  acts-before : (i : ℕ) → alive p h ≡ Some i → acts doc (identity p i) k h ≡ is_before (local doc p k) (deadline doc (identity p i) h)
+  acts-before : (i : ℕ) → alive p h ≡ Some i → in_term doc (identity p i) k h ≡ is_before (local doc p k) (deadline doc (identity p i) h)
   acts-before i up =
       ap (λ o. is_present o i && is_before (local doc p k) (deadline doc (identity p i) h)) up
       ∙ ap (λ b. b && is_before (local doc p k) (deadline doc (identity p i) h)) (eq-self i)
@@ -152,20 +152,20 @@ module _ (doc : Doc) (k j p : ℕ) (h : List Entry) (later : local doc p k ≤ l
       let early : is_early (local doc p j) (deadline doc (identity p i) h) ≡ true = sym (ap (λ o. is_early (local doc p j) (if_up p (λ q. deadline doc q h) o)) up) ∙ before_deadline doc j p h own in
       cc
 
-  up-same : (i : ℕ) → alive p h ≡ Some i → IsAsleep doc j p (with_term i (acts doc (identity p i) k h)) ↔ IsAsleep doc j p (with_term i (has (deadline doc (identity p i) h)))
+  up-same : (i : ℕ) → alive p h ≡ Some i → IsAsleep doc j p (with_term i (in_term doc (identity p i) k h)) ↔ IsAsleep doc j p (with_term i (has (deadline doc (identity p i) h)))
   up-same i up = by_case (reaches i up)
     where
-      by_case : Reaches i → IsAsleep doc j p (with_term i (acts doc (identity p i) k h)) ↔ IsAsleep doc j p (with_term i (has (deadline doc (identity p i) h)))
+      by_case : Reaches i → IsAsleep doc j p (with_term i (in_term doc (identity p i) k h)) ↔ IsAsleep doc j p (with_term i (has (deadline doc (identity p i) h)))
       by_case (Alike same) = (λ s. subst (λ b. IsAsleep doc j p (with_term i b)) same s, λ s. subst (λ b. IsAsleep doc j p (with_term i b)) (sym same) s)
-      by_case (Reached reached) = (λ s. absurd (ended i up reached (acts doc (identity p i) k h) s), λ s. absurd (ended i up reached (has (deadline doc (identity p i) h)) s))
+      by_case (Reached reached) = (λ s. absurd (ended i up reached (in_term doc (identity p i) k h) s), λ s. absurd (ended i up reached (has (deadline doc (identity p i) h)) s))
 
   -- what is waited for at the next beat, by the sort of the process and the incarnation in which it is up
   abbrev acting_up : Option ℕ → waking.Wakes
   acting_up o =
       record {
         at_once = acts_at_once doc k p o h;
-        local = sooner (elector_reading doc p h) (if_up p (λ q. only_if (acts doc q k h) (term_reading doc q h)) o);
-        wall = if_up p (λ q. only_if (acts doc q k h) (term_time q h)) o;
+        local = sooner (elector_reading doc p h) (if_up p (λ q. only_if (in_term doc q k h) (term_reading doc q h)) o);
+        wall = if_up p (λ q. only_if (in_term doc q k h) (term_time q h)) o;
       }
 
   abbrev leading_up : Option ℕ → waking.Wakes
@@ -228,37 +228,37 @@ pub record NoTerm (doc : Doc) (k p : ℕ) (h : List Entry) : Type 0 where
   pub reading : acting_reading doc k p (is_controller doc p) h ≡ None
   pub time : time_at doc k p h ≡ None
 
-pub no-term : (doc : Doc) (k p : ℕ) (h : List Entry) → acts_now doc k p h ≡ false → NoTerm doc k p h
+pub no-term : (doc : Doc) (k p : ℕ) (h : List Entry) → in_term_now doc k p h ≡ false → NoTerm doc k p h
 no-term doc k p h none = record { at_once = at-once (is_controller doc p) none; reading = no-reading (is_controller doc p) none; time = no-time (is_controller doc p) none }
   where
-    at-once : (b : Bool) → processes.acts_as doc k p b h ≡ false → waking.acts_as doc k p b h ≡ false
+    at-once : (b : Bool) → processes.in_term_as doc k p b h ≡ false → waking.acts_as doc k p b h ≡ false
     at-once false is = refl
     at-once true is = by_life (alive p h) is
       where
-        by_life : (o : Option ℕ) → acts_if_up doc k p o h ≡ false → acts_at_once doc k p o h ≡ false
+        by_life : (o : Option ℕ) → in_term_if_up doc k p o h ≡ false → acts_at_once doc k p o h ≡ false
         by_life None is = refl
         by_life (Some i) is = ap (λ b. b && is_due_at_once doc (identity p i) h) is
 
-    no-reading : (b : Bool) → processes.acts_as doc k p b h ≡ false → acting_reading doc k p b h ≡ None
+    no-reading : (b : Bool) → processes.in_term_as doc k p b h ≡ false → acting_reading doc k p b h ≡ None
     no-reading false is = refl
     no-reading true is = by_life (alive p h) is
       where
-        by_life : (o : Option ℕ) → acts_if_up doc k p o h ≡ false → if_up p (λ q. only_if (acts doc q k h) (term_reading doc q h)) o ≡ None
+        by_life : (o : Option ℕ) → in_term_if_up doc k p o h ≡ false → if_up p (λ q. only_if (in_term doc q k h) (term_reading doc q h)) o ≡ None
         by_life None is = refl
         by_life (Some i) is = ap (λ b. only_if b (term_reading doc (identity p i) h)) is
 
-    no-time : (b : Bool) → processes.acts_as doc k p b h ≡ false → acting_time doc k p b h ≡ None
+    no-time : (b : Bool) → processes.in_term_as doc k p b h ≡ false → acting_time doc k p b h ≡ None
     no-time false is = refl
     no-time true is = by_life (alive p h) is
       where
-        by_life : (o : Option ℕ) → acts_if_up doc k p o h ≡ false → if_up p (λ q. only_if (acts doc q k h) (term_time q h)) o ≡ None
+        by_life : (o : Option ℕ) → in_term_if_up doc k p o h ≡ false → if_up p (λ q. only_if (in_term doc q k h) (term_time q h)) o ≡ None
         by_life None is = refl
         by_life (Some i) is = ap (λ b. only_if b (term_time (identity p i) h)) is
 
 own-alone : (doc : Doc) (k p : ℕ) (h : List Entry) (now : ℕ) → NoTerm doc k p h → is_early now (reading_at doc k p h) ≡ is_early now (own_reading doc p h)
 own-alone doc k p h now none = ap (λ o. is_early now (sooner (own_reading doc p h) o)) none.reading ∙ early-alone now (own_reading doc p h)
 
-pub idle-stands : (doc : Doc) (k p : ℕ) (h : List Entry) (c : Clocking) (wake : Option Local) → ClockStands doc p c → starts_now doc k p ≡ false → acts_now doc k p h ≡ false → beats.reading_of wake ≡ own_reading doc p h
+pub idle-stands : (doc : Doc) (k p : ℕ) (h : List Entry) (c : Clocking) (wake : Option Local) → ClockStands doc p c → starts_now doc k p ≡ false → in_term_now doc k p h ≡ false → beats.reading_of wake ≡ own_reading doc p h
     → WakesStand doc k p h (record { at_once = false; local = wake; wall = None })
 idle-stands doc k p h c wake clock starts none own =
     let nothing = no-term doc k p h none in
@@ -273,12 +273,12 @@ pub record ItsTerm (doc : Doc) (k p i : ℕ) (h : List Entry) : Type 0 where
   pub reading : acting_reading doc k p (is_controller doc p) h ≡ term_reading doc (identity p i) h
   pub time : time_at doc k p h ≡ term_time (identity p i) h
 
-pub its-term : (doc : Doc) (k p i : ℕ) (h : List Entry) → alive p h ≡ Some i → ActsAs doc k p i h → ItsTerm doc k p i h
+pub its-term : (doc : Doc) (k p i : ℕ) (h : List Entry) → alive p h ≡ Some i → InTermAs doc k p i h → ItsTerm doc k p i h
 its-term doc k p i h up s =
     record {
-      at_once = ap (λ b. waking.acts_as doc k p b h) s.sort ∙ ap (λ o. acts_at_once doc k p o h) up ∙ ap (λ b. b && is_due_at_once doc (identity p i) h) s.acting;
-      reading = ap (λ b. acting_reading doc k p b h) s.sort ∙ ap (if_up p (λ q. only_if (acts doc q k h) (term_reading doc q h))) up ∙ ap (λ b. only_if b (term_reading doc (identity p i) h)) s.acting;
-      time = ap (λ b. acting_time doc k p b h) s.sort ∙ ap (if_up p (λ q. only_if (acts doc q k h) (term_time q h))) up ∙ ap (λ b. only_if b (term_time (identity p i) h)) s.acting;
+      at_once = ap (λ b. waking.acts_as doc k p b h) s.sort ∙ ap (λ o. acts_at_once doc k p o h) up ∙ ap (λ b. b && is_due_at_once doc (identity p i) h) s.term;
+      reading = ap (λ b. acting_reading doc k p b h) s.sort ∙ ap (if_up p (λ q. only_if (in_term doc q k h) (term_reading doc q h))) up ∙ ap (λ b. only_if b (term_reading doc (identity p i) h)) s.term;
+      time = ap (λ b. acting_time doc k p b h) s.sort ∙ ap (if_up p (λ q. only_if (in_term doc q k h) (term_time q h))) up ∙ ap (λ b. only_if b (term_time (identity p i) h)) s.term;
     }
 
 -- of two readings, one is that of the process's own turn, and the other that of its term

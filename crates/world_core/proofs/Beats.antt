@@ -1,10 +1,12 @@
 -- Layer 4, the steps of a beat: a whole beat.
-use Rattle.std.proofs.Common.{◌≡◌, ℕ, zero, suc, ◌+◌, ◌≤◌, ◌==◌, ◌++◌, Bool, true, false, cond, List, [], ◌∷◌, refl, sym, ap, ◌∙◌, subst, add-one, arith}
+use Rattle.std.proofs.Common.{◌≡◌, ℕ, zero, suc, ◌+◌, ◌≤◌, ◌<◌, ◌==◌, ◌++◌, Bool, true, false, cond, List, [], ◌∷◌, refl, sym, ap, ◌∙◌, subst, add-one, arith}
 use Rattle.std.proofs.lemmas.Bool.Decides.{nat_tests}
 use Rattle.kube_objects.specs.Answers.{answer}
 use Rattle.kube_objects.specs.Document.{Doc, processes, is_up_first}
 use Rattle.kube_objects.specs.Entry.{Entry}
 use Rattle.kube_objects.specs.InFlight.{requests_due, replies_due, is_due}
+use Rattle.kube_objects.specs.Pauses.{held_up, resume}
+use Rattle.kube_objects.proofs.Pauses.{resume_later}
 use Rattle.kube_objects.specs.Wire.{Sent, reply_delay, loses_replies, arrival, reply_arrival}
 use Rattle.history.specs.Due.{answer_all, deliver_all}
 use Rattle.history.specs.History.{beat, three_steps}
@@ -54,16 +56,26 @@ pub not_due : (lost : Bool) (k delay : ℕ) → 1 ≤ delay → is_due k (arriva
 not_due true k delay later = refl
 not_due false k delay later = never-now k delay later
 
-replies-answered : (k : ℕ) (s : Sent) (h : List Entry) → 1 ≤ reply_delay s.who.process h → replies_due k (answered k s h) ≡ replies_due k h
-replies-answered k s h later = ap (λ b. cond b (replies_due k h ++ record { who = s.who; call = s.call; reply = answer s.call.request h; comes = reply_arrival s.who.process k h } ∷ []) (replies_due k h)) (not_due (loses_replies s.who.process h) k (reply_delay s.who.process h) later)
+never-later : (k n : ℕ) → k < n → (n == k) ≡ false
+never-later k n later = grind (arith, nat_tests)
 
-pub replies-answers : (k : ℕ) (ss : List Sent) (h : List Entry) → ((p : ℕ) → 1 ≤ reply_delay p h) → replies_due k (answer_all k ss h) ≡ replies_due k h
-replies-answers k [] h later = refl
-replies-answers k (s ∷ ss) h later = replies-answers k ss (answered k s h) later ∙ replies-answered k s h (later s.who.process)
+-- nor where it waits for who is paused
+held_later : (doc : Doc) (p k : ℕ) (lost : Bool) (delay : ℕ) → 1 ≤ delay → is_due k (held_up doc p (arrival lost k delay)) ≡ false
+held_later doc p k true delay later = refl
+held_later doc p k false delay later =
+    let from = resume_later doc p (k + delay) in
+    never-later k (resume doc p (k + delay)) (omega (arith, later, from))
 
-grows-answer_all : (k : ℕ) (ss : List Sent) (h : List Entry) → Grows h (answer_all k ss h)
-grows-answer_all k [] h = grows-same h
-grows-answer_all k (s ∷ ss) h = grows-on h (answered k s h) (answer_all k ss (answered k s h)) (grows-entry _ h) (grows-answer_all k ss (answered k s h))
+replies-answered : (doc : Doc) (k : ℕ) (s : Sent) (h : List Entry) → 1 ≤ reply_delay s.who.process h → replies_due k (answered doc k s h) ≡ replies_due k h
+replies-answered doc k s h later = ap (λ b. cond b (replies_due k h ++ record { who = s.who; call = s.call; reply = answer s.call.request h; comes = reply_arrival doc s.who.process k h } ∷ []) (replies_due k h)) (held_later doc s.who.process k (loses_replies s.who.process h) (reply_delay s.who.process h) later)
+
+pub replies-answers : (doc : Doc) (k : ℕ) (ss : List Sent) (h : List Entry) → ((p : ℕ) → 1 ≤ reply_delay p h) → replies_due k (answer_all doc k ss h) ≡ replies_due k h
+replies-answers doc k [] h later = refl
+replies-answers doc k (s ∷ ss) h later = replies-answers doc k ss (answered doc k s h) later ∙ replies-answered doc k s h (later s.who.process)
+
+grows-answer_all : (doc : Doc) (k : ℕ) (ss : List Sent) (h : List Entry) → Grows h (answer_all doc k ss h)
+grows-answer_all doc k [] h = grows-same h
+grows-answer_all doc k (s ∷ ss) h = grows-on h (answered doc k s h) (answer_all doc k ss (answered doc k s h)) (grows-entry _ h) (grows-answer_all doc k ss (answered doc k s h))
 
 -- ---- the beat
 
@@ -71,25 +83,25 @@ abbrev pub one : Doc → ℕ → List Entry → List Entry
 one doc k h = step_one doc k h
 
 abbrev pub two : Doc → ℕ → List Entry → List Entry
-two doc k h = answer_all k (requests_due k (one doc k h)) (one doc k h)
+two doc k h = answer_all doc k (requests_due k (one doc k h)) (one doc k h)
 
 abbrev pub three : Doc → ℕ → List Entry → List Entry
 three doc k h = deliver_all doc k (replies_due k (two doc k h)) (two doc k h)
 
 pub beat-is : (doc : Doc) (k : ℕ) (h : List Entry) → beat doc h k ≡ turns doc k (processes doc) (three doc k h)
 beat-is doc k h =
-    ap (λ g. turns doc k (processes doc) (step_three doc k g)) (step_two-due k (one doc k h))
+    ap (λ g. turns doc k (processes doc) (step_three doc k g)) (step_two-due doc k (one doc k h))
     ∙ ap (turns doc k (processes doc)) (step_three-due doc k (two doc k h))
 
 pub three-is : (doc : Doc) (k : ℕ) (h : List Entry) → three_steps doc k h ≡ three doc k h
-three-is doc k h = ap (step_three doc k) (step_two-due k (one doc k h)) ∙ step_three-due doc k (two doc k h)
+three-is doc k h = ap (step_three doc k) (step_two-due doc k (one doc k h)) ∙ step_three-due doc k (two doc k h)
 
 pub few-three : (doc : Doc) (k : ℕ) (h : List Entry) → IsFew (turns doc k (processes doc) (three doc k h)) → IsFew (three doc k h)
 few-three doc k h few = few-before (three doc k h) (turns doc k (processes doc) (three doc k h)) (grows-turns doc k (processes doc) (three doc k h)) few
 
 pub few-one : (doc : Doc) (k : ℕ) (h : List Entry) → IsFew (three doc k h) → IsFew (one doc k h)
 few-one doc k h few =
-    few-before (one doc k h) (three doc k h) (grows-on (one doc k h) (two doc k h) (three doc k h) (grows-answer_all k (requests_due k (one doc k h)) (one doc k h)) (grows-deliver_all doc k (replies_due k (two doc k h)) (two doc k h))) few
+    few-before (one doc k h) (three doc k h) (grows-on (one doc k h) (two doc k h) (three doc k h) (grows-answer_all doc k (requests_due k (one doc k h)) (one doc k h)) (grows-deliver_all doc k (replies_due k (two doc k h)) (two doc k h))) few
 
 pub few-starts : (doc : Doc) (k : ℕ) (h : List Entry) → IsFew (one doc k h) → IsFew (first_starts doc k h)
 few-starts doc k h few = few-before (first_starts doc k h) (one doc k h) (grows-happen_all doc k doc.events (first_starts doc k h)) few
@@ -109,7 +121,7 @@ world-next doc k h w s placed unticked =
     record {
       within = record {
         rest = record {
-          document = record { at = ap (λ n. n + 1) d.at; restart = d.restart; count = d.count; epoch = d.epoch; micros = d.micros; events = d.events };
+          document = record { at = ap (λ n. n + 1) d.at; restart = d.restart; count = d.count; epoch = d.epoch; micros = d.micros; events = d.events; unpaused = d.unpaused };
           plain = s.rest.plain;
           store = s.rest.store;
           wire = wire-next-beat (processes doc) k h w.wire s.rest.wire;

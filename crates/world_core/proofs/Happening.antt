@@ -1,5 +1,5 @@
 -- Layer 4, the steps of a beat: the events of a beat, one after the other.
-use Rattle.std.proofs.Common.{◌≡◌, ℕ, ◌+◌, ◌<◌, ◌≤◌, cond, List, [], ◌∷◌, ◌++◌, Option, Some, None, slice_get, get_or, length, drop, refl, sym, ap, ◌∙◌, subst, arith}
+use Rattle.std.proofs.Common.{◌≡◌, ℕ, ◌+◌, ◌<◌, ◌≤◌, not, cond, List, [], ◌∷◌, ◌++◌, Option, Some, None, slice_get, get_or, length, drop, refl, sym, ap, ◌∙◌, subst, arith}
 use Rattle.std.proofs.lemmas.Option.{slice_get_read}
 use Rattle.kube_objects.specs.declared.call.Request.{Request}
 use Rattle.kube_objects.specs.declared.deed.Deed.{Deed}
@@ -11,15 +11,17 @@ use Rattle.kube_objects.specs.Elector.{release}
 use Rattle.kube_objects.specs.Entry.{Entry, Identity, Release, Stops, Event as Happened, entry, script_entry}
 use Rattle.kube_objects.specs.Identities.{identity}
 use Rattle.kube_objects.specs.InFlight.{requests_due, replies_due}
+use Rattle.kube_objects.specs.Newest.{only_if}
+use Rattle.kube_objects.specs.Pauses.{is_paused, IsNoPause}
 use Rattle.kube_objects.specs.Process.{alive}
 use Rattle.kube_objects.specs.Wire.{Sent, Back, request_delay, loses_requests, next_call, request_arrival}
-use Rattle.history.specs.Steps.{start_if_down, crash, released, stop, happens, happen_all}
+use Rattle.history.specs.Steps.{start_if_down, crash, stall, released, stop, happens, happen_all}
 use Rattle.script_reader.specs.Lawful.{IsLawfulWhat, AreLawfulFrom}
 use Rattle.world_core.specs.declared.state.State.{State}
 use Rattle.world_process.specs.Plain.{IsFew}
 use Rattle.world_core.specs.States.{DocStands, IsPlaced, Running, Scripted}
 use Rattle.world_core.proofs.Beats.{not_due}
-use Rattle.world_core.proofs.Events.{drop-at, drop-past, happens-now, happen-earlier, happen-later, lawful-later, lawful-rest, lawful-what, earlier-more}
+use Rattle.world_core.proofs.Events.{drop-at, drop-past, happens-now, happen-earlier, happen-later, lawful-later, lawful-rest, lawful-what, unpaused-at, earlier-more}
 use Rattle.world_process.proofs.Grows.{grows-happen_all, few-before}
 
 -- ---- what an event sends arrives later
@@ -31,6 +33,10 @@ requests-start j k p (Some i) h = refl
 requests-crash : (j k p : ℕ) (up : Option ℕ) (h : List Entry) → requests_due j (crash k p up h) ≡ requests_due j h
 requests-crash j k p None h = refl
 requests-crash j k p (Some i) h = refl
+
+requests-stall : (j k p beats : ℕ) (up : Option ℕ) (h : List Entry) → requests_due j (stall k p beats up h) ≡ requests_due j h
+requests-stall j k p beats None h = refl
+requests-stall j k p beats (Some i) h = refl
 
 requests-released : (k : ℕ) (q : Identity) (request : Option Request) (h : List Entry) → 1 ≤ request_delay q.process h → requests_due k (released k q request h) ≡ requests_due k h
 requests-released k q None h later = refl
@@ -47,9 +53,10 @@ requests-happens doc k (what.Delay id requests replies) h later = refl
 requests-happens doc k (what.Loss id requests replies) h later = refl
 requests-happens doc k (what.Crash id) h later = requests-crash k k id.0 (alive id.0 h) (script_entry k 1 (Happened (what.Crash id) None) ∷ h)
 requests-happens doc k (what.Start id) h later = requests-start k k id.0 (alive id.0 h) (script_entry k 1 (Happened (what.Start id) None) ∷ h)
-requests-happens doc k (what.Stop id) h later = requests-stop doc k id.0 (alive id.0 h) h (script_entry k 1 (Happened (what.Stop id) None) ∷ h) (later id.0)
+requests-happens doc k (what.Stop id) h later = requests-stop doc k id.0 (only_if (not (is_paused doc id.0 k)) (alive id.0 h)) h (script_entry k 1 (Happened (what.Stop id) None) ∷ h) (later id.0)
 requests-happens doc k (what.Watch id on) h later = refl
 requests-happens doc k (what.Ready id status) h later = refl
+requests-happens doc k (what.Pause id beats) h later = requests-stall k k id.0 beats (alive id.0 h) (script_entry k 1 (Happened (what.Pause id beats) None) ∷ h)
 requests-happens doc k (what.Put key object) h later = refl
 requests-happens doc k (what.Remove key) h later = refl
 
@@ -60,6 +67,10 @@ replies-start j k p (Some i) h = refl
 replies-crash : (j k p : ℕ) (up : Option ℕ) (h : List Entry) → replies_due j (crash k p up h) ≡ replies_due j h
 replies-crash j k p None h = refl
 replies-crash j k p (Some i) h = refl
+
+replies-stall : (j k p beats : ℕ) (up : Option ℕ) (h : List Entry) → replies_due j (stall k p beats up h) ≡ replies_due j h
+replies-stall j k p beats None h = refl
+replies-stall j k p beats (Some i) h = refl
 
 replies-released : (j k : ℕ) (q : Identity) (request : Option Request) (h : List Entry) → replies_due j (released k q request h) ≡ replies_due j h
 replies-released j k q None h = refl
@@ -75,9 +86,10 @@ replies-happens doc k (what.Delay id requests replies) h = refl
 replies-happens doc k (what.Loss id requests replies) h = refl
 replies-happens doc k (what.Crash id) h = replies-crash k k id.0 (alive id.0 h) (script_entry k 1 (Happened (what.Crash id) None) ∷ h)
 replies-happens doc k (what.Start id) h = replies-start k k id.0 (alive id.0 h) (script_entry k 1 (Happened (what.Start id) None) ∷ h)
-replies-happens doc k (what.Stop id) h = replies-stop doc k k id.0 (alive id.0 h) h (script_entry k 1 (Happened (what.Stop id) None) ∷ h)
+replies-happens doc k (what.Stop id) h = replies-stop doc k k id.0 (only_if (not (is_paused doc id.0 k)) (alive id.0 h)) h (script_entry k 1 (Happened (what.Stop id) None) ∷ h)
 replies-happens doc k (what.Watch id on) h = refl
 replies-happens doc k (what.Ready id status) h = refl
+replies-happens doc k (what.Pause id beats) h = replies-stall k k id.0 beats (alive id.0 h) (script_entry k 1 (Happened (what.Pause id beats) None) ∷ h)
 replies-happens doc k (what.Put key object) h = refl
 replies-happens doc k (what.Remove key) h = refl
 
@@ -111,7 +123,7 @@ happening-first doc k before deeds arriving coming h w r placed =
     }
 
 pub happening-more : (doc : Doc) (k : ℕ) (before deeds new : List Deed) (arriving : List Sent) (coming : List Back) (h : List Entry) (w v : State) (e : Event) → (a : Happening doc k before arriving coming h w deeds) → slice_get doc.events w.place ≡ Some e → e.beat.0 ≡ k → v.place ≡ w.place + 1 →
-    IsFew (happen_all doc k doc.events h) → (IsLawfulWhat doc e.what → IsFew (happens doc k e.what a.now) → Running doc k before arriving coming (happens doc k e.what a.now) v new) → Happening doc k before arriving coming h v new
+    IsFew (happen_all doc k doc.events h) → (IsLawfulWhat doc e.what → IsNoPause e.what → IsFew (happens doc k e.what a.now) → Running doc k before arriving coming (happens doc k e.what a.now) v new) → Happening doc k before arriving coming h v new
 happening-more doc k before deeds new arriving coming h w v e a here beat place few happened =
     let rest = drop (w.place + 1) doc.events in
     let is : drop w.place doc.events ≡ e ∷ rest = drop-at doc.events w.place e here in
@@ -121,7 +133,7 @@ happening-more doc k before deeds new arriving coming h w v e a here beat place 
     let few_next : IsFew next = few-before next (happen_all doc k rest next) (grows-happen_all doc k rest next) (subst IsFew (sym on) few) in
     record {
       now = next;
-      running = happened (lawful-what doc k e rest lawful) few_next;
+      running = happened (lawful-what doc k e rest lawful) (unpaused-at doc.events w.place e here a.running.world.rest.document.unpaused) few_next;
       earlier = subst (λ n. (i : ℕ) (x : Event) → i < n → slice_get doc.events i ≡ Some x → x.beat.0 < k + 1) (sym place) (earlier-more (k + 1) w.place doc.events e here (omega (arith, beat)) a.earlier);
       later = subst (λ n. AreLawfulFrom doc k (drop n doc.events)) (sym place) (lawful-rest doc k e rest beat lawful);
       same = ap (λ n. happen_all doc k (drop n doc.events) next) place ∙ on;

@@ -3,7 +3,7 @@ use Rattle.std.proofs.Common.{IfSome, ◌≡◌, ℕ, ◌<◌, ◌≤◌, nat_lt
 use Rattle.kube_objects.specs.declared.call.Reply.{Reply}
 use Rattle.kube_objects.specs.declared.deed.Actor.{Actor}
 use Rattle.kube_objects.specs.declared.deed.Actor.TheVariants as actor
-use Rattle.kube_objects.specs.Entry.{Entry, Identity, Call, Fact, First, Event, Starts, Crashes, Stops, Ends, Sends, Answers, Delivers, Expires, Leads, Ticks}
+use Rattle.kube_objects.specs.Entry.{Entry, Identity, Call, Fact, First, Event, Starts, Crashes, Stops, Stalls, Ends, Sends, Answers, Delivers, Expires, Leads, Ticks}
 use Rattle.kube_objects.specs.Identities.{identity, identity_of, is_same, is_by}
 use Rattle.kube_objects.specs.InFlight.{is_due, and_request, requests_due, and_reply, replies_due}
 use Rattle.kube_objects.specs.Process.{starts}
@@ -75,6 +75,7 @@ sent-actor P who (First key object) x is some = cc
 sent-actor P who (Event what version) x is some = cc
 sent-actor P who Starts x is some = cc
 sent-actor P who Crashes x is some = cc
+sent-actor P who (Stalls beats) x is some = cc
 sent-actor P who Stops x is some = cc
 sent-actor P who Ends x is some = cc
 sent-actor P who (Sends call arrives) x is some = sent-who P call arrives (identity_of who) x is some
@@ -89,6 +90,7 @@ back-actor P who (First key object) x is some = cc
 back-actor P who (Event what version) x is some = cc
 back-actor P who Starts x is some = cc
 back-actor P who Crashes x is some = cc
+back-actor P who (Stalls beats) x is some = cc
 back-actor P who Stops x is some = cc
 back-actor P who Ends x is some = cc
 back-actor P who (Sends call arrives) x is some = cc

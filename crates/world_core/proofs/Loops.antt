@@ -8,11 +8,12 @@ use Rattle.kube_objects.specs.Answers.{answer, written}
 use Rattle.kube_objects.specs.Document.{Doc, is_controller, processes}
 use Rattle.kube_objects.specs.Entry.{Entry, Identity, Call, Answers, entry, actor_of}
 use Rattle.kube_objects.specs.Identities.{identity}
+use Rattle.kube_objects.specs.Pauses.{is_paused}
 use Rattle.kube_objects.specs.Stored.{write_of, request_write}
 use Rattle.kube_objects.specs.Wire.{Sent, Back, reply_arrival}
 use Rattle.history.specs.Due.{answer_all, deliver_all}
 use Rattle.history.specs.Printed.{deeds_of, answer_act}
-use Rattle.history.specs.Steps.{answered, delivered, elector_turn, starts_below, ticks, turn, turn_as, turns}
+use Rattle.history.specs.Steps.{answered, delivered, elector_turn, starts_below, ticks, turn, turn_as, turn_unless, turns}
 use Rattle.object_store.specs.Stands.{StoreStands}
 use Rattle.wire_calls.specs.declared.message.Arrived.{Arrived}
 use Rattle.wire_calls.specs.declared.message.Delivered.{Delivered}
@@ -35,47 +36,47 @@ pub record Answering (doc : Doc) (k : ℕ) (before : List Deed) (arriving : List
   pub left : List Sent
   pub running : Running doc k before left coming now w deeds
   pub known : SentByKnown (processes doc) now left
-  pub same : answer_all k left now ≡ answer_all k arriving h
+  pub same : answer_all doc k left now ≡ answer_all doc k arriving h
 
 -- the store and the wire did what a request that arrived asks
 pub record Serves (doc : Doc) (k : ℕ) (rest : List Sent) (coming : List Back) (h : List Entry) (deeds new : List Deed) (v : State) (r : Reply) (x : Arrived) : Type 0 where
   pub answers : r ≡ answer x.request h
   pub store : (e : Entry) → write_of e.fact ≡ request_write x.request (written x.request h) → StoreStands (e ∷ h) v.store
-  pub wire : (q : Identity) (call : Call) (wrote : Option Object) → q ≡ identity x.who.0 x.incarnation → call.number ≡ x.number → WireStands (processes doc) k rest coming (entry k 2 q (Answers call r (reply_arrival q.process k h) wrote) ∷ h) v.wire
+  pub wire : (q : Identity) (call : Call) (wrote : Option Object) → q ≡ identity x.who.0 x.incarnation → call.number ≡ x.number → WireStands (processes doc) k rest coming (entry k 2 q (Answers call r (reply_arrival doc q.process k h) wrote) ∷ h) v.wire
   pub told : new ≡ deeds ++ deeds_of k (actor.Proc x.who x.incarnation) (answer_act x.request r)
 
 serve-one : (doc : Doc) (k : ℕ) (before deeds new : List Deed) (s : Sent) (left rest : List Sent) (coming : List Back) (h : List Entry) (w v : State) (r : Reply) → Running doc k before left coming h w deeds → IsKnown (processes doc) h s.who → Unmoved w v → v.in_force ≡ w.in_force →
-    Serves doc k rest coming h deeds new v r (as_arrived s) → Running doc k before rest coming (answered k s h) v new
+    Serves doc k rest coming h deeds new v r (as_arrived s) → Running doc k before rest coming (answered doc k s h) v new
 serve-one doc k before deeds new s left rest coming h w v r run known unmoved in_force serves =
     answered-running doc k before deeds new left rest coming s h w v run known unmoved in_force
-    (serves.store (entry k 2 s.who (Answers s.call (answer s.call.request h) (reply_arrival s.who.process k h) (written s.call.request h))) refl)
-    (subst (λ x. WireStands (processes doc) k rest coming (entry k 2 s.who (Answers s.call x (reply_arrival s.who.process k h) (written s.call.request h)) ∷ h) v.wire) serves.answers (serves.wire s.who s.call (written s.call.request h) refl refl))
+    (serves.store (entry k 2 s.who (Answers s.call (answer s.call.request h) (reply_arrival doc s.who.process k h) (written s.call.request h))) refl)
+    (subst (λ x. WireStands (processes doc) k rest coming (entry k 2 s.who (Answers s.call x (reply_arrival doc s.who.process k h) (written s.call.request h)) ∷ h) v.wire) serves.answers (serves.wire s.who s.call (written s.call.request h) refl refl))
     (serves.told ∙ ap (λ x. deeds ++ deeds_of k (actor_of s.who) (answer_act s.call.request x)) serves.answers)
 
 pub answering-more : (doc : Doc) (k : ℕ) (before deeds new : List Deed) (arriving : List Sent) (coming : List Back) (h : List Entry) (w v : State) (r : Reply) (x : Arrived) → (a : Answering doc k before arriving coming h w deeds) →
     arrived_of (first_of a.left) ≡ Some x → Unmoved w v → v.in_force ≡ w.in_force → Serves doc k (rest_of a.left) coming a.now deeds new v r x → Answering doc k before arriving coming h v new
 answering-more doc k before deeds new arriving coming h w v r x a first unmoved in_force serves = by_left a.left a.running a.known a.same first serves
   where
-    by_left : (left : List Sent) → Running doc k before left coming a.now w deeds → SentByKnown (processes doc) a.now left → answer_all k left a.now ≡ answer_all k arriving h → arrived_of (first_of left) ≡ Some x →
+    by_left : (left : List Sent) → Running doc k before left coming a.now w deeds → SentByKnown (processes doc) a.now left → answer_all doc k left a.now ≡ answer_all doc k arriving h → arrived_of (first_of left) ≡ Some x →
         Serves doc k (rest_of left) coming a.now deeds new v r x → Answering doc k before arriving coming h v new
     by_left [] run known same first serves = cc
     by_left (s ∷ rest) run known same first serves =
         let is : x ≡ as_arrived s = cc in
         record {
-          now = answered k s a.now;
+          now = answered doc k s a.now;
           left = rest;
           running = serve-one doc k before deeds new s (s ∷ rest) rest coming a.now w v r run known.0 unmoved in_force (subst (Serves doc k rest coming a.now deeds new v r) is serves);
-          known = sent-later (processes doc) a.now (answered k s a.now) ((grows-entry (entry k 2 s.who (Answers s.call (answer s.call.request a.now) (reply_arrival s.who.process k a.now) (written s.call.request a.now))) a.now).starts) rest known.1;
+          known = sent-later (processes doc) a.now (answered doc k s a.now) ((grows-entry (entry k 2 s.who (Answers s.call (answer s.call.request a.now) (reply_arrival doc s.who.process k a.now) (written s.call.request a.now))) a.now).starts) rest known.1;
           same = same;
         }
 
 -- nothing is left
 pub answering-done : (doc : Doc) (k : ℕ) (before deeds : List Deed) (arriving : List Sent) (coming : List Back) (h : List Entry) (w v : State) → (a : Answering doc k before arriving coming h w deeds) → arrived_of (first_of a.left) ≡ None →
-    (Running doc k before a.left coming a.now w deeds → Running doc k before (rest_of a.left) coming a.now v deeds) → Running doc k before [] coming (answer_all k arriving h) v deeds
+    (Running doc k before a.left coming a.now w deeds → Running doc k before (rest_of a.left) coming a.now v deeds) → Running doc k before [] coming (answer_all doc k arriving h) v deeds
 answering-done doc k before deeds arriving coming h w v a none taken = by_left a.left a.running a.same none taken
   where
-    by_left : (left : List Sent) → Running doc k before left coming a.now w deeds → answer_all k left a.now ≡ answer_all k arriving h → arrived_of (first_of left) ≡ None →
-        (Running doc k before left coming a.now w deeds → Running doc k before (rest_of left) coming a.now v deeds) → Running doc k before [] coming (answer_all k arriving h) v deeds
+    by_left : (left : List Sent) → Running doc k before left coming a.now w deeds → answer_all doc k left a.now ≡ answer_all doc k arriving h → arrived_of (first_of left) ≡ None →
+        (Running doc k before left coming a.now w deeds → Running doc k before (rest_of left) coming a.now v deeds) → Running doc k before [] coming (answer_all doc k arriving h) v deeds
     by_left [] run same none taken = subst (λ g. Running doc k before [] coming g v deeds) same (taken run)
     by_left (s ∷ rest) run same none taken = cc
 
@@ -164,8 +165,8 @@ few-starts doc i n h less few =
     let all : suc i + (n - suc i) ≡ n = omega (arith, less) in
     few-before (starts_below doc (suc i) h) (starts_below doc n h) (subst (λ m. Grows (starts_below doc (suc i) h) (starts_below doc m h)) all (grows-more_starts doc (suc i) (n - suc i) h)) few
 
-pub few-own : (doc : Doc) (k p : ℕ) (h : List Entry) → IsFew (turn doc k p h) → IsFew (own_turn doc k p h)
-few-own doc k p h few = by_sort (is_controller doc p) few
+pub few-own : (doc : Doc) (k p : ℕ) (h : List Entry) → is_paused doc p k ≡ false → IsFew (turn doc k p h) → IsFew (own_turn doc k p h)
+few-own doc k p h awake few = by_sort (is_controller doc p) (subst (λ b. IsFew (turn_unless doc k p b h)) awake few)
   where
     by_sort : (b : Bool) → IsFew (turn_as doc k p b h) → IsFew (own_turn_as doc k p b h)
     by_sort true few = let g = elector_turn doc k p h in few-before g (ticks doc k p g) (grows-ticks doc k p g) few

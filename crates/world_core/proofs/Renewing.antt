@@ -1,5 +1,5 @@
 -- Layer 3, the world around one process: the terms of the world through what a process does, and which of them are made anew.
-use Rattle.std.proofs.Common.{◌≡◌, ◌⊎◌, inl, inr, ℕ, ◌+◌, ◌<◌, ◌≤◌, ◌++◌, ◌||◌, nat_lt, Bool, true, false, List, [], ◌∷◌, Option, Some, None, length, length-append, refl, sym, ap, ◌∙◌, subst, arith}
+use Rattle.std.proofs.Common.{◌≡◌, ◌⊎◌, inl, inr, ℕ, ◌+◌, ◌<◌, ◌≤◌, ◌++◌, ◌||◌, not, nat_lt, Bool, true, false, List, [], ◌∷◌, Option, Some, None, length, length-append, refl, sym, ap, ◌∙◌, subst, arith}
 use Rattle.std.proofs.lemmas.List.{append-nil}
 use Rattle.kube_base.specs.declared.numbers.ProcId.{ProcId}
 use Rattle.kube_base.specs.declared.numbers.Version.{Version}
@@ -15,7 +15,8 @@ use Rattle.kube_objects.specs.Elector.{Follow, Asks, Fails, Succeeds, deadline, 
 use Rattle.kube_objects.specs.Entry.{Entry, Identity, Call, Fact, Delivers, Ends, Event, Expires, Leads, Plain, Ticks, actor_of, entry, script_entry}
 use Rattle.kube_objects.specs.Identities.{identity, is_by}
 use Rattle.kube_objects.specs.Kubelet.{next_request, send_next}
-use Rattle.kube_objects.specs.Newest.{added, join}
+use Rattle.kube_objects.specs.Newest.{added, join, only_if}
+use Rattle.kube_objects.specs.Pauses.{is_paused}
 use Rattle.kube_objects.specs.Process.{alive, call_in, counted, ended, gone, is_late, is_restart_due, life, starts}
 use Rattle.kube_objects.specs.Turns.{end_as, end_term, expire_as, expire_call, lead_if, react}
 use Rattle.kube_objects.specs.Wire.{Back, send}
@@ -92,8 +93,11 @@ module _ (doc : Doc) (k : ℕ) (id : ProcId) (h : List Entry) where
   pub fresh-crashed : IsFresh id.0 (happens doc k (what.Crash id) h)
   fresh-crashed = fresh-down id.0 (happens doc k (what.Crash id) h) (crashed (alive id.0 h) (script_entry k 1 (Event (what.Crash id) None) ∷ h) refl)
 
-  pub fresh-stopped : IsFresh id.0 (stopped k id h)
-  fresh-stopped = fresh-down id.0 (stopped k id h) (stops (alive id.0 h) (script_entry k 1 (Event (what.Stop id) None) ∷ h) refl)
+  pub fresh-stopped : is_paused doc id.0 k ≡ false → IsFresh id.0 (stopped doc k id h)
+  fresh-stopped awake =
+      let e = script_entry k 1 (Event (what.Stop id) None) in
+      subst (λ b. IsFresh id.0 (stop_in k id.0 (only_if (not b) (alive id.0 h)) (e ∷ h))) (sym awake)
+      (fresh-down id.0 (stop_in k id.0 (alive id.0 h) (e ∷ h)) (stops (alive id.0 h) (e ∷ h) refl))
 
 -- ---- a start by the script
 
@@ -162,7 +166,7 @@ module _ (doc : Doc) (k i n : ℕ) (h : List Entry) (x : Terms) where
       by_due false = inl (s, refl)
 
       by_life : (up : Option ℕ) → IsEither (restart_if doc k i up h)
-      by_life None = by_due (is_restart_due doc i k (ended i h))
+      by_life None = by_due (is_restart_due doc i k (ended doc i h))
       by_life (Some j) = inl (s, refl)
 
   through-expiry : (j : ℕ) (call : Call) (g : List Entry) → IsEither g → IsEither (entry k 4 (identity i j) (Expires call) ∷ g)

@@ -75,6 +75,7 @@ doc-same doc k w v same count s =
       epoch = same.epoch ∙ s.epoch;
       micros = same.micros ∙ s.micros;
       events = same.events ∙ s.events;
+      unpaused = s.unpaused;
     }
 
 doc-moved : (doc : Doc) (k i : ℕ) (c0 c1 : Process) (w v : State) → Moved i c0 c1 w v → DocStands doc k w → DocStands doc k v
@@ -254,10 +255,10 @@ first-started doc i before deeds new arriving coming h c0 c1 w v r within m wire
 -- ---- an answer of the store
 
 pub answered-running : (doc : Doc) (k : ℕ) (before deeds new : List Deed) (left rest : List Sent) (coming : List Back) (s : Sent) (h : List Entry) (w v : State) → Running doc k before left coming h w deeds →
-    IsKnown (processes doc) h s.who → Unmoved w v → v.in_force ≡ w.in_force → StoreStands (answered k s h) v.store → WireStands (processes doc) k rest coming (answered k s h) v.wire →
-    new ≡ deeds ++ deeds_of k (actor_of s.who) (answer_act s.call.request (answer s.call.request h)) → Running doc k before rest coming (answered k s h) v new
+    IsKnown (processes doc) h s.who → Unmoved w v → v.in_force ≡ w.in_force → StoreStands (answered doc k s h) v.store → WireStands (processes doc) k rest coming (answered doc k s h) v.wire →
+    new ≡ deeds ++ deeds_of k (actor_of s.who) (answer_act s.call.request (answer s.call.request h)) → Running doc k before rest coming (answered doc k s h) v new
 answered-running doc k before deeds new left rest coming s h w v run known unmoved in_force store wire new_is =
-    let d = Answers s.call (answer s.call.request h) (reply_arrival s.who.process k h) (written s.call.request h) in
+    let d = Answers s.call (answer s.call.request h) (reply_arrival doc s.who.process k h) (written s.call.request h) in
     let e = entry k 2 s.who d in
     record {
       world = record {
@@ -269,7 +270,7 @@ answered-running doc k before deeds new left rest coming s h w v run known unmov
           in_force = subst (InForceStands doc (e ∷ h)) (sym in_force) (in_force-beside doc e h w.in_force refl run.world.rest.in_force);
         };
         processes = subst (λ cs. EachStands doc (e ∷ h) cs.items) (sym unmoved.processes)
-            (λ p c is. process-answered doc p k 2 s.who s.call (answer s.call.request h) (reply_arrival s.who.process k h) (written s.call.request h) h c (run.world.processes p c is));
+            (λ p c is. process-answered doc p k 2 s.who s.call (answer s.call.request h) (reply_arrival doc s.who.process k h) (written s.call.request h) h c (run.world.processes p c is));
         terms = subst (TermsStand doc (e ∷ h)) (sym unmoved.terms) (terms-beside doc h e w.terms refl run.world.terms);
       };
       told = ap (λ ds. before ++ ds) new_is ∙ sym (append_assoc before deeds _) ∙ ap (λ ds. ds ++ deeds_of k (actor_of s.who) (answer_act s.call.request (answer s.call.request h))) run.told;

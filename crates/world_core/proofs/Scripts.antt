@@ -1,5 +1,5 @@
 -- Layer 3, the world around one process: the world through an entry of the script.
-use Rattle.std.proofs.Common.{◌≡◌, ℕ, ◌<◌, ◌++◌, true, false, List, ◌∷◌, Option, Some, None, length, length-append, refl, sym, ap, ◌∙◌, subst, append_assoc, arith}
+use Rattle.std.proofs.Common.{◌≡◌, ℕ, ◌<◌, ◌++◌, ◌&&◌, not, Bool, true, false, List, ◌∷◌, Option, Some, None, length, length-append, refl, sym, ap, ◌∙◌, subst, append_assoc, arith}
 use Rattle.std.proofs.lemmas.List.{append-nil}
 use Rattle.kube_base.specs.declared.numbers.ProcId.{ProcId}
 use Rattle.kube_base.specs.declared.numbers.Version.{Version}
@@ -11,6 +11,8 @@ use Rattle.kube_objects.specs.declared.script.What.TheVariants as what
 use Rattle.kube_objects.specs.Document.{Doc, processes, is_controller}
 use Rattle.kube_objects.specs.Entry.{Entry, Event, Crashes, Stops, entry, script_entry}
 use Rattle.kube_objects.specs.Identities.{identity}
+use Rattle.kube_objects.specs.Newest.{only_if}
+use Rattle.kube_objects.specs.Pauses.{is_paused}
 use Rattle.kube_objects.specs.Process.{alive, cancels}
 use Rattle.kube_objects.specs.Stored.{write_of}
 use Rattle.kube_objects.specs.Wire.{Sent, Back}
@@ -46,7 +48,7 @@ abbrev pub scripted : ℕ → What → Option Version → List Entry → List En
 scripted k event version h = script_entry k 1 (Event event version) ∷ h
 
 pub running-event : (doc : Doc) (k : ℕ) (before deeds new : List Deed) (arriving : List Sent) (coming : List Back) (h : List Entry) (w v : State) (event : What) (version : Option Version) → Running doc k before arriving coming h w deeds →
-    ((p : ℕ) → cancels p event ≡ false) → Unmoved w v → InForceStands doc (scripted k event version h) v.in_force → StoreStands (scripted k event version h) v.store → WireStands (processes doc) k arriving coming (scripted k event version h) v.wire →
+    ((p : ℕ) → cancels doc p k event ≡ false) → Unmoved w v → InForceStands doc (scripted k event version h) v.in_force → StoreStands (scripted k event version h) v.store → WireStands (processes doc) k arriving coming (scripted k event version h) v.wire →
     new ≡ deeds ++ deeds_of k actor.Script (event_act event version) → Running doc k before arriving coming (scripted k event version h) v new
 running-event doc k before deeds new arriving coming h w v event version r beside unmoved in_force store wire new_is =
     record {
@@ -66,7 +68,7 @@ running-event doc k before deeds new arriving coming h w v event version r besid
 
 -- it changes nothing in the world and is not printed
 pub running-plain : (doc : Doc) (k : ℕ) (before deeds : List Deed) (arriving : List Sent) (coming : List Back) (h : List Entry) (w : State) (event : What) → Running doc k before arriving coming h w deeds → is_of_wire (Event event None) ≡ false → write_of (Event event None) ≡ None → sets_standing event ≡ false →
-    ((p : ℕ) → cancels p event ≡ false) → Running doc k before arriving coming (scripted k event None h) w deeds
+    ((p : ℕ) → cancels doc p k event ≡ false) → Running doc k before arriving coming (scripted k event None h) w deeds
 running-plain doc k before deeds arriving coming h w event r wire write standing beside =
     let e = script_entry k 1 (Event event None) in
     running-event doc k before deeds deeds arriving coming h w w event None r beside (unmoved-self w) (in_force-beside doc e h w.in_force standing r.world.rest.in_force)
@@ -74,7 +76,7 @@ running-plain doc k before deeds arriving coming h w event r wire write standing
 
 -- ---- an event on a controller
 
-around-event : (doc : Doc) (k i : ℕ) (arriving : List Sent) (coming : List Back) (event : What) (h : List Entry) (w : State) → is_of_wire (Event event None) ≡ false → write_of (Event event None) ≡ None → sets_standing event ≡ false → ((p : ℕ) → ¬ (p ≡ i) → cancels p event ≡ false) →
+around-event : (doc : Doc) (k i : ℕ) (arriving : List Sent) (coming : List Back) (event : What) (h : List Entry) (w : State) → is_of_wire (Event event None) ≡ false → write_of (Event event None) ≡ None → sets_standing event ≡ false → ((p : ℕ) → ¬ (p ≡ i) → cancels doc p k event ≡ false) →
     Around doc k i arriving coming h w → Around doc k i arriving coming (scripted k event None h) w
 around-event doc k i arriving coming event h w wire write standing beside a =
     record {
@@ -120,20 +122,24 @@ around-begin doc k id arriving coming h w within a = by_life (alive id.0 h)
     by_life None = around-started doc k id.0 k 1 arriving coming g w within base
     by_life (Some i) = base
 
-pub around-stop : (doc : Doc) (k : ℕ) (id : ProcId) (arriving : List Sent) (coming : List Back) (h : List Entry) (w : State) → id.0 < processes doc → Around doc k id.0 arriving coming h w → Around doc k id.0 arriving coming (stopped k id h) w
-around-stop doc k id arriving coming h w within a = by_life (alive id.0 h) refl
+pub around-stop : (doc : Doc) (k : ℕ) (id : ProcId) (arriving : List Sent) (coming : List Back) (h : List Entry) (w : State) → id.0 < processes doc → Around doc k id.0 arriving coming h w → Around doc k id.0 arriving coming (stopped doc k id h) w
+around-stop doc k id arriving coming h w within a = by_pause (not (is_paused doc id.0 k))
   where
     g : List Entry
     g = scripted k (what.Stop id) None h
 
     base : Around doc k id.0 arriving coming g w
-    base = around-event doc k id.0 arriving coming (what.Stop id) h w refl refl refl (λ p other. eq-isnt id.0 p (apart id.0 p other)) a
+    base = around-event doc k id.0 arriving coming (what.Stop id) h w refl refl refl (λ p other. ap (λ b. b && not (is_paused doc p k)) (eq-isnt id.0 p (apart id.0 p other))) a
 
     by_life : (up : Option ℕ) → alive id.0 h ≡ up → Around doc k id.0 arriving coming (stop_in k id.0 up g) w
     by_life None is = base
     by_life (Some i) is =
         let known = known-later (processes doc) (script_entry k 1 (Event (what.Stop id) None)) h (identity id.0 i) (alive-known (processes doc) id.0 i h a.rest.plain within is) in
         around-own doc k id.0 k 1 arriving coming (identity id.0 i) Stops g w refl refl (known-later (processes doc) (entry k 1 (identity id.0 i) Stops) g (identity id.0 i) known) base
+
+    by_pause : (b : Bool) → Around doc k id.0 arriving coming (stop_in k id.0 (only_if b (alive id.0 h)) g) w
+    by_pause true = by_life (alive id.0 h) refl
+    by_pause false = base
 
 -- the process stands for the history with the event, and sends nothing
 pub running-moved : (doc : Doc) (k i : ℕ) (before deeds new more : List Deed) (arriving : List Sent) (coming : List Back) (h next : List Entry) (c0 c1 : Process) (w v : State) → Running doc k before arriving coming h w deeds → Moved i c0 c1 w v → v.wire ≡ w.wire →

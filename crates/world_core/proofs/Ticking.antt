@@ -1,19 +1,21 @@
 -- Layer 4, the steps of a beat: ticks beside the world, as the entries of a tick change the store and the terms alone.
-use Rattle.std.proofs.Common.{◌≡◌, ℕ, ◌<◌, ◌++◌, not, Bool, true, false, List, Option, Some, None, length, refl, sym, ap, ◌∙◌, subst, append_assoc, arith}
+use Rattle.std.proofs.Common.{◌≡◌, ℕ, ◌<◌, ◌++◌, ◌&&◌, not, Bool, true, false, List, Option, Some, None, length, refl, sym, ap, ◌∙◌, subst, append_assoc, arith}
 use Rattle.std.proofs.lemmas.Bool.{ltb-true}
 use Rattle.kube_base.specs.declared.numbers.Beat.{Beat}
 use Rattle.kube_objects.specs.declared.deed.Deed.{Deed}
 use Rattle.kube_objects.specs.Clocks.{local}
 use Rattle.kube_objects.specs.Document.{Doc, is_controller, processes}
-use Rattle.kube_objects.specs.Elector.{acts}
+use Rattle.kube_objects.specs.Elector.{in_term, acts}
 use Rattle.kube_objects.specs.Entry.{Entry, Identity, Tick, Ticks, entry}
 use Rattle.kube_objects.specs.Identities.{identity}
 use Rattle.kube_objects.specs.InForce.{watches}
 use Rattle.kube_objects.specs.Modes.{nodes}
+use Rattle.kube_objects.specs.Pauses.{is_paused}
 use Rattle.kube_objects.specs.Process.{alive}
 use Rattle.kube_objects.specs.Tick.{add, sync, tick}
 use Rattle.kube_objects.specs.Wire.{Sent, Back, loses_requests}
-use Rattle.history.specs.Steps.{if_up, tick_as, turn, turn_as}
+use Rattle.history.specs.Steps.{if_up, tick_as, turn, turn_as, turn_unless}
+use Rattle.kube_objects.proofs.Pauses.{not_paused}
 use Rattle.history_laws.proofs.Ticks.{walk_tick}
 use Rattle.beat_laws.specs.Unticked.{IsUntickedFrom}
 use Rattle.beat_laws.proofs.Names.{nodes_are_named}
@@ -27,12 +29,13 @@ use Rattle.world_process.specs.Clocked.{ClockStands}
 use Rattle.world_process.specs.InForce.{InForceStands}
 use Rattle.world_process.specs.Moves.{own_turn, own_turn_as}
 use Rattle.world_process.specs.Plain.{IsFew, IsKnown, IsPlain}
-use Rattle.world_process.specs.Processes.{acts_as, acts_if_up, acts_now}
+use Rattle.world_process.specs.Processes.{in_term_as, in_term_if_up, in_term_now}
 use Rattle.world_process.proofs.Forces.{in_force-beside}
 use Rattle.world_process.proofs.Grows.{Grows, few-before, grows-same, grows-ticks}
 use Rattle.world_process.proofs.Plainly.{known-later, plain-entry}
 use Rattle.world_process.proofs.Processes.{process-ticked}
 use Rattle.world_process.proofs.Readings.{reading-local, wall-when}
+use Rattle.world_process.proofs.Unheard.{and-false}
 use Rattle.world_terms.specs.TermsStand.{IsUpAs, Ticked}
 use Rattle.world_core.specs.declared.state.State.{State}
 use Rattle.world_core.specs.States.{EachStands, Running, StateWithin}
@@ -74,38 +77,39 @@ module _ (doc : Doc) (k : ℕ) (arriving : List Sent) (coming : List Back) (w : 
 
 -- ---- whose tick it is
 
--- without a leader that acts there is none
-pub ticks-none : (doc : Doc) (k p : ℕ) (h : List Entry) → acts_now doc k p h ≡ false → own_ticks doc k p h ≡ h
+-- without a leader whose term isn't over there is none
+pub ticks-none : (doc : Doc) (k p : ℕ) (h : List Entry) → in_term_now doc k p h ≡ false → own_ticks doc k p h ≡ h
 ticks-none doc k p h none = by_sort (is_controller doc p) none
   where
-    by_life : (o : Option ℕ) → acts_if_up doc k p o h ≡ false → if_up p (λ q T. tick_as doc k q (acts doc q k T) T) o h ≡ h
+    by_life : (o : Option ℕ) → in_term_if_up doc k p o h ≡ false → if_up p (λ q T. tick_as doc k q (acts doc q k T) T) o h ≡ h
     by_life None is = refl
-    by_life (Some i) is = ap (λ b. tick_as doc k (identity p i) b h) is
+    by_life (Some i) is = ap (λ b. tick_as doc k (identity p i) (not (is_paused doc p k) && b) h) is ∙ ap (λ b. tick_as doc k (identity p i) b h) (and-false (not (is_paused doc p k)))
 
-    by_sort : (b : Bool) → acts_as doc k p b h ≡ false → own_ticks_as doc k p b h ≡ h
+    by_sort : (b : Bool) → in_term_as doc k p b h ≡ false → own_ticks_as doc k p b h ≡ h
     by_sort true is = by_life (alive p h) is
     by_sort false is = refl
 
--- whoever acts is a controller, and acts in the incarnation in which it is up
-pub record ActsAs (doc : Doc) (k p i : ℕ) (h : List Entry) : Type 0 where
+-- whoever is in its term is a controller, in the incarnation in which it is up
+pub record InTermAs (doc : Doc) (k p i : ℕ) (h : List Entry) : Type 0 where
   pub sort : is_controller doc p ≡ true
-  pub acting : acts doc (identity p i) k h ≡ true
+  pub term : in_term doc (identity p i) k h ≡ true
 
-pub acts-is : (doc : Doc) (k p i : ℕ) (h : List Entry) → alive p h ≡ Some i → acts_now doc k p h ≡ true → ActsAs doc k p i h
-acts-is doc k p i h up acts = by_sort (is_controller doc p) refl acts
+pub term-is : (doc : Doc) (k p i : ℕ) (h : List Entry) → alive p h ≡ Some i → in_term_now doc k p h ≡ true → InTermAs doc k p i h
+term-is doc k p i h up acts = by_sort (is_controller doc p) refl acts
   where
-    by_sort : (b : Bool) → is_controller doc p ≡ b → acts_as doc k p b h ≡ true → ActsAs doc k p i h
-    by_sort true sort is = record { sort = sort; acting = sym (ap (λ o. acts_if_up doc k p o h) up) ∙ is }
+    by_sort : (b : Bool) → is_controller doc p ≡ b → in_term_as doc k p b h ≡ true → InTermAs doc k p i h
+    by_sort true sort is = record { sort = sort; term = sym (ap (λ o. in_term_if_up doc k p o h) up) ∙ is }
     by_sort false sort is = cc
 
-pub up-as : (doc : Doc) (k p i : ℕ) (h : List Entry) → alive p h ≡ Some i → ActsAs doc k p i h → IsUpAs doc p (identity p i) h
+pub up-as : (doc : Doc) (k p i : ℕ) (h : List Entry) → alive p h ≡ Some i → InTermAs doc k p i h → IsUpAs doc p (identity p i) h
 up-as doc k p i h up s = record { process = refl; inside = ltb-true _ _ s.sort; up = up }
 
-pub ticks-acting : (doc : Doc) (k p i : ℕ) (h : List Entry) → alive p h ≡ Some i → ActsAs doc k p i h → own_ticks doc k p h ≡ tick doc k (identity p i) h
-ticks-acting doc k p i h up s =
+pub ticks-acting : (doc : Doc) (k p i : ℕ) (h : List Entry) → is_paused doc p k ≡ false → alive p h ≡ Some i → InTermAs doc k p i h → own_ticks doc k p h ≡ tick doc k (identity p i) h
+ticks-acting doc k p i h awake up s =
     ap (λ b. own_ticks_as doc k p b h) s.sort
     ∙ ap (λ o. if_up p (λ q T. tick_as doc k q (acts doc q k T) T) o h) up
-    ∙ ap (λ b. tick_as doc k (identity p i) b h) s.acting
+    ∙ ap (λ b. tick_as doc k (identity p i) (not b && in_term doc (identity p i) k h) h) awake
+    ∙ ap (λ b. tick_as doc k (identity p i) b h) s.term
 
 -- ---- what a tick is given
 
@@ -142,14 +146,14 @@ pub record SameButTicked (w v : State) : Type 0 where
   pub in_force : v.in_force ≡ w.in_force
   pub processes : v.processes ≡ w.processes
 
-pub running-ticked : (doc : Doc) (k p i : ℕ) (before deeds told : List Deed) (arriving : List Sent) (coming : List Back) (h : List Entry) (w v : State) → p < processes doc → alive p h ≡ Some i → ActsAs doc k p i h → SameButTicked w v
+pub running-ticked : (doc : Doc) (k p i : ℕ) (before deeds told : List Deed) (arriving : List Sent) (coming : List Back) (h : List Entry) (w v : State) → p < processes doc → alive p h ≡ Some i → InTermAs doc k p i h → SameButTicked w v
     → Running doc k before arriving coming h w deeds → Ticked doc k (identity p i) h told v.terms v.store → Running doc k before arriving coming (own_ticks doc k p h) v (deeds ++ told)
 running-ticked doc k p i before deeds told arriving coming h w v within up acts same r t =
     let q = identity p i in
     let d = r.world.rest.document in
     let known = alive-known (processes doc) p i h r.world.rest.plain within up in
     let b = beside-tick doc k arriving coming w k q h known (beside-world doc k arriving coming h w r.world) in
-    let is = ticks-acting doc k p i h up acts in
+    let is = ticks-acting doc k p i h (not_paused doc p k d.unpaused) up acts in
     subst (λ g. Running doc k before arriving coming g v (deeds ++ told)) (sym is)
     (record {
       world = record {
@@ -161,6 +165,7 @@ running-ticked doc k p i before deeds told arriving coming h w v within up acts 
             epoch = same.epoch ∙ d.epoch;
             micros = same.micros ∙ d.micros;
             events = same.events ∙ d.events;
+            unpaused = d.unpaused;
           };
           plain = b.plain;
           store = t.store;
@@ -174,14 +179,14 @@ running-ticked doc k p i before deeds told arriving coming h w v within up acts 
     })
 
 -- no tick
-pub running-unticked : (doc : Doc) (k p : ℕ) (before deeds : List Deed) (arriving : List Sent) (coming : List Back) (h : List Entry) (w : State) → acts_now doc k p h ≡ false
+pub running-unticked : (doc : Doc) (k p : ℕ) (before deeds : List Deed) (arriving : List Sent) (coming : List Back) (h : List Entry) (w : State) → in_term_now doc k p h ≡ false
     → Running doc k before arriving coming h w deeds → Running doc k before arriving coming (own_ticks doc k p h) w deeds
 running-unticked doc k p before deeds arriving coming h w none r = subst (λ g. Running doc k before arriving coming g w deeds) (sym (ticks-none doc k p h none)) r
 
 -- ---- a turn is its tick after the rest
 
-pub turn-is : (doc : Doc) (k p : ℕ) (h : List Entry) → turn doc k p h ≡ own_ticks doc k p (own_turn doc k p h)
-turn-is doc k p h = by_sort (is_controller doc p)
+pub turn-is : (doc : Doc) (k p : ℕ) (h : List Entry) → is_paused doc p k ≡ false → turn doc k p h ≡ own_ticks doc k p (own_turn doc k p h)
+turn-is doc k p h awake = ap (λ b. turn_unless doc k p b h) awake ∙ by_sort (is_controller doc p)
   where
     by_sort : (b : Bool) → turn_as doc k p b h ≡ own_ticks_as doc k p b (own_turn_as doc k p b h)
     by_sort true = refl

@@ -14,6 +14,7 @@ use Rattle.kube_objects.specs.Document.{Doc, processes, restart_delay, beat_micr
 use Rattle.kube_objects.specs.Entry.{Entry, Identity, Call, Answers, Sends, entry}
 use Rattle.kube_objects.specs.InFlight.{requests_due, replies_due}
 use Rattle.kube_objects.specs.Kinds.{IsOfKind}
+use Rattle.kube_objects.specs.Pauses.{AreUnpaused, IsNoPause}
 use Rattle.kube_objects.specs.Wire.{Sent, Back, reply_arrival, request_arrival}
 use Rattle.history.specs.Due.{answer_all, deliver_all}
 use Rattle.history.specs.History.{beat}
@@ -85,7 +86,7 @@ pub record Keeps (old new : State) : Type 0 where
 
 -- ---- the relation
 
--- what the world keeps of a document
+-- what the world keeps of a document, which pauses nobody
 pub record DocStands (doc : Doc) (k : ℕ) (w : State) : Type 0 where
   pub at : w.beat.0 ≡ k
   pub restart : w.restart ≡ restart_delay doc
@@ -93,6 +94,7 @@ pub record DocStands (doc : Doc) (k : ℕ) (w : State) : Type 0 where
   pub epoch : w.epoch ≡ doc.settings.epoch
   pub micros : w.micros ≡ beat_micros doc
   pub events : w.events ≡ doc.events
+  pub unpaused : AreUnpaused doc.events
 
 -- the events before a place were of earlier beats, and those from it on are of this beat or later
 pub record IsPlaced (doc : Doc) (k place : ℕ) : Type 0 where
@@ -168,7 +170,7 @@ abbrev pub AnswersArrivals : {A E : Type 0} → State → List Deed → Result A
 AnswersArrivals w deeds result v new =
     (doc : Doc) (k : ℕ) (before : List Deed) (arriving : List Sent) (coming : List Back) (h : List Entry)
     → Running doc k before arriving coming h w deeds → SentByKnown (processes doc) h arriving
-    → OnOk result (Running doc k before [] coming (answer_all k arriving h) v new)
+    → OnOk result (Running doc k before [] coming (answer_all doc k arriving h) v new)
 
 -- all replies that had to be taken were delivered
 abbrev pub DeliversReplies : {A E : Type 0} → State → List Deed → Result A E → State → List Deed → Type 0
@@ -178,15 +180,15 @@ DeliversReplies w deeds result v new =
     → OnOk result (Running doc k before arriving [] (deliver_all doc k coming h) v new)
 
 -- the history with a request's answer, whose reply is on its way
-abbrev pub with_answer : ℕ → ℕ → Identity → Call → Reply → Option Object → List Entry → List Entry
-with_answer k step q call reply wrote h = entry k step q (Answers call reply (reply_arrival q.process k h) wrote) ∷ h
+abbrev pub with_answer : Doc → ℕ → ℕ → Identity → Call → Reply → Option Object → List Entry → List Entry
+with_answer doc k step q call reply wrote h = entry k step q (Answers call reply (reply_arrival doc q.process k h) wrote) ∷ h
 
 -- ---- events
 
 -- an event has happened in a world within a beat, and what is printed of it was added
 abbrev pub Happens : State → List Deed → State → List Deed → What → Type 0
 Happens w deeds v new what = (doc : Doc) (k : ℕ) (before : List Deed) (arriving : List Sent) (coming : List Back) (h : List Entry)
-    → Running doc k before arriving coming h w deeds → IsLawfulWhat doc what → IsFew (happens doc k what h)
+    → Running doc k before arriving coming h w deeds → IsLawfulWhat doc what → IsNoPause what → IsFew (happens doc k what h)
     → Running doc k before arriving coming (happens doc k what h) v new
 
 -- all events of the beat have happened; what they sent arrives later

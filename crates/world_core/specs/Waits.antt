@@ -4,7 +4,7 @@ use Rattle.kube_base.specs.declared.numbers.Beat.{Beat}
 use Rattle.kube_base.specs.declared.numbers.Local.{Local}
 use Rattle.kube_objects.specs.Clocks.{local, wall}
 use Rattle.kube_objects.specs.Document.{Doc, end_beat, is_controller, is_up_first}
-use Rattle.kube_objects.specs.Elector.{acts}
+use Rattle.kube_objects.specs.Elector.{in_term}
 use Rattle.kube_objects.specs.Entry.{Entry, Identity}
 use Rattle.kube_objects.specs.Newest.{only_if}
 use Rattle.kube_objects.specs.Process.{alive}
@@ -42,14 +42,14 @@ pub record IsAsleepBy (doc : Doc) (j p : ℕ) (w : Wakes) : Type 0 where
   pub local : is_early (local doc p j) (reading_of w) ≡ true
   pub wall : is_early (wall doc p j) w.wall ≡ true
 
--- ---- k is the next beat: a controller that acts at it waits for its term too
+-- ---- k is the next beat: a controller whose term isn't over at it waits for its term too
 
 abbrev pub acting_reading : Doc → ℕ → ℕ → Bool → List Entry → Option ℕ
-acting_reading doc k p true h = if_up p (λ q. only_if (acts doc q k h) (term_reading doc q h)) (alive p h)
+acting_reading doc k p true h = if_up p (λ q. only_if (in_term doc q k h) (term_reading doc q h)) (alive p h)
 acting_reading doc k p false h = None
 
 abbrev pub acting_time : Doc → ℕ → ℕ → Bool → List Entry → Option ℕ
-acting_time doc k p true h = if_up p (λ q. only_if (acts doc q k h) (term_time q h)) (alive p h)
+acting_time doc k p true h = if_up p (λ q. only_if (in_term doc q k h) (term_time q h)) (alive p h)
 acting_time doc k p false h = None
 
 -- the least reading from which on the turn adds an entry for another cause than a sync, an untaint, a swap or a delete

@@ -15,6 +15,7 @@ ghost use Rattle.kube_objects.specs.Kinds.{IsOfKind, keeps_kind};
 ghost use Rattle.kube_objects.specs.Stored.{request_write, stored, write_of};
 ghost use Rattle.object_store.specs.StoreAnswers.{object_of};
 ghost use Rattle.object_store.specs.Stands.{StoreStands};
+ghost use Rattle.kube_objects.specs.Pauses.{AreUnpaused};
 ghost use Rattle.kube_objects.specs.Wire.{Sent, Back};
 ghost use Rattle.history.specs.History.{history, beat, put_all};
 ghost use Rattle.history.specs.Printed.{printed};
@@ -358,6 +359,8 @@ impl State {
             What::Crash(who) => self.crash(who, deeds),
             What::Start(who) => self.start(who, deeds),
             What::Stop(who) => self.stop(who, deeds),
+            // No document that is read pauses anybody.
+            What::Pause(_, _) => Ok(()),
             What::Put(key, object) => self.put(key, object, deeds),
             What::Remove(key) => self.remove(key, deeds),
         }
@@ -391,7 +394,7 @@ impl State {
             return Ok(());
         }
         let process = &mut self.processes[i];
-        let started = process.begin(self.beat);
+        let started = process.start_if_down(self.beat);
         let actor = process.actor();
         if started {
             self.terms.renew(who);
@@ -646,13 +649,15 @@ fn answer(store: &mut Store, request: Request) -> Result<Reply, NoMemory>
 fn send_back(wire: &mut Wire, to: &Arrived, reply: Reply, now: Beat) -> Result<(), NoMemory>
     requires { now.0 ≤ 700000000 }
     ensures same { requests_at wire.new now.0 ≡ requests_at wire.old now.0 }
-    ensures ok { (processes k step : ℕ) (arriving : List Sent) (coming : List Back) (h : List Entry) (q : Identity) (call : Call)
-        (wrote : Option Objects.Object)
+    ensures ok { (doc : Doc) (processes k step : ℕ) (arriving : List Sent) (coming : List Back) (h : List Entry) (q : Identity)
+        (call : Call) (wrote : Option Objects.Object)
         → WireStands processes k arriving coming h wire.old → now.0 ≡ k → q ≡ identity to.now.who.0 to.now.incarnation
-        → call.number ≡ to.now.number
-        → OnOk result (WireStands processes k arriving coming (with_answer k step q call reply wrote h) wire.new) }
+        → call.number ≡ to.now.number → AreUnpaused doc.events
+        → OnOk result (WireStands processes k arriving coming (with_answer doc k step q call reply wrote h) wire.new) }
 {
-    wire.reply(to, reply, now)?;
+    // Nobody is paused, so it comes when it is there.
+    let travels = wire.reply_travel(to.who, now);
+    wire.reply(to, reply, travels)?;
     Ok(())
 }
 
@@ -709,6 +714,7 @@ fn copy_of(what: &What) -> Result<What, NoMemory>
         What::Stop(who) => Ok(What::Stop(*who)),
         What::Watch(who, on) => Ok(What::Watch(*who, *on)),
         What::Ready(who, status) => Ok(What::Ready(*who, *status)),
+        What::Pause(who, beats) => Ok(What::Pause(*who, *beats)),
         What::Put(key, object) => Ok(What::Put(*key, object.copy()?)),
         What::Remove(key) => Ok(What::Remove(*key)),
     }

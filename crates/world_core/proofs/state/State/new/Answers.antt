@@ -34,7 +34,7 @@ pub returns-clause-stands : goal.returns-clause-stands
 returns-clause-stands c = record {
   within = record {
     rest = record {
-      document = record { at = refl; restart = c.picoseconds.ensures.value; count = count; epoch = refl; micros = refl; events = refl };
+      document = record { at = refl; restart = c.picoseconds.ensures.value; count = count; epoch = refl; micros = refl; events = refl; unpaused = c.requires.lawful.unpaused };
       plain = put-plain doc (processes doc) doc.objects [] (record { fresh = λ p i less. tt; all = tt });
       store = c.in_ok-store.ensures doc refl;
       wire = subst (λ ss. WireStands (processes doc) 0 ss (replies_due 0 (history doc 0)) (history doc 0) c.in_ok-wire.wire) (sym (put-requests doc 0 doc.objects []))

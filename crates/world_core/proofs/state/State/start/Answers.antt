@@ -25,8 +25,8 @@ returns-clause-stands c =
     let v = c.if-started.self in
     let i = c.args.who.0 in
     let c0 = c.index_mut-process.result.now in
-    let c1 = c.begin-started.new.self in
-    let started = c.begin-started.result in
+    let c1 = c.start_if_down-started.new.self in
+    let started = c.start_if_down-started.result in
     let index : i < vec_len w.processes = omega (arith, c.if-i-len.false, c.len.ensures) in
     let was = read-at w i c0 index c.index_mut-process.ensures.value in
     let moved : Moved i c0 c1 w v = elim c.if-started.branch [
@@ -35,17 +35,17 @@ returns-clause-stands c =
     ] in
     let wire : v.wire ≡ w.wire = elim c.if-started.branch [ then-started b ↦ ap (λ x. x.wire) b.self-is | else-started b ↦ ap (λ x. x.wire) b.self-is ] in
     let done = when started act.Start in
-    on-ok c.tell.result _ _ (λ told doc k before arriving coming h r lawful few.
+    on-ok c.tell.result _ _ (λ told doc k before arriving coming h r lawful none few.
     let next = happens doc k (what.Start c.args.who) h in
     let s = r.world.processes i c0 was in
-    let begun = c.begin-started.ensures.stands doc (processes doc) k c.args.who h s r.world.rest.document.at r.world.rest.plain few in
+    let begun = c.start_if_down-started.ensures.stands doc (processes doc) k c.args.who h s r.world.rest.document.at r.world.rest.plain few in
     let anew : started ≡ true → TermsStandBut doc i next w.terms → IsFresh i next → TermsStand doc next v.terms = λ is but fresh. elim c.if-started.branch [
       | then-started b ↦ subst (λ x. TermsStand doc next x.terms) (sym b.self-is) (b.renew.ensures.stands doc next but fresh)
       | else-started b ↦ absurd (never (sym b.if-started.false ∙ is))
     ] in
     let same : started ≡ false → v.terms ≡ w.terms = λ is. elim c.if-started.branch [ then-started b ↦ absurd (never (sym is ∙ b.if-started.true)) | else-started b ↦ ap (λ x. x.terms) b.self-is ] in
     let terms = terms-begun doc (processes doc) k c.args.who h w.terms v.terms (incarnation_of c1) started r.world.rest.plain r.world.terms begun.told anew same in
-    let who = actor-is i c1 c.actor-actor.result c.actor-actor.ensures (ap (λ m. m.0) c.begin-started.ensures.same.me ∙ process-me doc i h c0 s) in
+    let who = actor-is i c1 c.actor-actor.result c.actor-actor.ensures (ap (λ m. m.0) c.start_if_down-started.ensures.same.me ∙ process-me doc i h c0 s) in
     let at : v.beat.0 ≡ k = ap (λ b. b.0) moved.same.beat ∙ r.world.rest.document.at in
     let new_is = told ∙ ap (λ a. c.args.deeds.now ++ deeds_of v.beat.0 c.actor-actor.result a) c.start_act.ensures ∙ ap (λ n. c.args.deeds.now ++ deeds_of n c.actor-actor.result done) at ∙ ap (λ x. c.args.deeds.now ++ deeds_of k x done) who in
     running-moved doc k i before c.args.deeds.now c.tell.new.deeds (started_deeds k (identity i (incarnation_of c1)) started) arriving coming h next c0 c1 w v r moved wire

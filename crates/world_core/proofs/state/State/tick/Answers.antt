@@ -8,14 +8,14 @@ use Rattle.kube_objects.specs.Tick as model
 use Rattle.kube_objects.specs.Wire.{loses_requests}
 use Rattle.leader_elector.specs.Stands.{acting_identity}
 use Rattle.skew_clock.specs.Clocking.{reading, wall_when}
-use Rattle.world_process.specs.Processes.{acts_now, clock_of, incarnation_of}
+use Rattle.world_process.specs.Processes.{in_term_now, clock_of, incarnation_of}
 use Rattle.world_process.proofs.Processes.{process-me}
 use Rattle.world_terms.specs.TermsStand.{IsUpAs}
 use Rattle.world_core.specs.States.{Running}
 use Rattle.world_core.specs.Waits.{own_ticks}
 use Rattle.world_core.proofs.Awake.{its-clock, some-holds}
 use Rattle.world_core.proofs.Moving.{on-ok, read-at, within-end, within-processes}
-use Rattle.world_core.proofs.Ticking.{acts-is, few-ticks, running-ticked, running-unticked, up-as, view-is}
+use Rattle.world_core.proofs.Ticking.{term-is, few-ticks, running-ticked, running-unticked, up-as, view-is}
 use Rattle.world_core.proofs.state.State.tick.Goals as goal
 
 pub returns-in_default-clause-stands : goal.returns-in_default-clause-stands
@@ -24,7 +24,7 @@ returns-in_default-clause-stands g c doc k before arriving coming h r unticked f
     let i = c.args.i in
     let x = c.index-process.result.now in
     let was = read-at w i x c.requires.index c.index-process.ensures in
-    let none : acts_now doc k i h ≡ false = sym (c.leadership.ensures.acts doc k i h (r.world.processes i x was) r.world.rest.document.at) ∙ ap is_some c.in_default.is in
+    let none : in_term_now doc k i h ≡ false = sym (c.leadership.ensures.in_term doc k i h (r.world.processes i x was) r.world.rest.document.at) ∙ ap is_some c.in_default.is in
     running-unticked doc k i before c.args.deeds.now arriving coming h w none r
 
 pub local-now-requires : goal.local-now-requires
@@ -49,7 +49,7 @@ returns-clause-stands g c doc k before arriving coming h r unticked few =
     let within = within-processes doc k w i d c.requires.index in
     let some = ap is_some c.in-Some.is in
     let up = some-holds c.leadership.result _ some (c.leadership.ensures.up doc i h s) in
-    let acts = acts-is doc k i n h up (sym (c.leadership.ensures.acts doc k i h s d.at) ∙ some) in
+    let acts = term-is doc k i n h up (sym (c.leadership.ensures.in_term doc k i h s d.at) ∙ some) in
     let me : c.me-who.result.0 ≡ i = ap (λ m. m.0) c.me-who.ensures ∙ process-me doc i h x s in
     let who : acting_identity c.in-Some.leadership ≡ q = subst (λ o. IfSome o (λ a. acting_identity a ≡ q)) c.in-Some.is (c.leadership.ensures.identity doc i h s) in
     let clock = its-clock doc i h x s in

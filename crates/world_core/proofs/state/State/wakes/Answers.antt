@@ -1,10 +1,10 @@
 use Rattle.std.proofs.Common.{◌≡◌, not, false, sym, ap, ◌∙◌, subst}
 use Rattle.kube_objects.specs.Identities.{identity}
-use Rattle.world_process.specs.Processes.{acts_now, clock_of, incarnation_of}
+use Rattle.world_process.specs.Processes.{in_term_now, clock_of, incarnation_of}
 use Rattle.world_core.specs.Waits.{WakesStand, starts_now}
 use Rattle.world_core.proofs.Awake.{acting-stands, begun-is, down-is, idle-stands, its-clock, its-term, some-holds, starting-stands, starts-is}
 use Rattle.world_core.proofs.Moving.{read-at, within-end, within-processes}
-use Rattle.world_core.proofs.Ticking.{acts-is, up-as}
+use Rattle.world_core.proofs.Ticking.{term-is, up-as}
 use Rattle.world_core.proofs.state.State.wakes.Goals.{else-self-eq0-via-then-self-eq0+else-is_up_first, else-self-eq0-via-else-self-eq0}
 use Rattle.world_core.proofs.state.State.wakes.Goals as goal
 
@@ -32,7 +32,7 @@ returns-then-is_none c doc k h s end =
       | else-self-eq0-via-then-self-eq0+else-is_up_first w ↦ down-is doc k p h x (sym w.is_up_first.ensures ∙ w.if-is_up_first.false) stands
       | else-self-eq0-via-else-self-eq0 w ↦ begun-is doc k p (λ zero. w.if-self-eq0.false (at ∙ zero))
     ] in
-    let none : acts_now doc k p h ≡ false = sym (c.leadership.ensures.acts doc k p h stands at) ∙ c.is_none.ensures ∙ ap not c.if-is_none.true in
+    let none : in_term_now doc k p h ≡ false = sym (c.leadership.ensures.in_term doc k p h stands at) ∙ c.is_none.ensures ∙ ap not c.if-is_none.true in
     subst (WakesStand doc k p h) (sym c.with.ensures) (idle-stands doc k p h (clock_of x) c.wake-wake.result (its-clock doc p h x stands) starts none (c.wake-wake.ensures doc p h stands))
 
 pub returns : goal.returns
@@ -51,7 +51,7 @@ returns c doc k h s end =
     ] in
     let some = c.is_none.ensures ∙ ap not c.if-is_none.false in
     let up = some-holds c.leadership.result _ some (c.leadership.ensures.up doc p h stands) in
-    let acts = acts-is doc k p i h up (sym (c.leadership.ensures.acts doc k p h stands d.at) ∙ some) in
+    let acts = term-is doc k p i h up (sym (c.leadership.ensures.in_term doc k p h stands d.at) ∙ some) in
     let it = up-as doc k p i h up acts in
     let watch = c.watch-watch.ensures doc h s.within.rest.in_force (within-processes doc k w p d c.requires.process) in
     subst (WakesStand doc k p h) (sym c.with-2.ensures)
