@@ -48,7 +48,7 @@ def test_document():
     settings = made['settings']
     same('epoch: the latest renewal is 10:59:59.120034', settings['epoch'], '2026-11-28T11:00:00Z')
     same('a quarter of an hour', settings['endBeat'] * settings['beatMillis'], 900_000)
-    same('the call timeout of client-go', settings['callTimeoutMillis'], 5_000)
+    same('the call timeout is the renew deadline', settings['callTimeoutMillis'], 10_000)
     same('the leader first', [each['name'] for each in made['controllers']], ['cp-2', 'cp-1', 'cp-3'])
     same('a kubelet for each node; of the silent one down', [each['node'] for each in made['kubelets'] if each.get('up') is False], ['worker-4'])
     same('seven kubelets', len(made['kubelets']), 7)
@@ -63,7 +63,7 @@ def test_flags():
     """Upstream's flags, on the line and in a manifest; the line goes first."""
     made = document('--from-manifest', MANIFEST, '--node-eviction-rate=0.3', '--unhealthy-zone-threshold', '0.6', '--for', '1h', '--beat', '500ms')['settings']
     wanted = {'leaseDurationSeconds': 30, 'renewDeadlineMillis': 20_000, 'retryPeriodMillis': 4_000, 'gracePeriodMillis': 50_000, 'primaryRate': 300,
-              'unhealthyPercent': 60, 'callTimeoutMillis': 10_000, 'endBeat': 7_200, 'beatMillis': 500}
+              'unhealthyPercent': 60, 'callTimeoutMillis': 20_000, 'endBeat': 7_200, 'beatMillis': 500}
     same('flags', {key: made[key] for key in wanted}, wanted)
     same('a call timeout of its own', document('--call-timeout', '2s')['settings']['callTimeoutMillis'], 2_000)
 

@@ -3,7 +3,7 @@ ghost use Rattle.std.specs.Prelude.{◌≡◌, ◌≤◌, ◌++◌, codes, [], l
 ghost use Rattle.serde_json.specs.View.{view, items_view};
 ghost use Rattle.kube_base.specs.Times.{time_of};
 ghost use Rattle.manifest_json.specs.Faults.{Gives, IsFault};
-ghost use Rattle.manifest_json.specs.Fields.{or_refuse};
+ghost use Rattle.manifest_json.specs.Fields.{AreKept, or_refuse};
 ghost use Rattle.manifest_json.specs.Walk.{member_path};
 ghost use Rattle.script_reader.specs.Fields as spec;
 ghost use Rattle.script_reader.specs.Walk.{named_at};
@@ -248,8 +248,9 @@ pub fn name_number_at(
     key: &str,
     value: &Value,
 ) -> Result<u32, ReadFault>
-    ensures { Gives (λ n. (n, names.new)) result
+    ensures gives { Gives (λ n. (n, names.new)) result
         (named_at names.old path.now key.now (view value.now)) }
+    ensures names { AreKept names.old names.new }
 {
     let text = needed_name(path, key, value)?;
     number(names, text)
