@@ -142,7 +142,7 @@ try_all() {
 if [ "${1:-unproved}" = unproved ]; then
     mode=unproved launcher=$room/sources/kube_replay
     mkdir "$room/sources"
-    tar -C "$top" -cf - --exclude=out crates crates.txt kube_replay VERSION | tar -C "$room/sources" -xf - || exit 1
+    tar -C "$top" -cf - --exclude=out crates crates.txt kube_replay VERSION tools/launch.sh | tar -C "$room/sources" -xf - || exit 1
     try_all
 fi
 if [ "${1:-proved}" = proved ]; then

@@ -30,12 +30,13 @@ import threading
 import time
 from concurrent.futures import ProcessPoolExecutor, ThreadPoolExecutor
 
-sys.path.insert(0, os.path.dirname(os.path.abspath(__file__)))
+sys.path.insert(0, os.path.dirname(os.path.realpath(__file__)))
 import chart
 import questions
 
-TOP = os.path.dirname(os.path.dirname(os.path.abspath(__file__)))
-BUILT = os.path.join(TOP, 'crates', 'kube_replay', 'out', 'kube_replay')
+TOP = os.path.dirname(os.path.dirname(os.path.realpath(__file__)))
+# The built program: of these sources, or where the package installs it.
+PLACES = [os.path.join(TOP, 'crates', 'kube_replay', 'out', 'kube_replay'), '/usr/libexec/kube-replay/kube_replay']
 MOST_RUNS = 1_000_000
 
 
@@ -381,8 +382,9 @@ def program_of(given):
     """The program's words, and how many run at once: the launcher, where nothing else is there, alone."""
     if given.program:
         return shlex.split(given.program), given.jobs or os.cpu_count()
-    if os.path.exists(BUILT):
-        return [BUILT], given.jobs or os.cpu_count()
+    for built in PLACES:
+        if os.path.exists(built):
+            return [built], given.jobs or os.cpu_count()
     print('sweep: the program is not built; each run takes a minute or more', file=sys.stderr)
     return [os.path.join(TOP, 'kube_replay')], given.jobs or 1
 

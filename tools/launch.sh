@@ -1,0 +1,143 @@
+# What the launcher ./kube_replay and the installed command kube_replay share: help, the version, words that are no command, faults,
+# signals. Read in by `.`, after these are set:
+#
+#     program         the program's file
+#     version         the file with its version
+#     called          how the command is called
+#     examples pages  the folders of the examples and of the pages
+#     place           where the lines to try are to be tried; may be empty
+#     more_statuses   exit statuses beside the program's own; may be empty
+child=''
+room=''
+
+tell_command() {
+    printf '  %-35s %s\n' "$1" "$2"
+}
+
+tell_commands() {
+    tell_command "$called check < DOCUMENT" 'reads a document (JSON) and says in one line what is in it, and whether its'
+    tell_command '' 'settings rule out two leaders (premise=yes)'
+    tell_command "$called replay < DOCUMENT" 'writes its trace: who leads, each write of the Lease, taints, evictions'
+    tell_command "$called audit < TRACE" 'reads the text of a trace and says whether it is safe'
+    tell_command "$called collect < LIST" 'reads nodes and pods: which pods the garbage collector would delete now'
+    tell_command "$called place < LIST" 'reads nodes and pods: where pods without a node may run, by taints'
+    echo "  $called generate SEED NODES PODS BEATS"
+    tell_command '' 'reads nothing: makes a cluster from four numbers, runs it and counts'
+    tell_command "$called --help, --version" 'these lines, and the version'
+}
+
+tell_help() {
+    cat <<HELP
+kube_replay simulates the leader election of kube-controller-manager, and what the leader does to nodes and pods.
+It reads standard input and writes standard output; no command takes the name of a file.
+
+$(tell_commands)
+
+Exit status: 0 answered, 1 the input is refused (refused CODE PATH), 2 no such command, 3 the input can't be read,
+4 the output can't be written, 5 memory ran out, 6 a word isn't UTF-8$more_statuses.
+
+Three lines to try$place:
+
+  $called check < $examples/leader-crashes/document.json
+  $called replay < $examples/leader-crashes/document.json
+  $called generate 7 100 3000 600
+
+$pages/document.md has all keys and refusals, $pages/trace.md the lines of a trace, $pages/questions.md what operators ask.
+HELP
+}
+
+say() {
+    echo "kube_replay: $1" >&2
+}
+
+are_utf8() {
+    case "$*" in *[!\ -~]*) ;; *) return 0 ;; esac
+    printf '%s\n' "$@" | iconv -f UTF-8 -t UTF-16 >/dev/null 2>&1
+}
+
+# Whether a word is a number in decimal digits without a sign or a leading zero, from $2 to $3.
+is_number() {
+    case "$1" in '' | *[!0-9]* | 0?*) return 1 ;; esac
+    [ ${#1} -ge ${#2} ] && [ ${#1} -le ${#3} ] || return 1
+    [ ${#1} -gt ${#2} ] || ! expr "x$1" '<' "x$2" >/dev/null || return 1
+    [ ${#1} -lt ${#3} ] || ! expr "x$1" '>' "x$3" >/dev/null
+}
+
+is_command() {
+    case "$#:$1" in
+        1:replay | 1:check | 1:audit | 1:collect | 1:place) return 0 ;;
+        5:generate) ;;
+        *) return 1 ;;
+    esac
+    is_number "$2" 0 18446744073709551615 && is_number "$3" 1 1000 && is_number "$4" 0 30000 && is_number "$5" 0 100000
+}
+
+# The answer to words that are no command: the program's line and status, and a hint beneath.
+refuse_words() {
+    are_utf8 "$@" || end_with 6
+    { echo 'usage: kube_replay COMMAND'; } 2>/dev/null || end_with 4
+    case "$1" in
+        replay | check | audit | collect | place)
+            say "$1 takes no further word: its input is standard input, as in $called $1 < FILE" ;;
+        generate) say "generate takes four numbers: a seed up to 18446744073709551615, 1 to 1000 nodes, 0 to 30000 pods, 0 to 100000 beats" ;;
+        '') say "a command is missing: replay, check, audit, collect, place or generate; --help tells them" ;;
+        *) say "'$1' is no command; there are replay, check, audit, collect, place and generate; --help tells them" ;;
+    esac
+    exit 2
+}
+
+# Ends with the program's status, and after a fault with a sentence that names it.
+end_with() {
+    case "$1" in
+        3) if [ -d /dev/stdin ]; then say "standard input is a directory"; else say "standard input can't be read"; fi ;;
+        4) say "standard output can't be written: it is closed or full, or its reader has ended" ;;
+        5) say "memory ran out, so what was written may be cut short" ;;
+        6) say "a word of the command isn't UTF-8" ;;
+    esac
+    exit "$1"
+}
+
+# Runs a command beside this one with the input and output of this call, so that a signal is obeyed while it runs.
+attend() {
+    if ( : 3<&0 ) 2>/dev/null; then
+        exec 3<&0
+        "$@" <&3 3<&- &
+    else
+        "$@" <&- &
+    fi
+    child=$!
+    wait "$child"
+    status=$?
+    child=''
+}
+
+# Ends the child, with all of its group where it has one of its own, and then this call.
+end_child() {
+    trap '' HUP INT TERM
+    if [ -n "$child" ]; then
+        kill -TERM -- "-$child" 2>/dev/null || kill -TERM "$child" 2>/dev/null
+        wait "$child" 2>/dev/null
+    fi
+    exit "$1"
+}
+
+obey_signals() {
+    trap '[ -z "$room" ] || rm -rf "$room"' EXIT
+    trap 'end_child 129' HUP
+    trap 'end_child 130' INT
+    trap 'end_child 143' TERM
+}
+
+# Goes on only where the words are a command that the program has to answer.
+answer_words() {
+    case "$#:$1" in
+        1:--help | 1:-h | 1:help) { tell_help; } 2>/dev/null || end_with 4; exit 0 ;;
+        1:--version) { echo "kube_replay $(cat "$version")"; } 2>/dev/null || end_with 4; exit 0 ;;
+    esac
+    is_command "$@" || refuse_words "$@"
+}
+
+run_program() {
+    attend "$program" "$@"
+    end_with "$status"
+}
