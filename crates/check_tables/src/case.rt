@@ -3,7 +3,7 @@ use crate::document::read_text;
 use crate::manifest::{holder_in, list_in};
 use crate::many::document_of;
 use crate::table::Kind;
-use crate::trial::{Trial, ample, both_write, ends, writes};
+use crate::trial::{Trial, ample, both_write, ends, shows, writes};
 use kube_base::NoMemory;
 use replay_top::Status;
 use std::alloc::Global;
@@ -35,6 +35,7 @@ fn case_holds(
         Kind::Check => writes(alloc, "check", input.as_bytes(), lines.as_str()),
         Kind::Collect => writes(alloc, "collect", input.as_bytes(), lines.as_str()),
         Kind::Place => writes(alloc, "place", input.as_bytes(), lines.as_str()),
+        Kind::State => state_holds(alloc, form, wanted, case),
         Kind::Audit => {
             let trace = with_line_feeds(alloc, &input)?;
             writes(alloc, "audit", trace.as_bytes(), lines.as_str())
@@ -44,6 +45,18 @@ fn case_holds(
         Kind::Holder => is_text(holder_in(alloc, input.as_str())?, wanted),
         Kind::Written => is_text(list_in(alloc, input.as_str())?, wanted),
         _ => Ok(false),
+    }
+}
+
+/// Whether `state` writes what is wanted after the beat of a case, of which the rest is the document.
+fn state_holds(alloc: Global, form: &str, wanted: &str, case: &str) -> Result<bool, NoMemory> {
+    match case.split_once('\t') {
+        Some((beat, rest)) => {
+            let document = fill(alloc, form, rest)?;
+            let line = lines_of(alloc, wanted)?;
+            shows(alloc, beat, document.as_bytes(), line.as_str())
+        }
+        None => Ok(false),
     }
 }
 

@@ -11,6 +11,8 @@ pub(crate) enum Kind {
     Collect,
     /// What `place` writes, and its input.
     Place,
+    /// What `state` writes, the beat, and the document.
+    State,
     /// What `audit` writes, and the trace, with `\n` for each line feed.
     Audit,
     /// What both commands write, and a document with many members, in parts.
@@ -52,6 +54,7 @@ fn kind_of(line: &str) -> Option<Kind> {
         "check" => Some(Kind::Check),
         "collect" => Some(Kind::Collect),
         "place" => Some(Kind::Place),
+        "state" => Some(Kind::State),
         "audit" => Some(Kind::Audit),
         "many" => Some(Kind::Many),
         "words" => Some(Kind::Words),

@@ -65,6 +65,19 @@ pub(crate) fn writes(
     ends(alloc, &words, &trial, status_of(text), text.as_bytes())
 }
 
+/// Whether `state` with this beat writes just this text of a document, and ends as the text says.
+pub(crate) fn shows(
+    alloc: Global,
+    beat: &str,
+    document: &[u8],
+    text: &str,
+) -> Result<bool, NoMemory> {
+    let mut words = one_word(alloc, "state")?;
+    words.push(String::from_str(alloc, beat)?)?;
+    let trial = ample(document, text.len());
+    ends(alloc, &words, &trial, status_of(text), text.as_bytes())
+}
+
 /// Whether both commands write just this text of a document.
 pub(crate) fn both_write(alloc: Global, document: &[u8], text: &str) -> Result<bool, NoMemory> {
     let replayed = writes(alloc, "replay", document, text)?;

@@ -3,16 +3,17 @@ use Rattle.std.proofs.Common.{◌≡◌, ◌⊎◌, ◌<◌, ℕ, cond, List, le
 use Rattle.std.proofs.lemmas.Bool.{lt-leb}
 use Rattle.replay_top.specs.declared.status.Status.{Status}
 use Rattle.replay_top.specs.declared.status.Status.TheVariants.{Done, Refused, Usage, SourceFault, SinkFault, OutOfMemory}
+use Rattle.kube_base.specs.declared.numbers.Beat.{Beat}
 use Rattle.manifest_json.specs.declared.fault.Refusal.{Refusal}
 use Rattle.script_reader.specs.declared.document.Document.{Document}
 use Rattle.script_reader.specs.Walk.{document_walk}
 use Rattle.replay_top.specs.declared.command.Command.{Command}
-use Rattle.replay_top.specs.declared.command.Command.TheVariants.{Replay, Check}
+use Rattle.replay_top.specs.declared.command.Command.TheVariants.{Replay, Check, State}
 use Rattle.replay_top.specs.declared.task.Task.{Task}
 use Rattle.replay_top.specs.Tasks.{task_of}
 use Rattle.replay_top.specs.Traces.{trace}
 use Rattle.replay_top.specs.Summary.{summary}
-use Rattle.replay_top.specs.Outcome.{Outcome, outcome, outcome_of, obeyed, answered, answer_to, refused, of_whole, done, Ends, IsRunEnd, IsWhole}
+use Rattle.replay_top.specs.Outcome.{Outcome, outcome, outcome_of, obeyed, answered, answer_to, state_answer, refused, of_whole, done, Ends, IsRunEnd, IsWhole}
 use Rattle.replay_top.specs.Replays.{IsUnread, IsUndone}
 use Rattle.replay_top.specs.Readings.{Means}
 
@@ -53,6 +54,9 @@ pub read-unread : (bytes : List ℕ) (d : Document) → Means bytes (λ command.
 read-unread bytes d means read (inl long) = read-large bytes d means long
 read-unread bytes d means read (inr refusal) = read-refused bytes d refusal.0 read refusal.1
 
+pub answer-state : (command : Command) (d : Document) (beat : Beat) → command ≡ State beat → answer_to command d ≡ state_answer d beat.0
+answer-state command d beat is = ap (λ c. answer_to c d) is
+
 pub answer-checked : (command : Command) (d : Document) → command ≡ Check → answer_to command d ≡ done (summary d)
 answer-checked command d is = ap (λ c. answer_to c d) is
 
@@ -67,6 +71,10 @@ ends-whole o left before after OutOfMemory calm taken ends = inr refl
 pub not-source : (s : Status) → (s ≡ Usage) ⊎ (s ≡ SinkFault) → ¬ (s ≡ SourceFault)
 not-source s (inl is) fault = let never : Usage ≡ SourceFault = sym is ∙ fault in cc
 not-source s (inr is) fault = let never : SinkFault ≡ SourceFault = sym is ∙ fault in cc
+
+pub not-done : (s : Status) → (s ≡ Usage) ⊎ (s ≡ SinkFault) → ¬ (s ≡ Done)
+not-done s (inl is) done = let never : Usage ≡ Done = sym is ∙ done in cc
+not-done s (inr is) done = let never : SinkFault ≡ Done = sym is ∙ done in cc
 
 pub run-end : (s : Status) → IsRunEnd s → ¬ (s ≡ SourceFault)
 run-end Done ended fault = let never : Done ≡ SourceFault = fault in cc

@@ -7,6 +7,8 @@ pub mod Said
 pub mod Writables
 pub mod Grown
 pub mod Counted
+pub mod Plain
+pub mod States
 -- ---- the bytes that were taken, and how a run ends
 pub mod Readings
 pub mod Askings

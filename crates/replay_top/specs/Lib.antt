@@ -12,6 +12,7 @@ pub mod Replays
 pub mod Runs
 pub mod Sizes
 pub mod Spoken
+pub mod State
 pub mod Summary
 pub mod Tasks
 pub mod Traces

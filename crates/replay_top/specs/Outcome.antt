@@ -8,7 +8,7 @@ use Rattle.script_reader.specs.Walk.{document_walk}
 use Rattle.trace_audit.specs.declared.audit_of.Report.{Report}
 use Rattle.trace_audit.specs.Verdict.{Fault, verdict}
 use Rattle.replay_top.specs.declared.command.Command.{Command}
-use Rattle.replay_top.specs.declared.command.Command.TheVariants.{Replay, Check}
+use Rattle.replay_top.specs.declared.command.Command.TheVariants.{Replay, Check, State}
 use Rattle.replay_top.specs.declared.status.Status.{Status}
 use Rattle.replay_top.specs.declared.status.Status.TheVariants.{Done, Refused, Usage, SourceFault, SinkFault, OutOfMemory}
 use Rattle.replay_top.specs.declared.question.Question.{Question}
@@ -18,6 +18,7 @@ use Rattle.replay_top.specs.Tasks.{task_of}
 use Rattle.replay_top.specs.Audited.{report_text, refusal_of}
 use Rattle.replay_top.specs.Generated.{generated_line}
 use Rattle.replay_top.specs.Questions.{answer_of}
+use Rattle.replay_top.specs.State.{state_text}
 use Rattle.replay_top.specs.Traces.{trace}
 use Rattle.replay_top.specs.Summary.{summary}
 
@@ -40,10 +41,15 @@ of_whole code = record { code = code; path = codes "/" }
 abbrev pub done : List ℕ → Outcome
 done text = record { status = Done; text = text; left = [] }
 
--- `replay` writes a document's trace, and `check` the line on it
+-- no beat after the end has a state
+abbrev pub state_answer : Document → ℕ → Outcome
+state_answer d b = if nat_le b d.settings.end_beat.0 then done (state_text d b) else refused (of_whole 34) []
+
+-- `replay` writes a document's trace, `check` the line on it, and `state` what is stored after a beat
 abbrev pub answer_to : Command → Document → Outcome
 answer_to Replay d = done (trace d)
 answer_to Check d = done (summary d)
+answer_to (State beat) d = state_answer d beat.0
 
 abbrev pub answered : Command → Result Document Refusal → Outcome
 answered command (Ok d) = answer_to command d

@@ -1,17 +1,19 @@
 -- A document that is replayed or generated, and the steps that a run counts.
 use Rattle.std.specs.Prelude.{◌≡◌, ◌⊎◌, ◌<◌, ℕ, true, List, length, Option, Some, Ok, Err}
+use Rattle.kube_base.specs.declared.numbers.Beat.{Beat}
 use Rattle.kube_objects.specs.Document.{Doc}
 use Rattle.history.specs.Premise.{lease_premise}
 use Rattle.manifest_json.specs.declared.fault.Refusal.{Refusal}
 use Rattle.script_reader.specs.declared.document.Document.{Document}
 use Rattle.script_reader.specs.Documents.{doc_of}
 use Rattle.script_reader.specs.Walk.{document_walk}
-use Rattle.replay_top.specs.declared.command.Command.TheVariants.{Replay}
+use Rattle.replay_top.specs.declared.command.Command.TheVariants.{Replay, State}
 use Rattle.replay_top.specs.declared.status.Status.{Status}
 use Rattle.replay_top.specs.declared.status.Status.TheVariants.{Refused, Usage, SourceFault}
 use Rattle.replay_top.specs.declared.sizes.Sizes.{Sizes}
-use Rattle.replay_top.specs.declared.task.Task.TheVariants.{Generate}
-use Rattle.replay_top.specs.Commands.{command_of}
+use Rattle.replay_top.specs.declared.task.Task.{Task}
+use Rattle.replay_top.specs.declared.task.Task.TheVariants.{Document as DocumentTask, Generate}
+use Rattle.replay_top.specs.Commands.{IsRunning, command_of}
 use Rattle.replay_top.specs.Generated.{document_of}
 use Rattle.replay_top.specs.Tasks.{task_of}
 
@@ -21,6 +23,18 @@ pub record Replays (words : List (List ℕ)) (left : Option (List ℕ)) (d : Doc
   pub told : left ≡ Some bytes
   pub command : command_of words ≡ Some Replay
   pub read : document_walk bytes ≡ Ok d
+
+-- the words are `state` with this beat, and the source tells bytes that are this document
+pub record Shows (words : List (List ℕ)) (left : Option (List ℕ)) (d : Document) (beat : Beat) : Type 0 where
+  pub bytes : List ℕ
+  pub told : left ≡ Some bytes
+  pub command : command_of words ≡ Some (State beat)
+  pub read : document_walk bytes ≡ Ok d
+
+-- the task runs a document that is read
+abbrev pub IsRunningTask : Task → Type 0
+IsRunningTask (DocumentTask command) = IsRunning command
+IsRunningTask _ = ⊥
 
 -- this holds of every document that is replayed where the lease premise holds
 abbrev pub WhereReplayedUnderPremise : List (List ℕ) → Option (List ℕ) → (Doc → Type 0) → Type 0

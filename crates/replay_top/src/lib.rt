@@ -1,5 +1,5 @@
-//! The commands: from bytes to the trace of a document, the line on it, the audit of a trace, the lines on some pods, or the one
-//! refusal, and from a seed to the line on the run of its document.
+//! The commands: from bytes to the trace of a document, the line on it, what is stored after a beat, the audit of a trace, the lines on
+//! some pods, or the one refusal, and from a seed to the line on the run of its document.
 #![tactic(auto)]
 
 mod asking;
@@ -13,6 +13,7 @@ mod question;
 mod reading;
 mod running;
 mod sizes;
+mod state;
 mod status;
 mod summary;
 mod task;

@@ -1,7 +1,9 @@
 // The commands.
-ghost use Rattle.std.specs.Prelude.{◌≡◌, ◌≢◌, ◌⊎◌, ◌≤◌, ◌+◌, ℕ, List, [], Some, None, Ok, ◌++◌, OnOk, map, string_bytes};
-ghost use Rattle.agenda_laws.specs.Standing.{standing_beats};
+ghost use Rattle.std.specs.Prelude.{◌≡◌, ◌≢◌, ◌⊎◌, ◌≤◌, ◌+◌, ℕ, List, [], Some, None, Ok, ◌++◌, OnOk, true, map, string_bytes};
+ghost use Rattle.agenda_laws.specs.Standing.{standing_beats, standing_below};
 ghost use Rattle.byte_edge.specs.Bytes.{Rose};
+ghost use Rattle.kube_base.specs.declared.numbers.Beat.{Beat};
+ghost use Rattle.history.specs.Premise.{lease_premise};
 ghost use Rattle.history.specs.Evictions.{NotEarly, Prompt};
 ghost use Rattle.history.specs.Safe.{Holder, Exclusive};
 ghost use Rattle.history.specs.Spacing.{Spacing};
@@ -11,13 +13,15 @@ ghost use Rattle.script_reader.specs.Lawful.{IsLawfulDoc, IsWellNamed};
 ghost use Rattle.script_reader.specs.Walk.{document_walk};
 ghost use Rattle.trace_audit.specs.Alone.{entries_in, OneActs};
 ghost use Rattle.replay_top.specs.Claims.{IsSafe};
-ghost use Rattle.replay_top.specs.Commands.{command_of};
+ghost use Rattle.replay_top.specs.Commands.{IsRunning, IsRunningSome, command_of};
 ghost use Rattle.replay_top.specs.Generated.{document_of, generated_line};
 ghost use Rattle.replay_top.specs.Sizes.{sizes_of};
 ghost use Rattle.replay_top.specs.Tasks.{IsRead, IsWithin, task_of};
 ghost use Rattle.replay_top.specs.Outcome.{outcome, usage, performed, obeyed, answer_to, refused, refusal_text, done};
 ghost use Rattle.replay_top.specs.Outcome.{Ends, EndsAs, IsWhole, IsRunEnd};
-ghost use Rattle.replay_top.specs.Replays.{Replays, WhereGenerated, WhereReplayedUnderPremise, WhereReadUnderPremise, IsUnread, IsUndone};
+ghost use Rattle.replay_top.specs.Replays.{Replays, Shows, WhereGenerated, WhereReplayedUnderPremise, WhereReadUnderPremise};
+ghost use Rattle.replay_top.specs.Replays.{IsRunningTask, IsUnread, IsUndone};
+ghost use Rattle.replay_top.specs.State.{ReadsBack};
 ghost use Rattle.replay_top.specs.Traces.{trace};
 ghost use Rattle.replay_top.specs.Summary.{summary};
 
@@ -27,6 +31,7 @@ use crate::command::Command;
 use crate::generating::write_generated;
 use crate::reading::{Reading, read};
 use crate::sizes::Sizes;
+use crate::state::write_state;
 use crate::status::Status;
 use crate::summary::add_summary;
 use crate::task::{Task, task_in};
@@ -47,7 +52,7 @@ use zone_state::Policies;
 pub(crate) const TOO_LARGE: u32 = 33;
 
 /// Does what the words after the program's name say: `replay` reads a document from the source and writes its trace to
-/// the sink, and `check` writes one line on it. `audit` reads the text of a trace and writes one line on it, and `collect` and `place`
+/// the sink, `check` writes one line on it, and `state` with a beat writes what is stored after it. `audit` reads the text of a trace and writes one line on it, and `collect` and `place`
 /// read Nodes and Pods and write lines on the pods. `generate` runs the document of a seed and writes one line, and the source isn't
 /// read. A refused document, trace or input is answered by the line of its refusal, and words that are no command by a line on the
 /// usage, for which the source isn't read and no memory is taken.
@@ -107,8 +112,20 @@ pub fn run<S: Source, K: Sink, L>(
     ensures unread { (bytes : List ℕ) → S.left source.old ≡ Some bytes → IsUnread bytes
         → sizes_of (map string_bytes words.now.items) ≡ None → steps.new ≡ steps.old }
     ensures undone { IsUndone result → steps.new ≡ steps.old }
-    ensures unasked { command_of (map string_bytes words.now.items) ≢ Some Command.Replay
+    ensures unasked { ¬ IsRunningSome (command_of (map string_bytes words.now.items))
         → sizes_of (map string_bytes words.now.items) ≡ None → steps.new ≡ steps.old }
+
+    // For a state no more beats are done than have entries up to its beat.
+    ensures counted_state { (d : Document) (beat : Beat) → Shows (map string_bytes words.now.items) (S.left source.old) d beat
+        → steps.new ≤ steps.old + standing_below (doc_of d) (beat.0 + 1) }
+
+    // A state that was written is read as what is stored after the beat.
+    ensures reads_back { (d : Document) (beat : Beat) → Shows (map string_bytes words.now.items) (S.left source.old) d beat
+        → result ≡ Status.Done → ReadsBack d beat.0 }
+
+    // In the history up to it all five hold too, where the lease premise does.
+    ensures safe_state { (d : Document) (beat : Beat) → Shows (map string_bytes words.now.items) (S.left source.old) d beat
+        → lease_premise (doc_of d) ≡ true → IsSafe (doc_of d) }
 
     // In a trace that `audit` lets pass all acting lines of a beat are by one identity.
     ensures alone { (bytes : List ℕ) → S.left source.old ≡ Some bytes → task_of (map string_bytes words.now.items) ≡ Some Task.Audit
@@ -139,7 +156,11 @@ fn perform<S: Source, K: Sink, L>(
         → steps.new ≤ steps.old + standing_beats (doc_of d) }
     ensures unread { (bytes : List ℕ) → S.left source.old ≡ Some bytes → IsUnread bytes → IsRead task → steps.new ≡ steps.old }
     ensures undone { IsUndone result → steps.new ≡ steps.old }
-    ensures unasked { task ≢ Task.Document Command.Replay → IsRead task → steps.new ≡ steps.old }
+    ensures unasked { ¬ IsRunningTask task → IsRead task → steps.new ≡ steps.old }
+    ensures counted_state { (bytes : List ℕ) (d : Document) (beat : Beat) → S.left source.old ≡ Some bytes → document_walk bytes ≡ Ok d
+        → task ≡ Task.Document (Command.State beat) → steps.new ≤ steps.old + standing_below (doc_of d) (beat.0 + 1) }
+    ensures reads_back { (bytes : List ℕ) (d : Document) (beat : Beat) → S.left source.old ≡ Some bytes → document_walk bytes ≡ Ok d
+        → task ≡ Task.Document (Command.State beat) → result ≡ Status.Done → ReadsBack d beat.0 }
     ensures generated { (sizes : Sizes) → task ≡ Task.Generate sizes
         → (S.left source.new ≡ S.left source.old) × (S.faults source.new ≡ S.faults source.old) × IsRunEnd result
         × Ends (done (generated_line sizes)) (Some []) (K.taken sink.old) (K.taken sink.new) result
@@ -199,18 +220,22 @@ fn obey<S: Source, K: Sink, L>(
         → steps.new ≤ steps.old + standing_beats (doc_of d) }
     ensures unread { (bytes : List ℕ) → S.left source.old ≡ Some bytes → IsUnread bytes → steps.new ≡ steps.old }
     ensures undone { IsUndone result → steps.new ≡ steps.old }
-    ensures unasked { command ≢ Command.Replay → steps.new ≡ steps.old }
+    ensures unasked { ¬ IsRunning command → steps.new ≡ steps.old }
+    ensures counted_state { (bytes : List ℕ) (d : Document) (beat : Beat) → S.left source.old ≡ Some bytes → document_walk bytes ≡ Ok d
+        → command ≡ Command.State beat → steps.new ≤ steps.old + standing_below (doc_of d) (beat.0 + 1) }
+    ensures reads_back { (bytes : List ℕ) (d : Document) (beat : Beat) → S.left source.old ≡ Some bytes → document_walk bytes ≡ Ok d
+        → command ≡ Command.State beat → result ≡ Status.Done → ReadsBack d beat.0 }
 {
     match read(alloc, source) {
         Reading::Document(document, value) => {
-            // `replay` frees the value before it runs, and `check` after the document: its many small pieces are gone
+            // A command that runs the document frees the value before, and `check` after the document: its many small pieces are gone
             // through once more where large ones are freed after them.
             let _last = match command {
-                Command::Replay => {
+                Command::Check => Some(value),
+                Command::Replay | Command::State(_) => {
                     drop(value);
                     None
                 }
-                Command::Check => Some(value),
             };
             answer(alloc, command, sink, document, policies, steps)
         }
@@ -234,14 +259,18 @@ fn answer<K: Sink, L>(
     requires named { IsWellNamed document.names (doc_of document) }
     ensures text { Ends (answer_to command document) (Some []) (K.taken sink.old) (K.taken sink.new) result }
     ensures silent { result ≢ Status.SourceFault }
-    ensures done { IsUndone result → ⊥ }
+    ensures undone { IsUndone result → steps.new ≡ steps.old }
     ensures sink_fault { result ≡ Status.SinkFault → Rose (K.faults sink.old) (K.faults sink.new) }
     ensures counted { steps.new ≤ steps.old + standing_beats (doc_of document) }
-    ensures unasked { command ≢ Command.Replay → steps.new ≡ steps.old }
+    ensures unasked { ¬ IsRunning command → steps.new ≡ steps.old }
+    ensures counted_state { (beat : Beat) → command ≡ Command.State beat
+        → steps.new ≤ steps.old + standing_below (doc_of document) (beat.0 + 1) }
+    ensures reads_back { (beat : Beat) → command ≡ Command.State beat → result ≡ Status.Done → ReadsBack document beat.0 }
 {
     match command {
         Command::Replay => replay(alloc, sink, document, policies, steps),
         Command::Check => check(alloc, sink, &document),
+        Command::State(last) => write_state(alloc, sink, document, last, policies, steps),
     }
 }
 

@@ -1,7 +1,8 @@
 use Rattle.std.proofs.Common.{◌≤◌, ◌+◌, [], Some, subst}
 use Rattle.byte_edge.proofs.Fronts.{gave-nothing}
 use Rattle.replay_top.specs.Outcome.{obeyed, answer_to, refused, of_whole, Ends}
-use Rattle.agenda_laws.specs.Standing.{standing_beats}
+use Rattle.agenda_laws.specs.Standing.{standing_beats, standing_below}
+use Rattle.replay_top.specs.State.{ReadsBack}
 use Rattle.script_reader.specs.Documents.{doc_of}
 use Rattle.replay_top.proofs.Endings.{ends-moved, same-read, read-unread}
 use Rattle.replay_top.proofs.running.obey.Goals as goal
@@ -24,8 +25,16 @@ returns-after-command-clause-unread g c bytes told unread =
     let reads = c.in-Document.ensures.told bytes told in
     absurd (read-unread bytes c.in-Document.document reads.1 reads.2 unread)
 
-pub returns-after-command-clause-undone : goal.returns-after-command-clause-undone
-returns-after-command-clause-undone g c undone = absurd (c.answer.ensures.done undone)
+pub returns-after-command-clause-counted_state : goal.returns-after-command-clause-counted_state
+returns-after-command-clause-counted_state g c bytes d beat told read is =
+    let reads = c.in-Document.ensures.told bytes told in
+    subst (λ x. c.answer.new.steps ≤ c.args.steps.now + standing_below (doc_of x) (beat.0 + 1)) (same-read bytes c.in-Document.document d reads.2 read)
+    (c.answer.ensures.counted_state beat is)
+
+pub returns-after-command-clause-reads_back : goal.returns-after-command-clause-reads_back
+returns-after-command-clause-reads_back g c bytes d beat told read is done =
+    let reads = c.in-Document.ensures.told bytes told in
+    subst (λ x. ReadsBack x beat.0) (same-read bytes c.in-Document.document d reads.2 read) (c.answer.ensures.reads_back beat is done)
 
 pub returns-in-Refused-clause-text : goal.returns-in-Refused-clause-text
 returns-in-Refused-clause-text g c bytes told =

@@ -2,9 +2,11 @@ use Rattle.std.proofs.Common.{◌≡◌, ◌≤◌, ◌+◌, [], Some, refl, sym
 use Rattle.agenda_laws.specs.Standing.{standing_beats}
 use Rattle.replay_top.specs.declared.sizes.Sizes.{Sizes}
 use Rattle.replay_top.specs.declared.task.Task.TheVariants.{Document, Pods, Audit, Generate}
+use Rattle.replay_top.specs.declared.command.Command.TheVariants.{State}
 use Rattle.replay_top.specs.Claims.{IsSafe}
 use Rattle.replay_top.specs.Generated.{document_of, generated_line}
 use Rattle.replay_top.specs.Outcome.{asked, audited, obeyed, performed, done, unread, Ends}
+use Rattle.replay_top.specs.Replays.{IsRunningTask}
 use Rattle.replay_top.specs.Tasks.{IsRead}
 use Rattle.replay_top.proofs.Endings.{ends-moved, run-end, run-undone}
 use Rattle.replay_top.proofs.running.perform.Goals as goal
@@ -103,3 +105,39 @@ returns-in-Audit-clause-safe g c sizes is = absurd (let never : Audit ≡ Genera
 
 pub returns-in-Pods-clause-safe : goal.returns-in-Pods-clause-safe
 returns-in-Pods-clause-safe g c sizes is = absurd (let never : Pods c.in-Pods.question ≡ Generate sizes = sym c.in-Pods.is ∙ is in cc)
+
+-- ---- the task of a state
+
+pub returns-in-Document-clause-unasked : goal.returns-in-Document-clause-unasked
+returns-in-Document-clause-unasked g c other reads = c.obey.ensures.unasked (λ runs. other (subst IsRunningTask (sym c.in-Document.is) runs))
+
+pub returns-in-Document-clause-counted_state : goal.returns-in-Document-clause-counted_state
+returns-in-Document-clause-counted_state g c bytes d beat told read is =
+    let found : Document c.in-Document.command ≡ Document (State beat) = sym c.in-Document.is ∙ is in
+    c.obey.ensures.counted_state bytes d beat told read (cc)
+
+pub returns-in-Document-clause-reads_back : goal.returns-in-Document-clause-reads_back
+returns-in-Document-clause-reads_back g c bytes d beat told read is done =
+    let found : Document c.in-Document.command ≡ Document (State beat) = sym c.in-Document.is ∙ is in
+    c.obey.ensures.reads_back bytes d beat told read (cc) done
+
+pub returns-in-Audit-clause-counted_state : goal.returns-in-Audit-clause-counted_state
+returns-in-Audit-clause-counted_state g c bytes d beat told read is = absurd (let never : Audit ≡ Document (State beat) = sym c.in-Audit.is ∙ is in cc)
+
+pub returns-in-Audit-clause-reads_back : goal.returns-in-Audit-clause-reads_back
+returns-in-Audit-clause-reads_back g c bytes d beat told read is done = absurd (let never : Audit ≡ Document (State beat) = sym c.in-Audit.is ∙ is in cc)
+
+pub returns-in-Pods-clause-counted_state : goal.returns-in-Pods-clause-counted_state
+returns-in-Pods-clause-counted_state g c bytes d beat told read is = absurd (let never : Pods c.in-Pods.question ≡ Document (State beat) = sym c.in-Pods.is ∙ is in cc)
+
+pub returns-in-Pods-clause-reads_back : goal.returns-in-Pods-clause-reads_back
+returns-in-Pods-clause-reads_back g c bytes d beat told read is done = absurd (let never : Pods c.in-Pods.question ≡ Document (State beat) = sym c.in-Pods.is ∙ is in cc)
+
+pub returns-in-Generate-clause-counted_state : goal.returns-in-Generate-clause-counted_state
+returns-in-Generate-clause-counted_state g c bytes d beat told read is = absurd (let never : Generate c.in-Generate.sizes ≡ Document (State beat) = sym c.in-Generate.is ∙ is in cc)
+
+pub returns-in-Generate-clause-reads_back : goal.returns-in-Generate-clause-reads_back
+returns-in-Generate-clause-reads_back g c bytes d beat told read is done = absurd (let never : Generate c.in-Generate.sizes ≡ Document (State beat) = sym c.in-Generate.is ∙ is in cc)
+
+pub returns-in-Document-clause-unread : goal.returns-in-Document-clause-unread
+returns-in-Document-clause-unread g c bytes told unread reads = c.obey.ensures.unread bytes told unread

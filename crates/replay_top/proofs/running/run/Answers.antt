@@ -1,10 +1,10 @@
 use Rattle.std.proofs.Common.{List, ℕ, [], Some, None, map, string_bytes, refl, sym, ap, ◌∙◌, ◌≡◌}
-use Rattle.replay_top.specs.declared.command.Command.TheVariants.{Replay}
+use Rattle.replay_top.specs.declared.command.Command.TheVariants.{Replay, State}
 use Rattle.replay_top.specs.declared.task.Task.{Task}
-use Rattle.replay_top.specs.declared.task.Task.TheVariants.{Audit, Generate}
+use Rattle.replay_top.specs.declared.task.Task.TheVariants.{Audit, Document, Generate}
 use Rattle.replay_top.specs.Outcome.{outcome, performed, usage}
-use Rattle.replay_top.proofs.Asked.{task-command, task-read, command-unsized}
-use Rattle.replay_top.proofs.Endings.{ends-moved, outcome-of, ends-whole, not-source}
+use Rattle.replay_top.proofs.Asked.{task-read, command-unsized, running-asked, state-task}
+use Rattle.replay_top.proofs.Endings.{ends-moved, outcome-of, ends-whole, not-done, not-source}
 use Rattle.replay_top.proofs.running.run.Goals as goal
 
 pub returns-in-Some-clause-text : goal.returns-in-Some-clause-text
@@ -67,7 +67,7 @@ pub returns-in-Some-clause-unasked : goal.returns-in-Some-clause-unasked
 returns-in-Some-clause-unasked g c other none =
     let words : List (List ℕ) = map string_bytes c.args.words.now.items in
     let found = sym c.task_in.ensures.task ∙ c.in-Some.is in
-    c.perform.ensures.unasked (λ is. other (task-command words Replay (found ∙ ap (λ (x : Task). Some x) is)))
+    c.perform.ensures.unasked (λ runs. other (running-asked words c.in-Some.task found runs))
     (task-read words c.in-Some.task found none)
 
 pub returns-in-None-clause-text : goal.returns-in-None-clause-text
@@ -128,3 +128,40 @@ returns-in-None-clause-generated g c sizes asked =
 pub returns-in-None-clause-safe : goal.returns-in-None-clause-safe
 returns-in-None-clause-safe g c sizes asked =
     absurd (let found : None ≡ Some (Generate sizes) = sym c.in-None.is ∙ c.task_in.ensures.task ∙ asked in cc)
+
+-- ---- a state
+
+pub returns-in-Some-clause-counted_state : goal.returns-in-Some-clause-counted_state
+returns-in-Some-clause-counted_state g c d beat shows =
+    let words : List (List ℕ) = map string_bytes c.args.words.now.items in
+    let found : Some c.in-Some.task ≡ Some (Document (State beat)) = sym c.in-Some.is ∙ c.task_in.ensures.task ∙ state-task words beat shows.command in
+    c.perform.ensures.counted_state shows.bytes d beat shows.told shows.read (cc)
+
+pub returns-in-Some-clause-reads_back : goal.returns-in-Some-clause-reads_back
+returns-in-Some-clause-reads_back g c d beat shows done =
+    let words : List (List ℕ) = map string_bytes c.args.words.now.items in
+    let found : Some c.in-Some.task ≡ Some (Document (State beat)) = sym c.in-Some.is ∙ c.task_in.ensures.task ∙ state-task words beat shows.command in
+    c.perform.ensures.reads_back shows.bytes d beat shows.told shows.read (cc) done
+
+pub returns-in-None-clause-reads_back : goal.returns-in-None-clause-reads_back
+returns-in-None-clause-reads_back g c d beat shows done = absurd (not-done c.tell_usage.result c.tell_usage.ensures.usage done)
+
+pub returns-in-Some-clause-safe_state : goal.returns-in-Some-clause-safe_state
+returns-in-Some-clause-safe_state g c d beat shows premise =
+    record {
+      holder = c.documents_are_safe.ensures.holder shows.bytes d shows.read premise;
+      exclusive = c.documents_are_safe.ensures.exclusive shows.bytes d shows.read premise;
+      spacing = c.documents_are_safe.ensures.spacing shows.bytes d shows.read premise;
+      not_early = c.documents_are_safe.ensures.not_early d;
+      prompt = c.documents_are_safe.ensures.prompt d;
+    }
+
+pub returns-in-None-clause-safe_state : goal.returns-in-None-clause-safe_state
+returns-in-None-clause-safe_state g c d beat shows premise =
+    record {
+      holder = c.documents_are_safe.ensures.holder shows.bytes d shows.read premise;
+      exclusive = c.documents_are_safe.ensures.exclusive shows.bytes d shows.read premise;
+      spacing = c.documents_are_safe.ensures.spacing shows.bytes d shows.read premise;
+      not_early = c.documents_are_safe.ensures.not_early d;
+      prompt = c.documents_are_safe.ensures.prompt d;
+    }

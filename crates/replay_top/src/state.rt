@@ -1,0 +1,151 @@
+// What is stored after a beat, as a manifest.
+ghost use Rattle.std.specs.Prelude.{◌≡◌, ◌≢◌, ◌≤◌, ◌+◌, ℕ, [], Some, true, IfOk};
+ghost use Rattle.std.specs.List.{list_all};
+ghost use Rattle.agenda_laws.specs.Standing.{standing_beats, standing_below};
+ghost use Rattle.byte_edge.specs.Bytes.{Rose};
+ghost use Rattle.kube_objects.specs.Document.{Doc, end_beat};
+ghost use Rattle.history.specs.History.{history};
+ghost use Rattle.manifest_json.specs.Written.{is_writable_item, list_of};
+ghost use Rattle.script_reader.specs.Documents.{doc_of};
+ghost use Rattle.script_reader.specs.Lawful.{AreLawfulFrom, IsLawfulDoc, IsWellNamed};
+ghost use Rattle.script_reader.specs.Walk.{numbers_of as numbers_in_order};
+ghost use Rattle.world_core.specs.Waits.{beat_of};
+ghost use Rattle.world_core.specs.Worlds.{at_of, end_of, names_of, IsReady, WorldStands};
+ghost use Rattle.replay_top.specs.Outcome.{Ends, state_answer};
+ghost use Rattle.replay_top.specs.Replays.{IsUndone};
+ghost use Rattle.replay_top.specs.Runs.{IsNextUpTo, IsRunUpTo, Runs, StandsForNext};
+ghost use Rattle.replay_top.specs.State.{IsReadAgain, ReadsBack, line_of, state_text};
+
+use crate::running::refuse;
+use crate::status::Status;
+use crate::trace::{beat_at, next_of};
+use crate::writing::write;
+use byte_edge::Sink;
+use kube_base::{Beat, ListOf, Names, NoMemory, Steps};
+use kube_objects::{Items, Proc};
+use manifest_json::write_list;
+use script_reader::Document;
+use std::alloc::Global;
+use trace_writer::add;
+use world_core::World;
+use zone_state::Policies;
+
+/// The code of a beat after the end of the document.
+const PAST_END: u32 = 34;
+
+/// Runs the document up to the end of this beat and writes what is stored then. A beat after the end is refused.
+pub(crate) fn write_state<K: Sink, L>(
+    alloc: Global,
+    sink: &mut K,
+    document: Document,
+    last: Beat,
+    policies: &Policies,
+    steps: &mut Steps<L>,
+) -> Status
+    requires lawful { IsLawfulDoc (doc_of document) }
+    requires named { IsWellNamed document.names (doc_of document) }
+    ensures text { Ends (state_answer document last.0) (Some []) (K.taken sink.old) (K.taken sink.new) result }
+    ensures reads_back { result ≡ Status.Done → ReadsBack document last.0 }
+    ensures silent { result ≢ Status.SourceFault }
+    ensures sink_fault { result ≡ Status.SinkFault → Rose (K.faults sink.old) (K.faults sink.new) }
+    ensures undone { IsUndone result → steps.new ≡ steps.old }
+    ensures counted { steps.new ≤ steps.old + standing_below (doc_of document) (last.0 + 1) }
+    ensures counted_all { steps.new ≤ steps.old + standing_beats (doc_of document) }
+{
+    if document.settings.end_beat.0 < last.0 {
+        return refuse(alloc, sink, PAST_END, b"/");
+    }
+    match text_after(alloc, document, last, policies, steps) {
+        Ok(text) => write(sink, &text),
+        Err(NoMemory) => Status::OutOfMemory,
+    }
+}
+
+/// The line of what is stored after a beat.
+fn text_after<L>(
+    alloc: Global,
+    document: Document,
+    last: Beat,
+    policies: &Policies,
+    steps: &mut Steps<L>,
+) -> Result<Vec<u8>, NoMemory>
+    requires lawful { IsLawfulDoc (doc_of document) }
+    requires named { IsWellNamed document.names (doc_of document) }
+    requires within { last.0 ≤ document.settings.end_beat.0 }
+    ensures text { IfOk result (λ text. text.items ≡ state_text document last.0) }
+    ensures reads_back { IfOk result (λ text. ReadsBack document last.0) }
+    ensures counted { steps.new ≤ steps.old + standing_below (doc_of document) (last.0 + 1) }
+{
+    let known = numbers_of(alloc, document.controllers.as_slice())?;
+    let first = World::new(alloc, document)?;
+    let world = run_up_to(first, last, policies, steps)?;
+    let items = world.objects()?;
+    list_line(alloc, world.names(), known.as_slice(), &items)
+}
+
+/// The numbers of the names of processes.
+fn numbers_of(alloc: Global, procs: &[Proc]) -> Result<ListOf<u32>, NoMemory>
+    ensures { IfOk result (λ numbers. numbers ≡ numbers_in_order procs.now) }
+{
+    let mut numbers = ListOf::new(alloc);
+    for proc in procs {
+        numbers.push(proc.name)?;
+    }
+    Ok(numbers)
+}
+
+/// Does the beats that have entries up to this beat.
+fn run_up_to<L>(
+    mut world: World,
+    last: Beat,
+    policies: &Policies,
+    steps: &mut Steps<L>,
+) -> Result<World, NoMemory>
+    requires ready { IsReady world }
+    requires first { at_of world ≡ 0 }
+    requires within { last.0 ≤ end_of world }
+    requires runs { (count : ℕ) × Runs world count }
+    ensures names { IfOk result (λ w. names_of w ≡ names_of world) }
+    ensures stands { (doc : Doc) → IsLawfulDoc doc → WorldStands doc 0 (history doc 0) world → end_of world ≡ end_beat doc
+        → IfOk result (IsRunUpTo doc last.0) }
+    ensures counted { (doc : Doc) → IsLawfulDoc doc → WorldStands doc 0 (history doc 0) world → end_of world ≡ end_beat doc
+        → steps.new ≤ steps.old + standing_below doc (last.0 + 1) }
+{
+    'beats: while let Some(beat) = next_up_to(&world, last) {
+        match beat_at(world, beat, policies, steps) {
+            Ok((next, _)) => world = next,
+            Err(NoMemory) => return Err(NoMemory),
+        }
+    }
+    Ok(world)
+}
+
+/// The next beat with an entry, if it comes no later than this beat.
+fn next_up_to(world: &World, last: Beat) -> Option<Beat>
+    requires ready { IsReady world.now }
+    requires within { last.0 ≤ end_of world.now }
+    ensures { (doc : Doc) → AreLawfulFrom doc 0 doc.events → StandsForNext doc world.now → end_of world.now ≡ end_beat doc
+        → IsNextUpTo doc (at_of world.now) last.0 (beat_of result) }
+{
+    match next_of(world) {
+        Some(beat) => if beat.0 <= last.0 { Some(beat) } else { None },
+        None => None,
+    }
+}
+
+/// The objects as a `v1` List in one line.
+fn list_line(
+    alloc: Global,
+    names: &Names,
+    known: &[u32],
+    items: &Items,
+) -> Result<Vec<u8>, NoMemory>
+    requires { list_all is_writable_item items.now ≡ true }
+    ensures text { IfOk result (λ text. text.items ≡ line_of (list_of names.now known.now items.now)) }
+    ensures reads_back { IfOk result (λ text. IsReadAgain names.now known.now items.now) }
+{
+    let list = write_list(alloc, names, known, items)?;
+    let mut text = list.to_string(alloc)?.into_bytes();
+    add(&mut text, b"\n")?;
+    Ok(text)
+}
