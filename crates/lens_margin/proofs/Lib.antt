@@ -1,1 +1,4 @@
 mod ClockRatesLemmas
+pub mod Bounds
+pub mod Positive
+pub mod Numbers

@@ -2,7 +2,7 @@
 ghost use Rattle.std.specs.Prelude.{◌≡◌, ◌++◌, ◌<◌, OnOk, decimal, length};
 ghost use Rattle.script_reader.specs.Documents.{doc_of};
 ghost use Rattle.script_reader.specs.Lawful.{IsLawfulDoc, IsWellNamed};
-ghost use Rattle.lens_margin.specs.Lines.{margin_line, slack_text, least_text, stall_text, lines_text, verdict_text};
+ghost use Rattle.lens_margin.specs.Lines.{margin_line, bound_text, slack_text, least_text, stall_text, line_at, lines_below, lines_text, verdict_text};
 
 use crate::margin::{Margin, controller_margin};
 use itoa::Buffer;
@@ -17,15 +17,37 @@ pub(crate) fn add_lines(text: &mut Vec<u8>, document: &Document, safe: bool) -> 
     requires named { IsWellNamed document.now.names (doc_of document.now) }
     ensures { OnOk result (text.new.items ≡ text.old.items ++ lines_text document.now safe) }
 {
-    for controller in 0..document.controllers.as_slice().len() {
-        let name = document.controllers.as_slice()[controller].name;
-        add_line(
-            text,
-            name_of(&document.names, name),
-            controller_margin(document, controller),
-        )?;
-    }
+    add_controllers(text, document)?;
     add(text, verdict(safe))
+}
+
+fn add_controllers(text: &mut Vec<u8>, document: &Document) -> Result<(), NoMemory>
+    requires lawful { IsLawfulDoc (doc_of document.now) }
+    requires named { IsWellNamed document.now.names (doc_of document.now) }
+    ensures { OnOk result (text.new.items ≡ text.old.items ++ lines_below document.now (length document.now.controllers)) }
+{
+    for controller in 0..document.controllers.as_slice().len() {
+        add_controller(text, document, controller)?;
+    }
+    Ok(())
+}
+
+fn add_controller(
+    text: &mut Vec<u8>,
+    document: &Document,
+    controller: usize,
+) -> Result<(), NoMemory>
+    requires lawful { IsLawfulDoc (doc_of document.now) }
+    requires named { IsWellNamed document.now.names (doc_of document.now) }
+    requires controller { controller < length document.now.controllers }
+    ensures { OnOk result (text.new.items ≡ text.old.items ++ line_at document.now controller) }
+{
+    let name = document.controllers.as_slice()[controller].name;
+    add_line(
+        text,
+        name_of(&document.names, name),
+        controller_margin(document, controller),
+    )
 }
 
 fn verdict(safe: bool) -> &'static [u8]
@@ -39,11 +61,18 @@ fn add_line(text: &mut Vec<u8>, name: &[u8], margin: Margin) -> Result<(), NoMem
     ensures { OnOk result (text.new.items ≡ text.old.items ++ margin_line name.now margin) }
 {
     add(text, name)?;
-    add_number(text, b" lease=", margin.lease)?;
-    add_number(text, b"ms must-exceed=", margin.must_exceed)?;
+    add_bound(text, margin.lease, margin.must_exceed)?;
     add_slack(text, margin.lease, margin.must_exceed)?;
     add_least(text, margin.least_seconds)?;
     add_stall(text, margin.longest_stall)
+}
+
+#[tactic(auto, unfolding(crate::specs::Lines::bound_text))]
+fn add_bound(text: &mut Vec<u8>, lease: u128, must_exceed: u128) -> Result<(), NoMemory>
+    ensures { OnOk result (text.new.items ≡ text.old.items ++ bound_text lease must_exceed) }
+{
+    add_number(text, b" lease=", lease)?;
+    add_number(text, b"ms must-exceed=", must_exceed)
 }
 
 #[tactic(auto, unfolding(crate::specs::Lines::slack_text))]

@@ -3,7 +3,7 @@ ghost use Rattle.std.specs.Prelude.{◌≡◌, ◌+◌, ◌*◌, ◌<◌, ◌≤
 ghost use Rattle.script_reader.specs.Documents.{doc_of};
 ghost use Rattle.script_reader.specs.Lawful.{IsLawfulDoc};
 ghost use Rattle.lens_margin.specs.Laws.{IsMargin};
-ghost use Rattle.lens_margin.specs.Margins.{margin_of, margin_by, least_within, stall_within};
+ghost use Rattle.lens_margin.specs.Margins.{margin_of, numbers, least_within, stall_within};
 
 use crate::rates::{fastest, longest, rates_of};
 use kube_objects::Proc;
@@ -54,7 +54,8 @@ fn margin_at(
     requires some_beat { 0 < beat_millis }
     requires slowest { 0 < slowest }
     requires fastest { 0 < fastest }
-    ensures { result ≡ margin_by process longest beat_millis slowest fastest }
+    ensures { result ≡ numbers process.lease_seconds
+        ((process.timeout_millis + process.retry_millis + process.renew_millis) * 1000000000 * fastest) longest beat_millis slowest fastest }
 {
     let milli = u128::from(slowest) * 1_000_000_000;
     let beat_micros = u128::from(beat_millis) * 1000;
