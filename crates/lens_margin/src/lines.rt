@@ -72,7 +72,8 @@ fn add_bound(text: &mut Vec<u8>, lease: u128, must_exceed: u128) -> Result<(), N
     ensures { OnOk result (text.new.items ≡ text.old.items ++ bound_text lease must_exceed) }
 {
     add_number(text, b" lease=", lease)?;
-    add_number(text, b"ms must-exceed=", must_exceed)
+    add_number(text, b"ms must-exceed=", must_exceed)?;
+    Ok(())
 }
 
 #[tactic(auto, unfolding(crate::specs::Lines::slack_text))]
