@@ -1,10 +1,10 @@
 -- The rates of a clock, read from the last set to the first, and the least and the greatest of them over the beats.
-use Rattle.std.proofs.Common.{◌≡◌, ℕ, zero, suc, ◌+◌, ◌-◌, ◌*◌, ◌<◌, ◌≤◌, min, max, nat_le, nat_lt, List, [], ◌∷◌, ◌++◌, length, get_or, drop, slice_get, Option, Some, None, inl, inr, refl, sym, ap, ap₂, subst, ◌∙◌, arith, drop-cons, eq-eqb}
-use Rattle.std.proofs.lemmas.Bool.{cases_lt, le-leb, lt-leb, lt-ltb, le-ltb}
+use Rattle.std.proofs.Common.{◌≡◌, ℕ, zero, suc, ◌-◌, ◌<◌, ◌≤◌, min, max, nat_le, List, [], ◌∷◌, ◌++◌, length, get_or, drop, slice_get, Option, Some, None, inl, inr, refl, sym, ap, subst, ◌∙◌, arith, drop-cons, eq-eqb}
+use Rattle.std.proofs.lemmas.Bool.{cases_lt, le-leb, lt-leb}
 use Rattle.std.proofs.lemmas.Bool.Decides.{nat_tests}
 use Rattle.kube_objects.specs.Clocks.{rate, rate_of, last_rate}
 use Rattle.kube_base.specs.declared.numbers.ProcId.{ProcId}
-use Rattle.kube_objects.specs.Document.{Doc, end_beat, field, first_rate, of_seconds, of_millis}
+use Rattle.kube_objects.specs.Document.{Doc, end_beat, field, first_rate}
 use Rattle.kube_objects.specs.Newest.{when, only_if, or_else}
 use Rattle.kube_objects.specs.declared.script.Event.{Event}
 use Rattle.kube_objects.specs.declared.script.Proc.{Proc}

@@ -1,15 +1,14 @@
 -- How a run ends, by the outcome of its words and bytes.
-use Rattle.std.proofs.Common.{◌≡◌, ◌⊎◌, ◌≤◌, ◌<◌, ℕ, nat_le, Bool, true, false, cond, List, [], ◌∷◌, ◌++◌, length, drop, Option, Some, Result, Ok, Err, refl, sym, ap, ◌∙◌, subst, inl, inr, arith, length-append}
+use Rattle.std.proofs.Common.{◌≡◌, ◌⊎◌, ◌≤◌, ◌<◌, ℕ, nat_le, Bool, true, false, cond, List, [], ◌∷◌, ◌++◌, length, drop, Option, Some, Ok, refl, sym, ap, ◌∙◌, subst, inl, inr, arith, length-append}
 use Rattle.std.proofs.lemmas.Bool.{le-leb, lt-leb}
 use Rattle.byte_edge.specs.Bytes.{Took, TookAll, IsTooLarge}
 use Rattle.history.specs.Premise.{lease_premise}
-use Rattle.manifest_json.specs.declared.fault.Refusal.{Refusal}
 use Rattle.script_reader.specs.declared.document.Document.{Document}
 use Rattle.script_reader.specs.Documents.{doc_of}
 use Rattle.script_reader.specs.Walk.{document_walk}
 use Rattle.lens_margin.specs.declared.status.Status.{Status}
 use Rattle.lens_margin.specs.declared.status.Status.TheVariants.{Safe, Unsafe, Refused, Usage, SourceFault, SinkFault, OutOfMemory}
-use Rattle.lens_margin.specs.Outcome.{Outcome, outcome, measured, margins, found, usage, refused, of_whole, verdict_of, is_margin, Ends, IsWhole}
+use Rattle.lens_margin.specs.Outcome.{Outcome, outcome, measured, found, usage, refused, of_whole, verdict_of, is_margin, Ends, IsWhole}
 
 pub ends-moved : (o p : Outcome) (now left before after : Option (List ℕ)) (s : Status) → p ≡ o → left ≡ now → Ends o now before after s → Ends p left before after s
 ends-moved o p now left before after s same rest ends =

@@ -1,16 +1,16 @@
 -- The numbers of a margin are the least and the greatest that the lease premise's tests allow.
-use Rattle.std.proofs.Common.{◌≡◌, ◌⊎◌, ℕ, zero, suc, ◌+◌, ◌-◌, ◌*◌, ◌/◌, ◌%◌, ◌<◌, ◌≤◌, nat_lt, Bool, true, false, cond, List, length, get_or, Option, Some, None, refl, sym, ap, ap₂, ◌∙◌, subst, inl, inr, arith}
+use Rattle.std.proofs.Common.{◌≡◌, ◌⊎◌, ℕ, zero, suc, ◌+◌, ◌-◌, ◌*◌, ◌/◌, ◌<◌, ◌≤◌, nat_lt, Bool, true, false, cond, List, length, get_or, Some, None, refl, sym, ap, ap₂, ◌∙◌, subst, inl, inr, arith}
 use Rattle.std.specs.Int.{div_ceil}
 use Rattle.std.proofs.Math.Nat.{mul-le-mul_right}
-use Rattle.std.proofs.lemmas.Bool.{cases_lt, lt-ltb, le-ltb, ltb-true}
+use Rattle.std.proofs.lemmas.Bool.{cases_lt, lt-ltb, ltb-true}
 use Rattle.std.proofs.lemmas.Bool.Decides.{nat_tests}
 use Rattle.std.proofs.lemmas.Grind.{div_ceil_times}
 use Rattle.std.proofs.lemmas.Nat.{div-add-mod', mod_below, le-div}
 use Rattle.kube_objects.specs.declared.script.Proc.{Proc}
 use Rattle.kube_objects.specs.Document.{Doc, field, process_at, lease_seconds, of_seconds, of_millis}
-use Rattle.history.specs.Premise.{more, stands, longest, is_long}
+use Rattle.history.specs.Premise.{more, stands, longest}
 use Rattle.script_reader.specs.Lawful.{IsLawfulDoc}
-use Rattle.lens_margin.specs.Laws.{IsLeast, IsGreatest, IsLeastLease, IsLongestStall, IsMargin, AreMargins, outlasted, is_long_with, bears, further}
+use Rattle.lens_margin.specs.Laws.{IsLeast, IsLeastLease, IsLongestStall, IsMargin, outlasted, is_long_with, further}
 use Rattle.lens_margin.specs.Margins.{acting, fastest, slowest, numbers, margin_of}
 use Rattle.lens_margin.proofs.Positive.{slowest-some, fastest-some}
 use Rattle.lens_margin.proofs.ClockRatesLemmas.{field-at}

@@ -9,7 +9,7 @@ use Rattle.kube_objects.specs.declared.script.What.TheVariants.{Rate, Delay, Los
 use Rattle.kube_objects.specs.Clocks.{rate, rate_of, last_rate}
 use Rattle.kube_objects.specs.Document.{Doc, end_beat, field, first_rate}
 use Rattle.kube_objects.specs.Newest.{when, only_if, or_else}
-use Rattle.history.specs.Premise.{less, more, least_rate, greatest_rate, greatest_below}
+use Rattle.history.specs.Premise.{least_rate, greatest_rate, greatest_below}
 use Rattle.script_reader.specs.Lawful.{IsLawful, IsLawfulDoc, IsLawfulWhat, AreLawfulFrom}
 use Rattle.lens_margin.specs.Margins.{slowest, fastest}
 

@@ -1,5 +1,5 @@
 -- What the numbers of a margin are: the least and the greatest for which the lease premise's own tests hold.
-use Rattle.std.specs.Prelude.{◌≡◌, ◌↔◌, ℕ, zero, suc, ◌+◌, ◌*◌, ◌<◌, ◌≤◌, nat_lt, Bool, true, length, Option, Some, None}
+use Rattle.std.specs.Prelude.{◌≡◌, ℕ, zero, suc, ◌+◌, ◌*◌, ◌<◌, ◌≤◌, nat_lt, Bool, true, length, Option, Some, None}
 use Rattle.kube_objects.specs.Document.{Doc, beat_micros, lease_seconds, lease_duration, call_timeout, retry_period, renew_deadline, of_seconds, of_millis}
 use Rattle.history.specs.Premise.{more, stands, longest, is_long}
 use Rattle.lens_margin.specs.declared.margin.Margin.{Margin}

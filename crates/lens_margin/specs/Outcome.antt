@@ -1,6 +1,6 @@
 -- What a run writes and how it ends.
 use Rattle.std.specs.Prelude.{◌≡◌, ℕ, ◌++◌, nat_le, Bool, true, false, List, [], ◌∷◌, length, drop, codes, decimal, if◌then◌else◌}
-use Rattle.std.specs.Prelude.{Option, Some, None, Result, Ok, Err}
+use Rattle.std.specs.Prelude.{Option, Some, Result, Ok, Err}
 use Rattle.std.specs.Str.{bytes_eq}
 use Rattle.byte_edge.specs.Bytes.{Gives, Gave}
 use Rattle.history.specs.Premise.{lease_premise}

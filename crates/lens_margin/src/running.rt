@@ -115,7 +115,12 @@ fn tell<K: Sink>(alloc: Global, sink: &mut K, bytes: &[u8]) -> Status
     documents_are_lawful();
     match read_document(alloc, bytes) {
         Ok(document) => tell_margins(alloc, sink, &document),
-        Err(ReadFault::Refused(refusal)) => refuse(alloc, sink, refusal.code, refusal.path.as_slice()),
+        Err(ReadFault::Refused(refusal)) => refuse(
+            alloc,
+            sink,
+            refusal.code,
+            refusal.path.as_slice(),
+        ),
         Err(ReadFault::NoMemory) => Status::OutOfMemory,
     }
 }

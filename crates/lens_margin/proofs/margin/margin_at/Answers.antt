@@ -1,4 +1,4 @@
-use Rattle.std.proofs.Common.{◌+◌, ◌*◌, ◌≤◌, arith}
+use Rattle.std.proofs.Common.{◌+◌, ◌*◌, arith}
 use Rattle.std.proofs.lemmas.Nat.{mul-le}
 use Rattle.lens_margin.proofs.Bounds.{weight}
 use Rattle.lens_margin.proofs.margin.margin_at.Goals as goal

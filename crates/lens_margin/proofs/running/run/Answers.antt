@@ -1,7 +1,7 @@
 use Rattle.std.proofs.Common.{List, ℕ, [], Some, map, string_bytes, refl, sym, ◌∙◌}
 use Rattle.script_reader.specs.Documents.{doc_of}
-use Rattle.lens_margin.specs.Outcome.{outcome, measured, usage}
-use Rattle.lens_margin.proofs.Endings.{ends-moved, ends-whole, not-source, outcome-margin, outcome-usage, safe-premise, unsafe-premise}
+use Rattle.lens_margin.specs.Outcome.{outcome, usage}
+use Rattle.lens_margin.proofs.Endings.{ends-moved, ends-whole, not-source, outcome-usage, safe-premise, unsafe-premise}
 use Rattle.lens_margin.proofs.Numbers.{margin-law}
 use Rattle.lens_margin.proofs.running.run.Goals as goal
 

@@ -1,4 +1,4 @@
-use Rattle.std.proofs.Common.{[], Some, refl, sym, ap, subst}
+use Rattle.std.proofs.Common.{[], Some, refl, ap, subst}
 use Rattle.byte_edge.proofs.Fronts.{gave-nothing}
 use Rattle.script_reader.specs.Walk.{document_walk}
 use Rattle.lens_margin.specs.Outcome.{found, margins, refused, Ends}
