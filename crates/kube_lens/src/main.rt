@@ -1,0 +1,58 @@
+//! The program: the words after its name, standard input and standard output, and an exit status.
+#![tactic(auto)]
+
+ghost use Rattle.std.specs.Prelude.{◌≡◌};
+ghost use Rattle.kube_lens.specs.Exits.{exit_status_of};
+
+use byte_edge::{StdSink, StdSource};
+use lens_margin::{Status, run};
+use std::io::ErrorKind;
+use std::process::ExitCode;
+use std::{env, io};
+
+/// Want of memory while the arguments are gathered.
+const OUT_OF_MEMORY: u8 = 5;
+
+/// An argument that the runtime refuses, as one that isn't UTF-8.
+const BAD_ARGUMENT: u8 = 6;
+
+fn main(rt: HostRuntime) -> ExitCode {
+    let words = match words(&rt) {
+        Ok(words) => words,
+        Err(error) => {
+            let status = if error.kind() == ErrorKind::OutOfMemory {
+                OUT_OF_MEMORY
+            } else {
+                BAD_ARGUMENT
+            };
+            return ExitCode::from(status);
+        }
+    };
+    let mut source = StdSource::new(rt.stdin());
+    let mut sink = StdSink::new(rt.stdout());
+    let status = run(rt.alloc(), &words, &mut source, &mut sink);
+    ExitCode::from(exit_status(status))
+}
+
+/// The words after the program's name.
+fn words(rt: &HostRuntime) -> io::Result<Vec<String>> {
+    let mut words = Vec::new(rt.alloc());
+    for word in env::args(rt)?.skip(1) {
+        words.push(word)?;
+    }
+    Ok(words)
+}
+
+fn exit_status(status: Status) -> u8
+    ensures { result ≡ exit_status_of status }
+{
+    match status {
+        Status::Safe => 0,
+        Status::Unsafe => 1,
+        Status::Refused => 1,
+        Status::Usage => 2,
+        Status::SourceFault => 3,
+        Status::SinkFault => 4,
+        Status::OutOfMemory => 5,
+    }
+}

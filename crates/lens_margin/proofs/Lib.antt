@@ -1,0 +1,8 @@
+mod ClockRatesLemmas
+-- ---- numbers
+pub mod Bounds
+pub mod Positive
+pub mod Numbers
+-- ---- texts, and how a run ends
+pub mod Added
+pub mod Endings

@@ -1,0 +1,26 @@
+use Rattle.std.proofs.Common.{◌≡◌, ◌∙◌, sym, subst}
+use Rattle.script_reader.specs.Documents.{doc_of}
+use Rattle.lens_margin.specs.Laws.{IsMargin}
+use Rattle.lens_margin.specs.Margins.{margin_of}
+use Rattle.lens_margin.proofs.Positive.{slowest-some, fastest-some}
+use Rattle.lens_margin.proofs.Numbers.{margin-law, numbers-are}
+use Rattle.lens_margin.proofs.margin.controller_margin.Goals as goal
+
+pub margin_at-requires-clause-slowest : goal.margin_at-requires-clause-slowest
+margin_at-requires-clause-slowest c = rw c.rates_of.ensures.least (slowest-some (doc_of c.args.document.now) c.requires.lawful c.args.controller c.requires.controller)
+
+pub margin_at-requires-clause-fastest : goal.margin_at-requires-clause-fastest
+margin_at-requires-clause-fastest c = rw c.fastest.ensures (fastest-some (doc_of c.args.document.now) c.requires.lawful)
+
+pub returns-clause-is : goal.returns-clause-is
+returns-clause-is c =
+    c.margin_at.ensures
+    ∙ numbers-are (doc_of c.args.document.now) c.args.controller _ _ c.as_slice.ensures c.requires.controller c.longest.result c.rates_of.result.least c.fastest.result c.longest.ensures.is c.rates_of.ensures.least c.fastest.ensures
+
+pub returns-clause-law : goal.returns-clause-law
+returns-clause-law c =
+    let doc = doc_of c.args.document.now in
+    let is : c.margin_at.result ≡ margin_of doc c.args.controller
+    = c.margin_at.ensures
+    ∙ numbers-are doc c.args.controller _ _ c.as_slice.ensures c.requires.controller c.longest.result c.rates_of.result.least c.fastest.result c.longest.ensures.is c.rates_of.ensures.least c.fastest.ensures in
+    subst (IsMargin doc c.args.controller) (sym is) (margin-law doc c.requires.lawful c.args.controller c.requires.controller)

@@ -1,0 +1,55 @@
+-- What the numbers of a margin are: the least and the greatest for which the lease premise's own tests hold.
+use Rattle.std.specs.Prelude.{◌≡◌, ℕ, zero, suc, ◌+◌, ◌*◌, ◌<◌, ◌≤◌, nat_lt, Bool, true, length, Option, Some, None}
+use Rattle.kube_objects.specs.Document.{Doc, beat_micros, lease_seconds, lease_duration, call_timeout, retry_period, renew_deadline, of_seconds, of_millis}
+use Rattle.history.specs.Premise.{more, stands, longest, is_long}
+use Rattle.lens_margin.specs.declared.margin.Margin.{Margin}
+use Rattle.lens_margin.specs.Margins.{fastest, slowest, margin_of}
+
+pub record IsLeast (P : ℕ → Type 0) (n : ℕ) : Type 0 where
+  pub holds : P n
+  pub least : (m : ℕ) → P m → n ≤ m
+
+pub record IsGreatest (P : ℕ → Type 0) (n : ℕ) : Type 0 where
+  pub holds : P n
+  pub greatest : (m : ℕ) → P m → m ≤ n
+
+-- the left side of the premise's test, with this for the longest pause's beats and one more
+abbrev pub outlasted : Doc → ℕ → ℕ → ℕ
+outlasted doc p pauses =
+    pauses * (beat_micros doc * fastest doc) * slowest doc p + (call_timeout doc p + retry_period doc p + renew_deadline doc p) * fastest doc
+
+-- the test with a lease of so many seconds in place of the controller's
+abbrev pub is_long_with : Doc → ℕ → ℕ → Bool
+is_long_with doc p seconds = nat_lt (outlasted doc p (longest doc p)) (of_seconds seconds * slowest doc p)
+
+-- a further pause of so many beats; of none it is no pause
+abbrev pub further : ℕ → Option ℕ
+further zero = None
+further (suc n) = Some (suc n)
+
+-- the test with one more pause of the controller, of so many beats
+abbrev pub bears : Doc → ℕ → ℕ → Bool
+bears doc p beats = nat_lt (outlasted doc p (more (longest doc p) (stands (further beats)))) (lease_duration doc p * slowest doc p)
+
+-- the least lease of at most a day for which the test holds, or none where it holds for none
+abbrev pub IsLeastLease : Doc → ℕ → Option ℕ → Type 0
+IsLeastLease doc p (Some seconds) = (seconds ≤ 86400) × IsLeast (λ s. is_long_with doc p s ≡ true) seconds
+IsLeastLease doc p None = (s : ℕ) → is_long_with doc p s ≡ true → 86400 < s
+
+-- the milliseconds of the greatest pause for which the test still holds, or none where it doesn't hold as it is
+abbrev pub IsLongestStall : Doc → ℕ → Option ℕ → Type 0
+IsLongestStall doc p (Some millis) =
+    (beats : ℕ) × (millis ≡ beats * doc.settings.beat_millis) × IsGreatest (λ n. bears doc p n ≡ true) beats
+IsLongestStall doc p None = ¬ (is_long doc (fastest doc) p ≡ true)
+
+-- the numbers of a controller. What its lease must exceed is rounded up: the least number of milliseconds that the test's left side
+-- isn't more than
+pub record IsMargin (doc : Doc) (p : ℕ) (m : Margin) : Type 0 where
+  pub lease : m.lease ≡ lease_seconds doc p * 1000
+  pub must_exceed : IsLeast (λ n. outlasted doc p (longest doc p) ≤ of_millis n * slowest doc p) m.must_exceed
+  pub least_seconds : IsLeastLease doc p m.least_seconds
+  pub longest_stall : IsLongestStall doc p m.longest_stall
+
+-- of every controller
+abbrev pub AreMargins : Doc → Type 0
+AreMargins doc = (p : ℕ) → p < length doc.controllers → IsMargin doc p (margin_of doc p)

@@ -1,0 +1,5 @@
+pub mod ClockRates
+pub mod Laws
+pub mod Lines
+pub mod Margins
+pub mod Outcome

@@ -1,0 +1,12 @@
+//! The margin of a document's leader elections: what each controller's lease has to outlast, and what is left. From bytes to lines.
+#![tactic(auto)]
+
+mod lines;
+mod margin;
+mod rates;
+mod running;
+mod status;
+
+pub use margin::{Margin, controller_margin};
+pub use running::run;
+pub use status::Status;

@@ -1,0 +1,103 @@
+// What a controller's lease has to outlast, and what is left.
+ghost use Rattle.std.specs.Prelude.{◌≡◌, ◌+◌, ◌*◌, ◌<◌, ◌≤◌, length};
+ghost use Rattle.script_reader.specs.Documents.{doc_of};
+ghost use Rattle.script_reader.specs.Lawful.{IsLawfulDoc};
+ghost use Rattle.lens_margin.specs.Laws.{IsMargin};
+ghost use Rattle.lens_margin.specs.Margins.{margin_of, numbers, least_within, stall_within};
+
+use crate::rates::{fastest, longest, rates_of};
+use kube_objects::Proc;
+use script_reader::Document;
+
+/// The most seconds that a lease duration may have.
+const LONGEST_LEASE: u128 = 86_400;
+
+/// The numbers of a controller. Times are in milliseconds but where a name says else.
+#[derive(Clone, Copy, Debug, PartialEq, Eq)]
+pub struct Margin {
+    /// The lease duration.
+    pub lease: u128,
+    /// What the lease must exceed, rounded up.
+    pub must_exceed: u128,
+    /// The least lease in whole seconds that is long enough, where one of at most a day is.
+    pub least_seconds: Option<u32>,
+    /// The longest further stall that the lease bears, where it is long enough at all.
+    pub longest_stall: Option<u128>,
+}
+
+/// The numbers of a controller of a document, by its place among them. Takes no memory.
+pub fn controller_margin(document: &Document, controller: usize) -> Margin
+    requires lawful { IsLawfulDoc (doc_of document.now) }
+    requires controller { controller < length document.now.controllers }
+    ensures is { result ≡ margin_of (doc_of document.now) controller }
+    ensures law { IsMargin (doc_of document.now) controller result }
+{
+    margin_at(
+        document.controllers.as_slice()[controller],
+        longest(document, controller),
+        document.settings.beat_millis,
+        rates_of(document, controller).least,
+        fastest(document),
+    )
+}
+
+// By the beats of the longest pause, the length of a beat, the slowest rate and the fastest of any.
+fn margin_at(process: Proc, longest: u64, beat_millis: u32, slowest: u32, fastest: u32) -> Margin
+    requires longest { longest ≤ 4294967296 }
+    requires short_beat { beat_millis ≤ 1000 }
+    requires some_beat { 0 < beat_millis }
+    requires slowest { 0 < slowest }
+    requires fastest { 0 < fastest }
+    ensures { result ≡ numbers process.lease_seconds
+        ((process.timeout_millis + process.retry_millis + process.renew_millis) * 1000000000 * fastest) longest beat_millis slowest fastest }
+{
+    let milli = u128::from(slowest) * 1_000_000_000;
+    let beat_micros = u128::from(beat_millis) * 1000;
+    let beat = beat_micros * u128::from(fastest) * u128::from(slowest);
+    let acting_millis = u128::from(process.timeout_millis)
+        + u128::from(process.retry_millis)
+        + u128::from(process.renew_millis);
+    let acting = acting_millis * 1_000_000_000 * u128::from(fastest);
+    let demand = u128::from(longest) * beat + acting;
+    let lease = u128::from(process.lease_seconds) * 1000;
+    Margin {
+        lease,
+        must_exceed: demand.div_ceil(milli),
+        least_seconds: least_seconds(demand, milli),
+        longest_stall: longest_stall(lease * milli, demand, acting, beat, beat_millis),
+    }
+}
+
+// The least whole seconds that are more than what is demanded, by what a millisecond counts.
+fn least_seconds(demand: u128, milli: u128) -> Option<u32>
+    requires some { 0 < milli }
+    requires fits { milli * 1000 < 340282366920938463463374607431768211456 }
+    ensures { result ≡ least_within demand milli }
+{
+    let whole = demand / (milli * 1000);
+    if whole < LONGEST_LEASE {
+        Some(whole as u32 + 1)
+    } else {
+        None
+    }
+}
+
+// The milliseconds of the longest pause, of which each beat counts the same, that a lease bears beside the acting.
+fn longest_stall(
+    lease: u128,
+    demand: u128,
+    acting: u128,
+    beat: u128,
+    beat_millis: u32,
+) -> Option<u128>
+    requires some { 0 < beat }
+    requires part { acting ≤ demand }
+    requires beat { beat_millis ≤ beat }
+    ensures { result ≡ stall_within lease demand acting beat beat_millis }
+{
+    if demand >= lease {
+        return None;
+    }
+    let beats = (lease - acting - 1) / beat;
+    Some(beats.saturating_sub(1) * u128::from(beat_millis))
+}
