@@ -51,9 +51,6 @@ returns-in-Generate-clause-source_silent g c fault = absurd (run-end c.write_gen
 pub returns-in-Generate-clause-counted : goal.returns-in-Generate-clause-counted
 returns-in-Generate-clause-counted g c bytes d told read reads = absurd (subst IsRead c.in-Generate.is reads)
 
-pub returns-in-Document-clause-unread : goal.returns-in-Document-clause-unread
-returns-in-Document-clause-unread g c bytes told none reads = c.obey.ensures.unread bytes told none
-
 pub returns-in-Generate-clause-unread : goal.returns-in-Generate-clause-unread
 returns-in-Generate-clause-unread g c bytes told unread reads = absurd (subst IsRead c.in-Generate.is reads)
 
