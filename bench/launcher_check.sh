@@ -112,6 +112,12 @@ try_words() {
     expect_at_once 'a number that is out of range' 2 "$usage" 'generate takes four numbers'
     run generate 18446744073709551616 1 3 60 </
     expect_at_once 'a seed that is too great' 2 "$usage" 'generate takes four numbers'
+    run state </
+    expect_at_once 'a state without its beat' 2 "$usage" 'state takes one number'
+    run state 01 <"$room/document.json"
+    expect_at_once 'a beat with a zero before it' 2 "$usage" 'state takes one number'
+    run state 604800001 <"$room/document.json"
+    expect_at_once 'a beat that is too great' 2 "$usage" 'state takes one number'
     run "$(printf 'check\377')" <"$room/document.json"
     expect_at_once "an argument that isn't UTF-8" 6 '' "a word of the command isn't UTF-8"
 }
@@ -133,6 +139,10 @@ try_all() {
     expect 'no standard output' 4 '' "$unwritten"
     { sleep 1; run_into; } | :
     expect 'a reader that has gone' 4 '' "$unwritten"
+    run state 2 <"$room/document.json"
+    expect 'what is stored after a beat' 0 '{"apiVersion":"v1","items":[],"kind":"List"}' ''
+    run state 61 <"$room/document.json"
+    expect 'a beat after the end' 1 'refused 34 /' ''
     run generate 18446744073709551615 1 0 60
     # The first leader crashes in the middle, and with a lease of 20 s there is a second one before the end.
     expect 'the greatest seed' 0 "generated controllers=3 nodes=1 pods=0 beats=60 leads=2 taints=0 evictions=0" ''

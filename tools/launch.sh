@@ -18,6 +18,7 @@ tell_commands() {
     tell_command "$called check < DOCUMENT" 'reads a document (JSON) and says in one line what is in it, and whether its'
     tell_command '' 'settings rule out two leaders (premise=yes)'
     tell_command "$called replay < DOCUMENT" 'writes its trace: who leads, each write of the Lease, taints, evictions'
+    tell_command "$called state BEAT < DOCUMENT" 'writes what is stored after a beat, as a v1 List (JSON): for jq, diff, another run'
     tell_command "$called audit < TRACE" 'reads the text of a trace and says whether it is safe'
     tell_command "$called collect < LIST" 'reads nodes and pods: which pods the garbage collector would delete now'
     tell_command "$called place < LIST" 'reads nodes and pods: where pods without a node may run, by taints'
@@ -66,6 +67,7 @@ is_number() {
 is_command() {
     case "$#:$1" in
         1:replay | 1:check | 1:audit | 1:collect | 1:place) return 0 ;;
+        2:state) is_number "$2" 0 604800000 && return 0 || return 1 ;;
         5:generate) ;;
         *) return 1 ;;
     esac
@@ -79,9 +81,10 @@ refuse_words() {
     case "$1" in
         replay | check | audit | collect | place)
             say "$1 takes no further word: its input is standard input, as in $called $1 < FILE" ;;
+        state) say "state takes one number, a beat up to 604800000, and the document on standard input: $called state 364 < FILE" ;;
         generate) say "generate takes four numbers: a seed up to 18446744073709551615, 1 to 1000 nodes, 0 to 30000 pods, 0 to 100000 beats" ;;
-        '') say "a command is missing: replay, check, audit, collect, place or generate; --help tells them" ;;
-        *) say "'$1' is no command; there are replay, check, audit, collect, place and generate; --help tells them" ;;
+        '') say "a command is missing: replay, check, state, audit, collect, place or generate; --help tells them" ;;
+        *) say "'$1' is no command; there are replay, check, state, audit, collect, place and generate; --help tells them" ;;
     esac
     exit 2
 }
