@@ -1,0 +1,182 @@
+#!/usr/bin/env python3
+"""Compares the lines of `kube_lens margin` with a reference in Python, on documents made from seeds.
+
+    tools/test_lens.py [--count 2000] [--seed 1] [--replay crates/kube_replay/out/kube_replay]
+
+The documents are those of examples/ and as many from a seed as wanted. The reference shares nothing with the program: it goes through the beats one by one for a clock's rates, and finds each number by trying
+the lease premise itself, in fractions. Some documents are broken on purpose; of these, and of whether the last line is `safe`, the built
+kube_replay's `check` is the judge. The program runs unproved, by `rt try --cases`. Nothing here is a proof.
+"""
+import argparse
+import glob
+import json
+import os
+import random
+import subprocess
+import sys
+import tempfile
+from fractions import Fraction
+
+TOP = os.path.dirname(os.path.dirname(os.path.abspath(__file__)))
+DAY = 86400
+
+
+def timings(dice):
+    """A lease, renew deadline, retry period and call timeout that go together, mostly not far from the premise's edge."""
+    lease = dice.choice((1, 2, 15, 15, 20, 23, 57, 60, 3600, DAY, dice.randint(1, DAY)))
+    renew = dice.randint(1, lease * 1000 - 1)
+    retry = dice.randint(1, max(1, 5 * renew // 6 - 1))
+    if 6 * retry >= 5 * renew:
+        renew, retry = max(2, min(renew, lease * 1000 - 1)), 1
+    timeout = dice.choice((1, 2000, 5000, 600000, dice.randint(1, max(1, min(600000, abs(lease * 1000 - renew - retry) + 3)))))
+    return {'leaseDurationSeconds': lease, 'renewDeadlineMillis': renew, 'retryPeriodMillis': retry, 'callTimeoutMillis': timeout}
+
+
+def rate(dice):
+    return dice.choice((1000000, 1000000, 500000, 2000000, 999999, 1000001, dice.randint(990000, 1010000), dice.randint(500000, 2000000)))
+
+
+def document(dice):
+    """A document that is mostly read."""
+    end = dice.randint(0, 60)
+    settings = {'endBeat': end, 'beatMillis': dice.choice((1, 7, 100, 1000, dice.randint(1, 1000)))}
+    if dice.random() < 0.6:
+        settings.update(timings(dice))
+    controllers = []
+    for place in range(dice.choice((1, 1, 2, 2, 3, 16))):
+        controller = {'name': f'c{place}'}
+        if dice.random() < 0.6:
+            controller['ratePpm'] = rate(dice)
+        if dice.random() < 0.4:
+            controller.update(timings(dice))
+        controllers.append(controller)
+    kubelets = [{'node': 'n1', 'ratePpm': rate(dice)}] if dice.random() < 0.3 else []
+    names = [c['name'] for c in controllers] + ['kubelet/n1'] * len(kubelets)
+    events = []
+    for beat in sorted(dice.randint(0, end) for _ in range(dice.randint(0, 9))):
+        if dice.random() < 0.8:
+            events.append({'beat': beat, 'type': 'rate', 'process': dice.choice(names), 'ratePpm': rate(dice)})
+        else:
+            events.append({'beat': beat, 'type': dice.choice(('crash', 'start')), 'process': dice.choice(names)})
+    return {'version': 2, 'settings': settings, 'controllers': controllers, 'kubelets': kubelets, 'events': events}
+
+
+def broken(dice, doc):
+    """The same with one fault."""
+    where = dice.choice([doc, doc['settings'], doc['controllers'][-1]] + doc['events'][-1:])
+    key = dice.choice(sorted(where))
+    where[key] = dice.choice((0, -1, 'x', None, 10 ** 10, [], {}, 1.5))
+    if dice.random() < 0.3:
+        where['leaseDuration'] = where.pop(key)
+    return doc
+
+
+def documents(seed, count):
+    """Those of the examples, and as many more as wanted, one in ten of them broken."""
+    kept = sorted(glob.glob(os.path.join(TOP, 'examples', '*', 'document.json'))) + [os.path.join(TOP, 'examples', 'one-controller.json')]
+    cases = []
+    for path in kept:
+        with open(path, encoding='utf-8') as file:
+            cases.append(json.load(file))
+    dice = random.Random(seed)
+    for number in range(count):
+        doc = document(dice)
+        cases.append(broken(dice, doc) if number % 10 == 9 else doc)
+    return cases
+
+
+class Reference:
+    """The numbers of a document by the lease premise, tried."""
+
+    def __init__(self, doc):
+        self.doc, self.beat = doc, doc['settings'].get('beatMillis', 100)
+        self.rates = [self.rates_of(c) for c in doc['controllers']]
+        self.fastest = max(max(rates) for rates in self.rates)
+
+    def rates_of(self, controller):
+        rates, now = [], controller.get('ratePpm', 1000000)
+        for beat in range(self.doc['settings']['endBeat'] + 1):
+            for event in self.doc.get('events', []):
+                if event['beat'] == beat and event['type'] == 'rate' and event['process'] == controller['name']:
+                    now = event['ratePpm']
+            rates.append(now)
+        return rates
+
+    def timing(self, place, key, default):
+        return self.doc['controllers'][place].get(key, self.doc['settings'].get(key, default))
+
+    def bound(self, place, pause):
+        """What the lease must be longer than, in milliseconds, with a longest pause of so many beats; 0 is none."""
+        waits = sum(self.timing(place, key, default) for key, default in
+                    (('callTimeoutMillis', 2000), ('retryPeriodMillis', 2000), ('renewDeadlineMillis', 10000)))
+        stands = (pause + 1) * self.beat if pause else 0
+        return Fraction(waits * self.fastest, min(self.rates[place])) + Fraction(stands * self.fastest, 1000000)
+
+    def line(self, place):
+        lease = self.timing(place, 'leaseDurationSeconds', 15)
+        bound = self.bound(place, 0)
+        must = -(-bound.numerator // bound.denominator)
+        least = next((str(s) + 's' for s in self.near(bound) if s * 1000 > bound), 'none')
+        stall = f'{self.beat * self.last(lambda n: lease * 1000 > self.bound(place, n))}ms' if lease * 1000 > bound else 'none'
+        name = self.doc['controllers'][place]['name']
+        return f'{name} lease={lease * 1000}ms must-exceed={must}ms slack={lease * 1000 - must}ms least-lease={least} longest-stall={stall}'
+
+    @staticmethod
+    def near(bound):
+        """The leases of at most a day from two seconds below the bound on: all below are too short."""
+        return range(max(1, int(bound) // 1000 - 2), DAY + 1)
+
+    @staticmethod
+    def last(holds):
+        """The last number for which it holds: it does for 0, and fails from some number on."""
+        high = 1
+        while holds(high):
+            high *= 2
+        low = high // 2
+        while high - low > 1:
+            middle = (low + high) // 2
+            low, high = (middle, high) if holds(middle) else (low, middle)
+        return low
+
+    def text(self):
+        safe = all(self.timing(p, 'leaseDurationSeconds', 15) * 1000 > self.bound(p, 0) for p in range(len(self.rates)))
+        lines = [self.line(place) for place in range(len(self.rates))]
+        return '\n'.join(lines + ['safe' if safe else 'unsafe']) + '\n', safe
+
+
+def expected(doc, replay):
+    """The text wanted, and whether it is a refusal."""
+    said = subprocess.run([replay, 'check'], input=json.dumps(doc), stdout=subprocess.PIPE, text=True, check=False).stdout
+    if said.startswith('refused '):
+        return said, True
+    text, safe = Reference(doc).text()
+    if said.endswith(' premise=yes\n') != safe:
+        sys.exit(f'check and the reference differ on the premise: {said}{text}{json.dumps(doc)}')
+    return text, False
+
+
+def main():
+    words = argparse.ArgumentParser(description=__doc__, formatter_class=argparse.RawDescriptionHelpFormatter)
+    words.add_argument('--count', type=int, default=2000)
+    words.add_argument('--seed', type=int, default=1)
+    words.add_argument('--replay', default=os.path.join(TOP, 'crates', 'kube_replay', 'out', 'kube_replay'))
+    words = words.parse_args()
+    if not os.path.exists(words.replay):
+        sys.exit(f'{words.replay} is not built')
+    refusals, unsafe, cases = 0, 0, documents(words.seed, words.count)
+    with tempfile.TemporaryDirectory() as folder:
+        for number, doc in enumerate(cases):
+            text, refused = expected(doc, os.path.abspath(words.replay))
+            refusals, unsafe = refusals + refused, unsafe + text.endswith('\nunsafe\n')
+            for name, what in (('', json.dumps(doc)), ('.stdout', text)):
+                with open(os.path.join(folder, f'case{number}{name}'), 'w', encoding='utf-8') as file:
+                    file.write(what)
+        print(f'{len(cases)} documents, of which {refusals} are refused and {unsafe} unsafe', flush=True)
+        ran = subprocess.run(['rt', 'try', '--cases', folder, '--', 'margin'], cwd=os.path.join(TOP, 'crates', 'kube_lens'), check=False,
+                             stdout=subprocess.PIPE, stderr=subprocess.STDOUT, text=True)
+        print('\n'.join(ran.stdout.splitlines()[-3:]))
+        sys.exit(ran.returncode)
+
+
+if __name__ == '__main__':
+    main()
