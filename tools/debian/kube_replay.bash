@@ -3,7 +3,7 @@
 _kube_replay() {
     COMPREPLY=()
     [ "$COMP_CWORD" -ne 1 ] ||
-        mapfile -t COMPREPLY < <(compgen -W 'replay check audit collect place generate --help --version' -- "${COMP_WORDS[COMP_CWORD]}")
+        mapfile -t COMPREPLY < <(compgen -W 'replay check state audit collect place generate --help --version' -- "${COMP_WORDS[COMP_CWORD]}")
 }
 
 # The options of a tool are those that its own help tells; all else is a file.
