@@ -62,10 +62,14 @@ compare() {
     printf '%-10s %-34s %2d  %s\n' "$mode" "$1" "$status" "$said"
 }
 
+# What /proc says of each process, a line each. One that has ended meanwhile is left out; awk itself would stop there.
+processes() {
+    cat /proc/[0-9]*/stat 2>/dev/null
+}
+
 # The processes of the launcher's own child, by its session or as the child itself.
 left_of() {
-    awk -v child="$1" '{ sub(/^.*\) /, ""); split(FILENAME, path, "/"); if (($4 == child || path[3] == child) && $1 != "Z") print path[3] }' \
-        /proc/[0-9]*/stat 2>/dev/null
+    processes | awk -v child="$1" '{ number = $1; sub(/^.*\) /, ""); if (($4 == child || number == child) && $1 != "Z") print number }'
 }
 
 # A signal to the launcher ends the launcher within five seconds, and what it started.
@@ -77,7 +81,7 @@ try_signal() {
     "$launcher" check <"$input" >"$room/output" 2>"$room/errors" &
     started=$!
     sleep 3
-    child=$(awk -v parent="$started" '{ sub(/^.*\) /, ""); split(FILENAME, path, "/"); if ($2 == parent) print path[3] }' /proc/[0-9]*/stat 2>/dev/null)
+    child=$(processes | awk -v parent="$started" '{ number = $1; sub(/^.*\) /, ""); if ($2 == parent) print number }')
     before=$(left_of "$child" | wc -l)
     began=$(date +%s)
     kill -TERM "$started"

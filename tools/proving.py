@@ -69,12 +69,13 @@ class Checkout:
             return file.read() == self.stamp(name)
 
     def is_newer(self, name):
-        """Whether the library was made after each change of a source of it or of a crate below."""
+        """Whether the library was put in its place after each change of a source of it or of a crate below."""
         if not self.has_library(name):
             return False
-        made = os.stat(os.path.join(self.library(name), 'format')).st_mtime
+        # rt links what it kept, with the times of its first build, so the files may be older than a clone: the folder's change time isn't.
+        placed = os.stat(self.library(name)).st_ctime
         every = [name, *self.crates.below(name)]
-        return all(os.stat(path).st_mtime <= made for crate in every for path in self.sources(crate))
+        return all(os.stat(path).st_mtime <= placed for crate in every for path in self.sources(crate))
 
 
 class Shelf:

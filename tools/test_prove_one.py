@@ -65,10 +65,14 @@ def make(top):
 def keep(checkout, name, noted=True):
     """A library, as if it had been proved just now."""
     write('1', checkout.library(name), 'format')
-    later = time.time() + 5
-    os.utime(os.path.join(checkout.library(name), 'format'), (later, later))
     if noted:
         write(checkout.stamp(name), checkout.note(name))
+
+
+def change_later(checkout, name):
+    """Gives a source of the crate a time after that of each library."""
+    later = time.time() + 60
+    os.utime(os.path.join(checkout.folder(name), 'src', 'lib.rt'), (later, later))
 
 
 class OfCrates(unittest.TestCase):
@@ -178,15 +182,20 @@ class OfShelves(unittest.TestCase):
         keep(self.own, 'mid')
         self.assertEqual(proving.Shelf(self.own).from_source('top'), ['other'])
         write('// changed\n', self.own.folder('low'), 'src', 'lib.rt')
-        changed = os.path.join(self.own.folder('low'), 'src', 'lib.rt')
-        os.utime(changed, (time.time() + 60, time.time() + 60))
+        change_later(self.own, 'low')
         self.assertEqual(proving.Shelf(proving.Checkout(self.own.top)).from_source('top'), ['low', 'mid', 'other'])
 
     def test_what_rt_made_counts_where_it_is_newer(self):
         keep(self.own, 'low', noted=False)
         self.assertEqual(proving.Shelf(self.own).from_source('mid'), [])
-        os.utime(os.path.join(self.own.library('low'), 'format'), (1, 1))
+        change_later(self.own, 'low')
         self.assertEqual(proving.Shelf(self.own).from_source('mid'), ['low'])
+
+    def test_what_rt_linked_keeps_old_times_and_counts(self):
+        keep(self.own, 'low', noted=False)
+        os.utime(os.path.join(self.own.library('low'), 'format'), (1, 1))
+        os.utime(self.own.library('low'), (1, 1))
+        self.assertEqual(proving.Shelf(self.own).from_source('mid'), [])
 
     def test_another_checkout_serves_where_all_is_equal(self):
         other = make(os.path.join(self.room.name, 'other'))
