@@ -52,8 +52,7 @@ use zone_state::Policies;
 pub(crate) const TOO_LARGE: u32 = 33;
 
 /// Does what the words after the program's name say: `replay` reads a document from the source and writes its trace to
-/// the sink, `check` writes one line on it, and `state` with a beat writes what is stored after it. `audit` reads the text of a trace
-/// and writes one line on it, and `collect` and `place`
+/// the sink, `check` writes one line on it, and `state` with a beat writes what is stored after it. `audit` reads the text of a trace and writes one line on it, and `collect` and `place`
 /// read Nodes and Pods and write lines on the pods. `generate` runs the document of a seed and writes one line, and the source isn't
 /// read. A refused document, trace or input is answered by the line of its refusal, and words that are no command by a line on the
 /// usage, for which the source isn't read and no memory is taken.
