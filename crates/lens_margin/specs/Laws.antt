@@ -1,7 +1,8 @@
 -- What the numbers of a margin are: the least and the greatest for which the lease premise's own tests hold.
-use Rattle.std.specs.Prelude.{◌≡◌, ℕ, zero, suc, ◌+◌, ◌*◌, ◌<◌, ◌≤◌, nat_lt, Bool, true, length, Option, Some, None}
+use Rattle.std.specs.Prelude.{◌≡◌, ℕ, zero, suc, ◌+◌, ◌*◌, ◌<◌, ◌≤◌, nat_lt, Bool, true, ◌∷◌, length, Option, Some, None}
 use Rattle.kube_objects.specs.Document.{Doc, beat_micros, lease_seconds, lease_duration, call_timeout, retry_period, renew_deadline, of_seconds, of_millis}
-use Rattle.history.specs.Premise.{more, stands, longest, is_long}
+use Rattle.kube_objects.specs.declared.script.What.TheVariants.{Pause}
+use Rattle.history.specs.Premise.{longest, is_long}
 use Rattle.lens_margin.specs.declared.margin.Margin.{Margin}
 use Rattle.lens_margin.specs.Margins.{fastest, slowest, margin_of}
 
@@ -22,14 +23,20 @@ outlasted doc p pauses =
 abbrev pub is_long_with : Doc → ℕ → ℕ → Bool
 is_long_with doc p seconds = nat_lt (outlasted doc p (longest doc p)) (of_seconds seconds * slowest doc p)
 
--- a further pause of so many beats; of none it is no pause
-abbrev pub further : ℕ → Option ℕ
-further zero = None
-further (suc n) = Some (suc n)
+-- the document with one more pause of a process from its start on, of so many beats; of none it is no pause
+abbrev pub paused : Doc → ℕ → ℕ → Doc
+paused doc p zero = doc
+paused doc p (suc n) = record {
+  settings = doc.settings;
+  controllers = doc.controllers;
+  kubelets = doc.kubelets;
+  objects = doc.objects;
+  events = record { beat = record { 0 = 0 }; what = Pause (record { 0 = p }) (suc n) } ∷ doc.events;
+}
 
--- the test with one more pause of the controller, of so many beats
+-- the test of that document
 abbrev pub bears : Doc → ℕ → ℕ → Bool
-bears doc p beats = nat_lt (outlasted doc p (more (longest doc p) (stands (further beats)))) (lease_duration doc p * slowest doc p)
+bears doc p beats = is_long (paused doc p beats) (fastest (paused doc p beats)) p
 
 -- the least lease of at most a day for which the test holds, or none where it holds for none
 abbrev pub IsLeastLease : Doc → ℕ → Option ℕ → Type 0
