@@ -14,6 +14,7 @@ use Rattle.lens_margin.specs.Laws.{IsLeast, IsLeastLease, IsLongestStall, IsMarg
 use Rattle.lens_margin.specs.Margins.{acting, fastest, slowest, numbers, margin_of}
 use Rattle.lens_margin.proofs.Positive.{slowest-some, fastest-some}
 use Rattle.lens_margin.proofs.ClockRatesLemmas.{field-at}
+use Rattle.lens_margin.proofs.Leased.{leased-is}
 use Rattle.lens_margin.proofs.Paused.{counts, bears-is}
 
 -- ---- rounded up
@@ -115,7 +116,7 @@ module _ (doc : Doc) (p : ℕ) where
   passed : (pauses seconds : ℕ) → nat_lt (outlasted doc p pauses) (of_seconds seconds * slowest doc p) ≡ true → pauses * one + acting doc p < seconds * 1000 * unit
   passed pauses seconds is = ltb-true _ _ (sym (test-is pauses seconds) ∙ is)
 
-  module _ (slow : 0 < slowest doc p) where
+  module _ (inside : p < length doc.controllers) (slow : 0 < slowest doc p) where
     must-least : IsLeast (λ n. outlasted doc p (longest doc p) ≤ of_millis n * slowest doc p) (div_ceil need unit)
     must-least = record {
       holds = omega (arith, outlasted-is (longest doc p), milli-is (div_ceil need unit), (div_ceil_times need unit (omega arith)).0);
@@ -127,8 +128,8 @@ module _ (doc : Doc) (p : ℕ) where
 
     seconds-least : IsLeast (λ s. is_long_with doc p s ≡ true) (need / second + 1)
     seconds-least = record {
-      holds = passes (longest doc p) (need / second + 1) (omega (arith, unit-above need second (omega arith)));
-      least = λ s long. unit-least need second (omega arith) s (omega (arith, passed (longest doc p) s long));
+      holds = leased-is doc p (need / second + 1) inside ∙ passes (longest doc p) (need / second + 1) (omega (arith, unit-above need second (omega arith)));
+      least = λ s long. unit-least need second (omega arith) s (omega (arith, passed (longest doc p) s (sym (leased-is doc p s inside) ∙ long)));
     }
 
     least-by : (b : Bool) → nat_lt (need / second) 86400 ≡ b → IsLeastLease doc p (cond b (Some (need / second + 1)) None)
@@ -160,9 +161,9 @@ margin-law doc lawful p inside =
     let some : 0 < one doc p = product-some (doc.settings.beat_millis * 1000 * fastest doc) (slowest doc p) (product-some (doc.settings.beat_millis * 1000) (fastest doc) (omega (arith, lawful.settings.beat_least)) fast) slow in
     record {
       lease = refl;
-      must_exceed = must-least doc p slow;
-      least_seconds = least-by doc p slow _ refl;
-      longest_stall = stall-by doc p slow some _ refl;
+      must_exceed = must-least doc p inside slow;
+      least_seconds = least-by doc p inside slow _ refl;
+      longest_stall = stall-by doc p inside slow some _ refl;
     }
 
 -- ---- what the code counts with
