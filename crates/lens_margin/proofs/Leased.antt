@@ -2,7 +2,7 @@
 use Rattle.std.proofs.Common.{◌≡◌, ℕ, zero, suc, ◌+◌, ◌*◌, ◌<◌, ◌++◌, nat_lt, List, [], ◌∷◌, length, slice_get, refl, ap, ap₂, ◌∙◌, arith}
 use Rattle.kube_objects.specs.declared.script.Proc.{Proc}
 use Rattle.kube_objects.specs.Clocks.{rate, last_rate}
-use Rattle.kube_objects.specs.Document.{Doc, end_beat, field, process_at, beat_micros, first_rate, of_seconds, of_millis}
+use Rattle.kube_objects.specs.Document.{Doc, end_beat, field, process_at, beat_micros, of_seconds, of_millis}
 use Rattle.kube_objects.specs.Newest.{or_else}
 use Rattle.history.specs.Premise.{less, more, longest, least_rate, greatest_rate, greatest_below}
 use Rattle.lens_margin.specs.Laws.{outlasted, leased_by, with_lease, leased, is_long_with}

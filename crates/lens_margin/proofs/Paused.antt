@@ -1,12 +1,12 @@
 -- A document with one more pause has the same rates, and the longer of the pauses.
-use Rattle.std.proofs.Common.{◌≡◌, ℕ, zero, suc, ◌+◌, ◌*◌, ◌≤◌, nat_lt, Bool, true, false, cond, length, Option, Some, None, refl, sym, ap, ap₂, ◌∙◌, arith, eq-eqb}
+use Rattle.std.proofs.Common.{◌≡◌, ℕ, zero, suc, ◌+◌, ◌*◌, nat_lt, Bool, true, false, cond, length, Option, Some, None, refl, sym, ap, ap₂, arith, eq-eqb}
 use Rattle.std.proofs.lemmas.Bool.{le-ltb}
 use Rattle.kube_objects.specs.Clocks.{rate, last_rate}
 use Rattle.kube_objects.specs.Document.{Doc, end_beat, beat_micros, first_rate, lease_duration, call_timeout, retry_period, renew_deadline}
 use Rattle.kube_objects.specs.Newest.{when, only_if, or_else}
 use Rattle.history.specs.Premise.{less, more, stands, longest, least_rate, greatest_rate, greatest_below}
 use Rattle.lens_margin.specs.Laws.{outlasted, paused, bears}
-use Rattle.lens_margin.specs.Margins.{fastest, slowest}
+use Rattle.lens_margin.specs.Margins.{slowest}
 
 -- the beats of a further pause, and one more
 abbrev pub counts : ℕ → ℕ
