@@ -8,12 +8,14 @@ use Rattle.std.proofs.lemmas.Grind.{div_ceil_times}
 use Rattle.std.proofs.lemmas.Nat.{div-add-mod', mod_below, le-div}
 use Rattle.kube_objects.specs.declared.script.Proc.{Proc}
 use Rattle.kube_objects.specs.Document.{Doc, field, process_at, lease_seconds, of_seconds, of_millis}
-use Rattle.history.specs.Premise.{more, stands, longest}
+use Rattle.history.specs.Premise.{more, longest}
 use Rattle.script_reader.specs.Lawful.{IsLawfulDoc}
-use Rattle.lens_margin.specs.Laws.{IsLeast, IsLeastLease, IsLongestStall, IsMargin, outlasted, is_long_with, further}
+use Rattle.lens_margin.specs.Laws.{IsLeast, IsLeastLease, IsLongestStall, IsMargin, outlasted, is_long_with}
 use Rattle.lens_margin.specs.Margins.{acting, fastest, slowest, numbers, margin_of}
 use Rattle.lens_margin.proofs.Positive.{slowest-some, fastest-some}
 use Rattle.lens_margin.proofs.ClockRatesLemmas.{field-at}
+use Rattle.lens_margin.proofs.Leased.{leased-is}
+use Rattle.lens_margin.proofs.Paused.{counts, bears-is}
 
 -- ---- rounded up
 
@@ -64,14 +66,14 @@ module _ (lease acts beat pauses : ℕ) (some : 0 < beat) (now : Fits lease acts
       by_test false = now
 
   -- a further pause of one beat less than there is room for
-  stall-fits : (n : ℕ) → n ≡ room - 1 → Fits lease acts beat (more pauses (stands (further n)))
+  stall-fits : (n : ℕ) → n ≡ room - 1 → Fits lease acts beat (more pauses (counts n))
   stall-fits zero is = more-fits 0 (omega (arith, now))
   stall-fits (suc n) is = more-fits (suc n + 1) (let same : suc n + 1 ≡ room = omega (arith, is) in subst (Fits lease acts beat) (sym same) room-fits)
 
   fits-less : (n m : ℕ) → n ≤ m → Fits lease acts beat m → Fits lease acts beat n
   fits-less n m less fits = let part : n * beat ≤ m * beat = mul-le-mul_right beat less in omega (arith, part, fits)
 
-  stall-most : (n : ℕ) → Fits lease acts beat (more pauses (stands (further n))) → n ≤ room - 1
+  stall-most : (n : ℕ) → Fits lease acts beat (more pauses (counts n)) → n ≤ room - 1
   stall-most zero fits = omega arith
   stall-most (suc n) fits =
       let above : suc n + 1 ≤ more pauses (suc n + 1) = grind (arith, nat_tests) in
@@ -114,7 +116,7 @@ module _ (doc : Doc) (p : ℕ) where
   passed : (pauses seconds : ℕ) → nat_lt (outlasted doc p pauses) (of_seconds seconds * slowest doc p) ≡ true → pauses * one + acting doc p < seconds * 1000 * unit
   passed pauses seconds is = ltb-true _ _ (sym (test-is pauses seconds) ∙ is)
 
-  module _ (slow : 0 < slowest doc p) where
+  module _ (inside : p < length doc.controllers) (slow : 0 < slowest doc p) where
     must-least : IsLeast (λ n. outlasted doc p (longest doc p) ≤ of_millis n * slowest doc p) (div_ceil need unit)
     must-least = record {
       holds = omega (arith, outlasted-is (longest doc p), milli-is (div_ceil need unit), (div_ceil_times need unit (omega arith)).0);
@@ -126,8 +128,8 @@ module _ (doc : Doc) (p : ℕ) where
 
     seconds-least : IsLeast (λ s. is_long_with doc p s ≡ true) (need / second + 1)
     seconds-least = record {
-      holds = passes (longest doc p) (need / second + 1) (omega (arith, unit-above need second (omega arith)));
-      least = λ s long. unit-least need second (omega arith) s (omega (arith, passed (longest doc p) s long));
+      holds = leased-is doc p (need / second + 1) inside ∙ passes (longest doc p) (need / second + 1) (omega (arith, unit-above need second (omega arith)));
+      least = λ s long. unit-least need second (omega arith) s (omega (arith, passed (longest doc p) s (sym (leased-is doc p s inside) ∙ long)));
     }
 
     least-by : (b : Bool) → nat_lt (need / second) 86400 ≡ b → IsLeastLease doc p (cond b (Some (need / second + 1)) None)
@@ -142,8 +144,8 @@ module _ (doc : Doc) (p : ℕ) where
             beats,
             refl,
             record {
-              holds = passes (more (longest doc p) (stands (further beats))) (lease_seconds doc p) (stall-fits lease (acting doc p) one (longest doc p) some now beats refl);
-              greatest = λ n bears. stall-most lease (acting doc p) one (longest doc p) some now n (passed (more (longest doc p) (stands (further n))) (lease_seconds doc p) bears);
+              holds = bears-is doc p beats ∙ passes (more (longest doc p) (counts beats)) (lease_seconds doc p) (stall-fits lease (acting doc p) one (longest doc p) some now beats refl);
+              greatest = λ n bears. stall-most lease (acting doc p) one (longest doc p) some now n (passed (more (longest doc p) (counts n)) (lease_seconds doc p) (sym (bears-is doc p n) ∙ bears));
             },
           )
       stall-by false is = λ long. let never : false ≡ true = sym is ∙ sym (test-is (longest doc p) (lease_seconds doc p)) ∙ long in cc
@@ -159,9 +161,9 @@ margin-law doc lawful p inside =
     let some : 0 < one doc p = product-some (doc.settings.beat_millis * 1000 * fastest doc) (slowest doc p) (product-some (doc.settings.beat_millis * 1000) (fastest doc) (omega (arith, lawful.settings.beat_least)) fast) slow in
     record {
       lease = refl;
-      must_exceed = must-least doc p slow;
-      least_seconds = least-by doc p slow _ refl;
-      longest_stall = stall-by doc p slow some _ refl;
+      must_exceed = must-least doc p inside slow;
+      least_seconds = least-by doc p inside slow _ refl;
+      longest_stall = stall-by doc p inside slow some _ refl;
     }
 
 -- ---- what the code counts with

@@ -1,7 +1,9 @@
 -- What the numbers of a margin are: the least and the greatest for which the lease premise's own tests hold.
-use Rattle.std.specs.Prelude.{◌≡◌, ℕ, zero, suc, ◌+◌, ◌*◌, ◌<◌, ◌≤◌, nat_lt, Bool, true, length, Option, Some, None}
-use Rattle.kube_objects.specs.Document.{Doc, beat_micros, lease_seconds, lease_duration, call_timeout, retry_period, renew_deadline, of_seconds, of_millis}
-use Rattle.history.specs.Premise.{more, stands, longest, is_long}
+use Rattle.std.specs.Prelude.{◌≡◌, ℕ, zero, suc, ◌+◌, ◌*◌, ◌<◌, ◌≤◌, Bool, true, List, [], ◌∷◌, length, Option, Some, None}
+use Rattle.kube_objects.specs.Document.{Doc, beat_micros, lease_seconds, call_timeout, retry_period, renew_deadline, of_millis}
+use Rattle.kube_objects.specs.declared.script.Proc.{Proc}
+use Rattle.kube_objects.specs.declared.script.What.TheVariants.{Pause}
+use Rattle.history.specs.Premise.{longest, is_long}
 use Rattle.lens_margin.specs.declared.margin.Margin.{Margin}
 use Rattle.lens_margin.specs.Margins.{fastest, slowest, margin_of}
 
@@ -13,23 +15,59 @@ pub record IsGreatest (P : ℕ → Type 0) (n : ℕ) : Type 0 where
   pub holds : P n
   pub greatest : (m : ℕ) → P m → m ≤ n
 
+abbrev pub leased_by : ℕ → Proc → Proc
+leased_by seconds c = record {
+  name = c.name;
+  rate_ppm = c.rate_ppm;
+  offset_millis = c.offset_millis;
+  up = c.up;
+  watch = c.watch;
+  ready = c.ready;
+  lease_seconds = seconds;
+  renew_millis = c.renew_millis;
+  retry_millis = c.retry_millis;
+  timeout_millis = c.timeout_millis;
+}
+
 -- the left side of the premise's test, with this for the longest pause's beats and one more
 abbrev pub outlasted : Doc → ℕ → ℕ → ℕ
 outlasted doc p pauses =
     pauses * (beat_micros doc * fastest doc) * slowest doc p + (call_timeout doc p + retry_period doc p + renew_deadline doc p) * fastest doc
 
--- the test with a lease of so many seconds in place of the controller's
+-- the same controllers but for the lease of the one at this place
+abbrev pub with_lease : ℕ → ℕ → List Proc → List Proc
+with_lease p seconds [] = []
+with_lease zero seconds (c ∷ cs) = leased_by seconds c ∷ cs
+with_lease (suc p) seconds (c ∷ cs) = c ∷ with_lease p seconds cs
+
+-- the document with a lease of so many seconds for a controller
+abbrev pub leased : Doc → ℕ → ℕ → Doc
+leased doc p seconds = record {
+  settings = doc.settings;
+  controllers = with_lease p seconds doc.controllers;
+  kubelets = doc.kubelets;
+  objects = doc.objects;
+  events = doc.events;
+}
+
+-- the premise's test of that document
 abbrev pub is_long_with : Doc → ℕ → ℕ → Bool
-is_long_with doc p seconds = nat_lt (outlasted doc p (longest doc p)) (of_seconds seconds * slowest doc p)
+is_long_with doc p seconds = is_long (leased doc p seconds) (fastest (leased doc p seconds)) p
 
--- a further pause of so many beats; of none it is no pause
-abbrev pub further : ℕ → Option ℕ
-further zero = None
-further (suc n) = Some (suc n)
+-- the document with one more pause of a process from its start on, of so many beats; of none it is no pause
+abbrev pub paused : Doc → ℕ → ℕ → Doc
+paused doc p zero = doc
+paused doc p (suc n) = record {
+  settings = doc.settings;
+  controllers = doc.controllers;
+  kubelets = doc.kubelets;
+  objects = doc.objects;
+  events = record { beat = record { 0 = 0 }; what = Pause (record { 0 = p }) (suc n) } ∷ doc.events;
+}
 
--- the test with one more pause of the controller, of so many beats
+-- the test of that document
 abbrev pub bears : Doc → ℕ → ℕ → Bool
-bears doc p beats = nat_lt (outlasted doc p (more (longest doc p) (stands (further beats)))) (lease_duration doc p * slowest doc p)
+bears doc p beats = is_long (paused doc p beats) (fastest (paused doc p beats)) p
 
 -- the least lease of at most a day for which the test holds, or none where it holds for none
 abbrev pub IsLeastLease : Doc → ℕ → Option ℕ → Type 0
