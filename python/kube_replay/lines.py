@@ -37,7 +37,7 @@ class Answer:
     def __str__(self) -> str:
         if self.outcome is Outcome.ACCEPTED:
             return f'v={self.version}'
-        return f'conflict v={self.version}' if self.outcome is Outcome.CONFLICT else self.outcome.value
+        return f'conflict v={self.version}' if self.outcome is Outcome.CONFLICT else str(self.outcome.value)
 
 
 @dataclass(frozen=True)
