@@ -32,7 +32,6 @@ def options() -> argparse.Namespace:
     parser.add_argument('bounds', metavar='BOUNDS', help='a file with the bounds, as JSON')
     parser.add_argument('--scripts', type=int, default=20_000, help='how many scripts at most, before the shrinking (%(default)s)')
     parser.add_argument('--seconds', type=float, default=60.0, help='for how long at most, before the shrinking (%(default)s)')
-    parser.add_argument('--seed', type=int, default=0, help='another seed, other scripts (%(default)s)')
     parser.add_argument('--at-least', type=float, metavar='VALUE', help='end at the first script that is so bad, and shrink that')
     return parser.parse_args()
 
@@ -58,9 +57,9 @@ def run(given: argparse.Namespace) -> int:
     document, began = load(given.document), time.monotonic()
     check(document)
     measure = MEASURES[given.measure]
-    hunt = Hunt(document, read_bounds(load(given.bounds), document), measure, given.scripts, given.seconds, given.seed)
+    hunt = Hunt(document, read_bounds(load(given.bounds), document), measure, given.scripts, given.seconds)
     found = hunt.run(given.at_least)
-    tried = f'{hunt.tried:,} scripts in {time.monotonic() - began:.0f} s, seed {given.seed}'
+    tried = f'{hunt.tried:,} scripts in {time.monotonic() - began:.0f} s'
     if found is None:
         print(f'hunt: nothing found: {measure.words}; {tried}', file=sys.stderr)
         return NOTHING

@@ -1,7 +1,6 @@
 """The search for the worst script. Hypothesis makes the scripts, climbs towards the worst, and shrinks it."""
 from __future__ import annotations
 
-import random
 import time
 from dataclasses import dataclass, field
 from typing import Any, Callable, Mapping
@@ -42,7 +41,7 @@ class Store(InMemoryExampleDatabase):
     """Where Hypothesis keeps what is worth coming back to. It notes what is saved of the script that was looked at last."""
 
     def __init__(self, first: bytes | None = None) -> None:
-        super().__init__()
+        super().__init__()  # type: ignore[no-untyped-call]
         self.is_noting = False
         self.noted = first
         if first is not None:
@@ -63,7 +62,6 @@ class Hunt:
     measure: Measure
     scripts: int = 20_000
     seconds: float = 60.0
-    seed: int = 0
     tried: int = 0
     worst: float | None = None
     worst_script: Script | None = None
@@ -92,13 +90,12 @@ class Hunt:
             value = self._look_at(script)
             return at_least is not None and value is not None and value >= at_least
 
-        draws = random.Random(self.seed)
-        while self._find(is_enough, SEARCHING, draws) is None:
+        while self._find(is_enough, SEARCHING) is None:
             if self.tried == 0:
                 raise Spent
             self._store = Store(self._store.noted)
 
-    def _find(self, condition: Callable[[Script], bool], phases: tuple[Phase, ...], draws: random.Random) -> Script | None:
+    def _find(self, condition: Callable[[Script], bool], phases: tuple[Phase, ...]) -> Script | None:
         """A round of Hypothesis: a script with the condition, or None."""
         settings = hypothesis.settings(
             max_examples=ROUND,
@@ -110,7 +107,7 @@ class Hunt:
             suppress_health_check=list(HealthCheck),
         )
         try:
-            return hypothesis.find(scripts_in(self.bounds), condition, settings=settings, random=draws, database_key=KEY)
+            return hypothesis.find(scripts_in(self.bounds), condition, settings=settings, database_key=KEY)
         except NoSuchExample:
             return None
 
@@ -133,10 +130,10 @@ class Hunt:
             value = self._look_at(script)
             return value is not None and value >= wanted
 
-        draws, in_vain = random.Random(self.seed), 0
+        in_vain = 0
         self._store = Store(self._store.noted)
         for _ in range(MOST_SHRINKINGS):
-            smaller = self._find(is_so_bad, SHRINKING, draws)
+            smaller = self._find(is_so_bad, SHRINKING)
             in_vain = in_vain + 1 if smaller in (None, script) else 0
             script = smaller or script
             if in_vain == ENOUGH_IN_VAIN:
