@@ -12,6 +12,7 @@ use Rattle.kube_objects.specs.Document.{Doc}
 use Rattle.kube_objects.specs.declared.key.Key.{Key}
 use Rattle.kube_objects.specs.declared.object.Object.{Object}
 use Rattle.kube_objects.specs.declared.script.Proc.{Proc}
+use Rattle.history.proofs.Pauses.{never_apart}
 use Rattle.manifest_laws.proofs.FittingItems.{keys-apart, kinds-few}
 use Rattle.manifest_laws.proofs.Getting.{Gets, done, and_then, skip}
 use Rattle.manifest_laws.proofs.Growing.{Grows, Grows-none, Grows-then}
@@ -90,7 +91,7 @@ document-whole value =
         few_objects = λ kind. kinds-few kind objects.0.items o.1.fit;
         events = e.1.lawful doc of;
         few_events = e.1.few;
-        unpaused = e.1.unpaused;
+        apart = never_apart events.0 e.1.unpaused;
       };
       named = record {
         controllers = named-grow (Grows-then k.0 from_kubelets) controllers.0 c.1.0.named;
