@@ -88,7 +88,7 @@ fn sooner_turn(world: &World, who: ProcId, due: Option<Beat>, next: Option<Beat>
     let Some(due) = due else {
         return next;
     };
-    let end = world.end();
+    let end = world.clock(who).end();
     if is_there(next, due) || end.0 < due.0 {
         return next;
     }

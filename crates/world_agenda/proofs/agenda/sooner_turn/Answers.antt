@@ -16,7 +16,7 @@ returns-then-is_there c doc k h stands end =
     let same : next ≡ sooner next (resumed doc c.args.who.0 (Some due)) =
     elim c.then-is_there.branch [
       | then-is_there-via-then-is_there w ↦ kept doc c.args.who.0 due next (not_true (is_early due next) (sym c.is_there.ensures ∙ w.if-is_there.true))
-      | then-is_there-via-else-is_there+then-end-due w ↦ due-past doc c.args.who.0 due next (omega (arith, w.if-end-due.true, c.end-end.ensures, end))
+      | then-is_there-via-else-is_there+then-end-due w ↦ due-past doc c.args.who.0 due next (omega (arith, w.if-end-due.true, c.end-end.ensures, c.clock.ensures.end c.requires.ready, end))
     ] in
     subst (λ o. next ≡ sooner next (resumed doc c.args.who.0 (beat_of o))) (sym c.in-Some.is) same
 
@@ -25,7 +25,7 @@ returns-then-end-goes_on c doc k h stands end =
     let next = beat_of c.args.next in
     let due = c.in-Some.due.0 in
     let past : end_beat doc < resume doc c.args.who.0 due =
-    omega (arith, c.if-end-goes_on.true, c.end-end.ensures, end, c.resume-goes_on.ensures doc k h stands end) in
+    omega (arith, c.if-end-goes_on.true, c.end-end.ensures, c.clock.ensures.end c.requires.ready, end, c.resume-goes_on.ensures doc k h stands end) in
     subst (λ o. next ≡ sooner next (resumed doc c.args.who.0 (beat_of o))) (sym c.in-Some.is) (goes-past doc c.args.who.0 due next past)
 
 pub returns : goal.returns
@@ -34,4 +34,4 @@ returns c doc k h stands end =
     let due = c.in-Some.due.0 in
     c.sooner.ensures
     ∙ subst (λ o. sooner next (Some c.resume-goes_on.result.0) ≡ sooner next (resumed doc c.args.who.0 (beat_of o))) (sym c.in-Some.is)
-    (goes-on doc c.args.who.0 due c.resume-goes_on.result.0 next (c.resume-goes_on.ensures doc k h stands end) (omega (arith, c.if-end-goes_on.false, c.end-end.ensures, end)))
+    (goes-on doc c.args.who.0 due c.resume-goes_on.result.0 next (c.resume-goes_on.ensures doc k h stands end) (omega (arith, c.if-end-goes_on.false, c.end-end.ensures, c.clock.ensures.end c.requires.ready, end)))
