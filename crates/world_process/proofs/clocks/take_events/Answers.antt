@@ -4,8 +4,8 @@ use Rattle.kube_objects.specs.Newest.{or_else}
 use Rattle.skew_clock.specs.Clocking.{last_set, rate_at}
 use Rattle.world_process.specs.Clocked.{AreEventsFrom, SameSpan}
 use Rattle.world_process.proofs.Rates.{events-set, events-unset, rates-set, rates-unset, same-set}
-use Rattle.world_process.proofs.clocks.set_rates.Goals as goal
-use Rattle.world_process.proofs.clocks.set_rates.Goals.{in-Some+in_ok-set_rate, in_default}
+use Rattle.world_process.proofs.clocks.take_events.Goals as goal
+use Rattle.world_process.proofs.clocks.take_events.Goals.{in-Some+in_ok-set_rate, in_default}
 
 pub loop-event-preserved : goal.loop-event-preserved
 loop-event-preserved c = elim c.match-rate_of.branch [
