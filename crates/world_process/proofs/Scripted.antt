@@ -161,7 +161,7 @@ pub stopped-paused : (doc : Doc) (k : ℕ) (id : ProcId) (h : List Entry) (c : C
 stopped-paused doc k id h c paused s =
     record {
       told = ap printed base;
-      asks = (next ∙ sym base, subst (λ g. ControllerStands doc p g c) (sym next) (controller-event doc p k 1 (what.Stop id) None h c (ap (λ b. (p == p) && not b) paused ∙ and-false (p == p)) s));
+      asks = (next ∙ sym base, subst (λ g. ControllerStands doc p g c) (sym base) (controller-event doc p k 1 (what.Stop id) None h c (ap (λ b. (p == p) && not b) paused ∙ and-false (p == p)) s));
     }
   where
     p : ℕ
