@@ -1,5 +1,5 @@
 use Rattle.script_reader.proofs.ClockRatesLemmas.{longest-event}
-use Rattle.script_reader.proofs.premise.longest.Goals as goal
+use Rattle.script_reader.proofs.premise.longest_pause.Goals as goal
 
 pub loop-place-preserved-in-loop-place : goal.loop-place-preserved-in-loop-place
 loop-place-preserved-in-loop-place c =
