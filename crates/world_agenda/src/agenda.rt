@@ -88,8 +88,11 @@ fn sooner_turn(world: &World, who: ProcId, due: Option<Beat>, next: Option<Beat>
     let Some(due) = due else {
         return next;
     };
+    if is_there(next, due) {
+        return next;
+    }
     let end = world.clock(who).end();
-    if is_there(next, due) || end.0 < due.0 {
+    if end.0 < due.0 {
         return next;
     }
     let goes_on = world.resume(who, due);
