@@ -3,6 +3,8 @@ from __future__ import annotations
 
 import json
 import re
+from pathlib import Path
+from typing import Any
 
 import pytest
 from conftest import EXAMPLES, TOP, Stub, example
@@ -11,7 +13,7 @@ import kube_replay
 from kube_replay import engine
 from kube_replay.refusals import REFUSALS
 
-SMALLEST = {'version': 1, 'settings': {'endBeat': 60}, 'controllers': [{'name': 'cp-east-1'}]}
+SMALLEST: dict[str, Any] = {'version': 1, 'settings': {'endBeat': 60}, 'controllers': [{'name': 'cp-east-1'}]}
 
 
 def rows(page: str, heading: str) -> list[list[str]]:
@@ -19,7 +21,7 @@ def rows(page: str, heading: str) -> list[list[str]]:
     text = (TOP / 'docs' / page).read_text().split(heading, 1)[1]
     lines = re.search(r'(?m)(^\|.*\n)+', text)
     assert lines is not None
-    return [[cell.strip() for cell in line.strip('|\n').split(' | ')] for line in lines[0].splitlines()[2:]]
+    return [[cell.strip() for cell in line.strip('|\n').split(' | ')] for line in str(lines[0]).splitlines()[2:]]
 
 
 def test_the_meanings_are_those_of_the_pages() -> None:
@@ -31,15 +33,15 @@ def test_the_meanings_are_those_of_the_pages() -> None:
 
 
 @pytest.mark.parametrize('folder', EXAMPLES, ids=lambda folder: folder.name)
-def test_examples(real_engine: engine.Engine, folder: object) -> None:
-    name = getattr(folder, 'name')
-    trace = kube_replay.replay(example(name))
-    assert trace.text.encode() == example(name, 'trace.txt')
+def test_examples(real_engine: engine.Engine, folder: Path) -> None:
+    trace = kube_replay.replay(example(folder.name))
+    assert trace.text.encode() == example(folder.name, 'trace.txt')
 
 
 def test_forms_of_a_document(real_engine: engine.Engine) -> None:
     text = json.dumps(SMALLEST)
-    traces = {kube_replay.replay(form).text for form in (SMALLEST, text, text.encode(), bytearray(text.encode()))}
+    forms: list[kube_replay.Document] = [SMALLEST, text, text.encode(), bytearray(text.encode())]
+    traces = {kube_replay.replay(form).text for form in forms}
     assert len(traces) == 1
 
 

@@ -100,9 +100,12 @@ def test_measures(measure: str, name: str, value: float | None) -> None:
 
 
 def test_pods_of_healthy_nodes() -> None:
-    document = {**DOCUMENT, 'kubelets': [{'node': 'n1'}, {'node': 'n2'}, {'node': 'n3', 'up': False}], 'objects': {
-        'apiVersion': 'v1', 'kind': 'List', 'items': [
-            {'apiVersion': 'v1', 'kind': 'Pod', 'metadata': {'name': 'p' + node}, 'spec': {'nodeName': node}} for node in ('n1', 'n2', 'n3')]}}  # fmt: skip
+    pods = [
+        {'apiVersion': 'v1', 'kind': 'Pod', 'metadata': {'name': 'p' + node}, 'spec': {'nodeName': node}} for node in ('n1', 'n2', 'n3')
+    ]
+    kubelets = [{'node': 'n1'}, {'node': 'n2'}, {'node': 'n3', 'up': False}]
+    objects = {'apiVersion': 'v1', 'kind': 'List', 'items': pods}
+    document: dict[str, Any] = {**DOCUMENT, 'kubelets': kubelets, 'objects': objects}
     evicted = ''.join(f'9 a_1 evict default/p{node} due=2024-01-01T00:00:00Z v=7\n' for node in ('n1', 'n2', 'n3'))
     trace = Trace('trace 1 beat=1000 end=9 premise=no\n2 kubelet/n2_1 crash\n' + evicted)
     assert MEASURES['healthy-evicted'].value(Run(document, trace)) == 1
