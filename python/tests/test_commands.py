@@ -32,7 +32,7 @@ def test_the_meanings_are_those_of_the_pages() -> None:
     assert {code for code, meaning in told.items() if meaning != REFUSALS[code]} <= {7}
 
 
-@pytest.mark.parametrize('folder', EXAMPLES, ids=lambda folder: folder.name)
+@pytest.mark.parametrize('folder', EXAMPLES, ids=[folder.name for folder in EXAMPLES])
 def test_examples(real_engine: engine.Engine, folder: Path) -> None:
     trace = kube_replay.replay(example(folder.name))
     assert trace.text.encode() == example(folder.name, 'trace.txt')

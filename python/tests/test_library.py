@@ -22,7 +22,8 @@ uint32_t kube_replay_run(const uint8_t *words, size_t words_length, const uint8_
     *put = room < *whole ? room : *whole;
     calls++;
     for (size_t at = 0; at < *put; at++)
-        buffer[at] = at < words_length ? words[at] : at == words_length ? '|' : at == *whole - 1 ? '0' + calls : input[at - words_length - 1];
+        buffer[at] = at < words_length ? words[at] : at == words_length ? '|' : at + 1 == *whole ? '0' + calls
+            : input[at - words_length - 1];
     return input_length > 0 && input[0] == 'r' ? 1 : 0;
 }
 '''
