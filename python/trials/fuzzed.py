@@ -7,7 +7,7 @@ from pathlib import Path
 from typing import Any, Iterator
 
 TOP = Path(__file__).resolve().parents[2]
-VALUES = [
+VALUES: list[Any] = [
     None,
     True,
     False,
@@ -29,7 +29,16 @@ VALUES = [
     {},
     [5],
 ]
-WRONG_WORDS = [[], ['sing'], ['replay', 'now'], ['state'], ['state', '-1'], ['state', '01'], ['state', '604800001'], ['generate', '7']]
+WRONG_WORDS: list[list[str]] = [
+    [],
+    ['sing'],
+    ['replay', 'now'],
+    ['state'],
+    ['state', '-1'],
+    ['state', '01'],
+    ['state', '604800001'],
+    ['generate', '7'],
+]
 LONGEST = 40_000
 
 Case = tuple[list[str], bytes]

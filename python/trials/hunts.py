@@ -58,6 +58,7 @@ def no_two_leaders(scripts: int = 100_000) -> bool:
     """No two leaders where the settings rule them out."""
     document = load(TOP / 'examples' / 'uneven-clocks-longer-lease' / 'document.json')
     document['events'] = []
+    document['settings']['endBeat'] = 400
     assert kube_replay.check(document).premise
     hunt = hunt_of('two-lead', document, 'two-leaders', scripts, LONG)
     begin, found = time.process_time(), hunt.run()

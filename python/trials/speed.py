@@ -35,8 +35,9 @@ def main() -> int:
     seconds = float(sys.argv[1]) if len(sys.argv) > 1 else 5.0
     library, program = engines()
     rates: dict[str, float] = {}
-    for name, used in (('library', library), ('program', program)):
-        engine.use(used)
+    used: dict[str, engine.Engine] = {'library': library, 'program': program}
+    for name, each in used.items():
+        engine.use(each)
         rates[name] = rate(lambda: kube_replay.replay(DOCUMENT), seconds)
         print(f'{name}: {rates[name]:.0f} replays a second')
         print(f'{name}: {rate(lambda: kube_replay.replay(DOCUMENT).terms(), seconds):.0f} with the lines read')
