@@ -2,12 +2,10 @@
 use Rattle.std.proofs.Common.{◌≡◌, ℕ, suc, ◌+◌, ◌≤◌, Bool, true, false, List, [], ◌∷◌, ◌++◌, length, slice_get, Option, Some, None, Result, Ok, Err, IfOk, refl, sym, ap, ◌∙◌, subst, arith}
 use Rattle.std.proofs.lemmas.Map.Entries.{lookup_from_place}
 use Rattle.std.proofs.lemmas.Map.Keys.{IsDistinct-from_sorted}
-use Rattle.std.specs.Cmp.{IsEquivalence}
 use Rattle.std.specs.List.{AllByRecursion, list_all}
 use Rattle.std.specs.List.Sorted.{IsStrictlySortedBy}
 use Rattle.std.specs.Map.{keys_of, lookup}
 use Rattle.kube_base.specs.Names.{AreNames}
-use Rattle.kube_objects.proofs.KeyOrder.{same_key, key_itself}
 use Rattle.kube_objects.specs.declared.deed.Deed.{Deed}
 use Rattle.kube_objects.specs.declared.key.Key.{Key}
 use Rattle.kube_objects.specs.declared.object.Object.{Object}
@@ -23,6 +21,7 @@ use Rattle.history_laws.proofs.Starts.{starts_are_few}
 use Rattle.history_laws.proofs.Plainly.{some_is, none_is, and_both}
 use Rattle.manifest_json.specs.Written.{is_writable_item}
 use Rattle.naming_laws.specs.Items.{IsWritableItem}
+use Rattle.naming_laws.proofs.Kept.{keys-alike, all-placed}
 use Rattle.naming_laws.proofs.Naming.{deeds_writable, items_writable}
 use Rattle.naming_laws.proofs.Readings.{item_timely}
 use Rattle.object_store.specs.StoreAnswers.{object_of}
@@ -49,22 +48,6 @@ beat-writable names doc k deeds are lawful named within told =
     (subst (AllByRecursion (IsWritable names (processes doc))) (sym told) (deeds_writable names doc are lawful named (suc k) (omega (arith, within))))
 
 -- ---- objects
-
-key-eq-symm : (a b : Key) → key_eq a b ≡ key_eq b a
-key-eq-symm a b = by_tests (key_eq a b) (key_eq b a) refl refl
-  where
-    by_tests : (x y : Bool) → key_eq a b ≡ x → key_eq b a ≡ y → x ≡ y
-    by_tests true true one other = refl
-    by_tests false false one other = refl
-    by_tests true false one other = sym (key_itself a) ∙ ap (λ k. key_eq k a) (same_key a b one) ∙ other
-    by_tests false true one other = sym one ∙ ap (λ k. key_eq k b) (sym (same_key b a other)) ∙ key_itself b
-
-keys-alike : IsEquivalence key_eq
-keys-alike = record { refl = key_itself; symm = key-eq-symm; congr = λ a b d same. ap (λ k. key_eq k d) (same_key a b same) }
-
-all-placed : {A : Type 0} (P : A → Type 0) (xs : List A) → ((i : ℕ) (x : A) → slice_get xs i ≡ Some x → P x) → AllByRecursion P xs
-all-placed P [] each = tt
-all-placed P (x ∷ xs) each = (each 0 x refl, all-placed P xs (λ i y at. each (suc i) y at))
 
 timely-items : (names : List (List ℕ)) (controllers : ℕ) (items : List (Key × Object)) → AllByRecursion (λ item. IsWritableItem names controllers item.0 item.1) items → list_all is_writable_item items ≡ true
 timely-items names controllers [] all = refl
