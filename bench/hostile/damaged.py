@@ -13,6 +13,7 @@ import collections
 import os
 import re
 import shlex
+import sys
 import time
 
 from common import add_program, call, end, wrong
@@ -54,6 +55,9 @@ def main():
         counts[words[0], run.status] += 1
         codes.update(run.text.split()[1:2] if run.status == 1 else [])
         slowest = max(slowest, run.seconds)
+        done = number - given.seed * 1_000_000 + 1
+        if done % 5_000 == 0:
+            print('%d so far, in %d s' % (done, time.monotonic() - began), file=sys.stderr, flush=True)
         if not is_well(run):
             wrong('%d, %s: status %s, %d bytes' % (number, words[0], run.status, len(run.text)))
             keep(given.keep, number, words, data)

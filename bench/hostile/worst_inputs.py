@@ -1,5 +1,5 @@
 """The inputs of worst.py, each with the command that gets it."""
-from common import MOST_BYTES, TOLERATIONS, as_list, generated, node, pod, renewals, text_of
+from common import MOST_BYTES, TOLERATIONS, as_list, generated, largest_document, node, pod, renewals, text_of
 
 DAY_BEATS = 8_640_000
 
@@ -101,11 +101,6 @@ def long_names():
     name = lambda i: '.'.join([label] * 4) + '.%08d' % i
     pods = [{**pod(name(i)), 'metadata': {'namespace': name(i + 50_000), 'name': name(i)}} for i in range(26_000)]
     return text_of(document(objects=as_list(pods)))
-
-
-def many_objects():
-    import run as speed
-    return text_of(speed.large_document(1))
 
 
 def tainted_nodes(count, taints, effect):
@@ -272,7 +267,7 @@ CASES = {
     '400,000 keys that collide': ('check', tolerated_names(400_000, True)),
     '800,000 keys that collide': ('check', tolerated_names(800_000, True)),
     'names of 253 bytes': ('check', long_names),
-    'objects and events up to the limits': ('check', many_objects),
+    'objects and events up to the limits': ('check', largest_document),
     'a thousand zones, 98,000 taints': ('replay', zones_and_taints),
     '100,000 events of one beat': ('replay', events_of_one_beat),
     'a rate at each of 100,000 beats': ('replay', rates),
@@ -288,7 +283,7 @@ CASES = {
     '200 bytes of document': ('replay', small_but_long),
     'a day of 1,000 kubelets, skewed clocks, beats of 10 ms': ('replay', day_of_kubelets),
     'the last state of 30,000 pods': ('state 600', lambda: text_of(generated(7, 1_000, 30_000, 600))),
-    'the first state of 16 MB': ('state 0', many_objects),
+    'the first state of 16 MB': ('state 0', largest_document),
     'the greatest generated cluster': ('generate 7 1000 30000 100000', lambda: b''),
     'renewals': ('audit', lambda: renewals(MOST_BYTES)),
     'terms of many identities': ('audit', terms),
