@@ -3,8 +3,8 @@
 
     python3 bench/hostile/damaged.py [--program COMMAND] [--count 50000] [--seed 1] [--reference COMMAND] [--every 25] [--keep FOLDER]
 
-Each is one of the repository's own with bytes changed, cut out or doubled, with keys moved or values made extreme (damage.py); the same seed makes
-the same ones. The program has to end with 0 or 1 within ten seconds, and where it is 1 to have written one line `refused CODE PATH`. Each 25th input is
+Each is one of the repository's own with bytes changed, cut out or doubled, with keys moved or values made extreme (damage.py); the same
+seed makes the same ones. The program has to end with 0 or 1 within ten seconds, and where it is 1 to have written one line `refused CODE PATH`. Each 25th input is
 given to the reference too, if there is one: a command that takes the same words and input; then bytes and status have to be equal. Inputs at which
 something was wrong are kept in a folder. The exit status is 1 where there were any.
 """

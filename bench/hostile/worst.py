@@ -3,7 +3,8 @@
 
     python3 bench/hostile/worst.py [--program COMMAND] [--only WORD] [--seconds 120]
 
-Inputs have up to 16,777,216 bytes (worst_inputs.py makes them, and says what each is about). A run that takes more than so many seconds of the processor is
+Inputs have up to 16,777,216 bytes (worst_inputs.py makes them, and says what each is about).
+A run that takes more than so many seconds of the processor is
 ended and told as such. The table is for reading: whether a time is more than what a document's entries cost isn't judged here. The exit status is 1 where a
 run ended otherwise than with 0 or, where that is expected, 1.
 """
