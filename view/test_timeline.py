@@ -560,9 +560,9 @@ def test_pictures(browser, folder, pictures):
     if not pictures:
         return
     examples, data = os.path.join(TOP, 'examples'), os.path.join(HERE, 'data')
-    cases = [('two-leaders', examples + '/uneven-clocks/trace.txt', 330, 'controller cp-east-1', '189 cp-east-1_1 end'),
-             ('failover', examples + '/leader-crashes/trace.txt', 330, 'controller cp-east-2', '204 cp-east-2_1 lead v=4'),
-             ('zone-outage', data + '/zone-outage.txt', 985, 'node worker-b-1', '212 cp-2_1 taint worker-b-1 unreachable v=274')]
+    cases = [('two-leaders', examples + '/uneven-clocks/trace.txt', 345, 'controller cp-east-1', '189 cp-east-1_1 end'),
+             ('failover', examples + '/leader-crashes/trace.txt', 375, 'controller cp-east-2', '204 cp-east-2_1 lead v=4'),
+             ('zone-outage', data + '/zone-outage.txt', 1015, 'node worker-b-1', '212 cp-2_1 taint worker-b-1 unreachable v=274')]
     for name, path, height, lane, text in cases:
         open_trace(browser, folder, path)
         browser.size(1120, height + 172)

@@ -86,20 +86,30 @@ def renewals(size):
     return ('trace 1 beat=100 end=%d premise=yes\n' % (7 + 24 * at) + '\n'.join(lines) + '\n').encode()
 
 
-def large():
-    """Each command with an input of 4 to 16 MB."""
-    import run as speed
-    replayed, stored = text_of(generated(7, 700, 20_000, 600)), text_of(generated(7, 1_000, 30_000, 600))
+def pods_to_collect():
     pods = [pod('web-%d' % i, 'node-%d' % (i % 1_200), TOLERATIONS, creationTimestamp='2024-01-01T00:00:00Z') for i in range(30_000)]
     nodes = [node('node-%d' % i) for i in range(1_000)]
-    asked = {'now': '2024-01-02T00:00:00Z', 'missing': [{'node': 'node-%d' % i, 'since': '2024-01-01T00:00:00Z'} for i in range(1_000, 1_200)],
-             'objects': as_list(nodes + pods)}
-    free = [pod('web-%d' % i, '', TOLERATIONS) for i in range(500)]
+    missing = [{'node': 'node-%d' % i, 'since': '2024-01-01T00:00:00Z'} for i in range(1_000, 1_200)]
+    return text_of({'now': '2024-01-02T00:00:00Z', 'missing': missing, 'objects': as_list(nodes + pods)})
+
+
+def pods_to_place():
     taints = [{'key': 'example.com/taint-%d' % i, 'effect': 'PreferNoSchedule'} for i in range(60)]
-    return {'replay': (['replay'], replayed), 'check': (['check'], text_of(speed.large_document(1))), 'state': (['state', '600'], stored),
-            'audit': (['audit'], renewals(MOST_BYTES)), 'collect': (['collect'], text_of(asked)),
-            'place': (['place'], text_of({'objects': as_list([node('node-%d' % i, taints) for i in range(1_000)] + free)})),
-            'generate': (['generate', '7', '1000', '30000', '600'], b'')}
+    nodes = [node('node-%d' % i, taints) for i in range(1_000)]
+    return text_of({'objects': as_list(nodes + [pod('web-%d' % i, '', TOLERATIONS) for i in range(500)])})
+
+
+def largest_document():
+    import run as speed
+    return text_of(speed.large_document(1))
+
+
+def large():
+    """Each command with what makes an input of 4 to 16 MB for it."""
+    return {'replay': (['replay'], lambda: text_of(generated(7, 700, 20_000, 600))), 'check': (['check'], largest_document),
+            'state': (['state', '600'], lambda: text_of(generated(7, 1_000, 30_000, 600))), 'audit': (['audit'], lambda: renewals(MOST_BYTES)),
+            'collect': (['collect'], pods_to_collect), 'place': (['place'], pods_to_place),
+            'generate': (['generate', '7', '1000', '30000', '600'], lambda: b'')}
 
 
 class Run:

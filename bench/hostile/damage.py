@@ -18,7 +18,7 @@ def originals():
         with open(path, 'rb') as file:
             return file.read()
     found = [('document', bytes_of(path)) for path in sorted(glob.glob(os.path.join(TOP, 'examples', '*', 'document.json')))]
-    found += [('trace', bytes_of(path)) for path in sorted(glob.glob(os.path.join(TOP, 'examples', '*', 'trace.txt')))]
+    found += [('trace', bytes_of(path)) for path in sorted(glob.glob(os.path.join(TOP, 'examples', '*', 'trace.txt')))[::3]]
     return found + [('list', small()[name][1]) for name in ('collect', 'place')] * 6
 
 
@@ -27,7 +27,8 @@ def damaged(number, found):
     draws = random.Random(number)
     sort, data = draws.choice(found)
     words = draws.choice(COMMANDS[sort])
-    ways = [change, change, cut_end, cut_out, double, swap] + ([move_key, move_key, spoil_value, spoil_value, double_key] if sort != 'trace' else [mix_lines])
+    ways = [change, change, cut_end, cut_out, double, swap]
+    ways += ([move_key, move_key, spoil_value, spoil_value, double_key] if sort != 'trace' else [mix_lines])
     for _ in range(draws.choice((1, 1, 1, 2, 3))):
         data = draws.choice(ways)(data, draws)
     return words, data

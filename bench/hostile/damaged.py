@@ -3,8 +3,8 @@
 
     python3 bench/hostile/damaged.py [--program COMMAND] [--count 50000] [--seed 1] [--reference COMMAND] [--every 25] [--keep FOLDER]
 
-Each is one of the repository's own with bytes changed, cut out or doubled, with keys moved or values made extreme (damage.py); the same seed makes
-the same ones. The program has to end with 0 or 1 within ten seconds, and where it is 1 to have written one line `refused CODE PATH`. Each 25th input is
+Each is one of the repository's own with bytes changed, cut out or doubled, with keys moved or values made extreme (damage.py); the same
+seed makes the same ones. The program has to end with 0 or 1 within ten seconds, and where it is 1 to have written one line `refused CODE PATH`. Each 25th input is
 given to the reference too, if there is one: a command that takes the same words and input; then bytes and status have to be equal. Inputs at which
 something was wrong are kept in a folder. The exit status is 1 where there were any.
 """
@@ -13,6 +13,7 @@ import collections
 import os
 import re
 import shlex
+import sys
 import time
 
 from common import add_program, call, end, wrong
@@ -54,6 +55,9 @@ def main():
         counts[words[0], run.status] += 1
         codes.update(run.text.split()[1:2] if run.status == 1 else [])
         slowest = max(slowest, run.seconds)
+        done = number - given.seed * 1_000_000 + 1
+        if done % 5_000 == 0:
+            print('%d so far, in %d s' % (done, time.monotonic() - began), file=sys.stderr, flush=True)
         if not is_well(run):
             wrong('%d, %s: status %s, %d bytes' % (number, words[0], run.status, len(run.text)))
             keep(given.keep, number, words, data)

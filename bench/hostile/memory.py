@@ -92,9 +92,9 @@ def main():
                 if given.only in name:
                     refuse_calls(program, room, name, words, text)
     if given.part != 'calls':
-        for name, (words, text) in large().items():
+        for name, (words, make) in large().items():
             if given.only in name:
-                narrow_space(program, name, words, text, given.steps)
+                narrow_space(program, name, words, make(), given.steps)
     end()
 
 

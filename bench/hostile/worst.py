@@ -1,14 +1,17 @@
 #!/usr/bin/env python3
 """Measures the program on the worst inputs that were found for it: seconds of the processor, the peak of the memory, what it read and wrote.
 
-    python3 bench/hostile/worst.py [--program COMMAND] [--only WORD] [--seconds 300]
+    python3 bench/hostile/worst.py [--program COMMAND] [--only WORD] [--seconds 120]
 
-Inputs have up to 16,777,216 bytes (worst_inputs.py makes them, and says what each is about). A run that takes longer than so many seconds is ended and told
-as late. The table is for reading: whether a time is more than what a document's entries cost isn't judged here. The exit status is 1 where a
+Inputs have up to 16,777,216 bytes (worst_inputs.py makes them, and says what each is about).
+A run that takes more than so many seconds of the processor is
+ended and told as such. The table is for reading: whether a time is more than what a document's entries cost isn't judged here. The exit status is 1 where a
 run ended otherwise than with 0 or, where that is expected, 1.
 """
 import argparse
+import resource
 import shlex
+import signal
 import subprocess
 import tempfile
 
@@ -21,22 +24,23 @@ def measured(program, words, data, seconds):
     with tempfile.TemporaryFile() as source, tempfile.NamedTemporaryFile('r') as used:
         source.write(data)
         source.seek(0)
-        command = ['/usr/bin/time', '-q', '-f', '%U %S %M', '-o', used.name, 'timeout', str(seconds), *program, *words]
-        started = subprocess.Popen(command, stdin=source, stdout=subprocess.PIPE, stderr=subprocess.DEVNULL)
+        command = ['/usr/bin/time', '-q', '-f', '%U %S %M', '-o', used.name, *program, *words]
+        started = subprocess.Popen(command, stdin=source, stdout=subprocess.PIPE, stderr=subprocess.DEVNULL,
+                                   preexec_fn=lambda: resource.setrlimit(resource.RLIMIT_CPU, (seconds, seconds + 5)))
         size = lines = 0
         for piece in iter(lambda: started.stdout.read(1 << 20), b''):
             size += len(piece)
             lines += piece.count(b'\n')
         status = started.wait()
         user, system, kibibytes = used.read().split()[-3:]
-        return 'late' if status == 124 else status, float(user) + float(system), int(kibibytes) / 1024, size, lines
+        return 'late' if status == 128 + signal.SIGXCPU else status, float(user) + float(system), int(kibibytes) / 1024, size, lines
 
 
 def main():
     options = argparse.ArgumentParser(description=__doc__, formatter_class=argparse.RawDescriptionHelpFormatter)
     add_program(options)
     options.add_argument('--only', default='')
-    options.add_argument('--seconds', type=int, default=300)
+    options.add_argument('--seconds', type=int, default=120)
     given = options.parse_args()
     print('| Input | Command | MB read | Seconds | MiB | MB written | Lines |\n|---|---|---|---|---|---|---|', flush=True)
     for name, (words, make) in CASES.items():

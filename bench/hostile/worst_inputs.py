@@ -1,5 +1,5 @@
 """The inputs of worst.py, each with the command that gets it."""
-from common import MOST_BYTES, TOLERATIONS, as_list, generated, node, pod, renewals, text_of
+from common import MOST_BYTES, TOLERATIONS, as_list, generated, largest_document, node, pod, renewals, text_of
 
 DAY_BEATS = 8_640_000
 
@@ -58,18 +58,39 @@ def one_text():
     return filled(b'\\u00e9', b'', b'"', b'"')
 
 
-def colliding(number):
-    """A name of 32 bytes whose hash is 0 whatever its last eight bytes are: the bytes before these are the hash's state after the first sixteen, so
-    that a factor of the last product is 0."""
-    return 'collides00462c8ewmom08t5%08x' % number
+WORD, MULTIPLIER, INITIAL = (1 << 64) - 1, 0x9e3779b97f4a7c15, 0x243f6a8885a308d3
+LETTERS = b'abcdefghijklmnopqrstuvwxyz0123456789'
 
 
-def colliding_keys(megabytes):
-    return lambda: filled(lambda i: b'"%s":0' % colliding(i).encode(), front=b'{', back=b'}', room=int(megabytes * 1e6))
+def folded(state, factor):
+    product = state * factor
+    return product & WORD ^ product >> 64
 
 
-def colliding_pods(count):
-    return lambda: text_of(document(objects=as_list(pod(colliding(i)) for i in range(count))))
+def names_that_collide(count):
+    """Names of six letters whose hashes lie in an eighth of the table: names are kept by a hash of a fixed seed, in groups that are probed one
+    after the other, so most of the groups are full and each new name is looked for in nearly all of them."""
+    groups = 1
+    while 9 * groups < count:
+        groups *= 2
+    found, levels = [], [(b'', folded(INITIAL ^ 6, MULTIPLIER ^ 16))]
+    for _ in range(5):
+        levels = ((front + bytes([letter]), folded(state ^ letter * 0x10101, MULTIPLIER ^ 2)) for front, state in levels for letter in LETTERS)
+    for front, state in levels:
+        for letter in LETTERS:
+            hashed = folded(state ^ letter * 0x10101, MULTIPLIER ^ 2)
+            if (hashed ^ hashed >> 32) % groups < groups // 8:
+                found.append((front + bytes([letter])).decode())
+        if len(found) >= count:
+            return found[:count]
+
+
+def tolerated_names(count, collide):
+    """Pods with a hundred tolerations each, all of other keys."""
+    def make():
+        names = names_that_collide(count) if collide else ['%06x' % (i * 7919 % (1 << 24)) for i in range(count)]
+        return text_of(document(objects=as_list(pod('p%d' % i, '', [{'key': name} for name in names[i:i + 100]]) for i in range(0, count, 100))))
+    return make
 
 
 # Names and objects
@@ -80,11 +101,6 @@ def long_names():
     name = lambda i: '.'.join([label] * 4) + '.%08d' % i
     pods = [{**pod(name(i)), 'metadata': {'namespace': name(i + 50_000), 'name': name(i)}} for i in range(26_000)]
     return text_of(document(objects=as_list(pods)))
-
-
-def many_objects():
-    import run as speed
-    return text_of(speed.large_document(1))
 
 
 def tainted_nodes(count, taints, effect):
@@ -134,8 +150,9 @@ def due_at_once(lost=False):
         taint = {'key': 'node.kubernetes.io/unreachable', 'effect': 'NoExecute', 'timeAdded': '2024-01-01T00:00:00Z'}
         stays = [{**each, 'tolerationSeconds': 20} for each in TOLERATIONS]
         events = [{'beat': 19_990, 'type': 'loss', 'process': 'c0', 'requests': True, 'replies': True}] if lost else []
-        items = [{**node('n', [taint]), 'status': {'conditions': [{'type': 'Ready', 'status': 'Unknown'}]}}] + [pod('p%d' % i, 'n', stays) for i in range(30_000)]
-        return text_of(document({'beatMillis': 1, 'endBeat': 40_000}, objects=as_list(items), events=events))
+        silent = {**node('n', [taint], 'z'), 'status': {'conditions': [{'type': 'Ready', 'status': 'Unknown'}]}}
+        items = [silent, node('well', (), 'other'), *(pod('p%d' % i, 'n', stays) for i in range(30_000))]
+        return text_of(document({'beatMillis': 1, 'endBeat': 40_000}, kubelets=[{'node': 'well'}], objects=as_list(items), events=events))
     return make
 
 
@@ -177,7 +194,7 @@ def messages_under_way():
 
 def small_but_long():
     """200 bytes that ask for hundreds of megabytes of trace, rightly."""
-    settings = {'beatMillis': 1, 'endBeat': 40_000_000, 'retryPeriodMillis': 1, 'renewDeadlineMillis': 10, 'callTimeoutMillis': 1}
+    settings = {'beatMillis': 1, 'endBeat': 40_000_000, 'retryPeriodMillis': 1, 'renewDeadlineMillis': 50, 'callTimeoutMillis': 10}
     return text_of(document(settings))
 
 
@@ -244,12 +261,13 @@ CASES = {
     'one object of many keys': ('check', keys),
     'short texts': ('check', short_texts),
     'one text of escapes': ('check', one_text),
-    'keys that collide, 0.5 MB': ('check', colliding_keys(.5)),
-    'keys that collide, 1 MB': ('check', colliding_keys(1)),
-    'keys that collide, 2 MB': ('check', colliding_keys(2)),
-    'pods whose names collide': ('check', colliding_pods(30_000)),
+    '100,000 keys of tolerations': ('check', tolerated_names(100_000, False)),
+    '100,000 keys that collide': ('check', tolerated_names(100_000, True)),
+    '200,000 keys that collide': ('check', tolerated_names(200_000, True)),
+    '400,000 keys that collide': ('check', tolerated_names(400_000, True)),
+    '800,000 keys that collide': ('check', tolerated_names(800_000, True)),
     'names of 253 bytes': ('check', long_names),
-    'objects and events up to the limits': ('check', many_objects),
+    'objects and events up to the limits': ('check', largest_document),
     'a thousand zones, 98,000 taints': ('replay', zones_and_taints),
     '100,000 events of one beat': ('replay', events_of_one_beat),
     'a rate at each of 100,000 beats': ('replay', rates),
@@ -265,7 +283,7 @@ CASES = {
     '200 bytes of document': ('replay', small_but_long),
     'a day of 1,000 kubelets, skewed clocks, beats of 10 ms': ('replay', day_of_kubelets),
     'the last state of 30,000 pods': ('state 600', lambda: text_of(generated(7, 1_000, 30_000, 600))),
-    'the first state of 16 MB': ('state 0', many_objects),
+    'the first state of 16 MB': ('state 0', largest_document),
     'the greatest generated cluster': ('generate 7 1000 30000 100000', lambda: b''),
     'renewals': ('audit', lambda: renewals(MOST_BYTES)),
     'terms of many identities': ('audit', terms),
