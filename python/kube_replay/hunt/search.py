@@ -15,7 +15,7 @@ from kube_replay.hunt.bounds import Bounds
 from kube_replay.hunt.measures import Measure, Run
 from kube_replay.hunt.scripts import Script, document_of, scripts_in
 
-ROUND = 1_000
+ROUND = 400
 KEY = b'kube_replay.hunt'
 SEARCHING = (Phase.reuse, Phase.generate, Phase.target)
 SHRINKING = (Phase.reuse, Phase.generate, Phase.shrink)
@@ -66,6 +66,7 @@ class Hunt:
     worst: float | None = None
     worst_script: Script | None = None
     _store: Store = field(default_factory=Store)
+    _best_score: float | None = None
 
     def run(self, at_least: float | None = None) -> Found | None:
         """The smallest of the worst scripts that are found. With `at_least` the search ends at the first that is so bad, and the
@@ -118,9 +119,11 @@ class Hunt:
         document = document_of(script, self.document)
         run = Run(document, replay(document))
         value = self.measure.value(run)
-        hypothesis.target(self.measure.nearness(run) if value is None else float(value))
-        if value is not None and (self.worst is None or value > self.worst):
-            self.worst, self.worst_script, self._store.is_noting = value, script, True
+        score = self.measure.nearness(run) if value is None else float(value)
+        hypothesis.target(score)
+        if self._best_score is None or score > self._best_score:
+            self._best_score, self._store.is_noting = score, True
+            self.worst, self.worst_script = value, script
         return value
 
     def _shrunk(self, script: Script, wanted: float) -> Script:
