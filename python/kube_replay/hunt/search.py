@@ -80,6 +80,10 @@ class Hunt:
         if self.worst_script is None or self.worst is None or wanted is None or self.worst < wanted:
             return None
         script = self._shrunk(self.worst_script, wanted)
+        while at_least is None and self.worst > wanted:
+            # The shrinking has come across a worse one.
+            wanted = self.worst
+            script = self._shrunk(self.worst_script, wanted)
         document = document_of(script, self.document)
         return Found(document, script, self.measure.value(Run(document, replay(document))) or wanted, self.tried)
 
