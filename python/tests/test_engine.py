@@ -14,6 +14,7 @@ from kube_replay import engine
 from kube_replay.errors import NoEngine, ProgramFault
 
 USAGE = b'usage: kube_replay COMMAND\n'
+ENVIRONMENT = {**os.environ, 'PYTHONPATH': str(TOP / 'python')}
 
 
 def test_a_program_that_is_killed() -> None:
@@ -84,8 +85,7 @@ def test_many_threads(real_engine: engine.Engine) -> None:
 
 def command(*words: Any, **more: Any) -> subprocess.CompletedProcess[bytes]:
     """python -m kube_replay with the package of this checkout."""
-    environment = {**os.environ, 'PYTHONPATH': str(TOP / 'python')}
-    return subprocess.run([sys.executable, '-m', 'kube_replay', *words], stderr=subprocess.PIPE, env=environment, check=False, **more)
+    return subprocess.run([sys.executable, '-m', 'kube_replay', *words], stderr=subprocess.PIPE, env=ENVIRONMENT, check=False, **more)
 
 
 def test_command(real_engine: engine.Engine) -> None:
@@ -102,9 +102,9 @@ def test_command(real_engine: engine.Engine) -> None:
 def test_command_with_bad_files(real_engine: engine.Engine) -> None:
     with open(os.devnull, 'rb') as empty:
         assert command('check', stdin=empty, stdout=subprocess.PIPE).stdout == b'refused 1 /\n'
-    folder = os.open('/', os.O_RDONLY)
-    assert command('check', stdin=folder, stdout=subprocess.PIPE).returncode == 3
-    os.close(folder)
+    # Python itself ends where standard input is a directory, so this one is closed.
+    closed = ['/bin/sh', '-c', '"$0" -m kube_replay check <&-', sys.executable]
+    assert subprocess.run(closed, env=ENVIRONMENT, capture_output=True, check=False).returncode == 3
     with open('/dev/full', 'wb') as full:
         assert command('check', input=b'{', stdout=full).returncode == 4
 

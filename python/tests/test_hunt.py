@@ -51,7 +51,7 @@ def test_bounds() -> None:
 @pytest.mark.parametrize(
     'given, message',
     [([], '/: not an object'), ({'delay': {}}, '/delay: an unknown key'), ({'crashes': {}}, '/crashes/most: is missing'),
-     ({'crashes': {'most': -1}}, '/crashes/most: not a range within 0 to 1000'),
+     ({'crashes': {'most': -1}}, '/crashes/most: not a range within 0 to 100'),
      ({'crashes': {'most': 1, 'beats': [0, 101]}}, '/crashes/beats: not a range within 0 to 100'),
      ({'crashes': {'most': 1, 'beats': [9, 2]}}, '/crashes/beats: not a range'),
      ({'crashes': [{'most': 1, 'processes': ['c']}]}, '/crashes/0/processes/0: the document has no process c'),

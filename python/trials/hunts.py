@@ -60,7 +60,7 @@ def no_two_leaders(scripts: int = 100_000) -> bool:
     document['events'] = []
     document['settings']['endBeat'] = 400
     assert kube_replay.check(document).premise
-    hunt = hunt_of('two-lead', document, 'two-leaders', scripts, LONG)
+    hunt = hunt_of('two-lead', document, 'hostile', scripts, LONG)
     begin, found = time.process_time(), hunt.run()
     print(f'no-two-leaders: {told(found)}; {hunt.tried} scripts, {time.process_time() - begin:.1f} s of processor time')
     return found is None and hunt.tried == scripts

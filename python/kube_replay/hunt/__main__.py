@@ -46,7 +46,8 @@ def written(document: Mapping[str, Any]) -> str:
     """A document as text, with its events a line each."""
     events = ',\n'.join('    ' + json.dumps(event) for event in document['events'])
     rest = json.dumps({**document, 'events': []}, indent=2)
-    return rest.replace('"events": []', f'"events": [\n{events}\n  ]') if events else rest
+    # Keys of the document itself, and no others, stand behind two blanks.
+    return rest.replace('\n  "events": []', f'\n  "events": [\n{events}\n  ]') if events else rest
 
 
 def run(given: argparse.Namespace) -> int:

@@ -7,6 +7,7 @@ from typing import Any, Mapping
 from kube_replay.errors import KubeReplayError
 
 LAST_BEAT = 604_800_000
+MOST_EVENTS = 100
 
 
 class WrongBounds(KubeReplayError, ValueError):
@@ -124,7 +125,7 @@ def _allowance(kind: Kind, value: Any, path: str, processes: list[str], end: int
     for name in ('most', *kind.numbers):
         if name not in fields:
             raise WrongBounds(f'{path}/{name}: is missing')
-    most = _range(fields['most'], f'{path}/most', Range(0, 1_000)).greatest
+    most = _range(fields['most'], f'{path}/most', Range(0, MOST_EVENTS)).greatest
     beats = _range(fields.get('beats', [0, end]), f'{path}/beats', Range(0, end))
     numbers = {to: _range(fields[name], f'{path}/{name}', limits) for name, (to, limits) in kind.numbers.items()}
     named = _named(fields, path, processes)

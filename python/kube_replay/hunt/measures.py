@@ -100,7 +100,9 @@ def late_taint(run: Run) -> float | None:
     return max(waits, default=None)
 
 
-# What the search climbs by, where a measure has nothing yet: the nearer, the greater.
+# What the search climbs by, where a measure has nothing yet: the nearer, the greater. It is less than each value of the measure.
+
+FAR = -1e9
 
 
 def nearness_of_two_leaders(run: Run) -> float:
@@ -119,7 +121,7 @@ def nearness_of_eviction(run: Run) -> float:
 
 
 def _far(_: Run) -> float:
-    return -1.0
+    return FAR
 
 
 @dataclass(frozen=True)

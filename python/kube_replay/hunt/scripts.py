@@ -40,32 +40,34 @@ def number_of(allowed: Range, name: str) -> Number:
 
 
 @strategies.composite
-def events_of(draw: DrawFn, type_: str, process: SearchStrategy[str], numbers: dict[str, Number], switches: dict[str, Switch]) -> Event:
-    """Events of a type, with its keys."""
+def events_of(
+    draw: DrawFn, type_: str, process: SearchStrategy[str], numbers: dict[str, Number], switches: dict[str, Switch]
+) -> Event | None:
+    """Events of a type, with its keys; None is the simplest. All is drawn for None too, so that an event comes or goes by one draw."""
+    happens = draw(strategies.booleans())
     event: Event = {'beat': 0, 'type': type_, 'process': draw(process)}
     for name, number in numbers.items():
         event[name] = number.draw(draw)
     for name, switch in switches.items():
         event[name] = draw(switch)
-    return event
+    return event if happens else None
 
 
-def events_allowed(allowance: Allowance) -> SearchStrategy[list[Event]]:
-    """Lists of events that an allowance allows."""
+def events_allowed(allowance: Allowance) -> list[SearchStrategy[Event | None]]:
+    """The events that an allowance allows, each of which may happen or not."""
     numbers = {name: number_of(allowed, name) for name, allowed in {'beat': allowance.beats, **allowance.numbers}.items()}
     switches = {name: strategies.sampled_from([False, True][: 1 + (name in allowance.switches)]) for name in allowance.kind.switches}
-    event = events_of(allowance.kind.type, strategies.sampled_from(allowance.processes), numbers, switches)
-    return strategies.lists(event, max_size=allowance.most)
+    return [events_of(allowance.kind.type, strategies.sampled_from(allowance.processes), numbers, switches)] * allowance.most
 
 
 @strategies.composite
-def scripts_of(draw: DrawFn, clocks: list[tuple[str, str, Number]], events: list[SearchStrategy[list[Event]]]) -> Script:
-    """Scripts with these keys of clocks, each by its process and its name, and with events of these lists."""
+def scripts_of(draw: DrawFn, clocks: list[tuple[str, str, Number]], events: list[SearchStrategy[Event | None]]) -> Script:
+    """Scripts with these keys of clocks, each by its process and its name, and with these events."""
     keys: dict[str, dict[str, int]] = {}
     for process, name, number in clocks:
         keys.setdefault(process, {})[name] = number.draw(draw)
-    drawn = [event for allowed in events for event in draw(allowed)]
-    return Script(keys, tuple(sorted(drawn, key=beat_of)))
+    drawn = [draw(event) for event in events]
+    return Script(keys, tuple(sorted((event for event in drawn if event is not None), key=beat_of)))
 
 
 def scripts_in(bounds: Bounds) -> SearchStrategy[Script]:
@@ -76,7 +78,7 @@ def scripts_in(bounds: Bounds) -> SearchStrategy[Script]:
         for process in clock.processes
         for name, allowed in clock.numbers.items()
     ]
-    return scripts_of(clocks, [events_allowed(allowance) for allowance in bounds.allowances])
+    return scripts_of(clocks, [event for allowance in bounds.allowances for event in events_allowed(allowance)])
 
 
 def beat_of(event: Event) -> int:

@@ -15,12 +15,12 @@ from kube_replay.hunt.bounds import Bounds
 from kube_replay.hunt.measures import Measure, Run
 from kube_replay.hunt.scripts import Script, document_of, scripts_in
 
-ROUND = 1_000
+ROUND = 400
 KEY = b'kube_replay.hunt'
 SEARCHING = (Phase.reuse, Phase.generate, Phase.target)
 SHRINKING = (Phase.reuse, Phase.generate, Phase.shrink)
 MOST_SHRINKINGS = 20
-ENOUGH_IN_VAIN = 3
+ENOUGH_IN_VAIN = 2
 
 
 @dataclass(frozen=True)
@@ -66,6 +66,8 @@ class Hunt:
     worst: float | None = None
     worst_script: Script | None = None
     _store: Store = field(default_factory=Store)
+    _best_score: float | None = None
+    _kept: bytes | None = None
 
     def run(self, at_least: float | None = None) -> Found | None:
         """The smallest of the worst scripts that are found. With `at_least` the search ends at the first that is so bad, and the
@@ -78,11 +80,15 @@ class Hunt:
         if self.worst_script is None or self.worst is None or wanted is None or self.worst < wanted:
             return None
         script = self._shrunk(self.worst_script, wanted)
+        while at_least is None and self.worst > wanted:
+            # The shrinking has come across a worse one.
+            wanted = self.worst
+            script = self._shrunk(self.worst_script, wanted)
         document = document_of(script, self.document)
         return Found(document, script, self.measure.value(Run(document, replay(document))) or wanted, self.tried)
 
     def _search(self, at_least: float | None, until: float) -> None:
-        """Rounds of scripts, each from the worst one so far."""
+        """Rounds of scripts. Every other one goes on from the worst script so far, and every other one begins anew."""
 
         def is_enough(script: Script) -> bool:
             if self.tried >= self.scripts or time.monotonic() > until:
@@ -90,10 +96,20 @@ class Hunt:
             value = self._look_at(script)
             return at_least is not None and value is not None and value >= at_least
 
+        rounds = 0
         while self._find(is_enough, SEARCHING) is None:
             if self.tried == 0:
                 raise Spent
-            self._store = Store(self._store.noted)
+            rounds += 1
+            self._begin_from(self._noted() if rounds % 2 else None)
+
+    def _noted(self) -> bytes | None:
+        """What Hypothesis has saved of the worst script."""
+        return self._store.noted or self._kept
+
+    def _begin_from(self, first: bytes | None) -> None:
+        """The next round begins with this script, or with none."""
+        self._kept, self._store = self._noted(), Store(first)
 
     def _find(self, condition: Callable[[Script], bool], phases: tuple[Phase, ...]) -> Script | None:
         """A round of Hypothesis: a script with the condition, or None."""
@@ -118,9 +134,11 @@ class Hunt:
         document = document_of(script, self.document)
         run = Run(document, replay(document))
         value = self.measure.value(run)
-        hypothesis.target(self.measure.nearness(run) if value is None else float(value))
-        if value is not None and (self.worst is None or value > self.worst):
-            self.worst, self.worst_script, self._store.is_noting = value, script, True
+        score = self.measure.nearness(run) if value is None else float(value)
+        hypothesis.target(score)
+        if self._best_score is None or score > self._best_score:
+            self._best_score, self._store.is_noting = score, True
+            self.worst, self.worst_script = value, script
         return value
 
     def _shrunk(self, script: Script, wanted: float) -> Script:
@@ -131,7 +149,7 @@ class Hunt:
             return value is not None and value >= wanted
 
         in_vain = 0
-        self._store = Store(self._store.noted)
+        self._begin_from(self._noted())
         for _ in range(MOST_SHRINKINGS):
             smaller = self._find(is_so_bad, SHRINKING)
             in_vain = in_vain + 1 if smaller in (None, script) else 0
