@@ -10,7 +10,7 @@ use Rattle.history.specs.Sound.{IsApart, AreApartFrom}
 use Rattle.script_reader.specs.Walk.{reaches, pauses_up_to, is_paused_up_to, is_too_soon}
 
 -- these events are apart from each of the earlier ones
-pub AreBehind : List Event → List Event → Type 0
+abbrev pub AreBehind : List Event → List Event → Type 0
 AreBehind [] es = Unit {0}
 AreBehind (x ∷ earlier) es = AreApartFrom x.beat.0 x.what es × AreBehind earlier es
 
