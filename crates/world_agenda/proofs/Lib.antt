@@ -1,3 +1,4 @@
+pub mod Apart
 pub mod Waking
 pub mod Acting
 pub mod Resuming

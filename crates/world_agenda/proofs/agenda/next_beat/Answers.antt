@@ -4,6 +4,7 @@ use Rattle.history.specs.History.{history}
 use Rattle.world_core.specs.Waits.{beat_of}
 use Rattle.world_core.specs.Worlds.{at_of}
 use Rattle.world_agenda.specs.Woken.{IsDue, goes_now}
+use Rattle.world_agenda.proofs.Apart.{world_apart}
 use Rattle.world_agenda.proofs.Looking.{at-once, late-at, looked-first, looked-next, looked-all, there-now}
 use Rattle.world_agenda.proofs.agenda.next_beat.Goals as goal
 
@@ -40,7 +41,7 @@ loop-i-preserved c doc events stands end =
     let inside : c.loop-i.i < processes doc = omega (arith, c.loop-i-test.true, count) in
     let stays = sym (c.goes_at_once.ensures doc k h stands end) ∙ c.if-goes_at_once.false in
     looked-next doc k c.loop-i.i h c.wakes-wakes.result c.loop-i.next c.due_beat-due.result c.sooner_turn-next.result c.next_beats_are_soonest.ensures.more inside
-    stands.within.rest.document.apart (c.loop-i.invariant doc events stands end) (c.wakes-wakes.ensures doc k h stands end)
+    (world_apart doc k c.loop-i.i h c.args.world.now stands inside) (c.loop-i.invariant doc events stands end) (c.wakes-wakes.ensures doc k h stands end)
     (subst (λ n. goes_now doc n c.loop-i.i c.wakes-wakes.result ≡ false) c.at-at.ensures stays)
     (subst (λ n. IsDue doc n c.loop-i.i c.wakes-wakes.result c.due_beat-due.result) c.at-at.ensures (c.due_beat-due.ensures doc k h stands end))
     (c.sooner_turn-next.ensures doc k h stands end)
