@@ -2,4 +2,4 @@ pub mod ClockRates
 pub mod Laws
 pub mod Lines
 pub mod Margins
-pub mod Outcome
+pub mod Replies

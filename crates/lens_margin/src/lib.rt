@@ -5,8 +5,6 @@ mod lines;
 mod margin;
 mod rates;
 mod running;
-mod status;
 
 pub use margin::{Margin, controller_margin};
 pub use running::run;
-pub use status::Status;
