@@ -6,5 +6,6 @@ mod margin;
 mod rates;
 mod running;
 
-pub use margin::{Margin, controller_margin};
+pub use lines::{add_line, verdict_line};
+pub use margin::{Margin, controller_margin, margin_at};
 pub use running::run;
