@@ -32,3 +32,6 @@ returns-in-None-clause-text g c bytes told =
     let after = g.K.Sink.taken c.tell_usage.new.sink in
     let found : None ≡ command_of words = sym c.in-None.is ∙ c.command_in.ensures in
     ends-commanded words bytes None left before after c.tell_usage.result found (ends-unread usage bytes left before after c.tell_usage.result told (c.tell_usage.ensures.text bytes))
+
+pub returns-in-None-clause-usage : goal.returns-in-None-clause-usage
+returns-in-None-clause-usage g c other = (refl, c.tell_usage.ensures.status, c.tell_usage.ensures.text [])
