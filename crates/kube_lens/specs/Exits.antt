@@ -1,14 +1,20 @@
 -- The exit status of the program.
 use Rattle.std.specs.Prelude.{ℕ}
-use Rattle.lens_margin.specs.declared.status.Status.{Status}
-use Rattle.lens_margin.specs.declared.status.Status.TheVariants.{Safe, Unsafe, Refused, Usage, SourceFault, SinkFault, OutOfMemory}
+use Rattle.lens_edge.specs.declared.status.Status.{Status}
+use Rattle.lens_edge.specs.declared.status.Status.TheVariants.{Answered, SourceFault, SinkFault, OutOfMemory}
+use Rattle.lens_edge.specs.declared.status.Verdict.{Verdict}
+use Rattle.lens_edge.specs.declared.status.Verdict.TheVariants.{Done, Safe, Unsafe, Refused, Usage}
+
+abbrev pub verdict_status : Verdict → ℕ
+verdict_status Done = 0
+verdict_status Safe = 0
+verdict_status Unsafe = 1
+verdict_status Refused = 1
+verdict_status Usage = 2
 
 -- by how the run ended
 abbrev pub exit_status_of : Status → ℕ
-exit_status_of Safe = 0
-exit_status_of Unsafe = 1
-exit_status_of Refused = 1
-exit_status_of Usage = 2
+exit_status_of (Answered verdict) = verdict_status verdict
 exit_status_of SourceFault = 3
 exit_status_of SinkFault = 4
 exit_status_of OutOfMemory = 5

@@ -5,7 +5,8 @@ ghost use Rattle.std.specs.Prelude.{◌≡◌};
 ghost use Rattle.kube_lens.specs.Exits.{exit_status_of};
 
 use byte_edge::{StdSink, StdSource};
-use lens_margin::{Status, run};
+use lens_edge::{Status, Verdict};
+use lens_top::run;
 use std::io::ErrorKind;
 use std::process::ExitCode;
 use std::{env, io};
@@ -47,10 +48,9 @@ fn exit_status(status: Status) -> u8
     ensures { result ≡ exit_status_of status }
 {
     match status {
-        Status::Safe => 0,
-        Status::Unsafe => 1,
-        Status::Refused => 1,
-        Status::Usage => 2,
+        Status::Answered(Verdict::Done | Verdict::Safe) => 0,
+        Status::Answered(Verdict::Unsafe | Verdict::Refused) => 1,
+        Status::Answered(Verdict::Usage) => 2,
         Status::SourceFault => 3,
         Status::SinkFault => 4,
         Status::OutOfMemory => 5,

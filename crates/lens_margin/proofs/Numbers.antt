@@ -1,5 +1,5 @@
 -- The numbers of a margin are the least and the greatest that the lease premise's tests allow.
-use Rattle.std.proofs.Common.{◌≡◌, ◌⊎◌, ℕ, zero, suc, ◌+◌, ◌-◌, ◌*◌, ◌/◌, ◌<◌, ◌≤◌, nat_lt, Bool, true, false, cond, List, [], ◌∷◌, ◌++◌, length, get_or, slice_get, Some, None, refl, sym, ap, ap₂, ◌∙◌, subst, inl, inr, arith}
+use Rattle.std.proofs.Common.{◌≡◌, ◌⊎◌, ℕ, zero, suc, ◌+◌, ◌-◌, ◌*◌, ◌/◌, ◌<◌, ◌≤◌, nat_lt, Bool, true, false, cond, List, [], ◌∷◌, ◌++◌, length, get_or, slice_get, Some, None, is_some, refl, sym, ap, ap₂, ◌∙◌, subst, inl, inr, arith}
 use Rattle.std.specs.Int.{div_ceil}
 use Rattle.std.proofs.Math.Nat.{mul-le-mul_right}
 use Rattle.std.proofs.lemmas.Bool.{cases_lt, lt-ltb, ltb-true}
@@ -8,7 +8,7 @@ use Rattle.std.proofs.lemmas.Grind.{div_ceil_times}
 use Rattle.std.proofs.lemmas.Nat.{div-add-mod', mod_below, le-div}
 use Rattle.kube_objects.specs.declared.script.Proc.{Proc}
 use Rattle.kube_objects.specs.Document.{Doc, field, process_at, lease_seconds, of_seconds, of_millis}
-use Rattle.history.specs.Premise.{more, longest}
+use Rattle.history.specs.Premise.{more, longest, is_long}
 use Rattle.script_reader.specs.Lawful.{IsLawfulDoc}
 use Rattle.lens_margin.specs.Laws.{IsLeast, IsLeastLease, IsLongestStall, IsMargin, outlasted, is_long_with}
 use Rattle.lens_margin.specs.Margins.{acting, fastest, slowest, numbers, margin_of}
@@ -153,17 +153,26 @@ product-some : (a b : ℕ) → 0 < a → 0 < b → 0 < a * b
 product-some zero b one two = absurd (omega arith)
 product-some (suc a) b one two = omega (arith, two)
 
-pub margin-law : (doc : Doc) → IsLawfulDoc doc → (p : ℕ) → p < length doc.controllers → IsMargin doc p (margin_of doc p)
-margin-law doc lawful p inside =
-    let slow = slowest-some doc lawful p inside in
-    let fast = fastest-some doc lawful in
-    let some : 0 < one doc p = product-some (doc.settings.beat_millis * 1000 * fastest doc) (slowest doc p) (product-some (doc.settings.beat_millis * 1000) (fastest doc) (omega (arith, lawful.settings.beat_least)) fast) slow in
+pub margin-law-of : (doc : Doc) (p : ℕ) → p < length doc.controllers → 0 < slowest doc p → 0 < fastest doc → 0 < doc.settings.beat_millis → IsMargin doc p (margin_of doc p)
+margin-law-of doc p inside slow fast beat =
+    let some : 0 < one doc p = product-some (doc.settings.beat_millis * 1000 * fastest doc) (slowest doc p) (product-some (doc.settings.beat_millis * 1000) (fastest doc) (omega (arith, beat)) fast) slow in
     record {
       lease = refl;
       must_exceed = must-least doc p inside slow;
       least_seconds = least-by doc p inside slow _ refl;
       longest_stall = stall-by doc p inside slow some _ refl;
     }
+
+pub margin-law : (doc : Doc) → IsLawfulDoc doc → (p : ℕ) → p < length doc.controllers → IsMargin doc p (margin_of doc p)
+margin-law doc lawful p inside = margin-law-of doc p inside (slowest-some doc lawful p inside) (fastest-some doc lawful) (omega (arith, lawful.settings.beat_least))
+
+some-when : (b : Bool) (n : ℕ) → is_some (cond b (Some n) None) ≡ b
+some-when true n = refl
+some-when false n = refl
+
+-- where a stall is borne, if only of no beat, the lease is long enough
+pub stall-tells : (doc : Doc) (p : ℕ) → is_some (margin_of doc p).longest_stall ≡ is_long doc (fastest doc) p
+stall-tells doc p = some-when (nat_lt (need doc p) (lease doc p)) _ ∙ sym (test-is doc p (longest doc p) (lease_seconds doc p))
 
 -- ---- what the code counts with
 

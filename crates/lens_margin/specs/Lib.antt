@@ -1,4 +1,4 @@
 pub mod Laws
 pub mod Lines
 pub mod Margins
-pub mod Outcome
+pub mod Replies

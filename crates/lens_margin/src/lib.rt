@@ -5,8 +5,7 @@ mod lines;
 mod margin;
 mod rates;
 mod running;
-mod status;
 
-pub use margin::{Margin, controller_margin};
+pub use lines::{add_line, verdict_line};
+pub use margin::{Margin, controller_margin, margin_at};
 pub use running::run;
-pub use status::Status;

@@ -18,7 +18,7 @@ pub(crate) fn add_lines(text: &mut Vec<u8>, document: &Document, safe: bool) -> 
     ensures { OnOk result (text.new.items ≡ text.old.items ++ lines_text document.now safe) }
 {
     add_controllers(text, document)?;
-    add(text, verdict(safe))
+    add(text, verdict_line(safe))
 }
 
 fn add_controllers(text: &mut Vec<u8>, document: &Document) -> Result<(), NoMemory>
@@ -50,14 +50,16 @@ fn add_controller(
     )
 }
 
-fn verdict(safe: bool) -> &'static [u8]
+/// The last line.
+pub fn verdict_line(safe: bool) -> &'static [u8]
     ensures { result.now ≡ verdict_text safe }
 {
     if safe { b"safe\n" } else { b"unsafe\n" }
 }
 
+/// Adds the line of a controller of this name.
 #[tactic(auto, unfolding(crate::specs::Lines::margin_line))]
-fn add_line(text: &mut Vec<u8>, name: &[u8], margin: Margin) -> Result<(), NoMemory>
+pub fn add_line(text: &mut Vec<u8>, name: &[u8], margin: Margin) -> Result<(), NoMemory>
     ensures { OnOk result (text.new.items ≡ text.old.items ++ margin_line name.now margin) }
 {
     add(text, name)?;

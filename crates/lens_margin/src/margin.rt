@@ -41,8 +41,15 @@ pub fn controller_margin(document: &Document, controller: usize) -> Margin
     )
 }
 
-// By the beats of the longest pause, the length of a beat, the slowest rate and the fastest of any.
-fn margin_at(process: Proc, longest: u64, beat_millis: u32, slowest: u32, fastest: u32) -> Margin
+/// The numbers of a controller, by the beats of its longest pause and one more, the length of a beat, its slowest rate and the fastest of
+/// any. Takes no memory.
+pub fn margin_at(
+    process: Proc,
+    longest: u64,
+    beat_millis: u32,
+    slowest: u32,
+    fastest: u32,
+) -> Margin
     requires longest { longest ≤ 4294967296 }
     requires short_beat { beat_millis ≤ 1000 }
     requires some_beat { 0 < beat_millis }

@@ -1,0 +1,16 @@
+-- The words that are commands.
+use Rattle.std.specs.Prelude.{ℕ, List, [], ◌∷◌, codes, Option, Some, None, if◌then◌else◌}
+use Rattle.std.specs.Str.{bytes_eq}
+use Rattle.lens_top.specs.declared.command.Command.{Command}
+use Rattle.lens_top.specs.declared.command.Command.TheVariants.{Help, Margin}
+
+abbrev pub command_by : List ℕ → Option Command
+command_by word =
+    if bytes_eq word (codes "--help") then Some Help
+    else if bytes_eq word (codes "margin") then Some Margin
+    else None
+
+-- the command that the first word names
+abbrev pub command_of : List (List ℕ) → Option Command
+command_of [] = None
+command_of (word ∷ more) = command_by word

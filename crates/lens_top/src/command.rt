@@ -1,0 +1,34 @@
+// The words that are commands.
+ghost use Rattle.std.specs.Prelude.{◌≡◌, map, string_bytes};
+ghost use Rattle.lens_top.specs.Commands.{command_of, command_by};
+
+/// What is asked, by the first word.
+#[derive(Clone, Copy, Debug, PartialEq, Eq)]
+pub enum Command {
+    /// The commands are told.
+    Help,
+    /// The margins of a document's leases.
+    Margin,
+}
+
+/// The command that the first word names, if any.
+pub(crate) fn command_in(words: &Vec<String>) -> Option<Command>
+    ensures { result ≡ command_of (map string_bytes words.now.items) }
+{
+    match words.as_slice() {
+        [] => None,
+        [word, ..] => by_word(word.as_str()),
+    }
+}
+
+fn by_word(word: &str) -> Option<Command>
+    ensures { result ≡ command_by word.now }
+{
+    if word == "--help" {
+        Some(Command::Help)
+    } else if word == "margin" {
+        Some(Command::Margin)
+    } else {
+        None
+    }
+}

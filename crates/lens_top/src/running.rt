@@ -1,0 +1,66 @@
+// The commands.
+ghost use Rattle.std.specs.Prelude.{◌≡◌, ◌≢◌, ◌⊎◌, ℕ, true, false, List, [], Some, None, Ok, map, string_bytes};
+ghost use Rattle.byte_edge.specs.Bytes.{Rose};
+ghost use Rattle.history.specs.Premise.{lease_premise};
+ghost use Rattle.lens_edge.specs.Outcome.{Ends, EndsAs, IsDone, Unread, usage};
+ghost use Rattle.script_reader.specs.declared.document.Document.{Document};
+ghost use Rattle.script_reader.specs.Documents.{doc_of};
+ghost use Rattle.script_reader.specs.Walk.{document_walk};
+ghost use Rattle.lens_top.specs.Commands.{command_of};
+ghost use Rattle.lens_top.specs.Outcome.{IsOutcome, help};
+
+use crate::command::{Command, command_in};
+use byte_edge::{Sink, Source};
+use lens_edge::{Status, Verdict, tell, tell_usage};
+use std::alloc::Global;
+
+/// Does what the words after the program's name say, each command in the crate of its name. Words that are no command are answered by a
+/// line on the usage, for which the source isn't read and no memory is taken.
+pub fn run<S: Source, K: Sink>(
+    alloc: Global,
+    words: &Vec<String>,
+    source: &mut S,
+    sink: &mut K,
+) -> Status
+    ensures text { EndsAs (IsOutcome (map string_bytes words.now.items)) (S.left source.old) (S.left source.new) (K.taken sink.old)
+        (K.taken sink.new) result }
+
+    // Words that are no command are answered whether or not the source tells its bytes, with no want of memory.
+    ensures usage { command_of (map string_bytes words.now.items) ≡ None
+        → (S.left source.new ≡ S.left source.old) × ((result ≡ Status.Answered Verdict.Usage) ⊎ (result ≡ Status.SinkFault))
+        × Ends (Unread usage []) (Some []) (K.taken sink.old) (K.taken sink.new) result }
+
+    // Where neither count of faults rose, the whole answer was written, or memory ran out.
+    ensures complete { ¬ Rose (S.faults source.old) (S.faults source.new) → ¬ Rose (K.faults sink.old) (K.faults sink.new)
+        → IsDone result }
+
+    ensures source_fault { result ≡ Status.SourceFault → Rose (S.faults source.old) (S.faults source.new) }
+    ensures source_silent { result ≡ Status.SourceFault → K.taken sink.new ≡ K.taken sink.old }
+    ensures sink_fault { result ≡ Status.SinkFault → Rose (K.faults sink.old) (K.faults sink.new) }
+
+    // `margin` ends safe only where the lease premise of the document holds, and unsafe only where it doesn't.
+    ensures safe { (bytes : List ℕ) (d : Document) → S.left source.old ≡ Some bytes → document_walk bytes ≡ Ok d
+        → command_of (map string_bytes words.now.items) ≡ Some Command.Margin
+        → result ≡ Status.Answered Verdict.Safe → lease_premise (doc_of d) ≡ true }
+    ensures not_safe { (bytes : List ℕ) (d : Document) → S.left source.old ≡ Some bytes → document_walk bytes ≡ Ok d
+        → command_of (map string_bytes words.now.items) ≡ Some Command.Margin
+        → result ≡ Status.Answered Verdict.Unsafe → lease_premise (doc_of d) ≡ false }
+{
+    match command_in(words) {
+        Some(Command::Help) => tell(sink, Verdict::Done, help()),
+        Some(Command::Margin) => lens_margin::run(alloc, words, source, sink),
+        None => tell_usage(sink),
+    }
+}
+
+fn help() -> &'static [u8]
+    ensures { result.now ≡ help.text }
+{
+    b"kube_lens: answers on leader elections, in a person's words\n\
+\n\
+kube_lens margin < document      for each controller what its lease has to outlast, and what is left\n\
+kube_lens --help                 these lines\n\
+\n\
+Exit status: 0 safe or told, 1 unsafe or refused, 2 no such command, 3 the input can't be read,\n\
+4 the output can't be written, 5 memory ran out, 6 a word isn't UTF-8.\n"
+}
