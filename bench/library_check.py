@@ -22,8 +22,11 @@ import time
 
 TOP = os.path.dirname(os.path.dirname(os.path.abspath(__file__)))
 LARGEST = 30_000
-WORDS = ('replay', 'replay', 'replay', 'check', 'state 0', 'state 60', 'audit', 'collect', 'place', 'generate 7 3 9 120', 'state 01', 'state',
-         'generate 1 0 0 0', '', ' ', 'replay ', ' replay', 'replay  check', 'Replay', 'version', b'replay\xff', b'\xc3', b'st\xc3\xa4te 1')
+COMMANDS = (b'replay', b'check', b'state 0', b'state 60', b'state 364', b'audit', b'collect', b'place', b'generate 7 3 9 120')
+NO_COMMANDS = (b'state 01', b'state', b'generate 1 0 0 0', b'', b' ', b'replay ', b' replay', b'replay  check', b'Replay', b'version',
+               b'st\xc3\xa4te 1')
+NOT_UTF8 = (b'replay\xff', b'\xc3', b'state \xed\xa0\x80')
+NUMBERS = (0, 1, 2, 9, 60, 999, 10 ** 6, 2 ** 32, 2 ** 64, 10 ** 40)
 KEYS = (b'"endBeat"', b'"beatMillis"', b'"version"', b'"leaseDurationSeconds"', b'"ratePpm"', b'"beat"')
 
 
@@ -49,7 +52,7 @@ def changed(dice, text):
     numbers = list(re.finditer(rb'\d+', text))
     if kind == 3 and numbers:
         number = dice.choice(numbers)
-        return text[:number.start()] + str(dice.choice((0, 1, 2, 9, 60, 999, 10 ** 6, 2 ** 32, 2 ** 64, 10 ** 40))).encode() + text[number.end():]
+        return text[:number.start()] + str(dice.choice(NUMBERS)).encode() + text[number.end():]
     if kind == 4:
         key = dice.choice(KEYS)
         return text.replace(key, dice.choice(KEYS), 1) if key in text else text + key
@@ -63,8 +66,8 @@ def cases(seed, count):
         text = dice.choice(texts)
         for _ in range(dice.choice((0, 0, 1, 1, 2, 5))):
             text = changed(dice, text)
-        words = dice.choice(WORDS)
-        yield words if isinstance(words, bytes) else words.encode(), text
+        kind = dice.randrange(20)
+        yield dice.choice(COMMANDS if kind > 3 else NO_COMMANDS if kind > 0 else NOT_UTF8), text
 
 
 def framed(every):
@@ -84,8 +87,9 @@ def unframed(data):
 def call(every, room, valgrind):
     """What the library gives for each case, its status and its text."""
     tool = os.path.join(room, 'library_calls')
-    subprocess.run([os.environ.get('CC', 'cc'), '-Wall', '-Wextra', '-O1', '-g', '-I', os.path.join(TOP, 'c'), os.path.join(TOP, 'bench', 'library_calls.c'),
-                    '-L', os.path.join(TOP, 'c'), '-lkube_replay', '-Wl,-rpath,' + os.path.join(TOP, 'c'), '-o', tool], check=True)
+    folder, source = os.path.join(TOP, 'c'), os.path.join(TOP, 'bench', 'library_calls.c')
+    subprocess.run([os.environ.get('CC', 'cc'), '-Wall', '-Wextra', '-O1', '-g', '-I', folder, source, '-L', folder, '-lkube_replay',
+                    '-Wl,-rpath,' + folder, '-o', tool], check=True)
     command = ['valgrind', '--quiet', '--error-exitcode=9', '--leak-check=full'] if valgrind else []
     ran = subprocess.run([*command, tool], input=framed(every), stdout=subprocess.PIPE)
     if ran.returncode != 0:
@@ -98,7 +102,7 @@ def call(every, room, valgrind):
 
 
 def by_program(program, words, text):
-    """What the program gives, or None for words that can't be handed to one."""
+    """What the program gives."""
     ran = subprocess.run([program, *words.split(b' ')], input=text, stdout=subprocess.PIPE, stderr=subprocess.DEVNULL)
     return ran.returncode, ran.stdout
 

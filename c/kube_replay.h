@@ -3,9 +3,9 @@
  * What it does, and the bytes that it writes, are those of the program `kube_replay` with the same words and the same standard input.
  * docs/library.md has a program of ten lines, and says what is proved.
  *
- * Build: tools/shared-library makes c/libkube_replay.so. The Python package looks for the shared library in this order: the file that the
- * environment variable KUBE_REPLAY_LIBRARY names; libkube_replay.so in the package's own folder; c/libkube_replay.so of the checkout that the
- * package lies in; libkube_replay.so where the system's loader finds it.
+ * Build: tools/shared-library makes c/libkube_replay.so. The Python package looks for the shared library in this order: the file that
+ * the environment variable KUBE_REPLAY_LIBRARY names; libkube_replay.so in the package's own folder; c/libkube_replay.so of the checkout
+ * that the package lies in; libkube_replay.so where the system's loader finds it.
  */
 #ifndef KUBE_REPLAY_H
 #define KUBE_REPLAY_H
@@ -45,10 +45,10 @@ enum {
  * - buffer, *put and *whole overlap neither each other nor words and input. `words` and `input` are only read, and may overlap.
  * - During the call no other thread writes to words or input, or touches buffer, *put or *whole.
  *
- * It keeps no state: calls in several threads at once are fine, each with a buffer and numbers of its own. While it runs it holds the whole
- * text in memory, and all memory that it takes is freed before it returns. It takes it by the program's malloc, realloc and free, which must
- * come from one allocator, with blocks aligned for every power of two up to 16 that divides their size. It isn't to be called from a signal
- * handler, nor in the forked child of a process with threads. It starts no thread, opens no file, and reads no clock.
+ * It keeps no state: calls in several threads at once are fine, each with a buffer and numbers of its own. While it runs it holds the
+ * whole text in memory, and all memory that it takes is freed before it returns. It takes it by the program's malloc, realloc and free,
+ * which must come from one allocator, with blocks aligned for every power of two up to 16 that divides their size. It isn't to be called
+ * from a signal handler, nor in the forked child of a process with threads. It starts no thread, opens no file, and reads no clock.
  */
 uint32_t kube_replay_run(const uint8_t *words, size_t words_length, const uint8_t *input, size_t input_length, uint8_t *buffer, size_t room,
                          size_t *put, size_t *whole);

@@ -72,7 +72,8 @@ pub extern "C" fn kube_replay_run(
         → lease_premise (doc_of d) ≡ true → IsSafe (doc_of d) }
 
     // A state that was written is read as what is stored after the beat.
-    ensures reads_back { result ≡ 0 → (d : Document) (beat : Beat) → Shows (words_in words.now) (Some input.now) d beat → ReadsBack d beat.0 }
+    ensures reads_back { result ≡ 0 → (d : Document) (beat : Beat) → Shows (words_in words.now) (Some input.now) d beat
+        → ReadsBack d beat.0 }
 
     // In a trace that `audit` lets pass all acting lines of a beat are by one identity.
     ensures alone { result ≡ 0 → task_of (words_in words.now) ≡ Some Task.Audit → OneActs (entries_in input.now) }
