@@ -1,10 +1,12 @@
 #!/bin/sh
-# Tries the launcher ./kube_replay: help, words that are no command, input and output at fault, input that is slow, and a signal.
+# Tries the launchers ./kube_replay and ./kube_lens: help, words that are no command, input and output at fault, input that is slow, a
+# sentence after a refusal, and a signal.
 #
-#     bench/launcher_check.sh [unproved|proved]
+#     bench/launcher_check.sh [unproved|proved|hints]
 #
 # Both ways of the launcher are tried, or the one named: the unproved build, in a copy of the sources that has no built program,
-# which takes some minutes, and the proved program, where it is built. Each line has the exit status and `same`, or what
+# which takes some minutes, and the proved program, where it is built. The sentences after refusals are tried with scripts in the place of both
+# programs. Each line has the exit status and `same`, or what
 # was wrong. The exit status is 1 where anything was.
 top=$(cd "$(dirname "$0")/.." && pwd) || exit 1
 room=$(mktemp -d) || exit 1
@@ -56,7 +58,7 @@ compare() {
     told=$(grep -v -e 'this build is not proved' -e 'to have answers at once' "$room/errors" | tail -1)
     [ "$(cat "$room/output")" = "$3" ] || said="wrote '$(head -c 100 "$room/output")', and not '$3'"
     [ "$status" -eq "$2" ] || said="ended with $status, and not with $2"
-    case "$told" in "${4:+kube_replay: }$4"*) ;; *) said="said '$told', and not '$4'" ;; esac
+    case "$told" in "${4:+$(basename "$launcher"): }$4"*) ;; *) said="said '$told', and not '$4'" ;; esac
     [ -n "$4" ] || [ -z "$told" ] || said="said '$told'"
     [ "$said" = same ] || wrong=1
     printf '%-10s %-34s %2d  %s\n' "$mode" "$1" "$status" "$said"
@@ -153,10 +155,89 @@ try_all() {
     try_signal
 }
 
+# A script in the place of a program.
+stand_in() {
+    mkdir -p "$room/hints/crates/$1/out"
+    { echo '#!/bin/sh'; cat; } >"$room/hints/crates/$1/out/$1"
+    chmod +x "$room/hints/crates/$1/out/$1"
+}
+
+hint() {
+    said=same
+    compare "$@"
+}
+
+# The program says `refused` of what has the word bad, and kube_lens says the bytes that it was given.
+try_hints() {
+    mode=hints launcher=$room/hints/kube_replay bytes=$(($(wc -c <"$room/bad.json")))
+    stand_in kube_replay <<'PROGRAM'
+if grep bad >/dev/null 2>&1; then echo 'refused 3 /'; exit 1; fi
+echo ok
+PROGRAM
+    stand_in kube_lens <<'LENS'
+[ "$*" = explain ] || { echo 'usage: kube_lens COMMAND'; exit 2; }
+echo "$(wc -c) bytes"
+exit 1
+LENS
+    run check <"$room/bad.json"
+    hint 'a refusal, from a file' 1 'refused 3 /' "$bytes bytes"
+    cat "$room/bad.json" | run replay
+    hint 'a refusal, from a pipe' 1 'refused 3 /' "$bytes bytes"
+    { sleep 1; cat "$room/bad.json"; } | run state 7
+    hint 'a refusal, from a slow pipe' 1 'refused 3 /' "$bytes bytes"
+    { cat "$room/bad.json"; head -c 20000000 /dev/zero; } | run check
+    hint 'a refusal of 20 MB, from a pipe' 1 'refused 3 /' "$((bytes + 20000000)) bytes"
+    run check <"$room/document.json"
+    hint 'no refusal' 0 ok ''
+    run audit <"$room/bad.json"
+    hint 'a refusal of what is no document' 1 'refused 3 /' ''
+    run check </
+    hint 'a directory as input' 0 ok ''
+    touch "$room/hints/crates.txt"
+    touch "$room/hints/crates/kube_replay/out/kube_replay"
+    touch -d '1 hour ago' "$room/hints/crates/kube_lens/out/kube_lens"
+    run check <"$room/bad.json"
+    hint 'kube_lens is older than the sources' 1 'refused 3 /' ''
+    echo 'exit 2' | stand_in kube_lens
+    run check <"$room/bad.json"
+    hint 'kube_lens knows no explain' 1 'refused 3 /' ''
+    rm "$room/hints/crates/kube_lens/out/kube_lens"
+    run check <"$room/bad.json"
+    hint 'no kube_lens' 1 'refused 3 /' ''
+}
+
+# The other launcher, with and without a program.
+try_lens() {
+    mode=lens launcher=$room/hints/kube_lens
+    for word in --help -h help; do
+        run "$word" </
+        grep -q '^  ./kube_lens margin < DOCUMENT ' "$room/output" && echo told >"$room/output"
+        hint "$word, not built" 0 told ''
+    done
+    run --version </
+    hint '--version' 0 "kube_lens $(cat "$top/VERSION")" ''
+    stand_in kube_lens <<'LENS'
+case "$*" in --help) echo 'the help of the program' ;; margin) wc -c; exit 1 ;; *) echo 'usage: kube_lens COMMAND'; exit 2 ;; esac
+LENS
+    run help </
+    hint 'help, built' 0 'the help of the program' ''
+    run margin <"$room/document.json"
+    hint 'unsafe' 1 "$(wc -c <"$room/document.json")" ''
+    run leaderz </
+    hint "a word that isn't a command" 2 'usage: kube_lens COMMAND' ''
+}
+
+if [ "${1:-hints}" = hints ]; then
+    sed 's/version/bad/' "$room/document.json" >"$room/bad.json"
+    mkdir -p "$room/hints/tools" "$room/hints/crates" && cp "$top/kube_replay" "$top/kube_lens" "$top/VERSION" "$top/crates.txt" "$room/hints" &&
+        cp "$top/tools/launch.sh" "$top/tools/unproved.sh" "$room/hints/tools" || exit 1
+    try_hints
+    try_lens
+fi
 if [ "${1:-unproved}" = unproved ]; then
     mode=unproved launcher=$room/sources/kube_replay
     mkdir "$room/sources"
-    tar -C "$top" -cf - --exclude=out crates crates.txt kube_replay VERSION tools/launch.sh | tar -C "$room/sources" -xf - || exit 1
+    tar -C "$top" -cf - --exclude=out crates crates.txt kube_replay VERSION tools/launch.sh tools/unproved.sh | tar -C "$room/sources" -xf - || exit 1
     try_all
 fi
 if [ "${1:-proved}" = proved ]; then

@@ -59,16 +59,16 @@ def of_plane(program, profile):
     """The tables of the scenarios, and what no row names."""
     scenario_of = functools.lru_cache(None)(plane.Scenario)
     found = plane_tables.compared(scenario_of, plane.NAMES, program)
-    stalled = [name for name in plane.NAMES if scenario_of(name).is_stalled()]
+    stalled = plane_tables.stalled(scenario_of, plane.NAMES, program)
     over = sum(plane_tables.is_over(it) for pairs in found.values() for it in pairs or [])
     print(f"real control plane: {len(found)} scenarios, {sum(len(it or []) for it in found.values())} events, {over} over 0.5 s", flush=True)
     made = {
         "scenarios": plane_tables.scenarios(found), "renewals": plane_tables.renewals(scenario_of, program),
         "kills": plane_tables.kills(found, scenario_of), "late reply": plane_tables.late_reply(found, scenario_of, program),
         "plane differences": plane_tables.differences(found),
-        "stalls": plane_tables.stalls(scenario_of, stalled), "verdicts": plane_tables.verdicts(scenario_of, plane.NAMES, program),
+        "stalls": plane_tables.stalls(stalled), "verdicts": plane_tables.verdicts(scenario_of, plane.NAMES, program),
     }
-    return made, list(plane_tables.faults(found, profile))
+    return made, [*plane_tables.faults(found, profile), *plane_tables.stall_faults(stalled)]
 
 
 def of_page(made, is_written):

@@ -28,7 +28,9 @@ def axis_of(document, path):
     words = re.sub(' +', ' ', words).lower()
     if before[:1] == ['events'] and key == 'beat':
         event = document['events'][int(before[1])]
-        words = 'time of the %s of %s' % (event['type'], event.get('process') or event.get('name') or event['object']['metadata']['name'])
+        words = 'time of the ' + event_words(event)
+    elif before[:1] == ['events'] and key == 'beats':
+        words = 'length of the ' + event_words(document['events'][int(before[1])])
     elif before[:1] in (['controllers'], ['kubelets']):
         words += ' of %s' % ('each of the ' + before[0] if before[1] == '*' else before[1])
     elif before[:1] == ['objects']:
@@ -36,6 +38,10 @@ def axis_of(document, path):
     if per is None:
         per = 1_000 / document['settings'].get('beatMillis', 100)
     return (words.strip() or key) + (' (%s)' % unit if unit else ''), per
+
+
+def event_words(event):
+    return '%s of %s' % (event['type'], event.get('process') or event.get('name') or event['object']['metadata']['name'])
 
 
 def number(value):

@@ -1,14 +1,18 @@
-# What the launcher ./kube_replay and the installed command kube_replay share: help, the version, words that are no command, faults,
-# signals. Read in by `.`, after these are set:
+# What the launchers ./kube_replay and ./kube_lens share with the installed commands: help, the version, words that are no command, faults,
+# a sentence after a refusal, signals. Read in by `.`, after these are set:
 #
+#     name            the command's name
 #     program         the program's file
+#     lens            the file of kube_lens, which can say why a document is refused; may be empty, or of a file that isn't there
 #     version         the file with its version
 #     called          how the command is called
 #     examples pages  the folders of the examples and of the pages
 #     place           where the lines to try are to be tried; may be empty
 #     more_statuses   exit statuses beside the program's own; may be empty
 child=''
+feeder=''
 room=''
+explained=''
 
 tell_command() {
     printf '  %-35s %s\n' "$1" "$2"
@@ -47,8 +51,26 @@ $pages/document.md has all keys and refusals, $pages/trace.md the lines of a tra
 HELP
 }
 
+tell_lens_help() {
+    cat <<HELP
+kube_lens answers what one asks of a document or a trace. It reads standard input and writes standard output.
+
+$(tell_command "$called margin < DOCUMENT" 'how much room each lease leaves, the least that would do, how long a leader may stand still')
+$(tell_command "$called --help, --version" 'these lines, and the version')
+
+Exit status: 0 answered, 1 unsafe, or the input is refused, 2 no such command, 3 the input can't be read, 4 the output can't be written,
+5 memory ran out, 6 a word isn't UTF-8$more_statuses.
+
+A line to try$place:
+
+  $called margin < $examples/leader-crashes/document.json
+
+$pages/lens.md has all commands.
+HELP
+}
+
 say() {
-    echo "kube_replay: $1" >&2
+    echo "$name: $1" >&2
 }
 
 are_utf8() {
@@ -121,6 +143,7 @@ end_child() {
         kill -TERM -- "-$child" 2>/dev/null || kill -TERM "$child" 2>/dev/null
         wait "$child" 2>/dev/null
     fi
+    [ -z "$feeder" ] || kill -TERM "$feeder" 2>/dev/null
     exit "$1"
 }
 
@@ -140,7 +163,47 @@ answer_words() {
     is_command "$@" || refuse_words "$@"
 }
 
+# The same of kube_lens, whose program knows its own words: where it is built its help is told, else what stands here.
+answer_lens_words() {
+    case "$#:$1" in
+        1:--version) { echo "kube_lens $(cat "$version")"; } 2>/dev/null || end_with 4; exit 0 ;;
+        1:--help | 1:-h | 1:help) ;;
+        *) return 0 ;;
+    esac
+    if is_current "$program" && told=$("$program" --help </dev/null 2>/dev/null); then
+        { printf '%s\n' "$told"; } 2>/dev/null || end_with 4
+    else
+        { tell_lens_help; } 2>/dev/null || end_with 4
+    fi
+    exit 0
+}
+
+# Sees to it that a document can be read once more after a refusal: from its file, or from a copy of what a pipe gives.
+keep_document() {
+    case "$1" in replay | check | state) [ -x "$lens" ] || return 0 ;; *) return 0 ;; esac
+    if [ -f /dev/stdin ]; then
+        explained=/dev/stdin
+    elif [ -p /dev/stdin ] && room=$(mktemp -d 2>/dev/null) && mkfifo "$room/pipe" 2>/dev/null; then
+        exec 4<&0
+        tee "$room/input" <&4 4<&- >"$room/pipe" 2>/dev/null &
+        feeder=$!
+        exec 4<&-
+        explained=$room/input
+    fi
+}
+
+# Says in a sentence why a document is refused, where kube_lens is as new as the sources and knows how.
+explain_refusal() {
+    [ "$status" -eq 1 ] && [ -n "$explained" ] && is_current "$lens" || return 0
+    sentence=$({ "$lens" explain <"$explained"; } 2>/dev/null)
+    [ $? -eq 1 ] || return 0
+    printf '%s\n' "$sentence" | sed "s/^/$name: /" >&2
+}
+
 run_program() {
-    attend "$program" "$@"
+    keep_document "$1"
+    if [ -n "$feeder" ]; then attend "$program" "$@" <"$room/pipe"; else attend "$program" "$@"; fi
+    [ -z "$feeder" ] || kill -TERM "$feeder" 2>/dev/null
+    explain_refusal
     end_with "$status"
 }

@@ -12,7 +12,7 @@ class Trace:
     def __init__(self, head, file):
         fields = dict(word.split('=') for word in head.split()[2:])
         self.millis, self.end, self.premise = int(fields['beat']), int(fields['end']), fields['premise']
-        self.turns, self.unknown, self.taints, self.evictions, self.signs = [], [], [], [], []
+        self.turns, self.pauses, self.unknown, self.taints, self.evictions, self.signs = [], [], [], [], [], []
         for line in file:
             beat, actor, *words = line.split()
             self.take(int(beat), actor, words)
@@ -21,6 +21,8 @@ class Trace:
         accepted = words[-1].startswith('v=') and words[-2] != 'conflict'
         if words[0] in ('lead', 'crash', 'stop', 'end'):
             self.turns.append((beat, actor, words[0]))
+        if words[0] == 'pause':
+            self.pauses += [(beat, actor, 'pause'), (beat + int(words[1].removeprefix('beats=')), actor, 'wake')]
         if actor.startswith('kubelet/'):
             self.signs.append((beat, actor[len('kubelet/'):].rpartition('_')[0]))
         if accepted and words[0] == 'unknown':
@@ -34,18 +36,15 @@ class Trace:
         return beats * self.millis / 1000
 
     def leaders(self):
-        """How many lead: spans of beats from, to before, and the count. A term goes from its lead to the beat before its other line."""
-        leading, since, spans = set(), 0, []
-        for beat, actor, turn in self.turns:
-            if turn != 'lead' and actor not in leading:
-                continue
-            spans.append((since, beat, len(leading)))
-            since = beat
-            if turn == 'lead':
-                leading.add(actor)
-            else:
-                leading.discard(actor)
-        spans.append((since, self.end + 1, len(leading)))
+        """How many lead: spans of beats from, to before, and the count. A term goes from its lead to the beat before its other line;
+        a leader that is paused does nothing, and doesn't count."""
+        terms, paused, since, acting, spans = set(), set(), 0, 0, []
+        for beat, actor, turn in sorted(self.turns + self.pauses, key=lambda each: each[0]):
+            {'lead': terms.add, 'pause': paused.add, 'wake': paused.discard}.get(turn, terms.discard)(actor)
+            if len(terms - paused) != acting and beat <= self.end:
+                spans.append((since, beat, acting))
+                since, acting = beat, len(terms - paused)
+        spans.append((since, self.end + 1, acting))
         return [span for span in spans if span[0] < span[1]]
 
 
@@ -92,7 +91,7 @@ def eviction_delay(trace, node=None):
 
 
 class Told:
-    """What the document tells: the node of each pod, and when something befell a kubelet: a crash, or the loss of its requests."""
+    """What the document tells: the node of each pod, and when something befell a kubelet: a crash, a pause, or the loss of its requests."""
 
     def __init__(self, document):
         items = (document.get('objects') or {}).get('items', [])
@@ -102,7 +101,7 @@ class Told:
         self.pods = {'%s/%s' % (pod['metadata'].get('namespace', 'default'), pod['metadata']['name']): pod.get('spec', {}).get('nodeName')
                      for pod in placed}
         self.strokes = [(event['beat'], event['process'].removeprefix('kubelet/')) for event in events
-                        if event['type'] == 'crash' or event['type'] == 'loss' and (event['requests'] or event['replies'])]
+                        if event['type'] in ('crash', 'pause') or event['type'] == 'loss' and (event['requests'] or event['replies'])]
 
 
 def pod_lives(trace, told):

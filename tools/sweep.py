@@ -230,7 +230,7 @@ def clock(seconds):
 
 
 class Replays:
-    """Replays on all cores. The trace of a document that is refused is the line that says so."""
+    """Replays on all cores, a process a run. The trace of a document that is refused is the line that says so."""
 
     def __init__(self, folder, program, progress):
         self.folder, self.program, self.progress = folder, program, progress
@@ -251,10 +251,13 @@ class Replays:
             self.running.discard(process)
             if self.stopped:
                 return
-        if process.returncode in (0, 1):
+        self.keep(path, part, process.returncode, said.decode(errors='replace').strip()[-200:])
+
+    def keep(self, path, part, status, said):
+        if status in (0, 1):
             os.replace(part, path + '.trace')
         else:
-            self.faults.append('%s.json ends with status %d %s' % (path, process.returncode, said.decode(errors='replace').strip()[-200:]))
+            self.faults.append('%s.json ends with status %d %s' % (path, status, said))
         self.progress.step()
 
     def stop(self):
@@ -264,12 +267,28 @@ class Replays:
                 os.killpg(process.pid, signal.SIGKILL)
 
 
+class ReplaysHere(Replays):
+    """The same in this process, by the shared library: no process a run."""
+
+    def one(self, number):
+        if self.stopped:
+            return
+        path = run_path(self.folder, number, '')
+        with open(path + '.json', 'rb') as document:
+            status, text = self.program.run([b'replay'], document.read())
+        part = '%s.%d.part' % (path, os.getpid())
+        with open(part, 'wb') as trace:
+            trace.write(text)
+        self.keep(path, part, status, '')
+
+
 def replay(folder, program, jobs, share='0/1'):
     numbers = missing(folder, share)
     total = len(read_plan(folder)['runs'])
     if not numbers:
         return
-    replays = Replays(folder, program, Progress(len(numbers), 0 if share != '0/1' else total - len(numbers)))
+    kind = Replays if isinstance(program, list) else ReplaysHere
+    replays = kind(folder, program, Progress(len(numbers), 0 if share != '0/1' else total - len(numbers)))
     signal.signal(signal.SIGTERM, signal.default_int_handler)
     with ThreadPoolExecutor(jobs) as pool:
         try:
@@ -378,10 +397,23 @@ def options():
     return parser.parse_args()
 
 
+def library():
+    """The shared library, where the Python package kube_replay is installed and has it."""
+    try:
+        from kube_replay import engine
+        found = engine.engine()
+    except (ImportError, OSError):
+        return None
+    return found if isinstance(found, engine.Library) else None
+
+
 def program_of(given):
-    """The program's words, and how many run at once: the launcher, where nothing else is there, alone."""
+    """The shared library or the program's words, and how many run at once: the launcher, where nothing else is there, alone."""
     if given.program:
         return shlex.split(given.program), given.jobs or os.cpu_count()
+    here = library()
+    if here:
+        return here, given.jobs or os.cpu_count()
     for built in PLACES:
         if os.path.exists(built):
             return [built], given.jobs or os.cpu_count()

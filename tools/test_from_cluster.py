@@ -76,6 +76,18 @@ def test_events():
     same('a zone with its region', [event['process'] for event in document('--kill-zone', 'eu-1/eu-1c@5s')['events']], ['kubelet/cp-3'])
 
 
+def test_stalls():
+    """A controller or a kubelet that is frozen: a document of version 3, whose events are in the order of their beats."""
+    made = document('--stall', 'cp-1@60s+45s', '--stall', 'worker-1@10s+1m30s', '--stall', 'kubelet/cp-2@20s+2s', '--stall', '@2m+1s', '--kill', 'worker-3@30s')
+    same('stalls', [(event['beat'], event['type'], event['process'], event.get('beats')) for event in made['events']],
+         [(100, 'pause', 'kubelet/worker-1', 900), (200, 'pause', 'kubelet/cp-2', 20), (300, 'crash', 'kubelet/worker-3', None),
+          (600, 'pause', 'cp-1', 450), (1_200, 'pause', 'cp-2', 10)])
+    same('version', (made['version'], document()['version']), (3, 1))
+    same('two of one process, with a beat between', [event['beat'] for event in document('--stall', 'cp-1@2s+1s', '--stall', 'cp-1@3.1s+1s')['events']], [20, 31])
+    same('names are hidden', [event['process'] for event in document('--stall', 'cp-1@1s+1s', '--stall', 'worker-1@2s+1s', '--redact')['events']],
+         ['controller-2', 'kubelet/node-4'])
+
+
 def test_redacted(program):
     """No name is left, and the trace is the same but for names."""
     words = ('--kill', 'worker-1@60s', '--clock', 'cp-1=1.02')
@@ -105,7 +117,10 @@ def test_run(program):
 def test_refused():
     cases = [(('--kill', 'worker-9@60s'), None, 'there is no node worker-9'), (('--kill-zone', 'mars@60s'), None, 'no node is in it'),
              (('--clock', 'cp-9=1.02'), None, 'no such controller'), (('--kill', 'worker-1@20m'), None, 'let it run longer'),
-             (('--kill', 'worker-1@soon'), None, 'is no duration'), ((), '{"kind":"NodeList","items":[]}', 'no List'), ((), 'no', 'no JSON'),
+             (('--kill', 'worker-1@soon'), None, 'is no duration'), (('--stall', 'worker-9@60s+1s'), None, 'no controller and no node'),
+             (('--stall', 'cp-1@60s'), None, 'for how long'), (('--stall', 'cp-1@60s+50ms'), None, 'shorter than a beat'),
+             (('--stall', 'cp-1@16m+1s'), None, 'what is frozen at beat 9600'),
+             (('--stall', 'cp-1@2s+1s', '--stall', 'cp-1@3s+1s'), None, 'frozen at beat 30 still'), ((), '{"kind":"NodeList","items":[]}', 'no List'), ((), 'no', 'no JSON'),
              ((), '{"kind":"List","items":[]}', 'name them: --controller'), (('--node-eviction-rate=0.00001',), None, 'finer than')]
     for words, given, wanted in cases:
         done = make(*words, given=given)
@@ -116,7 +131,7 @@ def main():
     options = argparse.ArgumentParser(description=__doc__.splitlines()[0])
     options.add_argument('--program', default=BUILT)
     program = options.parse_args().program
-    for test in (test_document, test_flags, test_events, test_refused):
+    for test in (test_document, test_flags, test_events, test_stalls, test_refused):
         test()
     test_redacted(program)
     test_run(program)

@@ -1,11 +1,11 @@
 #!/usr/bin/env python3
 """Makes the package, installs it in a clean Debian without the kit, tries all that it has, and removes it again.
 
-    tools/test_package.py [--program FILE] [--root TAR]
+    tools/test_package.py [--program FILE --lens FILE] [--root TAR]
 
 It needs root, dpkg-deb, mmdebstrap, man and lintian, all of them in Debian, and for mmdebstrap a mirror; TAR is a system that was made
 before, by the line that --make-root prints. Each line has what was tried, and `same` or what was wrong. The exit status is 1 where
-anything was. With --program the package is made of another build than the proved one.
+anything was. With --program and --lens the package is made of other builds than the proved ones.
 """
 import argparse
 import glob
@@ -23,7 +23,7 @@ TOP = os.path.dirname(os.path.dirname(os.path.realpath(__file__)))
 WITH = 'man-db,bash-completion,zsh,python3'
 SYSTEM = ['mmdebstrap', '--variant=minbase', '--include=' + WITH, 'bookworm']
 DOC = '/usr/share/doc/kube-replay/'
-COMMANDS = ['kube_replay', 'kube_replay-timeline', 'kube_replay-sweep', 'kube_replay-from-cluster', 'kube_replay-from-audit-log']
+COMMANDS = ['kube_replay', 'kube_lens', 'kube_replay-timeline', 'kube_replay-sweep', 'kube_replay-from-cluster', 'kube_replay-from-audit-log']
 # What dpkg and the index of man pages write for themselves.
 BOOKS = ('var/lib/dpkg', 'var/log', 'var/cache')
 BASH = '''. /usr/share/bash-completion/bash_completion
@@ -35,6 +35,7 @@ try() {
 }
 try kube_replay re
 try kube_replay --v
+try kube_lens mar
 try kube_replay-from-cluster --kill-l
 try kube_replay-sweep p
 try kube_replay-sweep all --as
@@ -95,9 +96,9 @@ def package(*words, top=TOP):
     return subprocess.run([os.path.join(top, 'tools', 'package'), *words], stdout=subprocess.PIPE, stderr=subprocess.PIPE, text=True, check=False)
 
 
-def make(tried, folder, program):
+def make(tried, folder, given):
     """The package's file; two of them are of the same bytes."""
-    words = ['--program', program] if program else []
+    words = [word for flag, path in (('--program', given.program), ('--lens', given.lens)) if path for word in (flag, path)]
     made = package('--into', folder, *words)
     path = os.path.join(folder, 'kube-replay_%s_amd64.deb' % read('VERSION').strip())
     tried.same('tools/package', (made.returncode, made.stdout, made.stderr), (0, path + '\n', ''))
@@ -150,13 +151,30 @@ def try_program(tried, system):
 
 def try_faults(tried, system):
     document = '{"version":1,"settings":{"endBeat":60,"beatMillis":0},"controllers":[{"name":"cp-east-1"}]}'
-    tried.same('a refusal', system.run('kube_replay replay', document), (1, 'refused 6 /settings/beatMillis\n', ''))
+    tried.same('a refusal', system.run('kube_replay replay', document)[:2], (1, 'refused 6 /settings/beatMillis\n'))
     status, told, said = system.run('kube_replay chek')
     tried.same("a word that isn't a command", (status, told, said.split(';')[0]), (2, 'usage: kube_replay COMMAND\n', "kube_replay: 'chek' is no command"))
     tried.same("a word that isn't UTF-8", system.run("kube_replay \"$(printf 'check\\377')\"")[:2], (6, ''))
     tried.same('a word of other letters', system.run('kube_replay prüfen')[:2], (2, 'usage: kube_replay COMMAND\n'))
     tried.same('a directory as input', system.run('kube_replay check < /'), (3, '', 'kube_replay: standard input is a directory\n'))
     tried.same('a full device as output', system.run('kube_replay check > /dev/full', document)[0], 4)
+
+
+def try_lens(tried, system):
+    """The second program, and the sentence that it says after a refusal of the first, once it knows one."""
+    tried.same('kube_lens --version', system.run('kube_lens --version'), (0, 'kube_lens %s\n' % read('VERSION').strip(), ''))
+    status, told, said = system.run('kube_lens --help')
+    tried.same('kube_lens --help', (status, 'kube_lens margin' in told, './' in told, said), (0, True, False, ''))
+    status, told, _ = system.run('kube_lens margin < %sexamples/uneven-clocks/document.json' % DOC)
+    tried.same('kube_lens margin', (status, told.splitlines()[-1:]), (1, ['unsafe']))
+    tried.same("a word that isn't a command of kube_lens", system.run('kube_lens leaderz')[0], 2)
+    refused = '{"version":1,"settings":{"endBeat":60,"beatMillis":0},"controllers":[{"name":"cp-east-1"}]}'
+    knows = system.run('kube_lens explain', refused)[0] == 1
+    for what, line in (('from a pipe', 'cat /root/refused.json | kube_replay check'), ('from a file', 'kube_replay check < /root/refused.json')):
+        system.run('cat > /root/refused.json', refused)
+        status, told, said = system.run(line)
+        tried.same('a sentence after a refusal, ' + what, (status, told, said.startswith('kube_replay: ')), (1, 'refused 6 /settings/beatMillis\n', knows))
+    system.run('rm /root/refused.json')
 
 
 def try_tools(tried, system):
@@ -189,10 +207,11 @@ def try_man_pages(tried, system):
 
 
 def try_completions(tried, system):
-    words = ['replay', '--version', '--kill-leader', 'plan pods', '--ask', '--document']
+    words = ['replay', '--version', 'margin', '--kill-leader', 'plan pods', '--ask', '--document']
     tried.same('completion in bash', system.run(BASH, shell='bash'), (0, '\n'.join(words) + '\n', ''))
     loaded = 'autoload -U compinit; compinit -u -D; autoload +X _kube_replay && for each in %s; do echo $_comps[$each]; done' % ' '.join(COMMANDS)
-    tried.same('completion in zsh', system.run(loaded, shell='zsh'), (0, '_kube_replay\n' * len(COMMANDS), ''))
+    wanted = ''.join('_kube_lens\n' if command == 'kube_lens' else '_kube_replay\n' for command in COMMANDS)
+    tried.same('completion in zsh', system.run(loaded, shell='zsh'), (0, wanted, ''))
 
 
 def try_links(tried, system):
@@ -218,7 +237,7 @@ def try_package(tried, folder, path, tar):
     status, _, said = system.run('dpkg -i /root/kube-replay.deb')
     tried.same('dpkg -i', (status, said), (0, ''))
     tried.same('dpkg --verify', system.run('dpkg --verify kube-replay'), (0, '', ''))
-    for part in (try_program, try_faults, try_tools, try_man_pages, try_completions, try_links):
+    for part in (try_program, try_faults, try_lens, try_tools, try_man_pages, try_completions, try_links):
         part(tried, system)
     status, _, said = system.run('dpkg -r kube-replay')
     tried.same('dpkg -r', (status, said), (0, ''))
@@ -239,6 +258,7 @@ def try_lintian(tried, path, program):
 def main():
     words = argparse.ArgumentParser(description=__doc__, formatter_class=argparse.RawDescriptionHelpFormatter)
     words.add_argument('--program', metavar='FILE', help='another build of kube_replay')
+    words.add_argument('--lens', metavar='FILE', help='another build of kube_lens')
     words.add_argument('--root', metavar='TAR', help='a clean system that was made before')
     words.add_argument('--make-root', action='store_true', help='print the line that makes such a system, and end')
     given = words.parse_args()
@@ -250,7 +270,7 @@ def main():
         sys.exit('test_package: it needs %s' % (', '.join(lacking) or 'root'))
     tried = Tried()
     with tempfile.TemporaryDirectory() as folder:
-        path = make(tried, folder, given.program)
+        path = make(tried, folder, given)
         try_refusals(tried, folder)
         try_lintian(tried, path, given.program)
         tar = given.root or os.path.join(folder, 'root.tar')

@@ -255,7 +255,7 @@ def test_shares(given, folder):
 
 def test_written_by_hand(given, folder):
     """Answers come from the trace alone: one that was written by hand is measured, also where it stands in for a program's."""
-    wanted = {'premise': 'no', 'outcome': 'done', 'leaderless': '12.5', 'failover': 'never', 'two-leaders': '1.5', 'evictions': '1',
+    wanted = {'premise': 'no', 'outcome': 'done', 'leaderless': '14', 'failover': 'never', 'two-leaders': '1.5', 'evictions': '1',
               'taints-a-minute': '1', 'eviction-delay': '1.5', 'eviction-delay:n.2': ''}
     asked = [word for question in list(wanted)[2:] for word in ('--ask', question)]
     found = list(csv.DictReader(sweep('measure', EVERY_FORM, *asked, folder=folder).splitlines()))
@@ -294,6 +294,29 @@ def words_of_tolerations():
     return os.path.join(TOLERATIONS, 'document.json')
 
 
+PAUSED = os.path.join(TOP, 'view', 'data', 'paused-leader')
+
+
+def test_pauses(given, folder):
+    """A leader that is paused doesn't lead; a pause's beats can be varied, and its axis is in words and seconds."""
+    # Paused from 20 to 199; the other one leads from 182 on, and the term of the first one ends at 300. Nobody leads before 4.
+    wanted = {'premise': 'no', 'leaderless': '16.6', 'failover': '16.2', 'two-leaders': '10'}
+    row = next(csv.DictReader(sweep('measure', PAUSED + '.txt', folder=folder).splitlines()))
+    same('a paused leader', {key: row[key] for key in wanted}, wanted)
+    sweep('plan', PAUSED + '.json', 'pauses', '--vary', '/events/0/beats=50..200..50', '--ask', 'two-leaders', folder=folder)
+    runs = [load(os.path.join(folder, 'pauses', 'runs', '%05d.json' % number)) for number in range(4)]
+    same('beats of a pause', [run['events'] for run in runs], [[{'beat': 20, 'type': 'pause', 'process': 'c1', 'beats': beats}] for beats in (50, 100, 150, 200)])
+    stand_in = os.path.join(folder, 'paused')
+    with open(stand_in, 'w') as file:
+        file.write('#!/bin/sh\ncat > /dev/null\ncat %s.txt\n' % shlex.quote(PAUSED))
+    os.chmod(stand_in, 0o755)
+    sweep('all', PAUSED + '.json', 'pauses', '--vary', '/events/0/beats=50..200..50', '--ask', 'two-leaders', '--program', stand_in, folder=folder)
+    with open(os.path.join(folder, 'pauses', 'answers.svg')) as file:
+        picture = file.read()
+    for words in ('length of the pause of c1 (s)', '>5</text>', '>20</text>'):
+        same('the picture says ' + words, words in picture, True)
+
+
 def test_worst_minute(given, folder):
     """Taints every ten seconds for eight minutes in a trace of half an hour are six a minute."""
     path = os.path.join(folder, 'taints.txt')
@@ -330,7 +353,7 @@ def test_refused_words(given, folder):
 
 
 TESTS = [test_written_by_hand, test_lease_duration, test_crash_beat, test_two_values, test_document_with_nodes, test_grace_period,
-         test_pods, test_objects, test_worst_minute, test_picture, test_broken_off, test_over_ssh, test_shares, test_refused_words]
+         test_pods, test_objects, test_pauses, test_worst_minute, test_picture, test_broken_off, test_over_ssh, test_shares, test_refused_words]
 
 
 def main():

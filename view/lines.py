@@ -1,7 +1,7 @@
 """What the lines of a trace say of lanes, marks and states, counted apart from the page and in another way: beat by beat."""
 from collections import Counter
 
-TAKEN = ('start', 'crash', 'stop', 'end', 'lead', 'zone', 'mode', 'put', 'remove')
+TAKEN = ('start', 'crash', 'stop', 'end', 'pause', 'lead', 'zone', 'mode', 'put', 'remove')
 
 
 def read(path):
@@ -62,7 +62,7 @@ def marks(rows):
         if actor == 'script':
             continue
         first = beat == 0 and actor.endswith('_1')
-        by_event = words[0] in ('crash', 'stop') or words[0] == 'start' and not first and left.get(process(actor)) != 'end'
+        by_event = words[0] in ('crash', 'stop', 'pause') or words[0] == 'start' and not first and left.get(process(actor)) != 'end'
         if by_event:
             count[('script', 'events of the script', number, words[0])] += 1
         if words[0] in ('start', 'crash', 'stop', 'end'):
@@ -71,7 +71,17 @@ def marks(rows):
 
 
 def leaders(rows, beat):
-    """Who acts as the leader at a beat."""
+    """Who acts as the leader at a beat: whose term it is, and who isn't paused."""
+    return {who for who in terms(rows, beat) if not is_paused(rows, beat, lambda actor: actor == who)}
+
+
+def is_paused(rows, beat, is_of):
+    """Whether a line says that one of these actors is paused at a beat."""
+    return any(words[0] == 'pause' and is_of(actor) and at <= beat < at + int(words[1].removeprefix('beats=')) for _, at, actor, words in rows)
+
+
+def terms(rows, beat):
+    """Whose terms a beat lies in."""
     leading = set()
     for _, at, actor, words in rows:
         if at > beat:
@@ -101,11 +111,11 @@ def node_state(rows, name, beat):
 
 
 def zone_state(rows, name, beat):
-    """The state of a zone that the last leader that told one knows, while it leads; of `all zones` whether the mode is on."""
+    """The state of a zone that the last leader that told one knows, in its term; of `all zones` whether the mode is on."""
     state = None
     for _, at, actor, words in rows:
         if at > beat:
             break
         if words[0] in ('zone', 'mode') and subject(actor, words) == ('zone', name):
             state = (actor, {'on': 'mode', 'off': None}.get(words[1]) if words[0] == 'mode' else words[2])
-    return state[1] if state and state[0] in leaders(rows, beat) else None
+    return state[1] if state and state[0] in terms(rows, beat) else None

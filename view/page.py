@@ -34,7 +34,7 @@ def reduced_object(item):
 def reduced(document, title):
     settings, items = document['settings'], (document.get('objects') or {}).get('items') or []
     shown = [item for item in items if item.get('kind') in ('Node', 'Pod')]
-    events = [event for event in document.get('events') or [] if event['type'] == 'rate']
+    events = [event for event in document.get('events') or [] if event['type'] in ('rate', 'pause')]
     events += [{**event, 'object': reduced_object(event['object'])} for event in document.get('events') or []
                if event['type'] == 'put' and event['object'].get('kind') == 'Pod']
     return {'title': title, 'settings': {key: settings[key] for key in ('epoch', 'beatMillis') if key in settings},
@@ -67,7 +67,7 @@ def put_in(page, place, text):
 
 def main():
     options = argparse.ArgumentParser(prog='timeline', description='Puts a trace into a page: ./timeline [--document FILE] [TRACE] > PAGE.html')
-    options.add_argument('--document', metavar='FILE', help='the document of the trace: title, time of day, clocks, nodes of pods')
+    options.add_argument('--document', metavar='FILE', help='the document of the trace: title, time of day, clocks, nodes of pods, pauses')
     options.add_argument('trace', nargs='?', metavar='TRACE', help='a file; standard input where there is none')
     given = options.parse_args()
     with open(PAGE, encoding='utf-8') as file:

@@ -77,12 +77,20 @@ def check_states(name, data, head, rows):
             same(where, base, [('nobody', 'one', 'several')[min(count, 2)] for count in counts])
             same(name + ': leaderless', data['leaderless'], counts.count(0))
         elif lane['kind'] == 'controller':
-            leads = [any(lines.process(who)[1] == lane['name'] for who in lines.leaders(rows, beat)) for beat in range(end + 1)]
+            leads = [any(lines.process(who)[1] == lane['name'] for who in lines.terms(rows, beat)) for beat in range(end + 1)]
             same(where, [kind == 'leading' for kind in over], leads)
+            check_paused(where, data, lane, rows, end)
         elif lane['kind'] == 'node':
             same(where, list(zip(base, over)), [lines.node_state(rows, lane['name'], beat) for beat in range(end + 1)])
+            check_paused(where, data, lane, rows, end)
         elif lane['kind'] == 'zone':
             same(where, base, [lines.zone_state(rows, lane['name'], beat) for beat in range(end + 1)])
+
+
+def check_paused(where, data, lane, rows, end):
+    is_of = lambda actor: actor != 'script' and lines.process(actor) == (lane['kind'], lane['name'])
+    same(where + ': paused', [kind == 'paused' for kind in per_beat(lane['spans'], 'pause', end)],
+         [lines.is_paused(rows, beat, is_of) for beat in range(end + 1)])
 
 
 def check_drawn(name, browser, data):
@@ -329,6 +337,35 @@ def test_dropped_document(browser, trace, document):
         same('a document that is opened', browser.run('[document.title, timeline.model.dues[0].lane.due.length]'), ['document.json', 1])
 
 
+def test_pauses(browser, folder, pictures):
+    """A paused process is hatched, by its line and by the document; a paused leader doesn't lead."""
+    trace, document = [os.path.join(HERE, 'data', 'paused-leader' + ending) for ending in ('.txt', '.json')]
+    open_trace(browser, folder, trace, document)
+    leader = "timeline.model.leaderLane.spans.base"
+    # c1 is paused from beat 20 on for 180 beats; c2 leads from 182 on; c1's term ends at 300.
+    same('who leads', browser.run(leader + '.kinds.map((kind, i) => [kind, %s.from[i], %s.to[i]])' % (leader, leader)),
+         [['nobody', 0, 4], ['one', 4, 20], ['nobody', 20, 182], ['one', 182, 200], ['several', 200, 300], ['one', 300, 301]])
+    same('two lead', browser.run('timeline.model.overlaps.map(each => [each.from, each.to])'), [[200, 300]])
+    hatched = browser.run('''(() => { timeline.theme = "light"; timeline.applyTheme(); timeline.drawNow();
+      const { chart, model, canvas } = timeline, row = chart.rowOf(model.lanes.get('controller c1')), c = canvas.getContext('2d');
+      const inked = beat => { const data = c.getImageData(Math.round(chart.x(beat)) - 12, AXIS + row.y - timeline.scroller.scrollTop + 5, 24, 12).data;
+        const seen = new Set(); for (let i = 0; i < data.length; i += 4) seen.add(data.slice(i, i + 3).join()); return seen.size; };
+      return [inked(150), inked(250)]; })()''')
+    true('a hatching over the bar of the leader, and none after the pause (%s)' % hatched, hatched[0] > 3 and hatched[1] == 1)
+    x, y = browser.run('''(() => { const { chart, model } = timeline, row = chart.rowOf(model.lanes.get('controller c1')), box = timeline.canvas.getBoundingClientRect();
+      return [box.left + chart.x(120), box.top + AXIS + row.y - timeline.scroller.scrollTop + 12]; })()''')
+    browser.click(x, y)
+    same('the span of a pause', text_of(browser, 'details'), 'c1: paused for 180 beats, beats 20 to 199 (2 s to 20 s), for 18 s, from 2024-01-01 00:00:02 UTC')
+    browser.run('timeline.search("pause")')
+    same('found by its kind', browser.run('timeline.model.lineText(timeline.state.line)'), '20 c1_1 pause beats=180')
+    trace, document = [os.path.join(HERE, 'data', 'paused-while-down' + ending) for ending in ('.txt', '.json')]
+    spans = lambda: browser.run("['controller c1', 'node n1'].map(name => timeline.model.lanes.get(name)).map(lane => lane ? lane.spans.pause.from.map((from, i) => [from, lane.spans.pause.to[i]]) : [])")
+    open_trace(browser, folder, trace)
+    same('the lines tell what is up', spans(), [[[0, 5]], []])
+    open_trace(browser, folder, trace, document)
+    same('the document tells what is down too', spans(), [[[0, 5]], [[2, 10]]])
+
+
 def columns(browser, y, left, right):
     """Which of the pixels of a row aren't the background's."""
     return browser.run('''(() => {
@@ -542,7 +579,7 @@ def test_pictures(browser, folder, pictures):
     browser.call('Emulation.setEmulatedVisionDeficiency', type='none')
 
 
-TESTS = [test_traces, test_moves, test_search, test_looks, test_wrong_text, test_lateness, test_bands, test_edges, test_helps,
+TESTS = [test_traces, test_moves, test_search, test_looks, test_wrong_text, test_lateness, test_pauses, test_bands, test_edges, test_helps,
          test_large, test_pictures]
 
 

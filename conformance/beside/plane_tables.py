@@ -4,7 +4,7 @@ from statistics import median
 from .causes import is_over, rows_of
 from .plane import FITTED, foretold, pairs
 from .scenario_document import ScenarioDocument
-from .stalls import stall_of
+from .stalls import faults as faults_of_stall, foretold_of, stall_of
 from .tables import table
 from .verdicts import WAYS, verdict
 
@@ -124,15 +124,38 @@ def spread(found):
     return f"{min(found):.3f} to {max(found):.3f}, median {median(found):.3f}"
 
 
-def stalls(scenario_of, names):
+def stalls(stalled):
+    """`stalled` has by scenario what the stopped leader did, and what is foretold of it."""
     rows = []
-    for name in names:
-        it = stall_of(scenario_of(name))
-        rows.append((name, f"{it.lease} s", f"{it.seconds:.0f} s", at(it.rival) or "never", at(it.woke), f"{it.first_write * 1000:.0f} ms later",
-                     at(it.exit) or "never", f"{it.both:.2f} s" if it.both else "", it.writes if it.both else ""))
-    head = ("Scenario", "Lease", "Stopped for", "Rival leads at", "Goes on at", "First write", "Exits at", "Both acted for",
-            "Its accepted writes of nodes and pods then")
+    for name, (there, here) in stalled.items():
+        told = here if name in FITTED else here._replace(rival=None, exit=None, both=None)
+        rows.append((name, f"{there.lease} s", f"{there.seconds:.0f} s", at(there.rival) or "never", at(there.woke),
+                     later(there.first_write), later(told.first_write), at(there.exit) or "never", at(told.exit),
+                     lasts(there.both), lasts(told.both), there.writes if there.both else ""))
+    head = ("Scenario", "Lease", "Stopped for", "Rival leads at", "Goes on at", "First write", "Foretold", "Exits at", "Foretold",
+            "Both acted for", "Foretold", "Its accepted writes of nodes and pods then")
     return table(head, rows)
+
+
+def later(seconds):
+    return f"{seconds * 1000:.0f} ms later"
+
+
+def lasts(seconds):
+    return "" if seconds is None else f"{seconds:.2f} s"
+
+
+def stalled(scenario_of, names, program):
+    """Of each scenario in which a leader was stopped: what it did, and what its document foretells."""
+    said = [name for name in names if scenario_of(name).is_stalled() and scenario_of(name).is_said()]
+    traces = program.each(lambda name: foretold(scenario_of(name), program), said)
+    return {name: (stall_of(scenario_of(name)), foretold_of(scenario_of(name), trace)) for name, trace in zip(said, traces)}
+
+
+def stall_faults(found):
+    for name, pair in found.items():
+        if name in FITTED:
+            yield from faults_of_stall(name, *pair)
 
 
 def verdicts(scenario_of, names, program):

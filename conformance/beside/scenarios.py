@@ -14,7 +14,7 @@ from audit_log.story import Story
 
 BEAT_MILLIS = 2  # four messages of a beat each make a round of renewal 8 ms longer than the retry period, as on the plane
 # The newest version of a document that the program reads. From 3 on a document says that a process stands still and goes on.
-DOCUMENT_VERSION = 2
+DOCUMENT_VERSION = 3
 STALLS_VERSION = 3
 FLAGS = {"--leader-elect-lease-duration": ("leaseDurationSeconds", 1), "--leader-elect-renew-deadline": ("renewDeadlineMillis", 1000),
          "--leader-elect-retry-period": ("retryPeriodMillis", 1000), "--node-monitor-grace-period": ("gracePeriodMillis", 1000)}

@@ -69,7 +69,7 @@ fn fill(alloc: Global, form: &str, case: &str) -> Result<String, NoMemory> {
 }
 
 /// The text with a line feed in the place of each `\n`.
-fn with_line_feeds(alloc: Global, text: &str) -> Result<String, NoMemory> {
+pub(crate) fn with_line_feeds(alloc: Global, text: &str) -> Result<String, NoMemory> {
     let mut lines = String::new(alloc);
     for (place, line) in text.split("\\n").enumerate() {
         if place > 0 {

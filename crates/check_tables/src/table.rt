@@ -29,7 +29,7 @@ pub(crate) enum Kind {
     Written,
     /// The trace of the document in the second line.
     Trace,
-    /// The trace of the document in the second line, which is also run over a source and a sink that fail.
+    /// What is written of the input in the second line by the words before it, which are run over sources and sinks that fail.
     Faults,
 }
 

@@ -85,14 +85,23 @@ pub(crate) fn both_write(alloc: Global, document: &[u8], text: &str) -> Result<b
     Ok(replayed && checked)
 }
 
-pub(crate) fn one_word(alloc: Global, word: &str) -> Result<Vec<String>, NoMemory> {
+/// The words of a line, each behind a blank but the first.
+pub(crate) fn words_in(alloc: Global, line: &str) -> Result<Vec<String>, NoMemory> {
+    let mut words = Vec::new(alloc);
+    for word in line.split(' ') {
+        words.push(String::from_str(alloc, word)?)?;
+    }
+    Ok(words)
+}
+
+fn one_word(alloc: Global, word: &str) -> Result<Vec<String>, NoMemory> {
     let mut words = Vec::new(alloc);
     words.push(String::from_str(alloc, word)?)?;
     Ok(words)
 }
 
 /// How a run ends that writes this.
-fn status_of(text: &str) -> Status {
+pub(crate) fn status_of(text: &str) -> Status {
     if text.starts_with("refused ") {
         Status::Refused
     } else {

@@ -1,5 +1,5 @@
 -- The events of a document name its processes, lie in their ranges and stand in their order, and what they put and remove is named.
-use Rattle.std.proofs.Common.{◌≡◌, ℕ, ◌+◌, ◌<◌, ◌≤◌, nat_lt, ◌==◌, ◌||◌, cond, Bool, true, false, List, [], length, take, drop, codes, Option, Some, None, refl, sym, subst, ltb-true, ltb-false, arith, length-append}
+use Rattle.std.proofs.Common.{◌≡◌, ℕ, ◌+◌, ◌<◌, ◌≤◌, nat_lt, ◌==◌, ◌||◌, cond, Bool, true, false, List, [], ◌∷◌, ◌++◌, length, take, drop, codes, Option, Some, None, refl, sym, subst, ltb-true, ltb-false, arith, length-append}
 use Rattle.std.specs.List.{position, position_or_len}
 use Rattle.std.specs.Prelude.{Result, All}
 use Rattle.std.specs.Option.{option_and_then, option_map}
@@ -12,7 +12,6 @@ use Rattle.kube_base.specs.Names.{number_of}
 use Rattle.kube_base.specs.declared.numbers.ProcId.{ProcId}
 use Rattle.kube_objects.specs.Kinds.{IsOfKind}
 use Rattle.kube_objects.specs.Document.{Doc, is_controller, processes, end_beat}
-use Rattle.kube_objects.specs.Pauses.{IsNoPause, AreUnpaused}
 use Rattle.kube_objects.specs.declared.key.Key.{Key}
 use Rattle.kube_objects.specs.declared.key.Kind.{Kind}
 use Rattle.kube_objects.specs.declared.key.Kind.TheVariants as kinds
@@ -21,6 +20,7 @@ use Rattle.kube_objects.specs.declared.object.Object.TheVariants as objects
 use Rattle.kube_objects.specs.declared.script.Event.{Event}
 use Rattle.kube_objects.specs.declared.script.What.{What}
 use Rattle.kube_objects.specs.declared.script.What.TheVariants as whats
+use Rattle.history.specs.Sound.{AreApart}
 use Rattle.manifest_json.specs.declared.codes.TheConstants.{UNKNOWN_PROCESS, WRONG_TYPE}
 use Rattle.manifest_laws.proofs.Getting.{Gets, Has, done, refused, weaker, by_test, of_option, and_then, skip}
 use Rattle.manifest_laws.proofs.Growing.{Grows, Grows-none, Grows-then}
@@ -31,6 +31,7 @@ use Rattle.manifest_json.specs.declared.fault.Refusal.{Refusal}
 use Rattle.manifest_json.specs.Fields.{Texts, is_name}
 use Rattle.manifest_json.specs.Readable.{AreHeld, IsReadableItem}
 use Rattle.manifest_json.specs.Walk.{object_walk, items_len, member_path, process_of}
+use Rattle.script_reader.specs.declared.parts.Scope.{Scope}
 use Rattle.script_reader.specs.declared.table.EventType.{EventType}
 use Rattle.script_reader.specs.declared.table.EventType.TheVariants as types
 use Rattle.script_reader.specs.declared.table.Table.TheVariants as tables
@@ -38,8 +39,9 @@ use Rattle.script_reader.specs.Fields.{under, object_at, needed_whole, needed_te
 use Rattle.kube_objects.specs.Kinds.{IsOfKind}
 use Rattle.script_reader.specs.Lawful.{IsPosted, IsSpaceNumber, IsReadableWhat, IsLawfulWhat, AreLawfulFrom}
 use Rattle.script_reader.specs.Tables.{known_in}
-use Rattle.script_reader.specs.Walk.{Cast, controller_named, kubelet_named, process_named, proc_id, behind, or_else, process_at, rate_at, delay_at, loss_at, crash_at, start_at, stop_at, watch_at, ready_at, put_at, kind_at, space_of, remove_at, beside, what_at, type_at, edits_election, if_event, event_at, events_from, events_in}
+use Rattle.script_reader.specs.Walk.{Cast, controller_named, kubelet_named, process_named, proc_id, behind, or_else, process_at, rate_at, delay_at, loss_at, crash_at, start_at, stop_at, watch_at, ready_at, pause_at, put_at, kind_at, space_of, remove_at, beside, what_at, type_at, edits_election, is_too_soon, if_event, event_at, events_from, events_in}
 use Rattle.document_laws.proofs.FieldRanges.{IsIn, of_required, needed_whole-in, needed_posted-in, array-few}
+use Rattle.document_laws.proofs.PausesApart.{AreBehind, behind-none, behind-last, behind-next, or_parts}
 use Rattle.document_laws.proofs.ProcessRanges.{name_at-in, named-number, named_at-reads}
 
 -- ---- the processes that events name
@@ -132,7 +134,7 @@ module _ (cast : Cast) where
 
   -- ---- what events do
 
-  -- the same as `IsLawfulWhat`, but for the rule on the election Lease, and nothing that is read is a pause
+  -- the same as `IsLawfulWhat`, but for the rule on the election Lease
   abbrev IsKnown : What → Type 0
   IsKnown (whats.Rate id ppm) = IsProcess id × (500000 ≤ ppm) × (ppm ≤ 2000000)
   IsKnown (whats.Delay id requests replies) = IsProcess id × IsIn 1 6000 requests × IsIn 1 6000 replies
@@ -142,22 +144,9 @@ module _ (cast : Cast) where
   IsKnown (whats.Stop id) = IsController id
   IsKnown (whats.Watch id on) = IsController id
   IsKnown (whats.Ready id status) = IsKubelet id × IsPosted status
-  IsKnown (whats.Pause id beats) = ⊥
+  IsKnown (whats.Pause id beats) = IsProcess id × (1 ≤ beats) × (beats ≤ 604800000)
   IsKnown (whats.Put key object) = IsOfKind key object
   IsKnown (whats.Remove key) = Unit {0}
-
-  no_pause : (what : What) → IsKnown what → IsNoPause what
-  no_pause (whats.Rate id ppm) known = tt
-  no_pause (whats.Delay id requests replies) known = tt
-  no_pause (whats.Loss id requests replies) known = tt
-  no_pause (whats.Crash id) known = tt
-  no_pause (whats.Start id) known = tt
-  no_pause (whats.Stop id) known = tt
-  no_pause (whats.Watch id on) known = tt
-  no_pause (whats.Ready id status) known = tt
-  no_pause (whats.Pause id beats) known = known
-  no_pause (whats.Put key object) known = tt
-  no_pause (whats.Remove key) known = tt
 
   abbrev IsNamed : Texts → What → Type 0
   IsNamed names what = IsKnown what × IsReadableWhat names cast.controllers what
@@ -207,6 +196,10 @@ module _ (cast : Cast) where
         and_then (process-in (kubelet_named cast names) (has-kubelet names) path d) (λ who w.
         and_then (needed_posted-in path (codes "status") d) (λ status posted. done _ (λ ns. ((w, posted), tt))))
 
+    pause-in : Gets IsPlain (pause_at cast names path d)
+    unfolding pause_at
+    pause-in = and_then of_process (λ who w. and_then (needed_whole-in 1 604800000 path (codes "beats") d) (λ beats r. done _ (λ ns. ((w, r.0, r.1), tt))))
+
     put-reads : AreHeld names cast.controllers → Reads names IsNamed (put_at cast names path d)
     unfolding put_at
     put-reads held =
@@ -241,6 +234,7 @@ module _ (cast : Cast) where
     what-reads types.Stop held = plain-reads _ stop-in
     what-reads types.Watch held = plain-reads _ watch-in
     what-reads types.Ready held = plain-reads _ ready-in
+    what-reads types.Pause held = plain-reads _ pause-in
     what-reads types.Put held = put-reads held
     what-reads types.Remove held = remove-reads
 
@@ -269,61 +263,67 @@ module _ (cast : Cast) where
     lawful (whats.Watch id on) known leaves = is-controller id known
     lawful (whats.Ready id status) known leaves =
         (le-ltb id.0 (length doc.controllers) (omega (arith, known.0.0, of.controllers)), is-process id known.0.1, known.1)
-    lawful (whats.Pause id beats) known leaves = absurd known
+    lawful (whats.Pause id beats) known leaves = (is-process id known.0, known.1, known.2)
     lawful (whats.Put key object) known leaves = (leaves, known)
     lawful (whats.Remove key) known leaves = leaves
 
-  -- one event behind earlier ones at most at the beat `last`
-  record IsNext (end last : ℕ) (names : Texts) (e : Event) : Type 0 where
+  -- one event behind these earlier ones, which are at most at the beat `last`
+  record IsNext (end last : ℕ) (earlier : List Event) (names : Texts) (e : Event) : Type 0 where
     pub after : last ≤ e.beat.0
     pub within : e.beat.0 ≤ end
     pub named : IsNamed names e.what
+    pub rests : is_too_soon earlier e.beat.0 e.what ≡ false
     pub leaves : edits_election e.what ≡ false
 
-  rules-in : (end last : ℕ) (path : List ℕ) (beat : ℕ) (what : What) (names : Texts) → IsNamed names what → Gets (λ r. (r.1 ≡ names) × IsNext end last names r.0) (if_event end last path beat what names)
-  rules-in end last path beat what names named =
+  rules-in : (end last : ℕ) (earlier : List Event) (path : List ℕ) (beat : ℕ) (what : What) (names : Texts) → IsNamed names what
+      → Gets (λ r. (r.1 ≡ names) × IsNext end last earlier names r.0) (if_event end last earlier path beat what names)
+  rules-in end last earlier path beat what names named =
       by_test (nat_lt beat last || nat_lt end beat) _ _
       (λ e. refused _)
       (λ e. let both = or_parts (nat_lt beat last) (nat_lt end beat) e in
-      by_test (edits_election what) _ _
+      by_test (is_too_soon earlier beat what) _ _
       (λ f. refused _)
-      (λ f. done _ (refl, record { after = ltb-false beat last both.0; within = ltb-false end beat both.1; named = named; leaves = f })))
-    where
-      or_parts : (a b : Bool) → (a || b) ≡ false → (a ≡ false) × (b ≡ false)
-      or_parts false b e = (refl, e)
-      or_parts true b e = absurd (let none : ⊥ = cc in none)
+      (λ f. by_test (edits_election what) _ _
+      (λ g. refused _)
+      (λ g. done _ (refl, record { after = ltb-false beat last both.0; within = ltb-false end beat both.1; named = named; rests = f; leaves = g }))))
 
-  event-reads : (end : ℕ) (names : Texts) (last : ℕ) (path : List ℕ) (value : Data) → AreHeld names cast.controllers → Reads names (IsNext end last) (event_at cast end names last path value)
+  event-reads : (scope : Scope) (names : Texts) (last : ℕ) (earlier : List Event) (path : List ℕ) (value : Data) → AreHeld names cast.controllers
+      → Reads names (IsNext scope.end.0 last earlier) (event_at scope cast names last earlier path value)
   unfolding event_at
-  event-reads end names last path value held =
+  event-reads scope names last earlier path value held =
+      let end = scope.end.0 in
       skip (object_at WRONG_TYPE path value) (λ d.
       skip (needed_whole 0 604800000 path (codes "beat") d) (λ beat.
-      skip (type_at path d) (λ kind.
+      skip (type_at scope.version path d) (λ kind.
       skip (known_in (tables.Event kind) path d) (λ known.
       and_then (what-reads names path known kind held) (λ what w.
-      weaker (rules-in end last path beat what.0 what.1 w.1) (λ r h. (subst (Grows names) (sym h.0) w.0, subst (λ ns. IsNext end last ns r.0) (sym h.0) h.1)))))))
+      weaker (rules-in end last earlier path beat what.0 what.1 w.1) (λ r h. (subst (Grows names) (sym h.0) w.0, subst (λ ns. IsNext end last earlier ns r.0) (sym h.0) h.1)))))))
 
-  -- events behind the beat `last`
-  record AreEvents (end last many : ℕ) (names : Texts) (es : List Event) : Type 0 where
+  -- events behind these earlier ones, which are at most at the beat `last`
+  record AreEvents (end last : ℕ) (earlier : List Event) (many : ℕ) (names : Texts) (es : List Event) : Type 0 where
     pub lawful : (doc : Doc) → IsOf end doc → AreLawfulFrom doc last es
-    pub unpaused : AreUnpaused es
+    pub apart : AreApart es
+    pub behind : AreBehind earlier es
     pub count : length es ≡ many
     pub readable : All (λ e. IsReadableWhat names cast.controllers e.what) es
 
-  events_from-reads : (end : ℕ) (names : Texts) (place last : ℕ) (rest : Items) → AreHeld names cast.controllers → Reads names (AreEvents end last (items_len rest)) (events_from cast end names place last rest)
+  events_from-reads : (scope : Scope) (names : Texts) (place last : ℕ) (earlier : List Event) (rest : Items) → AreHeld names cast.controllers
+      → Reads names (AreEvents scope.end.0 last earlier (items_len rest)) (events_from scope cast names place last earlier rest)
   unfolding events_from
-  events_from-reads end names place last no_items held =
-      done _ (Grows-none names, record { lawful = λ doc of. tt; unpaused = tt; count = refl; readable = All-nil (λ e. IsReadableWhat names cast.controllers e.what) })
-  events_from-reads end names place last (item d rest) held =
-      and_then (event-reads end names last (member_path [] (codes "/events/") place) d held) (λ next n.
-      and_then (events_from-reads end next.1 (place + 1) next.0.beat.0 rest (AreHeld-grows n.0 cast.controllers held)) (λ more m.
+  events_from-reads scope names place last earlier no_items held =
+      done _ (Grows-none names, record { lawful = λ doc of. tt; apart = tt; behind = behind-none earlier; count = refl; readable = All-nil (λ e. IsReadableWhat names cast.controllers e.what) })
+  events_from-reads scope names place last earlier (item d rest) held =
+      and_then (event-reads scope names last earlier (member_path [] (codes "/events/") place) d held) (λ next n.
+      and_then (events_from-reads scope next.1 (place + 1) next.0.beat.0 (earlier ++ next.0 ∷ []) rest (AreHeld-grows n.0 cast.controllers held)) (λ more m.
       let one = n.1 in
+      let behind = behind-last earlier next.0 more.0 m.1.behind in
       let stands : IsReadableWhat more.1 cast.controllers next.0.what = readable-grows m.0 cast.controllers (AreHeld-grows n.0 cast.controllers held) next.0.what one.named.1 in
       done _ (
         Grows-then n.0 m.0,
         record {
-          lawful = λ doc of. (one.after, rw of.end one.within, lawful end doc of next.0.what one.named.0 one.leaves, m.1.lawful doc of);
-          unpaused = (no_pause next.0.what one.named.0, m.1.unpaused);
+          lawful = λ doc of. (one.after, rw of.end one.within, lawful scope.end.0 doc of next.0.what one.named.0 one.leaves, m.1.lawful doc of);
+          apart = (behind.1, m.1.apart);
+          behind = behind-next earlier next.0 more.0 one.rests behind.0;
           count = omega (arith, m.1.count);
           readable = All-cons (λ e. IsReadableWhat more.1 cast.controllers e.what) next.0 more.0 stands m.1.readable;
         },
@@ -332,15 +332,15 @@ module _ (cast : Cast) where
   -- at most 100,000 events, from beat 0 on
   pub record AreAll (end : ℕ) (names : Texts) (es : List Event) : Type 0 where
     pub lawful : (doc : Doc) → IsOf end doc → AreLawfulFrom doc 0 es
-    pub unpaused : AreUnpaused es
+    pub apart : AreApart es
     pub few : length es ≤ 100000
     pub readable : All (λ e. IsReadableWhat names cast.controllers e.what) es
 
   pub AreAll-none : (end : ℕ) (names : Texts) → AreAll end names []
-  AreAll-none end names = record { lawful = λ doc of. tt; unpaused = tt; few = omega arith; readable = All-nil (λ e. IsReadableWhat names cast.controllers e.what) }
+  AreAll-none end names = record { lawful = λ doc of. tt; apart = tt; few = omega arith; readable = All-nil (λ e. IsReadableWhat names cast.controllers e.what) }
 
-  pub events-reads : (end : ℕ) (names : Texts) (d : Data) → AreHeld names cast.controllers → Reads names (AreAll end) (events_in cast end names d)
+  pub events-reads : (scope : Scope) (names : Texts) (d : Data) → AreHeld names cast.controllers → Reads names (AreAll scope.end.0) (events_in scope cast names d)
   unfolding events_in
-  events-reads end names d held =
+  events-reads scope names d held =
       and_then (array-few 100000 (codes "/events") d) (λ all few.
-      weaker (events_from-reads end names 0 0 all held) (λ r h. (h.0, record { lawful = h.1.lawful; unpaused = h.1.unpaused; few = omega (arith, h.1.count, few); readable = h.1.readable })))
+      weaker (events_from-reads scope names 0 0 [] all held) (λ r h. (h.0, record { lawful = h.1.lawful; apart = h.1.apart; few = omega (arith, h.1.count, few); readable = h.1.readable })))

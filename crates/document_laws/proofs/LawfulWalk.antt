@@ -26,7 +26,7 @@ use Rattle.script_reader.specs.Fields.{required}
 use Rattle.kube_objects.specs.Kinds.{IsOfKind}
 use Rattle.script_reader.specs.Lawful.{IsLawfulDoc, IsWellNamed}
 use Rattle.document_laws.specs.Laws.{DocumentsAreLawful, DocumentsAreWellNamed}
-use Rattle.script_reader.specs.Walk.{version_in, settings_at, controllers_in, kubelets_in, objects_in, no_objects, numbers_of, cast_of, events_in, top_in, document_at, data_of, document_walk}
+use Rattle.script_reader.specs.Walk.{version_in, settings_at, controllers_in, kubelets_in, objects_in, no_objects, numbers_of, cast_of, scope_of, events_in, top_in, document_at, data_of, document_walk}
 use Rattle.document_laws.proofs.EventRanges.{of-kind, IsOf, AreAll, AreAll-none, events-reads}
 use Rattle.document_laws.proofs.FieldRanges.{of_default, of_required}
 use Rattle.document_laws.proofs.ProcessRanges.{AreProcs, AreProcs-none, named-grow, settings-in, controllers-in, kubelets-in}
@@ -70,8 +70,9 @@ document-whole value =
     and_then (of_default {P = λ r. Grows kubelets.1 r.1 × IsReadable r.1 known r.0.items} (objects_in kubelets.1 known) (no_objects, kubelets.1) (get (codes "objects") d) (Grows-none kubelets.1, record { each = tt; fit = refl }) (λ o. objects-reads kubelets.1 known o k_held)) (λ objects o.
     let o_held = AreHeld-grows o.0 known k_held in
     let cast = cast_of controllers.0 kubelets.0 in
+    let scope = scope_of version settings in
     let end = settings.end_beat.0 in
-    and_then (of_default {P = λ r. Grows objects.1 r.1 × AreAll cast end r.1 r.0} (events_in cast end objects.1) ([], objects.1) (get (codes "events") d) (Grows-none objects.1, AreAll-none cast end objects.1) (λ e. events-reads cast end objects.1 e o_held)) (λ events e.
+    and_then (of_default {P = λ r. Grows objects.1 r.1 × AreAll cast end r.1 r.0} (events_in scope cast objects.1) ([], objects.1) (get (codes "events") d) (Grows-none objects.1, AreAll-none cast end objects.1) (λ e. events-reads cast scope objects.1 e o_held)) (λ events e.
     let doc : Doc = record { settings = settings; controllers = controllers.0; kubelets = kubelets.0; objects = objects.0.items; events = events.0 } in
     let of : IsOf cast end doc = record { controllers = omega (arith, length-map controllers.0 (λ p. p.name)); kubelets = omega (arith, length-map kubelets.0 (λ p. p.name)); end = refl } in
     let from_kubelets = Grows-then o.0 e.0 in
@@ -90,7 +91,7 @@ document-whole value =
         few_objects = λ kind. kinds-few kind objects.0.items o.1.fit;
         events = e.1.lawful doc of;
         few_events = e.1.few;
-        unpaused = e.1.unpaused;
+        apart = e.1.apart;
       };
       named = record {
         controllers = named-grow (Grows-then k.0 from_kubelets) controllers.0 c.1.0.named;

@@ -4,7 +4,6 @@ use Rattle.kube_objects.specs.Document.{Doc}
 use Rattle.kube_objects.specs.declared.script.Event.{Event}
 use Rattle.kube_objects.specs.declared.script.What.{What}
 use Rattle.kube_objects.specs.declared.script.What.TheVariants as whats
-use Rattle.history.proofs.Pauses.{never_apart}
 use Rattle.history.specs.Sound.{IsSoundEvent, AreSound, IsSound}
 use Rattle.script_reader.specs.Lawful.{IsLawfulWhat, AreLawfulFrom, IsLawfulDoc}
 
@@ -26,4 +25,4 @@ sound-events doc from [] lawful = tt
 sound-events doc from (e ∷ es) lawful = (sound-what doc e.what lawful.2, sound-events doc e.beat.0 es lawful.3)
 
 pub sound-document : (doc : Doc) → IsLawfulDoc doc → IsSound doc
-sound-document doc lawful = (sound-events doc 0 doc.events lawful.events, never_apart doc.events lawful.unpaused)
+sound-document doc lawful = (sound-events doc 0 doc.events lawful.events, lawful.apart)

@@ -16,6 +16,6 @@ abbrev pub DocumentsAreWellNamed : Type 0
 DocumentsAreWellNamed = (bytes : List ℕ) (d : Document) → document_walk bytes ≡ Ok d → IsWellNamed d.names (doc_of d)
 
 -- a lawful document leaves the election Lease alone, stops controllers only, has delays of at least one beat, and a beat between two
--- pauses of a process, since it pauses nobody
+-- pauses of a process
 abbrev pub LawfulIsSound : Type 0
 LawfulIsSound = (doc : Doc) → IsLawfulDoc doc → IsSound doc

@@ -11,7 +11,7 @@ pub fn documents_are_lawful()
 {}
 
 /// A lawful document leaves the election Lease alone, stops controllers only, has delays of at least one beat, and a beat between two
-/// pauses of a process, since it pauses nobody.
+/// pauses of a process.
 pub fn lawful_documents_are_sound()
     ensures { LawfulIsSound }
 {}

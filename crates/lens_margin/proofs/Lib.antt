@@ -1,4 +1,3 @@
-mod ClockRatesLemmas
 -- ---- numbers
 pub mod Bounds
 pub mod Positive

@@ -1,5 +1,5 @@
 -- The numbers of a margin are the least and the greatest that the lease premise's tests allow.
-use Rattle.std.proofs.Common.{◌≡◌, ◌⊎◌, ℕ, zero, suc, ◌+◌, ◌-◌, ◌*◌, ◌/◌, ◌<◌, ◌≤◌, nat_lt, Bool, true, false, cond, List, length, get_or, Some, None, refl, sym, ap, ap₂, ◌∙◌, subst, inl, inr, arith}
+use Rattle.std.proofs.Common.{◌≡◌, ◌⊎◌, ℕ, zero, suc, ◌+◌, ◌-◌, ◌*◌, ◌/◌, ◌<◌, ◌≤◌, nat_lt, Bool, true, false, cond, List, [], ◌∷◌, ◌++◌, length, get_or, slice_get, Some, None, refl, sym, ap, ap₂, ◌∙◌, subst, inl, inr, arith}
 use Rattle.std.specs.Int.{div_ceil}
 use Rattle.std.proofs.Math.Nat.{mul-le-mul_right}
 use Rattle.std.proofs.lemmas.Bool.{cases_lt, lt-ltb, ltb-true}
@@ -13,7 +13,6 @@ use Rattle.script_reader.specs.Lawful.{IsLawfulDoc}
 use Rattle.lens_margin.specs.Laws.{IsLeast, IsLeastLease, IsLongestStall, IsMargin, outlasted, is_long_with}
 use Rattle.lens_margin.specs.Margins.{acting, fastest, slowest, numbers, margin_of}
 use Rattle.lens_margin.proofs.Positive.{slowest-some, fastest-some}
-use Rattle.lens_margin.proofs.ClockRatesLemmas.{field-at}
 use Rattle.lens_margin.proofs.Leased.{leased-is}
 use Rattle.lens_margin.proofs.Paused.{counts, bears-is}
 
@@ -167,6 +166,12 @@ margin-law doc lawful p inside =
     }
 
 -- ---- what the code counts with
+
+-- a field of a controller, which stands before the kubelets
+field-at : {A : Type 0} (f : Proc → A) (none : A) (controllers kubelets : List Proc) (p : ℕ) (d : Proc) → p < length controllers → field f none (slice_get (controllers ++ kubelets) p) ≡ f (get_or controllers p d)
+field-at f none [] kubelets p d inside = absurd (omega arith)
+field-at f none (c ∷ cs) kubelets zero d inside = refl
+field-at f none (c ∷ cs) kubelets (suc p) d inside = field-at f none cs kubelets p d (omega arith)
 
 module _ (doc : Doc) (p : ℕ) (controllers : List Proc) (d : Proc) (same : controllers ≡ doc.controllers) (inside : p < length doc.controllers) where
   own : (f : Proc → ℕ) → f (get_or controllers p d) ≡ field f 0 (process_at doc p)

@@ -1,4 +1,3 @@
-pub mod ClockRates
 pub mod Laws
 pub mod Lines
 pub mod Margins

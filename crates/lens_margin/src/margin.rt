@@ -5,9 +5,9 @@ ghost use Rattle.script_reader.specs.Lawful.{IsLawfulDoc};
 ghost use Rattle.lens_margin.specs.Laws.{IsMargin};
 ghost use Rattle.lens_margin.specs.Margins.{margin_of, numbers, least_within, stall_within};
 
-use crate::rates::{fastest, longest, rates_of};
+use crate::rates::fastest;
 use kube_objects::Proc;
-use script_reader::Document;
+use script_reader::{Document, longest_pause, rates_of};
 
 /// The most seconds that a lease duration may have.
 const LONGEST_LEASE: u128 = 86_400;
@@ -34,7 +34,7 @@ pub fn controller_margin(document: &Document, controller: usize) -> Margin
 {
     margin_at(
         document.controllers.as_slice()[controller],
-        longest(document, controller),
+        longest_pause(document, controller),
         document.settings.beat_millis,
         rates_of(document, controller).least,
         fastest(document),

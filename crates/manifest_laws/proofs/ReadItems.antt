@@ -88,7 +88,7 @@ taint-reads names path earlier value =
     } in
     by_test (list_any (same_taint taint) earlier) _ _ (λ e. refused _) (λ e. done _ (Grows-then k.0 t.0, (held, e))))))))
 
-taints_differ-push : (earlier ts : List Taint) (t : Taint) → taints_differ earlier ts ≡ true → list_any (same_taint t) (earlier ++ ts) ≡ false → taints_differ earlier (ts ++ t ∷ []) ≡ true
+pub taints_differ-push : (earlier ts : List Taint) (t : Taint) → taints_differ earlier ts ≡ true → list_any (same_taint t) (earlier ++ ts) ≡ false → taints_differ earlier (ts ++ t ∷ []) ≡ true
 taints_differ-push earlier [] t differ new =
     ap (λ b. not b && true) (ap (list_any (same_taint t)) (sym (append-nil earlier)) ∙ new)
 taints_differ-push earlier (s ∷ ts) t differ new =

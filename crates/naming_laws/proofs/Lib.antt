@@ -1,9 +1,14 @@
 pub mod Lists
+pub mod Texts
+pub mod Taints
 pub mod Fits
 pub mod Requests
 pub mod Answered
 pub mod Walls
+pub mod Readings
+pub mod Fitting
 pub mod TickSteps
 pub mod Starting
-pub mod Readings
+pub mod Incarnations
 pub mod Naming
+pub mod Kept

@@ -37,16 +37,19 @@ use Rattle.kube_objects.specs.Tries.{as_answer, tried, try_node, try_delete}
 use Rattle.kube_objects.specs.Wire.{loses_requests}
 use Rattle.kube_objects.specs.Writable.{answers_write, is_condition_key}
 use Rattle.history.specs.Printed.{map_answer, tick_act}
-use Rattle.history_laws.proofs.Counting.{only_value}
-use Rattle.history_laws.proofs.Plainly.{none_is, false_is, and_both}
+use Rattle.history_laws.proofs.Counting.{only_test, only_value}
+use Rattle.history_laws.proofs.Plainly.{some_is, none_is, false_is, and_both, not_true}
 use Rattle.history_laws.proofs.Ticks.{IsPodKey, IsDelete, Each, pods_only, evict_step}
 use Rattle.manifest_json.specs.Fields.{Texts}
-use Rattle.manifest_json.specs.Readable.{IsHeld}
-use Rattle.naming_laws.specs.Items.{IsWritableTaint, IsWritableReady, IsWritableNode}
-use Rattle.naming_laws.proofs.Answered.{second_within}
+use Rattle.manifest_json.specs.Readable.{IsHeld, IsFilled, IsNameNumber, IsWholeSecond, IsReadableTaint, IsReadableReady, taints_differ}
+use Rattle.naming_laws.specs.WellFormed.{IsWellFormedNode}
+use Rattle.naming_laws.proofs.Answered.{second_whole}
 use Rattle.naming_laws.proofs.Fits.{IsFitWrite, IsTold, IsFitFact, AreFit, IsFitFound, seen_fit, node_seen_fit}
 use Rattle.naming_laws.proofs.Lists.{all_append, all_filter, all_once}
-use Rattle.naming_laws.proofs.Requests.{HoldsFixed, IsEarly}
+use Rattle.naming_laws.proofs.Readings.{space_held}
+use Rattle.naming_laws.proofs.Requests.{IsEarly}
+use Rattle.naming_laws.proofs.Taints.{differ_filter, differ_added, none_wanted, none_filtered}
+use Rattle.naming_laws.proofs.Texts.{HoldsFixed}
 
 -- ---- answers of tries
 
@@ -115,57 +118,82 @@ waits_fit on place (Some x) wanted is =
     let lacked : lacks on x.1 ≡ Some wanted = only_value (is_in place x.1) (lacks on x.1) wanted is in
     subst IsWantedKey (only_value (not (has_condition x.1)) (wanted_key (wants on x.1)) wanted lacked) (wanted_fit on x.1)
 
+-- who waits has no condition taint
+bare_fit : (on : Bool) (place : Place) (o : Option (Version × Node)) (x : Version × Node) (wanted : ℕ) → o ≡ Some x → lacks_in on place o ≡ Some wanted → has_condition x.1 ≡ false
+bare_fit on place None x wanted at is = absurd (none_is x at)
+bare_fit on place (Some y) x wanted at is =
+    let lacked : lacks on y.1 ≡ Some wanted = only_value (is_in place y.1) (lacks on y.1) wanted is in
+    subst (λ (z : Version × Node). has_condition z.1 ≡ false) (some_is y x at) (not_true (has_condition y.1) (only_test (not (has_condition y.1)) (wanted_key (wants on y.1)) wanted lacked))
+
 -- ---- the tick
 
-module _ (names : Texts) (c : ℕ) (fixed : HoldsFixed names) (doc : Doc) (k : ℕ) (q : Identity) (early : IsEarly doc q.process k) where
+module _ (names : Texts) (known : List ℕ) (fixed : HoldsFixed names) (doc : Doc) (k : ℕ) (q : Identity) (early : IsEarly doc q.process k) where
   abbrev Fit : List Entry → Type 0
-  Fit h = AreFit names c h
+  Fit h = AreFit names known h
 
-  condition_held : (key : ℕ) → is_condition_key key ≡ true → IsHeld names key
+  condition_held : (key : ℕ) → is_condition_key key ≡ true → IsHeld names key × IsFilled names key
   condition_held key is = by_both (key == NOT_READY) (key == UNREACHABLE) refl refl is
     where
-      by_both : (a b : Bool) → (key == NOT_READY) ≡ a → (key == UNREACHABLE) ≡ b → (a || b) ≡ true → IsHeld names key
-      by_both true b first second is = omega (arith, fixed, eqb-true key NOT_READY first)
-      by_both false true first second is = omega (arith, fixed, eqb-true key UNREACHABLE second)
+      by_both : (a b : Bool) → (key == NOT_READY) ≡ a → (key == UNREACHABLE) ≡ b → (a || b) ≡ true → IsHeld names key × IsFilled names key
+      by_both true b first second is =
+          let same = eqb-true key NOT_READY first in (omega (arith, fixed.held, same), subst (IsFilled names) (sym same) fixed.not_ready)
+      by_both false true first second is =
+          let same = eqb-true key UNREACHABLE second in (omega (arith, fixed.held, same), subst (IsFilled names) (sym same) fixed.unreachable)
       by_both false false first second is = absurd (false_is is)
 
-  second_early : whole_second (wall doc q.process k) ≤ last_wall
-  second_early = omega (arith, early, second_within (wall doc q.process k))
+  second_early : IsWholeSecond (Some (record { 0 = whole_second (wall doc q.process k) }))
+  second_early = second_whole (wall doc q.process k) early
 
   -- ---- nodes that are written
 
-  marked_fit : (node : Node) → IsWritableNode names node → IsWritableNode names (with_mark (whole_second (wall doc q.process k)) node)
-  marked_fit node fit = record { region = fit.region; zone = fit.zone; taints = fit.taints; ready = by_old node.ready fit.ready }
+  marked_fit : (node : Node) → IsWellFormedNode names node → IsWellFormedNode names (with_mark (whole_second (wall doc q.process k)) node)
+  marked_fit node fit = record { region = fit.region; zone = fit.zone; taints = fit.taints; differ = fit.differ; ready = by_old node.ready fit.ready }
     where
-      by_old : (o : Option Ready) → IsWritableReady names o → IsWritableReady names (Some (marked (whole_second (wall doc q.process k)) o))
-      by_old None old = record { reason = omega (arith, fixed); heartbeat = tt; transition = second_early }
-      by_old (Some r) old = record { reason = omega (arith, fixed); heartbeat = old.heartbeat; transition = second_early }
+      by_old : (o : Option Ready) → IsReadableReady names o → IsReadableReady names (Some (marked (whole_second (wall doc q.process k)) o))
+      by_old None old = record { reason = omega (arith, fixed.held); heartbeat = tt; transition = second_early }
+      by_old (Some r) old = record { reason = omega (arith, fixed.held); heartbeat = old.heartbeat; transition = second_early }
 
-  new_fit : (wanted : ℕ) → IsHeld names wanted → IsWritableTaint names (new_taint doc k q wanted)
-  new_fit wanted held = record { key = held; value = omega (arith, fixed); added = second_early }
+  new_fit : (wanted : ℕ) → is_condition_key wanted ≡ true → IsReadableTaint names (new_taint doc k q wanted)
+  new_fit wanted key = let held = condition_held wanted key in record { key = held.0; filled = held.1; value = omega (arith, fixed.held); added = second_early }
 
-  taints_fit : (node : Node) (taints : List Taint) → IsWritableNode names node → AllByRecursion (IsWritableTaint names) taints → IsWritableNode names (with_taints node taints)
-  taints_fit node taints fit all = record { region = fit.region; zone = fit.zone; taints = all; ready = fit.ready }
+  taints_fit : (node : Node) (taints : List Taint) → IsWellFormedNode names node → AllByRecursion (IsReadableTaint names) taints → taints_differ [] taints ≡ true
+      → IsWellFormedNode names (with_taints node taints)
+  taints_fit node taints fit all differ = record { region = fit.region; zone = fit.zone; taints = all; differ = differ; ready = fit.ready }
 
-  untainted_fit : (node : Node) → IsWritableNode names node → IsWritableNode names (untainted node)
-  untainted_fit node fit = taints_fit node _ fit (all_filter (IsWritableTaint names) (λ taint. not (is_condition taint)) node.taints fit.taints)
+  untainted_fit : (node : Node) → IsWellFormedNode names node → IsWellFormedNode names (untainted node)
+  untainted_fit node fit =
+      taints_fit node _ fit (all_filter (IsReadableTaint names) (λ taint. not (is_condition taint)) node.taints fit.taints)
+      (differ_filter (λ taint. not (is_condition taint)) node.taints fit.differ)
 
-  swapped_fit : (wanted : ℕ) (node : Node) → IsHeld names wanted → IsWritableNode names node → IsWritableNode names (swapped (new_taint doc k q wanted) node)
-  swapped_fit wanted node held fit = taints_fit node _ fit (by_there (list_any (is_wanted wanted) node.taints))
+  swapped_fit : (wanted : ℕ) (node : Node) → is_condition_key wanted ≡ true → IsWellFormedNode names node → IsWellFormedNode names (swapped (new_taint doc k q wanted) node)
+  swapped_fit wanted node key fit =
+      let both = by_there (list_any (is_wanted wanted) node.taints) refl in
+      taints_fit node _ fit both.0 both.1
     where
       others : List Taint
       others = filter (λ other. not (is_opposite wanted other)) node.taints
 
-      left : AllByRecursion (IsWritableTaint names) others
-      left = all_filter (IsWritableTaint names) (λ other. not (is_opposite wanted other)) node.taints fit.taints
+      left : AllByRecursion (IsReadableTaint names) others
+      left = all_filter (IsReadableTaint names) (λ other. not (is_opposite wanted other)) node.taints fit.taints
 
-      by_there : (b : Bool) → AllByRecursion (IsWritableTaint names) (and_taint b (new_taint doc k q wanted) others)
-      by_there true = left
-      by_there false = all_append (IsWritableTaint names) others (new_taint doc k q wanted ∷ []) left (new_fit wanted held, tt)
+      apart : taints_differ [] others ≡ true
+      apart = differ_filter (λ other. not (is_opposite wanted other)) node.taints fit.differ
 
-  tainted_fit : (wanted : ℕ) (node : Node) → IsHeld names wanted → IsWritableNode names node → IsWritableNode names (tainted_with (new_taint doc k q wanted) node)
-  tainted_fit wanted node held fit =
-      taints_fit node _ fit (all_append (IsWritableTaint names) node.taints (new_taint doc k q wanted ∷ []) fit.taints (new_fit wanted held, tt))
+      AreGood : List Taint → Type 0
+      AreGood taints = AllByRecursion (IsReadableTaint names) taints × (taints_differ [] taints ≡ true)
+
+      by_there : (b : Bool) → list_any (is_wanted wanted) node.taints ≡ b → AreGood (and_taint b (new_taint doc k q wanted) others)
+      by_there true is = (left, apart)
+      by_there false is = (
+        all_append (IsReadableTaint names) others (new_taint doc k q wanted ∷ []) left (new_fit wanted key, tt),
+        differ_added doc k q wanted key others (none_filtered (is_wanted wanted) (λ other. not (is_opposite wanted other)) node.taints is) apart,
+      )
+
+  tainted_fit : (wanted : ℕ) (node : Node) → is_condition_key wanted ≡ true → has_condition node ≡ false → IsWellFormedNode names node
+      → IsWellFormedNode names (tainted_with (new_taint doc k q wanted) node)
+  tainted_fit wanted node key none fit =
+      taints_fit node _ fit (all_append (IsReadableTaint names) node.taints (new_taint doc k q wanted ∷ []) fit.taints (new_fit wanted key, tt))
+      (differ_added doc k q wanted key node.taints (none_wanted wanted node.taints none) fit.differ)
 
   -- ---- entries of tries
 
@@ -173,15 +201,15 @@ module _ (names : Texts) (c : ℕ) (fixed : HoldsFixed names) (doc : Doc) (k : �
   told_by make each None is = tt
   told_by make each (Some a) is = each a is
 
-  wrote_by : (name : ℕ) (written : Node) → IsHeld names name → IsWritableNode names written → (o : Option Answer) → IsFitWrite names c (try_write (node_write name written) o)
+  wrote_by : (name : ℕ) (written : Node) → IsNameNumber names name → IsWellFormedNode names written → (o : Option Answer) → IsFitWrite names known (try_write (node_write name written) o)
   wrote_by name written held fit None = tt
-  wrote_by name written held fit (Some (answers.Done version)) = record { kind = refl; space = omega (arith, fixed); name = held; object = fit }
+  wrote_by name written held fit (Some (answers.Done version)) = record { kind = refl; named = (held, refl); object = fit }
   wrote_by name written held fit (Some answers.Absent) = tt
   wrote_by name written held fit (Some answers.Exists) = tt
   wrote_by name written held fit (Some (answers.Conflict version)) = tt
 
-  mark_fact : (name : ℕ) (given : Version) (node : Node) (h : List Entry) → IsFitFound names c name node
-      → IsFitFact names c (actor_of q) (Ticks (Mark name given (with_mark (whole_second (wall doc q.process k)) node) (try_node q name given h)))
+  mark_fact : (name : ℕ) (given : Version) (node : Node) (h : List Entry) → IsFitFound names known name node
+      → IsFitFact names known (actor_of q) (Ticks (Mark name given (with_mark (whole_second (wall doc q.process k)) node) (try_node q name given h)))
   mark_fact name given node h found = record {
     told = by_reason node.ready (try_node q name given h) (node_tried q name given h);
     wrote = wrote_by name (with_mark (whole_second (wall doc q.process k)) node) found.held (marked_fit node found.fit) (try_node q name given h);
@@ -189,36 +217,36 @@ module _ (names : Texts) (c : ℕ) (fixed : HoldsFixed names) (doc : Doc) (k : �
   }
     where
       by_reason : (r : Option Ready) (o : Option Answer) → IsTried o → IsTold names (actor_of q) (map_answer (λ a. act.Marked name (marked (whole_second (wall doc q.process k)) r).reason a) o)
-      by_reason None o tried = told_by _ (λ a is. (record { form = is; held = (found.held, (omega (arith, fixed), tt)); timely = tt }, refl)) o tried
-      by_reason (Some r) o tried = told_by _ (λ a is. (record { form = is; held = (found.held, (omega (arith, fixed), tt)); timely = tt }, refl)) o tried
+      by_reason None o tried = told_by _ (λ a is. (record { form = is; held = (found.held.0, (omega (arith, fixed.held), tt)); timely = tt }, refl)) o tried
+      by_reason (Some r) o tried = told_by _ (λ a is. (record { form = is; held = (found.held.0, (omega (arith, fixed.held), tt)); timely = tt }, refl)) o tried
 
-  untaint_fact : (name : ℕ) (given : Version) (node : Node) (h : List Entry) → IsFitFound names c name node
-      → IsFitFact names c (actor_of q) (Ticks (Untaint name given (untainted node) (try_node q name given h)))
+  untaint_fact : (name : ℕ) (given : Version) (node : Node) (h : List Entry) → IsFitFound names known name node
+      → IsFitFact names known (actor_of q) (Ticks (Untaint name given (untainted node) (try_node q name given h)))
   untaint_fact name given node h found = record {
-    told = told_by (λ a. act.Untainted name a) (λ a is. (record { form = is; held = (found.held, tt); timely = tt }, refl)) (try_node q name given h) (node_tried q name given h);
+    told = told_by (λ a. act.Untainted name a) (λ a is. (record { form = is; held = (found.held.0, tt); timely = tt }, refl)) (try_node q name given h) (node_tried q name given h);
     wrote = wrote_by name (untainted node) found.held (untainted_fit node found.fit) (try_node q name given h);
     carries = tt;
   }
 
-  swap_fact : (name wanted : ℕ) (given : Version) (node : Node) (h : List Entry) → is_condition_key wanted ≡ true → IsFitFound names c name node
-      → IsFitFact names c (actor_of q) (Ticks (Swap name wanted given (swapped (new_taint doc k q wanted) node) (try_node q name given h)))
+  swap_fact : (name wanted : ℕ) (given : Version) (node : Node) (h : List Entry) → is_condition_key wanted ≡ true → IsFitFound names known name node
+      → IsFitFact names known (actor_of q) (Ticks (Swap name wanted given (swapped (new_taint doc k q wanted) node) (try_node q name given h)))
   swap_fact name wanted given node h key found = let held = condition_held wanted key in record {
-    told = told_by (λ a. act.Swapped name wanted a) (λ a is. (record { form = and_both (is_condition_key wanted) (answers_write a) key is; held = (found.held, (held, tt)); timely = tt }, refl))
+    told = told_by (λ a. act.Swapped name wanted a) (λ a is. (record { form = and_both (is_condition_key wanted) (answers_write a) key is; held = (found.held.0, (held.0, tt)); timely = tt }, refl))
         (try_node q name given h) (node_tried q name given h);
-    wrote = wrote_by name (swapped (new_taint doc k q wanted) node) found.held (swapped_fit wanted node held found.fit) (try_node q name given h);
+    wrote = wrote_by name (swapped (new_taint doc k q wanted) node) found.held (swapped_fit wanted node key found.fit) (try_node q name given h);
     carries = tt;
   }
 
-  head_fact : (place : Place) (name wanted : ℕ) (given : Version) (node : Node) (h : List Entry) → is_condition_key wanted ≡ true → IsFitFound names c name node
-      → IsFitFact names c (actor_of q) (Ticks (Head place name wanted given (tainted_with (new_taint doc k q wanted) node) (try_node q name given h)))
-  head_fact place name wanted given node h key found = let held = condition_held wanted key in record {
-    told = told_by (λ a. act.Tainted name wanted a) (λ a is. (record { form = and_both (is_condition_key wanted) (answers_write a) key is; held = (found.held, (held, tt)); timely = tt }, refl))
+  head_fact : (place : Place) (name wanted : ℕ) (given : Version) (node : Node) (h : List Entry) → is_condition_key wanted ≡ true → has_condition node ≡ false → IsFitFound names known name node
+      → IsFitFact names known (actor_of q) (Ticks (Head place name wanted given (tainted_with (new_taint doc k q wanted) node) (try_node q name given h)))
+  head_fact place name wanted given node h key none found = let held = condition_held wanted key in record {
+    told = told_by (λ a. act.Tainted name wanted a) (λ a is. (record { form = and_both (is_condition_key wanted) (answers_write a) key is; held = (found.held.0, (held.0, tt)); timely = tt }, refl))
         (try_node q name given h) (node_tried q name given h);
-    wrote = wrote_by name (tainted_with (new_taint doc k q wanted) node) found.held (tainted_fit wanted node held found.fit) (try_node q name given h);
+    wrote = wrote_by name (tainted_with (new_taint doc k q wanted) node) found.held (tainted_fit wanted node key none found.fit) (try_node q name given h);
     carries = tt;
   }
 
-  delete_wrote : (pod : Key) (o : Option Answer) → IsFitWrite names c (try_write (pod, None) o)
+  delete_wrote : (pod : Key) (o : Option Answer) → IsFitWrite names known (try_write (pod, None) o)
   delete_wrote pod None = tt
   delete_wrote pod (Some (answers.Done version)) = tt
   delete_wrote pod (Some answers.Absent) = tt
@@ -230,10 +258,10 @@ module _ (names : Texts) (c : ℕ) (fixed : HoldsFixed names) (doc : Doc) (k : �
     where
       by_seen : (o : Option Held) → seen q pod h ≡ o → as_kind pod_in o ≡ Some (given, x) → IsHeld names pod.space × IsHeld names pod.name
       by_seen None at is = absurd (none_is (given, x) is)
-      by_seen (Some y) at is = let item = seen_fit names c q h fit pod y at in (item.space, item.name)
+      by_seen (Some y) at is = let item = seen_fit names known q h fit pod y at in (space_held names fixed pod item.named, item.named.0.0)
 
   delete_fact : (pod : Key) (given node_given : Version) (at : ℕ) (a : Option Answer) (h : List Entry) → Fit h → IsDelete doc k q pod given node_given at a h
-      → IsFitFact names c (actor_of q) (Ticks (Delete pod given node_given at a))
+      → IsFitFact names known (actor_of q) (Ticks (Delete pod given node_given at a))
   delete_fact pod given node_given at a h fit made = record {
     told = told_by (λ a. act.Evicted pod (record { 0 = at }) a) (λ a is. (record { form = and_both (is_pod pod.kind) (answers_write a) made.kind is; held = (held.0, (held.1, tt)); timely = due }, refl)) a
         (subst IsTried (sym made.is) (pod_tried q pod given made.x.node node_given h));
@@ -252,17 +280,17 @@ module _ (names : Texts) (c : ℕ) (fixed : HoldsFixed names) (doc : Doc) (k : �
   abbrev IsHeldPlace : Place → Type 0
   IsHeldPlace place = IsHeld names place.region × IsHeld names place.zone
 
-  among_fit : (h : List Entry) → Fit h → (ns : List ℕ) → AllByRecursion (IsWritableNode names) (nodes_among q ns h)
+  among_fit : (h : List Entry) → Fit h → (ns : List ℕ) → AllByRecursion (IsWellFormedNode names) (nodes_among q ns h)
   among_fit h fit [] = tt
   among_fit h fit (n ∷ ns) = by_seen (among_fit h fit ns) (seen_node q n h) refl
     where
-      by_seen : AllByRecursion (IsWritableNode names) (nodes_among q ns h) → (o : Option (Version × Node)) → seen_node q n h ≡ o → AllByRecursion (IsWritableNode names) (and_node o (nodes_among q ns h))
+      by_seen : AllByRecursion (IsWellFormedNode names) (nodes_among q ns h) → (o : Option (Version × Node)) → seen_node q n h ≡ o → AllByRecursion (IsWellFormedNode names) (and_node o (nodes_among q ns h))
       by_seen rest None is = rest
-      by_seen rest (Some x) is = ((node_seen_fit names c q h fit n x is).fit, rest)
+      by_seen rest (Some x) is = ((node_seen_fit names known q h fit n x is).fit, rest)
 
-  places_held : (ns : List Node) → AllByRecursion (IsWritableNode names) ns → AllByRecursion IsHeldPlace (places ns)
+  places_held : (ns : List Node) → AllByRecursion (IsWellFormedNode names) ns → AllByRecursion IsHeldPlace (places ns)
   places_held [] all = tt
-  places_held (n ∷ ns) all = all_once place_cmp IsHeldPlace (place_of n) (places ns) (all.0.region, all.0.zone) (places_held ns all.1)
+  places_held (n ∷ ns) all = all_once place_cmp IsHeldPlace (place_of n) (places ns) (all.0.region.0, all.0.zone.0) (places_held ns all.1)
 
   -- ---- the walk
 
@@ -274,7 +302,7 @@ module _ (names : Texts) (c : ℕ) (fixed : HoldsFixed names) (doc : Doc) (k : �
   those f Q keeps [] h all fit = fit
   those f Q keeps (x ∷ xs) h all fit = those f Q keeps xs (f x h) all.1 (keeps x h all.0 fit)
 
-  silent : (t : Tick) (h : List Entry) → IsTold names (actor_of q) (tick_act t) → IsFitWrite names c (tick_write t) → Fit h → Fit (add k q t h)
+  silent : (t : Tick) (h : List Entry) → IsTold names (actor_of q) (tick_act t) → IsFitWrite names known (tick_write t) → Fit h → Fit (add k q t h)
   silent t h told wrote fit = (record { told = told; wrote = wrote; carries = tt }, fit)
 
   keeps_sync : (h : List Entry) → Fit h → Fit (sync doc k q h)
@@ -288,7 +316,7 @@ module _ (names : Texts) (c : ℕ) (fixed : HoldsFixed names) (doc : Doc) (k : �
   keeps_mark name h fit = by_seen (seen_node q name h) refl
     where
       by_test : (x : Version × Node) → seen_node q name h ≡ Some x → (b : Bool) → Fit (mark_as k q name x.0 (when b (with_mark (whole_second (wall doc q.process k)) x.1)) h)
-      by_test x is true = (mark_fact name x.0 x.1 h (node_seen_fit names c q h fit name x is), fit)
+      by_test x is true = (mark_fact name x.0 x.1 h (node_seen_fit names known q h fit name x is), fit)
       by_test x is false = fit
 
       by_seen : (o : Option (Version × Node)) → seen_node q name h ≡ o → Fit (mark_seen doc k q name o h)
@@ -333,15 +361,15 @@ module _ (names : Texts) (c : ℕ) (fixed : HoldsFixed names) (doc : Doc) (k : �
   keeps_clean : (name : ℕ) (h : List Entry) → Fit h → Fit (clean doc k q name h)
   keeps_clean name h fit = by_stale (is_stale q (node_key name) h) (seen_node q name h) refl
     where
-      by_untaint : (x : Version × Node) → IsFitFound names c name x.1 → (b : Bool) → Fit (untaint_if k q name x.0 x.1 b h)
+      by_untaint : (x : Version × Node) → IsFitFound names known name x.1 → (b : Bool) → Fit (untaint_if k q name x.0 x.1 b h)
       by_untaint x found false = fit
       by_untaint x found true = (untaint_fact name x.0 x.1 h found, fit)
 
-      by_swap : (x : Version × Node) → IsFitFound names c name x.1 → (wanted : ℕ) → is_condition_key wanted ≡ true → (b : Bool) → Fit (swap_if doc k q name x.0 x.1 wanted b h)
+      by_swap : (x : Version × Node) → IsFitFound names known name x.1 → (wanted : ℕ) → is_condition_key wanted ≡ true → (b : Bool) → Fit (swap_if doc k q name x.0 x.1 wanted b h)
       by_swap x found wanted key false = fit
       by_swap x found wanted key true = (swap_fact name wanted x.0 x.1 h key found, fit)
 
-      by_wants : (x : Version × Node) → IsFitFound names c name x.1 → (w : Wants) → IsWantedKey (wanted_key w) → Fit (clean_as doc k q name x.0 x.1 w h)
+      by_wants : (x : Version × Node) → IsFitFound names known name x.1 → (w : Wants) → IsWantedKey (wanted_key w) → Fit (clean_as doc k q name x.0 x.1 w h)
       by_wants x found Nothing key = by_untaint x found (has_condition x.1)
       by_wants x found (Wanted wanted) key = by_swap x found wanted key (list_any (is_opposite wanted) x.1.taints)
       by_wants x found Whatever key = fit
@@ -349,7 +377,7 @@ module _ (names : Texts) (c : ℕ) (fixed : HoldsFixed names) (doc : Doc) (k : �
       by_stale : (b : Bool) (o : Option (Version × Node)) → seen_node q name h ≡ o → Fit (clean_seen doc k q name b o h)
       by_stale true o is = fit
       by_stale false None is = fit
-      by_stale false (Some x) is = by_wants x (node_seen_fit names c q h fit name x is) (wants (mode q h) x.1) (wanted_fit (mode q h) x.1)
+      by_stale false (Some x) is = by_wants x (node_seen_fit names known q h fit name x is) (wants (mode q h) x.1) (wanted_fit (mode q h) x.1)
 
   keeps_taint : (place : Place) (h : List Entry) → Fit h → Fit (taint doc k q place h)
   keeps_taint place h fit = by_token (has_token doc q k place h)
@@ -358,7 +386,7 @@ module _ (names : Texts) (c : ℕ) (fixed : HoldsFixed names) (doc : Doc) (k : �
       by_seen name None waiting x is = fit
       by_seen name (Some wanted) waiting None is = fit
       by_seen name (Some wanted) waiting (Some x) is =
-          (head_fact place name wanted x.0 x.1 h (waits_fit (mode q h) place (seen_node q name h) wanted waiting) (node_seen_fit names c q h fit name x is), fit)
+          (head_fact place name wanted x.0 x.1 h (waits_fit (mode q h) place (seen_node q name h) wanted waiting) (bare_fit (mode q h) place (seen_node q name h) x wanted is waiting) (node_seen_fit names known q h fit name x is), fit)
 
       by_head : (o : Option Queued) → Fit (taint_head doc k q place o h)
       by_head None = fit
@@ -369,7 +397,7 @@ module _ (names : Texts) (c : ℕ) (fixed : HoldsFixed names) (doc : Doc) (k : �
       by_token true = by_head (head_of q place (node_names h) h)
 
   keeps_evict : (pod : Key) (h : List Entry) → IsPodKey pod → Fit h → Fit (evict doc k q pod h)
-  keeps_evict pod h kind fit = evict_step doc k q (AreFit names c) pod h kind fit (λ given node_given at a made. (delete_fact pod given node_given at a h fit made, fit))
+  keeps_evict pod h kind fit = evict_step doc k q (AreFit names known) pod h kind fit (λ given node_given at a made. (delete_fact pod given node_given at a h fit made, fit))
 
   evicts : (keys : List Key) (h : List Entry) → Each IsPodKey keys → Fit h → Fit (for_each (evict doc k q) keys h)
   evicts [] h all fit = fit

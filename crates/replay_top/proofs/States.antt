@@ -1,5 +1,5 @@
 -- The objects that a world shows are the state, by their order and their look-ups; and how a state is answered.
-use Rattle.std.proofs.Common.{◌≡◌, ◌⊎◌, ◌<◌, ◌≤◌, ◌+◌, ℕ, Bool, true, false, cond, List, [], ◌∷◌, Option, Some, None, Less, Equal, Greater, inl, inr, refl, sym, ap, ◌∙◌, subst, arith}
+use Rattle.std.proofs.Common.{◌≡◌, ◌⊎◌, ◌<◌, ◌≤◌, ◌+◌, ℕ, Bool, true, false, cond, List, [], ◌∷◌, Option, Some, None, option_map, Result, Ok, Err, IfOk, Less, Equal, Greater, inl, inr, refl, sym, ap, ◌∙◌, subst, arith}
 use Rattle.std.proofs.lemmas.Bool.{false≢true, le-leb, lt-leb}
 use Rattle.std.proofs.lemmas.Bool.Decides.{nat_tests}
 use Rattle.std.proofs.lemmas.Cmp.{nat_cmp_total, on_total, then_total}
@@ -20,7 +20,14 @@ use Rattle.kube_objects.specs.Entry.{Entry}
 use Rattle.kube_objects.specs.Keys.{key_cmp, key_eq, kind_rank}
 use Rattle.kube_objects.specs.Newest.{join, newest, when}
 use Rattle.kube_objects.specs.Stored.{Held, Write, at_key, holds, last_write, stored, write_of}
+use Rattle.history.specs.History.{history}
+use Rattle.kube_base.specs.Names.{AreNames}
+use Rattle.manifest_json.specs.Readable.{IsReadable}
+use Rattle.naming_laws.specs.WellFormed.{AreWithinLimits}
+use Rattle.naming_laws.proofs.Kept.{states_readable}
 use Rattle.object_store.specs.StoreAnswers.{object_of}
+use Rattle.script_reader.specs.Lawful.{IsLawfulDoc, IsWellNamed}
+use Rattle.script_reader.specs.Walk.{numbers_of}
 use Rattle.script_reader.specs.declared.document.Document.{Document}
 use Rattle.replay_top.specs.Outcome.{done, of_whole, refused, state_answer}
 use Rattle.replay_top.specs.State.{state_text, and_stored, and_written, stored_after, stored_at}
@@ -236,6 +243,23 @@ pub items-stored : (h : List Entry) (items : Items) → IsStrictlySortedBy key_c
     → items ≡ stored_after h
 items-stored h items ascend found =
     same_items items (stored_after h) ascend (ordered_at h h) (λ q. found q ∙ sym (lookups h q))
+
+-- ---- a state is read back
+
+as_objects : (o : Option Held) → object_of o ≡ option_map (λ (x : Held). x.object) o
+as_objects None = refl
+as_objects (Some x) = refl
+
+-- within the limits it is such as a List gives
+pub state-readable : (names : List (List ℕ)) (doc : Doc) (k : ℕ) → AreNames names → IsLawfulDoc doc → IsWellNamed names doc → k ≤ end_beat doc + 1
+    → AreWithinLimits (stored_after (history doc k)) → IsReadable names (numbers_of doc.controllers) (stored_after (history doc k))
+state-readable names doc k are lawful named within few =
+    let h = history doc k in
+    states_readable names doc are lawful named k within (stored_after h) (ordered_at h h) (λ q. lookups h q ∙ as_objects (stored q h)) few
+
+pub ok-then : {A E : Type 0} {P Q : Type 0} (r : Result A E) → (P → Q) → IfOk r (λ x. P) → IfOk r (λ x. Q)
+ok-then (Ok x) then holds = then holds
+ok-then (Err e) then holds = tt
 
 -- ---- how many beats are done
 

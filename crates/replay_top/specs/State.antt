@@ -15,6 +15,7 @@ use Rattle.manifest_json.specs.Fields.{Texts}
 use Rattle.manifest_json.specs.Readable.{IsReadable}
 use Rattle.manifest_json.specs.Walk.{list_walk}
 use Rattle.manifest_json.specs.Written.{list_of}
+use Rattle.naming_laws.specs.WellFormed.{AreWithinLimits}
 use Rattle.script_reader.specs.declared.document.Document.{Document}
 use Rattle.script_reader.specs.Documents.{doc_of}
 use Rattle.script_reader.specs.Walk.{numbers_of}
@@ -63,6 +64,11 @@ pub record IsReadAgain (names : Texts) (known : List ℕ) (items : List (Key × 
   pub list : IsReadable names known items → (path : List ℕ)
       → list_walk names known path (list_of names known items) ≡ Ok ((items, 0), names)
 
--- so is a state
+-- The line of a state is read so too, where it passes no limit of a document's on objects, taints and tolerations
+pub record IsReadBack (names : Texts) (known : List ℕ) (items : List (Key × Object)) : Type 0 where
+  pub text : read (compact_text (list_of names known items)) ≡ Some (list_of names known items)
+  pub list : AreWithinLimits items → (path : List ℕ)
+      → list_walk names known path (list_of names known items) ≡ Ok ((items, 0), names)
+
 abbrev pub ReadsBack : Document → ℕ → Type 0
-ReadsBack d b = IsReadAgain d.names (numbers_of d.controllers) (state (doc_of d) b)
+ReadsBack d b = IsReadBack d.names (numbers_of d.controllers) (state (doc_of d) b)

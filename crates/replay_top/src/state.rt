@@ -80,7 +80,10 @@ fn text_after<L>(
     let first = World::new(alloc, document)?;
     let world = run_up_to(first, last, policies, steps)?;
     let items = world.objects()?;
-    list_line(alloc, world.names(), known.as_slice(), &items)
+    let names = world.names();
+    // They hold what every list of names does.
+    let _held = names.len();
+    list_line(alloc, names, known.as_slice(), &items)
 }
 
 /// The numbers of the names of processes.

@@ -4,6 +4,7 @@ use Rattle.std.proofs.lemmas.Bool.{lt-ltb, ltb-true}
 use Rattle.serde_json.specs.Data.{Data, Items, item}
 use Rattle.serde_json.specs.View.{view, items_view}
 use Rattle.serde_json.specs.declared.value.Value.{Value}
+use Rattle.kube_base.specs.declared.numbers.Beat.{Beat}
 use Rattle.kube_objects.specs.declared.script.Event.{Event}
 use Rattle.kube_objects.specs.declared.script.Proc.{Proc}
 use Rattle.kube_objects.specs.declared.settings.Settings.{Settings}
@@ -16,6 +17,7 @@ use Rattle.manifest_json.specs.Fields.{Texts}
 use Rattle.manifest_json.specs.Walk.{items_len, member_path}
 use Rattle.script_reader.specs.Fields.{at_most}
 use Rattle.script_reader.specs.Walk.{Cast, controller_at, controllers_from, kubelet_at, kubelets_from, event_at, events_from}
+use Rattle.script_reader.specs.declared.parts.Scope.{Scope}
 use Rattle.script_reader.specs.declared.table.Version.{Version}
 
 items_len-view : (vs : List Value) → items_len (items_view vs) ≡ length vs
@@ -77,21 +79,22 @@ behind_one : (done : List Event) (e : Event) (walk : Result (List Event × Texts
 behind_one done e (Ok x) = ap (λ es. Ok (es, x.1)) (sym (append_assoc done (e ∷ []) x.0))
 behind_one done e (Err r) = refl
 
-events_from-step : (cast : Cast) (end : ℕ) (names new : Texts) (place last : ℕ) (done : List Event) (d : Data) (rest : Items) (event : Event)
-    → event_at cast end names last (member_path [] (codes "/events/") place) d ≡ Ok (event, new)
-    → behind_these done (events_from cast end names place last (item d rest)) ≡ behind_these (done ++ event ∷ []) (events_from cast end new (place + 1) event.beat.0 rest)
+events_from-step : (scope : Scope) (cast : Cast) (names new : Texts) (place last : ℕ) (done : List Event) (d : Data) (rest : Items) (event : Event)
+    → event_at scope cast names last done (member_path [] (codes "/events/") place) d ≡ Ok (event, new)
+    → behind_these done (events_from scope cast names place last done (item d rest))
+    ≡ behind_these (done ++ event ∷ []) (events_from scope cast new (place + 1) event.beat.0 (done ++ event ∷ []) rest)
 unfolding events_from
-events_from-step cast end names new place last done d rest event h =
-    ap (λ r. behind_these done (r >>= λ next. events_from cast end next.1 (place + 1) next.0.beat.0 rest >>= λ more. Ok (next.0 ∷ more.0, more.1))) h
-    ∙ behind_one done event (events_from cast end new (place + 1) event.beat.0 rest)
+events_from-step scope cast names new place last done d rest event h =
+    ap (λ r. behind_these done (r >>= λ next. events_from scope cast next.1 (place + 1) next.0.beat.0 (done ++ next.0 ∷ []) rest >>= λ more. Ok (next.0 ∷ more.0, more.1))) h
+    ∙ behind_one done event (events_from scope cast new (place + 1) event.beat.0 (done ++ event ∷ []) rest)
 
-events_from-fails : (e : ReadFault) (cast : Cast) (end : ℕ) (names : Texts) (place last : ℕ) (done : List Event) (d : Data) (rest : Items)
-    → Fails e (event_at cast end names last (member_path [] (codes "/events/") place) d)
-    → Fails e (behind_these done (events_from cast end names place last (item d rest)))
+events_from-fails : (e : ReadFault) (scope : Scope) (cast : Cast) (names : Texts) (place last : ℕ) (done : List Event) (d : Data) (rest : Items)
+    → Fails e (event_at scope cast names last done (member_path [] (codes "/events/") place) d)
+    → Fails e (behind_these done (events_from scope cast names place last done (item d rest)))
 unfolding events_from
-events_from-fails e cast end names place last done d rest h =
+events_from-fails e scope cast names place last done d rest h =
     Fails-then e _ (λ more. Ok (done ++ more.0, more.1))
-    (Fails-then e _ (λ next. events_from cast end next.1 (place + 1) next.0.beat.0 rest >>= λ more. Ok (next.0 ∷ more.0, more.1)) h)
+    (Fails-then e _ (λ next. events_from scope cast next.1 (place + 1) next.0.beat.0 (done ++ next.0 ∷ []) rest >>= λ more. Ok (next.0 ∷ more.0, more.1)) h)
 
 -- what a loop over an array knows of its next member
 module _ (names : Texts) (place : ℕ) (vs : List Value) where
@@ -131,29 +134,34 @@ module _ (names : Texts) (place : ℕ) (vs : List Value) where
     unfolding kubelets_from
     kubelets-end le = so_far ∙ ap (kubelets_from settings names place earlier) (items_view-end vs place le)
 
-  module _ (cast : Cast) (end last : ℕ) (done : List Event) (start : Result (List Event × Texts) Refusal)
-      (so_far : start ≡ behind_these done (events_from cast end names place last (items_view (drop place vs)))) where
+  module _ (scope : Scope) (cast : Cast) (last : ℕ) (done : List Event) (start : Result (List Event × Texts) Refusal)
+      (so_far : start ≡ behind_these done (events_from scope cast names place last done (items_view (drop place vs)))) where
     pub events-fail : (v : Value) (e : ReadFault) → place < length vs → v ≡ get_or vs place v
-        → Fails e (event_at cast end names last (member_path [] (codes "/events/") place) (view v)) → Fails e start
-    events-fail v e lt is h = rw (so_far, items_view-drop vs place v lt (sym is)) (events_from-fails e cast end names place last done (view v) _ h)
+        → Fails e (event_at scope cast names last done (member_path [] (codes "/events/") place) (view v)) → Fails e start
+    events-fail v e lt is h = rw (so_far, items_view-drop vs place v lt (sym is)) (events_from-fails e scope cast names place last done (view v) _ h)
 
-    pub events-step : (v : Value) (new : Texts) (event : Event) (more : List Event) → place < length vs → v ≡ get_or vs place v → more ≡ done ++ event ∷ []
-        → event_at cast end names last (member_path [] (codes "/events/") place) (view v) ≡ Ok (event, new)
-        → start ≡ behind_these more (events_from cast end new (place + 1) event.beat.0 (items_view (drop (place + 1) vs)))
-    events-step v new event more lt is push h =
-        so_far ∙ ap (λ ds. behind_these done (events_from cast end names place last ds)) (items_view-drop vs place v lt (sym is))
-        ∙ events_from-step cast end names new place last done (view v) _ event h
-        ∙ ap (λ es. behind_these es (events_from cast end new (place + 1) event.beat.0 (items_view (drop (place + 1) vs)))) (sym push)
+    pub events-step : (v : Value) (new : Texts) (event : Event) (more : List Event) (beat : Beat) → place < length vs → v ≡ get_or vs place v → more ≡ done ++ event ∷ [] → beat ≡ event.beat
+        → event_at scope cast names last done (member_path [] (codes "/events/") place) (view v) ≡ Ok (event, new)
+        → start ≡ behind_these more (events_from scope cast new (place + 1) beat.0 more (items_view (drop (place + 1) vs)))
+    events-step v new event more beat lt is push same h =
+        so_far ∙ ap (λ ds. behind_these done (events_from scope cast names place last done ds)) (items_view-drop vs place v lt (sym is))
+        ∙ events_from-step scope cast names new place last done (view v) _ event h
+        ∙ ap (λ es. behind_these es (events_from scope cast new (place + 1) event.beat.0 es (items_view (drop (place + 1) vs)))) (sym push)
+        ∙ ap (λ b. behind_these more (events_from scope cast new (place + 1) b.0 more (items_view (drop (place + 1) vs)))) (sym same)
 
     pub events-end : length vs ≤ place → start ≡ Ok (done, names)
     unfolding events_from
     events-end le =
-        so_far ∙ ap (λ ds. behind_these done (events_from cast end names place last ds)) (items_view-end vs place le)
+        so_far ∙ ap (λ ds. behind_these done (events_from scope cast names place last done ds)) (items_view-end vs place le)
         ∙ ap (λ es. Ok (es, names)) (append_empty done)
       where
         append_empty : (es : List Event) → es ++ [] ≡ es
         append_empty [] = refl
         append_empty (e ∷ es) = ap (λ xs. e ∷ xs) (append_empty es)
 
-pub events-start : (done : List Event) (walk : Result (List Event × Texts) Refusal) → done ≡ [] → walk ≡ behind_these done walk
-events-start done walk is = sym (behind_none walk) ∙ ap (λ es. behind_these es walk) (sym is)
+pub events-start : (scope : Scope) (cast : Cast) (names : Texts) (vs : List Value) (done : List Event) (last : ℕ) → done ≡ [] → last ≡ 0
+    → events_from scope cast names 0 0 [] (items_view vs) ≡ behind_these done (events_from scope cast names 0 last done (items_view vs))
+events-start scope cast names vs done last none zero =
+    sym (behind_none (events_from scope cast names 0 0 [] (items_view vs)))
+    ∙ ap (λ es. behind_these es (events_from scope cast names 0 0 es (items_view vs))) (sym none)
+    ∙ ap (λ k. behind_these done (events_from scope cast names 0 k done (items_view vs))) (sym zero)

@@ -15,8 +15,8 @@ use Rattle.kube_objects.specs.declared.settings.Settings.{Settings}
 use Rattle.kube_objects.specs.Document.{Doc, is_controller, processes, end_beat}
 use Rattle.kube_objects.specs.Keys.{key_eq}
 use Rattle.kube_objects.specs.Kinds.{IsOfKind}
-use Rattle.kube_objects.specs.Pauses.{AreUnpaused}
 use Rattle.kube_objects.specs.Stored.{election}
+use Rattle.history.specs.Sound.{AreApart}
 use Rattle.manifest_json.specs.Fields.{Texts}
 use Rattle.manifest_json.specs.Readable.{IsNameNumber, IsReadableItem, AreKeyedApart, IsReadable}
 use Rattle.manifest_json.specs.Walk.{kind_count, kind_limit}
@@ -117,7 +117,7 @@ pub record IsLawfulDoc (doc : Doc) : Type 0 where
   pub few_objects : (kind : Kind) → kind_count kind doc.objects ≤ kind_limit kind
   pub events : AreLawfulFrom doc 0 doc.events
   pub few_events : length doc.events ≤ 100000
-  pub unpaused : AreUnpaused doc.events
+  pub apart : AreApart doc.events
 
 -- ---- names
 

@@ -13,10 +13,16 @@ use Rattle.script_reader.specs.declared.table.Table.TheVariants as tables
 use Rattle.script_reader.specs.declared.table.Version.{Version}
 use Rattle.script_reader.specs.declared.table.Version.TheVariants as versions
 
--- keys of version 2 alone
-abbrev pub is_two : Version → Bool
-is_two versions.One = false
-is_two versions.Two = true
+-- version 2 or a later one
+abbrev pub is_from_two : Version → Bool
+is_from_two versions.One = false
+is_from_two versions.Two = true
+is_from_two versions.Three = true
+
+abbrev pub is_three : Version → Bool
+is_three versions.One = false
+is_three versions.Two = false
+is_three versions.Three = true
 
 abbrev pub is_top_key : List ℕ → Bool
 is_top_key key =
@@ -44,14 +50,14 @@ is_rates_key key =
 abbrev pub is_settings_key : Version → List ℕ → Bool
 is_settings_key version key =
     is_beats_key key || is_timings_key key || is_periods_key key || is_rates_key key || bytes_eq key (codes "fastRenew")
-    || (is_two version && bytes_eq key (codes "ratePolicy"))
+    || (is_from_two version && bytes_eq key (codes "ratePolicy"))
 
 abbrev pub is_clock_key : List ℕ → Bool
 is_clock_key key = bytes_eq key (codes "ratePpm") || bytes_eq key (codes "offsetMillis") || bytes_eq key (codes "up")
 
 abbrev pub is_controller_key : Version → List ℕ → Bool
 is_controller_key version key =
-    bytes_eq key (codes "name") || is_clock_key key || bytes_eq key (codes "watch") || (is_two version && is_timings_key key)
+    bytes_eq key (codes "name") || is_clock_key key || bytes_eq key (codes "watch") || (is_from_two version && is_timings_key key)
 
 abbrev pub is_kubelet_key : List ℕ → Bool
 is_kubelet_key key = bytes_eq key (codes "node") || is_clock_key key || bytes_eq key (codes "ready")
@@ -66,6 +72,7 @@ is_type_key types.Start key = bytes_eq key (codes "process")
 is_type_key types.Stop key = bytes_eq key (codes "process")
 is_type_key types.Watch key = bytes_eq key (codes "process") || bytes_eq key (codes "on")
 is_type_key types.Ready key = bytes_eq key (codes "process") || bytes_eq key (codes "status")
+is_type_key types.Pause key = bytes_eq key (codes "process") || bytes_eq key (codes "beats")
 is_type_key types.Put key = bytes_eq key (codes "object")
 is_type_key types.Remove key = bytes_eq key (codes "kind") || bytes_eq key (codes "namespace") || bytes_eq key (codes "name")
 

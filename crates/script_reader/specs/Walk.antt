@@ -12,6 +12,7 @@ use Rattle.kube_base.specs.Names.{fixed_names}
 use Rattle.kube_base.specs.declared.numbers.Beat.{Beat}
 use Rattle.kube_base.specs.declared.numbers.ProcId.{ProcId}
 use Rattle.kube_objects.specs.Keys.{key_eq}
+use Rattle.kube_objects.specs.Pauses.{pause_of}
 use Rattle.kube_objects.specs.Stored.{election}
 use Rattle.kube_objects.specs.declared.key.Key.{Key}
 use Rattle.kube_objects.specs.declared.key.Kind.{Kind}
@@ -37,6 +38,7 @@ use Rattle.script_reader.specs.declared.parts.Beats.{Beats}
 use Rattle.script_reader.specs.declared.parts.Clock.{Clock}
 use Rattle.script_reader.specs.declared.parts.Periods.{Periods}
 use Rattle.script_reader.specs.declared.parts.Rates.{Rates}
+use Rattle.script_reader.specs.declared.parts.Scope.{Scope}
 use Rattle.script_reader.specs.declared.parts.Timings.{Timings}
 use Rattle.script_reader.specs.declared.table.EventType.{EventType}
 use Rattle.script_reader.specs.declared.table.EventType.TheVariants as types
@@ -49,7 +51,7 @@ use Rattle.script_reader.specs.declared.cast.Sort.TheVariants as sorts
 use Rattle.script_reader.specs.Fields.{under, default_of, required, whole_at, needed_whole, signed_at, flag_at, needed_flag}
 use Rattle.script_reader.specs.Fields.{needed_text, needed_name, name_at, posted_at, needed_posted, policy_at, epoch_at}
 use Rattle.script_reader.specs.Fields.{object_at, array_in}
-use Rattle.script_reader.specs.Tables.{known_in}
+use Rattle.script_reader.specs.Tables.{known_in, is_three}
 
 -- an object with no key that its table doesn't have
 unfoldable pub object_in : Table → List ℕ → Data → Result Data Refusal
@@ -358,6 +360,12 @@ abbrev pub object_under : Cast → Texts → List ℕ → Data → Result ((Key 
 object_under cast names path d =
     required (under path (codes "object")) (object_walk names cast.controllers (under path (codes "object"))) (get (codes "object") d)
 
+unfoldable pub pause_at : Cast → Texts → List ℕ → Data → Result What Refusal
+pause_at cast names path d = do
+  who ← process_at (process_named cast names) path d
+  beats ← needed_whole 1 604_800_000 path (codes "beats") d
+  Ok (whats.Pause who beats)
+
 unfoldable pub put_at : Cast → Texts → List ℕ → Data → Result (What × Texts) Refusal
 put_at cast names path d = do
   found ← object_under cast names path d
@@ -401,11 +409,13 @@ what_at cast names path types.Start d = beside names (start_at cast names path d
 what_at cast names path types.Stop d = beside names (stop_at cast names path d)
 what_at cast names path types.Watch d = beside names (watch_at cast names path d)
 what_at cast names path types.Ready d = beside names (ready_at cast names path d)
+what_at cast names path types.Pause d = beside names (pause_at cast names path d)
 what_at cast names path types.Put d = put_at cast names path d
 what_at cast names path types.Remove d = remove_at names path d
 
-abbrev pub type_of : List ℕ → Option EventType
-type_of text =
+-- a type of events; a pause is one from version 3 on
+abbrev pub type_of : Version → List ℕ → Option EventType
+type_of version text =
     if bytes_eq text (codes "rate") then Some types.Rate
     else (if bytes_eq text (codes "delay") then Some types.Delay
     else (if bytes_eq text (codes "loss") then Some types.Loss
@@ -414,13 +424,14 @@ type_of text =
     else (if bytes_eq text (codes "stop") then Some types.Stop
     else (if bytes_eq text (codes "watch") then Some types.Watch
     else (if bytes_eq text (codes "ready") then Some types.Ready
+    else (if bytes_eq text (codes "pause") && is_three version then Some types.Pause
     else (if bytes_eq text (codes "put") then Some types.Put
-    else (if bytes_eq text (codes "remove") then Some types.Remove else None)))))))))
+    else (if bytes_eq text (codes "remove") then Some types.Remove else None))))))))))
 
-unfoldable pub type_at : List ℕ → Data → Result EventType Refusal
-type_at path d = do
+unfoldable pub type_at : Version → List ℕ → Data → Result EventType Refusal
+type_at version path d = do
   text ← needed_text path (codes "type") d
-  or_refuse (type_of text) OUT_OF_RANGE (under path (codes "type"))
+  or_refuse (type_of version text) OUT_OF_RANGE (under path (codes "type"))
 
 abbrev pub is_election : Key → Bool
 is_election key = key_eq key election
@@ -439,41 +450,61 @@ edits_election (whats.Pause who beats) = false
 edits_election (whats.Put key object) = is_election key
 edits_election (whats.Remove key) = is_election key
 
--- the own rules of an event: it isn't before an earlier event nor after the end, and it leaves the election Lease alone
-abbrev pub if_event : ℕ → ℕ → List ℕ → ℕ → What → Texts → Result (Event × Texts) Refusal
-if_event end last path beat what names =
-    if nat_lt beat last || nat_lt end beat then refuse EVENT_ORDER path
-    else (if edits_election what then refuse ELECTION_LEASE_EDIT path else Ok (record { beat = record { 0 = beat }; what = what }, names))
+-- a pause that begins at a beat `from` ends at beat k or later
+abbrev pub reaches : ℕ → ℕ → Option ℕ → Bool
+reaches k from None = false
+reaches k from (Some beats) = nat_le k (from + beats)
 
--- an event, where the earlier ones are at most at the beat `last`
-unfoldable pub event_at : Cast → ℕ → Texts → ℕ → List ℕ → Data → Result (Event × Texts) Refusal
-event_at cast end names last path value = do
+-- an event pauses the process up to beat k or longer
+abbrev pub pauses_up_to : ℕ → ℕ → Event → Bool
+pauses_up_to p k e = reaches k e.beat.0 (pause_of p e.what)
+
+abbrev pub is_paused_up_to : ℕ → ℕ → List Event → Bool
+is_paused_up_to p k events = list_any (pauses_up_to p k) events
+
+-- a pause at beat k of a process that an earlier event pauses up to that beat or longer, so that it wouldn't go on between both
+abbrev pub is_too_soon : List Event → ℕ → What → Bool
+is_too_soon earlier k (whats.Pause who beats) = is_paused_up_to who.0 k earlier
+is_too_soon earlier k _ = false
+
+-- the own rules of an event: it isn't before an earlier event nor after the end, pauses no process too soon after an earlier pause of it,
+-- and leaves the election Lease alone
+abbrev pub if_event : ℕ → ℕ → List Event → List ℕ → ℕ → What → Texts → Result (Event × Texts) Refusal
+if_event end last earlier path beat what names =
+    if nat_lt beat last || nat_lt end beat then refuse EVENT_ORDER path
+    else (if is_too_soon earlier beat what then refuse BAD_SETTINGS path
+    else (if edits_election what then refuse ELECTION_LEASE_EDIT path else Ok (record { beat = record { 0 = beat }; what = what }, names)))
+
+-- an event behind these earlier ones, which are at most at the beat `last`
+unfoldable pub event_at : Scope → Cast → Texts → ℕ → List Event → List ℕ → Data → Result (Event × Texts) Refusal
+event_at scope cast names last earlier path value = do
   d ← object_at WRONG_TYPE path value
   beat ← needed_whole 0 604_800_000 path (codes "beat") d
-  kind ← type_at path d
+  kind ← type_at scope.version path d
   known ← known_in (tables.Event kind) path d
   what ← what_at cast names path kind known
-  if_event end last path beat what.0 what.1
+  if_event scope.end.0 last earlier path beat what.0 what.1
 
--- the events from a place on
-unfoldable pub events_from : Cast → ℕ → Texts → ℕ → ℕ → Items → Result (List Event × Texts) Refusal
-events_from cast end names place last no_items = Ok ([], names)
-events_from cast end names place last (item d rest) = do
-  next ← event_at cast end names last (member_path [] (codes "/events/") place) d
-  more ← events_from cast end next.1 (place + 1) next.0.beat.0 rest
+-- the events from a place on, behind earlier ones
+unfoldable pub events_from : Scope → Cast → Texts → ℕ → ℕ → List Event → Items → Result (List Event × Texts) Refusal
+events_from scope cast names place last earlier no_items = Ok ([], names)
+events_from scope cast names place last earlier (item d rest) = do
+  next ← event_at scope cast names last earlier (member_path [] (codes "/events/") place) d
+  more ← events_from scope cast next.1 (place + 1) next.0.beat.0 (earlier ++ next.0 ∷ []) rest
   Ok (next.0 ∷ more.0, more.1)
 
-unfoldable pub events_in : Cast → ℕ → Texts → Data → Result (List Event × Texts) Refusal
-events_in cast end names d = do
+unfoldable pub events_in : Scope → Cast → Texts → Data → Result (List Event × Texts) Refusal
+events_in scope cast names d = do
   all ← array_in 100_000 (codes "/events") d
-  events_from cast end names 0 0 all
+  events_from scope cast names 0 0 [] all
 
 -- ---- the document
 
 abbrev pub version_of : ℕ → Result Version Refusal
 version_of n =
     if n == 1 then Ok versions.One
-    else (if n == 2 then Ok versions.Two else refuse TOP_SHAPE (codes "/version"))
+    else (if n == 2 then Ok versions.Two
+    else (if n == 3 then Ok versions.Three else refuse TOP_SHAPE (codes "/version")))
 
 abbrev pub version_unless : Option ℤ → Result Version Refusal
 version_unless None = refuse WRONG_TYPE (codes "/version")
@@ -483,7 +514,7 @@ abbrev pub version_or : Option ℕ → Option ℤ → Result Version Refusal
 version_or None signed = version_unless signed
 version_or (Some n) signed = version_of n
 
--- the whole number 1 or 2
+-- the whole number 1, 2 or 3
 abbrev pub version_in : Data → Result Version Refusal
 version_in d = version_or (option_and_then as_u64 (as_number d)) (option_and_then as_i64 (as_number d))
 
@@ -493,6 +524,9 @@ numbers_of procs = map (λ p. p.name) procs
 
 abbrev pub cast_of : List Proc → List Proc → Cast
 cast_of controllers kubelets = record { controllers = numbers_of controllers; kubelets = numbers_of kubelets }
+
+abbrev pub scope_of : Version → Settings → Scope
+scope_of version s = record { version = version; end = s.end_beat }
 
 abbrev pub no_objects : Objects
 no_objects = record { items = []; skipped = 0 }
@@ -511,7 +545,7 @@ document_at value = do
   controllers ← required (codes "/controllers") (controllers_in version settings fixed_names) (get (codes "controllers") d)
   kubelets ← default_of ([], controllers.1) (kubelets_in settings controllers.1) (get (codes "kubelets") d)
   objects ← default_of (no_objects, kubelets.1) (objects_in kubelets.1 (numbers_of controllers.0)) (get (codes "objects") d)
-  events ← default_of ([], objects.1) (events_in (cast_of controllers.0 kubelets.0) settings.end_beat.0 objects.1) (get (codes "events") d)
+  events ← default_of ([], objects.1) (events_in (scope_of version settings) (cast_of controllers.0 kubelets.0) objects.1) (get (codes "events") d)
   Ok (record {
     settings = settings;
     controllers = controllers.0;

@@ -4,15 +4,20 @@ ghost use Rattle.serde_json.specs.View.{view, items_view};
 ghost use Rattle.manifest_json.specs.Faults.{Gives};
 ghost use Rattle.manifest_json.specs.Walk.{member_path};
 ghost use Rattle.script_reader.specs.Cast.{AreNamed, seen};
+ghost use Rattle.script_reader.specs.Scripts.{IsIndexed};
 ghost use Rattle.script_reader.specs.Walk as walk;
 
 use crate::cast::Players;
 use crate::field::{array_in, member_of, needed_text, needed_whole, object_at, or_refuse, path_of};
-use crate::table::{EventType, Table, known_in};
+use crate::parts::Scope;
+use crate::script::Script;
+use crate::table::{EventType, Table, Version, is_three, known_in};
 use crate::what::what_at;
 use kube_base::{Beat, KUBE_CONTROLLER_MANAGER, KUBE_SYSTEM, Names};
 use kube_objects::{Event, Events, Key, Kind, What};
-use manifest_json::codes::{ELECTION_LEASE_EDIT, EVENT_ORDER, OUT_OF_RANGE, WRONG_TYPE};
+use manifest_json::codes::{
+    BAD_SETTINGS, ELECTION_LEASE_EDIT, EVENT_ORDER, OUT_OF_RANGE, WRONG_TYPE,
+};
 use manifest_json::fault::fault;
 use manifest_json::{Path, ReadFault};
 use serde_json::Value;
@@ -23,68 +28,68 @@ use std::alloc::Global;
 pub(crate) fn events_in(
     alloc: Global,
     players: &Players,
-    end: Beat,
+    scope: Scope,
     names: &mut Names,
     value: &Value,
 ) -> Result<Events, ReadFault>
     requires { AreNamed players.now }
     ensures { Gives (λ events. (events, names.new)) result
-        (walk.events_in (seen players.now) end.0 names.old (view value.now)) }
+        (walk.events_in scope (seen players.now) names.old (view value.now)) }
 {
     let path = path_of(alloc, "/events")?;
     let all = array_in(100_000, &path, value)?;
-    events_of(alloc, players, end, names, all)
+    events_of(alloc, players, scope, names, all)
 }
 
 fn events_of(
     alloc: Global,
     players: &Players,
-    end: Beat,
+    scope: Scope,
     names: &mut Names,
     list: &[Value],
 ) -> Result<Events, ReadFault>
     requires { AreNamed players.now }
     ensures { Gives (λ events. (events, names.new)) result
-        (walk.events_from (seen players.now) end.0 names.old 0 0 (items_view list.now)) }
+        (walk.events_from scope (seen players.now) names.old 0 0 [] (items_view list.now)) }
 {
-    let mut events = Events::new(alloc);
-    let mut last: u32 = 0;
+    let mut script = Script::new(alloc);
     for (place, value) in list.iter().enumerate() {
-        match event_at(alloc, players, end, names, last, place, value) {
-            Ok(event) => {
-                last = event.beat.0;
-                events.push(event)?;
-            }
+        match event_at(alloc, players, scope, names, &script, place, value) {
+            Ok(event) => script.push(event)?,
             Err(fault) => return Err(fault),
         }
     }
-    Ok(events)
+    Ok(script.events)
 }
 
-/// An event, where the earlier ones are at most at the beat `last`.
+/// An event behind these earlier ones.
 #[tactic(auto, unfolding(crate::specs::Walk::event_at))]
 fn event_at(
     alloc: Global,
     players: &Players,
-    end: Beat,
+    scope: Scope,
     names: &mut Names,
-    last: u32,
+    earlier: &Script,
     place: usize,
     value: &Value,
 ) -> Result<Event, ReadFault>
-    requires { AreNamed players.now }
+    requires named { AreNamed players.now }
+    requires indexed { IsIndexed earlier.now }
     ensures { Gives (λ event. (event, names.new)) result
-        (walk.event_at (seen players.now) end.0 names.old last
+        (walk.event_at scope (seen players.now) names.old earlier.now.last.0 earlier.now.events
         (member_path [] (codes "/events/") place) (view value.now)) }
 {
     let path = member_of(alloc, "/events/", place)?;
     object_at(WRONG_TYPE, &path, value)?;
     let beat = needed_whole(0, 604_800_000, &path, "beat", value)?;
-    let kind = type_at(&path, value)?;
+    let kind = type_at(scope.version, &path, value)?;
     known_in(Table::Event(kind), &path, value)?;
     let what = what_at(alloc, players, names, &path, kind, value)?;
-    if beat < last || end.0 < beat {
+    if beat < earlier.last.0 || scope.end.0 < beat {
         return Err(fault(EVENT_ORDER, &path));
+    }
+    if earlier.is_too_soon(beat, &what) {
+        return Err(fault(BAD_SETTINGS, &path));
     }
     if edits_election(&what) {
         return Err(fault(ELECTION_LEASE_EDIT, &path));
@@ -96,15 +101,16 @@ fn event_at(
 }
 
 #[tactic(auto, unfolding(crate::specs::Walk::type_at))]
-fn type_at(path: &Path, value: &Value) -> Result<EventType, ReadFault>
-    ensures { Gives (λ kind. kind) result (walk.type_at path.now (view value.now)) }
+fn type_at(version: Version, path: &Path, value: &Value) -> Result<EventType, ReadFault>
+    ensures { Gives (λ kind. kind) result (walk.type_at version path.now (view value.now)) }
 {
     let text = needed_text(path, "type", value)?;
-    or_refuse(type_of(text), OUT_OF_RANGE, path, "type")
+    or_refuse(type_of(version, text), OUT_OF_RANGE, path, "type")
 }
 
-fn type_of(text: &str) -> Option<EventType>
-    ensures { result ≡ walk.type_of text.now }
+/// A type of events. A pause is one from version 3 on.
+fn type_of(version: Version, text: &str) -> Option<EventType>
+    ensures { result ≡ walk.type_of version text.now }
 {
     if text == "rate" {
         Some(EventType::Rate)
@@ -122,6 +128,8 @@ fn type_of(text: &str) -> Option<EventType>
         Some(EventType::Watch)
     } else if text == "ready" {
         Some(EventType::Ready)
+    } else if text == "pause" && is_three(version) {
+        Some(EventType::Pause)
     } else if text == "put" {
         Some(EventType::Put)
     } else if text == "remove" {

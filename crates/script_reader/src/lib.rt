@@ -9,10 +9,11 @@ pub mod parts;
 mod premise;
 mod process;
 mod reading;
+mod script;
 mod settings;
 pub mod table;
 mod what;
 
 pub use document::Document;
-pub use premise::lease_premise;
+pub use premise::{ClockRates, lease_premise, longest_pause, rates_of};
 pub use reading::{document_of, read_document, read_value};

@@ -1,4 +1,5 @@
 // Keys of the document that are read together.
+use crate::table::Version;
 use kube_base::{Beat, Wall};
 
 /// The beats: how long one is, which is the last, and the time of day at the first.
@@ -43,4 +44,11 @@ pub struct Clock {
     pub rate_ppm: u32,
     pub offset_millis: i64,
     pub up: bool,
+}
+
+/// What holds for all events of a document: its version, and its last beat.
+#[derive(Clone, Copy, Debug)]
+pub struct Scope {
+    pub version: Version,
+    pub end: Beat,
 }

@@ -9,12 +9,12 @@ use crate::Document;
 use kube_base::Beat;
 use kube_objects::{Proc, What};
 
-// The least and greatest of a clock's rates from a beat on, in parts per million.
+/// The least and greatest of a clock's rates from a beat on, in parts per million.
 #[derive(Clone, Copy, Debug)]
-struct ClockRates {
+pub struct ClockRates {
     from: u64,
-    least: u32,
-    greatest: u32,
+    pub least: u32,
+    pub greatest: u32,
 }
 
 impl ClockRates {
@@ -44,8 +44,8 @@ impl ClockRates {
     }
 }
 
-// The rates of a controller's clock at the beats up to the end.
-fn rates_of(document: &Document, controller: usize) -> ClockRates
+/// The rates of a controller's clock at the beats up to the end.
+pub fn rates_of(document: &Document, controller: usize) -> ClockRates
     requires { controller < length document.now.controllers }
     ensures least { result.least ≡ least_rate (doc_of document.now) controller (end_beat (doc_of document.now)) }
     ensures greatest { result.greatest ≡ greatest_rate (doc_of document.now) controller (end_beat (doc_of document.now)) }
@@ -75,8 +75,8 @@ fn with_pause(longest: u64, beats: u32) -> u64
     longest.max(u64::from(beats) + 1)
 }
 
-// One more than the beats of a controller's longest pause, or nothing where it has none.
-fn longest(document: &Document, controller: usize) -> u64
+/// One more than the beats of a controller's longest pause, or nothing where it has none.
+pub fn longest_pause(document: &Document, controller: usize) -> u64
     ensures is { result ≡ longest (doc_of document.now) controller }
     ensures fits { result ≤ 4294967296 }
 {
@@ -119,7 +119,7 @@ fn is_long(document: &Document, controller: usize, greatest: u32) -> bool
     let process = document.controllers.as_slice()[controller];
     outlasts(
         process,
-        longest(document, controller),
+        longest_pause(document, controller),
         document.settings.beat_millis,
         rates_of(document, controller).least,
         greatest,

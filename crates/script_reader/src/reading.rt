@@ -12,10 +12,11 @@ use crate::Document;
 use crate::cast::{Named, Players};
 use crate::event::events_in;
 use crate::field::{fault_at, object_at, path_of};
+use crate::parts::Scope;
 use crate::process::{controllers_in, kubelets_in};
 use crate::settings::settings_at;
 use crate::table::{Table, Version, known_in};
-use kube_base::{Beat, Names};
+use kube_base::Names;
 use kube_objects::{Events, Items, Settings};
 use manifest_json::codes::{BAD_JSON, MISSING_KEY, TOP_SHAPE, WRONG_TYPE};
 use manifest_json::{Objects, ReadFault, read_list};
@@ -62,7 +63,11 @@ pub fn document_of(alloc: Global, value: &Value) -> Result<Document, ReadFault>
         controllers,
         kubelets,
     };
-    let events = events(alloc, &players, settings.end_beat, &mut names, value)?;
+    let scope = Scope {
+        version,
+        end: settings.end_beat,
+    };
+    let events = events(alloc, &players, scope, &mut names, value)?;
     let Players {
         controllers,
         kubelets,
@@ -97,7 +102,7 @@ fn version(alloc: Global, value: &Value) -> Result<Version, ReadFault>
     }
 }
 
-/// The whole number 1 or 2.
+/// The whole number 1, 2 or 3.
 fn version_in(alloc: Global, found: &Value) -> Result<Version, ReadFault>
     ensures { Gives (λ version. version) result (walk.version_in (view found.now)) }
 {
@@ -117,6 +122,8 @@ fn version_of(alloc: Global, n: u64) -> Result<Version, ReadFault>
         Ok(Version::One)
     } else if n == 2 {
         Ok(Version::Two)
+    } else if n == 3 {
+        Ok(Version::Three)
     } else {
         Err(fault_at(alloc, TOP_SHAPE, "/version"))
     }
@@ -212,16 +219,16 @@ fn objects_in(
 fn events(
     alloc: Global,
     players: &Players,
-    end: Beat,
+    scope: Scope,
     names: &mut Names,
     value: &Value,
 ) -> Result<Events, ReadFault>
     requires { AreNamed players.now }
     ensures { Gives (λ events. (events, names.new)) result
-        (fields.default_of ([], names.old) (walk.events_in (seen players.now) end.0 names.old) (get (codes "events") (view value.now))) }
+        (fields.default_of ([], names.old) (walk.events_in scope (seen players.now) names.old) (get (codes "events") (view value.now))) }
 {
     match value.get("events") {
-        Some(found) => events_in(alloc, players, end, names, found),
+        Some(found) => events_in(alloc, players, scope, names, found),
         None => Ok(Events::new(alloc)),
     }
 }

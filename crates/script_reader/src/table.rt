@@ -17,6 +17,7 @@ use serde_json::{Map, Value};
 pub enum Version {
     One,
     Two,
+    Three,
 }
 
 /// The types of events.
@@ -30,6 +31,7 @@ pub enum EventType {
     Stop,
     Watch,
     Ready,
+    Pause,
     Put,
     Remove,
 }
@@ -96,12 +98,24 @@ fn is_key_of(table: Table, key: &str) -> bool
     }
 }
 
-fn is_two(version: Version) -> bool
-    ensures { result ≡ spec.is_two version }
+/// Whether the version is 2 or a later one.
+fn is_from_two(version: Version) -> bool
+    ensures { result ≡ spec.is_from_two version }
 {
     match version {
         Version::One => false,
         Version::Two => true,
+        Version::Three => true,
+    }
+}
+
+pub(crate) fn is_three(version: Version) -> bool
+    ensures { result ≡ spec.is_three version }
+{
+    match version {
+        Version::One => false,
+        Version::Two => false,
+        Version::Three => true,
     }
 }
 
@@ -158,7 +172,7 @@ fn is_settings_key(version: Version, key: &str) -> bool
         || is_periods_key(key)
         || is_rates_key(key)
         || key == "fastRenew"
-        || (is_two(version) && key == "ratePolicy")
+        || (is_from_two(version) && key == "ratePolicy")
 }
 
 fn is_clock_key(key: &str) -> bool
@@ -170,7 +184,10 @@ fn is_clock_key(key: &str) -> bool
 fn is_controller_key(version: Version, key: &str) -> bool
     ensures { result ≡ spec.is_controller_key version key.now }
 {
-    key == "name" || is_clock_key(key) || key == "watch" || (is_two(version) && is_timings_key(key))
+    key == "name"
+        || is_clock_key(key)
+        || key == "watch"
+        || (is_from_two(version) && is_timings_key(key))
 }
 
 fn is_kubelet_key(key: &str) -> bool
@@ -192,6 +209,7 @@ fn is_type_key(kind: EventType, key: &str) -> bool
         EventType::Stop => key == "process",
         EventType::Watch => key == "process" || key == "on",
         EventType::Ready => key == "process" || key == "status",
+        EventType::Pause => key == "process" || key == "beats",
         EventType::Put => key == "object",
         EventType::Remove => key == "kind" || key == "namespace" || key == "name",
     }

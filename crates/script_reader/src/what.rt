@@ -58,6 +58,7 @@ pub(crate) fn what_at(
             let status = needed_status(path, "status", value)?;
             Ok(What::Ready(id, status))
         }
+        EventType::Pause => Ok(pause_at(players, names, path, value)?),
         EventType::Put => put_at(alloc, players, names, path, value),
         EventType::Remove => remove_at(names, path, value),
     }
@@ -85,6 +86,17 @@ fn loss_at(players: &Players, names: &Names, path: &Path, value: &Value) -> Resu
     let requests = needed_flag(path, "requests", value)?;
     let replies = needed_flag(path, "replies", value)?;
     Ok(What::Loss(id, requests, replies))
+}
+
+#[tactic(auto, unfolding(crate::specs::Walk::pause_at))]
+fn pause_at(players: &Players, names: &Names, path: &Path, value: &Value) -> Result<What, ReadFault>
+    requires { AreNamed players.now }
+    ensures { Gives (λ what. what) result
+        (walk.pause_at (seen players.now) names.now path.now (view value.now)) }
+{
+    let id = process_at(Sort::Any, players, names, path, value)?;
+    let beats = needed_whole(1, 604_800_000, path, "beats", value)?;
+    Ok(What::Pause(id, beats))
 }
 
 /// The process of an event, which is of this sort.

@@ -95,6 +95,13 @@ impl Clock {
         Ok(())
     }
 
+    /// The last beat that it knows of.
+    pub fn end(&self) -> Beat
+        ensures { result.0 ≡ self.now.end }
+    {
+        self.end
+    }
+
     /// The reading at a beat, in units of 10^-12 s.
     pub fn local(&self, beat: Beat) -> Local
         requires { beat.0 ≤ self.now.end }

@@ -1,2 +1,5 @@
 pub mod Waking
+pub mod Acting
+pub mod Resuming
 pub mod Looking
+pub mod Going

@@ -1,11 +1,14 @@
 -- The beats at which processes are woken.
-use Rattle.std.specs.Prelude.{◌≡◌, ℕ, max, ◌&&◌, ◌<◌, ◌≤◌, false, List, Option, Some, None}
+use Rattle.std.specs.Prelude.{◌≡◌, ℕ, max, ◌==◌, ◌&&◌, ◌||◌, ◌<◌, ◌≤◌, nat_le, not, Bool, true, false, List, Option, Some, None}
 use Rattle.kube_base.specs.declared.numbers.Beat.{Beat}
 use Rattle.kube_objects.specs.Clocks.{local, wall}
 use Rattle.kube_objects.specs.Document.{Doc, processes, end_beat}
 use Rattle.kube_objects.specs.Entry.{Entry}
-use Rattle.agenda_laws.specs.Ahead.{IsNextBelow}
+use Rattle.kube_objects.specs.Newest.{when}
+use Rattle.kube_objects.specs.Pauses.{is_paused, resume}
+use Rattle.agenda_laws.specs.Ahead.{IsAhead, IsNextBelow}
 use Rattle.agenda_laws.specs.Times.{is_early}
+use Rattle.agenda_laws.specs.Waking.{IsAsleep, wakes_of}
 use Rattle.skew_clock.specs.Clocking.{Clocking, wall_of}
 use Rattle.world_core.specs.declared.wakes.Wakes.{Wakes}
 use Rattle.world_core.specs.Waits.{beat_of, reading_of, starts_now}
@@ -26,7 +29,28 @@ pub record IsWoken (doc : Doc) (p : ℕ) (w : Wakes) (b : Option Beat) : Type 0 
       → is_early j (beat_of b) ≡ (is_early (local doc p j) (reading_of w) && is_early (wall doc p j) w.wall)
   pub within : (n : ℕ) → beat_of b ≡ Some n → n ≤ end_beat doc
 
+-- the first beat from beat k to the end at which something is there that the process waits for, paused or not
+pub record IsNextDue (doc : Doc) (k p : ℕ) (h : List Entry) (due : Option ℕ) : Type 0 where
+  pub quiet : (j : ℕ) → k ≤ j → j ≤ end_beat doc → is_early j due ≡ true → IsAsleep doc j p (wakes_of doc p h)
+  pub there : (j : ℕ) → k ≤ j → j ≤ end_beat doc → is_early j due ≡ false → ¬ IsAsleep doc j p (wakes_of doc p h)
+  pub ahead : (n : ℕ) → due ≡ Some n → IsAhead doc k n
+
+-- the first beat from this one on at which the process isn't paused, where that comes no later than the end
+abbrev pub resumed : Doc → ℕ → Option ℕ → Option ℕ
+resumed doc p None = None
+resumed doc p (Some n) = when (nat_le (resume doc p n) (end_beat doc)) (resume doc p n)
+
+-- the process does something in beat k that is there at once: it starts in beat 0, or it isn't paused
+abbrev pub goes_now : Doc → ℕ → ℕ → Wakes → Bool
+goes_now doc k p w = w.at_once && ((k == 0) || not (is_paused doc p k))
+
+-- the beat is the first from beat k to the end at which something is there that the process waits for
+pub record IsDue (doc : Doc) (k p : ℕ) (w : Wakes) (b : Option Beat) : Type 0 where
+  pub reached : (j : ℕ) → k ≤ j → j ≤ end_beat doc
+      → is_early j (beat_of b) ≡ (not w.at_once && (is_early (local doc p j) (reading_of w) && is_early (wall doc p j) w.wall))
+  pub ahead : (n : ℕ) → beat_of b ≡ Some n → IsAhead doc k n
+
 -- none of the processes below p starts now; where none at all does, this is the next beat but for the turns from p on
 pub record IsLooked (doc : Doc) (k p : ℕ) (h : List Entry) (b : Option Beat) : Type 0 where
   pub idle : (i : ℕ) → i < p → starts_now doc k i ≡ false
-  pub below : ((i : ℕ) → i < processes doc → starts_now doc k i ≡ false) → IsNextBelow doc k p h (not_before k (beat_of b))
+  pub below : ((i : ℕ) → i < processes doc → starts_now doc k i ≡ false) → IsNextBelow doc k p h (beat_of b)

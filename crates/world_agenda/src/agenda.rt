@@ -8,7 +8,7 @@ ghost use Rattle.agenda_laws.specs.Times.{is_early, sooner as soonest};
 ghost use Rattle.script_reader.specs.Lawful.{AreLawfulFrom};
 ghost use Rattle.world_core.specs.Waits.{beat_of};
 ghost use Rattle.world_core.specs.Worlds.{IsReady, WorldStands, at_of, count_of, end_of};
-ghost use Rattle.world_agenda.specs.Woken.{IsTimeBeat, IsWoken, not_before as since};
+ghost use Rattle.world_agenda.specs.Woken.{IsDue, IsTimeBeat, IsWoken, goes_now, not_before as since, resumed};
 
 use agenda_laws::{beats_wake_by_causes, next_beats_are_soonest};
 use kube_base::{Beat, ProcId, Wall};
@@ -34,15 +34,16 @@ pub fn next_beat(world: &World) -> Option<Beat>
     for i in 0..world.processes() {
         let who = ProcId(i);
         let wakes = world.wakes(who);
-        if wakes.at_once {
+        if goes_at_once(world, who, &wakes, at) {
             return Some(at);
         }
-        next = sooner(next, beat_of_waking(world, who, &wakes));
+        let due = due_beat(world, who, &wakes, at);
+        next = sooner_turn(world, who, due, next);
     }
-    not_before(next, at)
+    next
 }
 
-// Whether the beat of an event or a message is there.
+// Whether there is a beat, and it comes no later than another.
 fn is_there(first: Option<Beat>, at: Beat) -> bool
     ensures { result ≡ not (is_early at.0 (beat_of first)) }
 {
@@ -50,6 +51,55 @@ fn is_there(first: Option<Beat>, at: Beat) -> bool
         None => false,
         Some(first) => first.0 <= at.0,
     }
+}
+
+// Whether a process does something in the next beat that is there at once: it starts in beat 0, also in a pause, and else it isn't paused.
+fn goes_at_once(world: &World, who: ProcId, wakes: &Wakes, at: Beat) -> bool
+    requires ready { IsReady world.now }
+    requires within { at.0 ≤ end_of world.now }
+    requires process { who.0 < count_of world.now }
+    ensures { (doc : Doc) (k : ℕ) (h : List Entry) → WorldStands doc k h world.now → end_of world.now ≡ end_beat doc
+        → result ≡ goes_now doc at.0 who.0 wakes.now }
+{
+    wakes.at_once && (at.0 == 0 || world.resume(who, at).0 == at.0)
+}
+
+// The first beat from the next one on at which something is there that a process waits for, paused or not.
+fn due_beat(world: &World, who: ProcId, wakes: &Wakes, at: Beat) -> Option<Beat>
+    requires ready { IsReady world.now }
+    requires within { at.0 ≤ end_of world.now }
+    requires process { who.0 < count_of world.now }
+    ensures { (doc : Doc) (k : ℕ) (h : List Entry) → WorldStands doc k h world.now → end_of world.now ≡ end_beat doc
+        → IsDue doc at.0 who.0 wakes.now result }
+{
+    if wakes.at_once {
+        return Some(at);
+    }
+    not_before(beat_of_waking(world, who, wakes), at)
+}
+
+// The sooner of a beat and the one at which a process goes on for which something is due.
+fn sooner_turn(world: &World, who: ProcId, due: Option<Beat>, next: Option<Beat>) -> Option<Beat>
+    requires ready { IsReady world.now }
+    requires process { who.0 < count_of world.now }
+    ensures { (doc : Doc) (k : ℕ) (h : List Entry) → WorldStands doc k h world.now → end_of world.now ≡ end_beat doc
+        → beat_of result ≡ soonest (beat_of next) (resumed doc who.0 (beat_of due)) }
+{
+    let Some(due) = due else {
+        return next;
+    };
+    if is_there(next, due) {
+        return next;
+    }
+    let end = world.clock(who).end();
+    if end.0 < due.0 {
+        return next;
+    }
+    let goes_on = world.resume(who, due);
+    if end.0 < goes_on.0 {
+        return next;
+    }
+    sooner(next, Some(goes_on))
 }
 
 // The first beat at which the reading or the time of day is there for which a process waits.

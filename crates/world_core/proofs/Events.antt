@@ -5,7 +5,6 @@ use Rattle.std.proofs.lemmas.Option.{slice_get_within, get_or_from_slice_get}
 use Rattle.kube_objects.specs.declared.script.Event.{Event}
 use Rattle.kube_objects.specs.Document.{Doc}
 use Rattle.kube_objects.specs.Entry.{Entry}
-use Rattle.kube_objects.specs.Pauses.{AreUnpaused, IsNoPause}
 use Rattle.history.specs.Steps.{happens, happens_if, happen_all}
 use Rattle.script_reader.specs.Lawful.{IsLawfulWhat, AreLawfulFrom}
 use Rattle.world_process.proofs.Names.{eq-self, eq-is, eq-isnt}
@@ -58,13 +57,6 @@ lawful-rest doc k e es now lawful = subst (λ n. AreLawfulFrom doc n es) now law
 
 pub lawful-what : (doc : Doc) (k : ℕ) (e : Event) (es : List Event) → AreLawfulFrom doc k (e ∷ es) → IsLawfulWhat doc e.what
 lawful-what doc k e es lawful = lawful.2
-
--- an event of a script that pauses nobody
-pub unpaused-at : (es : List Event) (n : ℕ) (e : Event) → slice_get es n ≡ Some e → AreUnpaused es → IsNoPause e.what
-unpaused-at [] zero e is none = cc
-unpaused-at [] (suc n) e is none = cc
-unpaused-at (x ∷ es) zero e is none = let same : x ≡ e = cc in subst (λ y. IsNoPause y.what) same none.0
-unpaused-at (x ∷ es) (suc n) e is none = unpaused-at es n e is none.1
 
 -- one event more lies before the place
 pub earlier-more : (k n : ℕ) (es : List Event) (x : Event) → slice_get es n ≡ Some x → x.beat.0 < k → ((i : ℕ) (e : Event) → i < n → slice_get es i ≡ Some e → e.beat.0 < k) →

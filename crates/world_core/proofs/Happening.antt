@@ -12,7 +12,7 @@ use Rattle.kube_objects.specs.Entry.{Entry, Identity, Release, Stops, Event as H
 use Rattle.kube_objects.specs.Identities.{identity}
 use Rattle.kube_objects.specs.InFlight.{requests_due, replies_due}
 use Rattle.kube_objects.specs.Newest.{only_if}
-use Rattle.kube_objects.specs.Pauses.{is_paused, IsNoPause}
+use Rattle.kube_objects.specs.Pauses.{is_paused}
 use Rattle.kube_objects.specs.Process.{alive}
 use Rattle.kube_objects.specs.Wire.{Sent, Back, request_delay, loses_requests, next_call, request_arrival}
 use Rattle.history.specs.Steps.{start_if_down, crash, stall, released, stop, happens, happen_all}
@@ -21,7 +21,7 @@ use Rattle.world_core.specs.declared.state.State.{State}
 use Rattle.world_process.specs.Plain.{IsFew}
 use Rattle.world_core.specs.States.{DocStands, IsPlaced, Running, Scripted}
 use Rattle.world_core.proofs.Beats.{not_due}
-use Rattle.world_core.proofs.Events.{drop-at, drop-past, happens-now, happen-earlier, happen-later, lawful-later, lawful-rest, lawful-what, unpaused-at, earlier-more}
+use Rattle.world_core.proofs.Events.{drop-at, drop-past, happens-now, happen-earlier, happen-later, lawful-later, lawful-rest, lawful-what, earlier-more}
 use Rattle.world_process.proofs.Grows.{grows-happen_all, few-before}
 
 -- ---- what an event sends arrives later
@@ -123,7 +123,7 @@ happening-first doc k before deeds arriving coming h w r placed =
     }
 
 pub happening-more : (doc : Doc) (k : ℕ) (before deeds new : List Deed) (arriving : List Sent) (coming : List Back) (h : List Entry) (w v : State) (e : Event) → (a : Happening doc k before arriving coming h w deeds) → slice_get doc.events w.place ≡ Some e → e.beat.0 ≡ k → v.place ≡ w.place + 1 →
-    IsFew (happen_all doc k doc.events h) → (IsLawfulWhat doc e.what → IsNoPause e.what → IsFew (happens doc k e.what a.now) → Running doc k before arriving coming (happens doc k e.what a.now) v new) → Happening doc k before arriving coming h v new
+    IsFew (happen_all doc k doc.events h) → (IsLawfulWhat doc e.what → IsFew (happens doc k e.what a.now) → Running doc k before arriving coming (happens doc k e.what a.now) v new) → Happening doc k before arriving coming h v new
 happening-more doc k before deeds new arriving coming h w v e a here beat place few happened =
     let rest = drop (w.place + 1) doc.events in
     let is : drop w.place doc.events ≡ e ∷ rest = drop-at doc.events w.place e here in
@@ -133,7 +133,7 @@ happening-more doc k before deeds new arriving coming h w v e a here beat place 
     let few_next : IsFew next = few-before next (happen_all doc k rest next) (grows-happen_all doc k rest next) (subst IsFew (sym on) few) in
     record {
       now = next;
-      running = happened (lawful-what doc k e rest lawful) (unpaused-at doc.events w.place e here a.running.world.rest.document.unpaused) few_next;
+      running = happened (lawful-what doc k e rest lawful) few_next;
       earlier = subst (λ n. (i : ℕ) (x : Event) → i < n → slice_get doc.events i ≡ Some x → x.beat.0 < k + 1) (sym place) (earlier-more (k + 1) w.place doc.events e here (omega (arith, beat)) a.earlier);
       later = subst (λ n. AreLawfulFrom doc k (drop n doc.events)) (sym place) (lawful-rest doc k e rest beat lawful);
       same = ap (λ n. happen_all doc k (drop n doc.events) next) place ∙ on;

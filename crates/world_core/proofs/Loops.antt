@@ -1,5 +1,5 @@
 -- Layer 4, the steps of a beat: the loops, what has been taken so far, and what is left.
-use Rattle.std.proofs.Common.{◌≡◌, ℕ, Bool, true, false, suc, ◌+◌, ◌-◌, ◌<◌, ◌++◌, List, [], ◌∷◌, Option, Some, None, length, refl, sym, ap, ◌∙◌, subst, arith}
+use Rattle.std.proofs.Common.{◌≡◌, ℕ, Bool, true, false, suc, ◌+◌, ◌-◌, ◌<◌, ◌++◌, not, List, [], ◌∷◌, Option, Some, None, length, refl, sym, ap, ◌∙◌, subst, arith}
 use Rattle.kube_objects.specs.declared.call.Reply.{Reply}
 use Rattle.kube_objects.specs.declared.deed.Actor.TheVariants as actor
 use Rattle.kube_objects.specs.declared.deed.Deed.{Deed}
@@ -24,6 +24,7 @@ use Rattle.world_process.specs.InForce.{InForceStands}
 use Rattle.world_process.specs.Moves.{own_turn, own_turn_as}
 use Rattle.world_process.specs.Plain.{IsKnown, IsFew, SentByKnown, BackToKnown}
 use Rattle.world_core.specs.States.{IsReady, SameDocument, Keeps, EachStands, Running}
+use Rattle.world_core.specs.Waits.{awake_turn, turn_if}
 use Rattle.world_process.proofs.Grows.{Grows, grows-on, grows-same, grows-entry, grows-delivered, grows-more_starts, grows-more_turns, grows-ticks, few-before}
 use Rattle.world_core.proofs.Known.{sent-later, back-later}
 use Rattle.world_core.proofs.Running.{Unmoved, doc-same, answered-running}
@@ -42,7 +43,7 @@ pub record Answering (doc : Doc) (k : ℕ) (before : List Deed) (arriving : List
 pub record Serves (doc : Doc) (k : ℕ) (rest : List Sent) (coming : List Back) (h : List Entry) (deeds new : List Deed) (v : State) (r : Reply) (x : Arrived) : Type 0 where
   pub answers : r ≡ answer x.request h
   pub store : (e : Entry) → write_of e.fact ≡ request_write x.request (written x.request h) → StoreStands (e ∷ h) v.store
-  pub wire : (q : Identity) (call : Call) (wrote : Option Object) → q ≡ identity x.who.0 x.incarnation → call.number ≡ x.number → WireStands (processes doc) k rest coming (entry k 2 q (Answers call r (reply_arrival doc q.process k h) wrote) ∷ h) v.wire
+  pub wire : (q : Identity) (call : Call) (wrote : Option Object) → q ≡ identity x.who.0 x.incarnation → call.number ≡ x.number → q.process < processes doc → WireStands (processes doc) k rest coming (entry k 2 q (Answers call r (reply_arrival doc q.process k h) wrote) ∷ h) v.wire
   pub told : new ≡ deeds ++ deeds_of k (actor.Proc x.who x.incarnation) (answer_act x.request r)
 
 serve-one : (doc : Doc) (k : ℕ) (before deeds new : List Deed) (s : Sent) (left rest : List Sent) (coming : List Back) (h : List Entry) (w v : State) (r : Reply) → Running doc k before left coming h w deeds → IsKnown (processes doc) h s.who → Unmoved w v → v.in_force ≡ w.in_force →
@@ -50,7 +51,7 @@ serve-one : (doc : Doc) (k : ℕ) (before deeds new : List Deed) (s : Sent) (lef
 serve-one doc k before deeds new s left rest coming h w v r run known unmoved in_force serves =
     answered-running doc k before deeds new left rest coming s h w v run known unmoved in_force
     (serves.store (entry k 2 s.who (Answers s.call (answer s.call.request h) (reply_arrival doc s.who.process k h) (written s.call.request h))) refl)
-    (subst (λ x. WireStands (processes doc) k rest coming (entry k 2 s.who (Answers s.call x (reply_arrival doc s.who.process k h) (written s.call.request h)) ∷ h) v.wire) serves.answers (serves.wire s.who s.call (written s.call.request h) refl refl))
+    (subst (λ x. WireStands (processes doc) k rest coming (entry k 2 s.who (Answers s.call x (reply_arrival doc s.who.process k h) (written s.call.request h)) ∷ h) v.wire) serves.answers (serves.wire s.who s.call (written s.call.request h) refl refl known.within))
     (serves.told ∙ ap (λ x. deeds ++ deeds_of k (actor_of s.who) (answer_act s.call.request x)) serves.answers)
 
 pub answering-more : (doc : Doc) (k : ℕ) (before deeds new : List Deed) (arriving : List Sent) (coming : List Back) (h : List Entry) (w v : State) (r : Reply) (x : Arrived) → (a : Answering doc k before arriving coming h w deeds) →
@@ -165,12 +166,16 @@ few-starts doc i n h less few =
     let all : suc i + (n - suc i) ≡ n = omega (arith, less) in
     few-before (starts_below doc (suc i) h) (starts_below doc n h) (subst (λ m. Grows (starts_below doc (suc i) h) (starts_below doc m h)) all (grows-more_starts doc (suc i) (n - suc i) h)) few
 
-pub few-own : (doc : Doc) (k p : ℕ) (h : List Entry) → is_paused doc p k ≡ false → IsFew (turn doc k p h) → IsFew (own_turn doc k p h)
-few-own doc k p h awake few = by_sort (is_controller doc p) (subst (λ b. IsFew (turn_unless doc k p b h)) awake few)
+pub few-own : (doc : Doc) (k p : ℕ) (h : List Entry) → IsFew (turn doc k p h) → IsFew (awake_turn doc k p h)
+few-own doc k p h few = by_pause (is_paused doc p k) few
   where
     by_sort : (b : Bool) → IsFew (turn_as doc k p b h) → IsFew (own_turn_as doc k p b h)
     by_sort true few = let g = elector_turn doc k p h in few-before g (ticks doc k p g) (grows-ticks doc k p g) few
     by_sort false few = few
+
+    by_pause : (b : Bool) → IsFew (turn_unless doc k p b h) → IsFew (turn_if doc k p (not b) h)
+    by_pause true few = few
+    by_pause false few = by_sort (is_controller doc p) few
 
 pub few-turns : (doc : Doc) (k i n : ℕ) (h : List Entry) → i < n → IsFew (turns doc k n h) → IsFew (turns doc k (suc i) h)
 few-turns doc k i n h less few =

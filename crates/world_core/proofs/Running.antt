@@ -75,7 +75,6 @@ doc-same doc k w v same count s =
       epoch = same.epoch ∙ s.epoch;
       micros = same.micros ∙ s.micros;
       events = same.events ∙ s.events;
-      unpaused = s.unpaused;
     }
 
 doc-moved : (doc : Doc) (k i : ℕ) (c0 c1 : Process) (w v : State) → Moved i c0 c1 w v → DocStands doc k w → DocStands doc k v

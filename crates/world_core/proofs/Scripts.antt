@@ -1,23 +1,24 @@
 -- Layer 3, the world around one process: the world through an entry of the script.
-use Rattle.std.proofs.Common.{◌≡◌, ℕ, ◌<◌, ◌++◌, ◌&&◌, not, Bool, true, false, List, ◌∷◌, Option, Some, None, length, length-append, refl, sym, ap, ◌∙◌, subst, append_assoc, arith}
+use Rattle.std.proofs.Common.{◌≡◌, ℕ, ◌<◌, ◌++◌, ◌==◌, ◌&&◌, not, Bool, true, false, List, ◌∷◌, Option, Some, None, length, length-append, refl, sym, ap, ◌∙◌, subst, append_assoc, arith}
 use Rattle.std.proofs.lemmas.List.{append-nil}
 use Rattle.kube_base.specs.declared.numbers.ProcId.{ProcId}
 use Rattle.kube_base.specs.declared.numbers.Version.{Version}
 use Rattle.kube_objects.specs.declared.call.Ask.{Ask}
+use Rattle.kube_objects.specs.declared.deed.Act.TheVariants as act
 use Rattle.kube_objects.specs.declared.deed.Actor.TheVariants as actor
 use Rattle.kube_objects.specs.declared.deed.Deed.{Deed}
 use Rattle.kube_objects.specs.declared.script.What.{What}
 use Rattle.kube_objects.specs.declared.script.What.TheVariants as what
 use Rattle.kube_objects.specs.Document.{Doc, processes, is_controller}
-use Rattle.kube_objects.specs.Entry.{Entry, Event, Crashes, Stops, entry, script_entry}
+use Rattle.kube_objects.specs.Entry.{Entry, Event, Crashes, Stops, Stalls, entry, script_entry, actor_of}
 use Rattle.kube_objects.specs.Identities.{identity}
-use Rattle.kube_objects.specs.Newest.{only_if}
+use Rattle.kube_objects.specs.Newest.{only_if, when}
 use Rattle.kube_objects.specs.Pauses.{is_paused}
 use Rattle.kube_objects.specs.Process.{alive, cancels}
 use Rattle.kube_objects.specs.Stored.{write_of}
 use Rattle.kube_objects.specs.Wire.{Sent, Back}
 use Rattle.history.specs.Printed.{printed, deeds_of, event_act}
-use Rattle.history.specs.Steps.{start_if_down, crash, happens}
+use Rattle.history.specs.Steps.{start_if_down, crash, stall, stop, happens}
 use Rattle.object_store.proofs.Keeps.{store-beside}
 use Rattle.object_store.specs.Stands.{StoreStands}
 use Rattle.wire_calls.specs.WireStands.{WireStands, is_of_wire}
@@ -28,11 +29,11 @@ use Rattle.world_process.specs.Processes.{ProcessStands, AsksOn, incarnation_of}
 use Rattle.world_process.specs.InForce.{InForceStands}
 use Rattle.world_process.specs.Moves.{stop_in, stopped}
 use Rattle.world_core.specs.States.{EachStands, Running, SendsAsked}
-use Rattle.world_core.proofs.Around.{Around, around-own, around-started, alive-known}
+use Rattle.world_core.proofs.Around.{Around, around-own, around-started, alive-known, rest-own}
 use Rattle.world_process.proofs.Forces.{sets_standing, in_force-beside}
-use Rattle.world_process.proofs.Names.{lt-from, eq-isnt}
+use Rattle.world_process.proofs.Names.{lt-from, eq-is, eq-isnt}
 use Rattle.world_process.proofs.Plainly.{known-later}
-use Rattle.world_process.proofs.Processes.{process-event}
+use Rattle.world_process.proofs.Processes.{process-event, process-stalled}
 use Rattle.world_process.proofs.Scripted.{plain-script}
 use Rattle.world_core.proofs.Running.{Moved, Unmoved, doc-same, within-asked, within-moved, printed-asked, told-more, unmoved-self}
 use Rattle.world_terms.specs.TermsStand.{TermsStand}
@@ -140,6 +141,51 @@ around-stop doc k id arriving coming h w within a = by_pause (not (is_paused doc
     by_pause : (b : Bool) → Around doc k id.0 arriving coming (stop_in k id.0 (only_if b (alive id.0 h)) g) w
     by_pause true = by_life (alive id.0 h) refl
     by_pause false = base
+
+-- ---- pauses
+
+-- a controller that is paused isn't stopped
+pub running-unstopped : (doc : Doc) (k : ℕ) (before deeds : List Deed) (arriving : List Sent) (coming : List Back) (h : List Entry) (w : State) (id : ProcId) → is_paused doc id.0 k ≡ true
+    → Running doc k before arriving coming h w deeds → Running doc k before arriving coming (happens doc k (what.Stop id) h) w deeds
+running-unstopped doc k before deeds arriving coming h w id paused r =
+    subst (λ g. Running doc k before arriving coming g w deeds) (sym base) (running-plain doc k before deeds arriving coming h w (what.Stop id) r refl refl refl (λ p. by_place p (id.0 == p) refl))
+  where
+    g : List Entry
+    g = scripted k (what.Stop id) None h
+
+    base : happens doc k (what.Stop id) h ≡ g
+    base = ap (λ b. stop doc k id.0 (only_if (not b) (alive id.0 h)) h g) paused
+
+    by_place : (p : ℕ) (b : Bool) → (id.0 == p) ≡ b → cancels doc p k (what.Stop id) ≡ false
+    by_place p true same = ap (λ b. b && not (is_paused doc p k)) same ∙ ap not (subst (λ n. is_paused doc n k ≡ true) (eq-is id.0 p same) paused)
+    by_place p false other = ap (λ b. b && not (is_paused doc p k)) other
+
+-- a pause is told of a process that is up
+pub running-stalled : (doc : Doc) (k : ℕ) (before deeds new : List Deed) (arriving : List Sent) (coming : List Back) (h : List Entry) (w : State) (id : ProcId) (beats i : ℕ) (up : Bool) → Running doc k before arriving coming h w deeds → id.0 < processes doc → alive id.0 h ≡ when up i
+    → new ≡ deeds ++ deeds_of k (actor_of (identity id.0 i)) (when up (act.Pause beats)) → Running doc k before arriving coming (happens doc k (what.Pause id beats) h) w new
+running-stalled doc k before deeds new arriving coming h w id beats i up r within lives new_is =
+    subst (λ o. Running doc k before arriving coming (stall k id.0 beats o g) w new) (sym lives) (by_life up lives new_is)
+  where
+    g : List Entry
+    g = scripted k (what.Pause id beats) None h
+
+    base : Running doc k before arriving coming g w deeds
+    base = running-plain doc k before deeds arriving coming h w (what.Pause id beats) r refl refl refl (λ p. refl)
+
+    by_life : (b : Bool) → alive id.0 h ≡ when b i → new ≡ deeds ++ deeds_of k (actor_of (identity id.0 i)) (when b (act.Pause beats)) → Running doc k before arriving coming (stall k id.0 beats (when b i) g) w new
+    by_life false lives new_is = subst (Running doc k before arriving coming g w) (sym (new_is ∙ append-nil deeds)) base
+    by_life true lives new_is =
+        let q = identity id.0 i in
+        let e = entry k 1 q (Stalls beats) in
+        let known = known-later (processes doc) (script_entry k 1 (Event (what.Pause id beats) None)) h q (alive-known (processes doc) id.0 i h r.world.rest.plain within lives) in
+        record {
+          world = record {
+            rest = rest-own doc k k 1 arriving coming q (Stalls beats) g w refl (known-later (processes doc) e g q known) base.world.rest;
+            processes = λ p c is. process-stalled doc p k 1 beats q g c (base.world.processes p c is);
+            terms = terms-beside doc g e w.terms refl base.world.terms;
+          };
+          told = told-more before deeds new (deeds_of k (actor_of q) (Some (act.Pause beats))) g (e ∷ g) base.told new_is refl;
+        }
 
 -- the process stands for the history with the event, and sends nothing
 pub running-moved : (doc : Doc) (k i : ℕ) (before deeds new more : List Deed) (arriving : List Sent) (coming : List Back) (h next : List Entry) (c0 c1 : Process) (w v : State) → Running doc k before arriving coming h w deeds → Moved i c0 c1 w v → v.wire ≡ w.wire →

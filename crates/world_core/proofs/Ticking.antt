@@ -15,7 +15,6 @@ use Rattle.kube_objects.specs.Process.{alive}
 use Rattle.kube_objects.specs.Tick.{add, sync, tick}
 use Rattle.kube_objects.specs.Wire.{Sent, Back, loses_requests}
 use Rattle.history.specs.Steps.{if_up, tick_as, turn, turn_as, turn_unless}
-use Rattle.kube_objects.proofs.Pauses.{not_paused}
 use Rattle.history_laws.proofs.Ticks.{walk_tick}
 use Rattle.beat_laws.specs.Unticked.{IsUntickedFrom}
 use Rattle.beat_laws.proofs.Names.{nodes_are_named}
@@ -39,7 +38,7 @@ use Rattle.world_process.proofs.Unheard.{and-false}
 use Rattle.world_terms.specs.TermsStand.{IsUpAs, Ticked}
 use Rattle.world_core.specs.declared.state.State.{State}
 use Rattle.world_core.specs.States.{EachStands, Running, StateWithin}
-use Rattle.world_core.specs.Waits.{own_ticks, own_ticks_as}
+use Rattle.world_core.specs.Waits.{awake_turn, own_ticks, own_ticks_as, turn_if}
 use Rattle.world_core.proofs.Around.{alive-known}
 
 -- ---- all of the world but its store and its terms
@@ -88,6 +87,18 @@ ticks-none doc k p h none = by_sort (is_controller doc p) none
     by_sort : (b : Bool) → in_term_as doc k p b h ≡ false → own_ticks_as doc k p b h ≡ h
     by_sort true is = by_life (alive p h) is
     by_sort false is = refl
+
+-- nor is there one in a pause
+pub ticks-paused : (doc : Doc) (k p : ℕ) (h : List Entry) → is_paused doc p k ≡ true → own_ticks doc k p h ≡ h
+ticks-paused doc k p h paused = by_sort (is_controller doc p)
+  where
+    by_life : (o : Option ℕ) → if_up p (λ q T. tick_as doc k q (acts doc q k T) T) o h ≡ h
+    by_life None = refl
+    by_life (Some i) = ap (λ b. tick_as doc k (identity p i) (not b && in_term doc (identity p i) k h) h) paused
+
+    by_sort : (b : Bool) → own_ticks_as doc k p b h ≡ h
+    by_sort true = by_life (alive p h)
+    by_sort false = refl
 
 -- whoever is in its term is a controller, in the incarnation in which it is up
 pub record InTermAs (doc : Doc) (k p i : ℕ) (h : List Entry) : Type 0 where
@@ -146,14 +157,14 @@ pub record SameButTicked (w v : State) : Type 0 where
   pub in_force : v.in_force ≡ w.in_force
   pub processes : v.processes ≡ w.processes
 
-pub running-ticked : (doc : Doc) (k p i : ℕ) (before deeds told : List Deed) (arriving : List Sent) (coming : List Back) (h : List Entry) (w v : State) → p < processes doc → alive p h ≡ Some i → InTermAs doc k p i h → SameButTicked w v
+pub running-ticked : (doc : Doc) (k p i : ℕ) (before deeds told : List Deed) (arriving : List Sent) (coming : List Back) (h : List Entry) (w v : State) → is_paused doc p k ≡ false → p < processes doc → alive p h ≡ Some i → InTermAs doc k p i h → SameButTicked w v
     → Running doc k before arriving coming h w deeds → Ticked doc k (identity p i) h told v.terms v.store → Running doc k before arriving coming (own_ticks doc k p h) v (deeds ++ told)
-running-ticked doc k p i before deeds told arriving coming h w v within up acts same r t =
+running-ticked doc k p i before deeds told arriving coming h w v awake within up acts same r t =
     let q = identity p i in
     let d = r.world.rest.document in
     let known = alive-known (processes doc) p i h r.world.rest.plain within up in
     let b = beside-tick doc k arriving coming w k q h known (beside-world doc k arriving coming h w r.world) in
-    let is = ticks-acting doc k p i h (not_paused doc p k d.unpaused) up acts in
+    let is = ticks-acting doc k p i h awake up acts in
     subst (λ g. Running doc k before arriving coming g v (deeds ++ told)) (sym is)
     (record {
       world = record {
@@ -165,7 +176,6 @@ running-ticked doc k p i before deeds told arriving coming h w v within up acts 
             epoch = same.epoch ∙ d.epoch;
             micros = same.micros ∙ d.micros;
             events = same.events ∙ d.events;
-            unpaused = d.unpaused;
           };
           plain = b.plain;
           store = t.store;
@@ -178,6 +188,11 @@ running-ticked doc k p i before deeds told arriving coming h w v within up acts 
       told = sym (append_assoc before deeds told) ∙ ap (λ ds. ds ++ told) r.told ∙ t.told;
     })
 
+-- no tick in a pause
+pub running-rests : (doc : Doc) (k p : ℕ) (before deeds : List Deed) (arriving : List Sent) (coming : List Back) (h : List Entry) (w : State) → is_paused doc p k ≡ true
+    → Running doc k before arriving coming h w deeds → Running doc k before arriving coming (own_ticks doc k p h) w deeds
+running-rests doc k p before deeds arriving coming h w paused r = subst (λ g. Running doc k before arriving coming g w deeds) (sym (ticks-paused doc k p h paused)) r
+
 -- no tick
 pub running-unticked : (doc : Doc) (k p : ℕ) (before deeds : List Deed) (arriving : List Sent) (coming : List Back) (h : List Entry) (w : State) → in_term_now doc k p h ≡ false
     → Running doc k before arriving coming h w deeds → Running doc k before arriving coming (own_ticks doc k p h) w deeds
@@ -185,13 +200,21 @@ running-unticked doc k p before deeds arriving coming h w none r = subst (λ g. 
 
 -- ---- a turn is its tick after the rest
 
-pub turn-is : (doc : Doc) (k p : ℕ) (h : List Entry) → is_paused doc p k ≡ false → turn doc k p h ≡ own_ticks doc k p (own_turn doc k p h)
-turn-is doc k p h awake = ap (λ b. turn_unless doc k p b h) awake ∙ by_sort (is_controller doc p)
+pub turn-is : (doc : Doc) (k p : ℕ) (h : List Entry) → turn doc k p h ≡ own_ticks doc k p (awake_turn doc k p h)
+turn-is doc k p h = by_pause (is_paused doc p k) refl
   where
     by_sort : (b : Bool) → turn_as doc k p b h ≡ own_ticks_as doc k p b (own_turn_as doc k p b h)
     by_sort true = refl
     by_sort false = refl
 
+    by_pause : (b : Bool) → is_paused doc p k ≡ b → turn_unless doc k p b h ≡ own_ticks doc k p (turn_if doc k p (not b) h)
+    by_pause true paused = sym (ticks-paused doc k p h paused)
+    by_pause false awake = by_sort (is_controller doc p)
+
 -- a process whose turn comes finds no tick of its own on top, and none is added before its tick
-pub own-unticked : (doc : Doc) (k p : ℕ) (h : List Entry) → is_controller doc p ≡ true → IsUntickedFrom k p h → IsUntickedFrom k p (own_turn doc k p h)
-own-unticked doc k p h sort s = subst (λ b. IsUntickedFrom k p (own_turn_as doc k p b h)) (sym sort) (elector_unticked doc k p p h s)
+pub own-unticked : (doc : Doc) (k p : ℕ) (h : List Entry) → is_controller doc p ≡ true → IsUntickedFrom k p h → IsUntickedFrom k p (awake_turn doc k p h)
+own-unticked doc k p h sort s = by_pause (not (is_paused doc p k))
+  where
+    by_pause : (b : Bool) → IsUntickedFrom k p (turn_if doc k p b h)
+    by_pause true = subst (λ b. IsUntickedFrom k p (own_turn_as doc k p b h)) (sym sort) (elector_unticked doc k p p h s)
+    by_pause false = s

@@ -1,10 +1,11 @@
 -- Layer 4, the steps of a beat: the turn of a process that keeps the beat of its next turn.
-use Rattle.std.proofs.Common.{◌≡◌, ℕ, List, ◌∷◌, Option, Some, None, sym, ◌∙◌, subst}
+use Rattle.std.proofs.Common.{◌≡◌, ℕ, not, Bool, true, false, List, ◌∷◌, Option, Some, None, refl, sym, ap, ◌∙◌, subst}
 use Rattle.kube_objects.specs.declared.call.Ask.{Ask}
 use Rattle.kube_objects.specs.declared.deed.Deed.{Deed}
 use Rattle.kube_objects.specs.Document.{Doc, is_controller}
 use Rattle.kube_objects.specs.Entry.{Entry, Identity, Sends, entry}
 use Rattle.kube_objects.specs.Identities.{identity}
+use Rattle.kube_objects.specs.Pauses.{is_paused}
 use Rattle.kube_objects.specs.Wire.{Back, Sent, next_call}
 use Rattle.world_process.specs.declared.moves.Turn.{Turn}
 use Rattle.world_process.specs.declared.process.Process.{Process}
@@ -15,6 +16,7 @@ use Rattle.world_process.proofs.Processes.{process-incarnation}
 use Rattle.world_terms.specs.TermsStand.{TermsStand}
 use Rattle.world_core.specs.declared.state.State.{State}
 use Rattle.world_core.specs.States.{Running}
+use Rattle.world_core.specs.Waits.{awake_turn, turn_if}
 use Rattle.world_core.proofs.Around.{around-world}
 use Rattle.world_core.proofs.Running.{Moved, within-moved}
 
@@ -52,8 +54,32 @@ running-kept doc k i before deeds arriving coming h x y w v m wire terms stands 
       told = r.told;
     }
 
+-- ---- where it is paused, and where it isn't
+
+pub awake-is : (doc : Doc) (k p : ℕ) (h : List Entry) → is_paused doc p k ≡ false → awake_turn doc k p h ≡ own_turn doc k p h
+awake-is doc k p h awake = ap (λ b. turn_if doc k p (not b) h) awake
+
+paused-is : (doc : Doc) (k p : ℕ) (h : List Entry) → is_paused doc p k ≡ true → awake_turn doc k p h ≡ h
+paused-is doc k p h paused = ap (λ b. turn_if doc k p (not b) h) paused
+
+awake-still : (doc : Doc) (k p : ℕ) (h : List Entry) → own_turn doc k p h ≡ h → awake_turn doc k p h ≡ h
+awake-still doc k p h still = by_pause (not (is_paused doc p k))
+  where
+    by_pause : (b : Bool) → turn_if doc k p b h ≡ h
+    by_pause true = still
+    by_pause false = refl
+
+-- it has no turn in a pause
+pub running-paused : (doc : Doc) (k i : ℕ) (before deeds : List Deed) (arriving : List Sent) (coming : List Back) (h : List Entry) (w : State) → is_paused doc i k ≡ true
+    → Running doc k before arriving coming h w deeds → Running doc k before arriving coming (awake_turn doc k i h) w deeds
+running-paused doc k i before deeds arriving coming h w paused r = subst (λ g. Running doc k before arriving coming g w deeds) (sym (paused-is doc k i h paused)) r
+
+pub running-awake : (doc : Doc) (k i : ℕ) (before deeds : List Deed) (arriving : List Sent) (coming : List Back) (h : List Entry) (w : State) → is_paused doc i k ≡ false
+    → Running doc k before arriving coming (own_turn doc k i h) w deeds → Running doc k before arriving coming (awake_turn doc k i h) w deeds
+running-awake doc k i before deeds arriving coming h w awake r = subst (λ g. Running doc k before arriving coming g w deeds) (sym (awake-is doc k i h awake)) r
+
 -- its turn adds nothing
 pub running-still : (doc : Doc) (k i : ℕ) (before deeds : List Deed) (arriving : List Sent) (coming : List Back) (h : List Entry) (x y : Process) (w v : State) → own_turn doc k i h ≡ h → Moved i x y w v → v.wire ≡ w.wire → v.terms ≡ w.terms → ProcessStands doc i h y
-    → Running doc k before arriving coming h w deeds → Running doc k before arriving coming (own_turn doc k i h) v deeds
+    → Running doc k before arriving coming h w deeds → Running doc k before arriving coming (awake_turn doc k i h) v deeds
 running-still doc k i before deeds arriving coming h x y w v still m wire terms stands r =
-    subst (λ g. Running doc k before arriving coming g v deeds) (sym still) (running-kept doc k i before deeds arriving coming h x y w v m wire terms stands r)
+    subst (λ g. Running doc k before arriving coming g v deeds) (sym (awake-still doc k i h still)) (running-kept doc k i before deeds arriving coming h x y w v m wire terms stands r)

@@ -14,7 +14,6 @@ use Rattle.kube_objects.specs.Document.{Doc, processes, restart_delay, beat_micr
 use Rattle.kube_objects.specs.Entry.{Entry, Identity, Call, Answers, Sends, entry}
 use Rattle.kube_objects.specs.InFlight.{requests_due, replies_due}
 use Rattle.kube_objects.specs.Kinds.{IsOfKind}
-use Rattle.kube_objects.specs.Pauses.{AreUnpaused, IsNoPause}
 use Rattle.kube_objects.specs.Wire.{Sent, Back, reply_arrival, request_arrival}
 use Rattle.history.specs.Due.{answer_all, deliver_all}
 use Rattle.history.specs.History.{beat}
@@ -86,7 +85,7 @@ pub record Keeps (old new : State) : Type 0 where
 
 -- ---- the relation
 
--- what the world keeps of a document, which pauses nobody
+-- what the world keeps of a document
 pub record DocStands (doc : Doc) (k : ℕ) (w : State) : Type 0 where
   pub at : w.beat.0 ≡ k
   pub restart : w.restart ≡ restart_delay doc
@@ -94,7 +93,6 @@ pub record DocStands (doc : Doc) (k : ℕ) (w : State) : Type 0 where
   pub epoch : w.epoch ≡ doc.settings.epoch
   pub micros : w.micros ≡ beat_micros doc
   pub events : w.events ≡ doc.events
-  pub unpaused : AreUnpaused doc.events
 
 -- the events before a place were of earlier beats, and those from it on are of this beat or later
 pub record IsPlaced (doc : Doc) (k place : ℕ) : Type 0 where
@@ -188,7 +186,7 @@ with_answer doc k step q call reply wrote h = entry k step q (Answers call reply
 -- an event has happened in a world within a beat, and what is printed of it was added
 abbrev pub Happens : State → List Deed → State → List Deed → What → Type 0
 Happens w deeds v new what = (doc : Doc) (k : ℕ) (before : List Deed) (arriving : List Sent) (coming : List Back) (h : List Entry)
-    → Running doc k before arriving coming h w deeds → IsLawfulWhat doc what → IsNoPause what → IsFew (happens doc k what h)
+    → Running doc k before arriving coming h w deeds → IsLawfulWhat doc what → IsFew (happens doc k what h)
     → Running doc k before arriving coming (happens doc k what h) v new
 
 -- all events of the beat have happened; what they sent arrives later

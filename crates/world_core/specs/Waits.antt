@@ -1,5 +1,5 @@
 -- What a process of the world waits for, and the beats at which it is there.
-use Rattle.std.specs.Prelude.{◌≡◌, ◌↔◌, ℕ, ◌==◌, ◌&&◌, ◌||◌, ◌≤◌, Bool, true, false, List, Option, Some, None, option_map}
+use Rattle.std.specs.Prelude.{◌≡◌, ◌↔◌, ℕ, ◌==◌, ◌&&◌, ◌||◌, ◌≤◌, not, Bool, true, false, List, Option, Some, None, option_map}
 use Rattle.kube_base.specs.declared.numbers.Beat.{Beat}
 use Rattle.kube_base.specs.declared.numbers.Local.{Local}
 use Rattle.kube_objects.specs.Clocks.{local, wall}
@@ -7,12 +7,14 @@ use Rattle.kube_objects.specs.Document.{Doc, end_beat, is_controller, is_up_firs
 use Rattle.kube_objects.specs.Elector.{in_term}
 use Rattle.kube_objects.specs.Entry.{Entry, Identity}
 use Rattle.kube_objects.specs.Newest.{only_if}
+use Rattle.kube_objects.specs.Pauses.{is_paused}
 use Rattle.kube_objects.specs.Process.{alive}
 use Rattle.history.specs.Steps.{ticks}
 use Rattle.agenda_laws.specs.Ticking.{term_reading, term_time}
 use Rattle.agenda_laws.specs.Times.{is_early, sooner, if_up}
 use Rattle.agenda_laws.specs.Waking.{IsAsleep, acts_as, wakes_of}
 use Rattle.world_process.specs.Beats.{own_reading}
+use Rattle.world_process.specs.Moves.{own_turn}
 use Rattle.world_core.specs.declared.wakes.Wakes.{Wakes}
 
 abbrev pub local_of : Option Local → Option ℕ
@@ -31,6 +33,14 @@ own_ticks_as doc k p false h = h
 
 abbrev pub own_ticks : Doc → ℕ → ℕ → List Entry → List Entry
 own_ticks doc k p h = own_ticks_as doc k p (is_controller doc p) h
+
+-- a turn but for its tick; a process that is paused has none
+abbrev pub turn_if : Doc → ℕ → ℕ → Bool → List Entry → List Entry
+turn_if doc k p true h = own_turn doc k p h
+turn_if doc k p false h = h
+
+abbrev pub awake_turn : Doc → ℕ → ℕ → List Entry → List Entry
+awake_turn doc k p h = turn_if doc k p (not (is_paused doc p k)) h
 
 -- the process starts in beat 0, which is the next beat
 abbrev pub starts_now : Doc → ℕ → ℕ → Bool

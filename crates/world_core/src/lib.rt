@@ -3,6 +3,7 @@
 
 mod printing;
 mod replay;
+mod replies;
 mod state;
 mod wakes;
 mod world;

@@ -88,6 +88,13 @@ pub fn stop_act(stopped: bool) -> Option<Act>
     if stopped { Some(Act::Stop) } else { None }
 }
 
+/// What is printed of a pause, of a process that is up.
+pub fn pause_act(up: bool, beats: u32) -> Option<Act>
+    ensures { result ≡ when up (Act.Pause beats) }
+{
+    if up { Some(Act::Pause(beats)) } else { None }
+}
+
 /// What is printed of an end.
 pub fn end_act(ended: bool) -> Option<Act>
     ensures { result ≡ when ended Act.End }

@@ -1,5 +1,5 @@
 // What a world keeps, and how it does one beat.
-ghost use Rattle.std.specs.Prelude.{◌≡◌, ◌∷◌, ◌||◌, ◌+◌, ◌*◌, ◌<◌, ◌≤◌, ◌++◌, ◌↔◌, ℕ, List, [], length, All, true, false, Option, Some};
+ghost use Rattle.std.specs.Prelude.{◌≡◌, ◌∷◌, ◌||◌, ◌+◌, ◌*◌, ◌<◌, ◌≤◌, ◌++◌, ◌↔◌, ℕ, List, [], length, min, All, true, false, Option, Some};
 ghost use Rattle.std.specs.Prelude.{IfOk, OnOk, IsTrue, vec_len};
 ghost use Rattle.std.specs.List.Sorted.{IsStrictlySortedBy};
 ghost use Rattle.std.specs.Map.{keys_of, lookup};
@@ -15,10 +15,11 @@ ghost use Rattle.kube_objects.specs.Kinds.{IsOfKind, keeps_kind};
 ghost use Rattle.kube_objects.specs.Stored.{request_write, stored, write_of};
 ghost use Rattle.object_store.specs.StoreAnswers.{object_of};
 ghost use Rattle.object_store.specs.Stands.{StoreStands};
-ghost use Rattle.kube_objects.specs.Pauses.{AreUnpaused};
+ghost use Rattle.kube_objects.specs.Pauses.{resume as resume_of};
 ghost use Rattle.kube_objects.specs.Wire.{Sent, Back};
 ghost use Rattle.history.specs.History.{history, beat, put_all};
 ghost use Rattle.history.specs.Printed.{printed};
+ghost use Rattle.history.specs.Sound.{AreApart};
 ghost use Rattle.history.specs.Steps.{first_starts, start_first, happen_all, delivered, turns};
 ghost use Rattle.kube_objects.specs.Document.{end_beat, is_controller, is_up_first, processes};
 ghost use Rattle.wire_calls.specs.WireStands.{WireStands, as_delivered, replies_at, requests_at};
@@ -30,17 +31,17 @@ ghost use Rattle.agenda_laws.specs.Times.{sooner as soonest};
 ghost use Rattle.beat_laws.specs.Unticked.{IsUnticked, IsUntickedFrom};
 ghost use Rattle.kube_base.specs.Steps.{counted};
 ghost use Rattle.world_process.specs.Clocked.{ClockStands};
-ghost use Rattle.world_process.specs.Moves.{own_turn};
 ghost use Rattle.world_terms.specs.TermsStand.{IsFresh, IsUpAs, TermsStand, TermsStandBut};
-ghost use Rattle.world_core.specs.Waits.{IsTermReading, IsTurnBeat, WakesStand, beat_of, local_of, own_ticks};
+ghost use Rattle.world_core.specs.Waits.{IsTermReading, IsTurnBeat, WakesStand, awake_turn, beat_of, local_of, own_ticks};
 ghost use Rattle.world_process.specs.Plain.{IsFew, IsKnown};
 ghost use Rattle.world_core.specs.States.{at_of, count_of, end_of, names_of, GoOnTo, IsFit, IsReady, IsPlaced, SameDocument, Keeps};
 ghost use Rattle.world_core.specs.States.{AreMadeOf, AreQuiet, EachStands, SendsAsked, StateStands, Running};
 ghost use Rattle.world_core.specs.States.{Adds, AnswersArrivals, DeliversReplies, Happens, Scripted, with_answer};
 
 use crate::printing::{
-    answer_act, crash_act, end_act, lead_act, remove_act, start_act, stop_act, tell,
+    answer_act, crash_act, end_act, lead_act, pause_act, remove_act, start_act, stop_act, tell,
 };
+use crate::replies::send_back;
 use crate::wakes::{Wakes, sooner_beat};
 use kube_base::{Beat, Local, Names, NoMemory, ProcId, Steps, Wall};
 use kube_objects::{
@@ -53,7 +54,7 @@ use skew_clock::Clock;
 use std::alloc::Global;
 use std::sync::ledger::Blank;
 use term_state::View;
-use wire_calls::{Arrived, Delivered, Wire};
+use wire_calls::{Delivered, Wire};
 use world_process::{Controller, InForce, Kubelet, Process, first_beat, picoseconds};
 use world_terms::Terms;
 use zone_state::Policies;
@@ -257,6 +258,18 @@ impl State {
         first_beat(process.clock(), wakes.local)
     }
 
+    /// The first beat from this one on at which a process isn't paused; the beat after the end, where there is none up to the end.
+    pub fn resume(&self, who: ProcId, beat: Beat) -> Beat
+        requires ready { IsReady self.now }
+        requires within { beat.0 ≤ end_of self.now }
+        requires process { who.0 < count_of self.now }
+        ensures { (doc : Doc) (k : ℕ) (h : List Entry) → StateStands doc k h self.now → end_of self.now ≡ end_beat doc
+            → result.0 ≡ min (resume_of doc who.0 beat.0) (end_beat doc + 1) }
+    {
+        let resumes = self.processes[who.0 as usize].resume(beat);
+        Beat(resumes.0.min(self.end.0 + 1))
+    }
+
     // The reading that a controller's term waits for.
     fn term_wake(&self, who: ProcId) -> Option<Local>
         requires ready { IsReady self.now }
@@ -359,8 +372,7 @@ impl State {
             What::Crash(who) => self.crash(who, deeds),
             What::Start(who) => self.start(who, deeds),
             What::Stop(who) => self.stop(who, deeds),
-            // No document that is read pauses anybody.
-            What::Pause(_, _) => Ok(()),
+            What::Pause(who, beats) => self.pause(who, beats, deeds),
             What::Put(key, object) => self.put(key, object, deeds),
             What::Remove(key) => self.remove(key, deeds),
         }
@@ -402,7 +414,7 @@ impl State {
         tell(deeds, self.beat, actor, start_act(started))
     }
 
-    // A stopped leader's release is sent at once.
+    // A stopped leader's release is sent at once. A controller that is paused goes on with its term.
     fn stop(&mut self, who: ProcId, deeds: &mut Deeds) -> Result<(), NoMemory>
         requires ready { IsReady self.old }
         requires within { at_of self.old ≤ end_of self.old }
@@ -413,6 +425,10 @@ impl State {
         if i >= self.processes.len() {
             return Ok(());
         }
+        let paused = self.processes[i].is_paused(self.beat);
+        if paused {
+            return Ok(());
+        }
         let process = &mut self.processes[i];
         let stopped = process.stop(self.beat);
         let actor = process.actor();
@@ -421,6 +437,19 @@ impl State {
         self.terms.renew(who);
         tell(deeds, self.beat, actor, stop_act(stopped.stopped))?;
         send_asked(&mut self.wire, who, incarnation, stopped.ask, self.beat)
+    }
+
+    // A pause is told of a process that is up. From when to when each is paused is known from the start.
+    fn pause(&self, who: ProcId, beats: u32, deeds: &mut Deeds) -> Result<(), NoMemory>
+        ensures { OnOk result (Happens self.now deeds.old self.now deeds.new (What.Pause who beats)) }
+    {
+        let i = who.0 as usize;
+        if i >= self.processes.len() {
+            return Ok(());
+        }
+        let process = &self.processes[i];
+        let up = process.is_up();
+        tell(deeds, self.beat, process.actor(), pause_act(up, beats))
     }
 
     fn put(&mut self, key: Key, object: Object, deeds: &mut Deeds) -> Result<(), NoMemory>
@@ -478,7 +507,8 @@ impl State {
     {
         'arriving: while let Some(arrived) = self.wire.arrival(self.beat) {
             let reply = answer(&mut self.store, arrived.request)?;
-            send_back(&mut self.wire, &arrived, reply, self.beat)?;
+            let processes = self.processes.as_slice();
+            send_back(&mut self.wire, processes, &arrived, reply, self.beat)?;
             let actor = Actor::Proc(arrived.who, arrived.incarnation);
             tell(
                 deeds,
@@ -558,13 +588,13 @@ impl State {
         Ok(())
     }
 
-    // A turn but for its tick.
+    // A turn but for its tick, where it isn't paused.
     fn turn(&mut self, i: usize, deeds: &mut Deeds) -> Result<(), NoMemory>
         requires index { i < vec_len self.old.processes }
         requires ready { IsReady self.old }
         requires within { at_of self.old ≤ end_of self.old }
         ensures kept { OnOk result (Keeps self.old self.new) }
-        ensures stands { Adds self.old deeds.old result self.new deeds.new (λ doc k h. own_turn doc k i h) }
+        ensures stands { Adds self.old deeds.old result self.new deeds.new (λ doc k h. awake_turn doc k i h) }
     {
         let process = &mut self.processes[i];
         process.keep_turn_beat();
@@ -574,15 +604,18 @@ impl State {
         }
     }
 
-    // A turn of a process that does something, but for its tick.
+    // A turn of a process that does something where it isn't paused, but for its tick.
     #[inline(never)]
     fn take_turn(&mut self, i: usize, deeds: &mut Deeds) -> Result<(), NoMemory>
         requires index { i < vec_len self.old.processes }
         requires ready { IsReady self.old }
         requires within { at_of self.old ≤ end_of self.old }
         ensures kept { OnOk result (Keeps self.old self.new) }
-        ensures stands { Adds self.old deeds.old result self.new deeds.new (λ doc k h. own_turn doc k i h) }
+        ensures stands { Adds self.old deeds.old result self.new deeds.new (λ doc k h. awake_turn doc k i h) }
     {
+        if self.processes[i].is_paused(self.beat) {
+            return Ok(());
+        }
         let process = &mut self.processes[i];
         let status = self.in_force.status(process.me());
         let turn = process.turn(self.beat, self.restart, status);
@@ -611,6 +644,9 @@ impl State {
         let Some(leadership) = process.leadership(self.beat) else {
             return Ok(());
         };
+        if process.is_paused(self.beat) {
+            return Ok(());
+        }
         let who = process.me();
         let now = process.clock().local(self.beat);
         let view = View {
@@ -642,23 +678,6 @@ fn answer(store: &mut Store, request: Request) -> Result<Reply, NoMemory>
         → OnOk result (StoreStands (e ∷ h) store.new) }
 {
     store.answer(request)
-}
-
-// The reply to a request that arrived is sent. It stays out of line, as the answer does.
-#[inline(never)]
-fn send_back(wire: &mut Wire, to: &Arrived, reply: Reply, now: Beat) -> Result<(), NoMemory>
-    requires { now.0 ≤ 700000000 }
-    ensures same { requests_at wire.new now.0 ≡ requests_at wire.old now.0 }
-    ensures ok { (doc : Doc) (processes k step : ℕ) (arriving : List Sent) (coming : List Back) (h : List Entry) (q : Identity)
-        (call : Call) (wrote : Option Objects.Object)
-        → WireStands processes k arriving coming h wire.old → now.0 ≡ k → q ≡ identity to.now.who.0 to.now.incarnation
-        → call.number ≡ to.now.number → AreUnpaused doc.events
-        → OnOk result (WireStands processes k arriving coming (with_answer doc k step q call reply wrote h) wire.new) }
-{
-    // Nobody is paused, so it comes when it is there.
-    let travels = wire.reply_travel(to.who, now);
-    wire.reply(to, reply, travels)?;
-    Ok(())
 }
 
 // What a process asks is sent, where it asks.
@@ -744,6 +763,7 @@ fn processes_of(
     requires controllers { All IsLawful controllers.now }
     requires kubelets { All IsLawful kubelets.now }
     requires events { AreEventsFrom settings.now.end_beat.0 0 events.now }
+    requires apart { AreApart events.now }
     requires few { (length controllers.now ≤ 16) × (length kubelets.now ≤ 1000) }
     ensures count { IfOk result (λ xs. length xs.items ≡ length controllers.now + length kubelets.now) }
     ensures clocks { IfOk result (λ xs. GoOnTo settings.now.end_beat.0 xs.items) }

@@ -1,5 +1,5 @@
 // The world of a document, which does one beat at a time.
-ghost use Rattle.std.specs.Prelude.{◌≡◌, ◌+◌, ◌<◌, ◌≤◌, ◌++◌, ℕ, List, length, IfOk, IsTrue, ◌↔◌};
+ghost use Rattle.std.specs.Prelude.{◌≡◌, ◌+◌, ◌<◌, ◌≤◌, ◌++◌, ℕ, List, length, min, IfOk, IsTrue, ◌↔◌};
 ghost use Rattle.std.specs.List.{AllByRecursion};
 ghost use Rattle.std.specs.List.Sorted.{IsStrictlySortedBy};
 ghost use Rattle.std.specs.Map.{keys_of, lookup};
@@ -7,6 +7,7 @@ ghost use Rattle.kube_objects.specs.declared.key.Key.{Key};
 ghost use Rattle.kube_objects.specs.Document.{Doc, processes, end_beat};
 ghost use Rattle.kube_objects.specs.Entry.{Entry};
 ghost use Rattle.kube_objects.specs.Keys.{key_cmp, key_eq};
+ghost use Rattle.kube_objects.specs.Pauses.{resume as resume_of};
 ghost use Rattle.kube_objects.specs.Stored.{stored};
 ghost use Rattle.kube_objects.specs.Writable.{IsWritable};
 ghost use Rattle.history.specs.History.{history, beat};
@@ -161,6 +162,17 @@ impl World {
             → WakesStand doc k who.0 h result }
     {
         self.state.wakes(who)
+    }
+
+    /// The first beat from this one on at which a process isn't paused; the beat after the end, where there is none up to the end.
+    pub fn resume(&self, who: ProcId, beat: Beat) -> Beat
+        requires ready { IsReady self.now }
+        requires within { beat.0 ≤ end_of self.now }
+        requires process { who.0 < count_of self.now }
+        ensures { (doc : Doc) (k : ℕ) (h : List Entry) → WorldStands doc k h self.now → end_of self.now ≡ end_beat doc
+            → result.0 ≡ min (resume_of doc who.0 beat.0) (end_beat doc + 1) }
+    {
+        self.state.resume(who, beat)
     }
 
     /// The first beat up to the end at which a process's clock has the reading that is waited for; None where there is none.

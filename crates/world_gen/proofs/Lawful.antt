@@ -2,6 +2,7 @@
 use Rattle.std.proofs.Common.{◌≡◌, ℕ, ◌+◌, ◌≤◌, [], ◌∷◌, ◌++◌, length, subst, sym, arith}
 use Rattle.std.proofs.lemmas.List.Elements.{All-from_recursion}
 use Rattle.std.specs.List.{AllByRecursion}
+use Rattle.history.proofs.Pauses.{never_apart}
 use Rattle.manifest_laws.specs.Laws.{FittingAreApart}
 use Rattle.script_reader.specs.Lawful.{IsLawful, IsLawfulDoc}
 use Rattle.world_gen.specs.Draws.{start, crashes}
@@ -35,5 +36,5 @@ generated-lawful seed nodes pods beats few fewer soon apart =
       few_objects = all-few nodes pods drawn.rest few fewer;
       events = (in_order (generated seed nodes pods beats) (beats + 1) all fits).0;
       few_events = omega (arith, events-few (beats + 1) all, fit.1);
-      unpaused = crashes-pause_nobody (by_beat (beats + 1) all);
+      apart = never_apart (by_beat (beats + 1) all) (crashes-pause_nobody (by_beat (beats + 1) all));
     }

@@ -3,7 +3,7 @@ use Rattle.std.proofs.Common.{◌≡◌, ℕ, false, List, ◌∷◌, Option, re
 use Rattle.kube_objects.specs.declared.call.Reply.{Reply}
 use Rattle.kube_objects.specs.declared.object.Object.{Object}
 use Rattle.kube_objects.specs.Document.{Doc}
-use Rattle.kube_objects.specs.Entry.{Entry, Identity, Call, Fact, Answers, Tick, Ticks, entry}
+use Rattle.kube_objects.specs.Entry.{Entry, Identity, Call, Fact, Answers, Stalls, Tick, Ticks, entry}
 use Rattle.kube_objects.specs.Identities.{identity, is_by}
 use Rattle.kube_objects.specs.Process.{alive, ended, starts}
 use Rattle.leader_elector.specs.Moves.{is_of_elector}
@@ -51,6 +51,10 @@ controller-quiet doc p e h c lives ends count quiet s =
 pub controller-answered : (doc : Doc) (p k step : ℕ) (q : Identity) (call : Call) (reply : Reply) (comes : Option ℕ) (written : Option Object) (h : List Entry) (c : Controller) → ControllerStands doc p h c →
     ControllerStands doc p (entry k step q (Answers call reply comes written) ∷ h) c
 controller-answered doc p k step q call reply comes written h c s = controller-quiet doc p (entry k step q (Answers call reply comes written)) h c refl refl refl refl s
+
+-- an entry of a pause
+pub controller-stalled : (doc : Doc) (p k step beats : ℕ) (q : Identity) (h : List Entry) (c : Controller) → ControllerStands doc p h c → ControllerStands doc p (entry k step q (Stalls beats) ∷ h) c
+controller-stalled doc p k step beats q h c s = controller-quiet doc p (entry k step q (Stalls beats)) h c refl refl refl refl s
 
 -- an entry of a tick
 pub controller-ticked : (doc : Doc) (p k step : ℕ) (q : Identity) (tick : Tick) (h : List Entry) (c : Controller) → ControllerStands doc p h c → ControllerStands doc p (entry k step q (Ticks tick) ∷ h) c

@@ -11,7 +11,7 @@ use Rattle.kube_objects.specs.declared.script.What.{What}
 use Rattle.kube_objects.specs.declared.script.What.TheVariants as what
 use Rattle.kube_objects.specs.Clocks.{store_wall, whole_second}
 use Rattle.kube_objects.specs.Document.{Doc}
-use Rattle.kube_objects.specs.Entry.{Entry, Identity, Call, Fact, First, Event, Crashes, Answers, Tick, Ticks, entry, script_entry, actor_of}
+use Rattle.kube_objects.specs.Entry.{Entry, Identity, Call, Fact, First, Event, Crashes, Stalls, Answers, Tick, Ticks, entry, script_entry, actor_of}
 use Rattle.kube_objects.specs.Identities.{identity, is_by}
 use Rattle.kube_objects.specs.Newest.{join}
 use Rattle.kube_objects.specs.Process.{alive, gone, life, starts}
@@ -43,6 +43,7 @@ stands-rounds doc p h g b r s same stands =
       clock = s.clock;
       up_first = s.up_first;
       rounds = stands;
+      pauses = s.pauses;
       waking = s.waking;
     }
 
@@ -77,6 +78,9 @@ pub kubelet-answered : (doc : Doc) (p k step : ℕ) (q : Identity) (call : Call)
     KubeletStands doc p (entry k step q (Answers call reply comes written) ∷ h) b
 kubelet-answered doc p k step q call reply comes written h b s = kubelet-kind doc p (entry k step q (Answers call reply comes written)) h b refl refl refl s
 
+pub kubelet-stalled : (doc : Doc) (p k step beats : ℕ) (q : Identity) (h : List Entry) (b : Kubelet) → KubeletStands doc p h b → KubeletStands doc p (entry k step q (Stalls beats) ∷ h) b
+kubelet-stalled doc p k step beats q h b s = kubelet-kind doc p (entry k step q (Stalls beats)) h b refl refl refl s
+
 pub kubelet-ticked : (doc : Doc) (p k step : ℕ) (q : Identity) (tick : Tick) (h : List Entry) (b : Kubelet) → KubeletStands doc p h b → KubeletStands doc p (entry k step q (Ticks tick) ∷ h) b
 kubelet-ticked doc p k step q tick h b s = kubelet-kind doc p (entry k step q (Ticks tick)) h b refl refl refl s
 
@@ -105,6 +109,7 @@ kubelet-started doc k step p i h b x s is stands =
       clock = s.clock;
       up_first = s.up_first;
       rounds = (alive-start k step (identity p (starts p h + 1)) h ∙ ap (λ (n : ℕ). Some n) (sym is), subst (λ n. AreRounds doc (identity p n) (start k step p h) x) (sym is) stands);
+      pauses = s.pauses;
       waking = s.waking;
     }
 

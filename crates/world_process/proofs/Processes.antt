@@ -1,19 +1,25 @@
 -- Every process through entries of others, and what is known of each.
-use Rattle.std.proofs.Common.{◌≡◌, ℕ, false, List, ◌∷◌, Option}
+use Rattle.std.proofs.Common.{◌≡◌, ℕ, false, List, ◌∷◌, Option, Some, None, is_some}
 use Rattle.kube_base.specs.declared.numbers.Version.{Version}
 use Rattle.kube_objects.specs.declared.call.Reply.{Reply}
 use Rattle.kube_objects.specs.declared.key.Key.{Key}
 use Rattle.kube_objects.specs.declared.object.Object.{Object}
 use Rattle.kube_objects.specs.declared.script.What.{What}
 use Rattle.kube_objects.specs.Document.{Doc, is_up_first}
-use Rattle.kube_objects.specs.Entry.{Entry, Identity, Call, Fact, Event, Answers, Tick, Ticks, entry, script_entry}
-use Rattle.kube_objects.specs.Process.{cancels, starts}
+use Rattle.kube_objects.specs.Entry.{Entry, Identity, Call, Fact, Event, Answers, Stalls, Tick, Ticks, entry, script_entry}
+use Rattle.kube_objects.specs.Newest.{when}
+use Rattle.kube_objects.specs.Process.{alive, cancels, starts}
 use Rattle.history.specs.History.{put_all}
+use Rattle.kubelet_node.specs.declared.kubelet.Kubelet as rounds
+use Rattle.world_process.specs.declared.controller.Role.{Role}
+use Rattle.world_process.specs.declared.controller.Role.TheVariants as role
 use Rattle.world_process.specs.declared.process.Process.{Process}
 use Rattle.world_process.specs.declared.process.Process.TheVariants.{Controller, Kubelet}
+use Rattle.world_process.specs.Controllers.{RoleStands, is_up_as}
+use Rattle.world_process.specs.Kubelets.{RoundsStand}
 use Rattle.world_process.specs.Processes.{ProcessStands, me_of, incarnation_of, is_up_first_as}
-use Rattle.world_process.proofs.Beside.{controller-others, controller-answered, controller-ticked}
-use Rattle.world_process.proofs.Kubelets.{kubelet-others, kubelet-answered, kubelet-ticked, kubelet-put_all, kubelet-event}
+use Rattle.world_process.proofs.Beside.{controller-others, controller-answered, controller-stalled, controller-ticked}
+use Rattle.world_process.proofs.Kubelets.{kubelet-others, kubelet-answered, kubelet-stalled, kubelet-ticked, kubelet-put_all, kubelet-event}
 use Rattle.world_process.proofs.Lives.{is_event}
 use Rattle.world_process.proofs.Scripted.{controller-put_all, controller-event}
 
@@ -31,6 +37,16 @@ pub process-up_first : (doc : Doc) (p : ℕ) (h : List Entry) (x : Process) → 
 process-up_first doc p h (Controller c) s = s.up_first
 process-up_first doc p h (Kubelet b) s = s.up_first
 
+-- the incarnation in which it is up
+pub role-up : (doc : Doc) (p i : ℕ) (h : List Entry) (r : Role) → RoleStands doc p i h r → alive p h ≡ when (is_up_as r) i
+role-up doc p i h (role.Down at) s = s.0
+role-up doc p i h (role.Candidate x) s = s.0
+role-up doc p i h (role.Leading x) s = s.0
+
+pub rounds-up : (doc : Doc) (p i : ℕ) (h : List Entry) (r : Option rounds.Kubelet) → RoundsStand doc p i h r → alive p h ≡ when (is_some r) i
+rounds-up doc p i h None s = s
+rounds-up doc p i h (Some x) s = s.0
+
 -- ---- entries of others
 
 pub process-others : (doc : Doc) (p k step : ℕ) (q : Identity) (d : Fact) (h : List Entry) (x : Process) → ¬ (q.process ≡ p) → is_event d ≡ false → ProcessStands doc p h x → ProcessStands doc p (entry k step q d ∷ h) x
@@ -45,6 +61,10 @@ process-answered doc p k step q call reply comes written h (Kubelet b) s = kubel
 pub process-ticked : (doc : Doc) (p k step : ℕ) (q : Identity) (tick : Tick) (h : List Entry) (x : Process) → ProcessStands doc p h x → ProcessStands doc p (entry k step q (Ticks tick) ∷ h) x
 process-ticked doc p k step q tick h (Controller c) s = controller-ticked doc p k step q tick h c s
 process-ticked doc p k step q tick h (Kubelet b) s = kubelet-ticked doc p k step q tick h b s
+
+pub process-stalled : (doc : Doc) (p k step beats : ℕ) (q : Identity) (h : List Entry) (x : Process) → ProcessStands doc p h x → ProcessStands doc p (entry k step q (Stalls beats) ∷ h) x
+process-stalled doc p k step beats q h (Controller c) s = controller-stalled doc p k step beats q h c s
+process-stalled doc p k step beats q h (Kubelet b) s = kubelet-stalled doc p k step beats q h b s
 
 pub process-put_all : (doc : Doc) (p : ℕ) (items : List (Key × Object)) (h : List Entry) (x : Process) → ProcessStands doc p h x → ProcessStands doc p (put_all doc items h) x
 process-put_all doc p items h (Controller c) s = controller-put_all doc p items h c s

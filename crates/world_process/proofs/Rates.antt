@@ -1,11 +1,17 @@
--- A clock gets the rates of a process's events, one after the other.
-use Rattle.std.proofs.Common.{◌≡◌, ℕ, suc, ◌+◌, ◌<◌, ◌≤◌, ◌++◌, nat_le, if◌then◌else◌, Bool, true, false, List, [], ◌∷◌, Option, Some, None, length, get_or, take, drop, refl, sym, ap, ◌∙◌, subst, arith, add-one}
+-- A clock gets the rates of a process's events and its pauses are added, one after the other.
+use Rattle.std.proofs.Common.{◌≡◌, ℕ, suc, ◌+◌, ◌<◌, ◌≤◌, ◌^◌, ◌==◌, ◌++◌, nat_le, if◌then◌else◌, Bool, true, false, List, [], ◌∷◌, Option, Some, None, IfSome, length, append_assoc, get_or, take, drop, refl, sym, ap, ◌∙◌, subst, arith, add-one}
+use Rattle.std.proofs.lemmas.List.{append-nil}
 use Rattle.std.proofs.Math.Seq.{take-suc, drop-cons}
 use Rattle.kube_objects.specs.declared.script.Event.{Event}
+use Rattle.kube_objects.specs.declared.script.What.{What}
+use Rattle.kube_objects.specs.declared.script.What.TheVariants as whats
 use Rattle.kube_objects.specs.Clocks.{last_rate, rate_of}
 use Rattle.kube_objects.specs.Document.{Doc}
-use Rattle.kube_objects.specs.Newest.{only_if, or_else}
-use Rattle.script_reader.specs.Lawful.{AreLawfulFrom}
+use Rattle.kube_objects.specs.Newest.{only_if, or_else, when}
+use Rattle.kube_objects.specs.Pauses.{pause_of}
+use Rattle.pause_times.specs.declared.pauses.Pause.{Pause}
+use Rattle.pause_times.specs.Owned.{pauses_in, pauses_of}
+use Rattle.script_reader.specs.Lawful.{IsLawfulWhat, AreLawfulFrom}
 use Rattle.skew_clock.specs.Clocking.{Clocking, last_set, rate_at}
 use Rattle.world_process.specs.Clocked.{AreEventsFrom, SameSpan}
 
@@ -91,3 +97,41 @@ rates-set p j first ppm old new es n e within is set some s =
     ∙ ap (λ o. or_else first (later (only_if (nat_le e.beat.0 j) o) (last_rate p j (take n es)))) some
     ∙ ap (or_else first) (sym (last_rate-more p j (take n es) e))
     ∙ ap (λ xs. or_else first (last_rate p j xs)) (sym (taken es n e within is))
+
+-- ---- pauses
+
+pauses-more : (p : ℕ) (es : List Event) (e : Event) → pauses_of p (es ++ e ∷ []) ≡ pauses_of p es ++ pauses_in p e
+pauses-more p [] e = append-nil (pauses_in p e)
+pauses-more p (x ∷ xs) e = ap (λ ps. pauses_in p x ++ ps) (pauses-more p xs e) ∙ sym (append_assoc (pauses_in p x) (pauses_of p xs) (pauses_in p e))
+
+pub pauses-taken : (p : ℕ) (first old new : List Pause) (es : List Event) (n : ℕ) (e : Event) → n < length es → e ≡ get_or es n e → old ≡ first ++ pauses_of p (take n es) → new ≡ old ++ pauses_in p e → new ≡ first ++ pauses_of p (take (n + 1) es)
+pauses-taken p first old new es n e within is before more =
+    more
+    ∙ ap (λ xs. xs ++ pauses_in p e) before
+    ∙ append_assoc first (pauses_of p (take n es)) (pauses_in p e)
+    ∙ ap (λ xs. first ++ xs) (sym (pauses-more p (take n es) e))
+    ∙ ap (λ xs. first ++ pauses_of p xs) (sym (taken es n e within is))
+
+what-fits : (doc : Doc) (p at : ℕ) (what : What) → at ≤ 604800000 → IsLawfulWhat doc what → IfSome (pause_of p what) (λ beats. at + beats < 2 ^ 32)
+what-fits doc p at (whats.Pause id beats) within lawful = by_test (id.0 == p)
+  where
+    by_test : (b : Bool) → IfSome (when b beats) (λ n. at + n < 2 ^ 32)
+    by_test true = omega (arith, within, lawful.2)
+    by_test false = tt
+what-fits doc p at (whats.Rate id ppm) within lawful = tt
+what-fits doc p at (whats.Delay id requests replies) within lawful = tt
+what-fits doc p at (whats.Loss id requests replies) within lawful = tt
+what-fits doc p at (whats.Crash id) within lawful = tt
+what-fits doc p at (whats.Start id) within lawful = tt
+what-fits doc p at (whats.Stop id) within lawful = tt
+what-fits doc p at (whats.Watch id on) within lawful = tt
+what-fits doc p at (whats.Ready id status) within lawful = tt
+what-fits doc p at (whats.Put key object) within lawful = tt
+what-fits doc p at (whats.Remove key) within lawful = tt
+
+-- a pause's end fits in a beat
+pub pause-fits : (p end from : ℕ) (es : List Event) (n : ℕ) (e : Event) → n < length es → e ≡ get_or es n e → end ≤ 604800000 → AreEventsFrom end from (drop n es) → IfSome (pause_of p e.what) (λ beats. e.beat.0 + beats < 2 ^ 32)
+pause-fits p end from es n e within is most s = of-head (subst (AreEventsFrom end from) (left es n e within is) s)
+  where
+    of-head : AreEventsFrom end from (e ∷ drop (n + 1) es) → IfSome (pause_of p e.what) (λ beats. e.beat.0 + beats < 2 ^ 32)
+    of-head (doc, ends, lawful) = what-fits doc p e.beat.0 e.what (omega (arith, most, ends, lawful.1)) lawful.2

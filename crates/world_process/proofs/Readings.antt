@@ -1,12 +1,12 @@
 -- A controller's clock reads what the definitions say.
-use Rattle.std.proofs.Common.{◌≡◌, ℕ, zero, suc, ◌+◌, ◌*◌, ◌/◌, refl, sym, ap, ◌∙◌}
+use Rattle.std.proofs.Common.{◌≡◌, ℕ, zero, suc, ◌+◌, ◌*◌, ◌/◌, refl, ap, ◌∙◌}
 use Rattle.kube_objects.specs.Clocks.{local, wall, moved}
 use Rattle.kube_objects.specs.Document.{Doc, beat_micros, offset_millis, retry_period}
-use Rattle.kube_objects.specs.Pauses.{AreUnpaused, can_at}
-use Rattle.kube_objects.proofs.Pauses.{can_now}
+use Rattle.kube_objects.specs.Pauses.{can_at}
 use Rattle.leader_elector.specs.declared.timing.Timing.{Timing}
 use Rattle.leader_elector.specs.Stands.{IsTimingOf}
 use Rattle.skew_clock.specs.Clocking.{Clocking, rate_at, reading, wall_when}
+use Rattle.pause_times.specs.Clocked.{IsClockOf}
 use Rattle.world_process.specs.Clocked.{ClockStands}
 
 pub reading-local : (doc : Doc) (p k : ℕ) (c : Clocking) → ClockStands doc p c → reading c k ≡ local doc p k
@@ -33,7 +33,11 @@ readings-are doc p k beat now shown c s at reads shows =
     let now_is : now ≡ local doc p k = reads ∙ reading-local doc p beat c s ∙ ap (local doc p) at in
     record { now = now_is; wall = shows ∙ wall-when doc p k now c s now_is }
 
--- the reading at which the next attempt can begin, where nobody is paused
-pub next-at : (doc : Doc) (p k now : ℕ) (t : Timing) → IsTimingOf doc p t → now ≡ local doc p k → AreUnpaused doc.events → now + t.retry ≡ can_at doc p (local doc p k + retry_period doc p)
-next-at doc p k now t s at none =
-    ap (λ n. n + t.retry) at ∙ ap (λ n. local doc p k + n) s.retry ∙ sym (can_now doc p (local doc p k + retry_period doc p) none)
+-- ---- pauses
+
+pub clock-is : (doc : Doc) (p : ℕ) (c : Clocking) → ClockStands doc p c → IsClockOf doc p c
+clock-is doc p c s = record { end = s.end; local = λ k within. reading-local doc p k c s }
+
+-- the reading at which the next attempt can begin
+pub next-at : (doc : Doc) (p k now next : ℕ) (t : Timing) → IsTimingOf doc p t → now ≡ local doc p k → next ≡ can_at doc p (now + t.retry) → next ≡ can_at doc p (local doc p k + retry_period doc p)
+next-at doc p k now next t s at can = can ∙ ap (can_at doc p) (ap (λ n. n + t.retry) at ∙ ap (λ n. local doc p k + n) s.retry)

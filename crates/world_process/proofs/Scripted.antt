@@ -1,5 +1,5 @@
 -- A controller through the script's entries: those on others, and those on itself.
-use Rattle.std.proofs.Common.{◌≡◌, ℕ, ◌+◌, ◌<◌, ◌^◌, ◌++◌, ◌&&◌, not, true, false, List, [], ◌∷◌, Option, Some, None, refl, sym, ap, ◌∙◌, subst}
+use Rattle.std.proofs.Common.{◌≡◌, ℕ, ◌+◌, ◌<◌, ◌^◌, ◌++◌, ◌==◌, ◌&&◌, not, true, false, List, [], ◌∷◌, Option, Some, None, refl, sym, ap, ◌∙◌, subst}
 use Rattle.std.proofs.lemmas.List.{append-nil}
 use Rattle.kube_base.specs.declared.numbers.ProcId.{ProcId}
 use Rattle.kube_base.specs.declared.numbers.Version.{Version}
@@ -154,3 +154,24 @@ stopped-leading doc k id h c ask awake s up r =
           number = r.1;
           stands = λ arrives. stands-role doc p h (entry k 1 q (Sends (next_call q k Release ask.request g) arrives) ∷ g) c (role.Down None) s refl down;
         }
+
+-- ---- a controller that is paused isn't stopped
+
+pub stopped-paused : (doc : Doc) (k : ℕ) (id : ProcId) (h : List Entry) (c : Controller) → is_paused doc id.0 k ≡ true → ControllerStands doc id.0 h c → StoppedAs doc k id h c (record { stopped = false; ask = None })
+stopped-paused doc k id h c paused s =
+    record {
+      told = ap printed base;
+      asks = (next ∙ sym base, subst (λ g. ControllerStands doc p g c) (sym base) (controller-event doc p k 1 (what.Stop id) None h c (ap (λ b. (p == p) && not b) paused ∙ and-false (p == p)) s));
+    }
+  where
+    p : ℕ
+    p = id.0
+
+    e : Entry
+    e = script_entry k 1 (Event (what.Stop id) None)
+
+    base : stopped doc k id h ≡ e ∷ h
+    base = ap (λ b. stop_in k p (only_if (not b) (alive p h)) (e ∷ h)) paused
+
+    next : happens doc k (what.Stop id) h ≡ e ∷ h
+    next = ap (λ b. stop doc k p (only_if (not b) (alive p h)) h (e ∷ h)) paused

@@ -20,7 +20,7 @@ use Rattle.world_process.proofs.Unheard.{begun-unheard, call-unheard, shown-unhe
 
 pub stands-role : (doc : Doc) (p : ℕ) (h g : List Entry) (c : Controller) (r : Role) → ControllerStands doc p h c → starts p g ≡ starts p h → RoleStands doc p c.incarnation g r → ControllerStands doc p g (record c { role = r })
 stands-role doc p h g c r s same stands =
-    record { sort = s.sort; me = s.me; incarnation = s.incarnation ∙ sym same; timing = s.timing; clock = s.clock; up_first = s.up_first; waking = s.waking; role = stands }
+    record { sort = s.sort; me = s.me; incarnation = s.incarnation ∙ sym same; timing = s.timing; clock = s.clock; up_first = s.up_first; pauses = s.pauses; waking = s.waking; role = stands }
 
 pub role-at : (doc : Doc) (p : ℕ) (h : List Entry) (c : Controller) (r : Role) → ControllerStands doc p h c → c.role ≡ r → RoleStands doc p c.incarnation h r
 role-at doc p h c r s is = subst (λ x. RoleStands doc p c.incarnation h x) is s.role
@@ -46,6 +46,7 @@ stands-started doc k step p i h c x s is stands =
       timing = s.timing;
       clock = s.clock;
       up_first = s.up_first;
+      pauses = s.pauses;
       waking = s.waking;
       role = (alive-start k step (identity p (starts p h + 1)) h ∙ ap (λ (n : ℕ). Some n) (sym is), subst (λ n. CandidateStands doc (identity p n) (start k step p h) x) (sym is) stands);
     }

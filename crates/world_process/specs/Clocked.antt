@@ -13,6 +13,7 @@ pub record ClockStands (doc : Doc) (p : ℕ) (c : Clocking) : Type 0 where
   pub epoch : c.epoch ≡ doc.settings.epoch.0
   pub offset : (at : ℕ) → moved_micros c.offset at ≡ moved (offset_millis doc p) at
   pub micros : c.beat_micros ≡ beat_micros doc
+  pub end : c.end ≡ end_beat doc
   pub rates : (j : ℕ) → rate_at c.sets j ≡ rate doc p j
 
 -- the events are lawful in a document with this end, none before this beat

@@ -12,6 +12,7 @@ use Rattle.kube_objects.specs.Wire.{Back}
 use Rattle.history.specs.Printed.{printed}
 use Rattle.history.specs.Steps.{restart, attempts}
 use Rattle.leader_elector.specs.Stands.{IsTimingOf, CandidateStands, LeadingStands}
+use Rattle.pause_times.specs.Owned.{PausesStand}
 use Rattle.world_process.specs.declared.controller.Controller.{Controller}
 use Rattle.world_process.specs.declared.controller.Role.{Role}
 use Rattle.world_process.specs.declared.controller.Role.TheVariants.{Down, Candidate, Leading}
@@ -51,6 +52,7 @@ pub record ControllerStands (doc : Doc) (p : ℕ) (h : List Entry) (c : Controll
   pub incarnation : c.incarnation ≡ starts p h
   pub timing : IsTimingOf doc p c.timing
   pub clock : ClockStands doc p c.clock
+  pub pauses : PausesStand doc p c.pauses
   pub up_first : c.up_first ≡ is_up_first doc p
   pub role : RoleStands doc p c.incarnation h c.role
   pub waking : IsBeatOf c.clock c.waking.until c.waking.below

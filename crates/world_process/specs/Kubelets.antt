@@ -9,6 +9,7 @@ use Rattle.kube_objects.specs.Process.{alive, starts}
 use Rattle.kube_objects.specs.Wire.{Back}
 use Rattle.kubelet_node.specs.declared.kubelet.Kubelet as rounds
 use Rattle.kubelet_node.specs.Stands.{KubeletStands as AreRounds}
+use Rattle.pause_times.specs.Owned.{PausesStand}
 use Rattle.world_process.specs.declared.kubelet.Kubelet.{Kubelet}
 use Rattle.world_process.specs.declared.moves.Received.{Received}
 use Rattle.world_process.specs.declared.moves.Turn.{Turn}
@@ -29,6 +30,7 @@ pub record KubeletStands (doc : Doc) (p : ℕ) (h : List Entry) (b : Kubelet) : 
   pub lease : b.timing.lease_seconds ≡ doc.settings.node_lease_duration_seconds
   pub timeout : b.timing.timeout ≡ call_timeout doc p
   pub clock : ClockStands doc p b.clock
+  pub pauses : PausesStand doc p b.pauses
   pub up_first : b.up_first ≡ is_up_first doc p
   pub rounds : RoundsStand doc p b.incarnation h b.rounds
   pub waking : IsBeatOf b.clock b.waking.until b.waking.below

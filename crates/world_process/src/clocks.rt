@@ -1,8 +1,10 @@
-// The clock of a process, with the rates of all its events from the start.
-ghost use Rattle.std.specs.Prelude.{◌≡◌, ◌*◌, ◌*ℤ◌, ◌≤ℤ◌, pos, negsuc, ◌<◌, ◌≤◌, ℕ, IfOk, OnOk};
+// The clock of a process, with the rates of all its events from the start, and its pauses.
+ghost use Rattle.std.specs.Prelude.{◌≡◌, ◌*◌, ◌*ℤ◌, ◌≤ℤ◌, ◌++◌, pos, negsuc, ◌<◌, ◌≤◌, ℕ, IfOk, OnOk};
 ghost use Rattle.kube_objects.specs.Clocks.{rate_of as ppm_of, last_rate};
 ghost use Rattle.kube_objects.specs.Document.{Doc, of_millis};
 ghost use Rattle.kube_objects.specs.Newest.{or_else};
+ghost use Rattle.history.specs.Sound.{AreApart};
+ghost use Rattle.pause_times.specs.Owned.{PausesStand, pauses_of};
 ghost use Rattle.script_reader.specs.Lawful.{AreLawful, IsLawful};
 ghost use Rattle.skew_clock.specs.Clocking.{rate_at, last_set};
 ghost use Rattle.world_process.specs.Beats.{IsBeatOf};
@@ -10,22 +12,27 @@ ghost use Rattle.world_process.specs.Clocked.{AreEventsFrom, ClockStands, IsMade
 
 use kube_base::{Beat, Local, NoMemory, ProcId};
 use kube_objects::{Event, Proc, Settings, What};
+use pause_times::Pauses;
 use skew_clock::Clock;
 use std::alloc::Global;
 
-/// The clock of a process.
-pub fn clock_for(
+/// The clock of a process, and its pauses. Both are read in one walk over the events.
+pub fn times_for(
     alloc: Global,
     me: ProcId,
     settings: &Settings,
     process: &Proc,
     events: &[Event],
-) -> Result<Clock, NoMemory>
+) -> Result<(Clock, Pauses), NoMemory>
     requires settings { AreLawful settings.now }
     requires process { IsLawful process.now }
     requires events { AreEventsFrom settings.now.end_beat.0 0 events.now }
-    ensures end { IfOk result (λ clock. clock.end ≡ settings.now.end_beat.0) }
-    ensures stands { (doc : Doc) (p : ℕ) → IsMadeOf doc p me.0 settings.now process.now events.now → IfOk result (ClockStands doc p) }
+    requires apart { AreApart events.now }
+    ensures end { IfOk result (λ times. times.0.end ≡ settings.now.end_beat.0) }
+    ensures clock { (doc : Doc) (p : ℕ) → IsMadeOf doc p me.0 settings.now process.now events.now
+        → IfOk result (λ times. ClockStands doc p times.0) }
+    ensures pauses { (doc : Doc) (p : ℕ) → IsMadeOf doc p me.0 settings.now process.now events.now
+        → IfOk result (λ times. PausesStand doc p times.1) }
 {
     let mut clock = Clock::new(
         alloc,
@@ -35,8 +42,9 @@ pub fn clock_for(
         settings.end_beat,
         process.rate_ppm,
     )?;
-    set_rates(&mut clock, me, events)?;
-    Ok(clock)
+    let mut pauses = Pauses::new(alloc);
+    take_events(&mut clock, &mut pauses, me, events)?;
+    Ok((clock, pauses))
 }
 
 /// Milliseconds in units of 10^-12 s.
@@ -57,16 +65,24 @@ fn microseconds(millis: i64) -> i64
     millis * 1000
 }
 
-// Sets the rates of a process's events on its clock.
-fn set_rates(clock: &mut Clock, me: ProcId, events: &[Event]) -> Result<(), NoMemory>
-    requires { AreEventsFrom clock.old.end (last_set clock.old.sets) events.now }
+// Sets the rates of a process's events on its clock, and adds the pauses to its own.
+fn take_events(
+    clock: &mut Clock,
+    pauses: &mut Pauses,
+    me: ProcId,
+    events: &[Event],
+) -> Result<(), NoMemory>
+    requires events { AreEventsFrom clock.old.end (last_set clock.old.sets) events.now }
+    requires end { clock.old.end ≤ 604800000 }
     ensures same { OnOk result (SameSpan clock.old clock.new) }
     ensures rates { OnOk result ((j : ℕ) → rate_at clock.new.sets j ≡ or_else (rate_at clock.old.sets j) (last_rate me.0 j events.now)) }
+    ensures pauses { OnOk result (pauses.new.all.items ≡ pauses.old.all.items ++ pauses_of me.0 events.now) }
 {
     for event in events {
         if let Some(ppm) = rate_of(&event.what, me) {
             clock.set_rate(event.beat, ppm)?;
         }
+        pauses.add(me, event)?;
     }
     Ok(())
 }

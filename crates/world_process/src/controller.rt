@@ -8,9 +8,9 @@ ghost use Rattle.kube_objects.specs.Clocks.{local, wall as wall_in};
 ghost use Rattle.kube_objects.specs.Document.{Doc, is_controller, restart_delay};
 ghost use Rattle.kube_objects.specs.Entry.{Entry};
 ghost use Rattle.kube_objects.specs.Identities.{identity};
-ghost use Rattle.kube_objects.specs.Pauses.{AreUnpaused, is_paused};
 ghost use Rattle.kube_objects.specs.Process.{alive, starts};
 ghost use Rattle.kube_objects.specs.Wire.{Back};
+ghost use Rattle.history.specs.Sound.{AreApart};
 ghost use Rattle.history.specs.Steps.{happens, start, restart};
 ghost use Rattle.agenda_laws.specs.Times.{elector_reading};
 ghost use Rattle.leader_elector.specs.declared.leading.Leading.{Leading};
@@ -24,12 +24,13 @@ ghost use Rattle.world_process.specs.Controllers.{Crashed, Begun, StoppedAs, Res
 ghost use Rattle.world_process.specs.Plain.{IsPlain, IsFew};
 ghost use Rattle.world_process.specs.Processes.{in_term_as};
 
-use crate::clocks::{clock_for, picoseconds};
+use crate::clocks::{picoseconds, times_for};
 use crate::moves::{Received, Stopped, Turn, asks, final_turn, leads, stays, stop_with, turn_with};
 use crate::waking::Waking;
 use kube_base::{Beat, Local, NoMemory, ProcId, Wall};
 use kube_objects::{Event, Proc, Reply, Settings};
 use leader_elector::{Acting, Candidate, Heard, Leading, LeadingNext, Timing};
+use pause_times::Pauses;
 use skew_clock::Clock;
 use std::alloc::Global;
 use std::mem;
@@ -49,6 +50,7 @@ pub struct Controller {
     pub incarnation: u32,
     pub timing: Timing,
     pub clock: Clock,
+    pub pauses: Pauses,
     pub up_first: bool,
     pub role: Role,
     pub waking: Waking,
@@ -66,6 +68,7 @@ impl Controller {
         requires settings { AreLawful settings.now }
         requires process { IsLawful process.now }
         requires events { AreEventsFrom settings.now.end_beat.0 0 events.now }
+        requires apart { AreApart events.now }
         ensures end { IfOk result (λ c. c.clock.end ≡ settings.now.end_beat.0) }
         ensures stands { (doc : Doc) (p : ℕ) → IsMadeOf doc p me.0 settings.now process.now events.now → is_controller doc p ≡ true
             → IfOk result (ControllerStands doc p []) }
@@ -77,12 +80,13 @@ impl Controller {
             timeout: picoseconds(process.timeout_millis),
             fast: settings.fast_renew,
         };
-        let clock = clock_for(alloc, me, settings, process, events)?;
+        let (clock, pauses) = times_for(alloc, me, settings, process, events)?;
         Ok(Controller {
             me,
             incarnation: 0,
             timing,
             clock,
+            pauses,
             up_first: process.up,
             role: Role::Down(None),
             waking: Waking::new(),
@@ -132,14 +136,17 @@ impl Controller {
     }
 
     /// Goes down in order where it is up, without a restart: a leader whose last shown holder is itself asks its release. A
-    /// restart that waits is cancelled.
+    /// restart that waits is cancelled. Where it is paused it stays as it is.
     pub fn stop(&mut self, beat: Beat) -> Stopped
         requires { beat.0 ≤ self.old.clock.end }
         ensures same { SameController self.old self.new }
         ensures incarnation { self.new.incarnation ≡ self.old.incarnation }
         ensures stands { (doc : Doc) (k : ℕ) (id : ProcId) (h : List Entry) → ControllerStands doc id.0 h self.old → beat.0 ≡ k
-            → is_paused doc id.0 k ≡ false → IsFew h → StoppedAs doc k id h self.new result }
+            → IsFew h → StoppedAs doc k id h self.new result }
     {
+        if self.pauses.is_paused(beat) {
+            return stop_with(false, None);
+        }
         match mem::replace(&mut self.role, Role::Down(None)) {
             Role::Down(_) => stop_with(false, None),
             Role::Candidate(_) => stop_with(true, None),
@@ -151,7 +158,8 @@ impl Controller {
         }
     }
 
-    fn is_up(&self) -> bool
+    /// Whether it is up.
+    pub fn is_up(&self) -> bool
         ensures { result ≡ is_up_as self.now.role }
     {
         match &self.role {
@@ -276,7 +284,7 @@ impl Controller {
         ensures incarnation { self.new.incarnation ≡ self.old.incarnation }
         ensures stands { (doc : Doc) (k p : ℕ) (b : Back) (h : List Entry) → ControllerStands doc p h self.old → beat.0 ≡ k
             → b.who ≡ identity p incarnation → b.call.number ≡ number → b.reply ≡ reply.now
-            → IsFew h → AreUnpaused doc.events → Replied doc k p b h self.new result }
+            → IsFew h → Replied doc k p b h self.new result }
     {
         if incarnation != self.incarnation {
             return stays();
@@ -304,13 +312,13 @@ impl Controller {
         ensures incarnation { self.new.incarnation ≡ self.old.incarnation }
         ensures stands { (doc : Doc) (k p : ℕ) (b : Back) (h : List Entry) (l : Leading) → ControllerStands doc p h self.old
             → self.old.role ≡ role.Leading l → now.0 ≡ local doc p k → wall.0 ≡ wall_in doc p k → b.who ≡ identity p self.old.incarnation
-            → b.call.number ≡ number → b.reply ≡ reply → IsFew h → AreUnpaused doc.events → Replied doc k p b h self.new result }
+            → b.call.number ≡ number → b.reply ≡ reply → IsFew h → Replied doc k p b h self.new result }
     {
         let Role::Leading(leading) = mem::replace(&mut self.role, Role::Down(None)) else {
             return stays();
         };
-        // Nobody stands still, so the next attempt can begin when it is due.
-        let next = Local(now.0 + self.timing.retry);
+        let due = Local(now.0 + self.timing.retry);
+        let next = self.pauses.can_at(&self.clock, due);
         match leading.on_reply(number, reply, now, next, wall) {
             LeadingNext::Stay(leading) => {
                 self.role = Role::Leading(leading);

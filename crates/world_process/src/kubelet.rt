@@ -9,6 +9,7 @@ ghost use Rattle.kube_objects.specs.Identities.{identity};
 ghost use Rattle.kube_objects.specs.InForce.{posted_status};
 ghost use Rattle.kube_objects.specs.Process.{starts};
 ghost use Rattle.kube_objects.specs.Wire.{Back};
+ghost use Rattle.history.specs.Sound.{AreApart};
 ghost use Rattle.history.specs.Steps.{happens, start, kubelet_turn};
 ghost use Rattle.agenda_laws.specs.Times.{kubelet_reading};
 ghost use Rattle.script_reader.specs.Lawful.{AreLawful, IsLawful};
@@ -17,12 +18,13 @@ ghost use Rattle.world_process.specs.Clocked.{AreEventsFrom, IsMadeOf};
 ghost use Rattle.world_process.specs.Kubelets.{KubeletStands, SameKubelet, Crashed, Begun, Turned, Replied};
 ghost use Rattle.world_process.specs.Plain.{IsPlain, IsFew};
 
-use crate::clocks::{clock_for, picoseconds};
+use crate::clocks::{picoseconds, times_for};
 use crate::moves::{Received, Turn, effect_with, stays, turn_with};
 use crate::round_timing::RoundTiming;
 use crate::waking::Waking;
 use kube_base::{Beat, Local, NoMemory, ProcId};
 use kube_objects::{Event, Proc, ReadyStatus, Reply, Settings};
+use pause_times::Pauses;
 use skew_clock::Clock;
 use std::alloc::Global;
 
@@ -35,6 +37,7 @@ pub struct Kubelet {
     pub node: u32,
     pub timing: RoundTiming,
     pub clock: Clock,
+    pub pauses: Pauses,
     pub up_first: bool,
     pub rounds: Option<kubelet_node::Kubelet>,
     pub waking: Waking,
@@ -52,6 +55,7 @@ impl Kubelet {
         requires settings { AreLawful settings.now }
         requires process { IsLawful process.now }
         requires events { AreEventsFrom settings.now.end_beat.0 0 events.now }
+        requires apart { AreApart events.now }
         ensures end { IfOk result (λ b. b.clock.end ≡ settings.now.end_beat.0) }
         ensures stands { (doc : Doc) (p : ℕ) → IsMadeOf doc p me.0 settings.now process.now events.now → is_controller doc p ≡ false
             → IfOk result (KubeletStands doc p []) }
@@ -60,13 +64,14 @@ impl Kubelet {
             lease_seconds: settings.node_lease_duration_seconds,
             timeout: picoseconds(process.timeout_millis),
         };
-        let clock = clock_for(alloc, me, settings, process, events)?;
+        let (clock, pauses) = times_for(alloc, me, settings, process, events)?;
         Ok(Kubelet {
             me,
             incarnation: 0,
             node: process.name,
             timing,
             clock,
+            pauses,
             up_first: process.up,
             rounds: None,
             waking: Waking::new(),

@@ -14,7 +14,7 @@ pub struct Turn {
     pub ask: Option<Ask>,
 }
 
-/// What a stop did: whether the process was up, and the release that it asks.
+/// What a stop did: whether it stopped the process, and the release that it asks.
 #[derive(Clone, Copy, Debug)]
 pub struct Stopped {
     pub stopped: bool,

@@ -8,12 +8,14 @@ ghost use Rattle.kube_objects.specs.Document.{Doc, is_controller, restart_delay}
 ghost use Rattle.kube_objects.specs.Entry.{Entry};
 ghost use Rattle.kube_objects.specs.Identities.{identity};
 ghost use Rattle.kube_objects.specs.InForce.{posted_status};
-ghost use Rattle.kube_objects.specs.Pauses.{AreUnpaused, is_paused};
+ghost use Rattle.kube_objects.specs.Newest.{when};
+ghost use Rattle.kube_objects.specs.Pauses.{is_paused as is_paused_at, resume as resume_of};
 ghost use Rattle.kube_objects.specs.Process.{alive, starts};
 ghost use Rattle.kube_objects.specs.Wire.{Back};
 ghost use Rattle.history.specs.Steps.{happens, start};
 ghost use Rattle.agenda_laws.specs.Times.{is_early};
 ghost use Rattle.leader_elector.specs.Stands.{acting_identity};
+ghost use Rattle.pause_times.specs.Owned.{PausesStand};
 ghost use Rattle.world_process.specs.Beats.{IsBeatOf, beat_in, own_reading, reading_of};
 ghost use Rattle.world_process.specs.Moves.{own_turn};
 ghost use Rattle.world_process.specs.Plain.{IsPlain, IsFew};
@@ -27,6 +29,7 @@ use crate::waking::Waking;
 use kube_base::{Beat, Local, ProcId};
 use kube_objects::{Actor, ReadyStatus, Reply};
 use leader_elector::Acting;
+use pause_times::Pauses;
 use skew_clock::Clock;
 
 /// A process of the world.
@@ -54,6 +57,40 @@ impl Process {
         match self {
             Process::Controller(controller) => controller.incarnation,
             Process::Kubelet(kubelet) => kubelet.incarnation,
+        }
+    }
+
+    /// Whether it is up.
+    pub fn is_up(&self) -> bool
+        ensures { (doc : Doc) (p : ℕ) (h : List Entry) → ProcessStands doc p h self.now → alive p h ≡ when result (incarnation_of self.now) }
+    {
+        match self {
+            Process::Controller(controller) => controller.is_up(),
+            Process::Kubelet(kubelet) => kubelet.rounds.is_some(),
+        }
+    }
+
+    /// Whether it is paused at a beat.
+    pub fn is_paused(&self, beat: Beat) -> bool
+        ensures { (doc : Doc) (p : ℕ) (h : List Entry) → ProcessStands doc p h self.now → result ≡ is_paused_at doc p beat.0 }
+    {
+        self.pauses().is_paused(beat)
+    }
+
+    /// The first beat from this one on at which it isn't paused.
+    pub fn resume(&self, beat: Beat) -> Beat
+        ensures { (doc : Doc) (p : ℕ) (h : List Entry) → ProcessStands doc p h self.now → result.0 ≡ resume_of doc p beat.0 }
+    {
+        self.pauses().resume(beat)
+    }
+
+    // Its pauses.
+    fn pauses(&self) -> &Pauses
+        ensures { (doc : Doc) (p : ℕ) (h : List Entry) → ProcessStands doc p h self.now → PausesStand doc p result.now }
+    {
+        match self {
+            Process::Controller(controller) => &controller.pauses,
+            Process::Kubelet(kubelet) => &kubelet.pauses,
         }
     }
 
@@ -114,13 +151,13 @@ impl Process {
         }
     }
 
-    /// A controller goes down in order where it is up. No lawful document stops a kubelet.
+    /// A controller goes down in order where it is up and not paused. No lawful document stops a kubelet.
     pub fn stop(&mut self, beat: Beat) -> Stopped
         requires { beat.0 ≤ (clock_of self.old).end }
         ensures same { SameProcess self.old self.new }
         ensures stands { (doc : Doc) (k : ℕ) (id : ProcId) (h : List Entry) → ProcessStands doc id.0 h self.old
             → is_controller doc id.0 ≡ true
-            → beat.0 ≡ k → is_paused doc id.0 k ≡ false → IsFew h → StoppedAs doc k id h self.new result }
+            → beat.0 ≡ k → IsFew h → StoppedAs doc k id h self.new result }
     {
         match self {
             Process::Controller(controller) => controller.stop(beat),
@@ -223,7 +260,7 @@ impl Process {
         ensures same { SameProcess self.old self.new }
         ensures stands { (doc : Doc) (k p : ℕ) (b : Back) (h : List Entry) → ProcessStands doc p h self.old
             → beat.0 ≡ k → b.who ≡ identity p incarnation → b.call.number ≡ number → b.reply ≡ reply.now → IsFew h
-            → AreUnpaused doc.events → Replied doc k p b h self.new result }
+            → Replied doc k p b h self.new result }
     {
         match self {
             Process::Controller(controller) => controller.receive(incarnation, number, reply, beat),

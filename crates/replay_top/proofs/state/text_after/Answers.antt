@@ -1,4 +1,4 @@
-use Rattle.std.proofs.Common.{◌≡◌, ◌≤◌, ◌+◌, ℕ, List, IfOk, refl, sym, ap, ◌∙◌, subst}
+use Rattle.std.proofs.Common.{◌≡◌, ◌≤◌, ◌+◌, ℕ, List, IfOk, refl, sym, ap, ◌∙◌, subst, arith}
 use Rattle.history.specs.History.{history}
 use Rattle.kube_objects.specs.Document.{processes}
 use Rattle.kube_objects.specs.Stored.{stored}
@@ -8,8 +8,9 @@ use Rattle.script_reader.specs.Documents.{doc_of}
 use Rattle.script_reader.specs.Lawful.{IsWellNamed}
 use Rattle.script_reader.specs.Walk.{numbers_of}
 use Rattle.world_core.specs.Worlds.{IsOwn, WorldStands, at_of, names_of}
-use Rattle.replay_top.specs.State.{IsReadAgain, line_of, state, state_list}
-use Rattle.replay_top.proofs.States.{items-stored, moved}
+use Rattle.kube_base.specs.Names.{AreNames}
+use Rattle.replay_top.specs.State.{IsReadAgain, line_of, state, state_list, stored_after}
+use Rattle.replay_top.proofs.States.{items-stored, moved, ok-then, state-readable}
 use Rattle.replay_top.proofs.state.text_after.Goals as goal
 
 pub run_up_to-requires-clause-runs : goal.run_up_to-requires-clause-runs
@@ -48,7 +49,7 @@ returns-clause-text g c =
     let w = c.in_ok-world.world in
     let items = c.in_ok-items.items in
     let run = c.in_ok-world.ensures.stands doc c.requires.lawful c.in_ok-first.ensures.stands c.in_ok-first.ensures.ready.2 in
-    let named = c.names.ensures ∙ c.in_ok-world.ensures.names ∙ c.in_ok-first.ensures.names in
+    let named = c.names-names.ensures ∙ c.in_ok-world.ensures.names ∙ c.in_ok-first.ensures.names in
     let known = c.as_slice-2.ensures ∙ c.in_ok-known.ensures ∙ ap (λ procs. numbers_of procs) c.as_slice.ensures in
     let all = items-stored (history doc (last + 1)) items c.in_ok-items.ensures.ascend
     (λ q. c.in_ok-items.ensures.stored doc (at_of w) (history doc (at_of w)) q run.stands ∙ ap (λ h. object_of (stored q h)) (sym run.same)) in
@@ -63,8 +64,15 @@ returns-clause-reads_back g c =
     let w = c.in_ok-world.world in
     let items = c.in_ok-items.items in
     let run = c.in_ok-world.ensures.stands doc c.requires.lawful c.in_ok-first.ensures.stands c.in_ok-first.ensures.ready.2 in
-    let named = c.names.ensures ∙ c.in_ok-world.ensures.names ∙ c.in_ok-first.ensures.names in
+    let named = c.names-names.ensures ∙ c.in_ok-world.ensures.names ∙ c.in_ok-first.ensures.names in
     let known = c.as_slice-2.ensures ∙ c.in_ok-known.ensures ∙ ap (λ procs. numbers_of procs) c.as_slice.ensures in
     let all = items-stored (history doc (last + 1)) items c.in_ok-items.ensures.ascend
     (λ q. c.in_ok-items.ensures.stored doc (at_of w) (history doc (at_of w)) q run.stands ∙ ap (λ h. object_of (stored q h)) (sym run.same)) in
-    moved (λ ns kn xs. IfOk c.list_line.result (λ text. IsReadAgain ns kn xs)) named known all c.list_line.ensures.reads_back
+    let are : AreNames d.names = subst AreNames named c.len-held.ensures.names in
+    let again = moved (λ ns kn xs. IfOk c.list_line.result (λ text. IsReadAgain ns kn xs)) named known all c.list_line.ensures.reads_back in
+    ok-then c.list_line.result
+    (λ (r : IsReadAgain d.names (numbers_of d.controllers) (stored_after (history doc (last + 1)))). record {
+      text = r.text;
+      list = λ few path. r.list (state-readable d.names doc (last + 1) are c.requires.lawful c.requires.named (omega (arith, c.requires.within)) few) path;
+    })
+    again

@@ -1,8 +1,9 @@
-use Rattle.std.proofs.Common.{◌++◌, refl, sym, ap, ◌∙◌}
+use Rattle.std.proofs.Common.{◌<◌, ◌++◌, length, refl, sym, ap, ◌∙◌, subst}
 use Rattle.kube_objects.specs.declared.deed.Actor.TheVariants as actor
 use Rattle.kube_objects.specs.Document.{processes}
 use Rattle.history.specs.Printed.{answer_act, deeds_of}
 use Rattle.wire_calls.specs.InFlight.{rest_of}
+use Rattle.world_core.specs.States.{EachStands}
 use Rattle.world_core.proofs.Loops.{answering-more, answering-done, rewired}
 use Rattle.world_core.proofs.state.State.answer_requests.Goals as goal
 
@@ -25,7 +26,8 @@ arriving-preserved c =
           (record {
             answers = c.in_ok-reply.ensures.answer a.now rest.store;
             store = λ e is. c.in_ok-reply.ensures.ok a.now e rest.store is;
-            wire = λ q call wrote who number. c.in_ok-send_back.ensures.ok doc (processes doc) k 2 (rest_of a.left) coming a.now q call wrote (c.arrival.ensures.stands (processes doc) k a.left coming a.now rest.wire at) at who number rest.document.unpaused;
+            wire = λ q call wrote who number within. c.in_ok-send_back.ensures.ok doc (processes doc) k 2 (rest_of a.left) coming a.now q call wrote (c.arrival.ensures.stands (processes doc) k a.left coming a.now rest.wire at) at who number (subst (EachStands doc a.now) (sym c.as_slice-processes.ensures) a.running.world.processes)
+                (subst (λ xs. q.process < length xs) (sym c.as_slice-processes.ensures) (subst (λ n. q.process < n) (sym rest.document.count) within));
             told = c.in_ok-tell.ensures
                 ∙ ap (λ x. c.arriving.deeds ++ deeds_of c.arriving.self.beat.0 (actor.Proc c.in-Some.arrived.who c.in-Some.arrived.incarnation) x) c.answer_act.ensures
                 ∙ ap (λ n. c.arriving.deeds ++ deeds_of n (actor.Proc c.in-Some.arrived.who c.in-Some.arrived.incarnation) (answer_act c.in-Some.arrived.request c.in_ok-reply.reply)) at;

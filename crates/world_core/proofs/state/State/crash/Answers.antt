@@ -23,7 +23,7 @@ returns-clause-stands c =
     let index : i < vec_len w.processes = omega (arith, c.if-i-len.false, c.len.ensures) in
     let was = read-at w i c0 index c.index_mut-process.ensures.value in
     let done = when c.crash-crashed.result act.Crash in
-    on-ok c.tell.result _ _ (λ told doc k before arriving coming h r lawful none few.
+    on-ok c.tell.result _ _ (λ told doc k before arriving coming h r lawful few.
     let s = r.world.processes i c0 was in
     let around = around-crash doc k c.args.who arriving coming h w lawful (around-world doc k i arriving coming h w r.world) in
     let crashed = c.crash-crashed.ensures.stands doc k c.args.who h s in

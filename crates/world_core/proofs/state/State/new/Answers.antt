@@ -2,6 +2,7 @@ use Rattle.std.proofs.Common.{◌≡◌, [], length, length-append, refl, sym, a
 use Rattle.kube_objects.specs.Document.{Doc, processes}
 use Rattle.kube_objects.specs.InFlight.{replies_due}
 use Rattle.history.specs.History.{history}
+use Rattle.history.specs.Sound.{AreApart}
 use Rattle.beat_laws.proofs.Unticked.{first_unticked}
 use Rattle.script_reader.specs.Documents.{doc_of}
 use Rattle.script_reader.specs.Lawful.{AreLawfulFrom}
@@ -12,6 +13,9 @@ use Rattle.world_core.proofs.state.State.new.Goals as goal
 
 pub processes_of-requires-clause-events : goal.processes_of-requires-clause-events
 processes_of-requires-clause-events c = let doc = doc_of c.args.document in (doc, refl, subst (AreLawfulFrom doc 0) (sym c.as_slice.ensures) c.requires.lawful.events)
+
+pub processes_of-requires-clause-apart : goal.processes_of-requires-clause-apart
+processes_of-requires-clause-apart c = subst AreApart (sym c.as_slice.ensures) c.requires.lawful.apart
 
 pub returns-clause-ready : goal.returns-clause-ready
 returns-clause-ready c =
@@ -34,7 +38,7 @@ pub returns-clause-stands : goal.returns-clause-stands
 returns-clause-stands c = record {
   within = record {
     rest = record {
-      document = record { at = refl; restart = c.picoseconds.ensures.value; count = count; epoch = refl; micros = refl; events = refl; unpaused = c.requires.lawful.unpaused };
+      document = record { at = refl; restart = c.picoseconds.ensures.value; count = count; epoch = refl; micros = refl; events = refl };
       plain = put-plain doc (processes doc) doc.objects [] (record { fresh = λ p i less. tt; all = tt });
       store = c.in_ok-store.ensures doc refl;
       wire = subst (λ ss. WireStands (processes doc) 0 ss (replies_due 0 (history doc 0)) (history doc 0) c.in_ok-wire.wire) (sym (put-requests doc 0 doc.objects []))

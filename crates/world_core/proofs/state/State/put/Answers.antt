@@ -21,7 +21,7 @@ returns-clause-stands c =
     let w = c.args.self.now in
     let key = c.args.key in
     let object = c.args.object in
-    on-ok c.tell.result _ _ (λ told doc k before arriving coming h r lawful none few.
+    on-ok c.tell.result _ _ (λ told doc k before arriving coming h r lawful few.
     let d = r.world.rest.document in
     let wall : c.wall-now.result.0 ≡ store_wall doc k = c.wall-now.ensures ∙ ap (λ e. e.0 + w.beat.0 * w.micros) d.epoch ∙ ap (λ n. doc.settings.epoch.0 + n * w.micros) d.at ∙ ap (λ n. doc.settings.epoch.0 + k * n) d.micros in
     let event : What = what.Put key (stamped (whole_second (store_wall doc k)) object) in

@@ -18,7 +18,7 @@ pub returns-clause-stands : goal.returns-clause-stands
 returns-clause-stands c =
     let w = c.args.self.now in
     let key = c.args.key in
-    on-ok c.tell.result _ _ (λ told doc k before arriving coming h r lawful none few.
+    on-ok c.tell.result _ _ (λ told doc k before arriving coming h r lawful few.
     let event = what.Remove key in
     let version = event_version event h in
     let e = script_entry k 1 (Event event version) in

@@ -1,5 +1,4 @@
 use Rattle.std.proofs.Common.{◌≡◌, ◌≤◌, length, refl, sym, ap, ◌∙◌, subst, arith}
-use Rattle.kube_objects.specs.Pauses.{IsNoPause}
 use Rattle.history.specs.Steps.{happens}
 use Rattle.script_reader.specs.Lawful.{IsLawfulWhat}
 use Rattle.world_process.specs.Plain.{IsFew}
@@ -31,10 +30,10 @@ script-preserved c =
           let here = event-at doc k c.script.self c.as_slice.result.now c.as_slice-all.result.now e a.running.world.rest.document c.as_slice.ensures (c.as_slice-all.ensures ∙ sym c.script.invariant.same.events) c.script-test.true c.index-as_slice-self.is in
           let copied : c.in_ok-what.what ≡ e.what = c.in_ok-what.ensures in
           happening-more doc k before c.script.deeds c.happen.new.deeds arriving coming h c.script.self c.happen.new.self e a here (c.if-event-self.false ∙ a.running.world.rest.document.at) next.place few
-          (λ lawful none few_next.
+          (λ lawful few_next.
           subst (λ x. Running doc k before arriving coming (happens doc k x a.now) c.happen.new.self c.happen.new.deeds) copied
           (c.in_ok-happen.ensures.stands doc k before arriving coming a.now (rewired doc k before c.script.deeds arriving arriving coming coming a.now c.script.self _ (record { same = (record { beat = refl; end = refl; restart = refl; epoch = refl; micros = refl; events = refl; names = refl }); processes = refl; terms = refl }) refl refl a.running.world.rest.wire a.running)
-          (subst (IsLawfulWhat doc) (sym copied) lawful) (subst IsNoPause (sym copied) none) (subst (λ x. IsFew (happens doc k x a.now)) (sym copied) few_next)));
+          (subst (IsLawfulWhat doc) (sym copied) lawful) (subst (λ x. IsFew (happens doc k x a.now)) (sym copied) few_next)));
     }
 
 pub returns-clause-stands : goal.returns-clause-stands

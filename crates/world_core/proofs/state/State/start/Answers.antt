@@ -35,7 +35,7 @@ returns-clause-stands c =
     ] in
     let wire : v.wire ≡ w.wire = elim c.if-started.branch [ then-started b ↦ ap (λ x. x.wire) b.self-is | else-started b ↦ ap (λ x. x.wire) b.self-is ] in
     let done = when started act.Start in
-    on-ok c.tell.result _ _ (λ told doc k before arriving coming h r lawful none few.
+    on-ok c.tell.result _ _ (λ told doc k before arriving coming h r lawful few.
     let next = happens doc k (what.Start c.args.who) h in
     let s = r.world.processes i c0 was in
     let begun = c.start_if_down-started.ensures.stands doc (processes doc) k c.args.who h s r.world.rest.document.at r.world.rest.plain few in

@@ -1,9 +1,9 @@
-use Rattle.std.proofs.Common.{◌≡◌, ◌<◌, ◌++◌, vec_len, refl, ap, subst, ◌∙◌, arith}
+use Rattle.std.proofs.Common.{◌≡◌, ◌<◌, ◌++◌, true, false, vec_len, refl, sym, ap, subst, ◌∙◌, arith}
 use Rattle.kube_objects.specs.declared.deed.Act.TheVariants as act
 use Rattle.kube_objects.specs.declared.script.What.TheVariants as what
 use Rattle.kube_objects.specs.Identities.{identity}
 use Rattle.kube_objects.specs.Newest.{when}
-use Rattle.kube_objects.proofs.Pauses.{not_paused}
+use Rattle.kube_objects.specs.Pauses.{is_paused}
 use Rattle.history.specs.Printed.{deeds_of}
 use Rattle.history.specs.Steps.{happens}
 use Rattle.world_process.specs.Moves.{stopped_deeds, stopped}
@@ -14,9 +14,19 @@ use Rattle.world_core.proofs.Around.{around-world}
 use Rattle.world_core.proofs.Moving.{read-at, actor-is, on-ok, sends-as}
 use Rattle.world_core.proofs.Running.{keeps-moved}
 use Rattle.world_core.proofs.Renewing.{fresh-stopped}
-use Rattle.world_core.proofs.Scripts.{controller-within, around-stop, running-asked}
+use Rattle.world_core.proofs.Scripts.{controller-within, around-stop, running-asked, running-unstopped}
 use Rattle.world_terms.specs.TermsStand.{IsFresh, TermsStand, TermsStandBut}
 use Rattle.world_core.proofs.state.State.stop.Goals as goal
+
+pub returns-then-paused-clause-stands : goal.returns-then-paused-clause-stands
+returns-then-paused-clause-stands c doc k before arriving coming h r lawful few =
+    let w = c.args.self.now in
+    let i = c.args.who.0 in
+    let x = c.index.result.now in
+    let index : i < vec_len w.processes = omega (arith, c.if-i-len.false, c.len.ensures) in
+    let s = r.world.processes i x (read-at w i x index c.index.ensures) in
+    let paused : is_paused doc i k ≡ true = ap (is_paused doc i) (sym r.world.rest.document.at) ∙ sym (c.is_paused-paused.ensures doc i h s) ∙ c.if-paused.true in
+    running-unstopped doc k before c.args.deeds.now arriving coming h w c.args.who paused r
 
 pub returns-clause-kept : goal.returns-clause-kept
 returns-clause-kept c =
@@ -35,11 +45,11 @@ returns-clause-stands c =
     let index : i < vec_len w.processes = omega (arith, c.if-i-len.false, c.len.ensures) in
     let was = read-at w i c0 index c.index_mut-process.ensures.value in
     let done = when c.stop-stopped.result.stopped act.Stop in
-    on-ok c.send_asked.result _ _ (λ sent doc k before arriving coming h r lawful none few.
+    on-ok c.send_asked.result _ _ (λ sent doc k before arriving coming h r lawful few.
     let s = r.world.processes i c0 was in
     let at : w.beat.0 ≡ k = r.world.rest.document.at in
-    let awake = not_paused doc i k r.world.rest.document.unpaused in
-    let moved = c.stop-stopped.ensures.stands doc k c.args.who h s lawful at awake (few-before h (happens doc k (what.Stop c.args.who) h) (grows-happens doc k (what.Stop c.args.who) h) few) in
+    let awake : is_paused doc i k ≡ false = ap (is_paused doc i) (sym at) ∙ sym (c.is_paused-paused.ensures doc i h (r.world.processes i c.index.result.now (read-at w i c.index.result.now index c.index.ensures))) ∙ c.if-paused.false in
+    let moved = c.stop-stopped.ensures.stands doc k c.args.who h s lawful at (few-before h (happens doc k (what.Stop c.args.who) h) (grows-happens doc k (what.Stop c.args.who) h) few) in
     let me = ap (λ m. m.0) c.stop-stopped.ensures.same.me ∙ process-me doc i h c0 s in
     let around = around-stop doc k c.args.who arriving coming h w (controller-within doc i lawful) (around-world doc k i arriving coming h w r.world) in
     let anew = subst (λ n. TermsStandBut doc n (stopped doc k c.args.who h) w.terms → IsFresh n (stopped doc k c.args.who h) → TermsStand doc (stopped doc k c.args.who h) c.renew.new.self) (ap (λ id. id.0) c.me-who.ensures ∙ me)

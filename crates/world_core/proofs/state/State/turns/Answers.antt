@@ -1,9 +1,8 @@
 use Rattle.std.proofs.Common.{◌≡◌, ◌<◌, sym, subst, arith, add-one}
 use Rattle.kube_objects.specs.Document.{processes}
-use Rattle.kube_objects.proofs.Pauses.{not_paused}
 use Rattle.history.specs.Steps.{turns}
 use Rattle.beat_laws.proofs.Unticked.{turns_unticked}
-use Rattle.world_process.specs.Moves.{own_turn}
+use Rattle.world_core.specs.Waits.{awake_turn}
 use Rattle.world_process.specs.Plain.{IsFew}
 use Rattle.world_core.specs.States.{Running}
 use Rattle.world_core.proofs.Loops.{keeps-on, few-own, few-turns}
@@ -21,12 +20,11 @@ loop-i-preserved g c =
           let count = r.world.rest.document.count in
           let len = c.args.self.now.processes.ok.0 in
           let less : i < processes doc = omega (arith, c.loop-i-test.true, c.len-i-end.ensures, count, len) in
-          let awake = not_paused doc i k r.world.rest.document.unpaused in
           let few_turn = few-turns doc k i (processes doc) h less few in
-          let owned = c.in_ok-turn.ensures.stands doc k before arriving coming before_it done (few-own doc k i before_it awake few_turn) in
-          let ticked = c.in_ok-tick.ensures.stands doc k before arriving coming (own_turn doc k i before_it) owned (λ sort. own-unticked doc k i before_it sort (turns_unticked doc k i h unticked)) (subst IsFew (turn-is doc k i before_it awake) few_turn) in
+          let owned = c.in_ok-turn.ensures.stands doc k before arriving coming before_it done (few-own doc k i before_it few_turn) in
+          let ticked = c.in_ok-tick.ensures.stands doc k before arriving coming (awake_turn doc k i before_it) owned (λ sort. own-unticked doc k i before_it sort (turns_unticked doc k i h unticked)) (subst IsFew (turn-is doc k i before_it) few_turn) in
           subst (λ n. Running doc k before arriving coming (turns doc k n h) c.tick.new.self c.tick.new.deeds) (sym (add-one i))
-          (subst (λ f. Running doc k before arriving coming f c.tick.new.self c.tick.new.deeds) (sym (turn-is doc k i before_it awake)) ticked);
+          (subst (λ f. Running doc k before arriving coming f c.tick.new.self c.tick.new.deeds) (sym (turn-is doc k i before_it)) ticked);
     }
 
 pub returns-clause-stands : goal.returns-clause-stands

@@ -16,7 +16,8 @@ returns-clause-stands c doc p made sort =
         timeout = c.picoseconds-3.ensures.value ∙ ap (λ y. of_millis (field (λ x. x.timeout_millis) 0 y)) (sym process);
         fast = ap (λ y. y.fast_renew) (sym made.settings);
       };
-      clock = c.in_ok-clock.ensures.stands doc p made;
+      clock = c.in_ok-clock.ensures.clock doc p made;
+      pauses = c.in_ok-clock.ensures.pauses doc p made;
       up_first = ap (λ y. field (λ x. x.up) false y) (sym process);
       role = (refl, refl);
       waking = c.new.ensures c.in_ok-clock.clock;

@@ -10,17 +10,17 @@ use Rattle.world_process.proofs.Standing.{role-at}
 use Rattle.world_process.proofs.controller.Controller.receive.Goals as goal
 
 pub returns-then-incarnation-self-clause-stands : goal.returns-then-incarnation-self-clause-stands
-returns-then-incarnation-self-clause-stands c doc k p b h s at who number reply few none =
+returns-then-incarnation-self-clause-stands c doc k p b h s at who number reply few =
     subst (λ r. Replied doc k p b h c.args.self.now r) (sym c.stays.ensures) (replied-other doc k p c.args.incarnation b c.args.number c.args.reply.now h c.args.self.now s (record { who = who; number = number; reply = reply }) c.if-incarnation-self.true)
 
 pub returns-in-Down-clause-stands : goal.returns-in-Down-clause-stands
-returns-in-Down-clause-stands c doc k p b h s at who number reply few none =
+returns-in-Down-clause-stands c doc k p b h s at who number reply few =
     let self = c.args.self.now in
     let back = is-back b p c.args.incarnation self.incarnation c.args.number c.args.reply.now who c.if-incarnation-self.false number reply in
     subst (λ r. Replied doc k p b h (record self { role = self.role }) r) (sym c.stays-in-Down.ensures) (subst (λ x. Replied doc k p b h (record self { role = x }) (record { lead = None; ask = None })) (sym c.in-Down.is) (replied-down doc k p b c.args.number c.args.reply.now h self c.in-Down.field-0 s c.in-Down.is back))
 
 pub returns-in-Stays-clause-stands : goal.returns-in-Stays-clause-stands
-returns-in-Stays-clause-stands c doc k p b h s at who number reply few none =
+returns-in-Stays-clause-stands c doc k p b h s at who number reply few =
     let self = c.args.self.now in
     let q = identity p self.incarnation in
     let reads = readings-are doc p k c.args.beat.0 c.local-now.result.0 c.wall_at-wall.result.0 self.clock s.clock at c.local-now.ensures.value c.wall_at-wall.ensures.value in
@@ -31,7 +31,7 @@ returns-in-Stays-clause-stands c doc k p b h s at who number reply few none =
     (λ call some. c.in-Stays.ensures.counts doc q h k call was.1 reads.now reads.wall (few.calls q) some))
 
 pub returns-in-Asks-clause-stands : goal.returns-in-Asks-clause-stands
-returns-in-Asks-clause-stands c doc k p b h s at who number reply few none =
+returns-in-Asks-clause-stands c doc k p b h s at who number reply few =
     let self = c.args.self.now in
     let q = identity p self.incarnation in
     let reads = readings-are doc p k c.args.beat.0 c.local-now.result.0 c.wall_at-wall.result.0 self.clock s.clock at c.local-now.ensures.value c.wall_at-wall.ensures.value in
@@ -42,7 +42,7 @@ returns-in-Asks-clause-stands c doc k p b h s at who number reply few none =
     (λ call some. c.in-Asks.ensures.counts doc q h k call was.1 reads.now reads.wall (few.calls q) some))
 
 pub returns-in-Wins-clause-stands : goal.returns-in-Wins-clause-stands
-returns-in-Wins-clause-stands c doc k p b h s at who number reply few none =
+returns-in-Wins-clause-stands c doc k p b h s at who number reply few =
     let self = c.args.self.now in
     let q = identity p self.incarnation in
     let reads = readings-are doc p k c.args.beat.0 c.local-now.result.0 c.wall_at-wall.result.0 self.clock s.clock at c.local-now.ensures.value c.wall_at-wall.ensures.value in
@@ -57,7 +57,7 @@ returns-in-Wins-clause-stands c doc k p b h s at who number reply few none =
     (t.0, t.1, subst (λ g. LeadingStands doc q g c.lead.result) (sym t.1) (c.lead.ensures.stands doc q (with_reply k q call c.args.reply.now h) k 3 t.0 t.2))))
 
 pub returns-in-Leading-clause-stands : goal.returns-in-Leading-clause-stands
-returns-in-Leading-clause-stands c doc k p b h s at who number reply few none =
+returns-in-Leading-clause-stands c doc k p b h s at who number reply few =
     let self = c.args.self.now in
     let reads = readings-are doc p k c.args.beat.0 c.local-now.result.0 c.wall_at-wall.result.0 self.clock s.clock at c.local-now.ensures.value c.wall_at-wall.ensures.value in
-    c.hear-in-Leading.ensures.stands doc k p b h c.in-Leading.field-0 s c.in-Leading.is reads.now reads.wall (who ∙ ap (identity p) c.if-incarnation-self.false) number reply few none
+    c.hear-in-Leading.ensures.stands doc k p b h c.in-Leading.field-0 s c.in-Leading.is reads.now reads.wall (who ∙ ap (identity p) c.if-incarnation-self.false) number reply few

@@ -1,15 +1,23 @@
-use Rattle.std.proofs.Common.{None, sym, ◌∙◌, subst}
+use Rattle.std.proofs.Common.{◌≡◌, true, false, None, sym, ap, ◌∙◌, subst}
 use Rattle.kube_objects.specs.Identities.{identity}
+use Rattle.kube_objects.specs.Pauses.{is_paused}
 use Rattle.world_process.specs.declared.controller.Role.TheVariants as role
 use Rattle.world_process.specs.Controllers.{StoppedAs}
 use Rattle.world_process.proofs.Readings.{readings-are}
-use Rattle.world_process.proofs.Scripted.{stopped-leading}
+use Rattle.world_process.proofs.Scripted.{stopped-leading, stopped-paused}
 use Rattle.world_process.proofs.Standing.{role-at}
 use Rattle.world_process.proofs.controller.Controller.stop.Goals as goal
 
-pub returns-in-Leading-clause-stands : goal.returns-in-Leading-clause-stands
-returns-in-Leading-clause-stands c doc k id h s at awake few =
+pub returns-then-is_paused-clause-stands : goal.returns-then-is_paused-clause-stands
+returns-then-is_paused-clause-stands c doc k id h s at few =
     let self = c.args.self.now in
+    let paused : is_paused doc id.0 k ≡ true = ap (is_paused doc id.0) (sym at) ∙ sym (c.is_paused.ensures doc id.0 s.pauses) ∙ c.if-is_paused.true in
+    subst (StoppedAs doc k id h self) (sym c.stop_with.ensures) (stopped-paused doc k id h self paused s)
+
+pub returns-in-Leading-clause-stands : goal.returns-in-Leading-clause-stands
+returns-in-Leading-clause-stands c doc k id h s at few =
+    let self = c.args.self.now in
+    let awake : is_paused doc id.0 k ≡ false = ap (is_paused doc id.0) (sym at) ∙ sym (c.is_paused.ensures doc id.0 s.pauses) ∙ c.if-is_paused.false in
     let q = identity id.0 self.incarnation in
     let reads = readings-are doc id.0 k c.args.beat.0 c.local-now.result.0 c.wall_at-wall.result.0 self.clock s.clock at c.local-now.ensures.value c.wall_at-wall.ensures.value in
     let was = role-at doc id.0 h self (role.Leading c.in-Leading.leading) s (sym c.replace.ensures.value ∙ c.in-Leading.is) in

@@ -16,6 +16,7 @@ returns-in-Controller-clause-stands c doc p h s =
       clock = own.clock;
       up_first = own.up_first;
       role = own.role;
+      pauses = own.pauses;
       waking = c.keep.ensures.kept own.waking;
     }
 
@@ -37,6 +38,7 @@ returns-in-Kubelet-clause-stands c doc p h s =
       clock = own.clock;
       up_first = own.up_first;
       rounds = own.rounds;
+      pauses = own.pauses;
       waking = c.keep-in-Kubelet.ensures.kept own.waking;
     }
 

@@ -1,0 +1,278 @@
+"""The inputs of worst.py, each with the command that gets it."""
+from common import MOST_BYTES, TOLERATIONS, as_list, generated, node, pod, renewals, text_of
+
+DAY_BEATS = 8_640_000
+
+
+def document(settings=None, controllers=1, **keys):
+    return {'version': 1, 'settings': {'endBeat': 60, **(settings or {})}, 'controllers': [{'name': 'c%d' % i} for i in range(controllers)], **keys}
+
+
+def filled(piece, joined=b',', front=b'[', back=b']', room=MOST_BYTES):
+    """A document as large as may be, with pieces in a field that isn't read; `piece` makes one of a number, or is one."""
+    outer = text_of(document(objects=as_list([{'apiVersion': 'v1', 'kind': 'ConfigMap', 'metadata': {'name': 'x'}, 'data': 'DATA'}])))
+    room -= len(outer) + len(front) + len(back)
+    pieces, number = [], 0
+    if isinstance(piece, bytes):
+        pieces = [piece] * (room // (len(piece) + len(joined)))
+    else:
+        while room > 0:
+            made = piece(number)
+            number, room = number + 1, room - len(made) - len(joined)
+            if room > 0:
+                pieces.append(made)
+    return outer.replace(b'"DATA"', front + joined.join(pieces) + back)
+
+
+# Parsing alone
+
+def numbers():
+    return filled(b'0')
+
+
+def empty_lists():
+    return filled(b'[]')
+
+
+def deep_lists():
+    return filled(b'[' * 110 + b']' * 110)
+
+
+def empty_objects():
+    return filled(b'{}')
+
+
+def keys():
+    return filled(lambda i: b'"%x":0' % i, front=b'{', back=b'}')
+
+
+def objects_of_one_key():
+    return filled(b'{"a":0}')
+
+
+def short_texts():
+    return filled(b'"a"')
+
+
+def one_text():
+    return filled(b'\\u00e9', b'', b'"', b'"')
+
+
+def colliding(number):
+    """A name of 32 bytes whose hash is 0 whatever its last eight bytes are: the bytes before these are the hash's state after the first sixteen, so
+    that a factor of the last product is 0."""
+    return 'collides00462c8ewmom08t5%08x' % number
+
+
+def colliding_keys(megabytes):
+    return lambda: filled(lambda i: b'"%s":0' % colliding(i).encode(), front=b'{', back=b'}', room=int(megabytes * 1e6))
+
+
+def colliding_pods(count):
+    return lambda: text_of(document(objects=as_list(pod(colliding(i)) for i in range(count))))
+
+
+# Names and objects
+
+def long_names():
+    """Pods whose names have 253 bytes, each with a namespace of its own of as many."""
+    label = 'n' * 60
+    name = lambda i: '.'.join([label] * 4) + '.%08d' % i
+    pods = [{**pod(name(i)), 'metadata': {'namespace': name(i + 50_000), 'name': name(i)}} for i in range(26_000)]
+    return text_of(document(objects=as_list(pods)))
+
+
+def many_objects():
+    import run as speed
+    return text_of(speed.large_document(1))
+
+
+def tainted_nodes(count, taints, effect):
+    each = [{'key': 't%d' % i, 'effect': effect, **({'timeAdded': '2024-01-01T00:00:00Z'} if effect == 'NoExecute' else {})} for i in range(taints)]
+    return [node('n%d' % i, each, 'z%d' % i) for i in range(count)]
+
+
+def zones_and_taints():
+    """A thousand nodes, each in a zone of its own and with a hundred taints; their kubelets crash, and each zone is disrupted in full but one."""
+    kubelets = [{'node': 'n%d' % i} for i in range(1_000)]
+    events = [{'beat': 300, 'type': 'crash', 'process': 'kubelet/n%d' % i} for i in range(999)]
+    return text_of(document({'endBeat': 6_000, 'primaryRate': 1_000_000}, 16, kubelets=kubelets, events=events,
+                            objects=as_list(tainted_nodes(1_000, 98, 'NoSchedule'))))
+
+
+# Scripts
+
+def events_of_one_beat():
+    return text_of(document(events=[{'beat': 30, 'type': ('crash', 'start')[i % 2], 'process': 'c0'} for i in range(100_000)]))
+
+
+def rates():
+    """A leader's clock is changed at each of 100,000 beats."""
+    events = [{'beat': i, 'type': 'rate', 'process': 'c0', 'ratePpm': 900_000 + i} for i in range(100_000)]
+    return text_of(document({'endBeat': 100_000}, 16, events=events))
+
+
+def puts(by_beat):
+    """100,000 puts of a node, in one beat or each in its own, seen by sixteen controllers."""
+    def make():
+        stored = {'apiVersion': 'v1', 'kind': 'Node', 'metadata': {'name': 'n'}}
+        events = [{'beat': 100 + i * by_beat, 'type': 'put', 'object': stored} for i in range(100_000)]
+        return text_of(document({'endBeat': 100_100}, 16, events=events))
+    return make
+
+
+def crashing_kubelets():
+    """A thousand kubelets crash and start fifty times each."""
+    events = [{'beat': 100 + 100 * (i // 2_000), 'type': ('crash', 'start')[i // 1_000 % 2], 'process': 'kubelet/n%d' % (i % 1_000)} for i in range(100_000)]
+    return text_of(document({'endBeat': 6_000}, 16, kubelets=[{'node': 'n%d' % i} for i in range(1_000)], events=events,
+                            objects=as_list(node('n%d' % i) for i in range(1_000))))
+
+
+def due_at_once(lost=False):
+    """30,000 pods are due at one beat; or they can't be deleted, since what their leader sends is lost from the beat before on."""
+    def make():
+        taint = {'key': 'node.kubernetes.io/unreachable', 'effect': 'NoExecute', 'timeAdded': '2024-01-01T00:00:00Z'}
+        stays = [{**each, 'tolerationSeconds': 20} for each in TOLERATIONS]
+        events = [{'beat': 19_990, 'type': 'loss', 'process': 'c0', 'requests': True, 'replies': True}] if lost else []
+        items = [{**node('n', [taint]), 'status': {'conditions': [{'type': 'Ready', 'status': 'Unknown'}]}}] + [pod('p%d' % i, 'n', stays) for i in range(30_000)]
+        return text_of(document({'beatMillis': 1, 'endBeat': 40_000}, objects=as_list(items), events=events))
+    return make
+
+
+def refused_heads():
+    """A thousand nodes that are to be tainted, each in a zone of its own, by a leader that sees nothing of their last change, so that each try is
+    refused."""
+    away = [{**node('n%d' % i, (), 'z%d' % i), 'status': {'conditions': [{'type': 'Ready', 'status': 'False'}]}} for i in range(1_000)]
+    events = [{'beat': 30, 'type': 'watch', 'process': 'c0', 'on': False}]
+    events += [{'beat': 31, 'type': 'put', 'object': each} for each in away]
+    return text_of(document({'beatMillis': 10, 'endBeat': 3_000, 'primaryRate': 1_000_000}, events=events,
+                            objects=as_list([node('well', (), 'zz'), *(node('n%d' % i, (), 'z%d' % i) for i in range(999))])))
+
+
+def refused_heads_again():
+    """The same nodes, which are to be tainted from the beginning on, and change unseen."""
+    away = [{**node('n%d' % i, (), 'z%d' % i), 'status': {'conditions': [{'type': 'Ready', 'status': 'False'}]}} for i in range(999)]
+    events = [{'beat': 35, 'type': 'watch', 'process': 'c0', 'on': False}]
+    events += [{'beat': 36, 'type': 'put', 'object': each} for each in away]
+    return text_of(document({'beatMillis': 10, 'endBeat': 3_000, 'primaryRate': 100}, events=events, objects=as_list([node('well', (), 'zz'), *away])))
+
+
+def judged_again():
+    """A node with 4,000 pods of a hundred tolerations each, which has a hundred taints, others at each of 1,500 beats."""
+    tolerations = [{'key': 'x%d' % i} for i in range(99)] + [{'operator': 'Exists'}]
+    def tainted(turn):
+        taints = [{'key': 't%d' % i, 'effect': 'NoExecute', 'timeAdded': '2024-01-01T00:00:00Z'} for i in range(99)] + [{'key': 'u%d' % turn, 'effect': 'NoExecute'}]
+        return node('n', taints)
+    events = [{'beat': 100 + i, 'type': 'put', 'object': tainted(i)} for i in range(1_050)]
+    return text_of(document({'endBeat': 2_000}, objects=as_list([tainted(0), *(pod('p%d' % i, 'n', tolerations) for i in range(4_000))]), events=events))
+
+
+def messages_under_way():
+    """A thousand kubelets whose requests travel 6,000 beats of a millisecond, and who wait for a reply for one."""
+    events = [{'beat': 0, 'type': 'delay', 'process': 'kubelet/n%d' % i, 'requestBeats': 6_000, 'replyBeats': 6_000} for i in range(1_000)]
+    events += [{'beat': 0, 'type': 'delay', 'process': 'c%d' % i, 'requestBeats': 6_000, 'replyBeats': 6_000} for i in range(16)]
+    settings = {'beatMillis': 1, 'endBeat': 20_000, 'callTimeoutMillis': 1, 'retryPeriodMillis': 1, 'renewDeadlineMillis': 10}
+    return text_of(document(settings, 16, kubelets=[{'node': 'n%d' % i} for i in range(1_000)], events=events))
+
+
+def small_but_long():
+    """200 bytes that ask for hundreds of megabytes of trace, rightly."""
+    settings = {'beatMillis': 1, 'endBeat': 40_000_000, 'retryPeriodMillis': 1, 'renewDeadlineMillis': 10, 'callTimeoutMillis': 1}
+    return text_of(document(settings))
+
+
+def day_of_kubelets():
+    """A day of a thousand kubelets with skewed clocks, in beats of 10 ms."""
+    kubelets = [{'node': 'n%d' % i, 'ratePpm': 990_000 + 20 * i} for i in range(1_000)]
+    return text_of(document({'beatMillis': 10, 'endBeat': DAY_BEATS}, 3, kubelets=kubelets, objects=as_list(node('n%d' % i) for i in range(1_000))))
+
+
+# Lists of pods, and traces
+
+def terminated_pods():
+    """30,000 pods that have ended, the youngest first, of which one is kept."""
+    pods = [{**pod('p%d' % i, 'n%d' % (i % 2_000), creationTimestamp='2024-01-01T%02d:%02d:%02dZ' % (23 - i // 3_600, 59 - i // 60 % 60, 59 - i % 60)),
+             'status': {'phase': 'Succeeded'}} for i in range(30_000)]
+    missing = [{'node': 'n%d' % i, 'since': '2024-01-01T00:00:00Z'} for i in range(1_000, 2_000)]
+    return text_of({'now': '2024-01-02T00:00:00Z', 'threshold': 1, 'missing': missing, 'objects': as_list([node('n%d' % i) for i in range(1_000)] + pods)})
+
+
+def tolerating_pods():
+    """Each pod tolerates each of a node's hundred taints by the last of its tolerations."""
+    tolerations = [{'key': 'x%d' % i} for i in range(97)] + [{'operator': 'Exists'}]
+    pods = [pod('p%d' % i, '', tolerations) for i in range(7_000)]
+    return text_of({'objects': as_list(tainted_nodes(1_000, 100, 'NoSchedule') + pods)})
+
+
+def trace_of(lines):
+    """A trace as large as may be, of the lines that a function makes of a number."""
+    text, size, number = [b'trace 1 beat=1000 end=604800000 premise=no\n'], 50, 0
+    while size < MOST_BYTES - 200:
+        made = lines(number)
+        text.append(made)
+        size, number = size + len(made), number + 1
+    return b''.join(text)
+
+
+def terms():
+    return trace_of(lambda i: b'%d c%d_1 lead v=1\n%d c%d_1 end\n' % (i, i, i + 1, i))
+
+
+def terms_of_one():
+    return trace_of(lambda i: b'%d c_%d lead v=1\n%d c_%d end\n' % (i, i + 1, i + 1, i + 1))
+
+
+def zones_of_a_term():
+    return trace_of(lambda i: b'0 c_1 lead v=1\n' if i == 0 else b'1 c_1 zone r/z%d Normal rate=1\n' % i if i % 2 else b'1 c_1 zone r/z%d Normal rate=2\n' % (i // 4))
+
+
+def taints_of_a_term():
+    return trace_of(lambda i: b'0 c_1 lead v=1\n' if i == 0 else b'0 c_1 zone r/z%d Normal rate=1000000\n' % i if i < 100_000
+                    else b'%d c_1 taint n not-ready v=1\n' % i)
+
+
+def acting_lines():
+    return trace_of(lambda i: b'0 c_1 lead v=1\n' if i == 0 else b'1 c_1 mode on\n')
+
+
+CASES = {
+    'numbers in a field that is not read': ('check', numbers),
+    'empty lists': ('check', empty_lists),
+    'lists 110 deep': ('check', deep_lists),
+    'empty objects': ('check', empty_objects),
+    'objects of one key': ('check', objects_of_one_key),
+    'one object of many keys': ('check', keys),
+    'short texts': ('check', short_texts),
+    'one text of escapes': ('check', one_text),
+    'keys that collide, 0.5 MB': ('check', colliding_keys(.5)),
+    'keys that collide, 1 MB': ('check', colliding_keys(1)),
+    'keys that collide, 2 MB': ('check', colliding_keys(2)),
+    'pods whose names collide': ('check', colliding_pods(30_000)),
+    'names of 253 bytes': ('check', long_names),
+    'objects and events up to the limits': ('check', many_objects),
+    'a thousand zones, 98,000 taints': ('replay', zones_and_taints),
+    '100,000 events of one beat': ('replay', events_of_one_beat),
+    'a rate at each of 100,000 beats': ('replay', rates),
+    '100,000 puts in one beat': ('replay', puts(0)),
+    '100,000 puts in a beat each': ('replay', puts(1)),
+    '1,000 kubelets crash and start': ('replay', crashing_kubelets),
+    '30,000 pods due at one beat': ('replay', due_at_once()),
+    '30,000 pods due, deletes lost': ('replay', due_at_once(True)),
+    'a thousand refused heads': ('replay', refused_heads),
+    'a thousand refused heads, from the start': ('replay', refused_heads_again),
+    '4,000 pods judged again and again': ('replay', judged_again),
+    'messages under way': ('replay', messages_under_way),
+    '200 bytes of document': ('replay', small_but_long),
+    'a day of 1,000 kubelets, skewed clocks, beats of 10 ms': ('replay', day_of_kubelets),
+    'the last state of 30,000 pods': ('state 600', lambda: text_of(generated(7, 1_000, 30_000, 600))),
+    'the first state of 16 MB': ('state 0', many_objects),
+    'the greatest generated cluster': ('generate 7 1000 30000 100000', lambda: b''),
+    'renewals': ('audit', lambda: renewals(MOST_BYTES)),
+    'terms of many identities': ('audit', terms),
+    'terms of one process': ('audit', terms_of_one),
+    'zones of one term': ('audit', zones_of_a_term),
+    'taints over 100,000 zones': ('audit', taints_of_a_term),
+    'acting lines': ('audit', acting_lines),
+    '30,000 terminated pods': ('collect', terminated_pods),
+    'tolerations and taints': ('place', tolerating_pods),
+}

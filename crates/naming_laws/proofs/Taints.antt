@@ -1,0 +1,154 @@
+-- Taints of which no two have the same key and effect stay so: where some are taken away, where times are given to them, and where a
+-- condition taint is added that isn't there.
+use Rattle.std.proofs.Common.{◌≡◌, ℕ, ◌==◌, ◌&&◌, ◌||◌, not, Bool, true, false, cond, List, [], ◌∷◌, ◌++◌, filter, Some, refl, sym, ap, ◌∙◌, subst}
+use Rattle.std.proofs.lemmas.Bool.{eqb-true, eq-eqb}
+use Rattle.std.proofs.lemmas.List.Folds.{list_any-append}
+use Rattle.std.specs.List.{list_any}
+use Rattle.kube_objects.specs.declared.node.Effect.{Effect}
+use Rattle.kube_objects.specs.declared.node.Effect.TheVariants.{NoSchedule, PreferNoSchedule, NoExecute}
+use Rattle.kube_objects.specs.declared.node.Taint.{Taint}
+use Rattle.kube_objects.specs.Document.{Doc}
+use Rattle.kube_objects.specs.Entry.{Identity}
+use Rattle.kube_objects.specs.Newest.{has}
+use Rattle.kube_objects.specs.Stamps.{is_no_execute, stamp_taint, stamp_all}
+use Rattle.kube_objects.specs.Tainting.{is_condition, is_wanted}
+use Rattle.kube_objects.specs.Tick.{new_taint}
+use Rattle.kube_objects.specs.Writable.{is_condition_key}
+use Rattle.history_laws.proofs.Plainly.{false_is, and_left, and_right, and_both, not_true}
+use Rattle.manifest_json.specs.Readable.{taints_differ}
+use Rattle.manifest_json.specs.Walk.{effect_rank, same_taint}
+use Rattle.manifest_laws.proofs.ReadItems.{taints_differ-push}
+
+or_left : (a b : Bool) → (a || b) ≡ false → a ≡ false
+or_left true b is = is
+or_left false b is = refl
+
+or_right : (a b : Bool) → (a || b) ≡ false → b ≡ false
+or_right true b is = absurd (false_is (sym is))
+or_right false b is = is
+
+or_none : (a b : Bool) → a ≡ false → b ≡ false → (a || b) ≡ false
+or_none true b left right = left
+or_none false b left right = right
+
+and_shift : (a b c : Bool) → (a && b && c) ≡ ((a && b) && c)
+and_shift true b c = refl
+and_shift false b c = refl
+
+itself : (n : ℕ) → (n == n) ≡ true
+itself n = eq-eqb n n refl
+
+-- ---- some are taken away
+
+-- none of these taints is like one that none of those is like
+abbrev AreFewer : List Taint → List Taint → Type 0
+AreFewer less earlier = (t : Taint) → list_any (same_taint t) earlier ≡ false → list_any (same_taint t) less ≡ false
+
+fewer_push : (less earlier : List Taint) (t : Taint) → AreFewer less earlier → AreFewer (less ++ t ∷ []) (earlier ++ t ∷ [])
+fewer_push less earlier t fewer s none =
+    let whole : (list_any (same_taint s) earlier || (same_taint s t || false)) ≡ false = sym (list_any-append (same_taint s) earlier (t ∷ [])) ∙ none in
+    list_any-append (same_taint s) less (t ∷ [])
+    ∙ or_none (list_any (same_taint s) less) (same_taint s t || false) (fewer s (or_left _ _ whole)) (or_right (list_any (same_taint s) earlier) _ whole)
+
+fewer_more : (less earlier : List Taint) (t : Taint) → AreFewer less earlier → AreFewer less (earlier ++ t ∷ [])
+fewer_more less earlier t fewer s none =
+    let whole : (list_any (same_taint s) earlier || (same_taint s t || false)) ≡ false = sym (list_any-append (same_taint s) earlier (t ∷ [])) ∙ none in
+    fewer s (or_left _ _ whole)
+
+filtered : (test : Taint → Bool) (less earlier ts : List Taint) → AreFewer less earlier → taints_differ earlier ts ≡ true → taints_differ less (filter test ts) ≡ true
+filtered test less earlier [] fewer differ = refl
+filtered test less earlier (t ∷ ts) fewer differ =
+    by_test (test t) (filtered test (less ++ t ∷ []) (earlier ++ t ∷ []) ts (fewer_push less earlier t fewer) rest)
+    (filtered test less (earlier ++ t ∷ []) ts (fewer_more less earlier t fewer) rest)
+  where
+    apart : list_any (same_taint t) earlier ≡ false
+    apart = not_true (list_any (same_taint t) earlier) (and_left (not (list_any (same_taint t) earlier)) (taints_differ (earlier ++ t ∷ []) ts) differ)
+
+    rest : taints_differ (earlier ++ t ∷ []) ts ≡ true
+    rest = and_right (not (list_any (same_taint t) earlier)) (taints_differ (earlier ++ t ∷ []) ts) differ
+
+    by_test : (b : Bool) → taints_differ (less ++ t ∷ []) (filter test ts) ≡ true → taints_differ less (filter test ts) ≡ true
+        → taints_differ less (cond b (t ∷ filter test ts) (filter test ts)) ≡ true
+    by_test true with_it without = and_both (not (list_any (same_taint t) less)) (taints_differ (less ++ t ∷ []) (filter test ts)) (ap not (fewer t apart)) with_it
+    by_test false with_it without = without
+
+pub differ_filter : (test : Taint → Bool) (ts : List Taint) → taints_differ [] ts ≡ true → taints_differ [] (filter test ts) ≡ true
+differ_filter test ts differ = filtered test [] [] ts (λ t none. none) differ
+
+-- ---- a condition taint is added
+
+module _ (doc : Doc) (k : ℕ) (q : Identity) (wanted : ℕ) (key : is_condition_key wanted ≡ true) where
+  abbrev new : Taint
+  new = new_taint doc k q wanted
+
+  -- it is like no other but itself
+  new_apart : (t : Taint) → is_wanted wanted t ≡ false → same_taint new t ≡ false
+  new_apart t other = by_key (wanted == t.key) refl
+    where
+      by_effect : (e : Effect) → wanted ≡ t.key → (is_no_execute e && is_condition_key t.key && (t.key == wanted)) ≡ false → (2 == effect_rank e) ≡ false
+      by_effect NoSchedule is unwanted = refl
+      by_effect PreferNoSchedule is unwanted = refl
+      by_effect NoExecute is unwanted =
+          let own : is_condition_key t.key ≡ true = subst (λ n. is_condition_key n ≡ true) is key in
+          let same : (t.key == wanted) ≡ true = ap (λ n. n == wanted) (sym is) ∙ itself wanted in
+          absurd (false_is (sym unwanted ∙ and_both (is_condition_key t.key) (t.key == wanted) own same))
+
+      by_key : (b : Bool) → (wanted == t.key) ≡ b → (b && (2 == effect_rank t.effect)) ≡ false
+      by_key false is = refl
+      by_key true is = by_effect t.effect (eqb-true wanted t.key is) (shift ∙ other)
+        where
+          shift : (is_no_execute t.effect && is_condition_key t.key && (t.key == wanted)) ≡ is_wanted wanted t
+          shift = and_shift (is_no_execute t.effect) (is_condition_key t.key) (t.key == wanted)
+
+  none_like : (ts : List Taint) → list_any (is_wanted wanted) ts ≡ false → list_any (same_taint new) ts ≡ false
+  none_like [] none = refl
+  none_like (t ∷ ts) none =
+      or_none (same_taint new t) (list_any (same_taint new) ts) (new_apart t (or_left (is_wanted wanted t) (list_any (is_wanted wanted) ts) none))
+      (none_like ts (or_right (is_wanted wanted t) (list_any (is_wanted wanted) ts) none))
+
+  pub differ_added : (ts : List Taint) → list_any (is_wanted wanted) ts ≡ false → taints_differ [] ts ≡ true → taints_differ [] (ts ++ new ∷ []) ≡ true
+  differ_added ts none differ = taints_differ-push [] ts new differ (none_like ts none)
+
+-- where no taint is a condition taint, none is the wanted one
+pub none_wanted : (wanted : ℕ) (ts : List Taint) → list_any is_condition ts ≡ false → list_any (is_wanted wanted) ts ≡ false
+none_wanted wanted [] none = refl
+none_wanted wanted (t ∷ ts) none =
+    or_none (is_wanted wanted t) (list_any (is_wanted wanted) ts) (ap (λ b. b && (t.key == wanted)) (or_left (is_condition t) (list_any is_condition ts) none))
+    (none_wanted wanted ts (or_right (is_condition t) (list_any is_condition ts) none))
+
+-- what isn't there isn't there among fewer
+pub none_filtered : (p test : Taint → Bool) (ts : List Taint) → list_any p ts ≡ false → list_any p (filter test ts) ≡ false
+none_filtered p test [] none = refl
+none_filtered p test (t ∷ ts) none = by_test (test t) (none_filtered p test ts (or_right (p t) (list_any p ts) none))
+  where
+    by_test : (b : Bool) → list_any p (filter test ts) ≡ false → list_any p (cond b (t ∷ filter test ts) (filter test ts)) ≡ false
+    by_test true rest = or_none (p t) (list_any p (filter test ts)) (or_left (p t) (list_any p ts) none) rest
+    by_test false rest = rest
+
+-- ---- times are given
+
+stamp_like : (at : ℕ) (s t : Taint) → same_taint (stamp_taint at s) (stamp_taint at t) ≡ same_taint s t
+stamp_like at s t = by_both (is_no_execute s.effect && not (has s.added)) (is_no_execute t.effect && not (has t.added))
+  where
+    by_both : (a b : Bool) → same_taint (cond a (record s { added = Some (record { 0 = at }) }) s) (cond b (record t { added = Some (record { 0 = at }) }) t) ≡ same_taint s t
+    by_both true true = refl
+    by_both true false = refl
+    by_both false true = refl
+    by_both false false = refl
+
+stamp_any : (at : ℕ) (s : Taint) (ts : List Taint) → list_any (same_taint (stamp_taint at s)) (stamp_all at ts) ≡ list_any (same_taint s) ts
+stamp_any at s [] = refl
+stamp_any at s (t ∷ ts) = ap (λ b. b || list_any (same_taint (stamp_taint at s)) (stamp_all at ts)) (stamp_like at s t) ∙ ap (λ b. same_taint s t || b) (stamp_any at s ts)
+
+stamp_push : (at : ℕ) (ts : List Taint) (t : Taint) → stamp_all at (ts ++ t ∷ []) ≡ stamp_all at ts ++ stamp_taint at t ∷ []
+stamp_push at [] t = refl
+stamp_push at (s ∷ ts) t = ap (λ xs. stamp_taint at s ∷ xs) (stamp_push at ts t)
+
+pub differ_stamped : (at : ℕ) (earlier ts : List Taint) → taints_differ earlier ts ≡ true → taints_differ (stamp_all at earlier) (stamp_all at ts) ≡ true
+differ_stamped at earlier [] differ = refl
+differ_stamped at earlier (t ∷ ts) differ =
+    let first = and_left (not (list_any (same_taint t) earlier)) (taints_differ (earlier ++ t ∷ []) ts) differ in
+    let rest = and_right (not (list_any (same_taint t) earlier)) (taints_differ (earlier ++ t ∷ []) ts) differ in
+    and_both (not (list_any (same_taint (stamp_taint at t)) (stamp_all at earlier))) (taints_differ (stamp_all at earlier ++ stamp_taint at t ∷ []) (stamp_all at ts))
+    (ap not (stamp_any at t earlier) ∙ first)
+    (subst (λ xs. taints_differ xs (stamp_all at ts) ≡ true) (stamp_push at earlier t) (differ_stamped at (earlier ++ t ∷ []) ts rest))

@@ -1,0 +1,16 @@
+use Rattle.std.proofs.Common.{w64, pos, ◌*ℤ◌, ap, ◌∙◌}
+use Rattle.std.proofs.Math.Facts.{to_z-of_z}
+use Rattle.world_process.proofs.Firsts.{clock-first, end-fits, offset-fits, pauses-first}
+use Rattle.world_process.proofs.clocks.times_for.Goals as goal
+
+pub returns-clause-clock : goal.returns-clause-clock
+returns-clause-clock c doc p made =
+    let offset = c.args.process.now.offset_millis in
+    let fits = offset-fits offset c.requires.process.offset_least c.requires.process.offset_most in
+    let is = to_z-of_z {w = w64} (record { sfits = c.microseconds.type_inv }) ∙ c.microseconds.ensures ∙ ap (λ z. z *ℤ pos 1000) (to_z-of_z fits) in
+    clock-first doc p c.args.me.0 c.args.settings.now c.args.process.now c.args.events.now c.in_ok-clock.clock c.take_events.new.clock _ is made.me made.settings made.process made.events
+    c.in_ok-clock.ensures c.in_ok-take_events.ensures.same c.in_ok-take_events.ensures.rates
+
+pub returns-clause-pauses : goal.returns-clause-pauses
+returns-clause-pauses c doc p made =
+    pauses-first doc p c.args.me.0 c.args.events.now c.new-pauses.result c.take_events.new.pauses made.me made.events c.requires.apart c.new-pauses.ensures c.in_ok-take_events.ensures.pauses
