@@ -26,7 +26,7 @@ use Rattle.wire_calls.specs.WireStands.{WireStands}
 use Rattle.wire_calls.proofs.Frames.{wire-beside}
 use Rattle.world_process.specs.Clocked.{ClockStands}
 use Rattle.world_process.specs.InForce.{InForceStands}
-use Rattle.world_process.specs.Moves.{own_turn, own_turn_as}
+use Rattle.world_process.specs.Moves.{own_turn_as}
 use Rattle.world_process.specs.Plain.{IsFew, IsKnown, IsPlain}
 use Rattle.world_process.specs.Processes.{in_term_as, in_term_if_up, in_term_now}
 use Rattle.world_process.proofs.Forces.{in_force-beside}

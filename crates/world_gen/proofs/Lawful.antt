@@ -1,12 +1,12 @@
 -- The generated document is lawful.
-use Rattle.std.proofs.Common.{◌≡◌, ℕ, ◌+◌, ◌≤◌, [], ◌∷◌, ◌++◌, length, subst, sym, arith}
+use Rattle.std.proofs.Common.{◌≡◌, ℕ, ◌+◌, ◌≤◌, [], ◌∷◌, ◌++◌, length, map, subst, sym, arith}
 use Rattle.std.proofs.lemmas.List.Elements.{All-from_recursion}
 use Rattle.std.specs.List.{AllByRecursion}
 use Rattle.history.proofs.Pauses.{never_apart}
 use Rattle.manifest_laws.specs.Laws.{FittingAreApart}
 use Rattle.script_reader.specs.Lawful.{IsLawful, IsLawfulDoc}
 use Rattle.world_gen.specs.Draws.{start, crashes}
-use Rattle.world_gen.specs.Generated.{controllers, kubelets, by_beat, middle, generated}
+use Rattle.world_gen.specs.Generated.{controllers, event, kubelets, by_beat, middle, generated}
 use Rattle.world_gen.proofs.Ranges.{Fits, settings-lawful, controllers-lawful, controllers-apart, kubelets-lawful, kubelets-apart, kubelets-count, crashes-all-fit, in_order, events-few, crashes-pause_nobody}
 use Rattle.world_gen.proofs.Items.{all_items, all-of_kind, all-few, all-fit}
 
@@ -36,5 +36,5 @@ generated-lawful seed nodes pods beats few fewer soon apart =
       few_objects = all-few nodes pods drawn.rest few fewer;
       events = (in_order (generated seed nodes pods beats) (beats + 1) all fits).0;
       few_events = omega (arith, events-few (beats + 1) all, fit.1);
-      apart = never_apart (by_beat (beats + 1) all) (crashes-pause_nobody (by_beat (beats + 1) all));
+      apart = never_apart (map event (by_beat (beats + 1) all)) (crashes-pause_nobody (by_beat (beats + 1) all));
     }

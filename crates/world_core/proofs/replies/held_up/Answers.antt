@@ -1,4 +1,4 @@
-use Rattle.std.proofs.Common.{◌≡◌, ◌<◌, ℕ, length, slice_get, Option, Some, None, refl, sym, ap, ◌∙◌, arith}
+use Rattle.std.proofs.Common.{◌≡◌, ℕ, length, slice_get, Option, Some, None, refl, sym, ap, ◌∙◌}
 use Rattle.std.proofs.lemmas.Option.{slice_get_read}
 use Rattle.kube_base.specs.declared.numbers.Beat.{Beat}
 use Rattle.kube_objects.specs.Document.{Doc}
@@ -23,6 +23,6 @@ comes-then doc p beat then (Some at) is late =
 pub returns : goal.returns
 returns c doc h comes each within travels =
     let p = c.args.who.0 in
-    let x = c.index.result.now in
-    let was : slice_get c.args.processes.now p ≡ Some x = slice_get_read c.args.processes.now (length c.args.processes.now) p x refl within c.index.ensures in
+    let x = c.index-processes-i.result in
+    let was : slice_get c.args.processes.now p ≡ Some x = slice_get_read c.args.processes.now (length c.args.processes.now) p x refl within c.index-processes-i.is in
     comes-then doc p c.in-InFlight.comes c.resume.result comes (sym c.in-InFlight.is ∙ travels) (c.resume.ensures doc p h (each p x was))

@@ -26,8 +26,8 @@ arriving-preserved c =
           (record {
             answers = c.in_ok-reply.ensures.answer a.now rest.store;
             store = λ e is. c.in_ok-reply.ensures.ok a.now e rest.store is;
-            wire = λ q call wrote who number within. c.in_ok-send_back.ensures.ok doc (processes doc) k 2 (rest_of a.left) coming a.now q call wrote (c.arrival.ensures.stands (processes doc) k a.left coming a.now rest.wire at) at who number (subst (EachStands doc a.now) (sym c.as_slice-processes.ensures) a.running.world.processes)
-                (subst (λ xs. q.process < length xs) (sym c.as_slice-processes.ensures) (subst (λ n. q.process < n) (sym rest.document.count) within));
+            wire = λ q call wrote who number within. c.in_ok-send_back.ensures.ok doc (processes doc) k 2 (rest_of a.left) coming a.now q call wrote (c.arrival.ensures.stands (processes doc) k a.left coming a.now rest.wire at) at who number (subst (EachStands doc a.now) (sym c.as_slice-processes.ensures.value) a.running.world.processes)
+                (subst (λ xs. q.process < length xs) (sym c.as_slice-processes.ensures.value) (subst (λ n. q.process < n) (sym rest.document.count) within));
             told = c.in_ok-tell.ensures
                 ∙ ap (λ x. c.arriving.deeds ++ deeds_of c.arriving.self.beat.0 (actor.Proc c.in-Some.arrived.who c.in-Some.arrived.incarnation) x) c.answer_act.ensures
                 ∙ ap (λ n. c.arriving.deeds ++ deeds_of n (actor.Proc c.in-Some.arrived.who c.in-Some.arrived.incarnation) (answer_act c.in-Some.arrived.request c.in_ok-reply.reply)) at;
