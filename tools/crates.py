@@ -28,27 +28,30 @@ class Minutes:
 
 
 def read(text):
-    """The crates of crates.txt in the order of its lines, each with the libraries that it names; and the groups, each a heading with its crates."""
-    uses, groups = {}, []
+    """The crates of crates.txt in the order of its lines, each with the libraries that it names; the groups, each a heading with its crates; and
+    the static libraries among the crates."""
+    uses, groups, static = {}, [], set()
     for line in text.splitlines():
         if line.startswith('#'):
             groups.append((line.lstrip('# ').rstrip(), []))
         words, colon, libraries = line.split('#')[0].partition(':')
         if not colon:
             continue
-        name = words.split()[0]
+        name, *kind = words.split()
         uses[name] = libraries.split()
+        if 'staticlib' in kind:
+            static.add(name)
         if not groups:
             groups.append(('', []))
         groups[-1][1].append(name)
-    return uses, [group for group in groups if group[1]]
+    return uses, [group for group in groups if group[1]], static
 
 
 class Crates:
     """The crates of one checkout."""
 
     def __init__(self, text):
-        self.uses, self.groups = read(text)
+        self.uses, self.groups, self.static = read(text)
 
     @classmethod
     def of(cls, top=TOP):

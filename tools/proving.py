@@ -34,6 +34,10 @@ class Checkout:
     def library(self, name):
         return os.path.join(self.folder(name), 'out', 'rlib', f'{name}.rlib')
 
+    def archive(self, name):
+        """The static library that C links, of a crate that is one."""
+        return os.path.join(self.folder(name), 'out', f'lib{name}.a')
+
     def note(self, name):
         """The file that tells of which sources prove-one made the library."""
         return os.path.join(self.folder(name), 'out', 'prove-one.stamp')
@@ -123,7 +127,8 @@ def words(shelf, name, tests, place):
     found += ['-L', f'dependency={place}/rlibs']
     for library in below:
         found += words_below(shelf, library, name, bool(unkept))
-    return found + ['--antt-project', f'{place}/rattle/logic/antt-project.json', '--logic-built', f'{place}/logic_built', '--links', f'{name}=']
+    found += ['--antt-project', f'{place}/rattle/logic/antt-project.json', '--logic-built', f'{place}/logic_built', '--links', f'{name}=']
+    return found + (['--crate-type', 'staticlib'] if name in table.static and not tests else [])
 
 
 def words_below(shelf, library, name, has_unkept):
@@ -165,6 +170,8 @@ class Prover:
         """Proves the whole crate and keeps its library in its out/ folder."""
         if self.shelf.from_source(name):
             raise Unbuilt(' '.join(self.shelf.from_source(name)))
+        if name in self.own.crates.static:
+            return self.build_static(name)
         library, note = self.own.library(name), self.own.note(name)
         shutil.rmtree(os.path.dirname(library), ignore_errors=True)
         os.makedirs(os.path.dirname(library))
@@ -178,6 +185,14 @@ class Prover:
                 file.write(stamp)
         self.shelf.forget()
         return status
+
+    def build_static(self, name):
+        """Proves a crate that is a static library, and puts the archive into its out/ folder."""
+        archive = self.own.archive(name)
+        os.makedirs(os.path.dirname(archive), exist_ok=True)
+        if os.path.exists(archive):
+            os.remove(archive)
+        return self.run('build', name, ['--toolchain', f'{self.place}/toolchain', '--backend', 'llvm', '-o', archive, '--empty-contracts'])
 
     def build_below(self, name):
         """Proves and keeps what isn't kept below a crate, lowest first; returns the first status that isn't 0."""

@@ -84,6 +84,7 @@ class OfCrates(unittest.TestCase):
         self.assertEqual(self.table.own('top'), ['mid', 'other'])
         self.assertEqual(self.table.of_the_kit('top'), ['itoa'])
         self.assertEqual(self.table.of_the_kit('mid'), ['std_io'])
+        self.assertEqual(self.table.static, {'top'})
 
     def test_groups(self):
         self.assertEqual(self.table.groups, [('The base: all stand on it', ['low', 'mid']), ('Above', ['other', 'top'])])
@@ -217,6 +218,12 @@ class OfShelves(unittest.TestCase):
         self.assertEqual(above[above.index('--lib') + 1], f'other:core,std,low={self.own.folder("other")}/src/lib.rt')
         self.assertIn('low=' + self.own.library('low'), above)
         self.assertIn('itoa=/kit/rlibs/itoa.rlib', above)
+
+    def test_words_of_a_static_library(self):
+        for tests in (False, True):
+            found = proving.words(proving.Shelf(self.own), 'top', tests, '/kit')
+            self.assertEqual(found[-2:] == ['--crate-type', 'staticlib'], not tests)
+        self.assertNotIn('--crate-type', proving.words(proving.Shelf(self.own), 'mid', False, '/kit'))
 
 
 class OfEdits(unittest.TestCase):

@@ -1,0 +1,3 @@
+module kubereplay
+
+go 1.19
