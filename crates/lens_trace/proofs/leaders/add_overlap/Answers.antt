@@ -1,0 +1,8 @@
+use Rattle.lens_trace.proofs.ShownLaws.{overlap-told}
+use Rattle.lens_trace.proofs.leaders.add_overlap.Goals as goal
+
+pub returns-in-Some : goal.returns-in-Some
+returns-in-Some c = ?
+
+pub returns-in-None : goal.returns-in-None
+returns-in-None c = ?
