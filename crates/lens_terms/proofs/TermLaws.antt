@@ -74,10 +74,10 @@ stands-led number l ls t old new is h same more begun = record {
 }
 
 -- the line at a place, before those behind it
-pub line-before : (lines : List (Line (Bor (List ℕ)))) (at : ℕ) (line : Line (Bor (List ℕ))) → at < length lines → line ≡ get_or lines at line
-    → map seen (drop at lines) ≡ seen line ∷ map seen (drop (at + 1) lines)
-line-before lines at line within is =
-    ap (map seen) (drop-cons lines at line within ∙ ap (λ x. x ∷ drop (suc at) lines) (sym is)) ∙ ap (λ n. seen line ∷ map seen (drop n lines)) (sym (add-one at))
+pub line-before : (lines : List (Line (Bor (List ℕ)))) (at : ℕ) (d : Line (Bor (List ℕ))) → at < length lines
+    → map seen (drop at lines) ≡ seen (get_or lines at d) ∷ map seen (drop (at + 1) lines)
+line-before lines at d within =
+    ap (map seen) (drop-cons lines at d within) ∙ ap (λ n. seen (get_or lines at d) ∷ map seen (drop n lines)) (sym (add-one at))
 
 -- no lines
 pub stands-none : (number : ℕ) (g : Gathering) → ((who : Bor (List ℕ)) → held g.closings who ≡ None) → g.terms.items ≡ [] → Stands number [] g

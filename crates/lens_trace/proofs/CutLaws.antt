@@ -31,7 +31,7 @@ cut-is text before behind h = by_test (nat_lt (position_or_len feed text) (lengt
     n : ℕ
     n = position_or_len feed text
 
-    by_test : (b : Bool) → nat_lt n (length text) ≡ b → option_map (λ place. (take place text, drop (place + 1) text)) (cond b (Some n) None) ≡ Some (before, behind) → IsCut text before behind
+    by_test : (b : Bool) → nat_lt n (length text) ≡ b → option_map {U = List ℕ × List ℕ} (λ place. (take place text, drop (place + 1) text)) (cond b (Some n) None) ≡ Some (before, behind) → IsCut text before behind
     by_test true e h =
         let within : n < length text = grind (arith, nat_tests, e) in
         let at : get_or text n 0 ≡ 10 = grind (arith, nat_tests, passes_at_first feed text 0 within) in
@@ -58,6 +58,6 @@ uncut-lines text h = by_test (nat_lt (position_or_len feed text) (length text)) 
     n : ℕ
     n = position_or_len feed text
 
-    by_test : (b : Bool) → nat_lt n (length text) ≡ b → option_map (λ place. (take place text, drop (place + 1) text)) (cond b (Some n) None) ≡ None → lines_of text ≡ text ∷ []
+    by_test : (b : Bool) → nat_lt n (length text) ≡ b → option_map {U = List ℕ × List ℕ} (λ place. (take place text, drop (place + 1) text)) (cond b (Some n) None) ≡ None → lines_of text ≡ text ∷ []
     by_test true e h = absurd (let no : Some (take n text, drop (n + 1) text) ≡ None = h in cc)
     by_test false e h = one-line text (λ k below. let early : k < n = grind (arith, nat_tests, e) in fails_before_first feed text k 0 early)

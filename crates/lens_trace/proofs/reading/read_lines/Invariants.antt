@@ -6,7 +6,7 @@ use Rattle.lens_trace.proofs.reading.read_lines.Given as goal
 
 -- the lines so far and those of the rest
 abbrev pub invariant-lines : goal.invariant-lines
-invariant-lines l = map seen l.lines.items ++ filter_map line_of (lines_of l.rest.now) ≡ filter_map line_of (lines_of l.fn.text)
+invariant-lines l = map seen l.lines.items ++ filter_map line_of (lines_of l.rest) ≡ filter_map line_of (lines_of l.fn.text)
 
 abbrev pub decreases-lines : goal.decreases-lines
-decreases-lines l = length l.rest.now
+decreases-lines l = length l.rest
