@@ -1,7 +1,7 @@
 -- The terms of lines, one line more at their front.
-use Rattle.std.proofs.Common.{◌≡◌, ℕ, ◌+◌, ◌<◌, Bool, true, false, cond, List, [], ◌∷◌, ◌++◌, length, map, reverse, drop, get_or, suc, Bor, Option, Some, None, refl, sym, ap, ◌∙◌, add-one}
+use Rattle.std.proofs.Common.{◌≡◌, ℕ, ◌+◌, ◌<◌, Bool, true, false, cond, List, [], ◌∷◌, ◌++◌, length, map, reverse, drop, get_or, suc, Bor, Option, Some, None, Result, Ok, Err, IfOk, refl, sym, ap, subst, ◌∙◌, add-one}
 use Rattle.std.proofs.Math.Seq.{drop-cons}
-use Rattle.std.proofs.lemmas.List.{map-append, reverse-append}
+use Rattle.std.proofs.lemmas.List.{map-append, reverse-append, reverse-reverse}
 use Rattle.std.specs.Str.{bytes_eq}
 use Rattle.trace_lines.specs.declared.line.Line.{Line}
 use Rattle.lens_terms.specs.declared.closing.Closing.{Closing}
@@ -73,11 +73,32 @@ stands-led number l ls t old new is h same more begun = record {
       ∙ ap (λ ts. reverse ts) (sym (terms-more number l ls Leads is));
 }
 
--- the line at a place, before those behind it
-pub line-before : (lines : List (Line (Bor (List ℕ)))) (at : ℕ) (d : Line (Bor (List ℕ))) → at < length lines
-    → map seen (drop at lines) ≡ seen (get_or lines at d) ∷ map seen (drop (at + 1) lines)
-line-before lines at d within =
-    ap (map seen) (drop-cons lines at d within) ∙ ap (λ n. seen (get_or lines at d) ∷ map seen (drop n lines)) (sym (add-one at))
+-- what is known behind a place is known behind the place before, once its line was taken
+pub stands-before : (lines : List (Line (Bor (List ℕ)))) (place at number : ℕ) (g : Gathering) (line d : Line (Bor (List ℕ))) → place < length lines → place + 1 ≡ at
+    → Stands number (seen line ∷ map seen (drop at lines)) g → line ≡ get_or lines place d → Stands number (map seen (drop place lines)) g
+stands-before lines place at number g line d within next taken is =
+    let whole : drop place lines ≡ line ∷ drop at lines =
+    drop-cons lines place d within ∙ ap (λ x. x ∷ drop (suc place) lines) (sym is) ∙ ap (λ n. line ∷ drop n lines) (sym (add-one place) ∙ next) in
+    subst (λ ls. Stands number ls g) (sym (ap (map seen) whole)) taken
+
+map-reversed : (ts : List (Term (Bor (List ℕ)))) → map shown (reverse ts) ≡ reverse (map shown ts)
+map-reversed [] = refl
+map-reversed (t ∷ ts) =
+    ap (map shown) (reverse-append (t ∷ []) ts)
+    ∙ map-append shown (reverse ts) (t ∷ [])
+    ∙ ap (λ x. x ++ shown t ∷ []) (map-reversed ts)
+    ∙ sym (reverse-append (shown t ∷ []) (map shown ts))
+
+-- what is known of all lines tells their terms
+pub all-terms : (lines : List (Line (Bor (List ℕ)))) (at : ℕ) (g : Gathering) (turned : List (Term (Bor (List ℕ)))) → at ≡ 0 → Stands (at + 2) (map seen (drop at lines)) g
+    → turned ≡ reverse g.terms.items → map shown turned ≡ terms 2 (map seen lines)
+all-terms lines at g turned none h is =
+    let all : Stands 2 (map seen lines) g = subst (λ n. Stands (n + 2) (map seen (drop n lines)) g) none h in
+    ap (map shown) is ∙ map-reversed g.terms.items ∙ ap (λ ts. reverse ts) all.terms_are ∙ reverse-reverse (terms 2 (map seen lines))
+
+pub where-ok : {T E : Type 0} (r : Result T E) (P Q : T → Type 0) → ((x : T) → P x → Q x) → IfOk r P → IfOk r Q
+where-ok (Ok x) P Q f h = f x h
+where-ok (Err e) P Q f h = tt
 
 -- no lines
 pub stands-none : (number : ℕ) (g : Gathering) → ((who : Bor (List ℕ)) → held g.closings who ≡ None) → g.terms.items ≡ [] → Stands number [] g
