@@ -1,4 +1,3 @@
-use Rattle.std.proofs.Common.{[]}
 use Rattle.lens_edge.proofs.Endings.{ends-read, ends-large}
 use Rattle.lens_edge.proofs.asking.ask.Goals as goal
 
