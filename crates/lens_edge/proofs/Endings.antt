@@ -47,7 +47,7 @@ ends-given (Ok a) IsReply left before after s is ends none =
     ends-wider (Unread (reply_of a) left) (λ o. IsReply o.reply × (o.left ≡ left)) (Some left) (Some left) before after s
     (λ o same. (subst (λ x. IsReply x) (sym (ap (λ x. x.reply) same)) is, ap (λ x. x.left) same)) refl ends
 ends-given (Err e) IsReply left before after s is ends none =
-    let out = none (record {}) in
+    let out = none refl in
     subst (λ x. Ends (λ o. IsReply o.reply × (o.left ≡ left)) (Some left) before after x) (sym out.0) out.1
 
 -- all bytes that the source told were taken, at most as many as may be, and a slice shows them

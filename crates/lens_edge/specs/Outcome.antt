@@ -49,8 +49,8 @@ Read IsReply bytes o = ReadBy (nat_le (length bytes) 16777216) (IsReply bytes) b
 -- ---- how a run ends
 
 -- this was the verdict, all the text was taken, and this is left of the source
-pub record IsWhole (o : Outcome) (rest before after : Option (List ℕ)) (verdict : Verdict) : Type 0 where
-  pub verdict : verdict ≡ o.reply.verdict
+pub record IsWhole (o : Outcome) (rest before after : Option (List ℕ)) (ended : Verdict) : Type 0 where
+  pub verdict : ended ≡ o.reply.verdict
   pub text : Gives before after o.reply.text
   pub left : rest ≡ Some o.left
 

@@ -1,3 +1,4 @@
+use Rattle.std.proofs.Common.{[]}
 use Rattle.lens_edge.proofs.Endings.{ends-read, ends-large}
 use Rattle.lens_edge.proofs.asking.ask.Goals as goal
 
@@ -13,4 +14,4 @@ returns-in-Err-TooLarge-clause-text g c bytes told =
     let left = g.S.Source.left in
     let taken = g.K.Sink.taken in
     ends-large (g.Q.Question.is_reply c.args.question.now) (left c.args.source.now) (left c.take_all.new.source) bytes c.refuse.result
-    (taken c.args.sink.now) (taken c.give-2.new.sink) c.give-2.result told (c.in-Err-TooLarge.ensures.large c.in-Err-TooLarge.field-0-is) c.refuse.ensures c.give-2.ensures.text c.give-2.ensures.memory
+    (taken c.args.sink.now) (taken c.give-in-Err-TooLarge.new.sink) c.give-in-Err-TooLarge.result told (c.in-Err-TooLarge.ensures.large c.in-Err-TooLarge.field-0-is) c.refuse.ensures c.give-in-Err-TooLarge.ensures.text c.give-in-Err-TooLarge.ensures.memory
