@@ -69,10 +69,7 @@ pub fn terms_of<'a>(
 }
 
 /// The same terms from the last to the first.
-fn reversed<'a>(
-    alloc: Global,
-    terms: Vec<Term<&'a [u8]>>,
-) -> Result<Vec<Term<&'a [u8]>>, NoMemory>
+fn reversed<'a>(alloc: Global, terms: Vec<Term<&'a [u8]>>) -> Result<Vec<Term<&'a [u8]>>, NoMemory>
     ensures { IfOk result (λ turned. turned.items ≡ reverse terms.entry.items) }
 {
     let mut rest = terms;

@@ -14,11 +14,7 @@ pub struct Span {
 }
 
 /// The spans in which nobody leads, by the terms of a trace that ends before the beat `stop`, in the order in which they begin.
-pub fn leaderless(
-    alloc: Global,
-    stop: u32,
-    terms: &[Term<&[u8]>],
-) -> Result<Vec<Span>, NoMemory>
+pub fn leaderless(alloc: Global, stop: u32, terms: &[Term<&[u8]>]) -> Result<Vec<Span>, NoMemory>
     ensures { IfOk result (λ spans. spans.items ≡ spec.leaderless 0 stop terms.now) }
 {
     let mut spans = Vec::new(alloc);

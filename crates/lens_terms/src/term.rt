@@ -47,10 +47,7 @@ pub fn crossing<'t, 'a>(
     ensures { option_copied result ≡ spec.first (λ other. spec.crosses stop (spec.shown term.now) (spec.shown other)) terms.now }
 {
     for other in terms {
-        if other.actor != term.actor
-            && other.from <= term.from
-            && term.from < other.until(stop)
-        {
+        if other.actor != term.actor && other.from <= term.from && term.from < other.until(stop) {
             return Some(other);
         }
     }

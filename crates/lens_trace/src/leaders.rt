@@ -33,12 +33,7 @@ pub(crate) fn leaders_in(alloc: Global, text: &[u8]) -> Result<Answer, NoMemory>
 }
 
 /// The answer on the lines behind the first.
-fn leaders_behind(
-    alloc: Global,
-    judged: Judged,
-    stop: u32,
-    rest: &[u8],
-) -> Result<Answer, NoMemory>
+fn leaders_behind(alloc: Global, judged: Judged, stop: u32, rest: &[u8]) -> Result<Answer, NoMemory>
     ensures { IfOk result (λ answer. reply_of answer
         ≡ spec.answer_by judged stop (terms 2 (filter_map line_of (lines_of rest.now)))) }
 {
@@ -76,11 +71,7 @@ fn overlapping(
     })
 }
 
-fn one_at_a_time(
-    alloc: Global,
-    stop: u32,
-    found: &[Term<&[u8]>],
-) -> Result<Answer, NoMemory>
+fn one_at_a_time(alloc: Global, stop: u32, found: &[Term<&[u8]>]) -> Result<Answer, NoMemory>
     ensures { IfOk result (λ answer. reply_of answer ≡ spec.one_at_a_time stop (map shown found.now)) }
 {
     let mut text = Vec::new(alloc);
