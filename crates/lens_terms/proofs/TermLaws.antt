@@ -1,10 +1,9 @@
 -- The terms of lines, one line more at their front.
-use Rattle.std.proofs.Common.{◌≡◌, ℕ, ◌+◌, ◌<◌, Bool, true, false, cond, List, [], ◌∷◌, ◌++◌, length, map, reverse, drop, get_or, suc, Bor, Option, Some, None, Result, Ok, Err, IfOk, refl, sym, ap, subst, ◌∙◌, add-one}
+use Rattle.std.proofs.Common.{◌≡◌, ℕ, ◌+◌, ◌<◌, Bool, true, false, cond, List, [], ◌∷◌, ◌++◌, length, map, reverse, drop, get_or, suc, Bor, Some, None, Result, Ok, Err, IfOk, refl, sym, ap, subst, ◌∙◌, add-one}
 use Rattle.std.proofs.Math.Seq.{drop-cons}
 use Rattle.std.proofs.lemmas.List.{map-append, reverse-append, reverse-reverse}
 use Rattle.std.specs.Str.{bytes_eq}
 use Rattle.trace_lines.specs.declared.line.Line.{Line}
-use Rattle.lens_terms.specs.declared.closing.Closing.{Closing}
 use Rattle.lens_terms.specs.declared.closing.Ending.{Ending}
 use Rattle.lens_terms.specs.declared.gathering.Gathering.{Gathering}
 use Rattle.lens_terms.specs.declared.term.Term.{Term}

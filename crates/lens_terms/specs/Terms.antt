@@ -6,7 +6,6 @@ use Rattle.trace_lines.specs.declared.line.Line.{Line}
 use Rattle.trace_lines.specs.declared.line.Says.{Says}
 use Rattle.trace_lines.specs.declared.line.Says.TheVariants as says
 use Rattle.lens_terms.specs.declared.closing.Closing.{Closing}
-use Rattle.lens_terms.specs.declared.closing.Ending.{Ending}
 use Rattle.lens_terms.specs.declared.closing.Ending.TheVariants.{End, Stop, Crash}
 use Rattle.lens_terms.specs.declared.term.Term.{Term}
 use Rattle.lens_terms.specs.declared.turn.Turn.{Turn}

@@ -1,4 +1,4 @@
-use Rattle.std.proofs.Common.{◌≡◌, ◌≤◌, ◌+◌, length, drop, map}
+use Rattle.std.proofs.Common.{◌≤◌, ◌+◌, length, drop, map}
 use Rattle.trace_lines.specs.Reads.{seen}
 use Rattle.lens_terms.specs.Gathered.{Stands}
 use Rattle.lens_terms.proofs.gathering.terms_of.Given as goal
