@@ -6,9 +6,8 @@ use Rattle.std.proofs.lemmas.Bool.Decides.{nat_tests}
 use Rattle.trace_lines.specs.declared.line.Line.{Line}
 use Rattle.trace_lines.specs.Forms.{line_of}
 use Rattle.trace_terms.specs.Entries.{Entry}
-use Rattle.trace_terms.specs.Terms.{Term, terms, term_of, ended, is_lead, is_end}
+use Rattle.trace_terms.specs.Terms.{terms, term_of, ended, is_lead, is_end}
 use Rattle.trace_audit.specs.Entries.{entry_of, entries_of, with_entry, first_wrong, wrong_from}
-use Rattle.trace_audit.proofs.LineLaws.{entries-more}
 
 -- the entries of lines
 abbrev pub numbered : ℕ → List (Line (List ℕ)) → List Entry

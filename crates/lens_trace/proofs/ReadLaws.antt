@@ -1,5 +1,5 @@
 -- The lines of a text that are of a form, one line more.
-use Rattle.std.proofs.Common.{◌≡◌, ℕ, List, [], ◌∷◌, ◌++◌, Option, Some, None, option_to_list, filter_map, refl, sym, ap, ◌∙◌, append_assoc, append-nil}
+use Rattle.std.proofs.Common.{◌≡◌, ℕ, List, [], ◌++◌, Option, Some, None, option_to_list, filter_map, refl, sym, ap, ◌∙◌, append_assoc}
 use Rattle.std.specs.List.{cons_option}
 use Rattle.trace_lines.specs.declared.line.Line.{Line}
 use Rattle.trace_lines.specs.Forms.{line_of}

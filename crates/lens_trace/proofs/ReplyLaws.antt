@@ -1,5 +1,5 @@
 -- What a text is answered, by its parts.
-use Rattle.std.proofs.Common.{◌≡◌, ℕ, ◌+◌, List, codes, filter_map, Option, Some, None, refl, sym, ap, ◌∙◌}
+use Rattle.std.proofs.Common.{◌≡◌, ℕ, ◌+◌, List, codes, filter_map, Some, None, sym, ap, ◌∙◌}
 use Rattle.lens_edge.specs.Outcome.{refusal}
 use Rattle.lens_terms.specs.Terms.{terms}
 use Rattle.lens_trace.specs.declared.judging.Judged.{Judged}

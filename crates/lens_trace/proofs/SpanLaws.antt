@@ -1,6 +1,6 @@
 -- A beat lies in one of the spans without a leader exactly where nobody leads.
-use Rattle.std.proofs.Common.{◌≡◌, ℕ, ◌+◌, ◌≤◌, ◌<◌, ◌&&◌, ◌||◌, not, nat_le, nat_lt, max, Bool, true, false, cond, List, [], ◌∷◌, ◌++◌, length, filter_map, ◌==◌, Option, Some, None, Unit, ⊥, refl, sym, ap, subst, ◌∙◌, arith}
-use Rattle.std.specs.List.{list_any, cons_option}
+use Rattle.std.proofs.Common.{◌≡◌, ℕ, ◌+◌, ◌≤◌, ◌<◌, ◌&&◌, ◌||◌, not, nat_le, nat_lt, max, Bool, true, false, cond, List, [], ◌∷◌, length, filter_map, ◌==◌, Option, Some, None, Unit, ⊥, refl, sym, ap, subst, ◌∙◌, arith}
+use Rattle.std.specs.List.{cons_option}
 use Rattle.std.proofs.lemmas.Bool.Decides.{nat_tests}
 use Rattle.std.proofs.lemmas.List.Folds.{list_any-append}
 use Rattle.trace_lines.specs.declared.line.Line.{Line}
@@ -11,7 +11,7 @@ use Rattle.lens_terms.specs.declared.turn.Turn.{Turn}
 use Rattle.lens_terms.specs.declared.turn.Turn.TheVariants.{Leads, Ends, Keeps}
 use Rattle.lens_terms.specs.Spans.{span, leaderless}
 use Rattle.lens_terms.specs.Terms.{turn_of, term_of, begun_by, terms, until}
-use Rattle.lens_trace.specs.Beats.{has_beat, leads_at, covers, lies_in}
+use Rattle.lens_trace.specs.Beats.{leads_at, covers, lies_in}
 
 -- ---- the order of lines and terms
 

@@ -1,5 +1,5 @@
 -- The line that a text is.
-use Rattle.std.specs.Prelude.{ℕ, List, [], option_to_list}
+use Rattle.std.specs.Prelude.{ℕ, List, option_to_list}
 use Rattle.trace_lines.specs.declared.line.Line.{Line}
 use Rattle.trace_lines.specs.Forms.{line_of}
 

@@ -1,4 +1,4 @@
-use Rattle.std.proofs.Common.{◌≡◌, List, ℕ, IfOk, map, filter_map, sym, ap, subst, ◌∙◌}
+use Rattle.std.proofs.Common.{◌≡◌, IfOk, map, filter_map, sym, ap, subst, ◌∙◌}
 use Rattle.lens_edge.specs.Outcome.{reply_of}
 use Rattle.lens_terms.specs.Terms.{shown, terms}
 use Rattle.trace_audit.specs.Entries.{lines_of}
