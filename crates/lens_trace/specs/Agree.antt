@@ -1,5 +1,5 @@
 -- The terms that are told are those by which `audit` judges a trace.
-use Rattle.std.specs.Prelude.{◌≡◌, ℕ, ◌+◌, List, [], ◌∷◌, filter_map, Unit, ⊥, None}
+use Rattle.std.specs.Prelude.{◌≡◌, ℕ, ◌+◌, List, [], ◌∷◌, filter_map, None}
 use Rattle.trace_audit.specs.Entries.{entries_of, first_wrong}
 use Rattle.trace_lines.specs.Forms.{line_of}
 use Rattle.trace_terms.specs.Terms as audit

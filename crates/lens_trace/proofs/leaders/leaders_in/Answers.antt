@@ -9,8 +9,8 @@ returns-in_default c =
 
 pub returns-in_default-read_header : goal.returns-in_default-read_header
 returns-in_default-read_header c =
-    subst (λ r. IfOk c.refuse-in_default.result (λ a. reply_of a ≡ r))
-    (sym (reply-headless c.args.text.now c.in-Some.head.now c.in-Some.rest.now c.in-Some.ensures (sym c.in_default-read_header.ensures.header))) c.refuse-in_default.ensures
+    subst (λ r. IfOk c.refuse-in_default-read_header.result (λ a. reply_of a ≡ r))
+    (sym (reply-headless c.args.text.now c.in-Some.head.now c.in-Some.rest.now c.in-Some.ensures (sym c.in_default-read_header.ensures.header))) c.refuse-in_default-read_header.ensures
 
 pub returns : goal.returns
 returns c =
