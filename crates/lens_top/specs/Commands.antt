@@ -2,12 +2,13 @@
 use Rattle.std.specs.Prelude.{ℕ, List, [], ◌∷◌, codes, Option, Some, None, if◌then◌else◌}
 use Rattle.std.specs.Str.{bytes_eq}
 use Rattle.lens_top.specs.declared.command.Command.{Command}
-use Rattle.lens_top.specs.declared.command.Command.TheVariants.{Help, Margin}
+use Rattle.lens_top.specs.declared.command.Command.TheVariants.{Help, Margin, Leaders}
 
 abbrev pub command_by : List ℕ → Option Command
 command_by word =
     if bytes_eq word (codes "--help") then Some Help
     else if bytes_eq word (codes "margin") then Some Margin
+    else if bytes_eq word (codes "leaders") then Some Leaders
     else None
 
 -- the command that the first word names

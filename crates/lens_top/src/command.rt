@@ -9,6 +9,8 @@ pub enum Command {
     Help,
     /// The margins of a document's leases.
     Margin,
+    /// Who led in a trace, and when nobody did.
+    Leaders,
 }
 
 /// The command that the first word names, if any.
@@ -28,6 +30,8 @@ fn by_word(word: &str) -> Option<Command>
         Some(Command::Help)
     } else if word == "margin" {
         Some(Command::Margin)
+    } else if word == "leaders" {
+        Some(Command::Leaders)
     } else {
         None
     }

@@ -49,6 +49,7 @@ pub fn run<S: Source, K: Sink>(
     match command_in(words) {
         Some(Command::Help) => tell(sink, Verdict::Done, help()),
         Some(Command::Margin) => lens_margin::run(alloc, words, source, sink),
+        Some(Command::Leaders) => lens_trace::run(alloc, words, source, sink),
         None => tell_usage(sink),
     }
 }
@@ -59,6 +60,7 @@ fn help() -> &'static [u8]
     b"kube_lens: answers on leader elections, in a person's words\n\
 \n\
 kube_lens margin < document      for each controller what its lease has to outlast, and what is left\n\
+kube_lens leaders < trace        who led from when to when, when nobody did, and whether two did at once\n\
 kube_lens --help                 these lines\n\
 \n\
 Exit status: 0 safe or told, 1 unsafe or refused, 2 no such command, 3 the input can't be read,\n\

@@ -1,0 +1,7 @@
+use Rattle.std.proofs.Common.{◌≡◌, ◌++◌, drop}
+use Rattle.lens_terms.specs.Spans as spec
+use Rattle.lens_terms.proofs.span.leaderless.Given as goal
+
+-- the spans so far and those of what is left
+abbrev pub invariant-loop-term : goal.invariant-loop-term
+invariant-loop-term l = l.spans.items ++ spec.leaderless l.since l.stop (drop l.term-index l.terms) ≡ spec.leaderless 0 l.stop l.terms

@@ -1,0 +1,44 @@
+// What a line means for the terms of its actor.
+ghost use Rattle.std.specs.Prelude.{◌≡◌};
+ghost use Rattle.trace_lines.specs.Reads.{said};
+ghost use Rattle.lens_terms.specs.Terms as spec;
+
+use crate::closing::Ending;
+use trace_lines::Says;
+
+/// What a line means for the terms of its actor.
+#[derive(Clone, Copy)]
+pub(crate) enum Turn {
+    /// It begins one.
+    Leads,
+    /// It ends them.
+    Ends(Ending),
+    /// Neither.
+    Keeps,
+}
+
+/// What the words of a line mean for the terms of its actor.
+pub(crate) fn turn_of(says: &Says<&[u8]>) -> Turn
+    ensures { result ≡ spec.turn_of (said says.now) }
+{
+    match says {
+        Says::Lead(_) => Turn::Leads,
+        Says::End => Turn::Ends(Ending::End),
+        Says::Stop => Turn::Ends(Ending::Stop),
+        Says::Crash => Turn::Ends(Ending::Crash),
+        Says::Start => Turn::Keeps,
+        Says::Pause(_) => Turn::Keeps,
+        Says::Election(_, _, _) => Turn::Keeps,
+        Says::NodeLease(_, _, _) => Turn::Keeps,
+        Says::Status(_, _, _) => Turn::Keeps,
+        Says::Put(_, _) => Turn::Keeps,
+        Says::Remove(_, _) => Turn::Keeps,
+        Says::Unknown(_, _, _) => Turn::Keeps,
+        Says::Mode(_) => Turn::Keeps,
+        Says::Zone(_, _, _) => Turn::Keeps,
+        Says::Taint(_, _, _) => Turn::Keeps,
+        Says::Swap(_, _, _) => Turn::Keeps,
+        Says::Untaint(_, _) => Turn::Keeps,
+        Says::Evict(_, _, _) => Turn::Keeps,
+    }
+}

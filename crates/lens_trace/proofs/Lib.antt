@@ -1,0 +1,7 @@
+pub mod CutLaws
+pub mod ReadLaws
+pub mod ShownLaws
+pub mod ReplyLaws
+pub mod AuditTerms
+pub mod AgreeLaws
+pub mod SpanLaws

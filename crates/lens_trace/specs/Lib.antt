@@ -1,0 +1,6 @@
+pub mod Agree
+pub mod Beats
+pub mod Judged
+pub mod Read
+pub mod Leaders
+pub mod Replies

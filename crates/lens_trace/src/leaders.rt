@@ -1,0 +1,208 @@
+// Who leads, and when nobody does.
+ghost use Rattle.std.specs.Prelude.{◌≡◌, ◌++◌, ◌+◌, ◌≤◌, IfOk, OnOk, Some, map, filter_map, decimal, codes};
+ghost use Rattle.std.specs.List.{flat_map};
+ghost use Rattle.lens_edge.specs.Outcome.{reply_of};
+ghost use Rattle.lens_terms.specs.Terms.{first, crosses, shown, terms};
+ghost use Rattle.trace_audit.specs.Entries.{lines_of};
+ghost use Rattle.trace_lines.specs.Forms.{line_of};
+ghost use Rattle.lens_trace.specs.Leaders as spec;
+
+use crate::judging::{Judged, judge};
+use crate::reading::read_lines;
+use kube_base::NoMemory;
+use lens_edge::{Answer, Verdict, refuse};
+use lens_terms::{Closing, Ending, Span, Term, crossing, leaderless, term_at, terms_of};
+use std::alloc::Global;
+use trace_audit::BAD_TRACE;
+use trace_lines::{cut, read_header};
+use trace_writer::{add, add_number};
+
+/// Who leads in the trace that this text is, when nobody does, and whether two ever do at once.
+#[tactic(auto, unfolding(crate::specs::Leaders::leaders_reply))]
+pub(crate) fn leaders_in(alloc: Global, text: &[u8]) -> Result<Answer, NoMemory>
+    ensures { IfOk result (λ answer. reply_of answer ≡ spec.leaders_reply text.now) }
+{
+    let judged = judge(alloc, text)?;
+    let Some((head, rest)) = cut(text, b'\n') else {
+        return refuse(alloc, BAD_TRACE, b"/1");
+    };
+    let Some(header) = read_header(head) else {
+        return refuse(alloc, BAD_TRACE, b"/1");
+    };
+    leaders_behind(alloc, judged, header.end + 1, rest)
+}
+
+/// The answer on the lines behind the first.
+fn leaders_behind(alloc: Global, judged: Judged, stop: u32, rest: &[u8]) -> Result<Answer, NoMemory>
+    ensures { IfOk result (λ answer. reply_of answer
+        ≡ spec.answer_by judged stop (terms 2 (filter_map line_of (lines_of rest.now)))) }
+{
+    let lines = read_lines(alloc, rest)?;
+    let found = terms_of(alloc, &lines)?;
+    match judged {
+        Judged::Wrong(line) => refuse_line(alloc, line),
+        Judged::Overlaps(line) => overlapping(alloc, stop, &found, line),
+        Judged::OneAtATime => one_at_a_time(alloc, stop, &found),
+    }
+}
+
+fn refuse_line(alloc: Global, line: u64) -> Result<Answer, NoMemory>
+    ensures { IfOk result (λ answer. reply_of answer ≡ spec.wrong_line line) }
+{
+    let mut path = Vec::new(alloc);
+    add_count(&mut path, b"/", line)?;
+    refuse(alloc, BAD_TRACE, &path)
+}
+
+fn overlapping(
+    alloc: Global,
+    stop: u32,
+    found: &[Term<&[u8]>],
+    line: u64,
+) -> Result<Answer, NoMemory>
+    ensures { IfOk result (λ answer. reply_of answer ≡ spec.overlapping stop (map shown found.now) line) }
+{
+    let mut text = Vec::new(alloc);
+    add_terms(&mut text, alloc, stop, found)?;
+    add_overlap(&mut text, stop, found, line)?;
+    Ok(Answer {
+        verdict: Verdict::Unsafe,
+        text,
+    })
+}
+
+fn one_at_a_time(alloc: Global, stop: u32, found: &[Term<&[u8]>]) -> Result<Answer, NoMemory>
+    ensures { IfOk result (λ answer. reply_of answer ≡ spec.one_at_a_time stop (map shown found.now)) }
+{
+    let mut text = Vec::new(alloc);
+    add_terms(&mut text, alloc, stop, found)?;
+    add(&mut text, b"one at a time\n")?;
+    Ok(Answer {
+        verdict: Verdict::Safe,
+        text,
+    })
+}
+
+/// Adds a line for each term, and for each span in which nobody leads.
+fn add_terms(
+    text: &mut Vec<u8>,
+    alloc: Global,
+    stop: u32,
+    found: &[Term<&[u8]>],
+) -> Result<(), NoMemory>
+    ensures { OnOk result (text.new.items ≡ text.old.items ++ spec.told_terms stop (map shown found.now)) }
+{
+    let spans = leaderless(alloc, stop, found)?;
+    add_each(text, stop, found)?;
+    add_spans(text, &spans)
+}
+
+fn add_each(text: &mut Vec<u8>, stop: u32, found: &[Term<&[u8]>]) -> Result<(), NoMemory>
+    ensures { OnOk result (text.new.items ≡ text.old.items ++ flat_map (λ term. spec.term_line stop (shown term)) found.now) }
+{
+    for term in found {
+        add_term(text, stop, term)?;
+    }
+    Ok(())
+}
+
+#[tactic(auto, unfolding(crate::specs::Leaders::term_line))]
+fn add_term(text: &mut Vec<u8>, stop: u32, term: &Term<&[u8]>) -> Result<(), NoMemory>
+    ensures { OnOk result (text.new.items ≡ text.old.items ++ spec.term_line stop (shown term.now)) }
+{
+    add(text, term.actor)?;
+    add(text, b" from=")?;
+    add_number(text, u64::from(term.from))?;
+    add(text, b" until=")?;
+    add_number(text, u64::from(term.until(stop)))?;
+    add(text, b" ended=")?;
+    add(text, closing_text(term.closing))
+}
+
+fn closing_text(closing: Option<Closing>) -> &'static [u8]
+    ensures { result.now ≡ spec.closing_text closing }
+{
+    match closing {
+        None => b"trace-end\n",
+        Some(closing) => ending_text(closing.how),
+    }
+}
+
+fn ending_text(ending: Ending) -> &'static [u8]
+    ensures { result.now ≡ spec.ending_text ending }
+{
+    match ending {
+        Ending::End => b"end\n",
+        Ending::Stop => b"stop\n",
+        Ending::Crash => b"crash\n",
+    }
+}
+
+fn add_spans(text: &mut Vec<u8>, spans: &[Span]) -> Result<(), NoMemory>
+    ensures { OnOk result (text.new.items ≡ text.old.items ++ flat_map spec.span_line spans.now) }
+{
+    for span in spans {
+        add_span(text, *span)?;
+    }
+    Ok(())
+}
+
+#[tactic(auto, unfolding(crate::specs::Leaders::span_line))]
+fn add_span(text: &mut Vec<u8>, span: Span) -> Result<(), NoMemory>
+    ensures { OnOk result (text.new.items ≡ text.old.items ++ spec.span_line span) }
+{
+    add(text, b"nobody from=")?;
+    add_number(text, u64::from(span.from))?;
+    add(text, b" until=")?;
+    add_number(text, u64::from(span.until))?;
+    add(text, b"\n")
+}
+
+/// Adds the line on the first `lead` of an identity while another one leads.
+fn add_overlap(
+    text: &mut Vec<u8>,
+    stop: u32,
+    found: &[Term<&[u8]>],
+    line: u64,
+) -> Result<(), NoMemory>
+    ensures { OnOk result (text.new.items ≡ text.old.items ++ spec.overlap_line stop (map shown found.now) line) }
+{
+    add_count(text, b"overlap line=", line)?;
+    match term_at(found, line) {
+        Some(term) => add_who(text, stop, found, term),
+        None => add(text, b"\n"),
+    }
+}
+
+fn add_who(
+    text: &mut Vec<u8>,
+    stop: u32,
+    found: &[Term<&[u8]>],
+    term: &Term<&[u8]>,
+) -> Result<(), NoMemory>
+    ensures { OnOk result (text.new.items ≡ text.old.items ++ spec.who_text stop (map shown found.now) (Some (shown term.now))) }
+{
+    add_count(text, b" from=", u64::from(term.from))?;
+    add(text, b" who=")?;
+    add(text, term.actor)?;
+    match crossing(stop, found, term) {
+        Some(other) => add_beside(text, other),
+        None => add(text, b"\n"),
+    }
+}
+
+fn add_beside(text: &mut Vec<u8>, other: &Term<&[u8]>) -> Result<(), NoMemory>
+    ensures { OnOk result (text.new.items ≡ text.old.items ++ spec.beside_text (Some (shown other.now))) }
+{
+    add(text, b" beside=")?;
+    add(text, other.actor)?;
+    add(text, b"\n")
+}
+
+/// Adds a label and a number in decimal.
+fn add_count(text: &mut Vec<u8>, label: &[u8], count: u64) -> Result<(), NoMemory>
+    ensures { OnOk result (text.new.items ≡ text.old.items ++ (label.now ++ decimal count)) }
+{
+    add(text, label)?;
+    add_number(text, count)
+}

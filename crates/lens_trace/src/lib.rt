@@ -1,0 +1,10 @@
+//! Answers on the text of a trace: the command `leaders`, from words and bytes to text and status.
+#![tactic(auto)]
+
+mod judging;
+mod leaders;
+mod reading;
+mod running;
+
+pub use judging::Judged;
+pub use running::run;
