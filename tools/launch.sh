@@ -56,14 +56,16 @@ tell_lens_help() {
 kube_lens answers what one asks of a document or a trace. It reads standard input and writes standard output.
 
 $(tell_command "$called margin < DOCUMENT" 'how much room each lease leaves, the least that would do, how long a leader may stand still')
+$(tell_command "$called leaders < TRACE" 'who led from when to when, when nobody did, and whether two did at once')
 $(tell_command "$called --help, --version" 'these lines, and the version')
 
-Exit status: 0 answered, 1 unsafe, or the input is refused, 2 no such command, 3 the input can't be read, 4 the output can't be written,
-5 memory ran out, 6 a word isn't UTF-8$more_statuses.
+Exit status: 0 answered, 1 unsafe, two at once, or the input is refused, 2 no such command, 3 the input can't be read,
+4 the output can't be written, 5 memory ran out, 6 a word isn't UTF-8$more_statuses.
 
-A line to try$place:
+Two lines to try$place:
 
   $called margin < $examples/leader-crashes/document.json
+  $called leaders < $examples/uneven-clocks/trace.txt
 
 $pages/lens.md has all commands.
 HELP

@@ -74,9 +74,11 @@ def expected(text):
     terms = [Term(lines, at, end) for at in range(1, len(lines)) if lines[at].split()[2] == 'lead']
     told = [f'{t.who} from={t.first} until={t.until} ended={t.how}' for t in terms]
     quiet = [not any(beat in t.beats() for t in terms) for beat in range(end + 1)]
+    # a lead parts the quiet around it, also one that ends in its own beat
+    cut = [not quiet[beat] or any(t.first == beat for t in terms) for beat in range(end + 1)]
     for beat in range(end + 1):
-        if quiet[beat] and (beat == 0 or not quiet[beat - 1]):
-            until = next((later for later in range(beat, end + 1) if not quiet[later]), end + 1)
+        if quiet[beat] and (beat == 0 or not quiet[beat - 1] or cut[beat]):
+            until = next((later for later in range(beat + 1, end + 1) if cut[later]), end + 1)
             told.append(f'nobody from={beat} until={until}')
     for t in terms:
         beside = [s for s in terms if s.number < t.number and s.who != t.who and set(s.beats()) & set(t.beats())]

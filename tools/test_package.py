@@ -167,6 +167,8 @@ def try_lens(tried, system):
     tried.same('kube_lens --help', (status, 'kube_lens margin' in told, './' in told, said), (0, True, False, ''))
     status, told, _ = system.run('kube_lens margin < %sexamples/uneven-clocks/document.json' % DOC)
     tried.same('kube_lens margin', (status, told.splitlines()[-1:]), (1, ['unsafe']))
+    status, told, _ = system.run('kube_lens leaders < %sexamples/uneven-clocks/trace.txt' % DOC)
+    tried.same('kube_lens leaders', (status, told.splitlines()[-1:]), (1, ['overlap line=9 from=184 who=cp-west-1_1 beside=cp-east-1_1']))
     tried.same("a word that isn't a command of kube_lens", system.run('kube_lens leaderz')[0], 2)
     refused = '{"version":1,"settings":{"endBeat":60,"beatMillis":0},"controllers":[{"name":"cp-east-1"}]}'
     knows = system.run('kube_lens explain', refused)[0] == 1

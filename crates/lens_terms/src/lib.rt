@@ -12,3 +12,4 @@ pub use closing::{Closing, Ending};
 pub use gathering::terms_of;
 pub use span::{Span, leaderless};
 pub use term::{Term, crossing, term_at};
+pub use turn::Turn;

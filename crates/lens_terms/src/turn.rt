@@ -8,7 +8,7 @@ use trace_lines::Says;
 
 /// What a line means for the terms of its actor.
 #[derive(Clone, Copy)]
-pub(crate) enum Turn {
+pub enum Turn {
     /// It begins one.
     Leads,
     /// It ends them.

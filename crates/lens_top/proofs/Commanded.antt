@@ -1,5 +1,5 @@
 -- How a run ends, by the command of its words.
-use Rattle.std.proofs.Common.{◌≡◌, ℕ, List, [], Option, Some, None, sym, subst, ◌∙◌}
+use Rattle.std.proofs.Common.{◌≡◌, ℕ, List, Option, Some, sym, subst}
 use Rattle.lens_edge.specs.declared.status.Status.{Status}
 use Rattle.lens_edge.specs.Outcome.{Ends, Reply, Unread}
 use Rattle.lens_top.specs.declared.command.Command.{Command}

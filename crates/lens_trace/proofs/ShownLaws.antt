@@ -58,6 +58,18 @@ pub beside-told : (stop : ℕ) (ts : List (Term (Bor (List ℕ)))) (t : Term (Bo
 beside-told stop ts t found old one two three four is from who actor then =
     let beside = first (crosses stop (shown t)) (map shown ts) in
     let last : four ≡ three ++ beside_text beside = then ∙ ap (λ o. three ++ beside_text o) (ap (λ o. option_map shown o) is ∙ sym (first-shown (crosses stop (shown t)) ts)) in
-    added old one four (codes " from=" ++ decimal t.from) (codes " who=" ++ (t.actor.now ++ beside_text beside)) from
-    (added one two four (codes " who=") (t.actor.now ++ beside_text beside) who (added two three four t.actor.now (beside_text beside) actor last))
-    ∙ ap (λ x. old ++ x) (append_assoc (codes " from=") (decimal t.from) (codes " who=" ++ (t.actor.now ++ beside_text beside)))
+    let label = codes " from=" ++ decimal t.from in
+    let after_who : two ≡ old ++ (label ++ codes " who=") = added old one two label (codes " who=") from who in
+    let after_actor : three ≡ old ++ (label ++ codes " who=" ++ t.actor.now) = added old two three (label ++ codes " who=") t.actor.now after_who actor in
+    added old three four (label ++ codes " who=" ++ t.actor.now) (beside_text beside) after_actor last
+
+-- the line on a span
+pub span-told : (s : Span) (old one two three four five : List ℕ) → one ≡ old ++ codes "nobody from=" → two ≡ one ++ decimal s.from → three ≡ two ++ codes " until="
+    → four ≡ three ++ decimal s.until → five ≡ four ++ codes "\n" → five ≡ old ++ span_line s
+unfolding span_line
+span-told s old one two three four five label from then last end =
+    let begun = codes "nobody from=" ++ decimal s.from in
+    let after_from : two ≡ old ++ begun = added old one two (codes "nobody from=") (decimal s.from) label from in
+    let after_then : three ≡ old ++ (begun ++ codes " until=") = added old two three begun (codes " until=") after_from then in
+    let after_last : four ≡ old ++ (begun ++ codes " until=" ++ decimal s.until) = added old three four (begun ++ codes " until=") (decimal s.until) after_then last in
+    added old four five (begun ++ codes " until=" ++ decimal s.until) (codes "\n") after_last end

@@ -1,4 +1,4 @@
-use Rattle.std.proofs.Common.{Some, None}
+use Rattle.std.proofs.Common.{◌++◌, codes, decimal, Some, None, ap, ◌∙◌}
 use Rattle.std.proofs.lemmas.Result.{on_ok_weaker}
 use Rattle.lens_trace.proofs.ShownLaws.{beside-told}
 use Rattle.lens_trace.proofs.leaders.add_who.Goals as goal
@@ -7,12 +7,12 @@ pub returns-in-Some : goal.returns-in-Some
 returns-in-Some c =
     on_ok_weaker c.add_beside.result
     (λ then. beside-told c.args.stop c.args.found.now c.args.term.now (Some c.in-Some.other.now) c.args.text.now.items c.add_count.new.text.items c.add.new.text.items c.add-2.new.text.items c.add_beside.new.text.items
-    c.in-Some.ensures c.in_ok-add_count.ensures c.in_ok-add.ensures c.in_ok-add-2.ensures then)
+    c.in-Some.ensures (c.in_ok-add_count.ensures ∙ ap (λ n. c.args.text.now.items ++ (codes " from=" ++ decimal n)) c.from.ensures) c.in_ok-add.ensures c.in_ok-add-2.ensures then)
     c.add_beside.ensures
 
 pub returns-in-None : goal.returns-in-None
 returns-in-None c =
     on_ok_weaker c.add-in-None.result
     (λ then. beside-told c.args.stop c.args.found.now c.args.term.now None c.args.text.now.items c.add_count.new.text.items c.add.new.text.items c.add-2.new.text.items c.add-in-None.new.text.items
-    c.in-None.ensures c.in_ok-add_count.ensures c.in_ok-add.ensures c.in_ok-add-2.ensures then)
+    c.in-None.ensures (c.in_ok-add_count.ensures ∙ ap (λ n. c.args.text.now.items ++ (codes " from=" ++ decimal n)) c.from.ensures) c.in_ok-add.ensures c.in_ok-add-2.ensures then)
     c.add-in-None.ensures

@@ -21,8 +21,8 @@ returns-in-Overlaps c =
     (ap (λ ts. overlapping c.args.stop ts c.in-Overlaps.line) found ∙ ap (λ j. answer_by j c.args.stop told) (sym c.in-Overlaps.is))
     c.overlapping.ensures
 
-pub returns-in-OneAtATime : goal.returns-in-OneAtATime
-returns-in-OneAtATime c =
+pub returns : goal.returns
+returns c =
     let told = terms 2 (filter_map line_of (lines_of c.args.rest.now)) in
     let read : map seen c.deref.result.now ≡ filter_map line_of (lines_of c.args.rest.now) = ap (map seen) c.deref.ensures.value ∙ c.in_ok-lines.ensures in
     let found : map shown c.deref-in-OneAtATime.result.now ≡ told = ap (map shown) c.deref-in-OneAtATime.ensures.value ∙ c.in_ok-found.ensures ∙ ap (terms 2) read in
