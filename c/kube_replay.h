@@ -45,8 +45,8 @@ enum {
  * - buffer, *put and *whole overlap neither each other nor words and input. `words` and `input` are only read, and may overlap.
  * - During the call no other thread writes to words or input, or touches buffer, *put or *whole.
  *
- * It keeps no state: calls in several threads at once are fine, each with a buffer and numbers of its own. While it runs it holds the
- * whole text in memory, and all memory that it takes is freed before it returns. It takes it by the program's malloc, realloc and free,
+ * It keeps no state: calls in several threads at once are fine, each with a buffer and numbers of its own. The text goes straight into
+ * the buffer, and what has no room there is only counted. All memory that it takes is freed before it returns. It takes it by the program's malloc, realloc and free,
  * which must come from one allocator, with blocks aligned for every power of two up to 16 that divides their size. It isn't to be called
  * from a signal handler, nor in the forked child of a process with threads. It starts no thread, opens no file, and reads no clock.
  */

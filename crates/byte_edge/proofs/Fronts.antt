@@ -1,14 +1,20 @@
 -- One more piece was given, or taken.
 use Rattle.std.proofs.Common.{◌≡◌, ℕ, ◌+◌, ◌≤◌, List, [], ◌∷◌, ◌++◌, length, refl, take, drop, Option, Some, None, sym, ap, ◌∙◌, subst, append_assoc, take-append-drop, inl, inr, arith, length-append, IfSome, ◌↔◌}
 use Rattle.std.proofs.lemmas.List.{append-nil, length-take}
-use Rattle.byte_edge.specs.Bytes.{Gives, GaveFront, Gave, Rose, Took, TakesPiece, TookAll, TookAtMost}
+use Rattle.byte_edge.specs.Bytes.{Gives, GaveFront, Gave, Known, Over, Rose, Taken, Took, TakesPiece, TookAll, TookAtMost, Untold, over}
+use Rattle.byte_edge.proofs.Overs.{over-more, over-nothing}
 
-pub gives-both : (before mid after : Option (List ℕ)) (xs ys : List ℕ) → Gives before mid xs → Gives mid after ys → Gives before after (xs ++ ys)
-gives-both None mid after xs ys first second = subst (λ m. Gives m after ys) first second
-gives-both (Some b) mid after xs ys first second =
-    subst (λ m. Gives m after ys) first second ∙ ap (λ (l : List ℕ). Some l) (append_assoc b xs ys)
+pub gives-both : (before mid after : Taken) (xs ys : List ℕ) → Gives before mid xs → Gives mid after ys → Gives before after (xs ++ ys)
+gives-both Untold mid after xs ys first second = subst (λ m. Gives m after ys) first second
+gives-both (Known b) mid after xs ys first second =
+    subst (λ m. Gives m after ys) first second ∙ ap Known (append_assoc b xs ys)
+gives-both (Over borrow buffer count) mid after xs ys first second =
+    let counts : (count + length xs) + length ys ≡ count + length (xs ++ ys) = omega (arith, length-append xs ys) in
+    subst (λ m. Gives m after ys) first second
+    ∙ ap (λ b. Over borrow b ((count + length xs) + length ys)) (over-more buffer count xs ys)
+    ∙ ap (Over borrow (over buffer count (xs ++ ys))) counts
 
-pub gave-more : (before mid after : Option (List ℕ)) (bytes rest : List ℕ) (n : ℕ) → GaveFront before mid bytes rest → Gives mid after (take n rest) → GaveFront before after bytes (drop n rest)
+pub gave-more : (before mid after : Taken) (bytes rest : List ℕ) (n : ℕ) → GaveFront before mid bytes rest → Gives mid after (take n rest) → GaveFront before after bytes (drop n rest)
 gave-more before mid after bytes rest n g more =
     record {
       front = g.front ++ take n rest;
@@ -16,12 +22,15 @@ gave-more before mid after bytes rest n g more =
       gives = gives-both before mid after g.front (take n rest) g.gives more;
     }
 
-pub gives-nothing : (before : Option (List ℕ)) → Gives before before []
-gives-nothing None = refl
-gives-nothing (Some b) = ap (λ (l : List ℕ). Some l) (sym (append-nil b))
+pub gives-nothing : (before : Taken) → Gives before before []
+gives-nothing Untold = refl
+gives-nothing (Known b) = ap Known (sym (append-nil b))
+gives-nothing (Over borrow buffer count) =
+    let counts : count ≡ count + 0 = omega arith in
+    ap (λ b. Over borrow b count) (sym (over-nothing buffer count)) ∙ ap (Over borrow (over buffer count [])) counts
 
 -- nothing was given yet
-pub gave-nothing : (before : Option (List ℕ)) (bytes : List ℕ) → Gave before before bytes
+pub gave-nothing : (before : Taken) (bytes : List ℕ) → Gave before before bytes
 gave-nothing before bytes = (bytes, record { front = []; is = refl; gives = gives-nothing before })
 
 empty : (xs : List ℕ) → length xs ≡ 0 → xs ≡ []

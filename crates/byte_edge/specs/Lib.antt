@@ -1,2 +1,4 @@
+pub mod Borrowed
 pub mod Bytes
+pub mod Calm
 pub mod Memory

@@ -56,19 +56,20 @@ impl MemSink {
 }
 
 impl Sink for MemSink {
-    ghost use Rattle.std.specs.Prelude.{◌≡◌, ◌≤◌, ◌<◌, ◌-◌, ◌^◌, Some, length, take, OnErr, IfOk, IsErr};
+    ghost use Rattle.std.specs.Prelude.{◌≡◌, ◌≤◌, ◌<◌, ◌-◌, ◌^◌, length, take, OnErr, IfOk, IsErr};
     ghost use Rattle.byte_edge.specs.Bytes.{Rose, Gives};
+    ghost use Rattle.byte_edge.specs.Bytes.Taken.{Known};
     ghost use Rattle.byte_edge.specs.Memory.{held_by, calls_of_sink, faults_of_sink, sink_plan, given_to, one_more};
 
-    ghost taken = { λ s. Some (held_by s) };
+    ghost taken = { λ s. Known (held_by s) };
 
     ghost faults = { faults_of_sink };
 
     fn give(&mut self, bytes: &[u8]) -> Result<usize, Failed>
         requires { 0 < length bytes.now }
         ensures given { IfOk result (λ n. (0 < n) × (n ≤ length bytes.now)
-            × Gives (Some (held_by self.old)) (Some (held_by self.new)) (take n bytes.now)) }
-        ensures kept { OnErr result (Some (held_by self.new) ≡ Some (held_by self.old)) }
+            × Gives (Known (held_by self.old)) (Known (held_by self.new)) (take n bytes.now)) }
+        ensures kept { OnErr result (Known (held_by self.new) ≡ Known (held_by self.old)) }
         ensures counted { faults_of_sink self.old ≤ faults_of_sink self.new }
         ensures within { faults_of_sink self.new ≤ 2 ^ 64 - 1 }
         ensures failed { IsErr result → Rose (faults_of_sink self.old) (faults_of_sink self.new) }

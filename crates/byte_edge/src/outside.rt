@@ -1,6 +1,6 @@
 // The two sides of the outside.
 ghost use Rattle.std.specs.Prelude.{◌≡◌, ◌≤◌, ◌<◌, ◌-◌, ◌^◌, ◌↔◌, ℕ, List, [], Option, length, take, OnErr, IfOk, IfSome, IsErr};
-ghost use Rattle.byte_edge.specs.Bytes.{Rose, Took, Gives};
+ghost use Rattle.byte_edge.specs.Bytes.{Rose, Took, Gives, Taken};
 
 /// A source or a sink has failed, and has counted it.
 #[derive(Clone, Copy, Debug, PartialEq, Eq)]
@@ -27,8 +27,8 @@ pub trait Source {
 
 /// A place outside that bytes go to.
 pub trait Sink {
-    /// The bytes that were taken, where the sink tells them.
-    ghost taken: { Self → Option (List ℕ) };
+    /// What the sink tells of the bytes that were taken.
+    ghost taken: { Self → Taken };
 
     /// How often it has failed; the count stays at its last value.
     ghost faults: { Self → ℕ };

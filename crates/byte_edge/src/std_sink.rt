@@ -21,9 +21,9 @@ impl<W: Write> StdSink<W> {
 }
 
 impl<W: Write> Sink for StdSink<W> {
-    ghost use Rattle.std.specs.Prelude.{None};
+    ghost use Rattle.byte_edge.specs.Bytes.Taken.{Untold};
 
-    ghost taken = { λ _. None };
+    ghost taken = { λ _. Untold };
 
     ghost faults = { λ s. s.faults };
 

@@ -2,6 +2,7 @@
 #![tactic(auto)]
 
 mod by_beats;
+mod calm;
 mod case;
 mod document;
 mod faults;

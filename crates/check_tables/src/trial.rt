@@ -1,4 +1,5 @@
 // Runs over memory.
+use crate::calm::ends_calmly;
 use byte_edge::{MemSink, MemSource};
 use kube_base::{NoMemory, Steps};
 use rate_policies::{full, partial};
@@ -53,6 +54,19 @@ pub(crate) fn ends(
     Ok(ended == status && sink.held() == text)
 }
 
+/// Whether a run writes just this text and ends as the text says, and ends so too where nothing can fail.
+fn ends_both(
+    alloc: Global,
+    words: &Vec<String>,
+    trial: &Trial<'_>,
+    text: &str,
+) -> Result<bool, NoMemory> {
+    let status = status_of(text);
+    let written = ends(alloc, words, trial, status, text.as_bytes())?;
+    let calm = ends_calmly(alloc, words, trial.bytes.to_vec(alloc)?);
+    Ok(written && calm == status)
+}
+
 /// Whether a command writes just this text of a document, and ends as the text says.
 pub(crate) fn writes(
     alloc: Global,
@@ -62,7 +76,7 @@ pub(crate) fn writes(
 ) -> Result<bool, NoMemory> {
     let words = one_word(alloc, word)?;
     let trial = ample(document, text.len());
-    ends(alloc, &words, &trial, status_of(text), text.as_bytes())
+    ends_both(alloc, &words, &trial, text)
 }
 
 /// Whether `state` with this beat writes just this text of a document, and ends as the text says.
@@ -75,7 +89,7 @@ pub(crate) fn shows(
     let mut words = one_word(alloc, "state")?;
     words.push(String::from_str(alloc, beat)?)?;
     let trial = ample(document, text.len());
-    ends(alloc, &words, &trial, status_of(text), text.as_bytes())
+    ends_both(alloc, &words, &trial, text)
 }
 
 /// Whether both commands write just this text of a document.

@@ -1,5 +1,5 @@
 // What the words and the input give.
-ghost use Rattle.std.specs.Prelude.{◌≡◌, [], Some, true, map, string_bytes};
+ghost use Rattle.std.specs.Prelude.{◌≡◌, Some, true, map, string_bytes};
 ghost use Rattle.kube_base.specs.declared.numbers.Beat.{Beat};
 ghost use Rattle.history.specs.Evictions.{NotEarly, Prompt};
 ghost use Rattle.history.specs.Premise.{lease_premise};
@@ -14,11 +14,11 @@ ghost use Rattle.replay_top.specs.Outcome.{outcome};
 ghost use Rattle.replay_top.specs.Replays.{Replays, Shows, WhereGenerated, WhereReplayedUnderPremise};
 ghost use Rattle.replay_top.specs.State.{ReadsBack};
 ghost use Rattle.replay_top.specs.Tasks.{task_of};
-ghost use Rattle.kube_replay_c.specs.Answers.{Answers};
+ghost use Rattle.kube_replay_c.specs.Calls.{EndsIn};
 ghost use Rattle.kube_replay_c.specs.Exits.{exit_status_of};
 
 use crate::borrowed_source::BorrowedSource;
-use crate::text_sink::TextSink;
+use byte_edge::BorrowedSink;
 use kube_base::Steps;
 use rate_policies::{full, partial};
 use replay_top::{Status, run};
@@ -26,30 +26,36 @@ use std::alloc::Global;
 use std::sync::ledger::Blank;
 use zone_state::Policies;
 
-/// Want of memory. It is the exit status of `Status::OutOfMemory`, and of a sink in memory that fails.
+/// Want of memory. It is the exit status of `Status::OutOfMemory`, and of a text that no memory could hold.
 pub(crate) const OUT_OF_MEMORY: u32 = 5;
 
-/// An exit status, and all that was written.
-#[derive(Debug, Drop)]
+/// An exit status, how many bytes were put into the buffer, and how many there are in all.
+#[derive(Clone, Copy, Debug, PartialEq, Eq)]
 pub(crate) struct Answer {
     pub status: u32,
-    pub text: Vec<u8>,
+    pub put: usize,
+    pub whole: usize,
 }
 
 /// An answer with nothing written.
-pub(crate) fn nothing(alloc: Global, status: u32) -> Answer
-    ensures status { result.status ≡ status }
-    ensures text { result.text.items ≡ [] }
+pub(crate) fn nothing(status: u32) -> Answer
+    ensures { result ≡ record { status = status; put = 0; whole = 0 } }
 {
     Answer {
         status,
-        text: Vec::new(alloc),
+        put: 0,
+        whole: 0,
     }
 }
 
-/// Runs on the input.
-pub(crate) fn run_in_memory(alloc: Global, words: &Vec<String>, input: &[u8]) -> Answer
-    ensures text { Answers (outcome (map string_bytes words.now.items) input.now) result }
+/// Runs on the input, and writes into the buffer.
+pub(crate) fn run_in_memory(
+    alloc: Global,
+    words: &Vec<String>,
+    input: &[u8],
+    buffer: &mut [u8],
+) -> Answer
+    ensures text { EndsIn (outcome (map string_bytes words.now.items) input.now) buffer.old buffer.new result.put result.whole result.status }
     ensures holder { result.status ≡ 0 → WhereReplayedUnderPremise (map string_bytes words.now.items) (Some input.now) Holder }
     ensures exclusive { result.status ≡ 0 → WhereReplayedUnderPremise (map string_bytes words.now.items) (Some input.now) Exclusive }
     ensures spacing { result.status ≡ 0 → WhereReplayedUnderPremise (map string_bytes words.now.items) (Some input.now) Spacing }
@@ -63,7 +69,7 @@ pub(crate) fn run_in_memory(alloc: Global, words: &Vec<String>, input: &[u8]) ->
     ensures alone { result.status ≡ 0 → task_of (map string_bytes words.now.items) ≡ Some Task.Audit → OneActs (entries_in input.now) }
 {
     let mut source = BorrowedSource::new(input);
-    let mut sink = TextSink::new(alloc);
+    let mut sink = BorrowedSink::new(buffer);
     let mut steps = Steps::new(Blank::new(1));
     let status = run(
         alloc,
@@ -75,11 +81,12 @@ pub(crate) fn run_in_memory(alloc: Global, words: &Vec<String>, input: &[u8]) ->
     );
     Answer {
         status: exit_status(status),
-        text: sink.into_bytes(),
+        put: sink.put(),
+        whole: sink.given(),
     }
 }
 
-/// The exit status of a run in memory, whose source doesn't fail and whose sink fails for want of memory alone.
+/// The exit status of a run in memory, whose source doesn't fail, and whose sink fails only where no memory could hold the text.
 fn exit_status(status: Status) -> u32
     ensures { result ≡ exit_status_of status }
 {

@@ -20,12 +20,9 @@ ghost use Rattle.kube_replay_c.specs.Calls.{words_in, Holds, EndsIn};
 
 mod answer;
 mod borrowed_source;
-mod filling;
-mod text_sink;
 mod words;
 
 use crate::answer::{OUT_OF_MEMORY, nothing, run_in_memory};
-use crate::filling::fill;
 use crate::words::{WordsFault, words_of};
 use std::alloc::Global;
 
@@ -79,12 +76,11 @@ pub extern "C" fn kube_replay_run(
     ensures alone { result ≡ 0 → task_of (words_in words.now) ≡ Some Task.Audit → OneActs (entries_in input.now) }
 {
     let answer = match words_of(alloc, words) {
-        Ok(words) => run_in_memory(alloc, &words, input),
-        Err(WordsFault::NotUtf8) => nothing(alloc, BAD_WORDS),
-        Err(WordsFault::NoMemory) => nothing(alloc, OUT_OF_MEMORY),
+        Ok(words) => run_in_memory(alloc, &words, input, buffer),
+        Err(WordsFault::NotUtf8) => nothing(BAD_WORDS),
+        Err(WordsFault::NoMemory) => nothing(OUT_OF_MEMORY),
     };
-    let text = answer.text.as_slice();
-    *put = fill(buffer, text);
-    *whole = text.len();
+    *put = answer.put;
+    *whole = answer.whole;
     answer.status
 }

@@ -1,7 +1,7 @@
 -- How a run ends, by the outcome of its words and bytes.
-use Rattle.std.proofs.Common.{◌≡◌, ◌≤◌, ◌<◌, ℕ, Bool, true, false, List, [], ◌∷◌, ◌++◌, length, drop, codes, Option, Some, Result, Ok, Err, IfOk, IsErr, refl, sym, ap, ◌∙◌, subst, arith, length-append}
+use Rattle.std.proofs.Common.{◌≡◌, ◌≤◌, ◌<◌, ℕ, List, [], ◌∷◌, ◌++◌, length, drop, codes, Option, Some, Result, Ok, Err, IfOk, IsErr, refl, sym, ap, ◌∙◌, subst, arith, length-append}
 use Rattle.std.proofs.lemmas.Bool.{le-leb, lt-leb}
-use Rattle.byte_edge.specs.Bytes.{Took, TookAll, IsTooLarge}
+use Rattle.byte_edge.specs.Bytes.{Taken, Took, TookAll, IsTooLarge}
 use Rattle.kube_base.specs.declared.memory.NoMemory.{NoMemory}
 use Rattle.lens_edge.specs.declared.answer.Answer.{Answer}
 use Rattle.lens_edge.specs.declared.status.Status.{Status}
@@ -9,7 +9,7 @@ use Rattle.lens_edge.specs.declared.status.Status.TheVariants.{Answered, SourceF
 use Rattle.lens_edge.specs.Outcome.{Outcome, Reply, reply_of, Unread, ReadBy, Read, refusal, Ends}
 
 -- a run that ends with one outcome ends with one of those among which it is
-pub ends-wider : (IsOne IsOther : Outcome → Type 0) (now left before after : Option (List ℕ)) (s : Status) → ((o : Outcome) → IsOne o → IsOther o) → left ≡ now → Ends IsOne now before after s → Ends IsOther left before after s
+pub ends-wider : (IsOne IsOther : Outcome → Type 0) (now left : Option (List ℕ)) (before after : Taken) (s : Status) → ((o : Outcome) → IsOne o → IsOther o) → left ≡ now → Ends IsOne now before after s → Ends IsOther left before after s
 ends-wider IsOne IsOther now left before after s wider rest ends = subst (λ l. Ends IsOther l before after s) (sym rest) (by_status s ends)
   where
     by_status : (s : Status) → Ends IsOne now before after s → Ends IsOther now before after s
@@ -40,7 +40,7 @@ took-large left after bytes told large = from (let P : Option (List ℕ) → Typ
 -- ---- the answer
 
 -- an answer that was given, or for which memory was missing
-ends-given : (r : Result Answer NoMemory) (IsReply : Reply → Type 0) (left : List ℕ) (before after : Option (List ℕ)) (s : Status)
+ends-given : (r : Result Answer NoMemory) (IsReply : Reply → Type 0) (left : List ℕ) (before after : Taken) (s : Status)
     → IfOk r (λ a. IsReply (reply_of a)) → IfOk r (λ a. Ends (Unread (reply_of a) left) (Some left) before after s) → (IsErr r → (s ≡ OutOfMemory) × (after ≡ before))
     → Ends (λ o. IsReply o.reply × (o.left ≡ left)) (Some left) before after s
 ends-given (Ok a) IsReply left before after s is ends none =
@@ -51,7 +51,7 @@ ends-given (Err e) IsReply left before after s is ends none =
     subst (λ x. Ends (λ o. IsReply o.reply × (o.left ≡ left)) (Some left) before after x) (sym out.0) out.1
 
 -- all bytes that the source told were taken, at most as many as may be, and a slice shows them
-pub ends-read : (IsReply : List ℕ → Reply → Type 0) (now left : Option (List ℕ)) (bytes items shown : List ℕ) (r : Result Answer NoMemory) (before after : Option (List ℕ)) (s : Status)
+pub ends-read : (IsReply : List ℕ → Reply → Type 0) (now left : Option (List ℕ)) (bytes items shown : List ℕ) (r : Result Answer NoMemory) (before after : Taken) (s : Status)
     → now ≡ Some bytes → shown ≡ items → TookAll now left items × (length items ≤ 16777216)
     → IfOk r (λ a. IsReply shown (reply_of a)) → IfOk r (λ a. Ends (Unread (reply_of a) []) (Some []) before after s) → (IsErr r → (s ≡ OutOfMemory) × (after ≡ before))
     → Ends (Read IsReply bytes) left before after s
@@ -66,7 +66,7 @@ ends-read IsReply now left bytes items shown r before after s told value took is
     (ends-given r (IsReply shown) [] before after s is ends none))
 
 -- more bytes were taken than an input may have
-pub ends-large : (IsReply : List ℕ → Reply → Type 0) (now left : Option (List ℕ)) (bytes : List ℕ) (r : Result Answer NoMemory) (before after : Option (List ℕ)) (s : Status)
+pub ends-large : (IsReply : List ℕ → Reply → Type 0) (now left : Option (List ℕ)) (bytes : List ℕ) (r : Result Answer NoMemory) (before after : Taken) (s : Status)
     → now ≡ Some bytes → IsTooLarge 16777216 now left
     → IfOk r (λ a. reply_of a ≡ refusal 33 (codes "/")) → ((rest : List ℕ) → IfOk r (λ a. Ends (Unread (reply_of a) rest) (Some rest) before after s)) → (IsErr r → (s ≡ OutOfMemory) × (after ≡ before))
     → Ends (Read IsReply bytes) left before after s

@@ -1,6 +1,6 @@
 -- What a run writes and how it ends.
 use Rattle.std.specs.Prelude.{◌≡◌, ℕ, ◌++◌, nat_le, Bool, true, false, List, [], length, drop, codes, decimal, Option, Some}
-use Rattle.byte_edge.specs.Bytes.{Gives, Gave}
+use Rattle.byte_edge.specs.Bytes.{Gives, Gave, Taken}
 use Rattle.lens_edge.specs.declared.answer.Answer.{Answer}
 use Rattle.lens_edge.specs.declared.status.Verdict.{Verdict}
 use Rattle.lens_edge.specs.declared.status.Verdict.TheVariants.{Refused, Usage}
@@ -49,20 +49,20 @@ Read IsReply bytes o = ReadBy (nat_le (length bytes) 16777216) (IsReply bytes) b
 -- ---- how a run ends
 
 -- this was the verdict, all the text was taken, and this is left of the source
-pub record IsWhole (o : Outcome) (rest before after : Option (List ℕ)) (ended : Verdict) : Type 0 where
+pub record IsWhole (o : Outcome) (rest : Option (List ℕ)) (before after : Taken) (ended : Verdict) : Type 0 where
   pub verdict : ended ≡ o.reply.verdict
   pub text : Gives before after o.reply.text
   pub left : rest ≡ Some o.left
 
 -- with one of these outcomes. Before a fault of the sink a prefix of its text was taken, and before another fault nothing
-abbrev pub Ends : (Outcome → Type 0) → Option (List ℕ) → Option (List ℕ) → Option (List ℕ) → Status → Type 0
+abbrev pub Ends : (Outcome → Type 0) → Option (List ℕ) → Taken → Taken → Status → Type 0
 Ends IsOutcome left before after (Answered verdict) = (o : Outcome) × IsOutcome o × IsWhole o left before after verdict
 Ends IsOutcome left before after SourceFault = after ≡ before
 Ends IsOutcome left before after SinkFault = (o : Outcome) × IsOutcome o × Gave before after o.reply.text
 Ends IsOutcome left before after OutOfMemory = after ≡ before
 
 -- of whatever bytes the source tells, the run ends as by these
-abbrev pub EndsAs : (List ℕ → Outcome → Type 0) → Option (List ℕ) → Option (List ℕ) → Option (List ℕ) → Option (List ℕ) → Status → Type 0
+abbrev pub EndsAs : (List ℕ → Outcome → Type 0) → Option (List ℕ) → Option (List ℕ) → Taken → Taken → Status → Type 0
 EndsAs IsOutcome source left before after ended = (bytes : List ℕ) → source ≡ Some bytes → Ends (IsOutcome bytes) left before after ended
 
 -- the whole answer was written, or memory ran out

@@ -1,5 +1,6 @@
 -- How a run ends, by the outcome of its words and bytes.
 use Rattle.std.proofs.Common.{◌≡◌, ℕ, nat_le, Bool, true, false, List, [], length, Option, Ok, refl, sym, ap, ◌∙◌, subst}
+use Rattle.byte_edge.specs.Bytes.{Taken}
 use Rattle.history.specs.Premise.{lease_premise}
 use Rattle.lens_edge.specs.declared.status.Status.{Status}
 use Rattle.lens_edge.specs.declared.status.Status.TheVariants.{Answered}
@@ -34,14 +35,14 @@ module _ (bytes : List ℕ) (d : Document) (read : document_walk bytes ≡ Ok d)
   read-by v true o other same is = same ∙ ap (λ x. x.verdict) is.0 ∙ ap (λ r. (found r).verdict) read
   read-by v false o other same is = absurd (other (same ∙ ap (λ x. x.reply.verdict) is))
 
-  measured-by : (left before after : Option (List ℕ)) (v : Verdict) (s : Status) → ¬ (v ≡ Refused) → s ≡ Answered v → Ends (Read (λ bytes reply. reply ≡ found (document_walk bytes)) bytes) left before after s → v ≡ verdict_of (lease_premise (doc_of d))
+  measured-by : (left : Option (List ℕ)) (before after : Taken) (v : Verdict) (s : Status) → ¬ (v ≡ Refused) → s ≡ Answered v → Ends (Read (λ bytes reply. reply ≡ found (document_walk bytes)) bytes) left before after s → v ≡ verdict_of (lease_premise (doc_of d))
   unfolding Read
   measured-by left before after v s other is ends =
       let whole = subst (Ends (Read (λ bytes reply. reply ≡ found (document_walk bytes)) bytes) left before after) is ends in
       read-by v (nat_le (length bytes) 16777216) whole.0 other whole.2.verdict whole.1
 
-  pub safe-premise : (left before after : Option (List ℕ)) (s : Status) → Ends (Read (λ bytes reply. reply ≡ found (document_walk bytes)) bytes) left before after s → s ≡ Answered Safe → lease_premise (doc_of d) ≡ true
+  pub safe-premise : (left : Option (List ℕ)) (before after : Taken) (s : Status) → Ends (Read (λ bytes reply. reply ≡ found (document_walk bytes)) bytes) left before after s → s ≡ Answered Safe → lease_premise (doc_of d) ≡ true
   safe-premise left before after s ends is = verdict-safe _ (measured-by left before after Safe s (λ same. let never : Safe ≡ Refused = same in cc) is ends)
 
-  pub unsafe-premise : (left before after : Option (List ℕ)) (s : Status) → Ends (Read (λ bytes reply. reply ≡ found (document_walk bytes)) bytes) left before after s → s ≡ Answered Unsafe → lease_premise (doc_of d) ≡ false
+  pub unsafe-premise : (left : Option (List ℕ)) (before after : Taken) (s : Status) → Ends (Read (λ bytes reply. reply ≡ found (document_walk bytes)) bytes) left before after s → s ≡ Answered Unsafe → lease_premise (doc_of d) ≡ false
   unsafe-premise left before after s ends is = verdict-unsafe _ (measured-by left before after Unsafe s (λ same. let never : Unsafe ≡ Refused = same in cc) is ends)

@@ -1,6 +1,7 @@
 -- How a run ends, by the outcome of its words and bytes.
 use Rattle.std.proofs.Common.{◌≡◌, ◌⊎◌, ◌<◌, ℕ, cond, List, length, drop, Option, Result, Ok, Err, sym, ap, ◌∙◌, subst, inl, inr, refl}
 use Rattle.std.proofs.lemmas.Bool.{lt-leb}
+use Rattle.byte_edge.specs.Bytes.{Taken}
 use Rattle.replay_top.specs.declared.status.Status.{Status}
 use Rattle.replay_top.specs.declared.status.Status.TheVariants.{Done, Refused, Usage, SourceFault, SinkFault, OutOfMemory}
 use Rattle.kube_base.specs.declared.numbers.Beat.{Beat}
@@ -17,7 +18,7 @@ use Rattle.replay_top.specs.Outcome.{Outcome, outcome, outcome_of, obeyed, answe
 use Rattle.replay_top.specs.Replays.{IsUnread, IsUndone}
 use Rattle.replay_top.specs.Readings.{Means}
 
-pub ends-moved : (o p : Outcome) (now left before after : Option (List ℕ)) (s : Status) → p ≡ o → left ≡ now → Ends o now before after s → Ends p left before after s
+pub ends-moved : (o p : Outcome) (now left : Option (List ℕ)) (before after : Taken) (s : Status) → p ≡ o → left ≡ now → Ends o now before after s → Ends p left before after s
 ends-moved o p now left before after s same rest ends =
     subst (λ x. Ends x left before after s) (sym same) (subst (λ l. Ends o l before after s) (sym rest) ends)
 
@@ -60,7 +61,7 @@ answer-state command d beat is = ap (λ c. answer_to c d) is
 pub answer-checked : (command : Command) (d : Document) → command ≡ Check → answer_to command d ≡ done (summary d)
 answer-checked command d is = ap (λ c. answer_to c d) is
 
-pub ends-whole : (o : Outcome) (left before after : Option (List ℕ)) (s : Status) → ¬ (s ≡ SourceFault) → ¬ (s ≡ SinkFault) → Ends o left before after s → IsWhole o left before after s ⊎ (s ≡ OutOfMemory)
+pub ends-whole : (o : Outcome) (left : Option (List ℕ)) (before after : Taken) (s : Status) → ¬ (s ≡ SourceFault) → ¬ (s ≡ SinkFault) → Ends o left before after s → IsWhole o left before after s ⊎ (s ≡ OutOfMemory)
 ends-whole o left before after Done calm taken ends = inl ends
 ends-whole o left before after Refused calm taken ends = inl ends
 ends-whole o left before after Usage calm taken ends = inl ends

@@ -5,7 +5,7 @@ use Rattle.std.proofs.lemmas.List.{append-nil}
 use Rattle.std.proofs.lemmas.Grind.{flat_map-append}
 use Rattle.kube_objects.specs.declared.deed.Deed.{Deed}
 use Rattle.kube_objects.specs.Document.{Doc, end_beat}
-use Rattle.byte_edge.specs.Bytes.{Gave}
+use Rattle.byte_edge.specs.Bytes.{Gave, Taken}
 use Rattle.kube_objects.specs.Clocks.{store_wall, whole_second}
 use Rattle.kube_objects.specs.declared.key.Key.{Key}
 use Rattle.kube_objects.specs.declared.object.Object.{Object}
@@ -52,7 +52,7 @@ lines-more doc names processes front more =
     ∙ ap (λ x. first_of doc ++ x) (sym (flat_map-append (line_of names processes) front more))
 
 -- a prefix of the trace before a beat is one of the whole trace
-pub gave-whole : (doc : Doc) (names processes : List (List ℕ)) (k : ℕ) (before after : Option (List ℕ)) → k ≤ end_beat doc + 1
+pub gave-whole : (doc : Doc) (names processes : List (List ℕ)) (k : ℕ) (before after : Taken) → k ≤ end_beat doc + 1
     → Gave before after (trace_before doc names processes k) → Gave before after (trace_of doc names processes)
 unfolding trace_before trace_of
 gave-whole doc names processes k before after within g = from (printed-later doc k (suc (end_beat doc)) (subst (λ n. k ≤ n) (add-one (end_beat doc)) within))
@@ -63,7 +63,7 @@ gave-whole doc names processes k before after within g = from (printed-later doc
         (lines-more doc names processes (printed (history doc k)) later.0 ∙ ap (λ x. first_of doc ++ lines_of names processes x) later.1) g
 
 -- a fault comes after some beats, with some of their text in the buffer
-pub gave-so_far : (doc : Doc) (names processes : List (List ℕ)) (k : ℕ) (before now : Option (List ℕ)) (buffer : List ℕ) → k ≤ end_beat doc + 1 → Spoken before now buffer (trace_before doc names processes k) → Gave before now (trace_of doc names processes)
+pub gave-so_far : (doc : Doc) (names processes : List (List ℕ)) (k : ℕ) (before now : Taken) (buffer : List ℕ) → k ≤ end_beat doc + 1 → Spoken before now buffer (trace_before doc names processes k) → Gave before now (trace_of doc names processes)
 gave-so_far doc names processes k before now buffer within s =
     gave-whole doc names processes k before now within (spoken-so_far before now buffer (trace_before doc names processes k) s)
 
@@ -170,7 +170,7 @@ unfolding trace
 trace-named d names processes named ordered = ap (λ n. trace_of (doc_of d) n processes) named ∙ ap (trace_of (doc_of d) d.names) ordered
 
 -- what is written after the first line is the document's trace
-pub trace-written : {T : Type 0} (d : Document) (names processes : List (List ℕ)) (before after : Option (List ℕ)) (empty text : List ℕ) (r : Result T WriteFault) → empty ≡ [] → text ≡ empty ++ first_of (doc_of d) → names ≡ d.names → processes ≡ process_names d.names (doc_of d)
+pub trace-written : {T : Type 0} (d : Document) (names processes : List (List ℕ)) (before after : Taken) (empty text : List ℕ) (r : Result T WriteFault) → empty ≡ [] → text ≡ empty ++ first_of (doc_of d) → names ≡ d.names → processes ≡ process_names d.names (doc_of d)
     → (Spoken before before text (trace_before (doc_of d) names processes 0) → Written before after (trace_of (doc_of d) names processes) r) → Written before after (trace d) r
 trace-written d names processes before after empty text r none is named ordered written =
     let first = trace-first (doc_of d) names processes empty text none is in

@@ -1,25 +1,25 @@
 -- A text that is written from a buffer.
 use Rattle.std.proofs.Common.{◌≡◌, ℕ, List, [], ◌++◌, Option, Result, Ok, Err, OnOk, OnErr, sym, ap, ◌∙◌, subst, append_assoc}
 use Rattle.std.proofs.lemmas.List.{append-nil}
-use Rattle.byte_edge.specs.Bytes.{Gives, Gave}
+use Rattle.byte_edge.specs.Bytes.{Gives, Gave, Taken}
 use Rattle.byte_edge.proofs.Fronts.{gives-both, gives-nothing}
 use Rattle.replay_top.specs.Spoken.{Spoken, Written}
 use Rattle.trace_writer.specs.declared.writing.WriteFault.{WriteFault}
 
 -- nothing was written yet
-pub spoken-first : (before : Option (List ℕ)) (buffer said : List ℕ) → buffer ≡ said → Spoken before before buffer said
+pub spoken-first : (before : Taken) (buffer said : List ℕ) → buffer ≡ said → Spoken before before buffer said
 spoken-first before buffer said is = record { given = []; gives = gives-nothing before; is = is }
 
 -- the buffer was given
-pub spoken-given : (before now after : Option (List ℕ)) (buffer said : List ℕ) → Spoken before now buffer said → Gives now after buffer → Gives before after said
+pub spoken-given : (before now after : Taken) (buffer said : List ℕ) → Spoken before now buffer said → Gives now after buffer → Gives before after said
 spoken-given before now after buffer said s given = subst (Gives before after) s.is (gives-both before now after s.given buffer s.gives given)
 
-pub spoken-emptied : (before now after : Option (List ℕ)) (buffer said : List ℕ) → Spoken before now buffer said → Gives now after buffer → Spoken before after [] said
+pub spoken-emptied : (before now after : Taken) (buffer said : List ℕ) → Spoken before now buffer said → Gives now after buffer → Spoken before after [] said
 spoken-emptied before now after buffer said s given =
     record { given = said; gives = spoken-given before now after buffer said s given; is = append-nil said }
 
 -- a prefix of the buffer was given
-pub spoken-front : (before now after : Option (List ℕ)) (buffer said : List ℕ) → Spoken before now buffer said → Gave now after buffer → Gave before after said
+pub spoken-front : (before now after : Taken) (buffer said : List ℕ) → Spoken before now buffer said → Gave now after buffer → Gave before after said
 spoken-front before now after buffer said s g = (
   g.0,
   record {
@@ -30,11 +30,11 @@ spoken-front before now after buffer said s g = (
 )
 
 -- what was taken so far is a prefix
-pub spoken-so_far : (before now : Option (List ℕ)) (buffer said : List ℕ) → Spoken before now buffer said → Gave before now said
+pub spoken-so_far : (before now : Taken) (buffer said : List ℕ) → Spoken before now buffer said → Gave before now said
 spoken-so_far before now buffer said s = (buffer, record { front = s.given; is = s.is; gives = s.gives })
 
 -- more was added to the buffer
-pub spoken-more : (before now : Option (List ℕ)) (buffer more added said whole : List ℕ) → Spoken before now buffer said → added ≡ buffer ++ more → said ++ more ≡ whole → Spoken before now added whole
+pub spoken-more : (before now : Taken) (buffer more added said whole : List ℕ) → Spoken before now buffer said → added ≡ buffer ++ more → said ++ more ≡ whole → Spoken before now added whole
 spoken-more before now buffer more added said whole s is longer =
     record {
       given = s.given;
@@ -43,7 +43,7 @@ spoken-more before now buffer more added said whole s is longer =
     }
 
 -- a prefix of a prefix
-pub gave-longer : (before after : Option (List ℕ)) (said more whole : List ℕ) → said ++ more ≡ whole → Gave before after said → Gave before after whole
+pub gave-longer : (before after : Taken) (said more whole : List ℕ) → said ++ more ≡ whole → Gave before after said → Gave before after whole
 gave-longer before after said more whole longer g = (
   g.0 ++ more,
   record {
@@ -53,10 +53,10 @@ gave-longer before after said more whole longer g = (
   },
 )
 
-pub written-all : {T : Type 0} (before after : Option (List ℕ)) (text : List ℕ) (r : Result T WriteFault) → Written before after text r → OnOk r (Gives before after text)
+pub written-all : {T : Type 0} (before after : Taken) (text : List ℕ) (r : Result T WriteFault) → Written before after text r → OnOk r (Gives before after text)
 written-all before after text (Ok done) w = w
 written-all before after text (Err fault) w = tt
 
-pub written-front : {T : Type 0} (before after : Option (List ℕ)) (text : List ℕ) (r : Result T WriteFault) → Written before after text r → OnErr r (Gave before after text)
+pub written-front : {T : Type 0} (before after : Taken) (text : List ℕ) (r : Result T WriteFault) → Written before after text r → OnErr r (Gave before after text)
 written-front before after text (Ok done) w = tt
 written-front before after text (Err fault) w = w

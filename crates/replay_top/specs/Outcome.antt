@@ -1,7 +1,7 @@
 -- What a run writes and how it ends.
 use Rattle.std.specs.Prelude.{◌≡◌, ℕ, ◌++◌, nat_le, List, [], length, drop, codes, decimal, if◌then◌else◌}
 use Rattle.std.specs.Prelude.{Option, Some, None, Result, Ok, Err}
-use Rattle.byte_edge.specs.Bytes.{Gives, Gave}
+use Rattle.byte_edge.specs.Bytes.{Gives, Gave, Taken}
 use Rattle.manifest_json.specs.declared.fault.Refusal.{Refusal}
 use Rattle.script_reader.specs.declared.document.Document.{Document}
 use Rattle.script_reader.specs.Walk.{document_walk}
@@ -101,13 +101,13 @@ abbrev pub outcome : List (List ℕ) → List ℕ → Outcome
 outcome words bytes = outcome_of (task_of words) bytes
 
 -- the run ends so, all its text was taken, and this is left of the source
-pub record IsWhole (o : Outcome) (rest before after : Option (List ℕ)) (ended : Status) : Type 0 where
+pub record IsWhole (o : Outcome) (rest : Option (List ℕ)) (before after : Taken) (ended : Status) : Type 0 where
   pub status : ended ≡ o.status
   pub text : Gives before after o.text
   pub left : rest ≡ Some o.left
 
 -- before a fault of the sink or want of memory a prefix of the text was taken, and before a fault of the source nothing
-abbrev pub Ends : Outcome → Option (List ℕ) → Option (List ℕ) → Option (List ℕ) → Status → Type 0
+abbrev pub Ends : Outcome → Option (List ℕ) → Taken → Taken → Status → Type 0
 Ends o left before after Done = IsWhole o left before after Done
 Ends o left before after Refused = IsWhole o left before after Refused
 Ends o left before after Usage = IsWhole o left before after Usage
@@ -116,7 +116,7 @@ Ends o left before after SinkFault = Gave before after o.text
 Ends o left before after OutOfMemory = Gave before after o.text
 
 -- of whatever bytes the source tells, the run ends as by these
-abbrev pub EndsAs : (List ℕ → Outcome) → Option (List ℕ) → Option (List ℕ) → Option (List ℕ) → Option (List ℕ) → Status → Type 0
+abbrev pub EndsAs : (List ℕ → Outcome) → Option (List ℕ) → Option (List ℕ) → Taken → Taken → Status → Type 0
 EndsAs outcome source left before after ended = (bytes : List ℕ) → source ≡ Some bytes → Ends (outcome bytes) left before after ended
 
 -- a run that needs no source was done, the sink failed, or memory was wanted

@@ -24,9 +24,9 @@ impl Buffer {
 }
 
 impl Sink for Buffer {
-    ghost use Rattle.std.specs.Prelude.{Some};
+    ghost use Rattle.byte_edge.specs.Bytes.Taken.{Known};
 
-    ghost taken = { λ b. Some b.text.items };
+    ghost taken = { λ b. Known b.text.items };
 
     ghost faults = { λ b. b.faults };
 

@@ -3,7 +3,7 @@ ghost use Rattle.std.specs.Prelude.{◌≡◌, ◌≤◌, ◌+◌, ◌++◌, ℕ
 ghost use Rattle.std.specs.List.{AllByRecursion};
 ghost use Rattle.agenda_laws.specs.Ahead.{IsNextBeat};
 ghost use Rattle.agenda_laws.specs.Standing.{standing_beats};
-ghost use Rattle.byte_edge.specs.Bytes.{Rose, Gives, Gave};
+ghost use Rattle.byte_edge.specs.Bytes.{Rose, Gives, Gave, Taken};
 ghost use Rattle.kube_base.specs.Steps.{counted};
 ghost use Rattle.kube_objects.specs.Document.{Doc, end_beat, processes as process_count};
 ghost use Rattle.kube_objects.specs.Writable.{IsWritable};
@@ -136,7 +136,7 @@ fn write_beats<K: Sink, L>(
     requires ready { IsReady world }
     requires first { at_of world ≡ 0 }
     requires runs { Runs world (length processes.now) }
-    ensures written { (doc : Doc) (before : Option (List ℕ)) → IsLawfulDoc doc → WorldStands doc 0 (history doc 0) world
+    ensures written { (doc : Doc) (before : Taken) → IsLawfulDoc doc → WorldStands doc 0 (history doc 0) world
         → end_of world ≡ end_beat doc
         → Spoken before (K.taken sink.old) buffer.text.items (trace_before doc (names_of world) processes.now 0)
         → Written before (K.taken sink.new) (trace_of doc (names_of world) processes.now) result }
@@ -213,9 +213,9 @@ pub(crate) fn beat_at<L>(
 
 /// Gives the text so far, where it is long.
 fn give_long<K: Sink>(sink: &mut K, text: &mut Vec<u8>) -> Result<(), Failed>
-    ensures spoken { (before : Option (List ℕ)) (said : List ℕ) → Spoken before (K.taken sink.old) text.old.items said
+    ensures spoken { (before : Taken) (said : List ℕ) → Spoken before (K.taken sink.old) text.old.items said
         → OnOk result (Spoken before (K.taken sink.new) text.new.items said) }
-    ensures front { (before : Option (List ℕ)) (said : List ℕ) → Spoken before (K.taken sink.old) text.old.items said
+    ensures front { (before : Taken) (said : List ℕ) → Spoken before (K.taken sink.old) text.old.items said
         → OnErr result (Gave before (K.taken sink.new) said) }
     ensures counted { K.faults sink.old ≤ K.faults sink.new }
     ensures failed { IsErr result → Rose (K.faults sink.old) (K.faults sink.new) }

@@ -1,7 +1,14 @@
-use Rattle.std.proofs.Common.{subst, sym, arith}
+use Rattle.std.proofs.Common.{[], refl, subst, sym, arith}
 use Rattle.byte_edge.specs.Bytes.{GaveFront}
-use Rattle.byte_edge.proofs.Fronts.{gave-more}
+use Rattle.byte_edge.proofs.Fronts.{gave-more, gives-nothing}
 use Rattle.byte_edge.proofs.giving.give_all.Goals as goal
+
+pub loop-rest-init : goal.loop-rest-init
+loop-rest-init g c =
+    record {
+      gave = record { front = []; is = refl; gives = gives-nothing (g.K.Sink.taken c.args.sink.now) };
+      counted = omega arith;
+    }
 
 pub loop-rest-preserved : goal.loop-rest-preserved
 loop-rest-preserved g c =

@@ -1,4 +1,5 @@
 use Rattle.std.proofs.Common.{◌≡◌, ℕ, ◌≤◌, ◌+◌, ◌-◌, List, Option, length}
+use Rattle.byte_edge.specs.Bytes.{Taken}
 use Rattle.kube_objects.specs.Document.{Doc, end_beat}
 use Rattle.agenda_laws.specs.Standing.{standing_below}
 use Rattle.history.specs.History.{history}
@@ -21,7 +22,7 @@ invariant-beats g l =
       counted : sink.faults l.fn.sink ≤ sink.faults l.sink;
       stands : (doc : Doc) → IsLawfulDoc doc → WorldStands doc 0 (history doc 0) l.fn.world → end_of l.fn.world ≡ end_beat doc
           → WorldStands doc (at_of l.world) (history doc (at_of l.world)) l.world × (l.steps ≤ l.fn.steps + standing_below doc (at_of l.world));
-      said : (doc : Doc) (before : Option (List ℕ)) → IsLawfulDoc doc → WorldStands doc 0 (history doc 0) l.fn.world → end_of l.fn.world ≡ end_beat doc
+      said : (doc : Doc) (before : Taken) → IsLawfulDoc doc → WorldStands doc 0 (history doc 0) l.fn.world → end_of l.fn.world ≡ end_beat doc
           → Spoken before (sink.taken l.fn.sink) l.fn.buffer.text.items (trace_before doc (names_of l.fn.world) l.processes 0)
           → Spoken before (sink.taken l.sink) l.buffer.text.items (trace_before doc (names_of l.fn.world) l.processes (at_of l.world));
     }
