@@ -1,4 +1,7 @@
-use Rattle.std.proofs.Common.{◌≡◌, Some, map, string_bytes, refl, sym, ap, ◌∙◌, subst}
+use Rattle.std.proofs.Common.{◌≡◌, Some, map, string_bytes, refl, sym, ap, ◌∙◌, subst, inl, inr, arith}
+use Rattle.byte_edge.specs.Bytes.{Rose}
+use Rattle.replay_top.specs.Outcome.{outcome}
+use Rattle.kube_replay_c.proofs.Buffers.{ends-in}
 use Rattle.replay_top.specs.declared.status.Status.{Status}
 use Rattle.replay_top.specs.declared.status.Status.TheVariants.{Done, Refused, Usage, SourceFault, SinkFault, OutOfMemory}
 use Rattle.replay_top.specs.Replays.{Shows}
@@ -23,3 +26,17 @@ pub returns-clause-alone : goal.returns-clause-alone
 returns-clause-alone c zero audit =
     c.run-status.ensures.alone c.args.input.now (ap (λ bytes. Some bytes) c.new-source.ensures) audit
     (done c.run-status.result (sym c.exit_status.ensures ∙ zero))
+
+no_fault : Rose 0 0 → ⊥
+no_fault (inl less) = omega (arith, less)
+no_fault (inr last) = omega (arith, last)
+
+pub returns-clause-text : goal.returns-clause-text
+returns-clause-text c =
+    let o = outcome (map string_bytes c.args.words.now.items) c.args.input.now in
+    let sink = c.run-status.new.sink in
+    ends-in o _ c.new-sink.result.buffer.ghost_name sink.buffer.ghost_name c.args.buffer.now c.new-sink.result.buffer.now sink.buffer.now _ c.new-sink.result.given sink.given c.put.result c.given.result c.exit_status.result (Some c.run-status.new.source.left.now) c.run-status.result
+    c.new-sink.ensures.borrow c.new-sink.ensures.buffer c.new-sink.ensures.given
+    (c.run-status.ensures.text c.args.input.now (ap (λ bytes. Some bytes) c.new-source.ensures))
+    (λ fault. no_fault (c.run-status.ensures.source_fault fault))
+    (assumption c) c.put.ensures c.given.ensures c.exit_status.ensures
