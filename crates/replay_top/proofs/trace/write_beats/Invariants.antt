@@ -1,4 +1,4 @@
-use Rattle.std.proofs.Common.{◌≡◌, ℕ, ◌≤◌, ◌+◌, ◌-◌, List, Option, length}
+use Rattle.std.proofs.Common.{◌≡◌, ◌≤◌, ◌+◌, ◌-◌, length}
 use Rattle.byte_edge.specs.Bytes.{Taken}
 use Rattle.kube_objects.specs.Document.{Doc, end_beat}
 use Rattle.agenda_laws.specs.Standing.{standing_below}
