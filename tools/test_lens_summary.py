@@ -92,6 +92,14 @@ class Trace:
                 ends = [(int(line[0]), line[2]) for line in self.lines[number + 1:] if line[1] == who and line[2] in test_lens_trace.ENDINGS]
                 yield (who, int(beat), *(ends or [(self.end + 1, 'trace-end')])[0])
 
+    def overlap(self):
+        """The number of the first line that makes an identity lead in a beat in which another one of an earlier line does, or `-`."""
+        terms = list(self.terms())
+        leads = [number for number, words in enumerate(self.lines) if words[2] == 'lead']
+        crossed = [later for earlier, one in enumerate(terms) for later, other in enumerate(terms)
+                   if earlier < later and one[0] != other[0] and max(one[1], other[1]) < min(one[2], other[2])]
+        return str(leads[min(crossed)] + 2) if crossed else '-'
+
     def quiet(self):
         """How long each span without a leader is. A span begins at beat 0 or where a term ends, and ends where one begins or at the end."""
         terms = [(since, until) for _, since, until, _ in self.terms()]
@@ -132,7 +140,7 @@ def totals(trace):
 def tables(trace):
     """Heading and rows of each table."""
     at = trace.at
-    yield [['BEAT-MILLIS', 'LAST-BEAT', 'PREMISE'], [str(trace.millis), at(trace.end), trace.premise]]
+    yield [['BEAT-MILLIS', 'LAST-BEAT', 'PREMISE', 'TWO-LEAD-FROM-LINE'], [str(trace.millis), at(trace.end), trace.premise, trace.overlap()]]
     yield [['LEADER', 'FROM', 'UNTIL', 'LASTED', 'ENDED']] + [[who, at(since), at(until), at(until - since), how] for who, since, until, how in trace.terms()]
     quiet = trace.quiet()
     yield [['SPANS-WITHOUT-LEADER', 'LONGEST', 'SUM'], [str(len(quiet)), at(max(quiet, default=0)), at(sum(quiet))]]

@@ -26,16 +26,21 @@ use Rattle.lens_summary.specs.Zones.{zone_rows}
 abbrev pub premise_word : Bool → List ℕ
 premise_word premise = if premise then codes "yes" else codes "no"
 
--- the trace itself: the milliseconds of a beat, the last beat, and the premise as the writer has it
-unfoldable pub trace_rows : Header → List Texts
-trace_rows header =
-    (codes "BEAT-MILLIS" ∷ codes "LAST-BEAT" ∷ codes "PREMISE" ∷ [])
-    ∷ (decimal header.beat_millis ∷ beat_text header.end header.beat_millis ∷ premise_word header.premise ∷ []) ∷ []
+abbrev pub line_text : Option ℕ → List ℕ
+line_text None = codes "-"
+line_text (Some line) = decimal line
+
+-- the trace itself: the milliseconds of a beat, the last beat, the premise as the writer has it, and the line of the first `lead` of an
+-- identity while another one leads
+unfoldable pub trace_rows : Header → Option ℕ → List Texts
+trace_rows header overlap =
+    (codes "BEAT-MILLIS" ∷ codes "LAST-BEAT" ∷ codes "PREMISE" ∷ codes "TWO-LEAD-FROM-LINE" ∷ [])
+    ∷ (decimal header.beat_millis ∷ beat_text header.end header.beat_millis ∷ premise_word header.premise ∷ line_text overlap ∷ []) ∷ []
 
 -- the tables of a trace of this first line
-unfoldable pub told : Header → List (Line (List ℕ)) → List ℕ
-told header ls =
-    part (trace_rows header)
+unfoldable pub told : Header → Option ℕ → List (Line (List ℕ)) → List ℕ
+told header overlap ls =
+    part (trace_rows header overlap)
     ++ part (term_rows header.beat_millis (header.end + 1) (terms 2 ls))
     ++ part (span_rows header.beat_millis (header.end + 1) (terms 2 ls))
     ++ part (zone_rows header.beat_millis ls)
@@ -43,16 +48,16 @@ told header ls =
     ++ part (pod_rows header.beat_millis ls)
     ++ table_text (total_rows ls)
 
-abbrev pub summary : Header → List (Line (List ℕ)) → Reply
-summary header ls = record { verdict = Done; text = told header ls }
+abbrev pub summary : Header → Option ℕ → List (Line (List ℕ)) → Reply
+summary header overlap ls = record { verdict = Done; text = told header overlap ls }
 
 -- ---- the answer
 
 -- a wrong line is refused as `audit` does
 abbrev pub answer_by : Judged → Header → List (Line (List ℕ)) → Reply
 answer_by (Wrong line) header ls = wrong_line line
-answer_by (Overlaps line) header ls = summary header ls
-answer_by OneAtATime header ls = summary header ls
+answer_by (Overlaps line) header ls = summary header (Some line) ls
+answer_by OneAtATime header ls = summary header None ls
 
 abbrev pub answer_behind : Judged → Option Header → List ℕ → Reply
 answer_behind judged None rest = refusal 40 (codes "/1")

@@ -16,38 +16,38 @@ abbrev pub outcome_in : Option (List ℕ) → Line (List ℕ) → Option Outcome
 outcome_in kind l = if is_of kind l then Some (outcome_of l.says) else None
 
 -- the outcomes of the lines of a kind
-abbrev pub outcomes : Option (List ℕ) → List (Line (List ℕ)) → List Outcome
+unfoldable pub outcomes : Option (List ℕ) → List (Line (List ℕ)) → List Outcome
 outcomes kind ls = filter_map (outcome_in kind) ls
 
 abbrev pub is : Outcome → Outcome → Bool
 is wanted outcome = same outcome wanted
 
 -- how many there are, and how many of them were answered how
-abbrev pub count_rows : List ℕ → List Outcome → List Texts
+unfoldable pub count_rows : List ℕ → List Outcome → List Texts
 count_rows word os =
     (word ∷ decimal (length os) ∷ decimal (count_by (is Written) os) ∷ decimal (count_by (is Conflict) os) ∷ decimal (count_by (is Absent) os)
     ∷ decimal (count_by (is Exists) os) ∷ []) ∷ []
 
 -- a kind without lines has no row
-abbrev pub kind_rows : List ℕ → List (Line (List ℕ)) → List Texts
+unfoldable pub kind_rows : List ℕ → List (Line (List ℕ)) → List Texts
 kind_rows word ls = if length (outcomes (Some word) ls) == 0 then [] else count_rows word (outcomes (Some word) ls)
 
-abbrev pub process_rows : List (Line (List ℕ)) → List Texts
+unfoldable pub process_rows : List (Line (List ℕ)) → List Texts
 process_rows ls =
     kind_rows (codes "start") ls ++ kind_rows (codes "crash") ls ++ kind_rows (codes "stop") ls ++ kind_rows (codes "end") ls
     ++ kind_rows (codes "pause") ls ++ kind_rows (codes "lead") ls
 
-abbrev pub write_rows : List (Line (List ℕ)) → List Texts
+unfoldable pub write_rows : List (Line (List ℕ)) → List Texts
 write_rows ls =
     kind_rows (codes "create-election") ls ++ kind_rows (codes "update-election") ls ++ kind_rows (codes "nodelease") ls
     ++ kind_rows (codes "status") ls ++ kind_rows (codes "put") ls ++ kind_rows (codes "remove") ls
 
-abbrev pub act_rows : List (Line (List ℕ)) → List Texts
+unfoldable pub act_rows : List (Line (List ℕ)) → List Texts
 act_rows ls =
     kind_rows (codes "unknown") ls ++ kind_rows (codes "mode") ls ++ kind_rows (codes "zone") ls ++ kind_rows (codes "taint") ls
     ++ kind_rows (codes "swap") ls ++ kind_rows (codes "untaint") ls ++ kind_rows (codes "evict") ls
 
-abbrev pub all_rows : List (Line (List ℕ)) → List Texts
+unfoldable pub all_rows : List (Line (List ℕ)) → List Texts
 all_rows ls = count_rows (codes "all") (outcomes None ls)
 
 abbrev pub total_heading : Texts

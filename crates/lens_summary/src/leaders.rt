@@ -1,5 +1,5 @@
 // Who leads, and when nobody does.
-ghost use Rattle.std.specs.Prelude.{◌≡◌, ◌++◌, IfOk, OnOk, map};
+ghost use Rattle.std.specs.Prelude.{◌≡◌, ◌++◌, ◌∷◌, [], IfOk, OnOk, map};
 ghost use Rattle.lens_table.specs.Tables.{shown};
 ghost use Rattle.lens_terms.specs.Terms as terms;
 ghost use Rattle.lens_summary.specs.Leaders as spec;

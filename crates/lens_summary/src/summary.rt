@@ -1,6 +1,7 @@
 // What a trace comes to.
 ghost use Rattle.std.specs.Prelude.{◌≡◌, ◌++◌, ◌≤◌, IfOk, OnOk, map, filter_map};
 ghost use Rattle.lens_edge.specs.Outcome.{reply_of};
+ghost use Rattle.lens_table.specs.Cells.{cell_text};
 ghost use Rattle.lens_table.specs.Tables.{shown};
 ghost use Rattle.trace_audit.specs.Entries.{lines_of};
 ghost use Rattle.trace_lines.specs.Forms.{line_of};
@@ -52,22 +53,26 @@ fn summary_behind(
     let lines = read_lines(alloc, rest)?;
     match judged {
         Judged::Wrong(line) => refuse_line(alloc, line),
-        Judged::Overlaps(_) => tell(alloc, header, &lines),
-        Judged::OneAtATime => tell(alloc, header, &lines),
+        Judged::Overlaps(line) => tell(alloc, header, Some(line), &lines),
+        Judged::OneAtATime => tell(alloc, header, None, &lines),
     }
 }
 
-/// All tables on some lines.
-#[tactic(auto, unfolding(crate::specs::Summary::told))]
-fn tell(alloc: Global, header: Header, lines: &[Line<&[u8]>]) -> Result<Answer, NoMemory>
+/// All tables on some lines, of which one may be the first `lead` of an identity while another one leads.
+fn tell(
+    alloc: Global,
+    header: Header,
+    overlap: Option<u64>,
+    lines: &[Line<&[u8]>],
+) -> Result<Answer, NoMemory>
     requires { header.end ≤ 604800000 }
-    ensures { IfOk result (λ answer. reply_of answer ≡ spec.summary header (map seen lines.now)) }
+    ensures { IfOk result (λ answer. reply_of answer ≡ spec.summary header overlap (map seen lines.now)) }
 {
     let millis = header.beat_millis;
     let stop = header.end + 1;
     let found = terms_of(alloc, lines)?;
     let mut text = Vec::new(alloc);
-    tell_trace(&mut text, alloc, header)?;
+    tell_trace(&mut text, alloc, header, overlap)?;
     tell_terms(&mut text, alloc, millis, stop, &found)?;
     tell_spans(&mut text, alloc, millis, stop, &found)?;
     tell_zones(&mut text, alloc, millis, lines)?;
@@ -81,29 +86,40 @@ fn tell(alloc: Global, header: Header, lines: &[Line<&[u8]>]) -> Result<Answer, 
 }
 
 /// Adds the table of the trace itself.
-fn tell_trace(text: &mut Vec<u8>, alloc: Global, header: Header) -> Result<(), NoMemory>
-    ensures { OnOk result (text.new.items ≡ text.old.items ++ part (spec.trace_rows header)) }
+fn tell_trace(
+    text: &mut Vec<u8>,
+    alloc: Global,
+    header: Header,
+    overlap: Option<u64>,
+) -> Result<(), NoMemory>
+    ensures { OnOk result (text.new.items ≡ text.old.items ++ part (spec.trace_rows header overlap)) }
 {
-    let rows = trace_rows(alloc, header)?;
+    let rows = trace_rows(alloc, header, overlap)?;
     add_part(text, alloc, &rows)
 }
 
 /// The table of the trace itself.
 #[tactic(auto, unfolding(crate::specs::Summary::trace_rows))]
-fn trace_rows(alloc: Global, header: Header) -> Result<Vec<Row<'static>>, NoMemory>
-    ensures { IfOk result (λ rows. shown rows.items ≡ spec.trace_rows header) }
+fn trace_rows(
+    alloc: Global,
+    header: Header,
+    overlap: Option<u64>,
+) -> Result<Vec<Row<'static>>, NoMemory>
+    ensures { IfOk result (λ rows. shown rows.items ≡ spec.trace_rows header overlap) }
 {
     let mut rows = Vec::new(alloc);
     let heading = vec![in alloc;
         Cell::Text(b"BEAT-MILLIS"),
         Cell::Text(b"LAST-BEAT"),
         Cell::Text(b"PREMISE"),
+        Cell::Text(b"TWO-LEAD-FROM-LINE"),
     ]?;
     add_row(&mut rows, heading)?;
     let cells = vec![in alloc;
         Cell::Count(u64::from(header.beat_millis)),
         Cell::Beat(header.end, header.beat_millis),
         Cell::Text(premise_word(header.premise)),
+        line_cell(overlap),
     ]?;
     add_row(&mut rows, cells)?;
     Ok(rows)
@@ -113,4 +129,13 @@ fn premise_word(premise: bool) -> &'static [u8]
     ensures { result.now ≡ spec.premise_word premise }
 {
     if premise { b"yes" } else { b"no" }
+}
+
+fn line_cell(line: Option<u64>) -> Cell<'static>
+    ensures { cell_text result ≡ spec.line_text line }
+{
+    match line {
+        Some(line) => Cell::Count(line),
+        None => Cell::Missing,
+    }
 }

@@ -1,5 +1,5 @@
 // How many lines of each kind there are, and how what they write was answered.
-ghost use Rattle.std.specs.Prelude.{◌≡◌, ◌++◌, IfOk, OnOk, count_by, map};
+ghost use Rattle.std.specs.Prelude.{◌≡◌, ◌++◌, IfOk, OnOk, count_by, map, option_to_list};
 ghost use Rattle.std.specs.Option.{option_map};
 ghost use Rattle.lens_table.specs.Tables.{shown, table_text};
 ghost use Rattle.trace_lines.specs.Reads.{seen};
@@ -25,8 +25,7 @@ pub(crate) fn tell_totals(
 }
 
 /// The table of totals: a row for each kind of which there are lines, and one for all lines.
-#[tactic(auto, unfolding(crate::specs::Totals::total_rows))]
-fn total_rows<'a>(alloc: Global, lines: &[Line<&'a [u8]>]) -> Result<Vec<Row<'a>>, NoMemory>
+fn total_rows<'a>(alloc: Global, lines: &[Line<&[u8]>]) -> Result<Vec<Row<'a>>, NoMemory>
     ensures { IfOk result (λ rows. shown rows.items ≡ spec.total_rows (map seen lines.now)) }
 {
     let mut rows = Vec::new(alloc);
@@ -49,7 +48,7 @@ fn total_rows<'a>(alloc: Global, lines: &[Line<&'a [u8]>]) -> Result<Vec<Row<'a>
 fn add_processes<'a>(
     rows: &mut Vec<Row<'a>>,
     alloc: Global,
-    lines: &[Line<&'a [u8]>],
+    lines: &[Line<&[u8]>],
 ) -> Result<(), NoMemory>
     ensures { OnOk result (shown rows.new.items ≡ shown rows.old.items ++ spec.process_rows (map seen lines.now)) }
 {
@@ -64,7 +63,7 @@ fn add_processes<'a>(
 fn add_writes<'a>(
     rows: &mut Vec<Row<'a>>,
     alloc: Global,
-    lines: &[Line<&'a [u8]>],
+    lines: &[Line<&[u8]>],
 ) -> Result<(), NoMemory>
     ensures { OnOk result (shown rows.new.items ≡ shown rows.old.items ++ spec.write_rows (map seen lines.now)) }
 {
@@ -79,7 +78,7 @@ fn add_writes<'a>(
 fn add_acts<'a>(
     rows: &mut Vec<Row<'a>>,
     alloc: Global,
-    lines: &[Line<&'a [u8]>],
+    lines: &[Line<&[u8]>],
 ) -> Result<(), NoMemory>
     ensures { OnOk result (shown rows.new.items ≡ shown rows.old.items ++ spec.act_rows (map seen lines.now)) }
 {
@@ -93,11 +92,12 @@ fn add_acts<'a>(
 }
 
 /// Adds the row of a kind, where there are lines of it.
+#[tactic(auto, unfolding(crate::specs::Totals::kind_rows))]
 fn add_kind<'a>(
     rows: &mut Vec<Row<'a>>,
     alloc: Global,
-    word: &'static [u8],
-    lines: &[Line<&'a [u8]>],
+    word: &'a [u8],
+    lines: &[Line<&[u8]>],
 ) -> Result<(), NoMemory>
     ensures { OnOk result (shown rows.new.items ≡ shown rows.old.items ++ spec.kind_rows word.now (map seen lines.now)) }
 {
@@ -110,10 +110,11 @@ fn add_kind<'a>(
 }
 
 /// Adds the row of all lines.
+#[tactic(auto, unfolding(crate::specs::Totals::all_rows))]
 fn add_total<'a>(
     rows: &mut Vec<Row<'a>>,
     alloc: Global,
-    lines: &[Line<&'a [u8]>],
+    lines: &[Line<&[u8]>],
 ) -> Result<(), NoMemory>
     ensures { OnOk result (shown rows.new.items ≡ shown rows.old.items ++ spec.all_rows (map seen lines.now)) }
 {
@@ -121,10 +122,11 @@ fn add_total<'a>(
     add_counts(rows, alloc, b"all", &outcomes)
 }
 
+#[tactic(auto, unfolding(crate::specs::Totals::count_rows))]
 fn add_counts<'a>(
     rows: &mut Vec<Row<'a>>,
     alloc: Global,
-    word: &'static [u8],
+    word: &'a [u8],
     outcomes: &[Outcome],
 ) -> Result<(), NoMemory>
     ensures { OnOk result (shown rows.new.items ≡ shown rows.old.items ++ spec.count_rows word.now outcomes.now) }
@@ -154,23 +156,37 @@ fn count(outcomes: &[Outcome], wanted: Outcome) -> u64
 }
 
 /// The outcomes of all lines of a kind, by its word, or of all lines.
+#[tactic(auto, unfolding(crate::specs::Totals::outcomes))]
 fn outcomes(
     alloc: Global,
-    kind: Option<&'static [u8]>,
+    kind: Option<&[u8]>,
     lines: &[Line<&[u8]>],
 ) -> Result<Vec<Outcome>, NoMemory>
     ensures { IfOk result (λ outcomes. outcomes.items ≡ spec.outcomes (option_map (λ word. word.now) kind.entry) (map seen lines.now)) }
 {
     let mut outcomes = Vec::new(alloc);
     for line in lines {
-        if is_of(kind, line) {
-            outcomes.push(outcome_of(&line.says))?;
-        }
+        add_outcome(&mut outcomes, kind, line)?;
     }
     Ok(outcomes)
 }
 
-fn is_of(kind: Option<&'static [u8]>, line: &Line<&[u8]>) -> bool
+/// Adds the outcome of a line, where it is of the kind.
+fn add_outcome(
+    outcomes: &mut Vec<Outcome>,
+    kind: Option<&[u8]>,
+    line: &Line<&[u8]>,
+) -> Result<(), NoMemory>
+    ensures { OnOk result (outcomes.new.items
+        ≡ outcomes.old.items ++ option_to_list (spec.outcome_in (option_map (λ word. word.now) kind.entry) (seen line.now))) }
+{
+    if is_of(kind, line) {
+        outcomes.push(outcome_of(&line.says))?;
+    }
+    Ok(())
+}
+
+fn is_of(kind: Option<&[u8]>, line: &Line<&[u8]>) -> bool
     ensures { result ≡ spec.is_of (option_map (λ word. word.now) kind.entry) (seen line.now) }
 {
     match kind {

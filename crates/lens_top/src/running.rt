@@ -62,7 +62,7 @@ fn help() -> &'static [u8]
 \n\
 kube_lens margin < document      for each controller what its lease has to outlast, and what is left\n\
 kube_lens leaders < trace        who led from when to when, when nobody did, and whether two did at once\n\
-kube_lens summary < trace        what a trace comes to, as tables: terms, nodes, evictions, totals\n\
+kube_lens summary < trace        what a trace comes to, as tables: terms, zones, nodes, evictions, totals\n\
 kube_lens --help                 these lines\n\
 \n\
 Exit status: 0 safe or told, 1 unsafe or refused, 2 no such command, 3 the input can't be read,\n\

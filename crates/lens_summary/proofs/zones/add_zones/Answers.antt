@@ -1,4 +1,3 @@
-use Rattle.std.proofs.Common.{sym}
 use Rattle.trace_lines.specs.Reads.{seen}
 use Rattle.lens_table.specs.Tables.{shown}
 use Rattle.lens_summary.specs.Zones.{found_by}
