@@ -57,6 +57,7 @@ kube_lens answers what one asks of a document or a trace. It reads standard inpu
 
 $(tell_command "$called margin < DOCUMENT" 'how much room each lease leaves, the least that would do, how long a leader may stand still')
 $(tell_command "$called leaders < TRACE" 'who led from when to when, when nobody did, and whether two did at once')
+$(tell_command "$called summary < TRACE" 'what a trace comes to, as tables: terms, zones, nodes, evictions, totals')
 $(tell_command "$called --help, --version" 'these lines, and the version')
 
 Exit status: 0 answered, 1 unsafe, two at once, or the input is refused, 2 no such command, 3 the input can't be read,

@@ -2,13 +2,14 @@
 use Rattle.std.specs.Prelude.{ℕ, List, [], ◌∷◌, codes, Option, Some, None, if◌then◌else◌}
 use Rattle.std.specs.Str.{bytes_eq}
 use Rattle.lens_top.specs.declared.command.Command.{Command}
-use Rattle.lens_top.specs.declared.command.Command.TheVariants.{Help, Margin, Leaders}
+use Rattle.lens_top.specs.declared.command.Command.TheVariants.{Help, Margin, Leaders, Summary}
 
 abbrev pub command_by : List ℕ → Option Command
 command_by word =
     if bytes_eq word (codes "--help") then Some Help
     else if bytes_eq word (codes "margin") then Some Margin
     else if bytes_eq word (codes "leaders") then Some Leaders
+    else if bytes_eq word (codes "summary") then Some Summary
     else None
 
 -- the command that the first word names

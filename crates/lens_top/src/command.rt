@@ -11,6 +11,8 @@ pub enum Command {
     Margin,
     /// Who led in a trace, and when nobody did.
     Leaders,
+    /// What a trace comes to, as tables.
+    Summary,
 }
 
 /// The command that the first word names, if any.
@@ -32,6 +34,8 @@ fn by_word(word: &str) -> Option<Command>
         Some(Command::Margin)
     } else if word == "leaders" {
         Some(Command::Leaders)
+    } else if word == "summary" {
+        Some(Command::Summary)
     } else {
         None
     }

@@ -50,6 +50,7 @@ pub fn run<S: Source, K: Sink>(
         Some(Command::Help) => tell(sink, Verdict::Done, help()),
         Some(Command::Margin) => lens_margin::run(alloc, words, source, sink),
         Some(Command::Leaders) => lens_trace::run(alloc, words, source, sink),
+        Some(Command::Summary) => lens_summary::run(alloc, words, source, sink),
         None => tell_usage(sink),
     }
 }
@@ -61,6 +62,7 @@ fn help() -> &'static [u8]
 \n\
 kube_lens margin < document      for each controller what its lease has to outlast, and what is left\n\
 kube_lens leaders < trace        who led from when to when, when nobody did, and whether two did at once\n\
+kube_lens summary < trace        what a trace comes to, as tables: terms, zones, nodes, evictions, totals\n\
 kube_lens --help                 these lines\n\
 \n\
 Exit status: 0 safe or told, 1 unsafe or refused, 2 no such command, 3 the input can't be read,\n\

@@ -19,7 +19,7 @@ pub enum Judged {
 }
 
 /// What `audit` says of a text.
-pub(crate) fn judge(alloc: Global, text: &[u8]) -> Result<Judged, NoMemory>
+pub fn judge(alloc: Global, text: &[u8]) -> Result<Judged, NoMemory>
     ensures { IfOk result (λ judged. judged ≡ spec.judged_by (verdict text.now)) }
 {
     match audit(alloc, text) {

@@ -46,7 +46,8 @@ fn leaders_behind(alloc: Global, judged: Judged, stop: u32, rest: &[u8]) -> Resu
     }
 }
 
-fn refuse_line(alloc: Global, line: u64) -> Result<Answer, NoMemory>
+/// The answer that this line of a trace is wrong or missing.
+pub fn refuse_line(alloc: Global, line: u64) -> Result<Answer, NoMemory>
     ensures { IfOk result (λ answer. reply_of answer ≡ spec.wrong_line line) }
 {
     let mut path = Vec::new(alloc);

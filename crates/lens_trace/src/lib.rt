@@ -6,5 +6,7 @@ mod leaders;
 mod reading;
 mod running;
 
-pub use judging::Judged;
+pub use judging::{Judged, judge};
+pub use leaders::refuse_line;
+pub use reading::read_lines;
 pub use running::run;

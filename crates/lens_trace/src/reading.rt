@@ -10,7 +10,7 @@ use std::alloc::Global;
 use trace_lines::{Line, cut, read_line};
 
 /// The lines of a text that are of a form, in order.
-pub(crate) fn read_lines<'a>(alloc: Global, text: &'a [u8]) -> Result<Vec<Line<&'a [u8]>>, NoMemory>
+pub fn read_lines<'a>(alloc: Global, text: &'a [u8]) -> Result<Vec<Line<&'a [u8]>>, NoMemory>
     ensures { IfOk result (λ lines. map seen lines.items ≡ filter_map line_of (lines_of text.now)) }
 {
     let mut lines = Vec::new(alloc);

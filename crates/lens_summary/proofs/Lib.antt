@@ -1,0 +1,4 @@
+pub mod ReplyLaws
+pub mod StepLaws
+pub mod ToldLaws
+pub mod TotalLaws

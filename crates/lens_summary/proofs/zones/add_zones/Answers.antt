@@ -1,0 +1,10 @@
+use Rattle.trace_lines.specs.Reads.{seen}
+use Rattle.lens_table.specs.Tables.{shown}
+use Rattle.lens_summary.specs.Zones.{found_by}
+use Rattle.lens_summary.proofs.StepLaws.{filter-step}
+use Rattle.lens_summary.proofs.zones.add_zones.Goals as goal
+
+pub loop-line-preserved : goal.loop-line-preserved
+loop-line-preserved c =
+    filter-step (found_by c.args.millis) seen c.args.lines.now c.loop-line.line-index _ (shown c.loop-line.rows.items) (shown c.add_zone.new.rows.items) _
+    c.loop-line-test.true c.in_ok-add_zone.ensures c.loop-line.invariant

@@ -1,0 +1,10 @@
+pub mod Leaders
+pub mod Nodes
+pub mod Outcomes
+pub mod Part
+pub mod Pods
+pub mod Replies
+pub mod Spread
+pub mod Summary
+pub mod Totals
+pub mod Zones

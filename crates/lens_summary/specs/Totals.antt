@@ -1,0 +1,58 @@
+-- How many lines of each kind there are, and how what they write was answered.
+use Rattle.std.specs.Prelude.{ℕ, ◌++◌, ◌==◌, Bool, true, false, List, [], ◌∷◌, length, codes, decimal, count_by, filter_map, Option, Some, None, if◌then◌else◌}
+use Rattle.std.specs.Str.{bytes_eq}
+use Rattle.trace_lines.specs.declared.line.Line.{Line}
+use Rattle.lens_table.specs.Tables.{Texts}
+use Rattle.lens_summary.specs.declared.outcome.Outcome.{Outcome}
+use Rattle.lens_summary.specs.declared.outcome.Outcome.TheVariants.{Written, Conflict, Absent, Exists}
+use Rattle.lens_summary.specs.Outcomes.{outcome_of, word_of, same}
+
+-- a line is of the kind of this word, or it is any line
+abbrev pub is_of : Option (List ℕ) → Line (List ℕ) → Bool
+is_of (Some word) l = bytes_eq (word_of l.says) word
+is_of None l = true
+
+abbrev pub outcome_in : Option (List ℕ) → Line (List ℕ) → Option Outcome
+outcome_in kind l = if is_of kind l then Some (outcome_of l.says) else None
+
+-- the outcomes of the lines of a kind
+unfoldable pub outcomes : Option (List ℕ) → List (Line (List ℕ)) → List Outcome
+outcomes kind ls = filter_map (outcome_in kind) ls
+
+abbrev pub is : Outcome → Outcome → Bool
+is wanted outcome = same outcome wanted
+
+-- how many there are, and how many of them were answered how
+unfoldable pub count_rows : List ℕ → List Outcome → List Texts
+count_rows word os =
+    (word ∷ decimal (length os) ∷ decimal (count_by (is Written) os) ∷ decimal (count_by (is Conflict) os) ∷ decimal (count_by (is Absent) os)
+    ∷ decimal (count_by (is Exists) os) ∷ []) ∷ []
+
+-- a kind without lines has no row
+unfoldable pub kind_rows : List ℕ → List (Line (List ℕ)) → List Texts
+kind_rows word ls = if length (outcomes (Some word) ls) == 0 then [] else count_rows word (outcomes (Some word) ls)
+
+unfoldable pub process_rows : List (Line (List ℕ)) → List Texts
+process_rows ls =
+    kind_rows (codes "start") ls ++ kind_rows (codes "crash") ls ++ kind_rows (codes "stop") ls ++ kind_rows (codes "end") ls
+    ++ kind_rows (codes "pause") ls ++ kind_rows (codes "lead") ls
+
+unfoldable pub write_rows : List (Line (List ℕ)) → List Texts
+write_rows ls =
+    kind_rows (codes "create-election") ls ++ kind_rows (codes "update-election") ls ++ kind_rows (codes "nodelease") ls
+    ++ kind_rows (codes "status") ls ++ kind_rows (codes "put") ls ++ kind_rows (codes "remove") ls
+
+unfoldable pub act_rows : List (Line (List ℕ)) → List Texts
+act_rows ls =
+    kind_rows (codes "unknown") ls ++ kind_rows (codes "mode") ls ++ kind_rows (codes "zone") ls ++ kind_rows (codes "taint") ls
+    ++ kind_rows (codes "swap") ls ++ kind_rows (codes "untaint") ls ++ kind_rows (codes "evict") ls
+
+unfoldable pub all_rows : List (Line (List ℕ)) → List Texts
+all_rows ls = count_rows (codes "all") (outcomes None ls)
+
+abbrev pub total_heading : Texts
+total_heading = codes "KIND" ∷ codes "LINES" ∷ codes "WRITTEN" ∷ codes "CONFLICT" ∷ codes "ABSENT" ∷ codes "EXISTS" ∷ []
+
+-- a row for each kind, and one for all lines behind the first
+unfoldable pub total_rows : List (Line (List ℕ)) → List Texts
+total_rows ls = total_heading ∷ (process_rows ls ++ write_rows ls ++ act_rows ls ++ all_rows ls)

@@ -1,0 +1,113 @@
+// The pods that were evicted.
+ghost use Rattle.std.specs.Prelude.{◌≡◌, ◌++◌, IfOk, OnOk, Some, None, MatchOption, map, option_to_list};
+ghost use Rattle.lens_table.specs.Tables.{shown};
+ghost use Rattle.trace_lines.specs.Reads.{said, seen};
+ghost use Rattle.lens_summary.specs.Pods as spec;
+ghost use Rattle.lens_summary.specs.Part.{part};
+
+use crate::part::add_part;
+use crate::rows::add_row;
+use kube_base::NoMemory;
+use lens_table::{Cell, Row};
+use std::alloc::Global;
+use trace_lines::{Answer, Line, Says};
+
+/// Adds the table of pods.
+pub(crate) fn tell_pods(
+    text: &mut Vec<u8>,
+    alloc: Global,
+    millis: u32,
+    lines: &[Line<&[u8]>],
+) -> Result<(), NoMemory>
+    ensures { OnOk result (text.new.items ≡ text.old.items ++ part (spec.pod_rows millis (map seen lines.now))) }
+{
+    let rows = pod_rows(alloc, millis, lines)?;
+    add_part(text, alloc, &rows)
+}
+
+/// The table of the pods that were evicted, in the order in which that was done.
+#[tactic(auto, unfolding(crate::specs::Pods::pod_rows))]
+fn pod_rows<'a>(
+    alloc: Global,
+    millis: u32,
+    lines: &[Line<&'a [u8]>],
+) -> Result<Vec<Row<'a>>, NoMemory>
+    ensures { IfOk result (λ rows. shown rows.items ≡ spec.pod_rows millis (map seen lines.now)) }
+{
+    let mut rows = Vec::new(alloc);
+    let heading = vec![in alloc;
+        Cell::Text(b"POD"),
+        Cell::Text(b"DUE"),
+        Cell::Text(b"EVICTED"),
+        Cell::Text(b"BY"),
+    ]?;
+    add_row(&mut rows, heading)?;
+    add_pods(&mut rows, alloc, millis, lines)?;
+    Ok(rows)
+}
+
+fn add_pods<'a>(
+    rows: &mut Vec<Row<'a>>,
+    alloc: Global,
+    millis: u32,
+    lines: &[Line<&'a [u8]>],
+) -> Result<(), NoMemory>
+    ensures { OnOk result (shown rows.new.items ≡ shown rows.old.items ++ spec.evicted millis (map seen lines.now)) }
+{
+    for line in lines {
+        add_pod(rows, alloc, millis, line)?;
+    }
+    Ok(())
+}
+
+/// Adds the row of the pod that a line evicts, if it does.
+fn add_pod<'a>(
+    rows: &mut Vec<Row<'a>>,
+    alloc: Global,
+    millis: u32,
+    line: &Line<&'a [u8]>,
+) -> Result<(), NoMemory>
+    ensures { OnOk result (shown rows.new.items ≡ shown rows.old.items ++ option_to_list (spec.evicted_by millis (seen line.now))) }
+{
+    match eviction_in(&line.says) {
+        Some((pod, due)) => {
+            let cells = vec![in alloc;
+                Cell::Text(pod),
+                Cell::Text(due),
+                Cell::Beat(line.beat, millis),
+                Cell::Text(line.actor),
+            ]?;
+            add_row(rows, cells)
+        }
+        None => Ok(()),
+    }
+}
+
+/// The pod that a line evicts, and when it was due.
+fn eviction_in<'a>(says: &Says<&'a [u8]>) -> Option<(&'a [u8], &'a [u8])>
+    ensures { MatchOption result (spec.eviction_in (said says.now) ≡ None) (λ e. spec.eviction_in (said says.now) ≡ Some (e.0.now, e.1.now)) }
+{
+    match says {
+        Says::Evict(pod, due, Answer::Done(_)) => Some((*pod, *due)),
+        Says::Evict(_, _, Answer::Conflict(_)) => None,
+        Says::Evict(_, _, Answer::Absent) => None,
+        Says::Evict(_, _, Answer::Exists) => None,
+        Says::Start => None,
+        Says::Crash => None,
+        Says::Stop => None,
+        Says::End => None,
+        Says::Pause(_) => None,
+        Says::Lead(_) => None,
+        Says::Election(_, _, _) => None,
+        Says::NodeLease(_, _, _) => None,
+        Says::Status(_, _, _) => None,
+        Says::Put(_, _) => None,
+        Says::Remove(_, _) => None,
+        Says::Unknown(_, _, _) => None,
+        Says::Mode(_) => None,
+        Says::Zone(_, _, _) => None,
+        Says::Taint(_, _, _) => None,
+        Says::Swap(_, _, _) => None,
+        Says::Untaint(_, _) => None,
+    }
+}

@@ -1,0 +1,141 @@
+// What a trace comes to.
+ghost use Rattle.std.specs.Prelude.{◌≡◌, ◌++◌, ◌≤◌, IfOk, OnOk, map, filter_map};
+ghost use Rattle.lens_edge.specs.Outcome.{reply_of};
+ghost use Rattle.lens_table.specs.Cells.{cell_text};
+ghost use Rattle.lens_table.specs.Tables.{shown};
+ghost use Rattle.trace_audit.specs.Entries.{lines_of};
+ghost use Rattle.trace_lines.specs.Forms.{line_of};
+ghost use Rattle.trace_lines.specs.Reads.{seen};
+ghost use Rattle.lens_summary.specs.Part.{part};
+ghost use Rattle.lens_summary.specs.Summary as spec;
+
+use crate::leaders::{tell_spans, tell_terms};
+use crate::nodes::tell_nodes;
+use crate::part::add_part;
+use crate::pods::tell_pods;
+use crate::rows::add_row;
+use crate::totals::tell_totals;
+use crate::zones::tell_zones;
+use kube_base::NoMemory;
+use lens_edge::{Answer, Verdict, refuse};
+use lens_table::{Cell, Row};
+use lens_terms::terms_of;
+use lens_trace::{Judged, judge, read_lines, refuse_line};
+use std::alloc::Global;
+use trace_audit::BAD_TRACE;
+use trace_lines::{Header, Line, cut, read_header};
+
+/// What the trace that this text is comes to.
+#[tactic(auto, unfolding(crate::specs::Summary::summary_reply))]
+pub(crate) fn summary_of(alloc: Global, text: &[u8]) -> Result<Answer, NoMemory>
+    ensures { IfOk result (λ answer. reply_of answer ≡ spec.summary_reply text.now) }
+{
+    let judged = judge(alloc, text)?;
+    let Some((head, rest)) = cut(text, b'\n') else {
+        return refuse(alloc, BAD_TRACE, b"/1");
+    };
+    let Some(header) = read_header(head) else {
+        return refuse(alloc, BAD_TRACE, b"/1");
+    };
+    summary_behind(alloc, judged, header, rest)
+}
+
+/// The answer on the lines behind the first.
+fn summary_behind(
+    alloc: Global,
+    judged: Judged,
+    header: Header,
+    rest: &[u8],
+) -> Result<Answer, NoMemory>
+    requires { header.end ≤ 604800000 }
+    ensures { IfOk result (λ answer. reply_of answer ≡ spec.answer_by judged header (filter_map line_of (lines_of rest.now))) }
+{
+    let lines = read_lines(alloc, rest)?;
+    match judged {
+        Judged::Wrong(line) => refuse_line(alloc, line),
+        Judged::Overlaps(line) => tell(alloc, header, Some(line), &lines),
+        Judged::OneAtATime => tell(alloc, header, None, &lines),
+    }
+}
+
+/// All tables on some lines, of which one may be the first `lead` of an identity while another one leads.
+fn tell(
+    alloc: Global,
+    header: Header,
+    overlap: Option<u64>,
+    lines: &[Line<&[u8]>],
+) -> Result<Answer, NoMemory>
+    requires { header.end ≤ 604800000 }
+    ensures { IfOk result (λ answer. reply_of answer ≡ spec.summary header overlap (map seen lines.now)) }
+{
+    let millis = header.beat_millis;
+    let stop = header.end + 1;
+    let found = terms_of(alloc, lines)?;
+    let mut text = Vec::new(alloc);
+    tell_trace(&mut text, alloc, header, overlap)?;
+    tell_terms(&mut text, alloc, millis, stop, &found)?;
+    tell_spans(&mut text, alloc, millis, stop, &found)?;
+    tell_zones(&mut text, alloc, millis, lines)?;
+    tell_nodes(&mut text, alloc, millis, lines)?;
+    tell_pods(&mut text, alloc, millis, lines)?;
+    tell_totals(&mut text, alloc, lines)?;
+    Ok(Answer {
+        verdict: Verdict::Done,
+        text,
+    })
+}
+
+/// Adds the table of the trace itself.
+fn tell_trace(
+    text: &mut Vec<u8>,
+    alloc: Global,
+    header: Header,
+    overlap: Option<u64>,
+) -> Result<(), NoMemory>
+    ensures { OnOk result (text.new.items ≡ text.old.items ++ part (spec.trace_rows header overlap)) }
+{
+    let rows = trace_rows(alloc, header, overlap)?;
+    add_part(text, alloc, &rows)
+}
+
+/// The table of the trace itself.
+#[tactic(auto, unfolding(crate::specs::Summary::trace_rows))]
+fn trace_rows(
+    alloc: Global,
+    header: Header,
+    overlap: Option<u64>,
+) -> Result<Vec<Row<'static>>, NoMemory>
+    ensures { IfOk result (λ rows. shown rows.items ≡ spec.trace_rows header overlap) }
+{
+    let mut rows = Vec::new(alloc);
+    let heading = vec![in alloc;
+        Cell::Text(b"BEAT-MILLIS"),
+        Cell::Text(b"LAST-BEAT"),
+        Cell::Text(b"PREMISE"),
+        Cell::Text(b"TWO-LEAD-FROM-LINE"),
+    ]?;
+    add_row(&mut rows, heading)?;
+    let cells = vec![in alloc;
+        Cell::Count(u64::from(header.beat_millis)),
+        Cell::Beat(header.end, header.beat_millis),
+        Cell::Text(premise_word(header.premise)),
+        line_cell(overlap),
+    ]?;
+    add_row(&mut rows, cells)?;
+    Ok(rows)
+}
+
+fn premise_word(premise: bool) -> &'static [u8]
+    ensures { result.now ≡ spec.premise_word premise }
+{
+    if premise { b"yes" } else { b"no" }
+}
+
+fn line_cell(line: Option<u64>) -> Cell<'static>
+    ensures { cell_text result ≡ spec.line_text line }
+{
+    match line {
+        Some(line) => Cell::Count(line),
+        None => Cell::Missing,
+    }
+}

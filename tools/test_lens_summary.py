@@ -1,0 +1,208 @@
+#!/usr/bin/env python3
+"""Compares what `kube_lens summary` answers with a reference in Python, on the examples' traces and on traces made from seeds.
+
+    tools/test_lens_summary.py [--count 200] [--seed 1] [--program PROGRAM] [--traces FOLDER]
+
+The reference shares nothing with the program: it splits the lines into words and asks of each beat who leads in it. FOLDER may have more
+traces, one a file. PROGRAM is by default the built kube_lens; where it isn't built it runs unproved, by `rt try --cases`. The exit status is 1
+where anything differs. Nothing here is a proof.
+"""
+import argparse
+import glob
+import os
+import random
+import subprocess
+import sys
+import tempfile
+
+import test_lens_trace
+
+TOP = test_lens_trace.TOP
+KINDS = ('start', 'crash', 'stop', 'end', 'pause', 'lead', 'create-election', 'update-election', 'nodelease', 'status', 'put', 'remove', 'unknown',
+         'mode', 'zone', 'taint', 'swap', 'untaint', 'evict')
+NODES = ('n1', 'n2', 'n3.example')
+ANSWERS = ('v=3', 'v=18446744073709551615', 'conflict v=12', 'absent')
+
+
+def answered(dice, form):
+    return f'{form} {dice.choice(ANSWERS)}'
+
+
+def line(dice):
+    """What an identity may say, and who may."""
+    node = dice.choice(NODES)
+    leader = dice.choice(('c0_1', 'c0_2', 'host-a_1'))
+    kubelet = f'kubelet/{node}_1'
+    return dice.choice((
+        (leader, 'lead v=1'), (leader, 'lead v=9'), (leader, dice.choice(test_lens_trace.ENDINGS)), (leader, 'start'), (leader, 'pause beats=7'),
+        (leader, dice.choice(('create election v=1 t=0', 'create election exists', 'update election v=2 t=1', 'update election conflict v=7',
+                              'update election absent'))),
+        (leader, dice.choice(('mode on', 'mode off'))),
+        (leader, f'zone r1/z{dice.randrange(3)} {dice.choice(("Normal", "PartialDisruption", "FullDisruption"))} rate={dice.choice((0, 10, 100))}'),
+        (leader, answered(dice, f'unknown {node} NodeStatusUnknown')), (leader, answered(dice, f'taint {node} unreachable')),
+        (leader, answered(dice, f'swap {node} not-ready')), (leader, answered(dice, f'untaint {node}')),
+        (leader, answered(dice, f'evict default/web-{dice.randrange(4)} due=2024-01-01T00:01:15Z')),
+        (kubelet, dice.choice(('start', 'crash', 'pause beats=3', f'create nodelease {node} v=3', f'create nodelease {node} exists',
+                               f'update nodelease {node} conflict v=8', f'update nodelease {node} absent'))),
+        (kubelet, f'status {node} {dice.choice(("True", "False"))} {dice.choice(("v=3", "absent"))}'),
+        ('script', dice.choice(('put pod/default/web v=8', f'put node/{node} v=9', 'remove lease/default/db v=10')))))
+
+
+def trace(dice):
+    """A trace with all forms of lines."""
+    end = dice.choice((0, 7, 90, 40_000, 604_800_000))
+    beats = sorted(dice.randint(0, end) for _ in range(dice.choice((0, 1, 3, 12, 60))))
+    lines = [f'{beat} {who} {says}' for beat, (who, says) in ((beat, line(dice)) for beat in beats)]
+    millis = dice.choice((1, 10, 25, 100, 999, 1000))
+    return '\n'.join([f'trace 1 beat={millis} end={end} premise={dice.choice(("yes", "no"))}'] + lines) + '\n'
+
+
+def traces(words):
+    cases = []
+    folders = [os.path.join(TOP, 'examples', '*', 'trace*.txt')] + ([os.path.join(words.traces, '*')] if words.traces else [])
+    for path in sorted(path for folder in folders for path in glob.glob(folder)):
+        with open(path, encoding='utf-8') as file:
+            cases.append(file.read())
+    dice = random.Random(words.seed)
+    for number in range(words.count):
+        text = trace(dice)
+        cases.append(test_lens_trace.broken(dice, text) if number % 10 == 9 else text)
+    return cases
+
+
+class Trace:
+    """A trace's numbers and lines, as words."""
+
+    def __init__(self, text):
+        first, *rest = text.splitlines()
+        words = dict(word.split('=') for word in first.split()[2:])
+        self.millis, self.end, self.premise = int(words['beat']), int(words['end']), words['premise']
+        self.lines = [line.split() for line in rest]
+
+    def at(self, beat):
+        """A beat, or a number of beats, and the time."""
+        tenths = beat * self.millis // 100
+        minutes, tenths = divmod(tenths, 600)
+        return f'{beat} ({minutes // 60}:{minutes % 60:02}:{tenths // 10:02}.{tenths % 10})'
+
+    def terms(self):
+        """Who leads from when until when, and how it ended."""
+        for number, (beat, who, *says) in enumerate(self.lines):
+            if says[0] == 'lead':
+                ends = [(int(line[0]), line[2]) for line in self.lines[number + 1:] if line[1] == who and line[2] in test_lens_trace.ENDINGS]
+                yield (who, int(beat), *(ends or [(self.end + 1, 'trace-end')])[0])
+
+    def overlap(self):
+        """The number of the first line that makes an identity lead in a beat in which another one of an earlier line does, or `-`."""
+        terms = list(self.terms())
+        leads = [number for number, words in enumerate(self.lines) if words[2] == 'lead']
+        crossed = [later for earlier, one in enumerate(terms) for later, other in enumerate(terms)
+                   if earlier < later and one[0] != other[0] and max(one[1], other[1]) < min(one[2], other[2])]
+        return str(leads[min(crossed)] + 2) if crossed else '-'
+
+    def quiet(self):
+        """How long each span without a leader is. A span begins at beat 0 or where a term ends, and ends where one begins or at the end."""
+        terms = [(since, until) for _, since, until, _ in self.terms()]
+        marks = sorted({0, self.end + 1, *(since for since, _ in terms), *(until for _, until in terms)})
+        spans = []
+        joined = False
+        for since, until in zip(marks, marks[1:]):
+            if any(first <= since < last for first, last in terms):
+                joined = False
+            elif joined and since not in {first for first, _ in terms}:
+                spans[-1] += until - since
+            else:
+                spans.append(until - since)
+                joined = True
+        return spans
+
+
+def kind(says):
+    if says[1:2] == ['election']:
+        return f'{says[0]}-election'
+    return says[1] if says[1:2] == ['nodelease'] else says[0]
+
+
+def answer(says):
+    """How what a line writes was answered, or `-`."""
+    if kind(says) in ('start', 'crash', 'stop', 'end', 'pause', 'lead', 'mode', 'zone'):
+        return '-'
+    return next(word for word in ('conflict', 'absent', 'exists', 'written') if word == 'written' or word in says[1:])
+
+
+def totals(trace):
+    for name in KINDS + ('all',):
+        answers = [answer(says) for _, _, *says in trace.lines if name in ('all', kind(says))]
+        if answers or name == 'all':
+            yield [name, str(len(answers)), *(str(answers.count(word)) for word in ('written', 'conflict', 'absent', 'exists'))]
+
+
+def tables(trace):
+    """Heading and rows of each table."""
+    at = trace.at
+    yield [['BEAT-MILLIS', 'LAST-BEAT', 'PREMISE', 'TWO-LEAD-FROM-LINE'], [str(trace.millis), at(trace.end), trace.premise, trace.overlap()]]
+    yield [['LEADER', 'FROM', 'UNTIL', 'LASTED', 'ENDED']] + [[who, at(since), at(until), at(until - since), how] for who, since, until, how in trace.terms()]
+    quiet = trace.quiet()
+    yield [['SPANS-WITHOUT-LEADER', 'LONGEST', 'SUM'], [str(len(quiet)), at(max(quiet, default=0)), at(sum(quiet))]]
+    yield [['ZONE', 'SINCE', 'STATE', 'RATE', 'BY']] + [[says[1], at(int(beat)), says[2], says[3][5:], who]
+                                                       for beat, who, *says in trace.lines if says[0] == 'zone']
+    yield [['NODE', 'SINCE', 'CHANGE', 'REASON', 'BY']] + [[says[1], at(int(beat)), says[0], says[2] if says[0] != 'untaint' else '-', who]
+                                                           for beat, who, *says in trace.lines
+                                                           if says[0] in ('unknown', 'taint', 'swap', 'untaint') and says[-1].startswith('v=') and 'conflict' not in says]
+    yield [['POD', 'DUE', 'EVICTED', 'BY']] + [[says[1], says[2][4:], at(int(beat)), who] for beat, who, *says in trace.lines
+                                               if says[0] == 'evict' and says[3].startswith('v=')]
+    yield [['KIND', 'LINES', 'WRITTEN', 'CONFLICT', 'ABSENT', 'EXISTS']] + list(totals(trace))
+
+
+def aligned(rows):
+    widths = [max(map(len, column)) for column in zip(*rows)]
+    return ''.join('   '.join(cell.ljust(width) for cell, width in zip(row[:-1], widths)) + '   ' + row[-1] + '\n' for row in rows)
+
+
+def wanted(text, replay):
+    """The text wanted: for a text that is no trace the refusal of `audit`."""
+    said = subprocess.run([replay, 'audit'], input=text, stdout=subprocess.PIPE, text=True, check=False).stdout
+    if said.startswith('refused 40 '):
+        return said
+    return '\n'.join(aligned(rows) for rows in tables(Trace(text)) if len(rows) > 1)
+
+
+def differs(program, text, told):
+    ran = subprocess.run([program, 'summary'], input=text, stdout=subprocess.PIPE, text=True, check=False)
+    return ran.stdout != told or ran.returncode != (1 if told.startswith('refused ') else 0)
+
+
+def try_unproved(cases):
+    """The status of `rt try` on these traces and the texts wanted."""
+    with tempfile.TemporaryDirectory() as folder:
+        for number, (text, told) in enumerate(cases):
+            for name, what in (('', text), ('.stdout', told), ('.status', '1\n' if told.startswith('refused ') else '0\n')):
+                with open(os.path.join(folder, f'case{number}{name}'), 'w', encoding='utf-8') as file:
+                    file.write(what)
+        ran = subprocess.run(['rt', 'try', '--cases', folder, '--', 'summary'], cwd=os.path.join(TOP, 'crates', 'kube_lens'), check=False,
+                             stdout=subprocess.PIPE, stderr=subprocess.STDOUT, text=True)
+    print('\n'.join(ran.stdout.splitlines()[-3:]))
+    return ran.returncode
+
+
+def main():
+    words = argparse.ArgumentParser(description=__doc__, formatter_class=argparse.RawDescriptionHelpFormatter)
+    words.add_argument('--count', type=int, default=200)
+    words.add_argument('--seed', type=int, default=1)
+    words.add_argument('--program', default=test_lens_trace.built('kube_lens'))
+    words.add_argument('--replay', default=test_lens_trace.built('kube_replay'))
+    words.add_argument('--traces')
+    words = words.parse_args()
+    if not os.path.exists(words.replay):
+        sys.exit(f'{words.replay} is not built')
+    cases = [(text, wanted(text, os.path.abspath(words.replay))) for text in traces(words)]
+    print(f"{len(cases)} traces, {sum(told.startswith('refused ') for _, told in cases)} refused", flush=True)
+    if not os.path.exists(words.program):
+        sys.exit(try_unproved(cases))
+    wrong = [text for text, told in cases if differs(os.path.abspath(words.program), text, told)]
+    print(f'{len(wrong)} differ', *wrong[:3], sep='\n')
+    sys.exit(1 if wrong else 0)
+
+
+if __name__ == '__main__':
+    main()
