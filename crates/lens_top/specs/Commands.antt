@@ -2,7 +2,7 @@
 use Rattle.std.specs.Prelude.{ℕ, List, [], ◌∷◌, codes, Option, Some, None, if◌then◌else◌}
 use Rattle.std.specs.Str.{bytes_eq}
 use Rattle.lens_top.specs.declared.command.Command.{Command}
-use Rattle.lens_top.specs.declared.command.Command.TheVariants.{Help, Margin, Leaders, Summary}
+use Rattle.lens_top.specs.declared.command.Command.TheVariants.{Help, Margin, Flags, Leaders, Summary}
 
 abbrev pub command_by : List ℕ → Option Command
 command_by word =
@@ -12,7 +12,13 @@ command_by word =
     else if bytes_eq word (codes "summary") then Some Summary
     else None
 
+-- words behind `margin` are flags
+abbrev pub with_flags : Option Command → Option Command
+with_flags (Some Margin) = Some Flags
+with_flags other = other
+
 -- the command that the first word names
 abbrev pub command_of : List (List ℕ) → Option Command
 command_of [] = None
-command_of (word ∷ more) = command_by word
+command_of (word ∷ []) = command_by word
+command_of (word ∷ other ∷ more) = with_flags (command_by word)

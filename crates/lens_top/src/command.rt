@@ -1,6 +1,6 @@
 // The words that are commands.
 ghost use Rattle.std.specs.Prelude.{◌≡◌, map, string_bytes};
-ghost use Rattle.lens_top.specs.Commands.{command_of, command_by};
+ghost use Rattle.lens_top.specs.Commands.{command_of, command_by, with_flags};
 
 /// What is asked, by the first word.
 #[derive(Clone, Copy, Debug, PartialEq, Eq)]
@@ -9,6 +9,8 @@ pub enum Command {
     Help,
     /// The margins of a document's leases.
     Margin,
+    /// The margin of the lease that flags describe.
+    Flags,
     /// Who led in a trace, and when nobody did.
     Leaders,
     /// What a trace comes to, as tables.
@@ -21,7 +23,18 @@ pub(crate) fn command_in(words: &Vec<String>) -> Option<Command>
 {
     match words.as_slice() {
         [] => None,
-        [word, ..] => by_word(word.as_str()),
+        [word] => by_word(word.as_str()),
+        [word, ..] => with_flags(by_word(word.as_str())),
+    }
+}
+
+/// The command where further words stand behind the first: those of `margin` are flags.
+fn with_flags(command: Option<Command>) -> Option<Command>
+    ensures { result ≡ with_flags command }
+{
+    match command {
+        Some(Command::Margin) => Some(Command::Flags),
+        other => other,
     }
 }
 

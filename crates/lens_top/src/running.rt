@@ -6,6 +6,9 @@ ghost use Rattle.lens_edge.specs.Outcome.{Ends, EndsAs, IsDone, Unread, usage};
 ghost use Rattle.script_reader.specs.declared.document.Document.{Document};
 ghost use Rattle.script_reader.specs.Documents.{doc_of};
 ghost use Rattle.script_reader.specs.Walk.{document_walk};
+ghost use Rattle.lens_flags.specs.declared.flags.Flags.{Flags};
+ghost use Rattle.lens_flags.specs.Described.{described};
+ghost use Rattle.lens_flags.specs.Flags.{behind, flags_of};
 ghost use Rattle.lens_top.specs.Commands.{command_of};
 ghost use Rattle.lens_top.specs.Outcome.{IsOutcome, help};
 
@@ -45,10 +48,19 @@ pub fn run<S: Source, K: Sink>(
     ensures not_safe { (bytes : List ℕ) (d : Document) → S.left source.old ≡ Some bytes → document_walk bytes ≡ Ok d
         → command_of (map string_bytes words.now.items) ≡ Some Command.Margin
         → result ≡ Status.Answered Verdict.Unsafe → lease_premise (doc_of d) ≡ false }
+
+    // With flags in the place of a document, the same of the document that they describe.
+    ensures flags_safe { (flags : Flags) → command_of (map string_bytes words.now.items) ≡ Some Command.Flags
+        → flags_of (behind (map string_bytes words.now.items)) ≡ Ok flags
+        → result ≡ Status.Answered Verdict.Safe → lease_premise (described flags) ≡ true }
+    ensures flags_not_safe { (flags : Flags) → command_of (map string_bytes words.now.items) ≡ Some Command.Flags
+        → flags_of (behind (map string_bytes words.now.items)) ≡ Ok flags
+        → result ≡ Status.Answered Verdict.Unsafe → lease_premise (described flags) ≡ false }
 {
     match command_in(words) {
         Some(Command::Help) => tell(sink, Verdict::Done, help()),
         Some(Command::Margin) => lens_margin::run(alloc, words, source, sink),
+        Some(Command::Flags) => lens_flags::run(alloc, words, sink),
         Some(Command::Leaders) => lens_trace::run(alloc, words, source, sink),
         Some(Command::Summary) => lens_summary::run(alloc, words, source, sink),
         None => tell_usage(sink),
@@ -61,6 +73,8 @@ fn help() -> &'static [u8]
     b"kube_lens: answers on leader elections, in a person's words\n\
 \n\
 kube_lens margin < document      for each controller what its lease has to outlast, and what is left\n\
+kube_lens margin --lease 15s ..  the same of flags as kube-controller-manager's, with no document:\n\
+                                 --lease --renew --retry --timeout --skew --beat\n\
 kube_lens leaders < trace        who led from when to when, when nobody did, and whether two did at once\n\
 kube_lens summary < trace        what a trace comes to, as tables: terms, zones, nodes, evictions, totals\n\
 kube_lens --help                 these lines\n\

@@ -1,9 +1,11 @@
 use Rattle.std.proofs.Common.{List, ℕ, [], Some, None, map, string_bytes, refl, sym, ap, subst, ◌∙◌, ◌≡◌}
 use Rattle.lens_edge.specs.Outcome.{Ends, Reply, Unread, usage}
 use Rattle.lens_edge.specs.declared.status.Verdict.TheVariants.{Done}
+use Rattle.lens_flags.specs.Flags.{behind}
+use Rattle.lens_flags.specs.Replies.{answer_to}
 use Rattle.lens_top.specs.Commands.{command_of}
 use Rattle.lens_top.specs.Outcome.{help}
-use Rattle.lens_top.specs.declared.command.Command.TheVariants.{Help, Margin}
+use Rattle.lens_top.specs.declared.command.Command.TheVariants.{Help, Margin, Flags}
 use Rattle.lens_top.proofs.Commanded.{ends-commanded, ends-unread}
 use Rattle.lens_top.proofs.running.run.Goals as goal
 
@@ -23,6 +25,15 @@ returns-in-Some-Margin-clause-text g c bytes told =
     let words : List (List ℕ) = map string_bytes c.args.words.now.items in
     let found : Some Margin ≡ command_of words = ap Some (sym c.in-Some-Margin.field-0-is) ∙ sym c.in-Some-Margin.is ∙ c.command_in.ensures in
     ends-commanded words bytes (Some Margin) (g.S.Source.left c.run.new.source) (g.K.Sink.taken c.args.sink.now) (g.K.Sink.taken c.run.new.sink) c.run.result found (c.run.ensures.text bytes told)
+
+pub returns-in-Some-Flags-clause-text : goal.returns-in-Some-Flags-clause-text
+returns-in-Some-Flags-clause-text g c bytes told =
+    let words : List (List ℕ) = map string_bytes c.args.words.now.items in
+    let left = g.S.Source.left c.args.source.now in
+    let before = g.K.Sink.taken c.args.sink.now in
+    let after = g.K.Sink.taken c.run.new.sink in
+    let found : Some Flags ≡ command_of words = ap Some (sym c.in-Some-Flags.field-0-is) ∙ sym c.in-Some-Flags.is ∙ c.command_in.ensures in
+    ends-commanded words bytes (Some Flags) left before after c.run.result found (ends-unread (answer_to (behind words)) bytes left before after c.run.result told (c.run.ensures.text bytes))
 
 pub returns-in-None-clause-text : goal.returns-in-None-clause-text
 returns-in-None-clause-text g c bytes told =

@@ -1,0 +1,5 @@
+-- ---- numbers
+pub mod Skews
+pub mod Numbers
+-- ---- how a run ends
+pub mod Endings

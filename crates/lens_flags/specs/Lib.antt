@@ -1,0 +1,6 @@
+pub mod Described
+pub mod Durations
+pub mod Flags
+pub mod Laws
+pub mod Ranges
+pub mod Replies

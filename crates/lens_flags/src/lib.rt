@@ -1,0 +1,19 @@
+//! The margin of a lease by flags that read like kube-controller-manager's, without a document: from words to lines.
+#![tactic(auto)]
+
+mod duration;
+mod flag;
+mod flags;
+mod given;
+mod lines;
+mod margin;
+mod running;
+mod wrong;
+
+pub use duration::{Reading, Stage, millis_of};
+pub use flag::Flag;
+pub use flags::Flags;
+pub use given::{Given, read_flags};
+pub use margin::{flags_margin, greatest_skew, is_safe};
+pub use running::run;
+pub use wrong::Wrong;
