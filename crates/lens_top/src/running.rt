@@ -73,8 +73,7 @@ fn help() -> &'static [u8]
     b"kube_lens: answers on leader elections, in a person's words\n\
 \n\
 kube_lens margin < document      for each controller what its lease has to outlast, and what is left\n\
-kube_lens margin --lease 15s ..  the same of flags as kube-controller-manager's, with no document:\n\
-                                 --lease --renew --retry --timeout --skew --beat\n\
+kube_lens margin --lease 15s ..  the same of flags: --lease --renew --retry --timeout --skew --beat\n\
 kube_lens leaders < trace        who led from when to when, when nobody did, and whether two did at once\n\
 kube_lens summary < trace        what a trace comes to, as tables: terms, zones, nodes, evictions, totals\n\
 kube_lens --help                 these lines\n\

@@ -31,9 +31,15 @@ returns-in-Some-Flags-clause-text g c bytes told =
     let words : List (List ℕ) = map string_bytes c.args.words.now.items in
     let left = g.S.Source.left c.args.source.now in
     let before = g.K.Sink.taken c.args.sink.now in
-    let after = g.K.Sink.taken c.run.new.sink in
+    let after = g.K.Sink.taken c.run-in-Some-Flags.new.sink in
     let found : Some Flags ≡ command_of words = ap Some (sym c.in-Some-Flags.field-0-is) ∙ sym c.in-Some-Flags.is ∙ c.command_in.ensures in
-    ends-commanded words bytes (Some Flags) left before after c.run.result found (ends-unread (answer_to (behind words)) bytes left before after c.run.result told (c.run.ensures.text bytes))
+    ends-commanded words bytes (Some Flags) left before after c.run-in-Some-Flags.result found (ends-unread (answer_to (behind words)) bytes left before after c.run-in-Some-Flags.result told (c.run-in-Some-Flags.ensures.text bytes))
+
+pub returns-in-Some-Flags-clause-flags_safe : goal.returns-in-Some-Flags-clause-flags_safe
+returns-in-Some-Flags-clause-flags_safe g c flags command read is = c.run-in-Some-Flags.ensures.safe flags read is
+
+pub returns-in-Some-Flags-clause-flags_not_safe : goal.returns-in-Some-Flags-clause-flags_not_safe
+returns-in-Some-Flags-clause-flags_not_safe g c flags command read is = c.run-in-Some-Flags.ensures.not_safe flags read is
 
 pub returns-in-None-clause-text : goal.returns-in-None-clause-text
 returns-in-None-clause-text g c bytes told =
