@@ -1,3 +1,5 @@
+-- ---- durations
+pub mod Sums
 -- ---- numbers
 pub mod Skews
 pub mod Numbers

@@ -1,3 +1,4 @@
+pub mod Amounts
 pub mod Described
 pub mod Durations
 pub mod Flags

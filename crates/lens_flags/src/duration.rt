@@ -1,5 +1,6 @@
 // Durations as Go writes them.
 ghost use Rattle.std.specs.Prelude.{◌≡◌, ◌≤◌, IfSome};
+ghost use Rattle.lens_flags.specs.Amounts.{DurationsAreSums};
 ghost use Rattle.lens_flags.specs.Durations as spec;
 
 /// The most milliseconds that a duration, and a number in one, may have.
@@ -132,3 +133,8 @@ fn total(reading: Reading) -> Option<u64>
         Stage::Minutes => with_amount(reading.millis, reading.number, 60_000),
     }
 }
+
+/// Whatever amounts of at most a day are written one behind the other are read as their sum.
+pub fn durations_are_sums()
+    ensures { DurationsAreSums }
+{}

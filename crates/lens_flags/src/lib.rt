@@ -10,7 +10,7 @@ mod margin;
 mod running;
 mod wrong;
 
-pub use duration::{Reading, Stage, millis_of};
+pub use duration::{Reading, Stage, durations_are_sums, millis_of};
 pub use flag::Flag;
 pub use flags::Flags;
 pub use given::{Given, read_flags};
