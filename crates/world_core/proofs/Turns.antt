@@ -23,7 +23,7 @@ use Rattle.world_core.proofs.Running.{Moved, within-moved}
 pub same-twice : (x y z : Process) → SameProcess x y → SameProcess y z → SameProcess x z
 same-twice x y z a b = record { me = b.me ∙ a.me; clock = b.clock ∙ a.clock }
 
-asks-kept : (k step : ℕ) (q : Identity) (h next : List Entry) (S T : List Entry → Type 0) → ((g : List Entry) → S g → T g) → (ask : Option Ask) → moves.AsksOn k step q h next S ask → moves.AsksOn k step q h next T ask
+pub asks-kept : (k step : ℕ) (q : Identity) (h next : List Entry) (S T : List Entry → Type 0) → ((g : List Entry) → S g → T g) → (ask : Option Ask) → moves.AsksOn k step q h next S ask → moves.AsksOn k step q h next T ask
 asks-kept k step q h next S T keeps None s = (s.0, keeps h s.1)
 asks-kept k step q h next S T keeps (Some ask) s = record { kind = s.kind; sent = s.sent; number = s.number; stands = λ arrives. keeps _ (s.stands arrives) }
 

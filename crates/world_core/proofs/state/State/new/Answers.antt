@@ -29,6 +29,9 @@ returns-clause-ready c =
         events = all-fit (doc_of c.args.document) 0 c.args.document.events lawful.events;
         few = (let count = c.in_ok-processes.ensures.count in let len = c.in_ok-processes.processes.ok.0 in let few = lawful.few in let more = lawful.few_kubelets in omega (arith, count, len, few, more));
         clocks = c.in_ok-processes.ensures.clocks;
+        controllers = (let count = c.in_ok-processes.ensures.count in let len = c.in_ok-processes.processes.ok.0 in let all = ap (λ xs. length xs) c.as_slice-controllers.ensures in omega (arith, count, len, all, c.len-controllers.ensures));
+        kept = c.in_ok-processes.ensures.kept;
+        noted = subst (λ xs. AreNoted xs c.in_ok-turn_beats.turn_beats) c.as_slice-turn_beats.ensures c.in_ok-turn_beats.ensures;
       },
       refl,
       refl,
@@ -38,7 +41,7 @@ pub returns-clause-stands : goal.returns-clause-stands
 returns-clause-stands c = record {
   within = record {
     rest = record {
-      document = record { at = refl; restart = c.picoseconds.ensures.value; count = count; epoch = refl; micros = refl; events = refl };
+      document = record { at = refl; restart = c.picoseconds.ensures.value; count = count; epoch = refl; micros = refl; events = refl; controllers = controllers };
       plain = put-plain doc (processes doc) doc.objects [] (record { fresh = λ p i less. tt; all = tt });
       store = c.in_ok-store.ensures doc refl;
       wire = subst (λ ss. WireStands (processes doc) 0 ss (replies_due 0 (history doc 0)) (history doc 0) c.in_ok-wire.wire) (sym (put-requests doc 0 doc.objects []))
