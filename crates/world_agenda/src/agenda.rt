@@ -31,7 +31,7 @@ pub fn next_beat(world: &World) -> Option<Beat>
         return first;
     }
     let mut next = first;
-    for i in 0..asked_each(world, at) {
+    for i in 0..world.processes() {
         let who = ProcId(i);
         let wakes = world.wakes(who);
         if goes_at_once(world, who, &wakes, at) {
@@ -40,51 +40,7 @@ pub fn next_beat(world: &World) -> Option<Beat>
         let due = due_beat(world, who, &wakes, at);
         next = sooner_turn(world, who, due, next);
     }
-    if at.0 == 0 {
-        return next;
-    }
-    with_kubelets(world, at, next)
-}
-
-// How many processes, the first ones, are asked each what they wait for: all in beat 0, and else the controllers.
-fn asked_each(world: &World, at: Beat) -> u32
-    requires ready { IsReady world.now }
-{
-    if at.0 == 0 {
-        world.processes()
-    } else {
-        world.controllers()
-    }
-}
-
-// The sooner of a beat and those at which kubelets go on. A kubelet is asked only where its turn's beat comes before the soonest one so
-// far, and so, where nobody is paused, none but the one whose beat is the least.
-fn with_kubelets(world: &World, at: Beat, next: Option<Beat>) -> Option<Beat>
-    requires ready { IsReady world.now }
-    requires within { at.0 ≤ end_of world.now }
-{
-    let controllers = world.controllers();
-    let mut next = match world.least_turn() {
-        Some(who) if who.0 >= controllers => with_kubelet(world, who, at, next),
-        _ => next,
-    };
-    let mut from = controllers;
-    'kubelets: while let Some(who) = world.first_turn(from, next) {
-        next = with_kubelet(world, who, at, next);
-        from = who.0 + 1;
-    }
     next
-}
-
-// The sooner of a beat and the one at which a kubelet goes on for which something is due.
-fn with_kubelet(world: &World, who: ProcId, at: Beat, next: Option<Beat>) -> Option<Beat>
-    requires ready { IsReady world.now }
-    requires within { at.0 ≤ end_of world.now }
-    requires process { who.0 < count_of world.now }
-{
-    let wakes = world.wakes(who);
-    let due = due_beat(world, who, &wakes, at);
-    sooner_turn(world, who, due, next)
 }
 
 // Whether there is a beat, and it comes no later than another.

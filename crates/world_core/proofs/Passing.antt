@@ -4,31 +4,23 @@ use Rattle.std.proofs.lemmas.Bool.{cases_lt}
 use Rattle.std.proofs.lemmas.Bool.Decides.{nat_tests}
 use Rattle.std.proofs.lemmas.Option.{slice_get_within}
 use Rattle.kube_base.specs.declared.numbers.Beat.{Beat}
-use Rattle.kube_base.specs.declared.numbers.Local.{Local}
-use Rattle.kube_base.specs.declared.numbers.ProcId.{ProcId}
 use Rattle.kube_objects.specs.declared.deed.Deed.{Deed}
-use Rattle.kube_objects.specs.Clocks.{local}
-use Rattle.kube_objects.specs.Document.{Doc, end_beat, is_controller, processes}
+use Rattle.kube_objects.specs.Document.{Doc, is_controller, processes}
 use Rattle.kube_objects.specs.Entry.{Entry}
 use Rattle.kube_objects.specs.Wire.{Back, Sent}
 use Rattle.history.specs.Steps.{turn, turns}
 use Rattle.agenda_laws.specs.Times.{is_early}
-use Rattle.agenda_laws.specs.Waking.{IsAsleep, wakes_of}
 use Rattle.beat_tree.specs.declared.tree.BeatTree.{BeatTree}
-use Rattle.beat_tree.specs.Leaves.{IsFirst, leaf, room}
+use Rattle.beat_tree.specs.Leaves.{leaf, room}
 use Rattle.beat_tree.specs.Tidy.{comes_before}
 use Rattle.world_process.specs.declared.process.Process.{Process}
-use Rattle.world_process.specs.Beats as beats
-use Rattle.world_process.specs.Beats.{beat_in, own_reading}
-use Rattle.world_process.specs.Moves.{own_turn}
-use Rattle.world_process.specs.Processes.{IsKept, ProcessStands, clock_of, in_term_as, waking_of}
+use Rattle.world_process.specs.Beats.{beat_in}
+use Rattle.world_process.specs.Processes.{clock_of, waking_of}
 use Rattle.world_process.proofs.Names.{eq-is, eq-isnt, eq-self}
-use Rattle.world_process.proofs.Readings.{reading-local}
-use Rattle.world_process.proofs.Wakes.{asked-reading, asked_at, kept-still}
+use Rattle.world_process.proofs.Wakes.{kept-still}
 use Rattle.world_core.specs.declared.state.State.{State}
-use Rattle.world_core.specs.States.{AreKept, AreNoted, IsReady, Running, StateStands}
-use Rattle.world_core.specs.Waits.{AreAsleepTo, IsBelow, awake_turn, beat_of, local_of, own_ticks, own_ticks_as, starts_now}
-use Rattle.world_core.proofs.Awake.{beats-alike, begun-is, idle-stands, its-clock, readings-alike}
+use Rattle.world_core.specs.States.{AreNoted, IsReady, Running}
+use Rattle.world_core.specs.Waits.{awake_turn, own_ticks_as}
 use Rattle.world_core.proofs.Ranges.{not-below}
 use Rattle.world_core.proofs.Ticking.{turn-is}
 use Rattle.world_core.proofs.Turns.{awake-still}
@@ -93,28 +85,6 @@ has-process w i before ready sooner = by_order (cases_lt i (length w.processes.i
     by_order : (i < length w.processes.items) ⊎ (length w.processes.items ≤ i) → i < vec_len w.processes
     by_order (inl less) = let len = w.processes.ok.0 in omega (arith, less, len)
     by_order (inr past) = let none : false ≡ true = sym (ap (λ b. comes_before b before) (ready.noted.beyond i past)) ∙ sooner in cc
-
--- ---- what a kubelet that is passed over waits for
-
-pub passed-asleep : (doc : Doc) (k from : ℕ) (h : List Entry) (w : State) (before : Option Beat) (who : Option ProcId) → IsReady w → StateStands doc k h w → w.end.0 ≡ end_beat doc
-    → ((p : ℕ) → from ≤ p → IsBelow p who → comes_before (leaf w.turn_beats p) before ≡ false) → AreAsleepTo doc k from h (beat_of before) who
-passed-asleep doc k from h w before who ready s end passed p j up inside more below later late within early =
-    let count = s.within.rest.document.count in
-    let there = slice_get-some w.processes.items p (omega (arith, inside, count)) in
-    let x = there.0 in
-    let kept = ready.kept p x there.1 in
-    let stands = s.within.processes p x there.1 in
-    let clock = its-clock doc p h x stands in
-    let ends = ready.clocks p x there.1 in
-    let known : comes_before (waking_of x).until before ≡ false = subst (λ b. comes_before b before ≡ false) (ready.noted.leaves p x there.1) (passed p up below) in
-    let sleeps = early-before j (waking_of x).until before known (subst (λ o. is_early j o ≡ true) (beats-alike before) early) in
-    let wake = asked_at (own_reading doc p h) in
-    let is = asked-reading (own_reading doc p h) in
-    let first = kept.first doc p h wake stands is in
-    let unread : is_early (local doc p j) (local_of wake) ≡ true =
-        ap (is_early (local doc p j)) (readings-alike wake) ∙ ap (λ n. is_early n (beats.reading_of wake)) (sym (reading-local doc p j (clock_of x) clock)) ∙ sym (first.tells j (omega (arith, within, ends, end))) ∙ sleeps in
-    let idle = idle-stands doc k p h (clock_of x) wake clock (begun-is doc k p later) (ap (λ b. in_term_as doc k p b h) (kubelet-is doc p more)) is in
-    (idle.asleep (begun-is doc k p later) j late within).0 (record { at_once = refl; local = unread; wall = refl })
 
 -- ---- the leaves of the first processes
 

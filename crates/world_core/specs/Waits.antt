@@ -1,10 +1,9 @@
 -- What a process of the world waits for, and the beats at which it is there.
-use Rattle.std.specs.Prelude.{◌≡◌, ◌↔◌, ℕ, ◌==◌, ◌&&◌, ◌||◌, ◌<◌, ◌≤◌, length, not, Bool, true, false, List, Option, Some, None, option_map}
+use Rattle.std.specs.Prelude.{◌≡◌, ◌↔◌, ℕ, ◌==◌, ◌&&◌, ◌||◌, ◌≤◌, not, Bool, true, false, List, Option, Some, None, option_map}
 use Rattle.kube_base.specs.declared.numbers.Beat.{Beat}
 use Rattle.kube_base.specs.declared.numbers.Local.{Local}
-use Rattle.kube_base.specs.declared.numbers.ProcId.{ProcId}
 use Rattle.kube_objects.specs.Clocks.{local, wall}
-use Rattle.kube_objects.specs.Document.{Doc, end_beat, processes, is_controller, is_up_first}
+use Rattle.kube_objects.specs.Document.{Doc, end_beat, is_controller, is_up_first}
 use Rattle.kube_objects.specs.Elector.{in_term}
 use Rattle.kube_objects.specs.Entry.{Entry, Identity}
 use Rattle.kube_objects.specs.Newest.{only_if}
@@ -89,14 +88,3 @@ pub record IsTurnBeat (doc : Doc) (p : ℕ) (w : Wakes) (b : Option Beat) : Type
 abbrev pub IsTermReading : Doc → ℕ → Identity → List Entry → Option Local → Type 0
 IsTermReading doc p q h at =
     (j : ℕ) → j ≤ end_beat doc → is_early (local doc p j) (local_of at) ≡ is_early (local doc p j) (term_reading doc q h)
-
--- ---- who is passed over
-
-abbrev pub IsBelow : ℕ → Option ProcId → Type 0
-IsBelow p None = Unit {0}
-IsBelow p (Some who) = p < who.0
-
--- the kubelets from one on, below another where there is one, sleep from beat k on at each beat before this one, where any, up to the end
-abbrev pub AreAsleepTo : Doc → ℕ → ℕ → List Entry → Option ℕ → Option ProcId → Type 0
-AreAsleepTo doc k from h before who = (p j : ℕ) → from ≤ p → p < processes doc → length doc.controllers ≤ p → IsBelow p who → ¬ (k ≡ 0)
-    → k ≤ j → j ≤ end_beat doc → is_early j before ≡ true → IsAsleep doc j p (wakes_of doc p h)

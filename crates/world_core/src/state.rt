@@ -1,6 +1,6 @@
 // What a world keeps, and how it does one beat.
 ghost use Rattle.std.specs.Prelude.{◌≡◌, ◌==◌, ◌∷◌, ◌||◌, ◌+◌, ◌*◌, ◌<◌, ◌≤◌, ◌++◌, ◌↔◌, ℕ, List, [], length, min, All, true, false, Option, Some};
-ghost use Rattle.std.specs.Prelude.{IfOk, IfSome, OnOk, IsTrue, vec_len, if◌then◌else◌};
+ghost use Rattle.std.specs.Prelude.{IfOk, OnOk, IsTrue, vec_len, if◌then◌else◌};
 ghost use Rattle.beat_tree.specs.Leaves.{leaf, room};
 ghost use Rattle.std.specs.List.Sorted.{IsStrictlySortedBy};
 ghost use Rattle.std.specs.Map.{keys_of, lookup};
@@ -34,7 +34,7 @@ ghost use Rattle.kube_base.specs.Steps.{counted};
 ghost use Rattle.world_process.specs.Clocked.{ClockStands};
 ghost use Rattle.world_terms.specs.TermsStand.{IsFresh, IsUpAs, TermsStand, TermsStandBut};
 ghost use Rattle.world_process.specs.Processes.{IsKept, IsTimed, ProcessStands, SameProcess, incarnation_of, waking_of};
-ghost use Rattle.world_core.specs.Waits.{AreAsleepTo, IsTermReading, IsTurnBeat, WakesStand, awake_turn, beat_of, local_of, own_ticks};
+ghost use Rattle.world_core.specs.Waits.{IsTermReading, IsTurnBeat, WakesStand, awake_turn, beat_of, local_of, own_ticks};
 ghost use Rattle.world_process.specs.Plain.{IsFew, IsKnown};
 ghost use Rattle.world_core.specs.States.{at_of, count_of, end_of, names_of, GoOnTo, IsFit, IsReady, IsPlaced, SameDocument, Keeps};
 ghost use Rattle.world_core.specs.States.{AreKept, AreMadeOf, AreNoted, AreQuiet, EachStands, SendsAsked, StateStands, Running};
@@ -277,35 +277,6 @@ impl State {
     {
         let resumes = self.processes[who.0 as usize].resume(beat);
         Beat(resumes.0.min(self.end.0 + 1))
-    }
-
-    /// How many of the processes are controllers: the first ones.
-    pub fn controllers(&self) -> u32
-        requires { IsReady self.now }
-        ensures count { result ≤ count_of self.now }
-        ensures stands { (doc : Doc) (k : ℕ) (h : List Entry) → StateStands doc k h self.now → result ≡ length doc.controllers }
-    {
-        self.controllers as u32
-    }
-
-    /// A process than whose turn's beat no other's comes before, its tick aside. None where no process waits for a turn.
-    pub fn least_turn(&self) -> Option<ProcId>
-        requires { IsReady self.now }
-        ensures { IfSome result (λ who. who.0 < count_of self.now) }
-    {
-        let i = self.turn_beats.least()?;
-        Some(ProcId(i as u32))
-    }
-
-    /// The first process from one on whose turn, its tick aside, has a beat before this one.
-    pub fn first_turn(&self, from: u32, before: Option<Beat>) -> Option<ProcId>
-        requires { IsReady self.now }
-        ensures within { IfSome result (λ who. (from ≤ who.0) × (who.0 < count_of self.now)) }
-        ensures passed { (doc : Doc) (k : ℕ) (h : List Entry) → StateStands doc k h self.now → end_of self.now ≡ end_beat doc
-            → AreAsleepTo doc k from h (beat_of before) result }
-    {
-        let i = self.turn_beats.first_before(from as usize, before)?;
-        Some(ProcId(i as u32))
     }
 
     // The reading that a controller's term waits for.

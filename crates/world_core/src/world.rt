@@ -1,5 +1,5 @@
 // The world of a document, which does one beat at a time.
-ghost use Rattle.std.specs.Prelude.{◌≡◌, ◌+◌, ◌<◌, ◌≤◌, ◌++◌, ℕ, List, length, min, IfOk, IfSome, IsTrue, ◌↔◌};
+ghost use Rattle.std.specs.Prelude.{◌≡◌, ◌+◌, ◌<◌, ◌≤◌, ◌++◌, ℕ, List, length, min, IfOk, IsTrue, ◌↔◌};
 ghost use Rattle.std.specs.List.{AllByRecursion};
 ghost use Rattle.std.specs.List.Sorted.{IsStrictlySortedBy};
 ghost use Rattle.std.specs.Map.{keys_of, lookup};
@@ -19,7 +19,7 @@ ghost use Rattle.kube_base.specs.Steps.{counted};
 ghost use Rattle.script_reader.specs.Lawful.{AreLawfulFrom, IsLawfulDoc};
 ghost use Rattle.world_process.specs.Clocked.{ClockStands};
 ghost use Rattle.world_process.specs.Plain.{IsFew};
-ghost use Rattle.world_core.specs.Waits.{AreAsleepTo, IsTurnBeat, WakesStand, beat_of};
+ghost use Rattle.world_core.specs.Waits.{IsTurnBeat, WakesStand, beat_of};
 ghost use Rattle.world_core.specs.Worlds.{AreQuiet, AreWritable, IsOwn, IsReady, WorldStands, at_of, count_of, end_of, names_of};
 
 use crate::state::State;
@@ -183,32 +183,5 @@ impl World {
             → IsTurnBeat doc who.0 wakes.now result }
     {
         self.state.turn_beat(who, wakes)
-    }
-
-    /// How many of the processes are controllers: the first ones.
-    pub fn controllers(&self) -> u32
-        requires { IsReady self.now }
-        ensures count { result ≤ count_of self.now }
-        ensures stands { (doc : Doc) (k : ℕ) (h : List Entry) → WorldStands doc k h self.now → result ≡ length doc.controllers }
-    {
-        self.state.controllers()
-    }
-
-    /// A process than whose turn's beat no other's comes before, its tick aside. None where no process waits for a turn.
-    pub fn least_turn(&self) -> Option<ProcId>
-        requires { IsReady self.now }
-        ensures { IfSome result (λ who. who.0 < count_of self.now) }
-    {
-        self.state.least_turn()
-    }
-
-    /// The first process from one on whose turn, its tick aside, has a beat before this one.
-    pub fn first_turn(&self, from: u32, before: Option<Beat>) -> Option<ProcId>
-        requires { IsReady self.now }
-        ensures within { IfSome result (λ who. (from ≤ who.0) × (who.0 < count_of self.now)) }
-        ensures passed { (doc : Doc) (k : ℕ) (h : List Entry) → WorldStands doc k h self.now → end_of self.now ≡ end_beat doc
-            → AreAsleepTo doc k from h (beat_of before) result }
-    {
-        self.state.first_turn(from, before)
     }
 }
