@@ -62,7 +62,7 @@ awake-is doc k p h awake = ap (λ b. turn_if doc k p (not b) h) awake
 paused-is : (doc : Doc) (k p : ℕ) (h : List Entry) → is_paused doc p k ≡ true → awake_turn doc k p h ≡ h
 paused-is doc k p h paused = ap (λ b. turn_if doc k p (not b) h) paused
 
-awake-still : (doc : Doc) (k p : ℕ) (h : List Entry) → own_turn doc k p h ≡ h → awake_turn doc k p h ≡ h
+pub awake-still : (doc : Doc) (k p : ℕ) (h : List Entry) → own_turn doc k p h ≡ h → awake_turn doc k p h ≡ h
 awake-still doc k p h still = by_pause (not (is_paused doc p k))
   where
     by_pause : (b : Bool) → turn_if doc k p b h ≡ h
