@@ -32,7 +32,7 @@ returns-clause-ready c =
         clocks = c.in_ok-processes.ensures.clocks;
         controllers = (let count = c.in_ok-processes.ensures.count in let len = c.in_ok-processes.processes.ok.0 in let all = ap (λ xs. length xs) c.as_slice-controllers.ensures in omega (arith, count, len, all));
         kept = c.in_ok-processes.ensures.kept;
-        noted = subst (λ xs. AreNoted xs c.in_ok-turn_beats.turn_beats) c.as_slice-2.ensures c.in_ok-turn_beats.ensures;
+        noted = subst (λ xs. AreNoted xs c.in_ok-turn_beats.turn_beats) c.as_slice-2.ensures.value c.in_ok-turn_beats.ensures;
       },
       refl,
       refl,
