@@ -19,6 +19,8 @@ pub mod Beats
 pub mod Happening
 pub mod Ticking
 pub mod Turns
+pub mod Noting
+pub mod Passing
 pub mod Skipping
 pub mod Awake
 -- ---- layer 5: what can be written

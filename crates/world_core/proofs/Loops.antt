@@ -153,13 +153,14 @@ same-on u w v a b =
       micros = b.micros ∙ a.micros;
       events = b.events ∙ a.events;
       names = b.names ∙ a.names;
+      controllers = b.controllers ∙ a.controllers;
     }
 
 pub keeps-on : (u w v : State) → Keeps u w → Keeps w v → Keeps u v
 keeps-on u w v a b = record { ready = b.ready; same = same-on u w v a.same b.same; place = b.place ∙ a.place; count = b.count ∙ a.count }
 
 pub keeps-same : (w : State) → IsReady w → Keeps w w
-keeps-same w ready = record { ready = ready; same = (record { beat = refl; end = refl; restart = refl; epoch = refl; micros = refl; events = refl; names = refl }); place = refl; count = refl }
+keeps-same w ready = record { ready = ready; same = (record { beat = refl; end = refl; restart = refl; epoch = refl; micros = refl; events = refl; names = refl; controllers = refl }); place = refl; count = refl }
 
 pub few-starts : (doc : Doc) (i n : ℕ) (h : List Entry) → i < n → IsFew (starts_below doc n h) → IsFew (starts_below doc (suc i) h)
 few-starts doc i n h less few =

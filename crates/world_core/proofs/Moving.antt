@@ -1,6 +1,7 @@
 -- Layer 1, lists, ranges and places: the world with one process written back.
 use Rattle.std.proofs.Common.{◌≡◌, ℕ, ◌<◌, ◌≤◌, Option, Result, Ok, Err, OnOk, Some, slice_get, slice_index_or, vec_len, ap, ◌∙◌, subst, arith}
 use Rattle.std.proofs.lemmas.Option.{slice_get_read}
+use Rattle.beat_tree.specs.Leaves.{room}
 use Rattle.kube_base.specs.declared.numbers.ProcId.{ProcId}
 use Rattle.kube_objects.specs.declared.call.Ask.{Ask}
 use Rattle.kube_objects.specs.declared.deed.Actor.{Actor}
@@ -23,6 +24,10 @@ within-end w i c ready within was = let e = ready.clocks i c was in omega (arith
 
 pub within-processes : (doc : Doc) (k : ℕ) (w : State) (i : ℕ) → DocStands doc k w → i < vec_len w.processes → i < processes doc
 within-processes doc k w i s within = let count = s.count in let len = w.processes.ok.0 in omega (arith, count, len, within)
+
+-- a process has its leaf
+pub room-for : (w : State) (i : ℕ) → IsReady w → i < vec_len w.processes → i < room w.turn_beats
+room-for w i ready within = let most = ready.noted.room in let len = w.processes.ok.0 in omega (arith, within, most, len)
 
 -- the actor that a process names
 pub actor-is : (p : ℕ) (x : Process) (who : Actor) → who ≡ actor.Proc (me_of x) (incarnation_of x) → (me_of x).0 ≡ p → who ≡ actor_of (identity p (incarnation_of x))

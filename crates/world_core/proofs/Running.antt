@@ -1,6 +1,9 @@
 -- Layer 3, the world around one process: one process has moved, and the world stands again.
-use Rattle.std.proofs.Common.{All, ◌≡◌, ℕ, ◌+◌, ◌<◌, ◌≤◌, ◌==◌, ◌++◌, Bool, true, false, List, ◌∷◌, Option, Some, None, slice_get, slice_set, length, refl, sym, ap, ◌∙◌, subst, append_assoc, vec_len, arith}
+use Rattle.std.proofs.Common.{All, ◌≡◌, ℕ, ◌+◌, ◌<◌, ◌≤◌, ◌==◌, ◌++◌, Bool, true, false, List, ◌∷◌, Option, Some, None, slice_get, slice_set, length, refl, sym, ap, ◌∙◌, subst, append_assoc, vec_len, arith, if◌then◌else◌}
 use Rattle.std.proofs.lemmas.List.{append-nil}
+use Rattle.std.proofs.lemmas.Option.{slice_get_within}
+use Rattle.beat_tree.specs.declared.tree.BeatTree.{BeatTree}
+use Rattle.beat_tree.specs.Leaves.{leaf, room}
 use Rattle.kube_objects.specs.declared.call.Ask.{Ask}
 use Rattle.kube_objects.specs.declared.deed.Deed.{Deed}
 use Rattle.kube_objects.specs.Answers.{answer, written}
@@ -18,18 +21,18 @@ use Rattle.world_process.specs.declared.process.Process.{Process}
 use Rattle.world_process.specs.declared.moves.Received.{Received}
 use Rattle.world_process.specs.declared.moves.Turn.{Turn}
 use Rattle.world_core.specs.declared.state.State.{State}
-use Rattle.world_process.specs.Processes.{ProcessStands, SameProcess, AsksOn, Turned, Replied, incarnation_of, clock_of, is_up_first_as}
+use Rattle.world_process.specs.Processes.{IsKept, ProcessStands, SameProcess, AsksOn, Turned, Replied, incarnation_of, clock_of, is_up_first_as, waking_of}
 use Rattle.world_process.specs.InForce.{InForceStands}
 use Rattle.world_process.specs.Moves.{AsksOnReply, before_asking, own_turn, started_deeds, ended_deeds, lead_deeds}
 use Rattle.world_process.specs.Plain.{IsKnown, with_facts}
-use Rattle.world_core.specs.States.{IsFit, IsReady, SameDocument, Keeps, DocStands, EachStands, OthersStand, StateWithin, Running, SendsAsked}
+use Rattle.world_core.specs.States.{AreKept, AreNoted, IsFit, IsReady, SameDocument, Keeps, DocStands, EachStands, OthersStand, StateWithin, Running, SendsAsked}
 use Rattle.world_core.proofs.Around.{Around, around-world, around-own, around-facts, around-before, around-started}
 use Rattle.world_core.proofs.Renewing.{fresh-started, terms-delivered}
 use Rattle.world_process.proofs.Forces.{in_force-beside}
 use Rattle.world_process.proofs.Processes.{process-incarnation, process-others, process-answered, process-up_first}
 use Rattle.world_core.proofs.Lists.{slice_get-set_same, slice_get-set_other, length-set}
 use Rattle.object_store.specs.Stands.{StoreStands}
-use Rattle.world_process.proofs.Names.{eq-is, eq-self}
+use Rattle.world_process.proofs.Names.{eq-is, eq-isnt, eq-self}
 use Rattle.world_process.proofs.Plainly.{plain-entry, known-later, starts-start}
 use Rattle.world_terms.specs.TermsStand.{IsFresh, TermsStand, TermsStandBut}
 use Rattle.world_terms.proofs.Frames.{terms-beside}
@@ -50,7 +53,7 @@ pub record Unmoved (w v : State) : Type 0 where
   pub terms : v.terms ≡ w.terms
 
 pub unmoved-self : (w : State) → Unmoved w w
-unmoved-self w = record { same = record { beat = refl; end = refl; restart = refl; epoch = refl; micros = refl; events = refl; names = refl }; processes = refl; terms = refl }
+unmoved-self w = record { same = record { beat = refl; end = refl; restart = refl; epoch = refl; micros = refl; events = refl; names = refl; controllers = refl }; processes = refl; terms = refl }
 
 each-set : (doc : Doc) (i : ℕ) (h : List Entry) (cs : List Process) (c0 c1 : Process) → slice_get cs i ≡ Some c0 → OthersStand doc i h cs → ProcessStands doc i h c1 → EachStands doc h (slice_set cs i c1)
 each-set doc i h cs c0 c1 was others own p c is = by_place (p == i) refl
@@ -75,6 +78,7 @@ doc-same doc k w v same count s =
       epoch = same.epoch ∙ s.epoch;
       micros = same.micros ∙ s.micros;
       events = same.events ∙ s.events;
+      controllers = same.controllers ∙ s.controllers;
     }
 
 doc-moved : (doc : Doc) (k i : ℕ) (c0 c1 : Process) (w v : State) → Moved i c0 c1 w v → DocStands doc k w → DocStands doc k v
@@ -195,8 +199,8 @@ running-replied doc k i before deeds new arriving coming b h c0 c1 w v x r proce
 -- ---- what stays plain
 
 -- the ranges stand as before
-pub ready-same : (w v : State) → SameDocument w v → vec_len v.processes ≡ vec_len w.processes → ((i : ℕ) (c : Process) → slice_get v.processes.items i ≡ Some c → (clock_of c).end ≡ w.end.0) → IsReady w → IsReady v
-ready-same w v same count clocks ready =
+pub ready-same : (w v : State) → SameDocument w v → vec_len v.processes ≡ vec_len w.processes → ((i : ℕ) (c : Process) → slice_get v.processes.items i ≡ Some c → (clock_of c).end ≡ w.end.0) → AreKept v.processes.items → AreNoted v.processes.items v.turn_beats → IsReady w → IsReady v
+ready-same w v same count clocks kept noted ready =
     record {
       end = subst (λ e. e.0 ≤ 604800000) (sym same.end) ready.end;
       restart = subst (λ n. n ≤ 86400000000000000) (sym same.restart) ready.restart;
@@ -205,17 +209,65 @@ ready-same w v same count clocks ready =
       events = subst (All (λ e. IsFit e.what)) (sym same.events) ready.events;
       few = subst (λ n. n ≤ 1016) (sym count) ready.few;
       clocks = λ i c is. clocks i c is ∙ ap (λ e. e.0) (sym same.end);
+      controllers = subst (λ n. n ≤ vec_len v.processes) (sym same.controllers) (subst (λ n. w.controllers ≤ n) (sym count) ready.controllers);
+      kept = kept;
+      noted = noted;
     }
 
-pub keeps-moved : (i : ℕ) (c0 c1 : Process) (w v : State) → IsReady w → Moved i c0 c1 w v → vec_len v.processes ≡ vec_len w.processes → SameProcess c0 c1 → Keeps w v
-keeps-moved i c0 c1 w v ready m count same =
+-- a leaf was changed
+pub record Noted (i : ℕ) (c : Process) (old new : BeatTree) : Type 0 where
+  pub room : room new ≡ room old
+  pub leaves : (j : ℕ) → leaf new j ≡ (if i == j then (waking_of c).until else leaf old j)
+
+pub keeps-moved : (i : ℕ) (c0 c1 : Process) (w v : State) → IsReady w → Moved i c0 c1 w v → vec_len v.processes ≡ vec_len w.processes → SameProcess c0 c1 → IsKept c1 → Noted i c1 w.turn_beats v.turn_beats → Keeps w v
+keeps-moved i c0 c1 w v ready m count same kept noted =
     record {
-      ready = ready-same w v m.same count (λ j c is. by_place j c is (j == i) refl) ready;
+      ready = ready-same w v m.same count (λ j c is. by_place j c is (j == i) refl) (λ j c is. kept_at j c is (j == i) refl)
+          (record { room = now_room; leaves = λ j c is. leaf_at j c is (j == i) refl; beyond = beyond }) ready;
       same = m.same;
       place = m.place;
       count = count;
     }
   where
+    own_at : (j : ℕ) (c : Process) → slice_get v.processes.items j ≡ Some c → (j == i) ≡ true → c1 ≡ c
+    own_at j c is here =
+        let place : j ≡ i = eq-is j i here in
+        let there : Some c ≡ Some c1 = sym is ∙ ap (λ cs. slice_get cs j) m.now ∙ ap (slice_get (slice_set w.processes.items i c1)) place ∙ slice_get-set_same w.processes.items i c1 c0 m.was in
+        cc
+
+    apart_at : (j : ℕ) → (j == i) ≡ false → ¬ (j ≡ i)
+    apart_at j other e = let now : (j == i) ≡ true = ap (λ x. j == x) (sym e) ∙ eq-self j in cc
+
+    other_at : (j : ℕ) (c : Process) → slice_get v.processes.items j ≡ Some c → (j == i) ≡ false → slice_get w.processes.items j ≡ Some c
+    other_at j c is other = sym (slice_get-set_other w.processes.items i j c1 (apart_at j other)) ∙ ap (λ cs. slice_get cs j) (sym m.now) ∙ is
+
+    kept_at : (j : ℕ) (c : Process) → slice_get v.processes.items j ≡ Some c → (b : Bool) → (j == i) ≡ b → IsKept c
+    kept_at j c is true here = subst IsKept (own_at j c is here) kept
+    kept_at j c is false other = ready.kept j c (other_at j c is other)
+
+    leaf_here : (j : ℕ) → j ≡ i → leaf v.turn_beats j ≡ (waking_of c1).until
+    leaf_here j place =
+        let same : (i == j) ≡ true = ap (λ x. i == x) place ∙ eq-self i in
+        noted.leaves j ∙ ap (λ b. if b then (waking_of c1).until else leaf w.turn_beats j) same
+
+    leaf_other : (j : ℕ) → ¬ (j ≡ i) → leaf v.turn_beats j ≡ leaf w.turn_beats j
+    leaf_other j apart = noted.leaves j ∙ ap (λ b. if b then (waking_of c1).until else leaf w.turn_beats j) (eq-isnt i j (λ e. apart (sym e)))
+
+    leaf_at : (j : ℕ) (c : Process) → slice_get v.processes.items j ≡ Some c → (b : Bool) → (j == i) ≡ b → leaf v.turn_beats j ≡ (waking_of c).until
+    leaf_at j c is true here = leaf_here j (eq-is j i here) ∙ ap (λ x. (waking_of x).until) (own_at j c is here)
+    leaf_at j c is false other = leaf_other j (apart_at j other) ∙ ready.noted.leaves j c (other_at j c is other)
+
+    as_many : length v.processes.items ≡ length w.processes.items
+    as_many = ap length m.now ∙ length-set w.processes.items i c1
+
+    now_room : length v.processes.items ≤ room v.turn_beats
+    now_room = let was = ready.noted.room in let same_room = noted.room in omega (arith, as_many, was, same_room)
+
+    beyond : (j : ℕ) → length v.processes.items ≤ j → leaf v.turn_beats j ≡ None
+    beyond j past =
+        let within = slice_get_within w.processes.items i c0 m.was in
+        leaf_other j (λ e. omega (arith, e, past, as_many, within)) ∙ ready.noted.beyond j (omega (arith, past, as_many))
+
     by_place : (j : ℕ) (c : Process) → slice_get v.processes.items j ≡ Some c → (b : Bool) → (j == i) ≡ b → (clock_of c).end ≡ w.end.0
     by_place j c is true here =
         let place : j ≡ i = eq-is j i here in
@@ -225,6 +277,15 @@ keeps-moved i c0 c1 w v ready m count same =
     by_place j c is false other =
         let apart : ¬ (j ≡ i) = λ e. (let now : (j == i) ≡ true = ap (λ x. j == x) (sym e) ∙ eq-self j in cc) in
         ready.clocks j c (sym (slice_get-set_other w.processes.items i j c1 apart) ∙ ap (λ cs. slice_get cs j) (sym m.now) ∙ is)
+
+-- a process was written back as it was
+pub keeps-set : (i : ℕ) (c0 : Process) (w v : State) → IsReady w → Moved i c0 c0 w v → vec_len v.processes ≡ vec_len w.processes → v.turn_beats ≡ w.turn_beats → Keeps w v
+keeps-set i c0 w v ready m count beats =
+    keeps-moved i c0 c0 w v ready m count (record { me = refl; clock = refl }) (ready.kept i c0 m.was) (record { room = ap room beats; leaves = λ j. ap (λ t. leaf t j) beats ∙ by_place j (i == j) refl })
+  where
+    by_place : (j : ℕ) (b : Bool) → (i == j) ≡ b → leaf w.turn_beats j ≡ (if b then (waking_of c0).until else leaf w.turn_beats j)
+    by_place j true same = let place : i ≡ j = eq-is i j same in subst (λ n. leaf w.turn_beats n ≡ (waking_of c0).until) place (ready.noted.leaves i c0 m.was)
+    by_place j false other = refl
 
 -- ---- a first start
 

@@ -156,6 +156,7 @@ pub record SameButTicked (w v : State) : Type 0 where
   pub wire : v.wire ≡ w.wire
   pub in_force : v.in_force ≡ w.in_force
   pub processes : v.processes ≡ w.processes
+  pub controllers : v.controllers ≡ w.controllers
 
 pub running-ticked : (doc : Doc) (k p i : ℕ) (before deeds told : List Deed) (arriving : List Sent) (coming : List Back) (h : List Entry) (w v : State) → is_paused doc p k ≡ false → p < processes doc → alive p h ≡ Some i → InTermAs doc k p i h → SameButTicked w v
     → Running doc k before arriving coming h w deeds → Ticked doc k (identity p i) h told v.terms v.store → Running doc k before arriving coming (own_ticks doc k p h) v (deeds ++ told)
@@ -176,6 +177,7 @@ running-ticked doc k p i before deeds told arriving coming h w v awake within up
             epoch = same.epoch ∙ d.epoch;
             micros = same.micros ∙ d.micros;
             events = same.events ∙ d.events;
+            controllers = same.controllers ∙ d.controllers;
           };
           plain = b.plain;
           store = t.store;

@@ -23,7 +23,7 @@ use Rattle.world_core.proofs.Running.{Moved, within-moved}
 pub same-twice : (x y z : Process) → SameProcess x y → SameProcess y z → SameProcess x z
 same-twice x y z a b = record { me = b.me ∙ a.me; clock = b.clock ∙ a.clock }
 
-asks-kept : (k step : ℕ) (q : Identity) (h next : List Entry) (S T : List Entry → Type 0) → ((g : List Entry) → S g → T g) → (ask : Option Ask) → moves.AsksOn k step q h next S ask → moves.AsksOn k step q h next T ask
+pub asks-kept : (k step : ℕ) (q : Identity) (h next : List Entry) (S T : List Entry → Type 0) → ((g : List Entry) → S g → T g) → (ask : Option Ask) → moves.AsksOn k step q h next S ask → moves.AsksOn k step q h next T ask
 asks-kept k step q h next S T keeps None s = (s.0, keeps h s.1)
 asks-kept k step q h next S T keeps (Some ask) s = record { kind = s.kind; sent = s.sent; number = s.number; stands = λ arrives. keeps _ (s.stands arrives) }
 
@@ -62,7 +62,7 @@ awake-is doc k p h awake = ap (λ b. turn_if doc k p (not b) h) awake
 paused-is : (doc : Doc) (k p : ℕ) (h : List Entry) → is_paused doc p k ≡ true → awake_turn doc k p h ≡ h
 paused-is doc k p h paused = ap (λ b. turn_if doc k p (not b) h) paused
 
-awake-still : (doc : Doc) (k p : ℕ) (h : List Entry) → own_turn doc k p h ≡ h → awake_turn doc k p h ≡ h
+pub awake-still : (doc : Doc) (k p : ℕ) (h : List Entry) → own_turn doc k p h ≡ h → awake_turn doc k p h ≡ h
 awake-still doc k p h still = by_pause (not (is_paused doc p k))
   where
     by_pause : (b : Bool) → turn_if doc k p b h ≡ h

@@ -19,6 +19,8 @@ use Rattle.history.specs.Due.{answer_all, deliver_all}
 use Rattle.history.specs.History.{beat}
 use Rattle.history.specs.Printed.{printed}
 use Rattle.history.specs.Steps.{happens, happen_all}
+use Rattle.beat_tree.specs.declared.tree.BeatTree.{BeatTree}
+use Rattle.beat_tree.specs.Leaves.{leaf, room}
 use Rattle.beat_laws.specs.Unticked.{IsUnticked}
 use Rattle.object_store.specs.Stands.{StoreStands}
 use Rattle.script_reader.specs.Lawful.{IsLawfulWhat, AreLawfulFrom}
@@ -28,7 +30,7 @@ use Rattle.world_process.specs.declared.process.Process.{Process}
 use Rattle.world_core.specs.declared.state.State.{State}
 use Rattle.world_process.specs.InForce.{InForceStands}
 use Rattle.world_process.specs.Plain.{IsFew, IsPlain, SentByKnown, BackToKnown}
-use Rattle.world_process.specs.Processes.{ProcessStands, clock_of}
+use Rattle.world_process.specs.Processes.{IsKept, ProcessStands, clock_of, waking_of}
 use Rattle.world_terms.specs.TermsStand.{TermsStand}
 
 -- ---- plain facts, that callers see
@@ -56,7 +58,17 @@ IsFit _ = Unit {0}
 abbrev pub GoOnTo : ℕ → List Process → Type 0
 GoOnTo end xs = (i : ℕ) (x : Process) → slice_get xs i ≡ Some x → (clock_of x).end ≡ end
 
--- the ranges of a world that was made of a document
+-- each process keeps the beat of its next turn
+abbrev pub AreKept : List Process → Type 0
+AreKept xs = (i : ℕ) (x : Process) → slice_get xs i ≡ Some x → IsKept x
+
+-- each leaf is the beat that its process keeps; the leaves after the last one's have none
+pub record AreNoted (xs : List Process) (turn_beats : BeatTree) : Type 0 where
+  pub room : length xs ≤ room turn_beats
+  pub leaves : (i : ℕ) (x : Process) → slice_get xs i ≡ Some x → leaf turn_beats i ≡ (waking_of x).until
+  pub beyond : (i : ℕ) → length xs ≤ i → leaf turn_beats i ≡ None
+
+-- the ranges of a world that was made of a document, and what its processes keep
 pub record IsReady (w : State) : Type 0 where
   pub end : w.end.0 ≤ 604800000
   pub restart : w.restart ≤ 86400000000000000
@@ -65,6 +77,9 @@ pub record IsReady (w : State) : Type 0 where
   pub events : All (λ e. IsFit e.what) w.events
   pub few : vec_len w.processes ≤ 1016
   pub clocks : GoOnTo w.end.0 w.processes.items
+  pub controllers : w.controllers ≤ vec_len w.processes
+  pub kept : AreKept w.processes.items
+  pub noted : AreNoted w.processes.items w.turn_beats
 
 -- the beat and what was read of the document, but for the place among the events
 pub record SameDocument (old new : State) : Type 0 where
@@ -75,6 +90,7 @@ pub record SameDocument (old new : State) : Type 0 where
   pub micros : new.micros ≡ old.micros
   pub events : new.events ≡ old.events
   pub names : new.names ≡ old.names
+  pub controllers : new.controllers ≡ old.controllers
 
 -- what a step of a beat keeps
 pub record Keeps (old new : State) : Type 0 where
@@ -93,6 +109,7 @@ pub record DocStands (doc : Doc) (k : ℕ) (w : State) : Type 0 where
   pub epoch : w.epoch ≡ doc.settings.epoch
   pub micros : w.micros ≡ beat_micros doc
   pub events : w.events ≡ doc.events
+  pub controllers : w.controllers ≡ length doc.controllers
 
 -- the events before a place were of earlier beats, and those from it on are of this beat or later
 pub record IsPlaced (doc : Doc) (k place : ℕ) : Type 0 where

@@ -1,6 +1,7 @@
 // What a world keeps, and how it does one beat.
-ghost use Rattle.std.specs.Prelude.{◌≡◌, ◌∷◌, ◌||◌, ◌+◌, ◌*◌, ◌<◌, ◌≤◌, ◌++◌, ◌↔◌, ℕ, List, [], length, min, All, true, false, Option, Some};
-ghost use Rattle.std.specs.Prelude.{IfOk, OnOk, IsTrue, vec_len};
+ghost use Rattle.std.specs.Prelude.{◌≡◌, ◌==◌, ◌∷◌, ◌||◌, ◌+◌, ◌*◌, ◌<◌, ◌≤◌, ◌++◌, ◌↔◌, ℕ, List, [], length, min, All, true, false, Option, Some};
+ghost use Rattle.std.specs.Prelude.{IfOk, OnOk, IsTrue, vec_len, if◌then◌else◌};
+ghost use Rattle.beat_tree.specs.Leaves.{leaf, room};
 ghost use Rattle.std.specs.List.Sorted.{IsStrictlySortedBy};
 ghost use Rattle.std.specs.Map.{keys_of, lookup};
 ghost use Rattle.kube_objects.specs.declared.deed.Deed.{Deed};
@@ -32,10 +33,11 @@ ghost use Rattle.beat_laws.specs.Unticked.{IsUnticked, IsUntickedFrom};
 ghost use Rattle.kube_base.specs.Steps.{counted};
 ghost use Rattle.world_process.specs.Clocked.{ClockStands};
 ghost use Rattle.world_terms.specs.TermsStand.{IsFresh, IsUpAs, TermsStand, TermsStandBut};
+ghost use Rattle.world_process.specs.Processes.{IsKept, IsTimed, ProcessStands, SameProcess, incarnation_of, waking_of};
 ghost use Rattle.world_core.specs.Waits.{IsTermReading, IsTurnBeat, WakesStand, awake_turn, beat_of, local_of, own_ticks};
 ghost use Rattle.world_process.specs.Plain.{IsFew, IsKnown};
 ghost use Rattle.world_core.specs.States.{at_of, count_of, end_of, names_of, GoOnTo, IsFit, IsReady, IsPlaced, SameDocument, Keeps};
-ghost use Rattle.world_core.specs.States.{AreMadeOf, AreQuiet, EachStands, SendsAsked, StateStands, Running};
+ghost use Rattle.world_core.specs.States.{AreKept, AreMadeOf, AreNoted, AreQuiet, EachStands, SendsAsked, StateStands, Running};
 ghost use Rattle.world_core.specs.States.{Adds, AnswersArrivals, DeliversReplies, Happens, Scripted, with_answer};
 
 use crate::printing::{
@@ -43,6 +45,7 @@ use crate::printing::{
 };
 use crate::replies::send_back;
 use crate::wakes::{Wakes, sooner_beat};
+use beat_tree::BeatTree;
 use kube_base::{Beat, Local, Names, NoMemory, ProcId, Steps, Wall};
 use kube_objects::{
     Act, Actor, Ask, Deeds, Event, Events, Items, Key, Object, Procs, Reply, Request, Settings,
@@ -71,6 +74,8 @@ pub struct State {
     store: Store,
     wire: Wire,
     processes: Vec<Process>,
+    controllers: usize,
+    turn_beats: BeatTree,
     in_force: InForce,
     terms: Terms,
     place: usize,
@@ -94,8 +99,10 @@ impl State {
             &document.kubelets,
             document.events.as_slice(),
         )?;
+        let controllers = document.controllers.as_slice().len();
+        let turn_beats = turn_beats_of(alloc, processes.as_slice())?;
         let in_force = InForce::new(alloc, &document.controllers, &document.kubelets)?;
-        let terms = Terms::new(alloc, &settings, document.controllers.as_slice().len())?;
+        let terms = Terms::new(alloc, &settings, controllers)?;
         let wire = Wire::new(alloc, processes.len() as u32)?;
         let store = store_of(alloc, &document.objects.items, settings.epoch)?;
         Ok(State {
@@ -108,6 +115,8 @@ impl State {
             store,
             wire,
             processes,
+            controllers,
+            turn_beats,
             in_force,
             terms,
             place: 0,
@@ -313,6 +322,7 @@ impl State {
             return Ok(());
         }
         process.start(self.beat);
+        note(process, i, &mut self.turn_beats);
         let actor = process.actor();
         let who = process.me();
         self.terms.renew(who);
@@ -390,6 +400,7 @@ impl State {
         }
         let process = &mut self.processes[i];
         let crashed = process.crash();
+        note(process, i, &mut self.turn_beats);
         let actor = process.actor();
         self.terms.renew(who);
         tell(deeds, self.beat, actor, crash_act(crashed))
@@ -407,6 +418,7 @@ impl State {
         }
         let process = &mut self.processes[i];
         let started = process.start_if_down(self.beat);
+        note(process, i, &mut self.turn_beats);
         let actor = process.actor();
         if started {
             self.terms.renew(who);
@@ -431,6 +443,7 @@ impl State {
         }
         let process = &mut self.processes[i];
         let stopped = process.stop(self.beat);
+        note(process, i, &mut self.turn_beats);
         let actor = process.actor();
         let who = process.me();
         let incarnation = process.incarnation();
@@ -564,6 +577,7 @@ impl State {
         }
         let process = &mut self.processes[i];
         let received = process.receive(back.incarnation, back.number, &back.reply, self.beat);
+        note(process, i, &mut self.turn_beats);
         let actor = process.actor();
         let who = process.me();
         let incarnation = process.incarnation();
@@ -581,9 +595,28 @@ impl State {
             → Running doc k before arriving coming h self.old deeds.old → IsUnticked k h → IsFew (turns doc k (processes doc) h)
             → OnOk result (Running doc k before arriving coming (turns doc k (processes doc) h) self.new deeds.new) }
     {
-        for i in 0..self.processes.len() {
+        for i in 0..self.controllers {
             self.turn(i, deeds)?;
             self.tick(i, policies, deeds)?;
+        }
+        self.kubelet_turns(deeds)
+    }
+
+    // The kubelets whose beat has come have their turns, in order; the others' turns would add nothing.
+    fn kubelet_turns(&mut self, deeds: &mut Deeds) -> Result<(), NoMemory>
+        requires ready { IsReady self.old }
+        requires within { at_of self.old ≤ end_of self.old }
+        ensures kept { OnOk result (Keeps self.old self.new) }
+        ensures stands { (doc : Doc) (k : ℕ) (before : List Deed) (arriving : List Sent) (coming : List Back) (h : List Entry)
+            → Running doc k before arriving coming (turns doc k (length doc.controllers) h) self.old deeds.old
+            → IsFew (turns doc k (processes doc) h)
+            → OnOk result (Running doc k before arriving coming (turns doc k (processes doc) h) self.new deeds.new) }
+    {
+        let after = Some(Beat(self.beat.0 + 1));
+        let mut next = self.controllers;
+        'kubelets: while let Some(i) = self.turn_beats.first_before(next, after) {
+            self.take_turn(i, deeds)?;
+            next = i + 1;
         }
         Ok(())
     }
@@ -596,9 +629,7 @@ impl State {
         ensures kept { OnOk result (Keeps self.old self.new) }
         ensures stands { Adds self.old deeds.old result self.new deeds.new (λ doc k h. awake_turn doc k i h) }
     {
-        let process = &mut self.processes[i];
-        process.keep_turn_beat();
-        match process.turn_beat() {
+        match self.processes[i].kept_beat() {
             Some(wakes) if wakes.0 <= self.beat.0 => self.take_turn(i, deeds),
             _ => Ok(()),
         }
@@ -619,7 +650,7 @@ impl State {
         let process = &mut self.processes[i];
         let status = self.in_force.status(process.me());
         let turn = process.turn(self.beat, self.restart, status);
-        process.keep_turn_beat();
+        note(process, i, &mut self.turn_beats);
         let actor = process.actor();
         let who = process.me();
         let incarnation = process.incarnation();
@@ -667,6 +698,20 @@ impl State {
         )?;
         deeds.append(&printed)
     }
+}
+
+// A process that has changed keeps the beat of its next turn, and its leaf has it.
+fn note(process: &mut Process, i: usize, turn_beats: &mut BeatTree)
+    requires { i < room turn_beats.old }
+    ensures same { SameProcess process.old process.new }
+    ensures incarnation { incarnation_of process.new ≡ incarnation_of process.old }
+    ensures stands { (doc : Doc) (p : ℕ) (h : List Entry) → ProcessStands doc p h process.old → ProcessStands doc p h process.new }
+    ensures kept { IsTimed process.old → IsKept process.new }
+    ensures room { room turn_beats.new ≡ room turn_beats.old }
+    ensures leaves { (j : ℕ) → leaf turn_beats.new j ≡ (if i == j then (waking_of process.new).until else leaf turn_beats.old j) }
+{
+    process.keep_turn_beat();
+    turn_beats.set(i, process.kept_beat());
 }
 
 // The store's answer. It stays out of line, so that a beat at which nothing arrives costs no more than to see that.
@@ -751,6 +796,18 @@ fn store_of(alloc: Global, items: &Items, epoch: Wall) -> Result<Store, NoMemory
     Ok(store)
 }
 
+// A leaf a process, with the beat of its next turn.
+fn turn_beats_of(alloc: Global, processes: &[Process]) -> Result<BeatTree, NoMemory>
+    requires { length processes.now ≤ 1016 }
+    ensures { IfOk result (AreNoted processes.now) }
+{
+    let mut turn_beats = BeatTree::new(alloc, processes.len())?;
+    for i in 0..processes.len() {
+        turn_beats.set(i, processes[i].kept_beat());
+    }
+    Ok(turn_beats)
+}
+
 // The processes of a document, in order.
 fn processes_of(
     alloc: Global,
@@ -767,6 +824,7 @@ fn processes_of(
     requires few { (length controllers.now ≤ 16) × (length kubelets.now ≤ 1000) }
     ensures count { IfOk result (λ xs. length xs.items ≡ length controllers.now + length kubelets.now) }
     ensures clocks { IfOk result (λ xs. GoOnTo settings.now.end_beat.0 xs.items) }
+    ensures kept { IfOk result (λ xs. AreKept xs.items) }
     ensures stands { (doc : Doc) → AreMadeOf doc settings.now controllers.now kubelets.now events.now
         → IfOk result (λ xs. EachStands doc [] xs.items) }
 {
@@ -774,12 +832,16 @@ fn processes_of(
     for process in controllers.as_slice() {
         let me = ProcId(processes.len() as u32);
         let controller = Controller::new(alloc, me, settings, process, events)?;
-        processes.push(Process::Controller(controller))?;
+        let mut made = Process::Controller(controller);
+        made.keep_turn_beat();
+        processes.push(made)?;
     }
     for process in kubelets.as_slice() {
         let me = ProcId(processes.len() as u32);
         let kubelet = Kubelet::new(alloc, me, settings, process, events)?;
-        processes.push(Process::Kubelet(kubelet))?;
+        let mut made = Process::Kubelet(kubelet);
+        made.keep_turn_beat();
+        processes.push(made)?;
     }
     Ok(processes)
 }

@@ -34,7 +34,7 @@ use Rattle.world_process.specs.Moves.{own_turn, own_turn_as}
 use Rattle.world_process.specs.declared.process.Process.{Process}
 use Rattle.world_process.specs.declared.process.Process.TheVariants as process
 use Rattle.world_process.specs.declared.waking.Waking.{Waking}
-use Rattle.world_process.specs.Processes.{ProcessStands, clock_of, waking_of}
+use Rattle.world_process.specs.Processes.{IsKept, IsTimed, ProcessStands, clock_of, waking_of}
 use Rattle.world_process.proofs.Names.{lt-from, le-from}
 use Rattle.world_process.proofs.Readings.{reading-local}
 use Rattle.world_process.proofs.Restarts.{lt-true}
@@ -219,3 +219,11 @@ beat-found doc p h x l w o a b clock waking same found s =
     let kept : IsBeatOf l w.until w.below =
     subst (λ c. IsBeatOf c w.until w.below) (sym clock) (subst (λ v. IsBeatOf (clock_of x) v.until v.below) (sym waking) (waking-stands doc p h x s)) in
     beat-same (clock_of x) o a b same (subst (λ c. IsBeatOf c o a) clock (found kept))
+
+-- what it keeps tells when its turn adds something
+pub kept-still : (doc : Doc) (k p : ℕ) (h : List Entry) (x : Process) → IsKept x → ProcessStands doc p h x → k ≤ (clock_of x).end → own_turn doc k p h ≡ h ↔ is_early k (beat_in (waking_of x).until) ≡ true
+kept-still doc k p h x kept s within = first-woken x (waking_of x).until kept.first doc k p h s within
+
+-- its clock and what it keeps are as before
+pub timed-same : (x y : Process) → clock_of y ≡ clock_of x → waking_of y ≡ waking_of x → IsTimed x → IsTimed y
+timed-same x y clock waking s = subst (λ c. IsBeatOf c (waking_of y).until (waking_of y).below) (sym clock) (subst (λ w. IsBeatOf (clock_of x) w.until w.below) (sym waking) s)

@@ -63,6 +63,7 @@ pub record SameController (old new : Controller) : Type 0 where
   pub timing : new.timing ≡ old.timing
   pub clock : new.clock ≡ old.clock
   pub up_first : new.up_first ≡ old.up_first
+  pub waking : new.waking ≡ old.waking
 
 -- ---- what it did, in the words of every process
 

@@ -40,6 +40,7 @@ pub record SameKubelet (old new : Kubelet) : Type 0 where
   pub me : new.me ≡ old.me
   pub clock : new.clock ≡ old.clock
   pub up_first : new.up_first ≡ old.up_first
+  pub waking : new.waking ≡ old.waking
 
 -- ---- what it did, in the words of every process
 

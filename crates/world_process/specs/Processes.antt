@@ -1,5 +1,6 @@
 -- A process of the world stands for one of the document in a history.
 use Rattle.std.specs.Prelude.{◌≡◌, ℕ, Bool, true, false, List, Option, Some, None}
+use Rattle.kube_base.specs.declared.numbers.Local.{Local}
 use Rattle.kube_base.specs.declared.numbers.ProcId.{ProcId}
 use Rattle.kube_objects.specs.declared.call.Ask.{Ask}
 use Rattle.kube_objects.specs.Document.{Doc, is_controller}
@@ -15,6 +16,7 @@ use Rattle.world_process.specs.declared.moves.Turn.{Turn}
 use Rattle.world_process.specs.declared.process.Process.{Process}
 use Rattle.world_process.specs.declared.process.Process.TheVariants.{Controller, Kubelet}
 use Rattle.world_process.specs.declared.waking.Waking.{Waking}
+use Rattle.world_process.specs.Beats.{IsBeatOf, own_reading, reading_of}
 use Rattle.world_process.specs.Controllers.{ControllerStands}
 use Rattle.world_process.specs.Kubelets.{KubeletStands}
 use Rattle.world_process.specs.Moves as moves
@@ -49,6 +51,18 @@ is_up_first_as (Kubelet b) = b.up_first
 pub record SameProcess (old new : Process) : Type 0 where
   pub me : me_of new ≡ me_of old
   pub clock : clock_of new ≡ clock_of old
+
+-- ---- the beat that it keeps
+
+-- it was found for the reading that is kept beside it
+abbrev pub IsTimed : Process → Type 0
+IsTimed x = IsBeatOf (clock_of x) (waking_of x).until (waking_of x).below
+
+-- it is the one of the process's next turn, whichever history the process stands for
+pub record IsKept (x : Process) : Type 0 where
+  pub timed : IsTimed x
+  pub first : (doc : Doc) (p : ℕ) (h : List Entry) (at : Option Local) → ProcessStands doc p h x → reading_of at ≡ own_reading doc p h
+      → IsBeatOf (clock_of x) (waking_of x).until at
 
 -- ---- whether it is in its term
 

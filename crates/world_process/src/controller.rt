@@ -17,7 +17,7 @@ ghost use Rattle.leader_elector.specs.declared.leading.Leading.{Leading};
 ghost use Rattle.leader_elector.specs.Stands.{acting_identity};
 ghost use Rattle.script_reader.specs.Lawful.{AreLawful, IsLawful};
 ghost use Rattle.world_process.specs.declared.controller.Role.TheVariants as role;
-ghost use Rattle.world_process.specs.Beats.{reading_of};
+ghost use Rattle.world_process.specs.Beats.{IsBeatOf, reading_of};
 ghost use Rattle.world_process.specs.Clocked.{AreEventsFrom, IsMadeOf};
 ghost use Rattle.world_process.specs.Controllers.{ControllerStands, SameController, is_up_as, waiting_of};
 ghost use Rattle.world_process.specs.Controllers.{Crashed, Begun, StoppedAs, Restarted, Timed, Turned, Replied};
@@ -70,6 +70,7 @@ impl Controller {
         requires events { AreEventsFrom settings.now.end_beat.0 0 events.now }
         requires apart { AreApart events.now }
         ensures end { IfOk result (λ c. c.clock.end ≡ settings.now.end_beat.0) }
+        ensures timed { IfOk result (λ c. IsBeatOf c.clock c.waking.until c.waking.below) }
         ensures stands { (doc : Doc) (p : ℕ) → IsMadeOf doc p me.0 settings.now process.now events.now → is_controller doc p ≡ true
             → IfOk result (ControllerStands doc p []) }
     {

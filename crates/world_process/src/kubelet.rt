@@ -13,7 +13,7 @@ ghost use Rattle.history.specs.Sound.{AreApart};
 ghost use Rattle.history.specs.Steps.{happens, start, kubelet_turn};
 ghost use Rattle.agenda_laws.specs.Times.{kubelet_reading};
 ghost use Rattle.script_reader.specs.Lawful.{AreLawful, IsLawful};
-ghost use Rattle.world_process.specs.Beats.{reading_of};
+ghost use Rattle.world_process.specs.Beats.{IsBeatOf, reading_of};
 ghost use Rattle.world_process.specs.Clocked.{AreEventsFrom, IsMadeOf};
 ghost use Rattle.world_process.specs.Kubelets.{KubeletStands, SameKubelet, Crashed, Begun, Turned, Replied};
 ghost use Rattle.world_process.specs.Plain.{IsPlain, IsFew};
@@ -57,6 +57,7 @@ impl Kubelet {
         requires events { AreEventsFrom settings.now.end_beat.0 0 events.now }
         requires apart { AreApart events.now }
         ensures end { IfOk result (λ b. b.clock.end ≡ settings.now.end_beat.0) }
+        ensures timed { IfOk result (λ b. IsBeatOf b.clock b.waking.until b.waking.below) }
         ensures stands { (doc : Doc) (p : ℕ) → IsMadeOf doc p me.0 settings.now process.now events.now → is_controller doc p ≡ false
             → IfOk result (KubeletStands doc p []) }
     {

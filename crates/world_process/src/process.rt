@@ -19,7 +19,7 @@ ghost use Rattle.pause_times.specs.Owned.{PausesStand};
 ghost use Rattle.world_process.specs.Beats.{IsBeatOf, beat_in, own_reading, reading_of};
 ghost use Rattle.world_process.specs.Moves.{own_turn};
 ghost use Rattle.world_process.specs.Plain.{IsPlain, IsFew};
-ghost use Rattle.world_process.specs.Processes.{ProcessStands, SameProcess, Crashed, Begun, StoppedAs, Turned, Replied};
+ghost use Rattle.world_process.specs.Processes.{IsKept, IsTimed, ProcessStands, SameProcess, Crashed, Begun, StoppedAs, Turned, Replied};
 ghost use Rattle.world_process.specs.Processes.{in_term_now, me_of, incarnation_of, clock_of, waking_of, is_up_first_as};
 
 use crate::controller::Controller;
@@ -115,6 +115,7 @@ impl Process {
     pub fn start(&mut self, beat: Beat)
         requires { beat.0 ≤ (clock_of self.old).end }
         ensures same { SameProcess self.old self.new }
+        ensures waking { waking_of self.new ≡ waking_of self.old }
         ensures stands { (doc : Doc) (n k step p : ℕ) (h : List Entry) → ProcessStands doc p h self.old → beat.0 ≡ k → IsPlain n h
             → starts p h + 1 < 2 ^ 32
             → ProcessStands doc p (start k step p h) self.new }
@@ -128,6 +129,7 @@ impl Process {
     /// Goes down where it is up. Tells whether it was up.
     pub fn crash(&mut self) -> bool
         ensures same { SameProcess self.old self.new }
+        ensures waking { waking_of self.new ≡ waking_of self.old }
         ensures stands { (doc : Doc) (k : ℕ) (id : ProcId) (h : List Entry) → ProcessStands doc id.0 h self.old
             → Crashed doc k id h self.new result }
     {
@@ -141,6 +143,7 @@ impl Process {
     pub fn start_if_down(&mut self, beat: Beat) -> bool
         requires { beat.0 ≤ (clock_of self.old).end }
         ensures same { SameProcess self.old self.new }
+        ensures waking { waking_of self.new ≡ waking_of self.old }
         ensures stands { (doc : Doc) (n k : ℕ) (id : ProcId) (h : List Entry) → ProcessStands doc id.0 h self.old → beat.0 ≡ k
             → IsPlain n h
             → IsFew (happens doc k (what.Start id) h) → Begun doc k id h self.new result }
@@ -155,6 +158,7 @@ impl Process {
     pub fn stop(&mut self, beat: Beat) -> Stopped
         requires { beat.0 ≤ (clock_of self.old).end }
         ensures same { SameProcess self.old self.new }
+        ensures waking { waking_of self.new ≡ waking_of self.old }
         ensures stands { (doc : Doc) (k : ℕ) (id : ProcId) (h : List Entry) → ProcessStands doc id.0 h self.old
             → is_controller doc id.0 ≡ true
             → beat.0 ≡ k → IsFew h → StoppedAs doc k id h self.new result }
@@ -171,6 +175,7 @@ impl Process {
         requires within { beat.0 ≤ (clock_of self.old).end }
         requires delay { delay ≤ 86400000000000000 }
         ensures same { SameProcess self.old self.new }
+        ensures waking { waking_of self.new ≡ waking_of self.old }
         ensures stands { (doc : Doc) (n k p : ℕ) (h : List Entry) → ProcessStands doc p h self.old → beat.0 ≡ k
             → delay ≡ restart_delay doc → status ≡ posted_status doc p h → IsPlain n h → IsFew (own_turn doc k p h)
             → Turned doc k p h self.new result }
@@ -214,18 +219,25 @@ impl Process {
         self.waking().beat_of(self.clock(), self.wake())
     }
 
-    /// Finds `turn_beat` and keeps it, so that its next turns needn't read the clock.
+    /// Finds `turn_beat` and keeps it, so that nobody need read the clock until the process has changed.
     pub fn keep_turn_beat(&mut self)
         ensures same { SameProcess self.old self.new }
         ensures stands { (doc : Doc) (p : ℕ) (h : List Entry) → ProcessStands doc p h self.old → ProcessStands doc p h self.new }
-        ensures kept { (doc : Doc) (p : ℕ) (h : List Entry) (at : Option Local) → ProcessStands doc p h self.old
-            → reading_of at ≡ own_reading doc p h → IsBeatOf (clock_of self.new) (waking_of self.new).until at }
+        ensures incarnation { incarnation_of self.new ≡ incarnation_of self.old }
+        ensures kept { IsTimed self.old → IsKept self.new }
     {
         let wake = self.wake();
         match self {
             Process::Controller(controller) => controller.waking.keep(&controller.clock, wake),
             Process::Kubelet(kubelet) => kubelet.waking.keep(&kubelet.clock, wake),
         }
+    }
+
+    /// The beat that `keep_turn_beat` found last.
+    pub fn kept_beat(&self) -> Option<Beat>
+        ensures { result ≡ (waking_of self.now).until }
+    {
+        self.waking().until
     }
 
     // The beat that it keeps.
@@ -258,6 +270,7 @@ impl Process {
     pub fn receive(&mut self, incarnation: u32, number: u64, reply: &Reply, beat: Beat) -> Received
         requires { beat.0 ≤ (clock_of self.old).end }
         ensures same { SameProcess self.old self.new }
+        ensures waking { waking_of self.new ≡ waking_of self.old }
         ensures stands { (doc : Doc) (k p : ℕ) (b : Back) (h : List Entry) → ProcessStands doc p h self.old
             → beat.0 ≡ k → b.who ≡ identity p incarnation → b.call.number ≡ number → b.reply ≡ reply.now → IsFew h
             → Replied doc k p b h self.new result }

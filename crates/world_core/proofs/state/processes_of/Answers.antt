@@ -2,9 +2,8 @@ use Rattle.std.proofs.Common.{◌≡◌, ◌+◌, ◌<◌, ◌++◌, true, false
 use Rattle.std.proofs.lemmas.Bool.{le-leb}
 use Rattle.std.proofs.lemmas.Option.{slice_get-get_or}
 use Rattle.kube_objects.specs.Document.{is_controller}
-use Rattle.world_process.specs.declared.process.Process.TheVariants as variant
-use Rattle.world_process.specs.Processes.{ProcessStands, clock_of}
-use Rattle.world_core.specs.States.{EachStands, GoOnTo}
+use Rattle.world_process.specs.Processes.{IsKept, ProcessStands, clock_of}
+use Rattle.world_core.specs.States.{AreKept, EachStands, GoOnTo}
 use Rattle.world_core.proofs.Lists.{every-end, length-end, slice_get-back, slice_get-front}
 use Rattle.world_core.proofs.Ranges.{not-below}
 use Rattle.world_core.proofs.state.processes_of.Goals as goal
@@ -15,10 +14,11 @@ loop-process-preserved c =
     let xs = c.loop-process.processes.items in
     let ps = c.as_slice-process-items.result.now in
     let n = length xs in
-    let new = variant.Controller c.in_ok-controller.controller in
+    let new = c.keep_turn_beat.new.self in
     record {
       count = ap (λ ys. length ys) c.in_ok-push.ensures.items ∙ length-end xs new ∙ ap (λ i. i + 1) inv.count;
-      clocks = subst (GoOnTo c.args.settings.now.end_beat.0) (sym c.in_ok-push.ensures.items) (every-end (λ i x. (clock_of x).end ≡ c.args.settings.now.end_beat.0) xs new inv.clocks c.in_ok-controller.ensures.end);
+      clocks = subst (GoOnTo c.args.settings.now.end_beat.0) (sym c.in_ok-push.ensures.items) (every-end (λ i x. (clock_of x).end ≡ c.args.settings.now.end_beat.0) xs new inv.clocks (ap (λ l. l.end) c.keep_turn_beat.ensures.same.clock ∙ c.in_ok-controller.ensures.end));
+      kept = subst AreKept (sym c.in_ok-push.ensures.items) (every-end (λ i x. IsKept x) xs new inv.kept (c.keep_turn_beat.ensures.kept c.in_ok-controller.ensures.timed));
       stands = λ doc made.
           let within = c.loop-process-test.true in
           let count = inv.count in
@@ -29,7 +29,7 @@ loop-process-preserved c =
           let here = ap (λ ys. slice_get ys n) given ∙ ap (λ i. slice_get ps i) count ∙ slice_get-get_or ps c.loop-process.process-index _ within in
           subst (EachStands doc []) (sym c.in_ok-push.ensures.items)
           (every-end (λ i x. ProcessStands doc i [] x) xs new (inv.stands doc made)
-          (c.in_ok-controller.ensures.stands doc n (record { me = c.len.ensures ∙ c.loop-process.processes.ok.0; settings = made.settings; process = slice_get-front doc.controllers doc.kubelets n _ here; events = made.events }) controls));
+          (c.keep_turn_beat.ensures.stands doc n [] (c.in_ok-controller.ensures.stands doc n (record { me = c.len.ensures ∙ c.loop-process.processes.ok.0; settings = made.settings; process = slice_get-front doc.controllers doc.kubelets n _ here; events = made.events }) controls)));
     }
 
 pub loop-process-2-preserved : goal.loop-process-2-preserved
@@ -38,10 +38,11 @@ loop-process-2-preserved c =
     let xs = c.loop-process-2.processes.items in
     let ps = c.as_slice-process-items-2.result.now in
     let n = length xs in
-    let new = variant.Kubelet c.in_ok-kubelet.kubelet in
+    let new = c.keep_turn_beat-in-loop-process-2.new.self in
     record {
       count = (let grown = ap (λ ys. length ys) c.in_ok-push-2.ensures.items ∙ length-end xs new in let count = inv.count in omega (arith, grown, count));
-      clocks = subst (GoOnTo c.args.settings.now.end_beat.0) (sym c.in_ok-push-2.ensures.items) (every-end (λ i x. (clock_of x).end ≡ c.args.settings.now.end_beat.0) xs new inv.clocks c.in_ok-kubelet.ensures.end);
+      clocks = subst (GoOnTo c.args.settings.now.end_beat.0) (sym c.in_ok-push-2.ensures.items) (every-end (λ i x. (clock_of x).end ≡ c.args.settings.now.end_beat.0) xs new inv.clocks (ap (λ l. l.end) c.keep_turn_beat-in-loop-process-2.ensures.same.clock ∙ c.in_ok-kubelet.ensures.end));
+      kept = subst AreKept (sym c.in_ok-push-2.ensures.items) (every-end (λ i x. IsKept x) xs new inv.kept (c.keep_turn_beat-in-loop-process-2.ensures.kept c.in_ok-kubelet.ensures.timed));
       stands = λ doc made.
           let within = c.loop-process-2-test.true in
           let count = inv.count in
@@ -52,5 +53,5 @@ loop-process-2-preserved c =
           ∙ slice_get-get_or ps c.loop-process-2.process-index _ within in
           subst (EachStands doc []) (sym c.in_ok-push-2.ensures.items)
           (every-end (λ i x. ProcessStands doc i [] x) xs new (inv.stands doc made)
-          (c.in_ok-kubelet.ensures.stands doc n (record { me = c.len-in-loop-process-2.ensures ∙ c.loop-process-2.processes.ok.0; settings = made.settings; process = process; events = made.events }) other));
+          (c.keep_turn_beat-in-loop-process-2.ensures.stands doc n [] (c.in_ok-kubelet.ensures.stands doc n (record { me = c.len-in-loop-process-2.ensures ∙ c.loop-process-2.processes.ok.0; settings = made.settings; process = process; events = made.events }) other)));
     }

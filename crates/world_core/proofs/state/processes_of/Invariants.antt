@@ -1,6 +1,6 @@
 use Rattle.std.proofs.Common.{◌≡◌, ◌+◌, [], length}
 use Rattle.kube_objects.specs.Document.{Doc}
-use Rattle.world_core.specs.States.{AreMadeOf, EachStands, GoOnTo}
+use Rattle.world_core.specs.States.{AreKept, AreMadeOf, EachStands, GoOnTo}
 use Rattle.world_core.proofs.state.processes_of.Given as goal
 
 abbrev pub invariant-loop-process : goal.invariant-loop-process
@@ -8,6 +8,7 @@ invariant-loop-process l =
     record {
       count : length l.processes.items ≡ l.process-index;
       clocks : GoOnTo l.settings.end_beat.0 l.processes.items;
+      kept : AreKept l.processes.items;
       stands : (doc : Doc) → AreMadeOf doc l.settings l.controllers l.kubelets l.events → EachStands doc [] l.processes.items;
     }
 
@@ -16,5 +17,6 @@ invariant-loop-process-2 l =
     record {
       count : length l.processes.items ≡ length l.controllers + l.process-index;
       clocks : GoOnTo l.settings.end_beat.0 l.processes.items;
+      kept : AreKept l.processes.items;
       stands : (doc : Doc) → AreMadeOf doc l.settings l.controllers l.kubelets l.events → EachStands doc [] l.processes.items;
     }

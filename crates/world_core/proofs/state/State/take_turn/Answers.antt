@@ -12,20 +12,24 @@ use Rattle.world_process.specs.Processes.{incarnation_of, me_of}
 use Rattle.world_process.proofs.Processes.{process-me}
 use Rattle.world_terms.specs.TermsStand.{IsFresh, TermsStandBut}
 use Rattle.world_core.proofs.Around.{around-before, around-world}
-use Rattle.world_core.proofs.Moving.{read-at, within-processes, actor-is, on-ok, sends-as}
+use Rattle.world_core.proofs.Moving.{read-at, within-processes, actor-is, on-ok, sends-as, room-for}
 use Rattle.world_core.proofs.Renewing.{terms-turned}
+use Rattle.world_core.proofs.Noting.{kept-after}
 use Rattle.world_core.proofs.Running.{keeps-moved, running-turned}
 use Rattle.world_core.proofs.Turns.{awake-is, running-awake, running-paused, same-twice, turned-kept}
 use Rattle.world_core.proofs.state.State.take_turn.Goals as goal
+
+pub note-requires : goal.note-requires
+note-requires c = room-for c.args.self.now c.args.i c.requires.ready c.requires.index
 
 pub returns-clause-kept : goal.returns-clause-kept
 returns-clause-kept c =
     let w = c.args.self.now in
     let x = c.index_mut-process.result.now in
     let y = c.turn-turn.new.self in
-    let z = c.keep_turn_beat.new.self in
+    let z = c.note.new.process in
     let was = read-at w c.args.i x c.requires.index c.index_mut-process.ensures.value in
-    on-ok c.send_asked.result _ _ (λ sent. keeps-moved c.args.i x z w _ c.requires.ready (record { was = was; now = refl; same = (record { beat = refl; end = refl; restart = refl; epoch = refl; micros = refl; events = refl; names = refl }); place = refl; store = refl; in_force = refl }) refl (same-twice x y z c.turn-turn.ensures.same c.keep_turn_beat.ensures.same)) c.send_asked.ensures.sends
+    on-ok c.send_asked.result _ _ (λ sent. keeps-moved c.args.i x z w _ c.requires.ready (record { was = was; now = refl; same = (record { beat = refl; end = refl; restart = refl; epoch = refl; micros = refl; events = refl; names = refl; controllers = refl }); place = refl; store = refl; in_force = refl }) refl (same-twice x y z c.turn-turn.ensures.same c.note.ensures.same) (kept-after x y z (c.requires.ready.kept c.args.i x was) c.turn-turn.ensures.same c.turn-turn.ensures.waking c.note.ensures.kept) (record { room = c.note.ensures.room; leaves = c.note.ensures.leaves })) c.send_asked.ensures.sends
 
 pub returns-then-is_paused-clause-stands : goal.returns-then-is_paused-clause-stands
 returns-then-is_paused-clause-stands c doc k before arriving coming h r few =
@@ -42,7 +46,7 @@ returns-clause-stands c doc k before arriving coming h r few =
     let i = c.args.i in
     let x = c.index_mut-process.result.now in
     let y = c.turn-turn.new.self in
-    let z = c.keep_turn_beat.new.self in
+    let z = c.note.new.process in
     let t = c.turn-turn.result in
     let named = c.actor-actor.result in
     let base = before_asking doc k i h in
@@ -54,9 +58,9 @@ returns-clause-stands c doc k before arriving coming h r few =
     let within = within-processes doc k w i d c.requires.index in
     let own : c.me.result.0 ≡ i = ap (λ m. m.0) c.me.ensures ∙ process-me doc i h x s in
     let status = c.status-status.ensures doc h r.world.rest.in_force (subst (λ n. n < processes doc) (sym own) within) ∙ ap (λ n. posted_status doc n h) own in
-    let turned = turned-kept doc k i h y z t (λ g stands. c.keep_turn_beat.ensures.stands doc i g stands)
+    let turned = turned-kept doc k i h y z t (λ g stands. c.note.ensures.stands doc i g stands)
     (c.turn-turn.ensures.stands doc (processes doc) k i h s at d.restart status r.world.rest.plain (subst IsFew (awake-is doc k i h awake) few)) in
-    let me : (me_of z).0 ≡ i = ap (λ m. m.0) (c.keep_turn_beat.ensures.same.me ∙ c.turn-turn.ensures.same.me) ∙ process-me doc i h x s in
+    let me : (me_of z).0 ≡ i = ap (λ m. m.0) (c.note.ensures.same.me ∙ c.turn-turn.ensures.same.me) ∙ process-me doc i h x s in
     let whose : c.me-who.result.0 ≡ i = ap (λ m. m.0) c.me-who.ensures ∙ me in
     let who = actor-is i z named c.actor-actor.ensures me in
     let around = around-before doc k i arriving coming h w within (around-world doc k i arriving coming h w r.world) in
@@ -71,4 +75,4 @@ returns-clause-stands c doc k before arriving coming h r few =
     ∙ ap (λ q. c.args.deeds.now ++ deeds_of k q (when t.started act.Start) ++ deeds_of k q (when t.ended act.End)) who in
     on-ok c.send_asked.result _ _ (λ sent.
     let sends = sends-as k w.beat.0 i c.incarnation-incarnation.result c.me-who.result z t.ask w.wire c.send_asked.new.wire at c.me-who.ensures c.incarnation-incarnation.ensures me sent in
-    running-awake doc k i before c.tell-2.new.deeds arriving coming h _ awake (running-turned doc k i before c.args.deeds.now c.tell-2.new.deeds arriving coming h x z w _ t r within (record { was = was; now = refl; same = (record { beat = refl; end = refl; restart = refl; epoch = refl; micros = refl; events = refl; names = refl }); place = refl; store = refl; in_force = refl }) sends turned terms told)) c.send_asked.ensures.sends
+    running-awake doc k i before c.tell-2.new.deeds arriving coming h _ awake (running-turned doc k i before c.args.deeds.now c.tell-2.new.deeds arriving coming h x z w _ t r within (record { was = was; now = refl; same = (record { beat = refl; end = refl; restart = refl; epoch = refl; micros = refl; events = refl; names = refl; controllers = refl }); place = refl; store = refl; in_force = refl }) sends turned terms told)) c.send_asked.ensures.sends

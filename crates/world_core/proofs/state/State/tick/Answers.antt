@@ -74,4 +74,4 @@ returns-clause-stands g c doc k before arriving coming h r unticked few =
     let ticked = c.in_ok-printed.ensures doc k q h r.world.terms r.world.rest.store view who it (unticked acts.sort q (omega arith)) few_nodes in
     on-ok c.append.result _ _ (λ told. subst (Running doc k before arriving coming (own_ticks doc k i h) _) (sym told)
     (running-ticked doc k i n before c.args.deeds.now c.in_ok-printed.printed arriving coming h w _ awake within up acts
-    (record { beat = refl; restart = refl; epoch = refl; micros = refl; events = refl; wire = refl; in_force = refl; processes = refl }) r ticked)) c.append.ensures.ok
+    (record { beat = refl; restart = refl; epoch = refl; micros = refl; events = refl; wire = refl; in_force = refl; processes = refl; controllers = refl }) r ticked)) c.append.ensures.ok

@@ -22,3 +22,6 @@ returns-clause-stands c doc p made sort =
       role = (refl, refl);
       waking = c.new.ensures c.in_ok-clock.clock;
     }
+
+pub returns-clause-timed : goal.returns-clause-timed
+returns-clause-timed c = c.new.ensures c.in_ok-clock.clock
