@@ -176,7 +176,7 @@ def try_unproved(cases):
     """The status of `rt try` on these traces and the texts wanted."""
     with tempfile.TemporaryDirectory() as folder:
         for number, (text, told) in enumerate(cases):
-            for name, what in (('', text), ('.stdout', told), ('.status', '1\n' if told.startswith('refused ') else '0\n')):
+            for name, what in (('', text), ('.stdout', told)):
                 with open(os.path.join(folder, f'case{number}{name}'), 'w', encoding='utf-8') as file:
                     file.write(what)
         ran = subprocess.run(['rt', 'try', '--cases', folder, '--', 'summary'], cwd=os.path.join(TOP, 'crates', 'kube_lens'), check=False,
