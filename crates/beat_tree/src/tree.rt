@@ -37,11 +37,7 @@ fn comes_before(one: Option<Beat>, other: Option<Beat>) -> bool
 fn earlier(one: Option<Beat>, other: Option<Beat>) -> Option<Beat>
     ensures { result ≡ earlier one other }
 {
-    if comes_before(other, one) {
-        other
-    } else {
-        one
-    }
+    if comes_before(other, one) { other } else { one }
 }
 
 // Finds the earlier beat below each slot above this one anew.

@@ -28,7 +28,7 @@ returns-in-Controller-clause-kept c timed =
       timed = c.keep.ensures.kept own;
       first = λ doc p h at s is.
           let stood : ControllerStands doc p h c.in-Controller.controller =
-              record { sort = s.sort; me = s.me; incarnation = s.incarnation; timing = s.timing; clock = s.clock; up_first = s.up_first; role = s.role; pauses = s.pauses; waking = own } in
+          record { sort = s.sort; me = s.me; incarnation = s.incarnation; timing = s.timing; clock = s.clock; up_first = s.up_first; role = s.role; pauses = s.pauses; waking = own } in
           beat-same c.in-Controller.controller.clock c.keep.new.self.until c.wake-wake.result at (c.wake-wake.ensures doc p h (subst (ProcessStands doc p h) (sym c.in-Controller.is) stood) ∙ sym is) (c.keep.ensures.found own);
     }
 
@@ -56,6 +56,6 @@ returns-in-Kubelet-clause-kept c timed =
       timed = c.keep-in-Kubelet.ensures.kept own;
       first = λ doc p h at s is.
           let stood : KubeletStands doc p h c.in-Kubelet.kubelet =
-              record { sort = s.sort; me = s.me; incarnation = s.incarnation; node = s.node; lease = s.lease; timeout = s.timeout; clock = s.clock; up_first = s.up_first; rounds = s.rounds; pauses = s.pauses; waking = own } in
+          record { sort = s.sort; me = s.me; incarnation = s.incarnation; node = s.node; lease = s.lease; timeout = s.timeout; clock = s.clock; up_first = s.up_first; rounds = s.rounds; pauses = s.pauses; waking = own } in
           beat-same c.in-Kubelet.kubelet.clock c.keep-in-Kubelet.new.self.until c.wake-wake.result at (c.wake-wake.ensures doc p h (subst (ProcessStands doc p h) (sym c.in-Kubelet.is) stood) ∙ sym is) (c.keep-in-Kubelet.ensures.found own);
     }
