@@ -169,6 +169,10 @@ def try_lens(tried, system):
     tried.same('kube_lens margin', (status, told.splitlines()[-1:]), (1, ['unsafe']))
     status, told, _ = system.run('kube_lens leaders < %sexamples/uneven-clocks/trace.txt' % DOC)
     tried.same('kube_lens leaders', (status, told.splitlines()[-1:]), (1, ['overlap line=9 from=184 who=cp-west-1_1 beside=cp-east-1_1']))
+    status, told, _ = system.run('kube_lens margin --lease 18s --renew 10s --retry 2s --timeout 5s --skew 20000ppm')
+    tried.same('kube_lens margin by flags', (status, told.splitlines()[-1:]), (0, ['safe']))
+    status, told, _ = system.run('kube_lens summary < %sexamples/uneven-clocks/trace.txt' % DOC)
+    tried.same('kube_lens summary', (status, told.split()[:2], told.splitlines()[-1].split()[:1]), (0, ['BEAT-MILLIS', 'LAST-BEAT'], ['all']))
     tried.same("a word that isn't a command of kube_lens", system.run('kube_lens leaderz')[0], 2)
     refused = '{"version":1,"settings":{"endBeat":60,"beatMillis":0},"controllers":[{"name":"cp-east-1"}]}'
     knows = system.run('kube_lens explain', refused)[0] == 1
