@@ -14,6 +14,7 @@ import argparse
 import hashlib
 import json
 import os
+import random
 import shlex
 import subprocess
 import sys
@@ -73,8 +74,23 @@ def large_document(divide):
     return document
 
 
+def kubelets(count, beat_millis, skew):
+    """An hour of kubelets. Skewed clocks go between 1 per cent slow and 1 per cent fast, and are up to 3 s off at first."""
+    def document(divide):
+        drawn = random.Random(5)
+        found = []
+        for i in range(count // divide):
+            clock = {'ratePpm': drawn.randint(990_000, 1_010_000), 'offsetMillis': drawn.randint(-3_000, 3_000)} if skew else {}
+            found.append({'node': 'node-%d' % i, **clock})
+        settings = {'beatMillis': beat_millis, 'endBeat': 3_600_000 // beat_millis // divide}
+        return {'version': 2, 'settings': settings, 'controllers': [{'name': 'cp-east-1'}], 'kubelets': found}
+    return document
+
+
 CASES = [('one-controller', 'replay', one_controller), ('skewed-clocks', 'replay', skewed_clocks),
-         ('large-document', 'check', large_document)]
+         ('large-document', 'check', large_document),
+         ('1000-kubelets-10ms', 'replay', kubelets(1_000, 10, False)), ('1000-skewed-kubelets-10ms', 'replay', kubelets(1_000, 10, True)),
+         ('1000-skewed-kubelets-1ms', 'replay', kubelets(1_000, 1, True)), ('100-skewed-kubelets-10ms', 'replay', kubelets(100, 10, True))]
 
 
 def text_of(value):
