@@ -106,8 +106,14 @@ class Reference:
     def timing(self, place, key, default):
         return self.doc['controllers'][place].get(key, self.doc['settings'].get(key, default))
 
-    def bound(self, place, pause):
-        """What the lease must be longer than, in milliseconds, with a longest pause of so many beats; 0 is none."""
+    def longest_pause(self, place):
+        """The beats of the longest pause that the document itself has for a controller; 0 is none."""
+        name = self.doc['controllers'][place]['name']
+        return max((event['beats'] for event in self.doc.get('events', []) if event['type'] == 'pause' and event['process'] == name), default=0)
+
+    def bound(self, place, more):
+        """What the lease must be longer than, in milliseconds, with one more pause of so many beats; 0 is none."""
+        pause = max(more, self.longest_pause(place))
         waits = sum(self.timing(place, key, default) for key, default in
                     (('callTimeoutMillis', 2000), ('retryPeriodMillis', 2000), ('renewDeadlineMillis', 10000)))
         stands = (pause + 1) * self.beat if pause else 0
