@@ -6,7 +6,7 @@ use Rattle.kube_objects.specs.declared.call.Request.{Request}
 use Rattle.kube_objects.specs.declared.call.Request.TheVariants.{Get, Create, Update, PostStatus}
 use Rattle.kube_objects.specs.declared.deed.Actor.{Actor}
 use Rattle.kube_objects.specs.Document.{Doc}
-use Rattle.kube_objects.specs.Elector.{Moment, Shown, Follow, Fails, Asks, moment, is_blocked, updated_at, follow_get_at, not_done, follow_write, follow_on, leads, observed_at, shown, is_valid, renewed_at, attempt_at, attempt, release_from, given_up, release}
+use Rattle.kube_objects.specs.Elector.{Moment, Shown, Follow, Fails, Asks, moment, is_blocked, updated, follow_get, not_done, follow_write, follow_on, leads, observed_at, shown, is_valid, renewed, attempt_from, attempt, release_from, given_up, release}
 use Rattle.kube_objects.specs.Entry.{Entry, Identity, Call, CallKind, Plain, Fast, Release, Fact, Sends, Delivers, Expires}
 use Rattle.kube_objects.specs.Identities.{is_by, is_own, identity_of}
 use Rattle.kube_objects.specs.Kubelet.{next_request}
@@ -74,11 +74,11 @@ refused_asks : (kind : CallKind) → AsksLease (not_done kind)
 refused_asks Fast = refl
 refused_asks kind = tt
 
-get_asks : (q : Identity) (m : Moment) (seen : ℕ) (reply : Reply) → AsksLease (follow_get_at q m seen reply)
+get_asks : (q : Identity) (m : Moment) (seen : ℕ) (reply : Reply) → AsksLease (follow_get q m seen reply)
 get_asks q m seen Absent = refl
 get_asks q m seen (Found version lease) = by_test (is_blocked q m.now seen lease)
   where
-    by_test : (b : Bool) → AsksLease (cond b Fails (Asks (Update election version (updated_at q m lease))))
+    by_test : (b : Bool) → AsksLease (cond b Fails (Asks (Update election version (updated q m lease))))
     by_test true = tt
     by_test false = refl
 get_asks q m seen reply = tt
@@ -94,22 +94,22 @@ follow_asks doc q k kind (Update key given lease) reply h = write_asks kind repl
 follow_asks doc q k kind (PostStatus name status at) reply h = tt
 
 pub attempt_asks : (doc : Doc) (q : Identity) (k : ℕ) (h : List Entry) → IsLeaseRequest (attempt doc q k h).1
-attempt_asks doc q k h = by_test (doc.settings.fast_renew && leads q h) (attempt_at q (moment doc q k) (observed_at doc q h) (shown q h)) (by_shown (shown q h))
+attempt_asks doc q k h = by_test (doc.settings.fast_renew && leads q h) (attempt_from q (moment doc q k) (observed_at doc q h) (shown q h)) (by_shown (shown q h))
   where
     by_test : (b : Bool) (x : CallKind × Request) → IsLeaseRequest x.1 → IsLeaseRequest (cond {A = CallKind × Request} b x (Plain, Get election)).1
     by_test true x asked = asked
     by_test false x asked = refl
 
-    by_shown : (o : Option Shown) → IsLeaseRequest (attempt_at q (moment doc q k) (observed_at doc q h) o).1
+    by_shown : (o : Option Shown) → IsLeaseRequest (attempt_from q (moment doc q k) (observed_at doc q h) o).1
     by_shown None = refl
-    by_shown (Some x) = by_test (is_own q x.1.holder && is_valid (moment doc q k).now (observed_at doc q h) x.1) (Fast, Update election x.0 (renewed_at q (moment doc q k) x.1)) refl
+    by_shown (Some x) = by_test (is_own q x.1.holder && is_valid (moment doc q k).now (observed_at doc q h) x.1) (Fast, Update election x.0 (renewed q (moment doc q k) x.1)) refl
 
 pub release_asks : (doc : Doc) (q : Identity) (k : ℕ) (h : List Entry) (request : Request) → release doc q k h ≡ Some request → IsLeaseRequest request
-release_asks doc q k h request is = by_shown (shown q h) (only_value (leads q h) (release_from doc q k (shown q h)) request is)
+release_asks doc q k h request is = by_shown (shown q h) (only_value (leads q h) (release_from q (wall doc q.process k) (shown q h)) request is)
   where
-    by_shown : (o : Option Shown) → release_from doc q k o ≡ Some request → IsLeaseRequest request
+    by_shown : (o : Option Shown) → release_from q (wall doc q.process k) o ≡ Some request → IsLeaseRequest request
     by_shown None is = absurd (none_is request is)
-    by_shown (Some x) is = subst IsLeaseRequest (when_value (is_own q x.1.holder) (Update election x.0 (given_up doc q k x.1)) request is) refl
+    by_shown (Some x) is = subst IsLeaseRequest (when_value (is_own q x.1.holder) (Update election x.0 (given_up (wall doc q.process k) x.1)) request is) refl
 
 pub next_asks : (doc : Doc) (q : Identity) (k : ℕ) (request : Request) (reply : Reply) (next : Request) → IsLeaseRequest request → next_request doc q k request reply ≡ Some next → IsLeaseRequest next
 next_asks doc q k (PostStatus name status at) reply next asked is = subst IsLeaseRequest (some_is _ next is) refl

@@ -6,7 +6,7 @@ use Rattle.kube_objects.specs.declared.call.Reply.{Reply}
 use Rattle.kube_objects.specs.declared.call.Request.{Request}
 use Rattle.kube_objects.specs.declared.call.Request.TheVariants.{Get}
 use Rattle.kube_objects.specs.CallSlots.{calls_of, held_call, is_overdue, next_number}
-use Rattle.kube_objects.specs.Elector.{Shown, Follow, Fails, Asks, Succeeds, Moment, attempt_at, follow_at, newly, timer_follow, told}
+use Rattle.kube_objects.specs.Elector.{Shown, Follow, Fails, Asks, Succeeds, Moment, attempt_from, follow, newly, timer_follow, told}
 use Rattle.kube_objects.specs.Entry.{Identity, CallKind, Plain}
 use Rattle.kube_objects.specs.Identities.{identity}
 use Rattle.kube_objects.specs.Kinds.{keeps_kind}
@@ -90,7 +90,7 @@ after_expiry t now k =
 
 -- what begins an attempt: a leader may renew without a Get
 abbrev pub begun_in : Elector → Moment → (led : Bool) → Kept → CallKind × Request
-begun_in e m led k = cond (e.timing.fast && led) (attempt_at (identity_of e) m k.observed k.shown) (Plain, Get election)
+begun_in e m led k = cond (e.timing.fast && led) (attempt_from (identity_of e) m k.observed k.shown) (Plain, Get election)
 
 -- an attempt begins where no call waits and it is time
 abbrev pub attempt_in : Elector → Moment → (led : Bool) → Kept → Option (CallKind × Request)
@@ -110,7 +110,7 @@ abbrev pub observed_after : ℕ → Wait → Reply → Kept → ℕ
 observed_after now w reply k = or_else k.observed (newly (told w.request reply) k.shown now)
 
 abbrev pub follow_in : Elector → Moment → Wait → Reply → Kept → Follow
-follow_in e m w reply k = follow_at (identity_of e) m (observed_after m.now w reply k) w.kind w.request reply
+follow_in e m w reply k = follow (identity_of e) m (observed_after m.now w reply k) w.kind w.request reply
 
 abbrev pub after_reply : Elector → Moment → (led : Bool) → Wait → Reply → Kept → Kept
 after_reply e m led w reply k = record k {

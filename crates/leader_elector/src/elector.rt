@@ -4,10 +4,10 @@ ghost use Rattle.kube_base.specs.Bounds.{most_local};
 ghost use Rattle.kube_objects.specs.Clocks.{local, wall as wall_at};
 ghost use Rattle.kube_objects.specs.Document.{Doc};
 ghost use Rattle.kube_objects.specs.CallSlots.{held_call, is_awaited};
-ghost use Rattle.kube_objects.specs.Elector.{attempt, attempt_from, created, follow_get, follow_on, given_up, is_blocked, is_valid, leads};
+ghost use Rattle.kube_objects.specs.Elector.{moment, attempt, attempt_from, created, follow_get, follow_on, given_up, is_blocked, is_valid, leads};
 ghost use Rattle.kube_objects.specs.Elector.{newly, observed_at, one_more, renewed, shown, taken, timer, timer_follow, updated};
-ghost use Rattle.kube_objects.specs.Elector.{attempt_at, created_at, follow_at, follow_get_at, given_up_at, renewed_at, taken_at};
-ghost use Rattle.kube_objects.specs.Elector.{updated_at};
+ghost use Rattle.kube_objects.specs.Elector.{attempt_from, created, follow, follow_get, given_up, renewed, taken};
+ghost use Rattle.kube_objects.specs.Elector.{updated};
 ghost use Rattle.kube_objects.specs.Entry.{Call, Entry, Identity, Starts, entry};
 ghost use Rattle.kube_objects.specs.Identities.{holder_of, is_other, is_own};
 ghost use Rattle.kube_objects.specs.Kinds.{keeps_kind};
@@ -145,14 +145,14 @@ impl Elector {
     fn renew(&mut self, now: Local, wall: Wall) -> Ask
         requires now { now.0 ≤ most_local }
         ensures same { IsSame self.old self.new }
-        ensures asks { BeginsCall self.old now.0 (attempt_at (identity_of self.old) (moment_of self.old now.0 wall.0)
+        ensures asks { BeginsCall self.old now.0 (attempt_from (identity_of self.old) (moment_of self.old now.0 wall.0)
             (kept_of self.old).observed (kept_of self.old).shown) self.new result }
         ensures history { (doc : Doc) (q : Identity) (h : List Entry) (k : ℕ)
             → ElectorStands doc q h self.old
             → now.0 ≡ local doc q.process k → wall.0 ≡ wall_at doc q.process k
             → begun q h + 1 < 2 ^ 64
-            → Asked k 4 q h (send k 4 q (attempt_from doc q k (observed_at doc q h) (shown q h)).0
-            (attempt_from doc q k (observed_at doc q h) (shown q h)).1 h) (λ x. ElectorStands doc q x self.new) result }
+            → Asked k 4 q h (send k 4 q (attempt_from q (moment doc q k) (observed_at doc q h) (shown q h)).0
+            (attempt_from q (moment doc q k) (observed_at doc q h) (shown q h)).1 h) (λ x. ElectorStands doc q x self.new) result }
     {
         let Some(seen) = self.seen else {
             return self.ask(Request::Get(Key::ELECTION), false, now);
@@ -278,7 +278,7 @@ impl Elector {
 
     fn follow(&self, waiting: &Waiting, reply: &Reply, now: Local, wall: Wall) -> Follow
         ensures kind { follow_keeps_kind (follow_of result) ≡ true }
-        ensures moment { follow_of result ≡ follow_at (identity_of self.now) (moment_of self.now now.0 wall.0)
+        ensures moment { follow_of result ≡ follow (identity_of self.now) (moment_of self.now now.0 wall.0)
             (observed_of self.now.seen) (kind_of waiting.now.fast) waiting.now.request reply.now }
         ensures history { (doc : Doc) (q : Identity) (h : List Entry) (k : ℕ) → self.now.me.0 ≡ q.process
             → self.now.incarnation ≡ q.incarnation → IsTimingOf doc q.process self.now.timing
@@ -296,12 +296,12 @@ impl Elector {
 
     fn follow_get(&self, reply: &Reply, now: Local, wall: Wall) -> Follow
         ensures kind { follow_keeps_kind (follow_of result) ≡ true }
-        ensures moment { follow_of result ≡ follow_get_at (identity_of self.now) (moment_of self.now now.0 wall.0)
+        ensures moment { follow_of result ≡ follow_get (identity_of self.now) (moment_of self.now now.0 wall.0)
             (observed_of self.now.seen) reply.now }
         ensures history { (doc : Doc) (q : Identity) (k : ℕ) → self.now.me.0 ≡ q.process
             → self.now.incarnation ≡ q.incarnation → IsTimingOf doc q.process self.now.timing
             → now.0 ≡ local doc q.process k → wall.0 ≡ wall_at doc q.process k
-            → follow_of result ≡ follow_get doc q k (observed_of self.now.seen) reply.now }
+            → follow_of result ≡ follow_get q (moment doc q k) (observed_of self.now.seen) reply.now }
     {
         match *reply {
             Reply::Absent => Follow::Asks(Request::Create(Key::ELECTION, self.new_lease(wall))),
@@ -385,11 +385,11 @@ impl Elector {
     }
 
     fn new_lease(&self, wall: Wall) -> Lease
-        ensures moment { (now : ℕ) → result ≡ created_at (identity_of self.now) (moment_of self.now now wall.0) }
+        ensures moment { (now : ℕ) → result ≡ created (identity_of self.now) (moment_of self.now now wall.0) }
         ensures history { (doc : Doc) (q : Identity) (k : ℕ) → self.now.me.0 ≡ q.process
             → self.now.incarnation ≡ q.incarnation → IsTimingOf doc q.process self.now.timing
             → wall.0 ≡ wall_at doc q.process k
-            → result ≡ created doc q k }
+            → result ≡ created q (moment doc q k) }
     {
         Lease {
             holder: self.holder(),
@@ -401,11 +401,11 @@ impl Elector {
     }
 
     fn renewal(&self, lease: &Lease, wall: Wall) -> Lease
-        ensures moment { (now : ℕ) → result ≡ renewed_at (identity_of self.now) (moment_of self.now now wall.0) lease.now }
+        ensures moment { (now : ℕ) → result ≡ renewed (identity_of self.now) (moment_of self.now now wall.0) lease.now }
         ensures history { (doc : Doc) (q : Identity) (k : ℕ) → self.now.me.0 ≡ q.process
             → self.now.incarnation ≡ q.incarnation → IsTimingOf doc q.process self.now.timing
             → wall.0 ≡ wall_at doc q.process k
-            → result ≡ renewed doc q k lease.now }
+            → result ≡ renewed q (moment doc q k) lease.now }
     {
         Lease {
             acquired: lease.acquired,
@@ -415,11 +415,11 @@ impl Elector {
     }
 
     fn takeover(&self, lease: &Lease, wall: Wall) -> Lease
-        ensures moment { (now : ℕ) → result ≡ taken_at (identity_of self.now) (moment_of self.now now wall.0) lease.now }
+        ensures moment { (now : ℕ) → result ≡ taken (identity_of self.now) (moment_of self.now now wall.0) lease.now }
         ensures history { (doc : Doc) (q : Identity) (k : ℕ) → self.now.me.0 ≡ q.process
             → self.now.incarnation ≡ q.incarnation → IsTimingOf doc q.process self.now.timing
             → wall.0 ≡ wall_at doc q.process k
-            → result ≡ taken doc q k lease.now }
+            → result ≡ taken q (moment doc q k) lease.now }
     {
         Lease {
             transitions: Some(one_more(lease.transitions)),
@@ -428,11 +428,11 @@ impl Elector {
     }
 
     fn update_of(&self, lease: &Lease, wall: Wall) -> Lease
-        ensures moment { (now : ℕ) → result ≡ updated_at (identity_of self.now) (moment_of self.now now wall.0) lease.now }
+        ensures moment { (now : ℕ) → result ≡ updated (identity_of self.now) (moment_of self.now now wall.0) lease.now }
         ensures history { (doc : Doc) (q : Identity) (k : ℕ) → self.now.me.0 ≡ q.process
             → self.now.incarnation ≡ q.incarnation → IsTimingOf doc q.process self.now.timing
             → wall.0 ≡ wall_at doc q.process k
-            → result ≡ updated doc q k lease.now }
+            → result ≡ updated q (moment doc q k) lease.now }
     {
         if self.holds(lease) {
             return self.renewal(lease, wall);
@@ -453,9 +453,9 @@ fn is_fast(waiting: &Option<Waiting>) -> bool
 
 /// The record that gives up the lead.
 pub(crate) fn vacant_lease(lease: &Lease, wall: Wall) -> Lease
-    ensures moment { result ≡ given_up_at wall.0 lease.now }
+    ensures moment { result ≡ given_up wall.0 lease.now }
     ensures history { (doc : Doc) (q : Identity) (k : ℕ) → wall.0 ≡ wall_at doc q.process k
-        → result ≡ given_up doc q k lease.now }
+        → result ≡ given_up (wall doc q.process k) lease.now }
 {
     Lease {
         holder: Holder::Nobody,

@@ -15,7 +15,7 @@ use Rattle.kube_objects.specs.declared.script.What.{What}
 use Rattle.kube_objects.specs.declared.script.What.TheVariants as what
 use Rattle.kube_objects.specs.Clocks.{local, wall}
 use Rattle.kube_objects.specs.Document.{Doc, lease_seconds}
-use Rattle.kube_objects.specs.Elector.{Shown, Follow, Fails, Asks, told, shows, shown, observed_at, leads, one_more, created, renewed, taken, updated, given_up, follow_on, not_done, is_blocked, is_valid, attempt, attempt_from, release, release_from}
+use Rattle.kube_objects.specs.Elector.{moment, Shown, Follow, Fails, Asks, told, shows, shown, observed_at, leads, one_more, created, renewed, taken, updated, given_up, follow_on, not_done, is_blocked, is_valid, attempt, attempt_from, release, release_from}
 use Rattle.kube_objects.specs.Entry.{Entry, Identity, Call, CallKind, Plain, Fast, Release, Fact, First, Event as Happens, Starts, Crashes, Stops, Stalls, Ends, Sends, Answers, Delivers, Expires, Leads, Ticks}
 use Rattle.kube_objects.specs.Identities.{holder_of, is_by, is_own}
 use Rattle.kube_objects.specs.InForce.{status_of, first_status}
@@ -146,16 +146,16 @@ module _ (names : Texts) (known : List ℕ) (fixed : HoldsFixed names) where
 
   -- own is said of the holder that it writes, lasts of its lease duration
   module _ (doc : Doc) (q : Identity) (k : ℕ) (own : IsReadableHolder names known (holder_of q)) (lasts : lease_seconds doc q.process ≤ 86400) (early : IsEarly doc q.process k) where
-    created_fit : IsWellFormedLease names known (created doc q k)
+    created_fit : IsWellFormedLease names known (created q (moment doc q k))
     created_fit = record { holder = own; duration = omega (arith, lasts); acquired = early; renewed = early; transitions = omega arith }
 
-    renewed_fit : (lease : Lease) → IsWellFormedLease names known lease → IsWellFormedLease names known (renewed doc q k lease)
+    renewed_fit : (lease : Lease) → IsWellFormedLease names known lease → IsWellFormedLease names known (renewed q (moment doc q k) lease)
     renewed_fit lease fit = record { holder = own; duration = omega (arith, lasts); acquired = fit.acquired; renewed = early; transitions = fit.transitions }
 
-    updated_fit : (lease : Lease) → IsWellFormedLease names known lease → IsWellFormedLease names known (updated doc q k lease)
+    updated_fit : (lease : Lease) → IsWellFormedLease names known lease → IsWellFormedLease names known (updated q (moment doc q k) lease)
     updated_fit lease fit = by_own (is_own q lease.holder)
       where
-        by_own : (b : Bool) → IsWellFormedLease names known (cond b (renewed doc q k lease) (taken doc q k lease))
+        by_own : (b : Bool) → IsWellFormedLease names known (cond b (renewed q (moment doc q k) lease) (taken q (moment doc q k) lease))
         by_own true = renewed_fit lease fit
         by_own false = record { holder = own; duration = omega (arith, lasts); acquired = early; renewed = early; transitions = one_more_count lease.transitions }
 
@@ -174,7 +174,7 @@ module _ (names : Texts) (known : List ℕ) (fixed : HoldsFixed names) where
         cases : (request : Request) (reply : Reply) → IsFitReply names known reply → AsksFit names known (follow_on doc q k kind request reply h)
         cases (Get key) Absent fit = (election_key, created_fit)
         cases (Get key) (Found version lease) fit =
-            by_test (is_blocked q (local doc q.process k) (observed_at doc q h) lease) (Update election version (updated doc q k lease)) (election_key, updated_fit lease fit)
+            by_test (is_blocked q (local doc q.process k) (observed_at doc q h) lease) (Update election version (updated q (moment doc q k) lease)) (election_key, updated_fit lease fit)
         cases (Get key) (Done version) fit = tt
         cases (Get key) Exists fit = tt
         cases (Get key) (Conflict version) fit = tt
@@ -196,25 +196,25 @@ module _ (names : Texts) (known : List ℕ) (fixed : HoldsFixed names) where
     pub attempt_fit : (h : List Entry) → AreFit names known h → IsFitRequest names known (attempt doc q k h).1
     attempt_fit h fit = by_test (doc.settings.fast_renew && leads q h)
       where
-        by_own : (b : Bool) (x : Shown) → IsWellFormedLease names known x.1 → IsFitRequest names known (cond {A = CallKind × Request} b (Fast, Update election x.0 (renewed doc q k x.1)) (Plain, Get election)).1
+        by_own : (b : Bool) (x : Shown) → IsWellFormedLease names known x.1 → IsFitRequest names known (cond {A = CallKind × Request} b (Fast, Update election x.0 (renewed q (moment doc q k) x.1)) (Plain, Get election)).1
         by_own true x lease = (election_key, renewed_fit x.1 lease)
         by_own false x lease = election_key
 
-        by_shown : (o : Option Shown) → shown q h ≡ o → IsFitRequest names known (attempt_from doc q k (observed_at doc q h) o).1
+        by_shown : (o : Option Shown) → shown q h ≡ o → IsFitRequest names known (attempt_from q (moment doc q k) (observed_at doc q h) o).1
         by_shown None is = election_key
         by_shown (Some x) is = by_own (is_own q x.1.holder && is_valid (local doc q.process k) (observed_at doc q h) x.1) x (shown_fit q h fit x is)
 
-        by_test : (b : Bool) → IsFitRequest names known (cond {A = CallKind × Request} b (attempt_from doc q k (observed_at doc q h) (shown q h)) (Plain, Get election)).1
+        by_test : (b : Bool) → IsFitRequest names known (cond {A = CallKind × Request} b (attempt_from q (moment doc q k) (observed_at doc q h) (shown q h)) (Plain, Get election)).1
         by_test true = by_shown (shown q h) refl
         by_test false = election_key
 
     pub release_fit : (h : List Entry) → AreFit names known h → (request : Request) → release doc q k h ≡ Some request → IsFitRequest names known request
-    release_fit h fit request is = by_shown (shown q h) refl (only_value (leads q h) (release_from doc q k (shown q h)) request is)
+    release_fit h fit request is = by_shown (shown q h) refl (only_value (leads q h) (release_from q (wall doc q.process k) (shown q h)) request is)
       where
-        by_shown : (o : Option Shown) → shown q h ≡ o → release_from doc q k o ≡ Some request → IsFitRequest names known request
+        by_shown : (o : Option Shown) → shown q h ≡ o → release_from q (wall doc q.process k) o ≡ Some request → IsFitRequest names known request
         by_shown None at is = absurd (none_is request is)
         by_shown (Some x) at is =
-            subst (IsFitRequest names known) (when_value (is_own q x.1.holder) (Update election x.0 (given_up doc q k x.1)) request is)
+            subst (IsFitRequest names known) (when_value (is_own q x.1.holder) (Update election x.0 (given_up (wall doc q.process k) x.1)) request is)
             (election_key, record { holder = tt; duration = omega arith; acquired = early; renewed = early; transitions = (shown_fit q h fit x at).transitions })
 
   -- ---- kubelets

@@ -10,7 +10,7 @@ use Rattle.kube_objects.specs.declared.call.Request.TheVariants.{Get, Create, Up
 use Rattle.kube_objects.specs.declared.deed.Act.TheVariants as act
 use Rattle.kube_objects.specs.Document.{Doc, is_controller}
 use Rattle.kube_objects.specs.Clocks.{local}
-use Rattle.kube_objects.specs.Elector.{Follow, Fails, Asks, Succeeds, leads, observed_at, is_blocked, updated, follow_get, follow_write, not_done, follow_on}
+use Rattle.kube_objects.specs.Elector.{moment, Follow, Fails, Asks, Succeeds, leads, observed_at, is_blocked, updated, follow_get, follow_write, not_done, follow_on}
 use Rattle.kube_objects.specs.Stored.{election}
 use Rattle.kube_objects.specs.Turns.{react, with_reply}
 use Rattle.kube_objects.specs.Entry.{Entry, Identity, Call, CallKind, Plain, Fast, Release, Fact, Delivers, Leads, Sends, entry, actor_of}
@@ -175,11 +175,11 @@ lead-succeeds k q led (Asks request) version g is = let top = ap fact_at_top is 
 lead-succeeds k q true (Succeeds done) version g is = absurd (never-longer (entry k 3 q (Leads version)) g is)
 lead-succeeds k q false (Succeeds done) version g is = ap (λ h. version_at_top version (fact_at_top h)) is
 
-succeeded-get : (doc : Doc) (q : Identity) (k seen : ℕ) (reply : Reply) (version : Version) → Succeeded (follow_get doc q k seen reply) version → ⊥
+succeeded-get : (doc : Doc) (q : Identity) (k seen : ℕ) (reply : Reply) (version : Version) → Succeeded (follow_get q (moment doc q k) seen reply) version → ⊥
 succeeded-get doc q k seen Absent version is = is
 succeeded-get doc q k seen (Found v lease) version is = by_block (is_blocked q (local doc q.process k) seen lease) is
   where
-    by_block : (b : Bool) → Succeeded (cond b Fails (Asks (Update election v (updated doc q k lease)))) version → ⊥
+    by_block : (b : Bool) → Succeeded (cond b Fails (Asks (Update election v (updated q (moment doc q k) lease)))) version → ⊥
     by_block true is = is
     by_block false is = is
 succeeded-get doc q k seen (Done v) version is = is

@@ -1,6 +1,6 @@
 use Rattle.std.proofs.Common.{◌≡◌, ◌∙◌, false, cond, refl, sym, ap}
 use Rattle.kube_objects.specs.declared.call.Request.TheVariants.{Create, Update}
-use Rattle.kube_objects.specs.Elector.{Fails, Asks, follow_get_at, is_blocked, updated_at}
+use Rattle.kube_objects.specs.Elector.{Fails, Asks, follow_get, is_blocked, updated}
 use Rattle.kube_objects.specs.Stored.{election}
 use Rattle.leader_elector.specs.Plain.{identity_of, moment_of}
 use Rattle.leader_elector.specs.Stands.{observed_of}
@@ -10,7 +10,7 @@ pub returns-in-Absent-clause-moment : goal.returns-in-Absent-clause-moment
 returns-in-Absent-clause-moment c =
     let self = c.args.self.now in
     ap (λ l. Asks (Create election l)) (c.new_lease.ensures.moment c.args.now.0)
-    ∙ ap (follow_get_at (identity_of self) (moment_of self c.args.now.0 c.args.wall.0) (observed_of self.seen)) (sym c.in-Absent.is)
+    ∙ ap (follow_get (identity_of self) (moment_of self c.args.now.0 c.args.wall.0) (observed_of self.seen)) (sym c.in-Absent.is)
 
 pub returns-else-is_blocked-clause-moment : goal.returns-else-is_blocked-clause-moment
 returns-else-is_blocked-clause-moment c =
@@ -21,5 +21,5 @@ returns-else-is_blocked-clause-moment c =
     let lease = c.in-Found.lease in
     let free : is_blocked q m.now (observed_of self.seen) lease ≡ false = sym (c.is_blocked.ensures q refl refl) ∙ c.if-is_blocked.false in
     ap (λ l. Asks (Update election version l)) (c.update_of.ensures.moment c.args.now.0)
-    ∙ sym (ap (λ b. cond b Fails (Asks (Update election version (updated_at q m lease)))) free)
-    ∙ ap (follow_get_at q m (observed_of self.seen)) (sym c.in-Found.is)
+    ∙ sym (ap (λ b. cond b Fails (Asks (Update election version (updated q m lease)))) free)
+    ∙ ap (follow_get q m (observed_of self.seen)) (sym c.in-Found.is)
