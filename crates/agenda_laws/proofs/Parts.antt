@@ -1,5 +1,6 @@
 -- A step, a turn and a tick add nothing exactly where each of their parts, done on the history by itself, adds nothing.
 use Rattle.std.proofs.Common.{◌≡◌, ◌==◌, not, Bool, true, false, ℕ, zero, suc, ◌<◌, Option, Some, None, List, [], ◌∷◌, refl, sym, ap, ◌∙◌, subst, inl, inr, arith}
+use Rattle.std.specs.Prelude.{if◌then◌else◌}
 use Rattle.std.proofs.lemmas.Bool.{cases_lt}
 use Rattle.kube_objects.specs.declared.call.Request.{Request}
 use Rattle.kube_objects.specs.declared.script.Event.{Event}
@@ -7,16 +8,16 @@ use Rattle.kube_objects.specs.declared.script.What.{What}
 use Rattle.kube_objects.specs.declared.script.What.TheVariants as what
 use Rattle.kube_objects.specs.Document.{Doc, processes, is_up_first}
 use Rattle.kube_objects.specs.Elector.{deadline, acts, release}
-use Rattle.kube_objects.specs.Entry.{Entry, Identity, Call, Event as Happens, Stops, script_entry, entry}
+use Rattle.kube_objects.specs.Entry.{Entry, Identity, Call, Event as Happens, Stops, script_entry, entry, Expires, Ends}
 use Rattle.kube_objects.specs.Identities.{identity}
 use Rattle.kube_objects.specs.Kubelet.{round_if, round}
 use Rattle.kube_objects.specs.Newest.{only_if}
 use Rattle.kube_objects.specs.Pauses.{is_paused}
 use Rattle.kube_objects.specs.Process.{alive, call_in, is_late, ended, is_restart_due}
 use Rattle.kube_objects.specs.Seen.{is_synced}
-use Rattle.kube_objects.specs.Tick.{sync, pass, cleaned, tainted, evicted, tick_if, tick}
-use Rattle.kube_objects.specs.Turns.{expire_as, expire_call, end_as, end_term, attempt_if, try}
-use Rattle.history.specs.Steps.{start_first, starts_below, first_starts, start_if_down, crash, stall, released, stop, effect, stamp, event_version, happens_if, happen_all, step_one, restart_as, restart_if, restart, expire, finish, attempts, tick_as, ticks, elector_turn, controller_turn, rounds, kubelet_turn}
+use Rattle.kube_objects.specs.Tick.{sync, pass, cleaned, tainted, evicted, tick, phases}
+use Rattle.kube_objects.specs.Turns.{expire_call, end_term, attempt_if, try}
+use Rattle.history.specs.Steps.{start_first, starts_below, first_starts, start_if_down, crash, stall, released, stop, effect, stamp, event_version, happen_all, step_one, restart_if, restart, expire, finish, attempts, ticks, elector_turn, controller_turn, rounds, kubelet_turn, happens, start}
 use Rattle.history_laws.specs.Tails.{IsTail}
 use Rattle.history_laws.proofs.Tailed.{tail_all, tail_trans}
 use Rattle.history_laws.proofs.Ticks.{walk_sync, walk_pass, walk_cleaned, walk_tainted, walk_evicted, walk_tick}
@@ -109,23 +110,23 @@ module _ (doc : Doc) (k : ℕ) where
   abbrev noted : What → List Entry → Entry
   noted w h = script_entry k 1 (Happens (stamp doc k w) (event_version w h))
 
-  happens_adds : (w : What) (b : Bool) (h : List Entry) → IsTail h (happens_if doc k w b h)
+  happens_adds : (w : What) (b : Bool) (h : List Entry) → IsTail h (if b then happens doc k w h else h)
   happens_adds w false h = tail_all h
-  happens_adds w true h = tail_trans h (noted w h ∷ h) (happens_if doc k w true h) (inr (tail_all h)) (effect_adds w h (noted w h ∷ h))
+  happens_adds w true h = tail_trans h (noted w h ∷ h) (if true then happens doc k w h else h) (inr (tail_all h)) (effect_adds w h (noted w h ∷ h))
 
-  happens_none : (w : What) (b : Bool) (h : List Entry) → happens_if doc k w b h ≡ h → b ≡ false
+  happens_none : (w : What) (b : Bool) (h : List Entry) → (if b then happens doc k w h else h) ≡ h → b ≡ false
   happens_none w false h is = refl
-  happens_none w true h is = absurd (longer (noted w h) h (happens_if doc k w true h) (effect_adds w h (noted w h ∷ h)) is)
+  happens_none w true h is = absurd (longer (noted w h) h (if true then happens doc k w h else h) (effect_adds w h (noted w h ∷ h)) is)
 
   events_add : (es : List Event) (h : List Entry) → IsTail h (happen_all doc k es h)
   events_add [] h = tail_all h
   events_add (e ∷ es) h =
-      let one = happens_if doc k e.what (e.beat.0 == k) h in
+      let one = (if (e.beat.0 == k) then happens doc k e.what h else h) in
       tail_trans h one (happen_all doc k es one) (happens_adds e.what (e.beat.0 == k) h) (events_add es one)
 
-  event_same : (e : Event) (es : List Event) (h : List Entry) → happen_all doc k (e ∷ es) h ≡ h → happens_if doc k e.what (e.beat.0 == k) h ≡ h
+  event_same : (e : Event) (es : List Event) (h : List Entry) → happen_all doc k (e ∷ es) h ≡ h → (if (e.beat.0 == k) then happens doc k e.what h else h) ≡ h
   event_same e es h is =
-      let one = happens_if doc k e.what (e.beat.0 == k) h in
+      let one = (if (e.beat.0 == k) then happens doc k e.what h else h) in
       between h one (happen_all doc k es one) (happens_adds e.what (e.beat.0 == k) h) (events_add es one) is
 
   events_none : (es : List Event) (h : List Entry) → happen_all doc k es h ≡ h → (e : Event) → Among e es → (e.beat.0 == k) ≡ false
@@ -136,7 +137,7 @@ module _ (doc : Doc) (k : ℕ) where
   none_events : (es : List Event) (h : List Entry) → ((e : Event) → Among e es → (e.beat.0 == k) ≡ false) → happen_all doc k es h ≡ h
   none_events [] h none = refl
   none_events (x ∷ xs) h none =
-      ap (λ b. happen_all doc k xs (happens_if doc k x.what b h)) (none x (inl refl)) ∙ none_events xs h (λ e at. none e (inr at))
+      ap (λ b. happen_all doc k xs (if b then happens doc k x.what h else h)) (none x (inl refl)) ∙ none_events xs h (λ e at. none e (inr at))
 
   one_uneventful : (h : List Entry) → step_one doc k h ≡ h → IsUneventful doc k
   one_uneventful h is =
@@ -174,7 +175,7 @@ module _ (doc : Doc) (k : ℕ) (q : Identity) where
   pub tick_adds : (h : List Entry) → IsTail h (tick doc k q h)
   tick_adds h = walk_tick doc k q (IsTail h) (λ t g made s. inr s) h (tail_all h)
 
-  synced_adds : (b : Bool) (h : List Entry) → IsTail h (tick_if doc k q b h)
+  synced_adds : (b : Bool) (h : List Entry) → IsTail h (if b then phases doc k q h else h)
   synced_adds false h = tail_all h
   synced_adds true h =
       let p = pass doc k q h in
@@ -183,7 +184,7 @@ module _ (doc : Doc) (k : ℕ) (q : Identity) where
       let e = evicted doc k q t in
       tail_trans h p e (pass_adds h) (tail_trans p c e (cleaned_adds p) (tail_trans c t e (tainted_adds c) (evicted_adds t)))
 
-  synced_still : (h : List Entry) → tick_if doc k q true h ≡ h → IsStillSynced doc k q h
+  synced_still : (h : List Entry) → (if true then phases doc k q h else h) ≡ h → IsStillSynced doc k q h
   synced_still h is =
       let p = pass doc k q h in
       let c = cleaned doc k q p in
@@ -203,14 +204,14 @@ module _ (doc : Doc) (k : ℕ) (q : Identity) where
         evicts = ap (evicted doc k q) (sym t_is) ∙ is;
       }
 
-  still_synced : (h : List Entry) → IsStillSynced doc k q h → tick_if doc k q true h ≡ h
+  still_synced : (h : List Entry) → IsStillSynced doc k q h → (if true then phases doc k q h else h) ≡ h
   still_synced h s =
       ap (λ g. evicted doc k q (tainted doc k q (cleaned doc k q g))) s.passes
       ∙ ap (λ g. evicted doc k q (tainted doc k q g)) s.cleans
       ∙ ap (evicted doc k q) s.taints
       ∙ s.evicts
 
-  still_if : (b : Bool) (h : List Entry) → (b ≡ true → IsStillSynced doc k q h) → tick_if doc k q b h ≡ h
+  still_if : (b : Bool) (h : List Entry) → (b ≡ true → IsStillSynced doc k q h) → (if b then phases doc k q h else h) ≡ h
   still_if true h s = still_synced h (s refl)
   still_if false h s = refl
 
@@ -218,11 +219,11 @@ module _ (doc : Doc) (k : ℕ) (q : Identity) where
   tick_still h is =
       let g = sync doc k q h in
       let same : g ≡ h = between h g (tick doc k q h) (sync_adds h) (synced_adds (is_synced q g) g) is in
-      let here : tick_if doc k q (is_synced q h) h ≡ h = ap (λ x. tick_if doc k q (is_synced q x) x) (sym same) ∙ is in
-      record { syncs = same; synced = λ yet. synced_still h (subst (λ b. tick_if doc k q b h ≡ h) yet here) }
+      let here : (if (is_synced q h) then phases doc k q h else h) ≡ h = ap (λ x. (if (is_synced q x) then phases doc k q x else x)) (sym same) ∙ is in
+      record { syncs = same; synced = λ yet. synced_still h (subst (λ b. (if b then phases doc k q h else h) ≡ h) yet here) }
 
   still_tick : (h : List Entry) → IsStillTick doc k q h → tick doc k q h ≡ h
-  still_tick h s = ap (λ x. tick_if doc k q (is_synced q x) x) s.syncs ∙ still_if (is_synced q h) h s.synced
+  still_tick h s = ap (λ x. (if (is_synced q x) then phases doc k q x else x)) s.syncs ∙ still_if (is_synced q h) h s.synced
 
 pub ticks_add_by_parts : TicksAddByParts
 ticks_add_by_parts doc k q h = (tick_still doc k q h, still_tick doc k q h)
@@ -230,7 +231,7 @@ ticks_add_by_parts doc k q h = (tick_still doc k q h, still_tick doc k q h)
 -- ---- a turn
 
 module _ (doc : Doc) (k p : ℕ) where
-  restart_as_adds : (b : Bool) (h : List Entry) → IsTail h (restart_as k p b h)
+  restart_as_adds : (b : Bool) (h : List Entry) → IsTail h (if b then start k 4 p h else h)
   restart_as_adds false h = tail_all h
   restart_as_adds true h = inr (tail_all h)
 
@@ -241,7 +242,7 @@ module _ (doc : Doc) (k p : ℕ) where
   restart_adds : (h : List Entry) → IsTail h (restart doc k p h)
   restart_adds h = restart_if_adds (alive p h) h
 
-  expire_as_adds : (q : Identity) (call : Call) (b : Bool) (h : List Entry) → IsTail h (expire_as k q call b h)
+  expire_as_adds : (q : Identity) (call : Call) (b : Bool) (h : List Entry) → IsTail h (if b then entry k 4 q (Expires call) ∷ h else h)
   expire_as_adds q call false h = tail_all h
   expire_as_adds q call true h = inr (tail_all h)
 
@@ -252,7 +253,7 @@ module _ (doc : Doc) (k p : ℕ) where
   expire_adds : (h : List Entry) → IsTail h (expire doc k p h)
   expire_adds h = up_adds p (λ q T. expire_call doc k q (call_in q T) T) (λ q g. expire_call_adds q (call_in q g) g) (alive p h) h
 
-  end_as_adds : (q : Identity) (b : Bool) (h : List Entry) → IsTail h (end_as k q b h)
+  end_as_adds : (q : Identity) (b : Bool) (h : List Entry) → IsTail h (if b then h else entry k 4 q Ends ∷ h)
   end_as_adds q true h = tail_all h
   end_as_adds q false h = inr (tail_all h)
 
@@ -271,12 +272,12 @@ module _ (doc : Doc) (k p : ℕ) where
   attempts_add : (h : List Entry) → IsTail h (attempts doc k p h)
   attempts_add h = up_adds p (try doc k) (λ q g. attempt_adds q _ _ g) (alive p h) h
 
-  tick_as_adds : (q : Identity) (b : Bool) (h : List Entry) → IsTail h (tick_as doc k q b h)
+  tick_as_adds : (q : Identity) (b : Bool) (h : List Entry) → IsTail h (if b then tick doc k q h else h)
   tick_as_adds q false h = tail_all h
   tick_as_adds q true h = tick_adds doc k q h
 
   ticks_add : (h : List Entry) → IsTail h (ticks doc k p h)
-  ticks_add h = up_adds p (λ q T. tick_as doc k q (acts doc q k T) T) (λ q g. tick_as_adds q (acts doc q k g) g) (alive p h) h
+  ticks_add h = up_adds p (λ q T. (if (acts doc q k T) then tick doc k q T else T)) (λ q g. tick_as_adds q (acts doc q k g) g) (alive p h) h
 
   elector_adds : (h : List Entry) → IsTail h (elector_turn doc k p h)
   elector_adds h =

@@ -1,5 +1,6 @@
 -- What a tick adds something for.
 use Rattle.std.proofs.Common.{◌≡◌, ◌↔◌, ◌⊎◌, ℕ, zero, suc, ◌+◌, ◌-◌, ◌*◌, ◌<◌, ◌≤◌, ◌==◌, ◌&&◌, nat_lt, nat_le, Bool, true, false, cond, List, [], ◌∷◌, Option, Some, None, refl, sym, ap, ◌∙◌, subst, inl, inr, arith}
+use Rattle.std.specs.Prelude.{if◌then◌else◌}
 use Rattle.std.specs.Int.{div_ceil}
 use Rattle.std.specs.List.{list_any}
 use Rattle.std.proofs.Math.Nat.{mul-le-mul_right}
@@ -15,14 +16,14 @@ use Rattle.kube_objects.specs.declared.pod.Due.TheVariants.{Never, At}
 use Rattle.kube_objects.specs.declared.pod.Pod.{Pod}
 use Rattle.kube_objects.specs.Clocks.{local, wall}
 use Rattle.kube_objects.specs.Document.{Doc}
-use Rattle.kube_objects.specs.Entry.{Entry, Identity, Place, Pass}
+use Rattle.kube_objects.specs.Entry.{Entry, Identity, Place, Pass, Sync, Mode, Zone}
 use Rattle.kube_objects.specs.Health.{mark_of, last_pass, is_after_pass, is_pass_due}
 use Rattle.kube_objects.specs.Modes.{nodes, places, mode, state_in, rate_in, all_full}
 use Rattle.kube_objects.specs.Newest.{only_if, has}
 use Rattle.kube_objects.specs.Seen.{seen_node, seen_pod, is_synced, is_stale, node_names, pod_keys}
 use Rattle.kube_objects.specs.Stored.{node_key}
 use Rattle.kube_objects.specs.Tainting.{Wants, Nothing, Wanted, Whatever, wants, has_condition, is_opposite, lacks_in, waits, Queued, queued, queued_as, first, head_of}
-use Rattle.kube_objects.specs.Tick.{add, sync_if, mark_as, mark_seen, mark, marks, mode_if, is_same_mode, set_mode, zone_if, zone, set_zones, pass_if, pass, untaint_if, swap_if, clean_as, clean_seen, clean, taint_as, taint_head, taint_if, taint, delete_if, evict_due, evict_on, evict_seen, evict, tick}
+use Rattle.kube_objects.specs.Tick.{add, mark_as, mark_seen, mark, marks, is_same_mode, set_mode, zone, set_zones, pass, clean_as, clean_seen, clean, taint_as, taint_head, taint, evict_due, evict_on, evict_seen, evict, tick, whole_pass, add_untaint, add_swap, taint_first, add_delete}
 use Rattle.kube_objects.specs.Tokens.{Rated, rated, is_rated, base, token_size, is_grown, has_token}
 use Rattle.kube_objects.specs.Tolerations.{due}
 use Rattle.history_laws.specs.Tails.{IsTail}
@@ -120,7 +121,7 @@ grown_waits reads from (Some x) = grown_by token_size reads from x.1 token_some 
 module _ (doc : Doc) (k : ℕ) (q : Identity) where
   -- the sync
 
-  sync_needs : (b : Bool) (h : List Entry) → Needs (sync_if k q b h) h b
+  sync_needs : (b : Bool) (h : List Entry) → Needs (if b then add k q Sync h else h) h b
   sync_needs true h = busy _ h
   sync_needs false h = idle h
 
@@ -137,14 +138,14 @@ module _ (doc : Doc) (k : ℕ) (q : Identity) where
   mark_adds : (name : ℕ) (h : List Entry) → IsTail h (mark doc k q name h)
   mark_adds name h = mark_seen_adds name (seen_node q name h) h
 
-  mode_if_adds : (on b : Bool) (h : List Entry) → IsTail h (mode_if k q on b h)
+  mode_if_adds : (on b : Bool) (h : List Entry) → IsTail h (if b then h else add k q (Mode on) h)
   mode_if_adds on true h = tail_all h
   mode_if_adds on false h = inr (tail_all h)
 
   mode_adds : (h : List Entry) → IsTail h (set_mode doc k q h)
   mode_adds h = mode_if_adds (all_full doc (nodes q h)) (is_same_mode (all_full doc (nodes q h)) (mode q h)) h
 
-  zone_if_adds : (place : Place) (state : ZoneState) (rate : ℕ) (b : Bool) (h : List Entry) → IsTail h (zone_if k q place state rate b h)
+  zone_if_adds : (place : Place) (state : ZoneState) (rate : ℕ) (b : Bool) (h : List Entry) → IsTail h (if b then h else add k q (Zone place state rate) h)
   zone_if_adds place state rate true h = tail_all h
   zone_if_adds place state rate false h = inr (tail_all h)
 
@@ -152,7 +153,7 @@ module _ (doc : Doc) (k : ℕ) (q : Identity) where
   zone_adds seen place h =
       zone_if_adds place (state_in doc seen place) (rate_in doc (mode q h) seen place) (is_rated (state_in doc seen place) (rate_in doc (mode q h) seen place) (rated q place h)) h
 
-  pass_on : (h : List Entry) → IsTail (add k q Pass h) (pass_if doc k q true h)
+  pass_on : (h : List Entry) → IsTail (add k q Pass h) (if true then whole_pass doc k q h else h)
   pass_on h =
       let p = add k q Pass h in
       let m = marks doc k q p in
@@ -160,8 +161,8 @@ module _ (doc : Doc) (k : ℕ) (q : Identity) where
       tail_trans p m (set_zones doc k q o) (each_adds (mark doc k q) mark_adds (node_names p) p)
       (tail_trans m o (set_zones doc k q o) (mode_adds m) (each_adds (zone doc k q (nodes q o)) (zone_adds (nodes q o)) (places (nodes q o)) o))
 
-  pass_needs : (b : Bool) (h : List Entry) → Needs (pass_if doc k q b h) h b
-  pass_needs true h = (λ is. absurd (longer _ h (pass_if doc k q true h) (pass_on h) is), λ is. absurd (true_is is))
+  pass_needs : (b : Bool) (h : List Entry) → Needs (if b then whole_pass doc k q h else h) h b
+  pass_needs true h = (λ is. absurd (longer _ h (if true then whole_pass doc k q h else h) (pass_on h) is), λ is. absurd (true_is is))
   pass_needs false h = idle h
 
   pass_is : (o : Option ℕ) → is_after_pass doc k q o ≡ false ↔ nat_lt (local doc q.process k) (pass_after doc q o) ≡ true
@@ -176,11 +177,11 @@ module _ (doc : Doc) (k : ℕ) (q : Identity) where
 
   -- untaints and swaps
 
-  untaint_needs : (name : ℕ) (given : Version) (node : Node) (b : Bool) (h : List Entry) → Needs (untaint_if k q name given node b h) h b
+  untaint_needs : (name : ℕ) (given : Version) (node : Node) (b : Bool) (h : List Entry) → Needs (if b then add_untaint k q name given node h else h) h b
   untaint_needs name given node true h = busy _ h
   untaint_needs name given node false h = idle h
 
-  swap_needs : (name : ℕ) (given : Version) (node : Node) (wanted : ℕ) (b : Bool) (h : List Entry) → Needs (swap_if doc k q name given node wanted b h) h b
+  swap_needs : (name : ℕ) (given : Version) (node : Node) (wanted : ℕ) (b : Bool) (h : List Entry) → Needs (if b then add_swap doc k q name given node wanted h else h) h b
   swap_needs name given node wanted true h = busy _ h
   swap_needs name given node wanted false h = idle h
 
@@ -197,11 +198,11 @@ module _ (doc : Doc) (k : ℕ) (q : Identity) where
   clean_needs : (name : ℕ) (h : List Entry) → Needs (clean doc k q name h) h (is_clean_due q h name)
   clean_needs name h = clean_seen_needs name (is_stale q (node_key name) h) (seen_node q name h) h
 
-  untaint_adds : (name : ℕ) (given : Version) (node : Node) (b : Bool) (h : List Entry) → IsTail h (untaint_if k q name given node b h)
+  untaint_adds : (name : ℕ) (given : Version) (node : Node) (b : Bool) (h : List Entry) → IsTail h (if b then add_untaint k q name given node h else h)
   untaint_adds name given node true h = inr (tail_all h)
   untaint_adds name given node false h = tail_all h
 
-  swap_adds : (name : ℕ) (given : Version) (node : Node) (wanted : ℕ) (b : Bool) (h : List Entry) → IsTail h (swap_if doc k q name given node wanted b h)
+  swap_adds : (name : ℕ) (given : Version) (node : Node) (wanted : ℕ) (b : Bool) (h : List Entry) → IsTail h (if b then add_swap doc k q name given node wanted h else h)
   swap_adds name given node wanted true h = inr (tail_all h)
   swap_adds name given node wanted false h = tail_all h
 
@@ -229,7 +230,7 @@ module _ (doc : Doc) (k : ℕ) (q : Identity) where
   taint_head_adds place None h = tail_all h
   taint_head_adds place (Some x) h = taint_as_adds place x.1 (waits q place x.1 h) (seen_node q x.1 h) h
 
-  taint_if_adds : (place : Place) (b : Bool) (h : List Entry) → IsTail h (taint_if doc k q place b h)
+  taint_if_adds : (place : Place) (b : Bool) (h : List Entry) → IsTail h (if b then taint_first doc k q place h else h)
   taint_if_adds place true h = taint_head_adds place (head_of q place (node_names h) h) h
   taint_if_adds place false h = tail_all h
 
@@ -281,7 +282,7 @@ module _ (doc : Doc) (k : ℕ) (q : Identity) where
           let y = waits_seen (mode q h) place (seen_node q x.1 h) w.0 w.1 in
           absurd (as_longer place x.1 w.0 y.0 (waits q place x.1 h) (seen_node q x.1 h) h w.1 y.1 is)
 
-  taint_needs : (place : Place) (b : Bool) (h : List Entry) → Needs (taint_if doc k q place b h) h (b && has (head_of q place (node_names h) h))
+  taint_needs : (place : Place) (b : Bool) (h : List Entry) → Needs (if b then taint_first doc k q place h else h) h (b && has (head_of q place (node_names h) h))
   taint_needs place true h = head_needs place (head_of q place (node_names h) h) h refl
   taint_needs place false h = idle h
 
@@ -300,7 +301,7 @@ module _ (doc : Doc) (k : ℕ) (q : Identity) where
 
   -- deletes
 
-  delete_none : (pod : Key) (given : Version) (node : ℕ) (node_given : Version) (at : ℕ) (b : Bool) (h : List Entry) → Needs (delete_if k q pod given node node_given at b h) h b
+  delete_none : (pod : Key) (given : Version) (node : ℕ) (node_given : Version) (at : ℕ) (b : Bool) (h : List Entry) → Needs (if b then add_delete k q pod given node node_given at h else h) h b
   delete_none pod given node node_given at true h = busy _ h
   delete_none pod given node node_given at false h = idle h
 
@@ -326,7 +327,7 @@ module _ (doc : Doc) (k : ℕ) (q : Identity) where
   evict_waits : (pod : Key) (h : List Entry) → Waits (evict doc k q pod h) h (is_early (wall doc q.process k) (due_at q pod h))
   evict_waits pod h = evict_seen_waits pod (is_stale q pod h) (seen_pod q pod h) h
 
-  delete_adds : (pod : Key) (given : Version) (node : ℕ) (node_given : Version) (at : ℕ) (b : Bool) (h : List Entry) → IsTail h (delete_if k q pod given node node_given at b h)
+  delete_adds : (pod : Key) (given : Version) (node : ℕ) (node_given : Version) (at : ℕ) (b : Bool) (h : List Entry) → IsTail h (if b then add_delete k q pod given node node_given at h else h)
   delete_adds pod given node node_given at true h = inr (tail_all h)
   delete_adds pod given node node_given at false h = tail_all h
 

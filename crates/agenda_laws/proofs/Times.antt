@@ -1,16 +1,17 @@
 -- Each part of a turn but for the tick adds something exactly from a reading on.
 use Rattle.std.proofs.Common.{◌≡◌, ◌↔◌, ℕ, ◌+◌, ◌&&◌, not, nat_lt, Bool, true, false, List, ◌∷◌, Option, Some, None, refl, arith}
+use Rattle.std.specs.Prelude.{if◌then◌else◌}
 use Rattle.std.proofs.lemmas.Bool.Decides.{nat_tests}
 use Rattle.kube_objects.specs.Clocks.{local}
 use Rattle.kube_objects.specs.Document.{Doc, call_timeout, restart_delay}
 use Rattle.kube_objects.specs.Elector.{deadline, timer}
-use Rattle.kube_objects.specs.Entry.{Entry, Identity, Call}
+use Rattle.kube_objects.specs.Entry.{Entry, Identity, Call, entry, Expires, Ends}
 use Rattle.kube_objects.specs.Identities.{identity}
 use Rattle.kube_objects.specs.Kubelet.{has_round, round_timer, round_if, round, is_post_call}
 use Rattle.kube_objects.specs.Newest.{has}
 use Rattle.kube_objects.specs.Process.{alive, call_in, is_late, ended, is_restart_due}
-use Rattle.kube_objects.specs.Turns.{expire_as, expire_call, end_as, end_term, just_expired, is_fast_call, attempt_if, try}
-use Rattle.history.specs.Steps.{if_up as steps_if_up, restart_as, restart_if, elector_turn, kubelet_turn}
+use Rattle.kube_objects.specs.Turns.{expire_call, end_term, just_expired, is_fast_call, attempt_if, try}
+use Rattle.history.specs.Steps.{if_up as steps_if_up, restart_if, elector_turn, kubelet_turn, start}
 use Rattle.history_laws.proofs.Plainly.{true_is, false_is}
 use Rattle.agenda_laws.specs.Times.{is_early, sooner, if_up, restart_at, round_at, deadline_at, expiry_at, attempt_at, restart_after, restart_if_down, RestartsWake, late_at, ExpiriesWake, DeadlinesWake, unless_waiting, AttemptsWake, LostNoUpdate, LostNoPost, elector_reading, ElectorsWake, kubelet_reading, KubeletsWake, unless_running, RoundsWake}
 use Rattle.agenda_laws.proofs.Between.{grew, sooner_both, both_sooner}
@@ -34,11 +35,11 @@ up_waits p f g at h (Some i) one = one i refl
 module _ (doc : Doc) (k p : ℕ) (h : List Entry) where
   -- ---- a restart
 
-  restart_waits_if : (b : Bool) → Waits (restart_as k p (not b) h) h b
+  restart_waits_if : (b : Bool) → Waits (if (not b) then start k 4 p h else h) h b
   restart_waits_if true = never h
   restart_waits_if false = now _ h
 
-  restart_waits_after : (o : Option ℕ) → Waits (restart_as k p (is_restart_due doc p k o) h) h (is_early (local doc p k) (restart_after doc p o))
+  restart_waits_after : (o : Option ℕ) → Waits (if (is_restart_due doc p k o) then start k 4 p h else h) h (is_early (local doc p k) (restart_after doc p o))
   restart_waits_after None = never h
   restart_waits_after (Some at) = restart_waits_if (nat_lt (local doc p k) (local doc p at + restart_delay doc))
 
@@ -51,7 +52,7 @@ module _ (doc : Doc) (k p : ℕ) (h : List Entry) where
   late_is : (at reads : ℕ) → nat_lt at reads ≡ false ↔ nat_lt reads (at + 1) ≡ true
   late_is at reads = (λ is. grind (arith, nat_tests), λ is. grind (arith, nat_tests))
 
-  expire_none : (q : Identity) (call : Call) (b : Bool) → expire_as k q call b h ≡ h ↔ b ≡ false
+  expire_none : (q : Identity) (call : Call) (b : Bool) → (if b then entry k 4 q (Expires call) ∷ h else h) ≡ h ↔ b ≡ false
   expire_none q call false = (λ is. refl, λ is. refl)
   expire_none q call true = (λ is. absurd (grew _ h is), λ is. absurd (true_is is))
 
@@ -64,7 +65,7 @@ module _ (doc : Doc) (k p : ℕ) (h : List Entry) where
 
   -- ---- the end of a term
 
-  end_waits_if : (q : Identity) (b : Bool) → Waits (end_as k q b h) h b
+  end_waits_if : (q : Identity) (b : Bool) → Waits (if b then h else entry k 4 q Ends ∷ h) h b
   end_waits_if q true = never h
   end_waits_if q false = now _ h
 

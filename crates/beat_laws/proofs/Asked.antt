@@ -6,6 +6,7 @@ use Rattle.kube_objects.specs.declared.call.Request.{Request}
 use Rattle.kube_objects.specs.declared.call.Request.TheVariants.{Get, Create, Update, PostStatus}
 use Rattle.kube_objects.specs.declared.deed.Actor.{Actor}
 use Rattle.kube_objects.specs.Document.{Doc}
+use Rattle.kube_objects.specs.Clocks.{wall}
 use Rattle.kube_objects.specs.Elector.{Moment, Shown, Follow, Fails, Asks, moment, is_blocked, updated, follow_get, not_done, follow_write, follow_on, leads, observed_at, shown, is_valid, renewed, attempt_from, attempt, release_from, given_up, release}
 use Rattle.kube_objects.specs.Entry.{Entry, Identity, Call, CallKind, Plain, Fast, Release, Fact, Sends, Delivers, Expires}
 use Rattle.kube_objects.specs.Identities.{is_by, is_own, identity_of}

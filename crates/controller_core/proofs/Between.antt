@@ -1,5 +1,6 @@
 -- What a phase of a tick leaves that has no entry of its kind.
 use Rattle.std.proofs.Common.{◌≡◌, ◌∙◌, ℕ, ◌&&◌, not, Bool, true, false, List, Option, IfSome, option_map, refl, sym, ap, subst}
+use Rattle.std.specs.Prelude.{if◌then◌else◌}
 use Rattle.kube_base.specs.declared.numbers.Local.{Local}
 use Rattle.kube_objects.specs.declared.deed.Deed.{Deed}
 use Rattle.kube_objects.specs.Clocks.{local}
@@ -8,7 +9,7 @@ use Rattle.kube_objects.specs.Entry.{Entry, Identity, Tick, Ticks, Sync, Untaint
 use Rattle.kube_objects.specs.Health.{last_pass}
 use Rattle.kube_objects.specs.InForce.{watches}
 use Rattle.kube_objects.specs.Seen.{is_fresh, is_synced}
-use Rattle.kube_objects.specs.Tick.{add, cleaned, evicted, sync, sync_if, tainted}
+use Rattle.kube_objects.specs.Tick.{add, cleaned, evicted, sync, tainted}
 use Rattle.history_laws.proofs.Plainly.{false_is}
 use Rattle.node_health.specs.Stands.{is_of_health}
 use Rattle.node_health.proofs.Frames.{SaysSame, says-same, says-then, unheard-kind}
@@ -66,7 +67,7 @@ last_stands doc q h g last same s = s ∙ ap (option_map (local doc q.process)) 
 pub unsynced_none : (doc : Doc) (k : ℕ) (q : Identity) (h : List Entry) → is_synced q (sync doc k q h) ≡ false → sync doc k q h ≡ h
 unsynced_none doc k q h none = by_test (watches doc q.process h && not (is_fresh q h)) none
   where
-    by_test : (b : Bool) → is_synced q (sync_if k q b h) ≡ false → sync_if k q b h ≡ h
+    by_test : (b : Bool) → is_synced q (if b then add k q Sync h else h) ≡ false → (if b then add k q Sync h else h) ≡ h
     by_test true none = absurd (false_is (sym none ∙ sync_synced q k h))
     by_test false none = refl
 
@@ -74,6 +75,6 @@ unsynced_none doc k q h none = by_test (watches doc q.process h && not (is_fresh
 pub told_synced : (doc : Doc) (k : ℕ) (q : Identity) (before : List Deed) (h : List Entry) (t : Told) → IsTold q k before h t → IsTold q k before (sync doc k q h) t
 told_synced doc k q before h t s = by_test (watches doc q.process h && not (is_fresh q h))
   where
-    by_test : (b : Bool) → IsTold q k before (sync_if k q b h) t
+    by_test : (b : Bool) → IsTold q k before (if b then add k q Sync h else h) t
     by_test true = told_beside q k before h Sync t refl s
     by_test false = s

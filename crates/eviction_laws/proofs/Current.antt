@@ -1,5 +1,6 @@
 -- After a tick that reaches the store no pod is due.
 use Rattle.std.proofs.Common.{◌≡◌, ◌∙◌, inl, inr, ℕ, ◌&&◌, not, nat_le, Bool, true, false, cond, List, [], ◌∷◌, Option, Some, None, refl, sym, ap, subst}
+use Rattle.std.specs.Prelude.{if◌then◌else◌}
 use Rattle.std.proofs.lemmas.Bool.{eq-eqb, le-leb}
 use Rattle.kube_base.specs.declared.numbers.Version.{Version}
 use Rattle.kube_objects.specs.declared.call.Answer.{Answer}
@@ -25,7 +26,7 @@ use Rattle.kube_objects.specs.Keys.{key_eq}
 use Rattle.kube_objects.specs.Newest.{newest, when, only_if, join, has, or_else}
 use Rattle.kube_objects.specs.Seen.{pod_in, seen, seen_pod, fresh_says, is_fresh, synced_says, is_synced, is_refused, stale_tick, stale_says, is_stale, is_pod, pod_keys}
 use Rattle.kube_objects.specs.Stored.{Held, node_key, holds, tick_write, write_of, last_write, stored, next_version}
-use Rattle.kube_objects.specs.Tick.{add, for_each, sync_if, sync, pass, cleaned, tainted, delete_if, evict_due, evict_on, evict_seen, evict, evicted, tick_if, tick}
+use Rattle.kube_objects.specs.Tick.{add, for_each, sync, pass, cleaned, tainted, evict_due, evict_on, evict_seen, evict, evicted, tick, add_delete, phases}
 use Rattle.kube_objects.specs.Tolerations.{due}
 use Rattle.kube_objects.specs.Tries.{as_answer, try_delete}
 use Rattle.kube_objects.specs.Wire.{loses_requests}
@@ -143,9 +144,9 @@ record FineSynced (q : Identity) (h : List Entry) : Type 0 where
   synced : is_synced q h ≡ true
 
 fine_sync : (doc : Doc) (k : ℕ) (q : Identity) (h : List Entry) → Unstale q h → watches doc q.process h ≡ true → loses_requests q.process h ≡ false → FineSynced q (sync doc k q h)
-fine_sync doc k q h old watching passing = subst (λ b. FineSynced q (sync_if k q (b && not (is_fresh q h)) h)) (sym watching) (by_test (is_fresh q h) refl)
+fine_sync doc k q h old watching passing = subst (λ b. FineSynced q (if (b && not (is_fresh q h)) then add k q Sync h else h)) (sym watching) (by_test (is_fresh q h) refl)
   where
-    by_test : (b : Bool) → is_fresh q h ≡ b → FineSynced q (sync_if k q (not b) h)
+    by_test : (b : Bool) → is_fresh q h ≡ b → FineSynced q (if (not b) then add k q Sync h else h)
     by_test true is = record { fine = record { mirrors = fresh q h is; unstale = old is; passes = passing }; synced = fresh_synced q h is }
     by_test false is = record {
       fine = record {
@@ -236,7 +237,7 @@ module _ (doc : Doc) (k : ℕ) (q : Identity) where
               (subst (λ t. as_answer (cond t (delete_at_node next b.version (Some b)) (reply.Conflict a.version)) ≡ Some (answer.Done next)) (sym (eq-eqb a.version.0 a.version.0 refl))
               (subst (λ t. as_answer (cond t (reply.Done next) (reply.Conflict b.version)) ≡ Some (answer.Done next)) (sym (eq-eqb b.version.0 b.version.0 refl)) refl))))
 
-      by_time : (a b : Held) (name at : ℕ) → stored pod h ≡ Some a → stored (node_key name) h ≡ Some b → pod_due pod h ≡ At at → (t : Bool) → nat_le at now ≡ t → Timely pod (delete_if k q pod a.version name b.version at t h)
+      by_time : (a b : Held) (name at : ℕ) → stored pod h ≡ Some a → stored (node_key name) h ≡ Some b → pod_due pod h ≡ At at → (t : Bool) → nat_le at now ≡ t → Timely pod (if t then add_delete k q pod a.version name b.version at h else h)
       by_time a b name at here node time true test = accepted a b name at here node
       by_time a b name at here node time false test = λ d. false_is (sym test ∙ le-leb at now (subst (IsDue now) time d))
 
@@ -286,5 +287,5 @@ module _ (doc : Doc) (k : ℕ) (q : Identity) where
       let b = pass doc k q a in
       let c = cleaned doc k q b in
       let s = fine_sync doc k q h old watching passing in
-      subst (λ t. Timely pod (tick_if doc k q t a)) (sym s.synced)
+      subst (λ t. Timely pod (if t then phases doc k q a else a)) (sym s.synced)
       (evicted_clear pod (tainted doc k q c) kind (walk_tainted doc k q (Fine q) (fine_more doc k q) c (walk_cleaned doc k q (Fine q) (fine_more doc k q) b (walk_pass doc k q (Fine q) (fine_more doc k q) a s.fine))))

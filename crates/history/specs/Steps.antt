@@ -1,5 +1,5 @@
 -- The four steps of a beat. Each adds its entries to the history before it. Source: profile.
-use Rattle.std.specs.Prelude.{ℕ, zero, suc, ◌+◌, ◌==◌, not, Bool, true, false, List, [], ◌∷◌, Option, Some, None}
+use Rattle.std.specs.Prelude.{ℕ, zero, suc, ◌+◌, ◌==◌, if◌then◌else◌, not, Bool, true, false, List, [], ◌∷◌, Option, Some, None}
 use Rattle.kube_base.specs.declared.numbers.Version.{Version}
 use Rattle.kube_objects.specs.declared.call.Reply.{Reply}
 use Rattle.kube_objects.specs.declared.call.Request.{Request}
@@ -84,14 +84,10 @@ event_version _ h = None
 abbrev pub happens : Doc → ℕ → What → List Entry → List Entry
 happens doc k event h = effect doc k event h (script_entry k 1 (Happens (stamp doc k event) (event_version event h)) ∷ h)
 
-abbrev pub happens_if : Doc → ℕ → What → Bool → List Entry → List Entry
-happens_if doc k event false h = h
-happens_if doc k event true h = happens doc k event h
-
 -- the events of a beat, in order
 abbrev pub happen_all : Doc → ℕ → List Event → List Entry → List Entry
 happen_all doc k [] h = h
-happen_all doc k (e ∷ es) h = happen_all doc k es (happens_if doc k e.what (e.beat.0 == k) h)
+happen_all doc k (e ∷ es) h = happen_all doc k es (if e.beat.0 == k then happens doc k e.what h else h)
 
 abbrev pub step_one : Doc → ℕ → List Entry → List Entry
 step_one doc k h = happen_all doc k doc.events (first_starts doc k h)
@@ -110,13 +106,9 @@ comes_at k (Some at) = at == k
 abbrev pub answered : Doc → ℕ → Sent → List Entry → List Entry
 answered doc k s h = entry k 2 s.who (Answers s.call (answer s.call.request h) (reply_arrival doc s.who.process k h) (written s.call.request h)) ∷ h
 
-abbrev pub answer_if : Doc → ℕ → Sent → Bool → List Entry → List Entry
-answer_if doc k s false h = h
-answer_if doc k s true h = answered doc k s h
-
 abbrev pub answer_due : Doc → ℕ → Option Sent → List Entry → List Entry
 answer_due doc k None h = h
-answer_due doc k (Some s) h = answer_if doc k s (comes_at k s.arrives) h
+answer_due doc k (Some s) h = if comes_at k s.arrives then answered doc k s h else h
 
 abbrev pub step_two : Doc → ℕ → List Entry → List Entry
 step_two doc k h = each (λ e. answer_due doc k (sent_of e.actor e.fact)) h h
@@ -140,13 +132,9 @@ deliver_as doc k q call reply (Some waiting) h = react_as doc k q waiting reply 
 abbrev pub delivered : Doc → ℕ → Back → List Entry → List Entry
 delivered doc k b h = deliver_as doc k b.who b.call b.reply (counted doc b.who k b.call.number h) h
 
-abbrev pub deliver_if : Doc → ℕ → Back → Bool → List Entry → List Entry
-deliver_if doc k b false h = h
-deliver_if doc k b true h = delivered doc k b h
-
 abbrev pub deliver_due : Doc → ℕ → Option Back → List Entry → List Entry
 deliver_due doc k None h = h
-deliver_due doc k (Some b) h = deliver_if doc k b (comes_at k b.comes) h
+deliver_due doc k (Some b) h = if comes_at k b.comes then delivered doc k b h else h
 
 abbrev pub step_three : Doc → ℕ → List Entry → List Entry
 step_three doc k h = each (λ e. deliver_due doc k (back_of e.actor e.fact)) h h
@@ -158,13 +146,9 @@ abbrev pub if_up : ℕ → (Identity → List Entry → List Entry) → Option �
 if_up p f None h = h
 if_up p f (Some i) h = f (identity p i) h
 
-abbrev pub restart_as : ℕ → ℕ → Bool → List Entry → List Entry
-restart_as k p false h = h
-restart_as k p true h = start k 4 p h
-
 abbrev pub restart_if : Doc → ℕ → ℕ → Option ℕ → List Entry → List Entry
 restart_if doc k p (Some i) h = h
-restart_if doc k p None h = restart_as k p (is_restart_due doc p k (ended doc p h)) h
+restart_if doc k p None h = if is_restart_due doc p k (ended doc p h) then start k 4 p h else h
 
 -- a controller that is down starts again once its clock has reached its restart
 abbrev pub restart : Doc → ℕ → ℕ → List Entry → List Entry
@@ -181,13 +165,9 @@ finish doc k p h = if_up p (λ q T. end_term doc k q (deadline doc q T) T) (aliv
 abbrev pub attempts : Doc → ℕ → ℕ → List Entry → List Entry
 attempts doc k p h = if_up p (try doc k) (alive p h) h
 
--- where it acts as the leader
-abbrev pub tick_as : Doc → ℕ → Identity → Bool → List Entry → List Entry
-tick_as doc k q false h = h
-tick_as doc k q true h = tick doc k q h
-
+-- the tick of who acts as the leader
 abbrev pub ticks : Doc → ℕ → ℕ → List Entry → List Entry
-ticks doc k p h = if_up p (λ q T. tick_as doc k q (acts doc q k T) T) (alive p h) h
+ticks doc k p h = if_up p (λ q T. if acts doc q k T then tick doc k q T else T) (alive p h) h
 
 -- a controller's turn but for its tick
 abbrev pub elector_turn : Doc → ℕ → ℕ → List Entry → List Entry
@@ -203,17 +183,12 @@ rounds doc k p h = if_up p (round doc k) (alive p h) h
 abbrev pub kubelet_turn : Doc → ℕ → ℕ → List Entry → List Entry
 kubelet_turn doc k p h = rounds doc k p (expire doc k p h)
 
-abbrev pub turn_as : Doc → ℕ → ℕ → Bool → List Entry → List Entry
-turn_as doc k p true h = controller_turn doc k p h
-turn_as doc k p false h = kubelet_turn doc k p h
+abbrev pub unpaused_turn : Doc → ℕ → ℕ → List Entry → List Entry
+unpaused_turn doc k p h = if is_controller doc p then controller_turn doc k p h else kubelet_turn doc k p h
 
 -- a process that is paused has no turn
-abbrev pub turn_unless : Doc → ℕ → ℕ → Bool → List Entry → List Entry
-turn_unless doc k p true h = h
-turn_unless doc k p false h = turn_as doc k p (is_controller doc p) h
-
 abbrev pub turn : Doc → ℕ → ℕ → List Entry → List Entry
-turn doc k p h = turn_unless doc k p (is_paused doc p k) h
+turn doc k p h = if is_paused doc p k then h else unpaused_turn doc k p h
 
 -- the turns of the processes below p
 abbrev pub turns : Doc → ℕ → ℕ → List Entry → List Entry

@@ -1,5 +1,6 @@
 -- One walk through a tick, for every property that each of its entries keeps.
 use Rattle.std.proofs.Common.{◌≡◌, ◌≤◌, ℕ, ◌&&◌, not, nat_lt, nat_le, if◌then◌else◌, Bool, true, false, List, [], ◌∷◌, Option, Some, None, refl, arith}
+use Rattle.std.specs.Prelude.{if◌then◌else◌}
 use Rattle.std.specs.List.{list_any}
 use Rattle.std.specs.declared.cmp.Ordering.{Ordering}
 use Rattle.std.specs.declared.cmp.Ordering.TheVariants.{Less, Equal, Greater}
@@ -25,7 +26,7 @@ use Rattle.kube_objects.specs.Newest.{when}
 use Rattle.kube_objects.specs.Seen.{seen_node, seen_pod, is_fresh, is_synced, is_stale, node_names, is_pod, pod_key, pod_keys, insert_once, insert_named, named}
 use Rattle.kube_objects.specs.Stored.{Write, write_of, node_key}
 use Rattle.kube_objects.specs.Tainting.{Wants, Nothing, Wanted, Whatever, wants, has_condition, is_opposite, waits, Queued, head_of}
-use Rattle.kube_objects.specs.Tick.{add, for_each, sync_if, sync, mark_as, mark_seen, mark, mode_if, is_same_mode, mode_as, set_mode, zone_if, zone_as, zone, set_zones, marks, pass_if, pass, untaint_if, swap_if, clean_as, clean_seen, clean, cleaned, taint_as, taint_head, taint_if, taint, tainted, delete_if, evict_due, evict_on, evict_seen, evict, evicted, tick_if, tick}
+use Rattle.kube_objects.specs.Tick.{add, for_each, sync, mark_as, mark_seen, mark, is_same_mode, mode_as, set_mode, zone_as, zone, set_zones, marks, pass, clean_as, clean_seen, clean, cleaned, taint_as, taint_head, taint, tainted, evict_due, evict_on, evict_seen, evict, evicted, tick, whole_pass, add_untaint, add_swap, taint_first, add_delete, phases}
 use Rattle.kube_objects.specs.Tokens.{rated, is_rated, has_token}
 use Rattle.kube_objects.specs.Tolerations.{due}
 use Rattle.kube_objects.specs.Tries.{try_node, try_delete}
@@ -125,7 +126,7 @@ pub evict_step : (doc : Doc) (k : ℕ) (q : Identity) (P : List Entry → Type 0
 evict_step doc k q P pod h kind p more = by_stale (is_stale q pod h) (seen_pod q pod h) refl
   where
     by_time : (x : Version × Pod) (y : Version × Node) → seen_pod q pod h ≡ Some x → seen_node q x.1.node h ≡ Some y → (at : ℕ) → due x.1 y.1 ≡ At at → (b : Bool) → nat_le at (wall doc q.process k) ≡ b
-        → P (delete_if k q pod x.0 x.1.node y.0 at b h)
+        → P (if b then add_delete k q pod x.0 x.1.node y.0 at h else h)
     by_time x y sees sees_node at time false test = p
     by_time x y sees sees_node at time true test =
         more x.0 y.0 at (try_delete q pod x.0 x.1.node y.0 h) (record { kind = kind; x = x.1; y = y.1; sees = sees; sees_node = sees_node; time = time; test = test; is = refl })
@@ -157,7 +158,7 @@ module _ (doc : Doc) (k : ℕ) (q : Identity) (P : List Entry → Type 0) (more 
   pub walk_sync : (h : List Entry) → P h → P (sync doc k q h)
   walk_sync h p = by_test (watches doc q.process h && not (is_fresh q h))
     where
-      by_test : (b : Bool) → P (sync_if k q b h)
+      by_test : (b : Bool) → P (if b then add k q Sync h else h)
       by_test true = more Sync h tt p
       by_test false = p
 
@@ -175,7 +176,7 @@ module _ (doc : Doc) (k : ℕ) (q : Identity) (P : List Entry → Type 0) (more 
   walk_mode : (h : List Entry) → P h → P (set_mode doc k q h)
   walk_mode h p = by_mode (all_full doc (nodes q h))
     where
-      by_test : (on b : Bool) → P (mode_if k q on b h)
+      by_test : (on b : Bool) → P (if b then h else add k q (Mode on) h)
       by_test on true = p
       by_test on false = more (Mode on) h tt p
 
@@ -185,7 +186,7 @@ module _ (doc : Doc) (k : ℕ) (q : Identity) (P : List Entry → Type 0) (more 
   walk_zone : (seen : List Node) (place : Place) (h : List Entry) → P h → P (zone doc k q seen place h)
   walk_zone seen place h p = by_state (state_in doc seen place) (rate_in doc (mode q h) seen place) (rate_most doc (mode q h) (state_in doc seen place) (size_in place seen))
     where
-      by_test : (s : ZoneState) (rate : ℕ) → IsRate doc rate → (b : Bool) → P (zone_if k q place s rate b h)
+      by_test : (s : ZoneState) (rate : ℕ) → IsRate doc rate → (b : Bool) → P (if b then h else add k q (Zone place s rate) h)
       by_test s rate most true = p
       by_test s rate most false = more (Zone place s rate) h most p
 
@@ -198,7 +199,7 @@ module _ (doc : Doc) (k : ℕ) (q : Identity) (P : List Entry → Type 0) (more 
   pub walk_pass : (h : List Entry) → P h → P (pass doc k q h)
   walk_pass h p = by_test (is_pass_due doc k q h)
     where
-      by_test : (b : Bool) → P (pass_if doc k q b h)
+      by_test : (b : Bool) → P (if b then whole_pass doc k q h else h)
       by_test false = p
       by_test true =
           let passed = add k q Pass h in
@@ -208,11 +209,11 @@ module _ (doc : Doc) (k : ℕ) (q : Identity) (P : List Entry → Type 0) (more 
   walk_clean : (name : ℕ) (h : List Entry) → P h → P (clean doc k q name h)
   walk_clean name h p = by_stale (is_stale q (node_key name) h) (seen_node q name h) refl
     where
-      by_untaint : (x : Version × Node) → seen_node q name h ≡ Some x → (b : Bool) → P (untaint_if k q name x.0 x.1 b h)
+      by_untaint : (x : Version × Node) → seen_node q name h ≡ Some x → (b : Bool) → P (if b then add_untaint k q name x.0 x.1 h else h)
       by_untaint x is false = p
       by_untaint x is true = more _ h (x.1, is, refl) p
 
-      by_swap : (x : Version × Node) → seen_node q name h ≡ Some x → (wanted : ℕ) (b : Bool) → P (swap_if doc k q name x.0 x.1 wanted b h)
+      by_swap : (x : Version × Node) → seen_node q name h ≡ Some x → (wanted : ℕ) (b : Bool) → P (if b then add_swap doc k q name x.0 x.1 wanted h else h)
       by_swap x is wanted false = p
       by_swap x is wanted true = more _ h (x.1, is, refl) p
 
@@ -241,7 +242,7 @@ module _ (doc : Doc) (k : ℕ) (q : Identity) (P : List Entry → Type 0) (more 
       by_head token None = p
       by_head token (Some head) = by_seen token head.1 (waits q place head.1 h) (seen_node q head.1 h) refl
 
-      by_token : (b : Bool) → has_token doc q k place h ≡ b → P (taint_if doc k q place b h)
+      by_token : (b : Bool) → has_token doc q k place h ≡ b → P (if b then taint_first doc k q place h else h)
       by_token false token = p
       by_token true token = by_head token (head_of q place (node_names h) h)
 
@@ -257,7 +258,7 @@ module _ (doc : Doc) (k : ℕ) (q : Identity) (P : List Entry → Type 0) (more 
   pub walk_tick : (h : List Entry) → P h → P (tick doc k q h)
   walk_tick h p = by_test (is_synced q (sync doc k q h))
     where
-      by_test : (b : Bool) → P (tick_if doc k q b (sync doc k q h))
+      by_test : (b : Bool) → P (if b then phases doc k q (sync doc k q h) else (sync doc k q h))
       by_test false = walk_sync h p
       by_test true =
           let a = sync doc k q h in

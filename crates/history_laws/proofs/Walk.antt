@@ -1,5 +1,6 @@
 -- One walk through the steps of every beat: what each kind of entry keeps holds of every history.
 use Rattle.std.proofs.Common.{◌≡◌, ◌⊎◌, ℕ, zero, suc, ◌+◌, ◌==◌, ◌&&◌, not, nat_lt, Bool, true, false, List, [], ◌∷◌, Option, Some, None, IfSome, refl, sym, subst, inl, inr}
+use Rattle.std.specs.Prelude.{if◌then◌else◌}
 use Rattle.kube_base.specs.declared.numbers.ProcId.{ProcId}
 use Rattle.kube_base.specs.declared.numbers.Version.{Version}
 use Rattle.kube_objects.specs.declared.call.Request.{Request}
@@ -19,10 +20,10 @@ use Rattle.kube_objects.specs.Pauses.{is_paused}
 use Rattle.kube_objects.specs.Process.{alive, starts, begun, call_in, counted, is_late, ended, is_restart_due}
 use Rattle.kube_objects.specs.Stored.{election, node_lease}
 use Rattle.kube_objects.specs.Tick.{tick}
-use Rattle.kube_objects.specs.Turns.{lead_if, react, expire_as, expire_call, end_as, end_term, just_expired, is_fast_call, attempt_if, try}
+use Rattle.kube_objects.specs.Turns.{react, expire_call, end_term, just_expired, is_fast_call, attempt_if, try}
 use Rattle.kube_objects.specs.Wire.{send, Sent, Back, sent_of, back_of}
 use Rattle.history.specs.History.{three_steps, history, at_turn}
-use Rattle.history.specs.Steps.{start, start_first, starts_below, first_starts, start_if_down, crash, stall, released, stop, effect, stamp, event_version, happens_if, happen_all, step_one, each, comes_at, answered, answer_if, answer_due, step_two, react_as, deliver_as, deliver_if, deliver_due, step_three, if_up, restart_as, restart_if, restart, expire, finish, attempts, tick_as, ticks, controller_turn, kubelet_turn, turn_as, turn_unless, turn, turns, elector_turn}
+use Rattle.history.specs.Steps.{start, start_first, starts_below, first_starts, start_if_down, crash, stall, released, stop, effect, stamp, event_version, happen_all, step_one, each, comes_at, answered, answer_due, step_two, react_as, deliver_as, deliver_due, step_three, if_up, restart_if, restart, expire, finish, attempts, ticks, controller_turn, kubelet_turn, turn, turns, elector_turn, happens, delivered, unpaused_turn}
 use Rattle.history_laws.specs.Tails.{In}
 use Rattle.history_laws.proofs.Counting.{counted_is, only_test, only_value}
 use Rattle.history_laws.proofs.Expired.{expired_none}
@@ -215,7 +216,7 @@ module _ (doc : Doc) (A : Identity → ℕ → Type 0) (P : ℕ → List Entry �
   walk_if_up k p f one None h is s = s
   walk_if_up k p f one (Some i) h is s = one i h is s
 
-  walk_restart_as : (k p : ℕ) (b : Bool) (h : List Entry) → P k h → P k (restart_as k p b h)
+  walk_restart_as : (k p : ℕ) (b : Bool) (h : List Entry) → P k h → P k (if b then start k 4 p h else h)
   walk_restart_as k p false h s = s
   walk_restart_as k p true h s = keeps.restarts k p h s
 
@@ -223,7 +224,7 @@ module _ (doc : Doc) (A : Identity → ℕ → Type 0) (P : ℕ → List Entry �
   walk_restart k p (Some i) h s = s
   walk_restart k p None h s = walk_restart_as k p (is_restart_due doc p k (ended doc p h)) h s
 
-  walk_expire_as : (k p i : ℕ) (call : Call) (h : List Entry) → alive p h ≡ Some i → call_in (identity p i) h ≡ Some call → (b : Bool) → is_late doc (identity p i) k call ≡ b → P k h → P k (expire_as k (identity p i) call b h)
+  walk_expire_as : (k p i : ℕ) (call : Call) (h : List Entry) → alive p h ≡ Some i → call_in (identity p i) h ≡ Some call → (b : Bool) → is_late doc (identity p i) k call ≡ b → P k h → P k (if b then entry k 4 (identity p i) (Expires call) ∷ h else h)
   walk_expire_as k p i call h up waits false late s = s
   walk_expire_as k p i call h up waits true late s = keeps.expires k p i call h up waits late s
 
@@ -231,7 +232,7 @@ module _ (doc : Doc) (A : Identity → ℕ → Type 0) (P : ℕ → List Entry �
   walk_expire k p i h up None waits s = s
   walk_expire k p i h up (Some call) waits s = walk_expire_as k p i call h up waits (is_late doc (identity p i) k call) refl s
 
-  walk_end_as : (k p i at : ℕ) → is_controller doc p ≡ true → (h : List Entry) → alive p h ≡ Some i → deadline doc (identity p i) h ≡ Some at → (b : Bool) → nat_lt (local doc p k) at ≡ b → P k h → P k (end_as k (identity p i) b h)
+  walk_end_as : (k p i at : ℕ) → is_controller doc p ≡ true → (h : List Entry) → alive p h ≡ Some i → deadline doc (identity p i) h ≡ Some at → (b : Bool) → nat_lt (local doc p k) at ≡ b → P k h → P k (if b then h else entry k 4 (identity p i) Ends ∷ h)
   walk_end_as k p i at role h up is true before s = s
   walk_end_as k p i at role h up is false before s = keeps.ends k p i at h role up is before s
 
@@ -258,7 +259,7 @@ module _ (doc : Doc) (A : Identity → ℕ → Type 0) (P : ℕ → List Entry �
       by_call None due = refl
       by_call (Some c) due = absurd (true_is (sym due))
 
-  walk_tick_as : (k : ℕ) (q : Identity) (b : Bool) → (b ≡ true → A q k) → (h : List Entry) → P k h → P k (tick_as doc k q b h)
+  walk_tick_as : (k : ℕ) (q : Identity) (b : Bool) → (b ≡ true → A q k) → (h : List Entry) → P k h → P k (if b then tick doc k q h else h)
   walk_tick_as k q false acting h s = s
   walk_tick_as k q true acting h s = keeps.ticks k q h (acting refl) s
 
@@ -283,7 +284,7 @@ module _ (doc : Doc) (A : Identity → ℕ → Type 0) (P : ℕ → List Entry �
   pub walk_ticks : (k p : ℕ) (h : List Entry) → ((i : ℕ) → alive p h ≡ Some i → acts doc (identity p i) k h ≡ true → A (identity p i) k) → P k h → P k (ticks doc k p h)
   walk_ticks k p h acting s = by_up (alive p h) refl
     where
-      by_up : (o : Option ℕ) → alive p h ≡ o → P k (if_up p (λ q T. tick_as doc k q (acts doc q k T) T) o h)
+      by_up : (o : Option ℕ) → alive p h ≡ o → P k (if_up p (λ q T. (if (acts doc q k T) then tick doc k q T else T)) o h)
       by_up None up = s
       by_up (Some i) up = walk_tick_as k (identity p i) (acts doc (identity p i) k h) (acting i up) h s
 
@@ -308,11 +309,11 @@ module _ (doc : Doc) (A : Identity → ℕ → Type 0) (P : ℕ → List Entry �
       let h1 = expire doc k p h in
       walk_if_up k p (round doc k) (λ i T up s. walk_round k p i role T up awake s) (alive p h1) h1 refl (walk_expiry k p h s)
 
-  walk_turn_as : (k p : ℕ) (b : Bool) → is_controller doc p ≡ b → is_paused doc p k ≡ false → (h : List Entry) → Begins doc A k p h → P k h → P k (turn_as doc k p b h)
+  walk_turn_as : (k p : ℕ) (b : Bool) → is_controller doc p ≡ b → is_paused doc p k ≡ false → (h : List Entry) → Begins doc A k p h → P k h → P k (if b then controller_turn doc k p h else kubelet_turn doc k p h)
   walk_turn_as k p true role awake h begins s = walk_controller k p role awake h begins s
   walk_turn_as k p false role awake h begins s = walk_kubelet k p role awake h s
 
-  walk_turn_unless : (k p : ℕ) (b : Bool) → is_paused doc p k ≡ b → (h : List Entry) → Begins doc A k p h → P k h → P k (turn_unless doc k p b h)
+  walk_turn_unless : (k p : ℕ) (b : Bool) → is_paused doc p k ≡ b → (h : List Entry) → Begins doc A k p h → P k h → P k (if b then h else unpaused_turn doc k p h)
   walk_turn_unless k p true rests h begins s = s
   walk_turn_unless k p false awake h begins s = walk_turn_as k p (is_controller doc p) refl awake h begins s
 
@@ -394,14 +395,14 @@ module _ (doc : Doc) (P : ℕ → ℕ → List Entry → Type 0) (keeps : Keeps 
   walk_effect k (what.Put key object) before scripted s = s
   walk_effect k (what.Remove key) before scripted s = s
 
-  walk_happens : (k : ℕ) (e : Event) → InScript e doc.events → (b : Bool) → (e.beat.0 == k) ≡ b → (h : List Entry) → P k 1 h → P k 1 (happens_if doc k e.what b h)
+  walk_happens : (k : ℕ) (e : Event) → InScript e doc.events → (b : Bool) → (e.beat.0 == k) ≡ b → (h : List Entry) → P k 1 h → P k 1 (if b then happens doc k e.what h else h)
   walk_happens k e scripted false is h s = s
   walk_happens k e scripted true is h s = walk_effect k e.what h (e, scripted, refl, is) (keeps.event k e.what h (e, scripted, refl, is) s)
 
   pub walk_events : (k : ℕ) (es : List Event) → ((e : Event) → InScript e es → InScript e doc.events) → (h : List Entry) → P k 1 h → P k 1 (happen_all doc k es h)
   walk_events k [] among h s = s
   walk_events k (e ∷ es) among h s =
-      walk_events k es (λ x at. among x (inr at)) (happens_if doc k e.what (e.beat.0 == k) h) (walk_happens k e (among e (inl refl)) (e.beat.0 == k) refl h s)
+      walk_events k es (λ x at. among x (inr at)) (if (e.beat.0 == k) then happens doc k e.what h else h) (walk_happens k e (among e (inl refl)) (e.beat.0 == k) refl h s)
 
   pub walk_one : (k : ℕ) (h : List Entry) → P k 1 h → P k 1 (step_one doc k h)
   walk_one k h s = walk_events k doc.events (λ e at. at) (first_starts doc k h) (walk_first k h s)
@@ -420,7 +421,7 @@ module _ (doc : Doc) (P : ℕ → ℕ → List Entry → Type 0) (keeps : Keeps 
   more_over : (g : List Entry) (k step : ℕ) (x : Entry) (h : List Entry) → Over g k step h → P k step (x ∷ h) → Over g k step (x ∷ h)
   more_over g k step x h s new = (new, λ e at. inr (s.1 e at))
 
-  walk_answer_if : (k : ℕ) (g : List Entry) (e : Entry) (x : Sent) (b : Bool) → In e g → sent_of e.actor e.fact ≡ Some x → comes_at k x.arrives ≡ b → (h : List Entry) → Over g k 2 h → Over g k 2 (answer_if doc k x b h)
+  walk_answer_if : (k : ℕ) (g : List Entry) (e : Entry) (x : Sent) (b : Bool) → In e g → sent_of e.actor e.fact ≡ Some x → comes_at k x.arrives ≡ b → (h : List Entry) → Over g k 2 h → Over g k 2 (if b then answered doc k x h else h)
   walk_answer_if k g e x false stands is now h s = s
   walk_answer_if k g e x true stands is now h s = more_over g k 2 _ h s (keeps.answers k x h (record { e = e; stands = s.1 e stands; is = is; now = now }) s.0)
 
@@ -433,7 +434,7 @@ module _ (doc : Doc) (P : ℕ → ℕ → List Entry → Type 0) (keeps : Keeps 
 
   walk_lead : (k : ℕ) (g : List Entry) (b : Back) (waiting : Call) (h : List Entry) (led : Bool) (version : Version)
       → Over g k 3 (after_reply k b waiting h) → (P k 3 (after_reply k b waiting h) → P k 3 (entry k 3 b.who (Leads version) ∷ after_reply k b waiting h))
-      → Over g k 3 (lead_if k b.who led version (after_reply k b waiting h))
+      → Over g k 3 (if led then (after_reply k b waiting h) else entry k 3 b.who (Leads version) ∷ (after_reply k b waiting h))
   walk_lead k g b waiting h true version s new = s
   walk_lead k g b waiting h false version s new = more_over g k 3 _ (after_reply k b waiting h) s (new s.0)
 
@@ -459,7 +460,7 @@ module _ (doc : Doc) (P : ℕ → ℕ → List Entry → Type 0) (keeps : Keeps 
   walk_deliver_as k g b h coming (Some waiting) is s =
       walk_react_as k g b waiting h coming is (is_controller doc b.who.process) refl s.0 (more_over g k 3 _ h s (keeps.counts k b waiting h coming is s.0))
 
-  walk_deliver_if : (k : ℕ) (g : List Entry) (e : Entry) (x : Back) (b : Bool) → In e g → back_of e.actor e.fact ≡ Some x → comes_at k x.comes ≡ b → (h : List Entry) → Over g k 3 h → Over g k 3 (deliver_if doc k x b h)
+  walk_deliver_if : (k : ℕ) (g : List Entry) (e : Entry) (x : Back) (b : Bool) → In e g → back_of e.actor e.fact ≡ Some x → comes_at k x.comes ≡ b → (h : List Entry) → Over g k 3 h → Over g k 3 (if b then delivered doc k x h else h)
   walk_deliver_if k g e x false stands is now h s = s
   walk_deliver_if k g e x true stands is now h s = walk_deliver_as k g x h (record { e = e; stands = s.1 e stands; is = is; now = now }) (counted doc x.who k x.call.number h) refl s
 

@@ -1,5 +1,6 @@
 -- What an identity's own entries say of its call: a request is sent, expires, or has its reply.
 use Rattle.std.proofs.Common.{◌≡◌, ◌∙◌, ℕ, ◌+◌, ◌==◌, ◌&&◌, Bool, true, false, List, ◌∷◌, Option, Some, None, refl, ap, arith}
+use Rattle.std.specs.Prelude.{if◌then◌else◌}
 use Rattle.std.proofs.lemmas.Bool.Decides.{nat_tests}
 use Rattle.kube_objects.specs.declared.call.Reply.{Reply}
 use Rattle.kube_objects.specs.declared.call.Request.{Request}
@@ -9,7 +10,7 @@ use Rattle.kube_objects.specs.Entry.{Entry, Identity, Call, CallKind, Plain, Fas
 use Rattle.kube_objects.specs.Identities.{is_by}
 use Rattle.kube_objects.specs.Newest.{has, newest, only_if, when, join}
 use Rattle.kube_objects.specs.Process.{answered_call, begun, call_in, counted, is_late, last_call}
-use Rattle.kube_objects.specs.Turns.{expire_as, expire_call, expired_in, just_expired, with_reply}
+use Rattle.kube_objects.specs.Turns.{expire_call, expired_in, just_expired, with_reply}
 use Rattle.kube_objects.specs.Wire.{next_call}
 
 pub mine : (q : Identity) → is_by q (actor_of q) ≡ true
@@ -64,9 +65,9 @@ module _ (doc : Doc) (k : ℕ) (q : Identity) (h : List Entry) where
   -- without a late call nothing happens
   pub none_late : (c : Option Call) → is_late_call doc q k c ≡ false → expire_call doc k q c h ≡ h
   none_late None is = refl
-  none_late (Some call) is = ap (λ b. expire_as k q call b h) is
+  none_late (Some call) is = ap (λ b. (if b then entry k 4 q (Expires call) ∷ h else h)) is
 
-  begun_as : (call : Call) (b : Bool) → begun q (expire_as k q call b h) ≡ begun q h
+  begun_as : (call : Call) (b : Bool) → begun q (if b then entry k 4 q (Expires call) ∷ h else h) ≡ begun q h
   begun_as call true = refl
   begun_as call false = refl
 

@@ -1,6 +1,6 @@
 -- One tick of a controller that acts as the leader: what it adds to the history, step by step.
 -- Source: the node lifecycle controller of Kubernetes and its taint eviction controller; the order of the steps is the profile's.
-use Rattle.std.specs.Prelude.{ℕ, ◌&&◌, not, nat_le, Bool, true, false, List, [], ◌∷◌, ◌++◌, filter, Option, Some, None}
+use Rattle.std.specs.Prelude.{ℕ, ◌&&◌, if◌then◌else◌, not, nat_le, Bool, true, false, List, [], ◌∷◌, ◌++◌, filter, Option, Some, None}
 use Rattle.std.specs.List.{list_any}
 use Rattle.kube_base.specs.declared.numbers.Version.{Version}
 use Rattle.kube_objects.specs.declared.key.Key.{Key}
@@ -35,13 +35,9 @@ for_each f (x ∷ xs) h = for_each f xs (f x h)
 
 -- ---- the sync
 
-abbrev pub sync_if : ℕ → Identity → Bool → List Entry → List Entry
-sync_if k q false h = h
-sync_if k q true h = add k q Sync h
-
 -- where the watch is on and the cache isn't up to date
 abbrev pub sync : Doc → ℕ → Identity → List Entry → List Entry
-sync doc k q h = sync_if k q (watches doc q.process h && not (is_fresh q h)) h
+sync doc k q h = if watches doc q.process h && not (is_fresh q h) then add k q Sync h else h
 
 -- ---- the pass: marks, the mode, the zones
 
@@ -60,24 +56,16 @@ abbrev pub is_same_mode : Bool → Bool → Bool
 is_same_mode true on = on
 is_same_mode false on = not on
 
-abbrev pub mode_if : ℕ → Identity → Bool → Bool → List Entry → List Entry
-mode_if k q on true h = h
-mode_if k q on false h = add k q (Mode on) h
-
 -- on says whether the mode is on after this pass; it is an entry where that is a change
 abbrev pub mode_as : ℕ → Identity → Bool → List Entry → List Entry
-mode_as k q on h = mode_if k q on (is_same_mode on (mode q h)) h
+mode_as k q on h = if is_same_mode on (mode q h) then h else add k q (Mode on) h
 
 abbrev pub set_mode : Doc → ℕ → Identity → List Entry → List Entry
 set_mode doc k q h = mode_as k q (all_full doc (nodes q h)) h
 
-abbrev pub zone_if : ℕ → Identity → Place → ZoneState → ℕ → Bool → List Entry → List Entry
-zone_if k q place state rate true h = h
-zone_if k q place state rate false h = add k q (Zone place state rate) h
-
 -- an entry where the zone is new since the last pass, or its state or rate is
 abbrev pub zone_as : ℕ → Identity → Place → ZoneState → ℕ → List Entry → List Entry
-zone_as k q place state rate h = zone_if k q place state rate (is_rated state rate (rated q place h)) h
+zone_as k q place state rate h = if is_rated state rate (rated q place h) then h else add k q (Zone place state rate) h
 
 abbrev pub zone : Doc → ℕ → Identity → List Node → Place → List Entry → List Entry
 zone doc k q seen place h = zone_as k q place (state_in doc seen place) (rate_in doc (mode q h) seen place) h
@@ -88,12 +76,11 @@ set_zones doc k q h = for_each (zone doc k q (nodes q h)) (places (nodes q h)) h
 abbrev pub marks : Doc → ℕ → Identity → List Entry → List Entry
 marks doc k q h = for_each (mark doc k q) (node_names h) h
 
-abbrev pub pass_if : Doc → ℕ → Identity → Bool → List Entry → List Entry
-pass_if doc k q false h = h
-pass_if doc k q true h = set_zones doc k q (set_mode doc k q (marks doc k q (add k q Pass h)))
+abbrev pub whole_pass : Doc → ℕ → Identity → List Entry → List Entry
+whole_pass doc k q h = set_zones doc k q (set_mode doc k q (marks doc k q (add k q Pass h)))
 
 abbrev pub pass : Doc → ℕ → Identity → List Entry → List Entry
-pass doc k q h = pass_if doc k q (is_pass_due doc k q h) h
+pass doc k q h = if is_pass_due doc k q h then whole_pass doc k q h else h
 
 -- ---- untaints and swaps
 
@@ -122,18 +109,17 @@ abbrev pub swapped : Taint → Node → Node
 swapped taint node = with_taints node
     (and_taint (list_any (is_wanted taint.key) node.taints) taint (filter (λ other. not (is_opposite taint.key other)) node.taints))
 
-abbrev pub untaint_if : ℕ → Identity → ℕ → Version → Node → Bool → List Entry → List Entry
-untaint_if k q name given node false h = h
-untaint_if k q name given node true h = add k q (Untaint name given (untainted node) (try_node q name given h)) h
+abbrev pub add_untaint : ℕ → Identity → ℕ → Version → Node → List Entry → List Entry
+add_untaint k q name given node h = add k q (Untaint name given (untainted node) (try_node q name given h)) h
 
-abbrev pub swap_if : Doc → ℕ → Identity → ℕ → Version → Node → ℕ → Bool → List Entry → List Entry
-swap_if doc k q name given node wanted false h = h
-swap_if doc k q name given node wanted true h =
+abbrev pub add_swap : Doc → ℕ → Identity → ℕ → Version → Node → ℕ → List Entry → List Entry
+add_swap doc k q name given node wanted h =
     add k q (Swap name wanted given (swapped (new_taint doc k q wanted) node) (try_node q name given h)) h
 
 abbrev pub clean_as : Doc → ℕ → Identity → ℕ → Version → Node → Wants → List Entry → List Entry
-clean_as doc k q name given node Nothing h = untaint_if k q name given node (has_condition node) h
-clean_as doc k q name given node (Wanted wanted) h = swap_if doc k q name given node wanted (list_any (is_opposite wanted) node.taints) h
+clean_as doc k q name given node Nothing h = if has_condition node then add_untaint k q name given node h else h
+clean_as doc k q name given node (Wanted wanted) h =
+    if list_any (is_opposite wanted) node.taints then add_swap doc k q name given node wanted h else h
 clean_as doc k q name given node Whatever h = h
 
 -- stale says whether the node's key is
@@ -164,29 +150,27 @@ abbrev pub taint_head : Doc → ℕ → Identity → Place → Option Queued →
 taint_head doc k q place None h = h
 taint_head doc k q place (Some head) h = taint_as doc k q place head.1 (waits q place head.1 h) (seen_node q head.1 h) h
 
--- there says whether the zone's token is
-abbrev pub taint_if : Doc → ℕ → Identity → Place → Bool → List Entry → List Entry
-taint_if doc k q place false h = h
-taint_if doc k q place true h = taint_head doc k q place (head_of q place (node_names h) h) h
+-- the first of a zone's queue
+abbrev pub taint_first : Doc → ℕ → Identity → Place → List Entry → List Entry
+taint_first doc k q place h = taint_head doc k q place (head_of q place (node_names h) h) h
 
--- the first of a zone's queue, where the zone's token is there
+-- where the zone's token is there
 abbrev pub taint : Doc → ℕ → Identity → Place → List Entry → List Entry
-taint doc k q place h = taint_if doc k q place (has_token doc q k place h) h
+taint doc k q place h = if has_token doc q k place h then taint_first doc k q place h else h
 
 abbrev pub tainted : Doc → ℕ → Identity → List Entry → List Entry
 tainted doc k q h = for_each (taint doc k q) (places (nodes q h)) h
 
 -- ---- evictions
 
-abbrev pub delete_if : ℕ → Identity → Key → Version → ℕ → Version → ℕ → Bool → List Entry → List Entry
-delete_if k q pod given node node_given at false h = h
-delete_if k q pod given node node_given at true h =
-    add k q (Delete pod given node_given at (try_delete q pod given node node_given h)) h
+abbrev pub add_delete : ℕ → Identity → Key → Version → ℕ → Version → ℕ → List Entry → List Entry
+add_delete k q pod given node node_given at h = add k q (Delete pod given node_given at (try_delete q pod given node node_given h)) h
 
 -- node is the name of the pod's node
 abbrev pub evict_due : Doc → ℕ → Identity → Key → Version → ℕ → Version → Due → List Entry → List Entry
 evict_due doc k q pod given node node_given Never h = h
-evict_due doc k q pod given node node_given (At at) h = delete_if k q pod given node node_given at (nat_le at (wall doc q.process k)) h
+evict_due doc k q pod given node node_given (At at) h =
+    if nat_le at (wall doc q.process k) then add_delete k q pod given node node_given at h else h
 
 abbrev pub evict_on : Doc → ℕ → Identity → Key → Version × Pod → Option (Version × Node) → List Entry → List Entry
 evict_on doc k q pod x None h = h
@@ -207,13 +191,13 @@ evicted doc k q h = for_each (evict doc k q) (pod_keys h) h
 
 -- ---- the tick
 
--- before the term's first sync a tick does no more
-abbrev pub tick_if : Doc → ℕ → Identity → Bool → List Entry → List Entry
-tick_if doc k q false h = h
-tick_if doc k q true h = evicted doc k q (tainted doc k q (cleaned doc k q (pass doc k q h)))
+-- what follows the sync
+abbrev pub phases : Doc → ℕ → Identity → List Entry → List Entry
+phases doc k q h = evicted doc k q (tainted doc k q (cleaned doc k q (pass doc k q h)))
 
+-- before the term's first sync a tick does no more
 abbrev pub tick_after : Doc → ℕ → Identity → List Entry → List Entry
-tick_after doc k q h = tick_if doc k q (is_synced q h) h
+tick_after doc k q h = if is_synced q h then phases doc k q h else h
 
 abbrev pub tick : Doc → ℕ → Identity → List Entry → List Entry
 tick doc k q h = tick_after doc k q (sync doc k q h)

@@ -1,5 +1,5 @@
 -- What a process adds to the history at a reply and in its turn. Source: client-go, package `leaderelection`; profile.
-use Rattle.std.specs.Prelude.{ℕ, ◌==◌, ◌&&◌, not, nat_lt, Bool, true, false, List, ◌∷◌, Option, Some, None}
+use Rattle.std.specs.Prelude.{ℕ, ◌==◌, ◌&&◌, if◌then◌else◌, not, nat_lt, Bool, true, false, List, ◌∷◌, Option, Some, None}
 use Rattle.kube_base.specs.declared.numbers.Version.{Version}
 use Rattle.kube_objects.specs.declared.call.Reply.{Reply}
 use Rattle.kube_objects.specs.declared.call.Request.TheVariants.{Get}
@@ -20,36 +20,24 @@ abbrev pub with_reply : ℕ → Identity → Call → Reply → List Entry → L
 with_reply k q call reply h = entry k 3 q (Delivers call reply true) ∷ h
 
 -- led says whether the controller leads before
-abbrev pub lead_if : ℕ → Identity → Bool → Version → List Entry → List Entry
-lead_if k q true version h = h
-lead_if k q false version h = entry k 3 q (Leads version) ∷ h
-
 abbrev pub react : ℕ → Identity → Bool → Follow → List Entry → List Entry
 react k q led Fails h = h
 react k q led (Asks request) h = send k 3 q Plain request h
-react k q led (Succeeds version) h = lead_if k q led version h
+react k q led (Succeeds version) h = if led then h else entry k 3 q (Leads version) ∷ h
 
 -- ---- in its turn
 
-abbrev pub expire_as : ℕ → Identity → Call → Bool → List Entry → List Entry
-expire_as k q call false h = h
-expire_as k q call true h = entry k 4 q (Expires call) ∷ h
-
 abbrev pub expire_call : Doc → ℕ → Identity → Option Call → List Entry → List Entry
 expire_call doc k q None h = h
-expire_call doc k q (Some call) h = expire_as k q call (is_late doc q k call) h
+expire_call doc k q (Some call) h = if is_late doc q k call then entry k 4 q (Expires call) ∷ h else h
 
 -- the history after the expiry of a turn
 abbrev pub expired : Doc → ℕ → Identity → List Entry → List Entry
 expired doc k q h = expire_call doc k q (call_in q h) h
 
-abbrev pub end_as : ℕ → Identity → Bool → List Entry → List Entry
-end_as k q true h = h
-end_as k q false h = entry k 4 q Ends ∷ h
-
 abbrev pub end_term : Doc → ℕ → Identity → Option ℕ → List Entry → List Entry
 end_term doc k q None h = h
-end_term doc k q (Some at) h = end_as k q (nat_lt (local doc q.process k) at) h
+end_term doc k q (Some at) h = if nat_lt (local doc q.process k) at then h else entry k 4 q Ends ∷ h
 
 -- the call whose expiry at this beat is the last own entry
 abbrev pub expired_in : ℕ → ℕ → Fact → Option Call

@@ -1,5 +1,6 @@
 -- A kubelet after each step of a round.
 use Rattle.std.proofs.Common.{◌≡◌, ◌∙◌, ℕ, ◌+◌, ◌&&◌, ◌||◌, not, Bool, true, false, cond, List, ◌∷◌, Option, Some, None, refl, sym, ap, subst}
+use Rattle.std.specs.Prelude.{if◌then◌else◌}
 use Rattle.kube_objects.specs.declared.call.Ask.{Ask}
 use Rattle.kube_objects.specs.declared.call.Reply.{Reply}
 use Rattle.kube_objects.specs.declared.call.Reply.TheVariants as reply
@@ -14,7 +15,7 @@ use Rattle.kube_objects.specs.InForce.{posted_status}
 use Rattle.kube_objects.specs.Kubelet.{ends_round, has_round, is_post, next_request, round_period, round_timer}
 use Rattle.kube_objects.specs.Newest.{has, only_if}
 use Rattle.kube_objects.specs.Process.{answered_call, call_in, counted, is_late}
-use Rattle.kube_objects.specs.Turns.{expire_as, expire_call, expired, with_reply}
+use Rattle.kube_objects.specs.Turns.{expire_call, expired, with_reply}
 use Rattle.kube_objects.specs.Wire.{next_call}
 use Rattle.kube_objects.proofs.OwnCalls.{call_in-expired, call_in-sent, call_in-with_reply, none_late}
 use Rattle.kubelet_node.specs.declared.kubelet.Kubelet.{Kubelet}
@@ -42,7 +43,7 @@ request-waiting doc q w call is = ap (request_in call.request) is
 -- ---- the expiry of a turn
 
 module _ (doc : Doc) (k : ℕ) (q : Identity) (h : List Entry) where
-  status_as : (call : Call) (b : Bool) → posted_status doc q.process (expire_as k q call b h) ≡ posted_status doc q.process h
+  status_as : (call : Call) (b : Bool) → posted_status doc q.process (if b then entry k 4 q (Expires call) ∷ h else h) ≡ posted_status doc q.process h
   status_as call true = refl
   status_as call false = refl
 
@@ -84,7 +85,7 @@ module _ (doc : Doc) (k : ℕ) (q : Identity) (h : List Entry) where
       → Expired doc k q (expire_call doc k q c h) (record x { slot = slot; waiting = None }) posted
   expired-late None x slot posted s is late free posted_is = absurd (cc)
   expired-late (Some call) x slot posted s is late free posted_is =
-      subst (λ T. Expired doc k q T (record x { slot = slot; waiting = None }) posted) (sym (ap (λ b. expire_as k q call b h) late)) (expiry_of call x slot posted s is (free call) posted_is)
+      subst (λ T. Expired doc k q T (record x { slot = slot; waiting = None }) posted) (sym (ap (λ b. (if b then entry k 4 q (Expires call) ∷ h else h)) late)) (expiry_of call x slot posted s is (free call) posted_is)
 
 -- ---- a call begins
 

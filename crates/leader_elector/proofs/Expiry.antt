@@ -1,5 +1,6 @@
 -- A turn begins with the expiry of a call.
 use Rattle.std.proofs.Common.{◌≡◌, ◌∙◌, ℕ, ◌+◌, not, Bool, true, false, List, ◌∷◌, Option, Some, None, refl, sym, ap, subst}
+use Rattle.std.specs.Prelude.{if◌then◌else◌}
 use Rattle.kube_base.specs.declared.numbers.Local.{Local}
 use Rattle.kube_objects.specs.declared.call_slot.CallSlot.{CallSlot}
 use Rattle.kube_objects.specs.CallSlots.{CallSlotStands, is_late_call}
@@ -9,7 +10,7 @@ use Rattle.kube_objects.specs.Elector.{timer, is_fast, leads, deadline}
 use Rattle.kube_objects.specs.Entry.{Entry, Identity, Call, Expires, entry}
 use Rattle.kube_objects.specs.Newest.{when, or_else}
 use Rattle.kube_objects.specs.Process.{call_in, is_late}
-use Rattle.kube_objects.specs.Turns.{expire_call, expire_as, is_fast_call, just_expired}
+use Rattle.kube_objects.specs.Turns.{expire_call, is_fast_call, just_expired}
 use Rattle.kube_objects.proofs.OwnCalls.{call_in-expired}
 use Rattle.leader_elector.specs.declared.elector.Elector.{Elector}
 use Rattle.leader_elector.specs.Stands.{ElectorStands, IsSettled, is_fast_wait, waiting_in, waiting_of}
@@ -17,7 +18,7 @@ use Rattle.leader_elector.proofs.Own.{timer-expired, fast_expired, settled-slow}
 
 module _ (doc : Doc) (k : ℕ) (q : Identity) (h : List Entry) where
   -- readings that don't look at an expiry
-  leads_as : (call : Call) (b : Bool) → leads q (expire_as k q call b h) ≡ leads q h
+  leads_as : (call : Call) (b : Bool) → leads q (if b then entry k 4 q (Expires call) ∷ h else h) ≡ leads q h
   leads_as call true = refl
   leads_as call false = refl
 
@@ -25,7 +26,7 @@ module _ (doc : Doc) (k : ℕ) (q : Identity) (h : List Entry) where
   leads-expiry None = refl
   leads-expiry (Some call) = leads_as call (is_late doc q k call)
 
-  deadline_as : (call : Call) (b : Bool) → deadline doc q (expire_as k q call b h) ≡ deadline doc q h
+  deadline_as : (call : Call) (b : Bool) → deadline doc q (if b then entry k 4 q (Expires call) ∷ h else h) ≡ deadline doc q h
   deadline_as call true = refl
   deadline_as call false = refl
 
@@ -57,12 +58,12 @@ module _ (doc : Doc) (k : ℕ) (q : Identity) (h : List Entry) where
       ElectorStands doc q (expire_call doc k q c h) (record e { slot = slot; waiting = None; timer = at })
   expiry-stands None e slot at s is late free at_is = cc
   expiry-stands (Some call) e slot at s is late free at_is =
-      subst (λ x. ElectorStands doc q x (record e { slot = slot; waiting = None; timer = at })) (sym (ap (λ b. expire_as k q call b h) late)) (expiry_of call e slot at s is (free call) at_is)
+      subst (λ x. ElectorStands doc q x (record e { slot = slot; waiting = None; timer = at })) (sym (ap (λ b. (if b then entry k 4 q (Expires call) ∷ h else h)) late)) (expiry_of call e slot at s is (free call) at_is)
 
   pub expiry-fast : (c : Option Call) → is_late_call doc q k c ≡ true → is_fast_call (just_expired q k (expire_call doc k q c h)) ≡ is_fast_wait (waiting_in doc q c)
   expiry-fast None late = cc
-  expiry-fast (Some call) late = ap (λ b. is_fast_call (just_expired q k (expire_as k q call b h))) late ∙ fast_expired q h k 4 call
+  expiry-fast (Some call) late = ap (λ b. is_fast_call (just_expired q k (if b then entry k 4 q (Expires call) ∷ h else h))) late ∙ fast_expired q h k 4 call
 
   pub expiry-settled : (c : Option Call) → is_late_call doc q k c ≡ true → is_fast_wait (waiting_in doc q c) ≡ false → IsSettled q (expire_call doc k q c h)
   expiry-settled None late slow = cc
-  expiry-settled (Some call) late slow = subst (λ x. IsSettled q x) (sym (ap (λ b. expire_as k q call b h) late)) (settled-slow q h k 4 call slow)
+  expiry-settled (Some call) late slow = subst (λ x. IsSettled q x) (sym (ap (λ b. (if b then entry k 4 q (Expires call) ∷ h else h)) late)) (settled-slow q h k 4 call slow)

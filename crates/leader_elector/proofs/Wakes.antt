@@ -1,5 +1,6 @@
 -- The least reading at which a turn does anything.
 use Rattle.std.proofs.Common.{◌≡◌, ◌∙◌, ℕ, ◌+◌, ◌&&◌, not, nat_lt, Bool, true, false, cond, List, ◌∷◌, length, Option, Some, None, refl, sym, ap, subst, arith}
+use Rattle.std.specs.Prelude.{if◌then◌else◌}
 use Rattle.std.proofs.lemmas.Bool.Decides.{nat_tests}
 use Rattle.kube_objects.specs.Clocks.{local}
 use Rattle.kube_objects.specs.Document.{Doc, call_timeout}
@@ -7,7 +8,7 @@ use Rattle.kube_objects.specs.Elector.{deadline, is_before, timer}
 use Rattle.kube_objects.specs.Entry.{Call, Ends, Entry, Expires, Identity, entry}
 use Rattle.kube_objects.specs.Newest.{has}
 use Rattle.kube_objects.specs.Process.{call_in, is_late}
-use Rattle.kube_objects.specs.Turns.{attempt_if, end_as, end_term, expire_as, expire_call, try, expired}
+use Rattle.kube_objects.specs.Turns.{attempt_if, end_term, expire_call, try, expired}
 use Rattle.leader_elector.specs.Moves.{IsLeast, leading_turn, try_before, wake_before, wake_from}
 use Rattle.leader_elector.specs.Stands.{IsSettled}
 use Rattle.leader_elector.proofs.Attempts.{try-due, try-none}
@@ -44,7 +45,7 @@ module _ (doc : Doc) (k : ℕ) (q : Identity) (h : List Entry) where
   )
 
   busy-least : (call : Call) → IsSettled q h → call_in q h ≡ Some call → (b : Bool) → is_late doc q k call ≡ b →
-      (b ≡ false → try doc k q (expire_as k q call b h) ≡ h) × (b ≡ true → try doc k q (expire_as k q call b h) ≡ h → ⊥)
+      (b ≡ false → try doc k q (if b then entry k 4 q (Expires call) ∷ h else h) ≡ h) × (b ≡ true → try doc k q (if b then entry k 4 q (Expires call) ∷ h else h) ≡ h → ⊥)
   busy-least call settled is true late = ((λ no. absurd (cc)), (λ yes same. attempt-longer (entry k 4 q (Expires call)) _ _ same))
   busy-least call settled is false late = ((λ no. try-none doc k q h (settled k) (λ i. not (has (is i)) && not (nat_lt (local doc q.process k) (timer doc q h)))), (λ yes same. cc))
 
@@ -59,7 +60,7 @@ module _ (doc : Doc) (k : ℕ) (q : Identity) (h : List Entry) where
   ended-longer None is = longer _ h is
   ended-longer (Some call) is = by_test (is_late doc q k call) is
     where
-      by_test : (b : Bool) → (entry k 4 q Ends ∷ expire_as k q call b h) ≡ h → ⊥
+      by_test : (b : Bool) → (entry k 4 q Ends ∷ (if b then entry k 4 q (Expires call) ∷ h else h)) ≡ h → ⊥
       by_test true is = longer_still _ _ h is
       by_test false is = longer _ h is
 
@@ -76,11 +77,11 @@ leading-least doc k q h at settled is =
     let wake = wake_from doc q (timer doc q h) (call_in q h) in
     let e = expired doc k q h in
     let at_is : Some at ≡ deadline doc q e = is ∙ sym (deadline-expiry doc k q h (call_in q h)) in
-    let l = choose-least now at wake h (try doc k q e) (end_as k q false e) (nat_lt now at) (nat_lt at wake) refl refl (turn-least doc k q h (call_in q h) settled refl) (ended-longer doc k q h (call_in q h)) in
+    let l = choose-least now at wake h (try doc k q e) (if false then e else entry k 4 q Ends ∷ e) (nat_lt now at) (nat_lt at wake) refl refl (turn-least doc k q h (call_in q h) settled refl) (ended-longer doc k q h (call_in q h)) in
     subst (λ x. IsLeast (wake_before wake (deadline doc q h)) now h x) (by_test (nat_lt now at) refl ∙ ap (λ o. try_before doc k q (is_before now o) e) at_is)
-    (subst (λ o. IsLeast (wake_before wake o) now h (cond (nat_lt now at) (try doc k q e) (end_as k q false e))) is l)
+    (subst (λ o. IsLeast (wake_before wake o) now h (cond (nat_lt now at) (try doc k q e) (if false then e else entry k 4 q Ends ∷ e))) is l)
   where
-    by_test : (b : Bool) → nat_lt (local doc q.process k) at ≡ b → cond b (try doc k q (expired doc k q h)) (end_as k q false (expired doc k q h)) ≡ try_before doc k q b (expired doc k q h)
+    by_test : (b : Bool) → nat_lt (local doc q.process k) at ≡ b → cond b (try doc k q (expired doc k q h)) (if false then (expired doc k q h) else entry k 4 q Ends ∷ (expired doc k q h)) ≡ try_before doc k q b (expired doc k q h)
     by_test true lt = refl
     by_test false le =
-        sym (ap (λ o. end_term doc k q o (expired doc k q h)) (deadline-expiry doc k q h (call_in q h) ∙ sym is) ∙ ap (λ b. end_as k q b (expired doc k q h)) le)
+        sym (ap (λ o. end_term doc k q o (expired doc k q h)) (deadline-expiry doc k q h (call_in q h) ∙ sym is) ∙ ap (λ b. (if b then (expired doc k q h) else entry k 4 q Ends ∷ (expired doc k q h))) le)

@@ -4,10 +4,8 @@ ghost use Rattle.kube_base.specs.Bounds.{most_local};
 ghost use Rattle.kube_objects.specs.Clocks.{local, wall as wall_at};
 ghost use Rattle.kube_objects.specs.Document.{Doc};
 ghost use Rattle.kube_objects.specs.CallSlots.{held_call, is_awaited};
-ghost use Rattle.kube_objects.specs.Elector.{moment, attempt, attempt_from, created, follow_get, follow_on, given_up, is_blocked, is_valid, leads};
-ghost use Rattle.kube_objects.specs.Elector.{newly, observed_at, one_more, renewed, shown, taken, timer, timer_follow, updated};
-ghost use Rattle.kube_objects.specs.Elector.{attempt_from, created, follow, follow_get, given_up, renewed, taken};
-ghost use Rattle.kube_objects.specs.Elector.{updated};
+ghost use Rattle.kube_objects.specs.Elector.{attempt, attempt_from, created, follow, follow_get, follow_on, given_up, is_blocked, is_valid, leads};
+ghost use Rattle.kube_objects.specs.Elector.{moment, newly, observed_at, one_more, renewed, shown, taken, timer, timer_follow, updated};
 ghost use Rattle.kube_objects.specs.Entry.{Call, Entry, Identity, Starts, entry};
 ghost use Rattle.kube_objects.specs.Identities.{holder_of, is_other, is_own};
 ghost use Rattle.kube_objects.specs.Kinds.{keeps_kind};
@@ -455,7 +453,7 @@ fn is_fast(waiting: &Option<Waiting>) -> bool
 pub(crate) fn vacant_lease(lease: &Lease, wall: Wall) -> Lease
     ensures moment { result ≡ given_up wall.0 lease.now }
     ensures history { (doc : Doc) (q : Identity) (k : ℕ) → wall.0 ≡ wall_at doc q.process k
-        → result ≡ given_up (wall doc q.process k) lease.now }
+        → result ≡ given_up (wall_at doc q.process k) lease.now }
 {
     Lease {
         holder: Holder::Nobody,

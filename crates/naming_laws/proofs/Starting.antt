@@ -1,5 +1,7 @@
 -- Every process that starts is one of the document's.
 use Rattle.std.proofs.Common.{ℕ, zero, suc, ◌<◌, ◌≤◌, ◌==◌, ◌&&◌, not, nat_lt, Bool, true, false, List, [], ◌∷◌, Option, Some, None, arith}
+use Rattle.std.specs.Prelude.{if◌then◌else◌}
+use Rattle.kube_objects.specs.Tick.{tick}
 use Rattle.kube_objects.specs.declared.call.Reply.{Reply}
 use Rattle.kube_objects.specs.declared.call.Request.{Request}
 use Rattle.kube_objects.specs.declared.deed.Actor.{Actor}
@@ -11,18 +13,18 @@ use Rattle.kube_objects.specs.declared.script.What.TheVariants as what
 use Rattle.kube_objects.specs.Clocks.{local, store_wall, whole_second}
 use Rattle.kube_objects.specs.Document.{Doc, processes, is_controller, is_up_first}
 use Rattle.kube_objects.specs.Elector.{Follow, Fails, Asks, Succeeds, follow_on, leads, deadline, timer, release, acts}
-use Rattle.kube_objects.specs.Entry.{Entry, Identity, Call, Fact, First, Event as Happens, Starts, Stops, Delivers, entry, script_entry}
+use Rattle.kube_objects.specs.Entry.{Entry, Identity, Call, Fact, First, Event as Happens, Starts, Stops, Delivers, entry, script_entry, Expires, Ends}
 use Rattle.kube_objects.specs.Identities.{identity}
 use Rattle.kube_objects.specs.Kubelet.{next_request, send_next, is_post_call, round_if, is_round_due, round}
 use Rattle.kube_objects.specs.Newest.{only_if, has}
 use Rattle.kube_objects.specs.Pauses.{is_paused}
 use Rattle.kube_objects.specs.Process.{alive, call_in, counted, ended, is_late, is_restart_due}
 use Rattle.kube_objects.specs.Stamps.{stamped}
-use Rattle.kube_objects.specs.Turns.{react, expire_as, expire_call, end_as, end_term, just_expired, is_fast_call, attempt_if, try}
+use Rattle.kube_objects.specs.Turns.{react, expire_call, end_term, just_expired, is_fast_call, attempt_if, try}
 use Rattle.kube_objects.specs.Wire.{Sent, Back, sent_of, back_of}
 use Rattle.kube_objects.specs.Writable.{IsOneOf}
 use Rattle.history.specs.History.{put_all, three_steps, history}
-use Rattle.history.specs.Steps.{start_first, starts_below, first_starts, start_if_down, crash, stall, released, stop, effect, stamp, event_version, happens_if, happen_all, step_one, each, comes_at, answer_if, answer_due, step_two, react_as, deliver_as, deliver_if, deliver_due, if_up, restart_as, restart_if, restart, expire, finish, attempts, tick_as, turn_as, turn_unless, turns}
+use Rattle.history.specs.Steps.{start_first, starts_below, first_starts, start_if_down, crash, stall, released, stop, effect, stamp, event_version, happen_all, step_one, each, comes_at, answer_due, step_two, react_as, deliver_as, deliver_due, if_up, restart_if, restart, expire, finish, attempts, turns, happens, answered, delivered, start, controller_turn, kubelet_turn, unpaused_turn}
 use Rattle.history_laws.proofs.Ticks.{walk_tick}
 use Rattle.script_reader.specs.Lawful.{IsLawfulWhat, AreLawfulFrom, IsLawfulDoc}
 
@@ -85,13 +87,13 @@ module _ (doc : Doc) (lawful : IsLawfulDoc doc) where
   good_effect k (what.Put key object) ok before h s = s
   good_effect k (what.Remove key) ok before h s = s
 
-  good_happens : (k : ℕ) (w : What) → IsLawfulWhat doc w → (b : Bool) (h : List Entry) → Good h → Good (happens_if doc k w b h)
+  good_happens : (k : ℕ) (w : What) → IsLawfulWhat doc w → (b : Bool) (h : List Entry) → Good h → Good (if b then happens doc k w h else h)
   good_happens k w ok false h s = s
   good_happens k w ok true h s = good_effect k w ok h (script_entry k 1 (Happens (stamp doc k w) (event_version w h)) ∷ h) (tt, s)
 
   good_all : (k from : ℕ) (es : List Event) → AreLawfulFrom doc from es → (h : List Entry) → Good h → Good (happen_all doc k es h)
   good_all k from [] ok h s = s
-  good_all k from (e ∷ es) ok h s = good_all k e.beat.0 es ok.3 (happens_if doc k e.what (e.beat.0 == k) h) (good_happens k e.what ok.2 (e.beat.0 == k) h s)
+  good_all k from (e ∷ es) ok h s = good_all k e.beat.0 es ok.3 (if (e.beat.0 == k) then happens doc k e.what h else h) (good_happens k e.what ok.2 (e.beat.0 == k) h s)
 
   -- ---- steps 2 and 3
 
@@ -103,7 +105,7 @@ module _ (doc : Doc) (lawful : IsLawfulDoc doc) where
   good_answer k None h s = s
   good_answer k (Some x) h s = by (comes_at k x.arrives)
     where
-      by : (b : Bool) → Good (answer_if doc k x b h)
+      by : (b : Bool) → Good (if b then answered doc k x h else h)
       by true = (tt, s)
       by false = s
 
@@ -129,7 +131,7 @@ module _ (doc : Doc) (lawful : IsLawfulDoc doc) where
   good_deliver k None h s = s
   good_deliver k (Some b) h s = by (comes_at k b.comes)
     where
-      by : (t : Bool) → Good (deliver_if doc k b t h)
+      by : (t : Bool) → Good (if t then delivered doc k b h else h)
       by true = good_deliver_as k b.who b.call b.reply (counted doc b.who k b.call.number h) h s
       by false = s
 
@@ -143,7 +145,7 @@ module _ (doc : Doc) (lawful : IsLawfulDoc doc) where
   good_restart k p below (Some i) h s = s
   good_restart k p below None h s = by (is_restart_due doc p k (ended doc p h))
     where
-      by : (b : Bool) → Good (restart_as k p b h)
+      by : (b : Bool) → Good (if b then start k 4 p h else h)
       by true = (below, s)
       by false = s
 
@@ -151,7 +153,7 @@ module _ (doc : Doc) (lawful : IsLawfulDoc doc) where
   good_expire k q None h s = s
   good_expire k q (Some x) h s = by (is_late doc q k x)
     where
-      by : (b : Bool) → Good (expire_as k q x b h)
+      by : (b : Bool) → Good (if b then entry k 4 q (Expires x) ∷ h else h)
       by true = (tt, s)
       by false = s
 
@@ -159,7 +161,7 @@ module _ (doc : Doc) (lawful : IsLawfulDoc doc) where
   good_end k q None h s = s
   good_end k q (Some at) h s = by (nat_lt (local doc q.process k) at)
     where
-      by : (b : Bool) → Good (end_as k q b h)
+      by : (b : Bool) → Good (if b then h else entry k 4 q Ends ∷ h)
       by true = s
       by false = (tt, s)
 
@@ -171,7 +173,7 @@ module _ (doc : Doc) (lawful : IsLawfulDoc doc) where
       by false true = (tt, s)
       by false false = s
 
-  good_tick : (k : ℕ) (q : Identity) (b : Bool) (h : List Entry) → Good h → Good (tick_as doc k q b h)
+  good_tick : (k : ℕ) (q : Identity) (b : Bool) (h : List Entry) → Good h → Good (if b then tick doc k q h else h)
   good_tick k q true h s = walk_tick doc k q (StartsAreOfOne (processes doc)) (λ t g made s. (tt, s)) h s
   good_tick k q false h s = s
 
@@ -186,7 +188,7 @@ module _ (doc : Doc) (lawful : IsLawfulDoc doc) where
   good_expiry : (k p : ℕ) (h : List Entry) → Good h → Good (expire doc k p h)
   good_expiry k p h s = good_up p (λ q T. expire_call doc k q (call_in q T) T) (λ q T s. good_expire k q (call_in q T) T s) (alive p h) h s
 
-  good_turn : (k p : ℕ) → p < processes doc → (b : Bool) (h : List Entry) → Good h → Good (turn_as doc k p b h)
+  good_turn : (k p : ℕ) → p < processes doc → (b : Bool) (h : List Entry) → Good h → Good (if b then controller_turn doc k p h else kubelet_turn doc k p h)
   good_turn k p below true h s =
       let h1 = restart doc k p h in
       let h2 = expire doc k p h1 in
@@ -195,12 +197,12 @@ module _ (doc : Doc) (lawful : IsLawfulDoc doc) where
       let s2 : Good h2 = good_expiry k p h1 (good_restart k p below (alive p h) h s) in
       let s3 : Good h3 = good_up p (λ q T. end_term doc k q (deadline doc q T) T) (λ q T s. good_end k q (deadline doc q T) T s) (alive p h2) h2 s2 in
       let s4 : Good h4 = good_up p (try doc k) (good_try k) (alive p h3) h3 s3 in
-      good_up p (λ q T. tick_as doc k q (acts doc q k T) T) (λ q T s. good_tick k q (acts doc q k T) T s) (alive p h4) h4 s4
+      good_up p (λ q T. (if (acts doc q k T) then tick doc k q T else T)) (λ q T s. good_tick k q (acts doc q k T) T s) (alive p h4) h4 s4
   good_turn k p below false h s =
       let h1 = expire doc k p h in
       good_up p (round doc k) (good_round k) (alive p h1) h1 (good_expiry k p h s)
 
-  good_unless : (k p : ℕ) → p < processes doc → (b : Bool) (h : List Entry) → Good h → Good (turn_unless doc k p b h)
+  good_unless : (k p : ℕ) → p < processes doc → (b : Bool) (h : List Entry) → Good h → Good (if b then h else unpaused_turn doc k p h)
   good_unless k p below true h s = s
   good_unless k p below false h s = good_turn k p below (is_controller doc p) h s
 

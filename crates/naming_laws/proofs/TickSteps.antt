@@ -1,5 +1,6 @@
 -- A tick of a controller keeps a history of which all can be written.
 use Rattle.std.proofs.Common.{◌≡◌, ℕ, ◌≤◌, ◌==◌, ◌&&◌, ◌||◌, not, Bool, true, false, cond, List, [], ◌∷◌, filter, Option, Some, None, refl, sym, subst, arith}
+use Rattle.std.specs.Prelude.{if◌then◌else◌}
 use Rattle.std.proofs.lemmas.Bool.{eqb-true, leb-true}
 use Rattle.std.specs.List.{AllByRecursion, list_any}
 use Rattle.kube_base.specs.Times.{last_wall}
@@ -31,7 +32,7 @@ use Rattle.kube_objects.specs.Newest.{when, only_if}
 use Rattle.kube_objects.specs.Seen.{seen, pod_in, seen_node, seen_pod, is_fresh, is_synced, is_stale, node_names, is_pod, pod_keys}
 use Rattle.kube_objects.specs.Stored.{Held, node_key, stored, next_version, node_write, try_write, tick_write}
 use Rattle.kube_objects.specs.Tainting.{Wants, Nothing, Wanted, Whatever, wants_by, wants_ready, wants, is_condition, has_condition, is_wanted, is_opposite, wanted_key, lacks, lacks_in, waits, Queued, head_of}
-use Rattle.kube_objects.specs.Tick.{add, for_each, sync_if, sync, mark_as, mark_seen, mark, mode_if, is_same_mode, mode_as, set_mode, zone_if, zone_as, zone, set_zones, marks, pass_if, pass, new_taint, with_taints, untainted, and_taint, swapped, untaint_if, swap_if, clean_as, clean_seen, clean, cleaned, tainted_with, taint_as, taint_head, taint_if, taint, tainted, evict, tick_if, tick}
+use Rattle.kube_objects.specs.Tick.{add, for_each, sync, mark_as, mark_seen, mark, is_same_mode, mode_as, set_mode, zone_as, zone, set_zones, marks, pass, new_taint, with_taints, untainted, and_taint, swapped, clean_as, clean_seen, clean, cleaned, tainted_with, taint_as, taint_head, taint, tainted, evict, tick, whole_pass, add_untaint, add_swap, taint_first, phases}
 use Rattle.kube_objects.specs.Tokens.{rated, is_rated, has_token}
 use Rattle.kube_objects.specs.Tries.{as_answer, tried, try_node, try_delete}
 use Rattle.kube_objects.specs.Wire.{loses_requests}
@@ -308,7 +309,7 @@ module _ (names : Texts) (known : List ℕ) (fixed : HoldsFixed names) (doc : Do
   keeps_sync : (h : List Entry) → Fit h → Fit (sync doc k q h)
   keeps_sync h fit = by_test (watches doc q.process h && not (is_fresh q h))
     where
-      by_test : (b : Bool) → Fit (sync_if k q b h)
+      by_test : (b : Bool) → Fit (if b then add k q Sync h else h)
       by_test true = silent Sync h tt tt fit
       by_test false = fit
 
@@ -326,7 +327,7 @@ module _ (names : Texts) (known : List ℕ) (fixed : HoldsFixed names) (doc : Do
   keeps_mode : (h : List Entry) → Fit h → Fit (set_mode doc k q h)
   keeps_mode h fit = by_mode (all_full doc (nodes q h))
     where
-      by_test : (on b : Bool) → Fit (mode_if k q on b h)
+      by_test : (on b : Bool) → Fit (if b then h else add k q (Mode on) h)
       by_test on true = fit
       by_test on false = silent (Mode on) h (record { form = refl; held = tt; timely = tt }, refl) tt fit
 
@@ -336,7 +337,7 @@ module _ (names : Texts) (known : List ℕ) (fixed : HoldsFixed names) (doc : Do
   keeps_zone : (ns : List Node) (place : Place) (h : List Entry) → IsHeldPlace place → Fit h → Fit (zone doc k q ns place h)
   keeps_zone ns place h held fit = by_state (state_in doc ns place) (rate_in doc (mode q h) ns place)
     where
-      by_test : (s : ZoneState) (rate : ℕ) (b : Bool) → Fit (zone_if k q place s rate b h)
+      by_test : (s : ZoneState) (rate : ℕ) (b : Bool) → Fit (if b then h else add k q (Zone place s rate) h)
       by_test s rate true = fit
       by_test s rate false = silent (Zone place s rate) h (record { form = refl; held = (held.0, (held.1, tt)); timely = tt }, refl) tt fit
 
@@ -351,7 +352,7 @@ module _ (names : Texts) (known : List ℕ) (fixed : HoldsFixed names) (doc : Do
   keeps_pass : (h : List Entry) → Fit h → Fit (pass doc k q h)
   keeps_pass h fit = by_test (is_pass_due doc k q h)
     where
-      by_test : (b : Bool) → Fit (pass_if doc k q b h)
+      by_test : (b : Bool) → Fit (if b then whole_pass doc k q h else h)
       by_test false = fit
       by_test true =
           let passed = add k q Pass h in
@@ -361,11 +362,11 @@ module _ (names : Texts) (known : List ℕ) (fixed : HoldsFixed names) (doc : Do
   keeps_clean : (name : ℕ) (h : List Entry) → Fit h → Fit (clean doc k q name h)
   keeps_clean name h fit = by_stale (is_stale q (node_key name) h) (seen_node q name h) refl
     where
-      by_untaint : (x : Version × Node) → IsFitFound names known name x.1 → (b : Bool) → Fit (untaint_if k q name x.0 x.1 b h)
+      by_untaint : (x : Version × Node) → IsFitFound names known name x.1 → (b : Bool) → Fit (if b then add_untaint k q name x.0 x.1 h else h)
       by_untaint x found false = fit
       by_untaint x found true = (untaint_fact name x.0 x.1 h found, fit)
 
-      by_swap : (x : Version × Node) → IsFitFound names known name x.1 → (wanted : ℕ) → is_condition_key wanted ≡ true → (b : Bool) → Fit (swap_if doc k q name x.0 x.1 wanted b h)
+      by_swap : (x : Version × Node) → IsFitFound names known name x.1 → (wanted : ℕ) → is_condition_key wanted ≡ true → (b : Bool) → Fit (if b then add_swap doc k q name x.0 x.1 wanted h else h)
       by_swap x found wanted key false = fit
       by_swap x found wanted key true = (swap_fact name wanted x.0 x.1 h key found, fit)
 
@@ -392,7 +393,7 @@ module _ (names : Texts) (known : List ℕ) (fixed : HoldsFixed names) (doc : Do
       by_head None = fit
       by_head (Some head) = by_seen head.1 (waits q place head.1 h) refl (seen_node q head.1 h) refl
 
-      by_token : (b : Bool) → Fit (taint_if doc k q place b h)
+      by_token : (b : Bool) → Fit (if b then taint_first doc k q place h else h)
       by_token false = fit
       by_token true = by_head (head_of q place (node_names h) h)
 
@@ -406,7 +407,7 @@ module _ (names : Texts) (known : List ℕ) (fixed : HoldsFixed names) (doc : Do
   pub keeps_tick : (h : List Entry) → Fit h → Fit (tick doc k q h)
   keeps_tick h fit = by_test (is_synced q (sync doc k q h))
     where
-      by_test : (b : Bool) → Fit (tick_if doc k q b (sync doc k q h))
+      by_test : (b : Bool) → Fit (if b then phases doc k q (sync doc k q h) else (sync doc k q h))
       by_test false = keeps_sync h fit
       by_test true =
           let a = sync doc k q h in

@@ -1,18 +1,19 @@
 -- Whoever acts as its tick begins acted at its turn.
 use Rattle.std.proofs.Common.{◌≡◌, ◌∙◌, ℕ, ◌+◌, ◌&&◌, not, nat_lt, Bool, true, false, List, ◌∷◌, Option, Some, None, refl, sym, ap, subst, arith}
+use Rattle.std.specs.Prelude.{if◌then◌else◌}
 use Rattle.std.proofs.lemmas.Bool.{eq-eqb}
 use Rattle.kube_objects.specs.Clocks.{local}
 use Rattle.kube_objects.specs.Document.{Doc}
 use Rattle.kube_objects.specs.Elector.{deadline, is_before, timer, in_term, acts}
-use Rattle.kube_objects.specs.Entry.{Entry, Identity, Call, Ends, entry}
+use Rattle.kube_objects.specs.Entry.{Entry, Identity, Call, Ends, entry, Expires}
 use Rattle.kube_objects.specs.Identities.{identity}
 use Rattle.kube_objects.specs.Newest.{when, join, has}
 use Rattle.kube_objects.specs.Pauses.{is_paused}
 use Rattle.kube_objects.specs.Process.{born, gone, life, alive, starts, is_present, call_in, is_late, ended, is_restart_due}
-use Rattle.kube_objects.specs.Turns.{expire_as, expire_call, end_as, end_term, just_expired, is_fast_call, attempt_if, try}
+use Rattle.kube_objects.specs.Turns.{expire_call, end_term, just_expired, is_fast_call, attempt_if, try}
 use Rattle.history.specs.History.{at_turn}
 use Rattle.history.specs.Safe.{Acts}
-use Rattle.history.specs.Steps.{start, if_up, restart_as, restart_if, restart, expire, finish, attempts, elector_turn}
+use Rattle.history.specs.Steps.{start, if_up, restart_if, restart, expire, finish, attempts, elector_turn}
 use Rattle.history_laws.proofs.Plainly.{upper, some_is, none_is, false_is, and_left, and_right, and_both}
 use Rattle.history_laws.proofs.Walk.{Ticking}
 use Rattle.spacing_laws.proofs.Born.{no_deadline}
@@ -43,7 +44,7 @@ module _ (doc : Doc) (q : Identity) (k at : ℕ) where
       gone_now : (i : ℕ) → alive q.process (entry k 4 (identity q.process i) Ends ∷ h) ≡ None
       gone_now i = ap (λ b. join (upper (gone (when b i)) (life q.process h))) (eq-eqb q.process q.process refl)
 
-      by_test : (i : ℕ) (b : Bool) → Leading doc q at (end_as k (identity q.process i) b h) → Leading doc q at h
+      by_test : (i : ℕ) (b : Bool) → Leading doc q at (if b then h else entry k 4 (identity q.process i) Ends ∷ h) → Leading doc q at h
       by_test i true s = s
       by_test i false s = absurd (none_is q.incarnation (sym (gone_now i) ∙ s.up))
 
@@ -58,7 +59,7 @@ module _ (doc : Doc) (q : Identity) (k at : ℕ) where
   before_expire : (h : List Entry) → Leading doc q at (expire doc k q.process h) → Leading doc q at h
   before_expire h = by_up (alive q.process h)
     where
-      by_late : (i : ℕ) (call : Call) (b : Bool) → Leading doc q at (expire_as k (identity q.process i) call b h) → Leading doc q at h
+      by_late : (i : ℕ) (call : Call) (b : Bool) → Leading doc q at (if b then entry k 4 (identity q.process i) (Expires call) ∷ h else h) → Leading doc q at h
       by_late i call true s = record { up = s.up; until = s.until }
       by_late i call false s = s
 
@@ -80,7 +81,7 @@ module _ (doc : Doc) (q : Identity) (k at : ℕ) where
       started : alive q.process (start k 4 q.process h) ≡ Some (starts q.process h + 1)
       started = ap (λ b. join (upper (born (when b (starts q.process h + 1))) (life q.process h))) (eq-eqb q.process q.process refl)
 
-      by_due : (b : Bool) → Leading doc q at (restart_as k q.process b h) → Leading doc q at h
+      by_due : (b : Bool) → Leading doc q at (if b then start k 4 q.process h else h) → Leading doc q at h
       by_due false s = s
       by_due true s =
           let new : starts q.process h + 1 ≡ q.incarnation = some_is _ _ (sym started ∙ s.up) in

@@ -1,10 +1,11 @@
 -- The mode through a pass.
 use Rattle.std.proofs.Common.{◌≡◌, ◌∙◌, ℕ, Bool, true, false, List, Result, Ok, Err, OnOk, refl, sym, ap}
+use Rattle.std.specs.Prelude.{if◌then◌else◌}
 use Rattle.kube_objects.specs.declared.deed.Deed.{Deed}
 use Rattle.kube_objects.specs.Document.{Doc}
 use Rattle.kube_objects.specs.Entry.{Entry, Identity, Mode}
 use Rattle.kube_objects.specs.Modes.{all_full, mode, nodes}
-use Rattle.kube_objects.specs.Tick.{add, is_same_mode, mode_if, set_mode}
+use Rattle.kube_objects.specs.Tick.{add, is_same_mode, set_mode}
 use Rattle.node_health.specs.Stands.{HealthStands}
 use Rattle.node_health.specs.declared.health.Health.{Health}
 use Rattle.node_health.proofs.Frames.{health-same, unheard-kind}
@@ -30,11 +31,11 @@ other_than false true apart = refl
 
 pub mode_stays : (doc : Doc) (k : ℕ) (q : Identity) (h : List Entry) (on : Bool) → on ≡ all_full doc (nodes q h) → on ≡ mode q h → set_mode doc k q h ≡ h
 mode_stays doc k q h on is same =
-    ap (λ x. mode_if k q x (is_same_mode x (mode q h)) h) (sym is) ∙ ap (λ b. mode_if k q on b h) (same_as on (mode q h) same)
+    ap (λ x. (if (is_same_mode x (mode q h)) then h else add k q (Mode x) h)) (sym is) ∙ ap (λ b. (if b then h else add k q (Mode on) h)) (same_as on (mode q h) same)
 
 pub mode_turns : (doc : Doc) (k : ℕ) (q : Identity) (h : List Entry) (on : Bool) → on ≡ all_full doc (nodes q h) → (on ≡ mode q h → ⊥) → set_mode doc k q h ≡ add k q (Mode on) h
 mode_turns doc k q h on is apart =
-    ap (λ x. mode_if k q x (is_same_mode x (mode q h)) h) (sym is) ∙ ap (λ b. mode_if k q on b h) (other_than on (mode q h) apart)
+    ap (λ x. (if (is_same_mode x (mode q h)) then h else add k q (Mode x) h)) (sym is) ∙ ap (λ b. (if b then h else add k q (Mode on) h)) (other_than on (mode q h) apart)
 
 pub health_on : (doc : Doc) (k : ℕ) (q : Identity) (h : List Entry) (health : Health) → HealthStands doc q h health → HealthStands doc q (add k q (Mode true) h) health
 health_on doc k q h health s = health-same doc q h (add k q (Mode true) h) health (unheard-kind q h _ refl) s

@@ -1,17 +1,18 @@
 -- A pass begins, and what it leaves.
 use Rattle.std.proofs.Common.{◌≡◌, ◌∙◌, ◌≤◌, ℕ, nat_lt, Bool, true, false, cond, List, [], ◌∷◌, map, length, Result, Ok, Err, OnOk, Some, None, IfSome, refl, sym, ap, subst, arith}
+use Rattle.std.specs.Prelude.{if◌then◌else◌}
 use Rattle.std.proofs.lemmas.Bool.Decides.{nat_tests}
 use Rattle.kube_objects.specs.declared.node.Node.{Node}
 use Rattle.kube_objects.specs.declared.node.ZoneState.{ZoneState}
 use Rattle.kube_objects.specs.declared.deed.Deed.{Deed}
 use Rattle.kube_objects.specs.Clocks.{local}
 use Rattle.kube_objects.specs.Document.{Doc}
-use Rattle.kube_objects.specs.Entry.{Entry, Identity, Place, Tick, Mark, Pass, Zone, entry, Ticks}
+use Rattle.kube_objects.specs.Entry.{Entry, Identity, Place, Tick, Mark, Pass, Zone, entry, Ticks, Mode}
 use Rattle.kube_objects.specs.Health.{is_found, is_pass_due, last_pass}
 use Rattle.kube_objects.specs.Modes.{all_full, mode, nodes, place_of, places, rate_in, size_in, state_in}
 use Rattle.kube_objects.specs.Newest.{has, when}
 use Rattle.kube_objects.specs.Seen.{is_synced, node_names, seen_node}
-use Rattle.kube_objects.specs.Tick.{add, is_same_mode, mark, marks, mode_if, pass, pass_if, set_mode, set_zones, zone, zone_if}
+use Rattle.kube_objects.specs.Tick.{add, is_same_mode, mark, marks, pass, set_mode, set_zones, zone, whole_pass}
 use Rattle.kube_objects.specs.Tries.{try_node}
 use Rattle.kube_objects.specs.Tokens.{base, is_rated, is_zone, rated}
 use Rattle.node_health.proofs.Frames.{SaysSame, health-same, says-same, says-then, unheard-kind}
@@ -62,7 +63,7 @@ found_named q h names are n = sym (are.named n)
 
 -- what a pass adds, where one is due
 pub pass_is : (doc : Doc) (k : ℕ) (q : Identity) (h : List Entry) → is_pass_due doc k q h ≡ true → pass doc k q h ≡ set_zones doc k q (set_mode doc k q (marks doc k q (add k q Pass h)))
-pass_is doc k q h due = ap (λ b. pass_if doc k q b h) due
+pass_is doc k q h due = ap (λ b. (if b then whole_pass doc k q h else h)) due
 
 -- ---- the limits of zones, once the marks and the mode are done
 
@@ -76,15 +77,15 @@ module _ (doc : Doc) (k : ℕ) (q : Identity) (h : List Entry) where
   marks_left : KeepsPlaces q (add k q Pass h) (marks doc k q (add k q Pass h))
   marks_left = marks_keep doc k q (node_names (add k q Pass h)) (add k q Pass h)
 
-  mode_rated : (on b : Bool) (g : List Entry) (place : Place) → rated q place (mode_if k q on b g) ≡ rated q place g
+  mode_rated : (on b : Bool) (g : List Entry) (place : Place) → rated q place (if b then g else add k q (Mode on) g) ≡ rated q place g
   mode_rated on true g place = refl
   mode_rated on false g place = refl
 
-  mode_base : (on b : Bool) (g : List Entry) (place : Place) → base q place (mode_if k q on b g) ≡ base q place g
+  mode_base : (on b : Bool) (g : List Entry) (place : Place) → base q place (if b then g else add k q (Mode on) g) ≡ base q place g
   mode_base on true g place = refl
   mode_base on false g place = refl
 
-  mode_nodes : (on b : Bool) (g : List Entry) → nodes q (mode_if k q on b g) ≡ nodes q g
+  mode_nodes : (on b : Bool) (g : List Entry) → nodes q (if b then g else add k q (Mode on) g) ≡ nodes q g
   mode_nodes on true g = refl
   mode_nodes on false g = nodes_moded q k g on
 
@@ -182,7 +183,7 @@ zone_more doc q k h place state rate c s x r =
 pub zones_leave : (doc : Doc) (k : ℕ) (q : Identity) (h : List Entry) (c : Cluster) (s : Store) (x : Health) → Zoned doc q k h c s x → Zoned doc q k (set_zones doc k q h) c s x
 zones_leave doc k q h c s x r = every (zone doc k q (nodes q h)) (λ g. Zoned doc q k g c s x) each (places (nodes q h)) h r
   where
-    by_test : (place : Place) (g : List Entry) → Zoned doc q k g c s x → (state : ZoneState) (rate : ℕ) (b : Bool) → Zoned doc q k (zone_if k q place state rate b g) c s x
+    by_test : (place : Place) (g : List Entry) → Zoned doc q k g c s x → (state : ZoneState) (rate : ℕ) (b : Bool) → Zoned doc q k (if b then g else add k q (Zone place state rate) g) c s x
     by_test place g r state rate true = r
     by_test place g r state rate false = zone_more doc q k g place state rate c s x r
 

@@ -1,5 +1,6 @@
 -- The limits of zones through a pass.
 use Rattle.std.proofs.Common.{◌≡◌, ◌∙◌, ℕ, ◌==◌, ◌&&◌, not, Bool, true, false, cond, List, Option, Some, None, IfSome, refl, sym, ap, subst, arith}
+use Rattle.std.specs.Prelude.{if◌then◌else◌}
 use Rattle.std.proofs.lemmas.Bool.Decides.{nat_tests}
 use Rattle.kube_objects.specs.declared.node.ZoneState.{ZoneState}
 use Rattle.kube_objects.specs.declared.node.ZoneState.TheVariants.{Normal, Partial, Full}
@@ -7,7 +8,7 @@ use Rattle.kube_objects.specs.Clocks.{local}
 use Rattle.kube_objects.specs.Document.{Doc}
 use Rattle.kube_objects.specs.Entry.{Entry, Identity, Place as Zone, Zone as ZoneEntry}
 use Rattle.kube_objects.specs.Modes.{place_eq}
-use Rattle.kube_objects.specs.Tick.{add, zone_as, zone_if}
+use Rattle.kube_objects.specs.Tick.{add, zone_as}
 use Rattle.kube_objects.specs.Tokens.{rated, base, has_rate, is_rated, is_same_state}
 use Rattle.rate_bucket.specs.Filling.{Filling, empty_at, swapped}
 use Rattle.taint_zones.specs.declared.limit.Limit.{Limit}
@@ -55,7 +56,7 @@ module _ (doc : Doc) (k : ℕ) (q : Identity) (h : List Entry) (place : Zone) (s
   -- a zone that had no limit
   pub begun : LimitStands doc q h place None → LimitStands doc q (zone_as k q place state rate h) place (Some (record { state = state; rate = rate; bucket = empty_at rate now }))
   begun s =
-      subst (λ o. LimitStands doc q (zone_if k q place state rate (is_rated state rate o) h) place (Some (record { state = state; rate = rate; bucket = empty_at rate now }))) s.rated
+      subst (λ o. LimitStands doc q (if (is_rated state rate o) then h else add k q (Zone place state rate) h) place (Some (record { state = state; rate = rate; bucket = empty_at rate now }))) s.rated
       (record {
         rated = sym rated_here;
         rate = refl;
@@ -83,7 +84,7 @@ module _ (doc : Doc) (k : ℕ) (q : Identity) (h : List Entry) (place : Zone) (s
     base_as_before true is same = s.base
     base_as_before false is same = absurd (cc)
 
-    by_test : (b : Bool) → is_rated state rate (Some (old.state, old.rate)) ≡ b → LimitStands doc q (zone_if k q place state rate b h) place (Some limit)
+    by_test : (b : Bool) → is_rated state rate (Some (old.state, old.rate)) ≡ b → LimitStands doc q (if b then h else add k q (Zone place state rate) h) place (Some limit)
     by_test true is =
         let state_is : old.state ≡ state = same_state old.state state (first_of _ _ is) in
         let rate_is : old.rate ≡ rate = same_number old.rate rate (second_of (is_same_state old.state state) (old.rate == rate) is) in
@@ -101,7 +102,7 @@ module _ (doc : Doc) (k : ℕ) (q : Identity) (h : List Entry) (place : Zone) (s
 
     pub went_on : LimitStands doc q (zone_as k q place state rate h) place (Some limit)
     went_on =
-        subst (λ o. LimitStands doc q (zone_if k q place state rate (is_rated state rate o) h) place (Some limit)) s.rated
+        subst (λ o. LimitStands doc q (if (is_rated state rate o) then h else add k q (Zone place state rate) h) place (Some limit)) s.rated
         (by_test (is_rated state rate (Some (old.state, old.rate))) refl)
 
 -- ---- the limits of other zones
@@ -118,7 +119,7 @@ other_limit doc k q h at state rate place x apart s = by_test (is_rated state ra
     base_is None is = tt
     base_is (Some x) is = is ∙ ap (local doc q.process) (sym base_kept)
 
-    by_test : (b : Bool) → LimitStands doc q (zone_if k q at state rate b h) place x
+    by_test : (b : Bool) → LimitStands doc q (if b then h else add k q (Zone at state rate) h) place x
     by_test true = s
     by_test false =
         record {

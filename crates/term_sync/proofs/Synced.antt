@@ -1,11 +1,12 @@
 -- A sync, whether it comes or not.
 use Rattle.std.proofs.Common.{◌≡◌, ◌∙◌, ℕ, ◌||◌, Bool, true, false, List, drop, refl, sym, ap}
+use Rattle.std.specs.Prelude.{if◌then◌else◌}
 use Rattle.kube_objects.specs.declared.key.Key.{Key}
 use Rattle.kube_objects.specs.Entry.{Entry, Identity, Sync, Ticks, entry}
 use Rattle.kube_objects.specs.Feeds.{is_among}
 use Rattle.kube_objects.specs.Stored.{node_key}
 use Rattle.kube_objects.specs.Tainting.{before_tick, waits}
-use Rattle.kube_objects.specs.Tick.{add, sync_if}
+use Rattle.kube_objects.specs.Tick.{add}
 use Rattle.object_store.specs.Stands.{StoreStands, changed_in}
 use Rattle.object_store.specs.declared.store.Store.{Store}
 use Rattle.object_store.proofs.Keeps.{store-beside}
@@ -19,7 +20,7 @@ use Rattle.term_state.proofs.Takes.{since_is}
 use Rattle.term_state.proofs.Widen.{first_none, second_none}
 
 -- a sync is no write
-pub store_synced : (k : ℕ) (q : Identity) (h : List Entry) (s : Store) (b : Bool) → StoreStands h s → StoreStands (sync_if k q b h) s
+pub store_synced : (k : ℕ) (q : Identity) (h : List Entry) (s : Store) (b : Bool) → StoreStands h s → StoreStands (if b then add k q Sync h else h) s
 store_synced k q h s true st = store-beside h (entry k 4 q (Ticks Sync)) s st refl
 store_synced k q h s false st = st
 

@@ -1,5 +1,6 @@
 -- The phase of untaints and swaps.
 use Rattle.std.proofs.Common.{◌≡◌, ◌∙◌, ℕ, ◌==◌, Bool, true, false, List, Option, Some, None, refl, sym, ap, subst, Less}
+use Rattle.std.specs.Prelude.{if◌then◌else◌}
 use Rattle.std.specs.Ordering.{nat_cmp}
 use Rattle.kube_base.specs.declared.numbers.Version.{Version}
 use Rattle.kube_objects.specs.declared.call.Answer.{Answer}
@@ -12,7 +13,7 @@ use Rattle.kube_objects.specs.Modes.{mode}
 use Rattle.kube_objects.specs.Seen.{seen_node, seen_pod, is_stale, node_names}
 use Rattle.kube_objects.specs.Stored.{next_version, node_key}
 use Rattle.kube_objects.specs.Tainting.{Wants, Nothing, Wanted, Whatever, wants, waits}
-use Rattle.kube_objects.specs.Tick.{add, for_each, untaint_if, swap_if, clean_as, clean_seen, clean}
+use Rattle.kube_objects.specs.Tick.{add, for_each, clean_as, clean_seen, clean, add_untaint, add_swap}
 use Rattle.kube_objects.specs.Tries.{try_node}
 use Rattle.history_laws.proofs.Plainly.{false_is}
 use Rattle.tick_laws.specs.Changes.{IsChange, IsCleaningOn, noted_by, refused_by, IsGiven, cleaning, cleaned_node}
@@ -64,8 +65,8 @@ module _ (doc : Doc) (k : ℕ) (q : Identity) where
   clean_idle name h = by_stale (is_stale q (node_key name) h) (seen_node q name h)
     where
       by_wants : (given : Version) (node : Node) (w : Wants) → cleans w node ≡ false → clean_as doc k q name given node w h ≡ h
-      by_wants given node Nothing quiet = ap (λ b. untaint_if k q name given node b h) quiet
-      by_wants given node (Wanted wanted) quiet = ap (λ b. swap_if doc k q name given node wanted b h) quiet
+      by_wants given node Nothing quiet = ap (λ b. (if b then add_untaint k q name given node h else h)) quiet
+      by_wants given node (Wanted wanted) quiet = ap (λ b. (if b then add_swap doc k q name given node wanted h else h)) quiet
       by_wants given node Whatever quiet = refl
 
       by_stale : (b : Bool) (o : Option (Version × Node)) → dirty_as b (mode q h) o ≡ false → clean_seen doc k q name b o h ≡ h
@@ -81,8 +82,8 @@ module _ (doc : Doc) (k : ℕ) (q : Identity) where
       ∙ by_stale (is_stale q (node_key name) h) (subst (λ o. dirty_as (is_stale q (node_key name) h) (mode q h) o ≡ true) sees busy)
     where
       by_wants : (w : Wants) → cleans w x.1 ≡ true → clean_as doc k q name x.0 x.1 w h ≡ add k q (cleaning doc k q name x.0 x.1 w (try_node q name x.0 h)) h
-      by_wants Nothing busy = ap (λ b. untaint_if k q name x.0 x.1 b h) busy
-      by_wants (Wanted wanted) busy = ap (λ b. swap_if doc k q name x.0 x.1 wanted b h) busy
+      by_wants Nothing busy = ap (λ b. (if b then add_untaint k q name x.0 x.1 h else h)) busy
+      by_wants (Wanted wanted) busy = ap (λ b. (if b then add_swap doc k q name x.0 x.1 wanted h else h)) busy
       by_wants Whatever busy = absurd (false_is busy)
 
       by_stale : (b : Bool) → dirty_as b (mode q h) (Some x) ≡ true → clean_seen doc k q name b (Some x) h ≡ add k q (cleaning doc k q name x.0 x.1 (wants (mode q h) x.1) (try_node q name x.0 h)) h

@@ -1,5 +1,6 @@
 -- The phase of evictions.
 use Rattle.std.proofs.Common.{◌≡◌, ◌∙◌, inl, inr, ℕ, nat_le, ◌||◌, not, Bool, true, false, List, [], ◌∷◌, Option, Some, None, refl, sym, ap, subst, Less}
+use Rattle.std.specs.Prelude.{if◌then◌else◌}
 use Rattle.kube_base.specs.declared.numbers.Version.{Version}
 use Rattle.kube_objects.specs.declared.call.Answer.{Answer}
 use Rattle.kube_objects.specs.declared.call.Answer.TheVariants as answer
@@ -14,7 +15,7 @@ use Rattle.kube_objects.specs.Entry.{Entry, Identity, Place, Delete}
 use Rattle.kube_objects.specs.Keys.{key_cmp, key_eq}
 use Rattle.kube_objects.specs.Seen.{seen_node, seen_pod, is_stale, is_pod, pod_keys}
 use Rattle.kube_objects.specs.Tainting.{waits}
-use Rattle.kube_objects.specs.Tick.{add, for_each, delete_if, evict_due, evict_on, evict_seen, evict}
+use Rattle.kube_objects.specs.Tick.{add, for_each, evict_due, evict_on, evict_seen, evict, add_delete}
 use Rattle.kube_objects.specs.Tolerations.{due}
 use Rattle.kube_objects.specs.Tries.{try_delete}
 use Rattle.history_laws.proofs.Plainly.{false_is}
@@ -118,7 +119,7 @@ module _ (doc : Doc) (k : ℕ) (q : Identity) where
     where
       by_due : (given : Version) (node : ℕ) (node_given : Version) (d : Due) → is_by_now (wall doc q.process k) d ≡ false → evict_due doc k q pod given node node_given d h ≡ h
       by_due given node node_given Never quiet = refl
-      by_due given node node_given (At at) quiet = ap (λ b. delete_if k q pod given node node_given at b h) quiet
+      by_due given node node_given (At at) quiet = ap (λ b. (if b then add_delete k q pod given node node_given at h else h)) quiet
 
       by_node : (x : Version × Pod) (o : Option (Version × Node)) → is_by_now (wall doc q.process k) (due_on x.1 o) ≡ false → evict_on doc k q pod x o h ≡ h
       by_node x None quiet = refl
@@ -137,7 +138,7 @@ module _ (doc : Doc) (k : ℕ) (q : Identity) where
       ∙ ap (λ o. evict_seen doc k q pod false o h) s.sees
       ∙ ap (λ o. evict_on doc k q pod s.x o h) s.sees_node
       ∙ ap (λ d. evict_due doc k q pod s.x.0 s.x.1.node s.y.0 d h) s.time
-      ∙ ap (λ b. delete_if k q pod s.x.0 s.x.1.node s.y.0 at b h) now
+      ∙ ap (λ b. (if b then add_delete k q pod s.x.0 s.x.1.node s.y.0 at h else h)) now
 
   -- the same from what is seen
   pub due_adds : (pod : Key) (h : List Entry) (x : Version × Pod) (y : Version × Node) (at : ℕ) → is_by_now (wall doc q.process k) (seen_due q pod h) ≡ true → seen_pod q pod h ≡ Some x → seen_node q x.1.node h ≡ Some y
@@ -152,7 +153,7 @@ module _ (doc : Doc) (k : ℕ) (q : Identity) where
   pub evict_either : (pod : Key) (h : List Entry) (P : List Entry → Type 0) → P h → ((given node_given : Version) (at : ℕ) (a : Option Answer) → P (add k q (Delete pod given node_given at a) h)) → P (evict doc k q pod h)
   evict_either pod h P same more = by_stale (is_stale q pod h) (seen_pod q pod h)
     where
-      by_test : (given : Version) (node : ℕ) (node_given : Version) (at : ℕ) (b : Bool) → P (delete_if k q pod given node node_given at b h)
+      by_test : (given : Version) (node : ℕ) (node_given : Version) (at : ℕ) (b : Bool) → P (if b then add_delete k q pod given node node_given at h else h)
       by_test given node node_given at true = more given node_given at (try_delete q pod given node node_given h)
       by_test given node node_given at false = same
 

@@ -1,5 +1,6 @@
 -- Which entries each phase of a tick adds, and what a phase leaves as it was.
 use Rattle.std.proofs.Common.{◌≡◌, ◌∙◌, ℕ, ◌&&◌, not, Bool, true, false, List, [], ◌∷◌, Option, Some, None, refl, sym, ap, subst}
+use Rattle.std.specs.Prelude.{if◌then◌else◌}
 use Rattle.std.specs.List.{list_any}
 use Rattle.kube_base.specs.declared.numbers.Version.{Version}
 use Rattle.kube_objects.specs.declared.call.Answer.{Answer}
@@ -17,7 +18,7 @@ use Rattle.kube_objects.specs.Identities.{is_by}
 use Rattle.kube_objects.specs.Seen.{seen_node, is_fresh, is_stale, is_refused, node_names, pod_keys}
 use Rattle.kube_objects.specs.Stored.{node_key}
 use Rattle.kube_objects.specs.Tainting.{Wants, Nothing, Wanted, Whatever, wants, has_condition, is_opposite}
-use Rattle.kube_objects.specs.Tick.{add, for_each, sync_if, sync, mark_as, mark_seen, mark, mode_if, is_same_mode, mode_as, set_mode, zone_if, zone_as, zone, set_zones, marks, pass_if, pass, untaint_if, swap_if, clean_as, clean_seen, clean, cleaned, taint, tainted, evict, evicted, tick}
+use Rattle.kube_objects.specs.Tick.{add, for_each, sync, mark_as, mark_seen, mark, is_same_mode, mode_as, set_mode, zone_as, zone, set_zones, marks, pass, clean_as, clean_seen, clean, cleaned, taint, tainted, evict, evicted, tick, whole_pass, add_untaint, add_swap}
 use Rattle.kube_objects.specs.Tokens.{is_zone, rated_says, rated, is_rated, has_rate, is_base, base}
 use Rattle.kube_objects.specs.Tries.{try_node}
 use Rattle.history_laws.proofs.Plainly.{false_is, true_is, none_is, some_is}
@@ -63,7 +64,7 @@ module _ (doc : Doc) (k : ℕ) (q : Identity) (P : List Entry → Type 0) where
   pub sync_keeps : ((h : List Entry) → P h → P (add k q Sync h)) → (h : List Entry) → P h → P (sync doc k q h)
   sync_keeps more h p = by_test (watches doc q.process h && not (is_fresh q h))
     where
-      by_test : (b : Bool) → P (sync_if k q b h)
+      by_test : (b : Bool) → P (if b then add k q Sync h else h)
       by_test true = more h p
       by_test false = p
 
@@ -82,7 +83,7 @@ module _ (doc : Doc) (k : ℕ) (q : Identity) (P : List Entry → Type 0) where
     pub mode_step : (h : List Entry) → P h → P (set_mode doc k q h)
     mode_step h p = by_mode (all_full doc (nodes q h))
       where
-        by_test : (on b : Bool) → P (mode_if k q on b h)
+        by_test : (on b : Bool) → P (if b then h else add k q (Mode on) h)
         by_test on true = p
         by_test on false = more (Mode on) h refl p
 
@@ -92,7 +93,7 @@ module _ (doc : Doc) (k : ℕ) (q : Identity) (P : List Entry → Type 0) where
     pub zone_step : (seen : List Node) (place : Place) (h : List Entry) → P h → P (zone doc k q seen place h)
     zone_step seen place h p = by_state (state_in doc seen place) (rate_in doc (mode q h) seen place)
       where
-        by_test : (s : ZoneState) (rate : ℕ) (b : Bool) → P (zone_if k q place s rate b h)
+        by_test : (s : ZoneState) (rate : ℕ) (b : Bool) → P (if b then h else add k q (Zone place s rate) h)
         by_test s rate true = p
         by_test s rate false = more (Zone place s rate) h refl p
 
@@ -110,7 +111,7 @@ module _ (doc : Doc) (k : ℕ) (q : Identity) (P : List Entry → Type 0) where
     pub pass_keeps : (h : List Entry) → P h → P (pass doc k q h)
     pass_keeps h p = by_test (is_pass_due doc k q h)
       where
-        by_test : (b : Bool) → P (pass_if doc k q b h)
+        by_test : (b : Bool) → P (if b then whole_pass doc k q h else h)
         by_test false = p
         by_test true = pass_rest (add k q Pass h) (more Pass h refl p)
 
@@ -118,11 +119,11 @@ module _ (doc : Doc) (k : ℕ) (q : Identity) (P : List Entry → Type 0) where
     pub clean_step : (name : ℕ) (h : List Entry) → P h → P (clean doc k q name h)
     clean_step name h p = by_stale (is_stale q (node_key name) h) (seen_node q name h) refl
       where
-        by_untaint : (x : Version × Node) → seen_node q name h ≡ Some x → (b : Bool) → P (untaint_if k q name x.0 x.1 b h)
+        by_untaint : (x : Version × Node) → seen_node q name h ≡ Some x → (b : Bool) → P (if b then add_untaint k q name x.0 x.1 h else h)
         by_untaint x is false = p
         by_untaint x is true = more _ h refl (x.1, is, refl) p
 
-        by_swap : (x : Version × Node) → seen_node q name h ≡ Some x → (wanted : ℕ) (b : Bool) → P (swap_if doc k q name x.0 x.1 wanted b h)
+        by_swap : (x : Version × Node) → seen_node q name h ≡ Some x → (wanted : ℕ) (b : Bool) → P (if b then add_swap doc k q name x.0 x.1 wanted h else h)
         by_swap x is wanted false = p
         by_swap x is wanted true = more _ h refl (x.1, is, refl) p
 

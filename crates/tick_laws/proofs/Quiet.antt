@@ -1,17 +1,18 @@
 -- A tick adds nothing exactly where it is quiet.
 use Rattle.std.proofs.Common.{◌≡◌, ◌∙◌, ◌⊎◌, inl, inr, ℕ, ◌<◌, ◌≤◌, ◌&&◌, not, Bool, true, false, List, [], ◌∷◌, length, Option, Some, None, refl, sym, ap, subst, arith}
+use Rattle.std.specs.Prelude.{if◌then◌else◌}
 use Rattle.std.specs.Ordering.{nat_cmp}
 use Rattle.kube_objects.specs.declared.key.Key.{Key}
 use Rattle.kube_objects.specs.Clocks.{wall}
 use Rattle.kube_objects.specs.Document.{Doc}
-use Rattle.kube_objects.specs.Entry.{Entry, Identity, Place, Pass}
+use Rattle.kube_objects.specs.Entry.{Entry, Identity, Place, Pass, Sync}
 use Rattle.kube_objects.specs.Health.{is_pass_due}
 use Rattle.kube_objects.specs.InForce.{watches}
 use Rattle.kube_objects.specs.Keys.{key_cmp}
 use Rattle.kube_objects.specs.Modes.{place_cmp, nodes, places}
 use Rattle.kube_objects.specs.Seen.{is_fresh, is_synced, node_names, pod_keys}
 use Rattle.kube_objects.specs.Tainting.{waits, queued, queued_as, first, Queued, head_of}
-use Rattle.kube_objects.specs.Tick.{add, for_each, sync_if, sync, pass_if, pass, clean, cleaned, taint, tainted, evict, evicted, tick_if, tick_after, tick}
+use Rattle.kube_objects.specs.Tick.{add, for_each, sync, pass, clean, cleaned, taint, tainted, evict, evicted, tick_after, tick, whole_pass, phases}
 use Rattle.kube_objects.specs.Tokens.{has_token}
 use Rattle.tick_laws.specs.Judged.{key_if, is_dirty, seen_due, is_by_now}
 use Rattle.tick_laws.specs.Quiet.{IsQuietTerm, IsQuietTick}
@@ -69,13 +70,13 @@ head_some q place h n wanted now (m ∷ ms) (inr there) = by_first (queued_as (q
 
 module _ (doc : Doc) (k : ℕ) (q : Identity) (h : List Entry) where
   pub sync_none : (watches doc q.process h && not (is_fresh q h)) ≡ false → sync doc k q h ≡ h
-  sync_none is = ap (λ b. sync_if k q b h) is
+  sync_none is = ap (λ b. (if b then add k q Sync h else h)) is
 
   pub sync_grows : (watches doc q.process h && not (is_fresh q h)) ≡ true → length h < length (sync doc k q h)
-  sync_grows is = subst (λ b. length h < length (sync_if k q b h)) (sym is) (omega arith)
+  sync_grows is = subst (λ b. length h < length (if b then add k q Sync h else h)) (sym is) (omega arith)
 
   pub pass_none : is_pass_due doc k q h ≡ false → pass doc k q h ≡ h
-  pass_none is = ap (λ b. pass_if doc k q b h) is
+  pass_none is = ap (λ b. (if b then whole_pass doc k q h else h)) is
 
   pub cleaned_none : ((name : ℕ) → is_dirty q name h ≡ false) → cleaned doc k q h ≡ h
   cleaned_none none = ap (λ names. for_each (clean doc k q) names h) (sym (after_none nat_cmp names_strict (node_names h))) ∙ clean_end doc k q None h h (λ m later. none m)
@@ -138,7 +139,7 @@ module _ (doc : Doc) (k : ℕ) (q : Identity) (h : List Entry) where
 -- a pass adds its own entry at least
 pub pass_grows : (doc : Doc) (k : ℕ) (q : Identity) (h : List Entry) → is_pass_due doc k q h ≡ true → length h < length (pass doc k q h)
 pass_grows doc k q h due =
-    subst (λ b. length h < length (pass_if doc k q b h)) (sym due)
+    subst (λ b. length h < length (if b then whole_pass doc k q h else h)) (sym due)
     (pass_rest doc k q (λ g. length h < length g) (λ t g is less. omega (arith, less)) (add k q Pass h) (omega arith))
 
 -- ---- the tick
@@ -146,7 +147,7 @@ pass_grows doc k q h due =
 pub quiet_adds_nothing : (doc : Doc) (k : ℕ) (q : Identity) (h : List Entry) → IsQuietTick doc k q h → tick doc k q h ≡ h
 quiet_adds_nothing doc k q h quiet = ap (tick_after doc k q) (sync_none doc k q h quiet.sync) ∙ by_synced (is_synced q h) refl
   where
-    by_synced : (b : Bool) → is_synced q h ≡ b → tick_if doc k q b h ≡ h
+    by_synced : (b : Bool) → is_synced q h ≡ b → (if b then phases doc k q h else h) ≡ h
     by_synced false synced = refl
     by_synced true synced =
         let s = quiet.term synced in
@@ -175,7 +176,7 @@ module _ (doc : Doc) (k : ℕ) (q : Identity) where
   evicted_longer : (h : List Entry) → length h ≤ length (evicted doc k q h)
   evicted_longer h = ticked_longer q k h (evicted doc k q h) (evicted_ticked doc k q h)
 
-  term_longer : (h : List Entry) (b : Bool) → length h ≤ length (tick_if doc k q b h)
+  term_longer : (h : List Entry) (b : Bool) → length h ≤ length (if b then phases doc k q h else h)
   term_longer h false = omega arith
   term_longer h true =
       let a = pass doc k q h in
@@ -239,4 +240,4 @@ module _ (doc : Doc) (k : ℕ) (q : Identity) where
           busy due = omega (arith, ap length still, sync_grows doc k q h due, term_longer (sync doc k q h) (is_synced q (sync doc k q h)))
 
       by_synced : is_synced q h ≡ true → IsQuietTerm doc k q h
-      by_synced synced = still_term h (ap length (sym (ap (λ b. tick_if doc k q b h) synced) ∙ sym (ap (tick_after doc k q) (sync_none doc k q h unsynced)) ∙ still))
+      by_synced synced = still_term h (ap length (sym (ap (λ b. (if b then phases doc k q h else h)) synced) ∙ sym (ap (tick_after doc k q) (sync_none doc k q h unsynced)) ∙ still))

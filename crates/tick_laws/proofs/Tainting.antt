@@ -1,5 +1,6 @@
 -- The phase of queued taints.
 use Rattle.std.proofs.Common.{◌≡◌, ◌∙◌, ◌⊎◌, inl, inr, ℕ, ◌-◌, ◌==◌, ◌&&◌, ◌||◌, not, Bool, true, false, cond, List, [], ◌∷◌, Option, Some, None, refl, sym, ap, subst, Less}
+use Rattle.std.specs.Prelude.{if◌then◌else◌}
 use Rattle.std.proofs.lemmas.Bool.{eqb-true, eq-eqb}
 use Rattle.std.proofs.lemmas.List.Folds.{list_any-append}
 use Rattle.kube_base.specs.declared.numbers.Version.{Version}
@@ -18,7 +19,7 @@ use Rattle.kube_objects.specs.Modes.{and_node, nodes_among, nodes, place_of, pla
 use Rattle.kube_objects.specs.Newest.{newest, when, only_if, or_zero}
 use Rattle.kube_objects.specs.Seen.{seen_node, seen_pod, insert_once, node_names}
 use Rattle.kube_objects.specs.Tainting.{Wants, Nothing, Wanted, Whatever, is_condition, has_condition, not_ready, unreachable, wants, wants_by, wants_ready, wanted_key, lacks, lacks_in, waits, Queued, queued, head_of}
-use Rattle.kube_objects.specs.Tick.{add, for_each, new_taint, tainted_with, taint_as, taint_head, taint_if, taint}
+use Rattle.kube_objects.specs.Tick.{add, for_each, new_taint, tainted_with, taint_as, taint_head, taint, taint_first}
 use Rattle.kube_objects.specs.Tokens.{is_base, base, rated, is_grown, has_token}
 use Rattle.kube_objects.specs.Tries.{try_node}
 use Rattle.history_laws.proofs.Plainly.{none_is, some_is}
@@ -140,19 +141,19 @@ module _ (doc : Doc) (k : ℕ) (q : Identity) where
   heading place name wanted x a = Head place name wanted x.0 (tainted_with (new_taint doc k q wanted) x.1) a
 
   pub taint_no_token : (place : Place) (h : List Entry) → has_token doc q k place h ≡ false → taint doc k q place h ≡ h
-  taint_no_token place h none = ap (λ b. taint_if doc k q place b h) none
+  taint_no_token place h none = ap (λ b. (if b then taint_first doc k q place h else h)) none
 
   pub taint_nobody : (place : Place) (h : List Entry) → ((m : ℕ) → waits_since q place m h ≡ None) → taint doc k q place h ≡ h
   taint_nobody place h nobody = by_token (has_token doc q k place h)
     where
-      by_token : (b : Bool) → taint_if doc k q place b h ≡ h
+      by_token : (b : Bool) → (if b then taint_first doc k q place h else h) ≡ h
       by_token true = ap (λ o. taint_head doc k q place o h) (head_none q place (node_names h) h nobody)
       by_token false = refl
 
   pub taint_adds : (place : Place) (h : List Entry) (at n wanted : ℕ) (x : Version × Node) → has_token doc q k place h ≡ true → head_of q place (node_names h) h ≡ Some (at, n) → waits q place n h ≡ Some wanted
       → seen_node q n h ≡ Some x → taint doc k q place h ≡ add k q (heading place n wanted x (try_node q n x.0 h)) h
   taint_adds place h at n wanted x token head now sees =
-      ap (λ b. taint_if doc k q place b h) token
+      ap (λ b. (if b then taint_first doc k q place h else h)) token
       ∙ ap (λ o. taint_head doc k q place o h) head
       ∙ ap (λ o. taint_as doc k q place n o (seen_node q n h) h) now
       ∙ ap (λ o. taint_as doc k q place n (Some wanted) o h) sees
@@ -164,7 +165,7 @@ module _ (doc : Doc) (k : ℕ) (q : Identity) where
   taint_either place h P same more = by_token (has_token doc q k place h) refl
     where
       by_head : has_token doc q k place h ≡ true → (o : Option Queued) → head_of q place (node_names h) h ≡ o → P (taint doc k q place h)
-      by_head token None head = subst P (sym (ap (λ b. taint_if doc k q place b h) token ∙ ap (λ o. taint_head doc k q place o h) head)) same
+      by_head token None head = subst P (sym (ap (λ b. (if b then taint_first doc k q place h else h)) token ∙ ap (λ o. taint_head doc k q place o h) head)) same
       by_head token (Some y) head =
           let found = since_waits q place y.1 y.0 h (head_waits q place (node_names h) h y head) in
           let w = waiting q place y.1 found.0 h found.1 in

@@ -1,5 +1,6 @@
 -- What own entries of one tick keep, and that each phase of a tick adds no others.
 use Rattle.std.proofs.Common.{◌≡◌, ◌∙◌, ℕ, ◌&&◌, Bool, true, false, List, [], ◌∷◌, Option, Some, None, refl, sym, ap, subst, arith, length, ◌≤◌}
+use Rattle.std.specs.Prelude.{if◌then◌else◌}
 use Rattle.std.proofs.lemmas.Bool.{eq-eqb}
 use Rattle.std.specs.Ordering.{nat_cmp}
 use Rattle.kube_base.specs.declared.numbers.Version.{Version}
@@ -13,7 +14,7 @@ use Rattle.kube_objects.specs.Keys.{key_cmp}
 use Rattle.kube_objects.specs.Seen.{is_synced, named, node_name, pod_key, node_names, pod_keys, seen_node}
 use Rattle.kube_objects.specs.Stored.{tick_write}
 use Rattle.kube_objects.specs.Tainting.{is_tick_of, before_tick, waits, Queued, head_of}
-use Rattle.kube_objects.specs.Tick.{add, sync, pass, clean, cleaned, taint_as, taint_head, taint_if, taint, tainted, evict, evicted}
+use Rattle.kube_objects.specs.Tick.{add, sync, pass, clean, cleaned, taint_as, taint_head, taint, tainted, evict, evicted, taint_first}
 use Rattle.kube_objects.specs.Tokens.{has_token}
 use Rattle.kube_objects.specs.Wire.{loses_requests}
 use Rattle.history_laws.proofs.Ticks.{walk_sync, walk_pass, walk_cleaned, walk_tainted, walk_evicted}
@@ -124,6 +125,6 @@ module _ (doc : Doc) (k : ℕ) (q : Identity) where
       by_head None = ticked_same q k h
       by_head (Some head) = by_seen head.1 (waits q place head.1 h) (seen_node q head.1 h)
 
-      by_token : (b : Bool) → IsTicked q k h (taint_if doc k q place b h)
+      by_token : (b : Bool) → IsTicked q k h (if b then taint_first doc k q place h else h)
       by_token false = ticked_same q k h
       by_token true = by_head (head_of q place (node_names h) h)

@@ -1,5 +1,6 @@
 -- Layer 3, the world around one process: all but one process stand through the quiet entries of that one.
 use Rattle.std.proofs.Common.{◌≡◌, ℕ, ◌+◌, ◌<◌, ◌≤◌, ◌==◌, ◌&&◌, nat_lt, Bool, true, false, List, [], ◌∷◌, Option, Some, None, refl, sym, ap, ◌∙◌, arith}
+use Rattle.std.specs.Prelude.{if◌then◌else◌}
 use Rattle.kube_objects.specs.declared.deed.Actor.{Actor}
 use Rattle.kube_objects.specs.declared.deed.Actor.TheVariants as actor
 use Rattle.kube_objects.specs.Clocks.{local}
@@ -10,9 +11,9 @@ use Rattle.kube_objects.specs.Identities.{identity, is_by, of_process}
 use Rattle.kube_objects.specs.Newest.{has, join, when}
 use Rattle.kube_objects.specs.Process.{life_says, life, alive, born, gone, starts, call_in, is_late, ended, is_restart_due}
 use Rattle.kube_objects.specs.Stored.{write_of}
-use Rattle.kube_objects.specs.Turns.{expire_as, expire_call, end_as, end_term}
+use Rattle.kube_objects.specs.Turns.{expire_call, end_term}
 use Rattle.kube_objects.specs.Wire.{Sent, Back}
-use Rattle.history.specs.Steps.{start, restart_as, restart_if, restart, if_up, expire, finish}
+use Rattle.history.specs.Steps.{start, restart_if, restart, if_up, expire, finish}
 use Rattle.object_store.proofs.Keeps.{store-beside}
 use Rattle.wire_calls.specs.WireStands.{is_of_wire}
 use Rattle.wire_calls.proofs.Frames.{wire-beside}
@@ -150,7 +151,7 @@ around-started doc k i j step arriving coming h w within s =
 around-restart : (doc : Doc) (k i : ℕ) (arriving : List Sent) (coming : List Back) (h : List Entry) (w : State) → i < processes doc → Around doc k i arriving coming h w → Around doc k i arriving coming (restart doc k i h) w
 around-restart doc k i arriving coming h w within s = by_life (alive i h)
   where
-    by_due : (b : Bool) → Around doc k i arriving coming (restart_as k i b h) w
+    by_due : (b : Bool) → Around doc k i arriving coming (if b then start k 4 i h else h) w
     by_due true = around-started doc k i k 4 arriving coming h w within s
     by_due false = s
 
@@ -161,7 +162,7 @@ around-restart doc k i arriving coming h w within s = by_life (alive i h)
 around-expire : (doc : Doc) (k i : ℕ) (arriving : List Sent) (coming : List Back) (h : List Entry) (w : State) → i < processes doc → Around doc k i arriving coming h w → Around doc k i arriving coming (expire doc k i h) w
 around-expire doc k i arriving coming h w within s = by_life (alive i h) refl
   where
-    by_late : (j : ℕ) → IsKnown (processes doc) h (identity i j) → (call : Call) (b : Bool) → Around doc k i arriving coming (expire_as k (identity i j) call b h) w
+    by_late : (j : ℕ) → IsKnown (processes doc) h (identity i j) → (call : Call) (b : Bool) → Around doc k i arriving coming (if b then entry k 4 (identity i j) (Expires call) ∷ h else h) w
     by_late j known call true = around-own doc k i k 4 arriving coming (identity i j) (Expires call) h w refl refl (known-later (processes doc) (entry k 4 (identity i j) (Expires call)) h (identity i j) known) s
     by_late j known call false = s
 
@@ -176,7 +177,7 @@ around-expire doc k i arriving coming h w within s = by_life (alive i h) refl
 around-finish : (doc : Doc) (k i : ℕ) (arriving : List Sent) (coming : List Back) (h : List Entry) (w : State) → i < processes doc → Around doc k i arriving coming h w → Around doc k i arriving coming (finish doc k i h) w
 around-finish doc k i arriving coming h w within s = by_life (alive i h) refl
   where
-    by_time : (j : ℕ) → IsKnown (processes doc) h (identity i j) → (b : Bool) → Around doc k i arriving coming (end_as k (identity i j) b h) w
+    by_time : (j : ℕ) → IsKnown (processes doc) h (identity i j) → (b : Bool) → Around doc k i arriving coming (if b then h else entry k 4 (identity i j) Ends ∷ h) w
     by_time j known true = s
     by_time j known false = around-own doc k i k 4 arriving coming (identity i j) Ends h w refl refl (known-later (processes doc) (entry k 4 (identity i j) Ends) h (identity i j) known) s
 

@@ -1,11 +1,12 @@
 -- Layer 2, what a history keeps: the events of a beat, among all events.
 use Rattle.std.proofs.Common.{◌≡◌, ℕ, zero, suc, ◌+◌, ◌<◌, ◌≤◌, ◌==◌, Bool, true, false, List, [], ◌∷◌, Some, slice_get, length, drop, refl, sym, ap, ◌∙◌, subst, arith}
+use Rattle.std.specs.Prelude.{if◌then◌else◌}
 use Rattle.std.proofs.lemmas.List.{drop_more}
 use Rattle.std.proofs.lemmas.Option.{slice_get_within, get_or_from_slice_get}
 use Rattle.kube_objects.specs.declared.script.Event.{Event}
 use Rattle.kube_objects.specs.Document.{Doc}
 use Rattle.kube_objects.specs.Entry.{Entry}
-use Rattle.history.specs.Steps.{happens, happens_if, happen_all}
+use Rattle.history.specs.Steps.{happens, happen_all}
 use Rattle.script_reader.specs.Lawful.{IsLawfulWhat, AreLawfulFrom}
 use Rattle.world_process.proofs.Names.{eq-self, eq-is, eq-isnt}
 
@@ -22,11 +23,11 @@ drop-past (y ∷ ys) (suc i) past = drop-past ys i (omega (arith, past))
 
 -- ---- events of other beats do nothing
 
-happens-not : (doc : Doc) (k : ℕ) (e : Event) (h : List Entry) → ¬ (e.beat.0 ≡ k) → happens_if doc k e.what (e.beat.0 == k) h ≡ h
-happens-not doc k e h other = ap (λ b. happens_if doc k e.what b h) (eq-isnt e.beat.0 k other)
+happens-not : (doc : Doc) (k : ℕ) (e : Event) (h : List Entry) → ¬ (e.beat.0 ≡ k) → (if (e.beat.0 == k) then happens doc k e.what h else h) ≡ h
+happens-not doc k e h other = ap (λ b. (if b then happens doc k e.what h else h)) (eq-isnt e.beat.0 k other)
 
-pub happens-now : (doc : Doc) (k : ℕ) (e : Event) (h : List Entry) → e.beat.0 ≡ k → happens_if doc k e.what (e.beat.0 == k) h ≡ happens doc k e.what h
-happens-now doc k e h now = ap (λ n. happens_if doc k e.what (e.beat.0 == n) h) (sym now) ∙ ap (λ b. happens_if doc k e.what b h) (eq-self e.beat.0)
+pub happens-now : (doc : Doc) (k : ℕ) (e : Event) (h : List Entry) → e.beat.0 ≡ k → (if (e.beat.0 == k) then happens doc k e.what h else h) ≡ happens doc k e.what h
+happens-now doc k e h now = ap (λ n. (if (e.beat.0 == n) then happens doc k e.what h else h)) (sym now) ∙ ap (λ b. (if b then happens doc k e.what h else h)) (eq-self e.beat.0)
 
 -- those of earlier beats
 pub happen-earlier : (doc : Doc) (k : ℕ) (es : List Event) (n : ℕ) (h : List Entry) → ((i : ℕ) (e : Event) → i < n → slice_get es i ≡ Some e → e.beat.0 < k) → happen_all doc k (drop n es) h ≡ happen_all doc k es h

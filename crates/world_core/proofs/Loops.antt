@@ -1,5 +1,6 @@
 -- Layer 4, the steps of a beat: the loops, what has been taken so far, and what is left.
 use Rattle.std.proofs.Common.{◌≡◌, ℕ, Bool, true, false, suc, ◌+◌, ◌-◌, ◌<◌, ◌++◌, not, List, [], ◌∷◌, Option, Some, None, length, refl, sym, ap, ◌∙◌, subst, arith}
+use Rattle.std.specs.Prelude.{if◌then◌else◌}
 use Rattle.kube_objects.specs.declared.call.Reply.{Reply}
 use Rattle.kube_objects.specs.declared.deed.Actor.TheVariants as actor
 use Rattle.kube_objects.specs.declared.deed.Deed.{Deed}
@@ -13,7 +14,7 @@ use Rattle.kube_objects.specs.Stored.{write_of, request_write}
 use Rattle.kube_objects.specs.Wire.{Sent, Back, reply_arrival}
 use Rattle.history.specs.Due.{answer_all, deliver_all}
 use Rattle.history.specs.Printed.{deeds_of, answer_act}
-use Rattle.history.specs.Steps.{answered, delivered, elector_turn, starts_below, ticks, turn, turn_as, turn_unless, turns}
+use Rattle.history.specs.Steps.{answered, delivered, elector_turn, starts_below, ticks, turn, turns, controller_turn, kubelet_turn, unpaused_turn}
 use Rattle.object_store.specs.Stands.{StoreStands}
 use Rattle.wire_calls.specs.declared.message.Arrived.{Arrived}
 use Rattle.wire_calls.specs.declared.message.Delivered.{Delivered}
@@ -170,11 +171,11 @@ few-starts doc i n h less few =
 pub few-own : (doc : Doc) (k p : ℕ) (h : List Entry) → IsFew (turn doc k p h) → IsFew (awake_turn doc k p h)
 few-own doc k p h few = by_pause (is_paused doc p k) few
   where
-    by_sort : (b : Bool) → IsFew (turn_as doc k p b h) → IsFew (own_turn_as doc k p b h)
+    by_sort : (b : Bool) → IsFew (if b then controller_turn doc k p h else kubelet_turn doc k p h) → IsFew (own_turn_as doc k p b h)
     by_sort true few = let g = elector_turn doc k p h in few-before g (ticks doc k p g) (grows-ticks doc k p g) few
     by_sort false few = few
 
-    by_pause : (b : Bool) → IsFew (turn_unless doc k p b h) → IsFew (turn_if doc k p (not b) h)
+    by_pause : (b : Bool) → IsFew (if b then h else unpaused_turn doc k p h) → IsFew (turn_if doc k p (not b) h)
     by_pause true few = few
     by_pause false few = by_sort (is_controller doc p) few
 

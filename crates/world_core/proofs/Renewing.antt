@@ -1,5 +1,6 @@
 -- Layer 3, the world around one process: the terms of the world through what a process does, and which of them are made anew.
 use Rattle.std.proofs.Common.{◌≡◌, ◌⊎◌, inl, inr, ℕ, ◌+◌, ◌<◌, ◌≤◌, ◌++◌, ◌||◌, not, nat_lt, Bool, true, false, List, [], ◌∷◌, Option, Some, None, length, length-append, refl, sym, ap, ◌∙◌, subst, arith}
+use Rattle.std.specs.Prelude.{if◌then◌else◌}
 use Rattle.std.proofs.lemmas.List.{append-nil}
 use Rattle.kube_base.specs.declared.numbers.ProcId.{ProcId}
 use Rattle.kube_base.specs.declared.numbers.Version.{Version}
@@ -18,10 +19,10 @@ use Rattle.kube_objects.specs.Kubelet.{next_request, send_next}
 use Rattle.kube_objects.specs.Newest.{added, join, only_if}
 use Rattle.kube_objects.specs.Pauses.{is_paused}
 use Rattle.kube_objects.specs.Process.{alive, call_in, counted, ended, gone, is_late, is_restart_due, life, starts}
-use Rattle.kube_objects.specs.Turns.{end_as, end_term, expire_as, expire_call, lead_if, react}
+use Rattle.kube_objects.specs.Turns.{end_term, expire_call, react}
 use Rattle.kube_objects.specs.Wire.{Back, send}
 use Rattle.history.specs.Printed.{printed}
-use Rattle.history.specs.Steps.{crash, deliver_as, delivered, expire, finish, happens, if_up, react_as, restart, restart_as, restart_if, start, start_if_down}
+use Rattle.history.specs.Steps.{crash, deliver_as, delivered, expire, finish, happens, if_up, react_as, restart, restart_if, start, start_if_down}
 use Rattle.history_laws.proofs.Plainly.{upper}
 use Rattle.watch_cache.specs.Stands.{is_tick_by, ticks}
 use Rattle.world_core.proofs.Lists.{length-end}
@@ -36,7 +37,7 @@ use Rattle.world_terms.proofs.Frames.{but-beside, but-start, fresh-down, fresh-s
 -- ---- a reply that is delivered
 
 module _ (doc : Doc) (k : ℕ) (x : Terms) where
-  terms-lead_if : (q : Identity) (led : Bool) (version : Version) (h : List Entry) → TermsStand doc h x → TermsStand doc (lead_if k q led version h) x
+  terms-lead_if : (q : Identity) (led : Bool) (version : Version) (h : List Entry) → TermsStand doc h x → TermsStand doc (if led then h else entry k 3 q (Leads version) ∷ h) x
   terms-lead_if q true version h s = s
   terms-lead_if q false version h s = terms-beside doc h (entry k 3 q (Leads version)) x refl s
 
@@ -161,7 +162,7 @@ module _ (doc : Doc) (k i n : ℕ) (h : List Entry) (x : Terms) where
   through-restart : IsPlain n h → TermsStand doc h x → IsEither (restart doc k i h)
   through-restart plain s = by_life (alive i h)
     where
-      by_due : (b : Bool) → IsEither (restart_as k i b h)
+      by_due : (b : Bool) → IsEither (if b then start k 4 i h else h)
       by_due true = inr (starting plain)
       by_due false = inl (s, refl)
 
@@ -176,7 +177,7 @@ module _ (doc : Doc) (k i n : ℕ) (h : List Entry) (x : Terms) where
   through-expire : (g : List Entry) → IsEither g → IsEither (expire doc k i g)
   through-expire g s = by_life (alive i g)
     where
-      by_late : (j : ℕ) (call : Call) (b : Bool) → IsEither (expire_as k (identity i j) call b g)
+      by_late : (j : ℕ) (call : Call) (b : Bool) → IsEither (if b then entry k 4 (identity i j) (Expires call) ∷ g else g)
       by_late j call true = through-expiry j call g s
       by_late j call false = s
 
@@ -201,7 +202,7 @@ module _ (doc : Doc) (k i n : ℕ) (h : List Entry) (x : Terms) where
   through-finish : (g : List Entry) → IsEither g → IsEither (finish doc k i g)
   through-finish g s = by_life (alive i g)
     where
-      by_time : (j : ℕ) (b : Bool) → IsEither (end_as k (identity i j) b g)
+      by_time : (j : ℕ) (b : Bool) → IsEither (if b then g else entry k 4 (identity i j) Ends ∷ g)
       by_time j true = s
       by_time j false = inr (ending j g s)
 

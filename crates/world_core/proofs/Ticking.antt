@@ -1,5 +1,6 @@
 -- Layer 4, the steps of a beat: ticks beside the world, as the entries of a tick change the store and the terms alone.
 use Rattle.std.proofs.Common.{◌≡◌, ℕ, ◌<◌, ◌++◌, ◌&&◌, not, Bool, true, false, List, Option, Some, None, length, refl, sym, ap, ◌∙◌, subst, append_assoc, arith}
+use Rattle.std.specs.Prelude.{if◌then◌else◌}
 use Rattle.std.proofs.lemmas.Bool.{ltb-true}
 use Rattle.kube_base.specs.declared.numbers.Beat.{Beat}
 use Rattle.kube_objects.specs.declared.deed.Deed.{Deed}
@@ -14,7 +15,7 @@ use Rattle.kube_objects.specs.Pauses.{is_paused}
 use Rattle.kube_objects.specs.Process.{alive}
 use Rattle.kube_objects.specs.Tick.{add, sync, tick}
 use Rattle.kube_objects.specs.Wire.{Sent, Back, loses_requests}
-use Rattle.history.specs.Steps.{if_up, tick_as, turn, turn_as, turn_unless}
+use Rattle.history.specs.Steps.{if_up, turn, controller_turn, kubelet_turn, unpaused_turn}
 use Rattle.history_laws.proofs.Ticks.{walk_tick}
 use Rattle.beat_laws.specs.Unticked.{IsUntickedFrom}
 use Rattle.beat_laws.proofs.Names.{nodes_are_named}
@@ -80,9 +81,9 @@ module _ (doc : Doc) (k : ℕ) (arriving : List Sent) (coming : List Back) (w : 
 pub ticks-none : (doc : Doc) (k p : ℕ) (h : List Entry) → in_term_now doc k p h ≡ false → own_ticks doc k p h ≡ h
 ticks-none doc k p h none = by_sort (is_controller doc p) none
   where
-    by_life : (o : Option ℕ) → in_term_if_up doc k p o h ≡ false → if_up p (λ q T. tick_as doc k q (acts doc q k T) T) o h ≡ h
+    by_life : (o : Option ℕ) → in_term_if_up doc k p o h ≡ false → if_up p (λ q T. (if (acts doc q k T) then tick doc k q T else T)) o h ≡ h
     by_life None is = refl
-    by_life (Some i) is = ap (λ b. tick_as doc k (identity p i) (not (is_paused doc p k) && b) h) is ∙ ap (λ b. tick_as doc k (identity p i) b h) (and-false (not (is_paused doc p k)))
+    by_life (Some i) is = ap (λ b. (if (not (is_paused doc p k) && b) then tick doc k (identity p i) h else h)) is ∙ ap (λ b. (if b then tick doc k (identity p i) h else h)) (and-false (not (is_paused doc p k)))
 
     by_sort : (b : Bool) → in_term_as doc k p b h ≡ false → own_ticks_as doc k p b h ≡ h
     by_sort true is = by_life (alive p h) is
@@ -92,9 +93,9 @@ ticks-none doc k p h none = by_sort (is_controller doc p) none
 pub ticks-paused : (doc : Doc) (k p : ℕ) (h : List Entry) → is_paused doc p k ≡ true → own_ticks doc k p h ≡ h
 ticks-paused doc k p h paused = by_sort (is_controller doc p)
   where
-    by_life : (o : Option ℕ) → if_up p (λ q T. tick_as doc k q (acts doc q k T) T) o h ≡ h
+    by_life : (o : Option ℕ) → if_up p (λ q T. (if (acts doc q k T) then tick doc k q T else T)) o h ≡ h
     by_life None = refl
-    by_life (Some i) = ap (λ b. tick_as doc k (identity p i) (not b && in_term doc (identity p i) k h) h) paused
+    by_life (Some i) = ap (λ b. (if (not b && in_term doc (identity p i) k h) then tick doc k (identity p i) h else h)) paused
 
     by_sort : (b : Bool) → own_ticks_as doc k p b h ≡ h
     by_sort true = by_life (alive p h)
@@ -118,9 +119,9 @@ up-as doc k p i h up s = record { process = refl; inside = ltb-true _ _ s.sort; 
 pub ticks-acting : (doc : Doc) (k p i : ℕ) (h : List Entry) → is_paused doc p k ≡ false → alive p h ≡ Some i → InTermAs doc k p i h → own_ticks doc k p h ≡ tick doc k (identity p i) h
 ticks-acting doc k p i h awake up s =
     ap (λ b. own_ticks_as doc k p b h) s.sort
-    ∙ ap (λ o. if_up p (λ q T. tick_as doc k q (acts doc q k T) T) o h) up
-    ∙ ap (λ b. tick_as doc k (identity p i) (not b && in_term doc (identity p i) k h) h) awake
-    ∙ ap (λ b. tick_as doc k (identity p i) b h) s.term
+    ∙ ap (λ o. if_up p (λ q T. (if (acts doc q k T) then tick doc k q T else T)) o h) up
+    ∙ ap (λ b. (if (not b && in_term doc (identity p i) k h) then tick doc k (identity p i) h else h)) awake
+    ∙ ap (λ b. (if b then tick doc k (identity p i) h else h)) s.term
 
 -- ---- what a tick is given
 
@@ -205,11 +206,11 @@ running-unticked doc k p before deeds arriving coming h w none r = subst (λ g. 
 pub turn-is : (doc : Doc) (k p : ℕ) (h : List Entry) → turn doc k p h ≡ own_ticks doc k p (awake_turn doc k p h)
 turn-is doc k p h = by_pause (is_paused doc p k) refl
   where
-    by_sort : (b : Bool) → turn_as doc k p b h ≡ own_ticks_as doc k p b (own_turn_as doc k p b h)
+    by_sort : (b : Bool) → (if b then controller_turn doc k p h else kubelet_turn doc k p h) ≡ own_ticks_as doc k p b (own_turn_as doc k p b h)
     by_sort true = refl
     by_sort false = refl
 
-    by_pause : (b : Bool) → is_paused doc p k ≡ b → turn_unless doc k p b h ≡ own_ticks doc k p (turn_if doc k p (not b) h)
+    by_pause : (b : Bool) → is_paused doc p k ≡ b → (if b then h else unpaused_turn doc k p h) ≡ own_ticks doc k p (turn_if doc k p (not b) h)
     by_pause true paused = sym (ticks-paused doc k p h paused)
     by_pause false awake = by_sort (is_controller doc p)
 

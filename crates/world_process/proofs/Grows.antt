@@ -1,5 +1,6 @@
 -- The steps of a beat only add entries.
 use Rattle.std.proofs.Common.{◌≡◌, ℕ, zero, suc, ◌+◌, ◌≤◌, ◌==◌, ◌&&◌, not, Bool, true, false, List, [], ◌∷◌, length, Option, Some, None, sym, subst, arith}
+use Rattle.std.specs.Prelude.{if◌then◌else◌}
 use Rattle.std.specs.Ordering.{nat_cmp}
 use Rattle.std.specs.declared.cmp.Ordering.{Ordering}
 use Rattle.std.specs.declared.cmp.Ordering.TheVariants.{Less, Equal, Greater}
@@ -11,7 +12,7 @@ use Rattle.kube_objects.specs.declared.script.What.{What}
 use Rattle.kube_objects.specs.declared.script.What.TheVariants as what
 use Rattle.kube_objects.specs.Document.{Doc, is_controller, is_up_first, processes}
 use Rattle.kube_objects.specs.Elector.{Follow, Fails, Asks, Succeeds, deadline, release, acts, leads, follow_on}
-use Rattle.kube_objects.specs.Entry.{Entry, Identity, Call, Stops, Event, Delivers, entry, script_entry}
+use Rattle.kube_objects.specs.Entry.{Entry, Identity, Call, Stops, Event, Delivers, entry, script_entry, Expires, Ends, Leads}
 use Rattle.kube_objects.specs.Identities.{identity, is_by}
 use Rattle.kube_objects.specs.Kubelet.{next_request, send_next, round_if, round}
 use Rattle.kube_objects.specs.Newest.{only_if}
@@ -19,10 +20,10 @@ use Rattle.kube_objects.specs.Pauses.{is_paused}
 use Rattle.kube_objects.specs.Process.{alive, begun, starts, is_send, call_in, counted, ended, is_late, is_restart_due}
 use Rattle.kube_objects.specs.Seen.{insert_once, insert_named, named, node_name, node_names}
 use Rattle.kube_objects.specs.Stored.{write_of}
-use Rattle.kube_objects.specs.Tick.{add}
-use Rattle.kube_objects.specs.Turns.{lead_if, react, expire_as, expire_call, end_as, end_term, attempt_if, try}
+use Rattle.kube_objects.specs.Tick.{add, tick}
+use Rattle.kube_objects.specs.Turns.{react, expire_call, end_term, attempt_if, try}
 use Rattle.kube_objects.specs.Wire.{Sent, Back, sent_of, back_of}
-use Rattle.history.specs.Steps.{start_if_down, crash, stall, released, stop, effect, stamp, event_version, happens, happens_if, happen_all, start_first, starts_below, first_starts, each, answer_if, answer_due, step_two, react_as, deliver_as, delivered, deliver_if, deliver_due, step_three, if_up, restart_as, restart_if, restart, expire, finish, attempts, tick_as, ticks, elector_turn, controller_turn, kubelet_turn, turn_as, turn_unless, turn, turns, comes_at}
+use Rattle.history.specs.Steps.{start_if_down, crash, stall, released, stop, effect, stamp, event_version, happens, happen_all, start_first, starts_below, first_starts, each, answer_due, step_two, react_as, deliver_as, delivered, deliver_due, step_three, if_up, restart_if, restart, expire, finish, attempts, ticks, elector_turn, controller_turn, kubelet_turn, turn, turns, comes_at, answered, start, unpaused_turn}
 use Rattle.history_laws.proofs.Ticks.{walk_tick}
 use Rattle.world_process.specs.Plain.{IsFew}
 use Rattle.world_process.proofs.Plainly.{added-more, starts-more}
@@ -122,14 +123,14 @@ grows-happens doc k event h =
     let g = script_entry k 1 (Event (stamp doc k event) (event_version event h)) ∷ h in
     grows-on h g (happens doc k event h) (grows-entry _ h) (grows-effect doc k event h g)
 
-grows-happens_if : (doc : Doc) (k : ℕ) (event : What) (b : Bool) (h : List Entry) → Grows h (happens_if doc k event b h)
+grows-happens_if : (doc : Doc) (k : ℕ) (event : What) (b : Bool) (h : List Entry) → Grows h (if b then happens doc k event h else h)
 grows-happens_if doc k event false h = grows-same h
 grows-happens_if doc k event true h = grows-happens doc k event h
 
 pub grows-happen_all : (doc : Doc) (k : ℕ) (events : List script.Event) (h : List Entry) → Grows h (happen_all doc k events h)
 grows-happen_all doc k [] h = grows-same h
 grows-happen_all doc k (e ∷ es) h =
-    let g = happens_if doc k e.what (e.beat.0 == k) h in
+    let g = (if (e.beat.0 == k) then happens doc k e.what h else h) in
     grows-on h g (happen_all doc k es g) (grows-happens_if doc k e.what (e.beat.0 == k) h) (grows-happen_all doc k es g)
 
 -- ---- steps 2 and 3
@@ -138,7 +139,7 @@ pub grows-each : (f : Entry → List Entry → List Entry) → ((e : Entry) (h :
 grows-each f more [] h = grows-same h
 grows-each f more (e ∷ l) h = grows-on h (each f l h) (f e (each f l h)) (grows-each f more l h) (more e (each f l h))
 
-grows-answer_if : (doc : Doc) (k : ℕ) (s : Sent) (b : Bool) (h : List Entry) → Grows h (answer_if doc k s b h)
+grows-answer_if : (doc : Doc) (k : ℕ) (s : Sent) (b : Bool) (h : List Entry) → Grows h (if b then answered doc k s h else h)
 grows-answer_if doc k s false h = grows-same h
 grows-answer_if doc k s true h = grows-entry _ h
 
@@ -149,7 +150,7 @@ grows-answer_due doc k (Some s) h = grows-answer_if doc k s (comes_at k s.arrive
 pub grows-step_two : (doc : Doc) (k : ℕ) (h : List Entry) → Grows h (step_two doc k h)
 grows-step_two doc k h = grows-each (λ e. answer_due doc k (sent_of e.actor e.fact)) (λ e h. grows-answer_due doc k (sent_of e.actor e.fact) h) h h
 
-grows-lead_if : (k : ℕ) (q : Identity) (led : Bool) (version : Version) (h : List Entry) → Grows h (lead_if k q led version h)
+grows-lead_if : (k : ℕ) (q : Identity) (led : Bool) (version : Version) (h : List Entry) → Grows h (if led then h else entry k 3 q (Leads version) ∷ h)
 grows-lead_if k q true version h = grows-same h
 grows-lead_if k q false version h = grows-entry _ h
 
@@ -175,7 +176,7 @@ grows-deliver_as doc k q call reply (Some waiting) h =
 pub grows-delivered : (doc : Doc) (k : ℕ) (b : Back) (h : List Entry) → Grows h (delivered doc k b h)
 grows-delivered doc k b h = grows-deliver_as doc k b.who b.call b.reply (counted doc b.who k b.call.number h) h
 
-grows-deliver_if : (doc : Doc) (k : ℕ) (b : Back) (t : Bool) (h : List Entry) → Grows h (deliver_if doc k b t h)
+grows-deliver_if : (doc : Doc) (k : ℕ) (b : Back) (t : Bool) (h : List Entry) → Grows h (if t then delivered doc k b h else h)
 grows-deliver_if doc k b false h = grows-same h
 grows-deliver_if doc k b true h = grows-delivered doc k b h
 
@@ -188,7 +189,7 @@ grows-step_three doc k h = grows-each (λ e. deliver_due doc k (back_of e.actor 
 
 -- ---- step 4
 
-grows-restart_as : (k p : ℕ) (b : Bool) (h : List Entry) → Grows h (restart_as k p b h)
+grows-restart_as : (k p : ℕ) (b : Bool) (h : List Entry) → Grows h (if b then start k 4 p h else h)
 grows-restart_as k p false h = grows-same h
 grows-restart_as k p true h = grows-entry _ h
 
@@ -196,7 +197,7 @@ grows-restart_if : (doc : Doc) (k p : ℕ) (up : Option ℕ) (h : List Entry) �
 grows-restart_if doc k p None h = grows-restart_as k p (is_restart_due doc p k (ended doc p h)) h
 grows-restart_if doc k p (Some i) h = grows-same h
 
-grows-expire_as : (k : ℕ) (q : Identity) (call : Call) (b : Bool) (h : List Entry) → Grows h (expire_as k q call b h)
+grows-expire_as : (k : ℕ) (q : Identity) (call : Call) (b : Bool) (h : List Entry) → Grows h (if b then entry k 4 q (Expires call) ∷ h else h)
 grows-expire_as k q call false h = grows-same h
 grows-expire_as k q call true h = grows-entry _ h
 
@@ -204,7 +205,7 @@ pub grows-expire_call : (doc : Doc) (k : ℕ) (q : Identity) (call : Option Call
 grows-expire_call doc k q None h = grows-same h
 grows-expire_call doc k q (Some call) h = grows-expire_as k q call (is_late doc q k call) h
 
-grows-end_as : (k : ℕ) (q : Identity) (b : Bool) (h : List Entry) → Grows h (end_as k q b h)
+grows-end_as : (k : ℕ) (q : Identity) (b : Bool) (h : List Entry) → Grows h (if b then h else entry k 4 q Ends ∷ h)
 grows-end_as k q true h = grows-same h
 grows-end_as k q false h = grows-entry _ h
 
@@ -217,7 +218,7 @@ grows-attempt_if doc k q true b h = grows-entry _ h
 grows-attempt_if doc k q false true h = grows-entry _ h
 grows-attempt_if doc k q false false h = grows-same h
 
-grows-tick_as : (doc : Doc) (k : ℕ) (q : Identity) (b : Bool) (h : List Entry) → Grows h (tick_as doc k q b h)
+grows-tick_as : (doc : Doc) (k : ℕ) (q : Identity) (b : Bool) (h : List Entry) → Grows h (if b then tick doc k q h else h)
 grows-tick_as doc k q false h = grows-same h
 grows-tick_as doc k q true h = walk_tick doc k q (Grows h) (λ t g made grown. grows-on h g (add k q t g) grown (grows-entry _ g)) h (grows-same h)
 
@@ -241,7 +242,7 @@ grows-attempts : (doc : Doc) (k p : ℕ) (h : List Entry) → Grows h (attempts 
 grows-attempts doc k p h = grows-if_up p (try doc k) (grows-try doc k) (alive p h) h
 
 pub grows-ticks : (doc : Doc) (k p : ℕ) (h : List Entry) → Grows h (ticks doc k p h)
-grows-ticks doc k p h = grows-if_up p (λ q T. tick_as doc k q (acts doc q k T) T) (λ q T. grows-tick_as doc k q (acts doc q k T) T) (alive p h) h
+grows-ticks doc k p h = grows-if_up p (λ q T. (if (acts doc q k T) then tick doc k q T else T)) (λ q T. grows-tick_as doc k q (acts doc q k T) T) (alive p h) h
 
 pub grows-elector_turn : (doc : Doc) (k p : ℕ) (h : List Entry) → Grows h (elector_turn doc k p h)
 grows-elector_turn doc k p h =
@@ -266,11 +267,11 @@ grows-kubelet_turn doc k p h =
     let e = expire doc k p h in
     grows-on h e _ (grows-expire doc k p h) (grows-if_up p (round doc k) (grows-round doc k) (alive p e) e)
 
-grows-turn_as : (doc : Doc) (k p : ℕ) (b : Bool) (h : List Entry) → Grows h (turn_as doc k p b h)
+grows-turn_as : (doc : Doc) (k p : ℕ) (b : Bool) (h : List Entry) → Grows h (if b then controller_turn doc k p h else kubelet_turn doc k p h)
 grows-turn_as doc k p true h = grows-controller_turn doc k p h
 grows-turn_as doc k p false h = grows-kubelet_turn doc k p h
 
-grows-turn_unless : (doc : Doc) (k p : ℕ) (b : Bool) (h : List Entry) → Grows h (turn_unless doc k p b h)
+grows-turn_unless : (doc : Doc) (k p : ℕ) (b : Bool) (h : List Entry) → Grows h (if b then h else unpaused_turn doc k p h)
 grows-turn_unless doc k p true h = grows-same h
 grows-turn_unless doc k p false h = grows-turn_as doc k p (is_controller doc p) h
 

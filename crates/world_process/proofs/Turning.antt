@@ -1,21 +1,22 @@
 -- A controller's turn by parts, where it is up or down.
 use Rattle.std.proofs.Common.{◌≡◌, ℕ, Bool, true, false, List, Option, Some, None, refl, ap, ◌∙◌}
+use Rattle.std.specs.Prelude.{if◌then◌else◌}
 use Rattle.std.proofs.lemmas.List.{append-nil}
 use Rattle.kube_objects.specs.Document.{Doc}
 use Rattle.kube_objects.specs.Elector.{deadline}
-use Rattle.kube_objects.specs.Entry.{Entry, Identity, Call}
+use Rattle.kube_objects.specs.Entry.{Entry, Identity, Call, entry, Expires}
 use Rattle.kube_objects.specs.Identities.{identity}
 use Rattle.kube_objects.specs.Process.{alive, starts, call_in, is_late, ended, is_restart_due}
-use Rattle.kube_objects.specs.Turns.{expire_as, expire_call, end_term, try, expired}
+use Rattle.kube_objects.specs.Turns.{expire_call, end_term, try, expired}
 use Rattle.history.specs.Printed.{printed}
-use Rattle.history.specs.Steps.{restart_as, restart_if, restart, if_up, expire, finish, attempts}
+use Rattle.history.specs.Steps.{restart_if, restart, if_up, expire, finish, attempts, start}
 use Rattle.leader_elector.specs.Moves.{tested}
 
 pub restart-up : (doc : Doc) (k p i : ℕ) (h : List Entry) → alive p h ≡ Some i → restart doc k p h ≡ h
 restart-up doc k p i h up = ap (λ x. restart_if doc k p x h) up
 
-pub restart-down : (doc : Doc) (k p : ℕ) (h : List Entry) (b : Bool) → alive p h ≡ None → is_restart_due doc p k (ended doc p h) ≡ b → restart doc k p h ≡ restart_as k p b h
-restart-down doc k p h b down due = ap (λ x. restart_if doc k p x h) down ∙ ap (λ x. restart_as k p x h) due
+pub restart-down : (doc : Doc) (k p : ℕ) (h : List Entry) (b : Bool) → alive p h ≡ None → is_restart_due doc p k (ended doc p h) ≡ b → restart doc k p h ≡ (if b then start k 4 p h else h)
+restart-down doc k p h b down due = ap (λ x. restart_if doc k p x h) down ∙ ap (λ x. (if x then start k 4 p h else h)) due
 
 pub expire-up : (doc : Doc) (k p i : ℕ) (h : List Entry) → alive p h ≡ Some i → expire doc k p h ≡ expired doc k (identity p i) h
 expire-up doc k p i h up = ap (λ x. if_up p (λ q T. expire_call doc k q (call_in q T) T) x h) up
@@ -36,10 +37,10 @@ pub attempts-down : (doc : Doc) (k p : ℕ) (h : List Entry) → alive p h ≡ N
 attempts-down doc k p h down = ap (λ x. if_up p (try doc k) x h) down
 
 -- what the entry of an expiry leaves as it is stays through an expiry
-expired-same : {A : Type 0} (f : List Entry → A) (doc : Doc) (k : ℕ) (q : Identity) (h : List Entry) → ((call : Call) → f (expire_as k q call true h) ≡ f h) → f (expired doc k q h) ≡ f h
+expired-same : {A : Type 0} (f : List Entry → A) (doc : Doc) (k : ℕ) (q : Identity) (h : List Entry) → ((call : Call) → f (if true then entry k 4 q (Expires call) ∷ h else h) ≡ f h) → f (expired doc k q h) ≡ f h
 expired-same f doc k q h same = by_call (call_in q h)
   where
-    by_late : (call : Call) (b : Bool) → f (expire_as k q call b h) ≡ f h
+    by_late : (call : Call) (b : Bool) → f (if b then entry k 4 q (Expires call) ∷ h else h) ≡ f h
     by_late call true = same call
     by_late call false = refl
 

@@ -1,5 +1,6 @@
 -- A term's ticks begin with a sync and a pass.
 use Rattle.std.proofs.Common.{◌≡◌, ◌∙◌, ℕ, ◌||◌, not, Bool, true, false, List, [], ◌∷◌, Option, Some, None, refl, sym, ap, subst, arith}
+use Rattle.std.specs.Prelude.{if◌then◌else◌}
 use Rattle.kube_objects.specs.declared.key.Key.{Key}
 use Rattle.kube_objects.specs.declared.pod.Due.TheVariants.{Never}
 use Rattle.kube_objects.specs.Document.{Doc}
@@ -8,7 +9,7 @@ use Rattle.kube_objects.specs.Health.{is_after_pass, is_pass_due, last_pass, pas
 use Rattle.kube_objects.specs.Identities.{is_by}
 use Rattle.kube_objects.specs.Newest.{added, has, when}
 use Rattle.kube_objects.specs.Seen.{is_pod, is_synced}
-use Rattle.kube_objects.specs.Tick.{add, cleaned, evicted, pass, pass_if, sync, tainted, tick, tick_if}
+use Rattle.kube_objects.specs.Tick.{add, cleaned, evicted, pass, sync, tainted, tick, whole_pass, phases}
 use Rattle.history_laws.proofs.Plainly.{false_is, true_is, upper}
 use Rattle.controller_core.proofs.Between.{unsynced_none}
 use Rattle.tick_laws.specs.Judged.{due_as, is_dirty, seen_due}
@@ -77,14 +78,14 @@ module _ (doc : Doc) (k : ℕ) (q : Identity) where
   pub passed : (g : List Entry) → has (last_pass q (pass doc k q g)) ≡ true
   passed g = by_test (is_pass_due doc k q g) refl
     where
-      by_test : (b : Bool) → is_pass_due doc k q g ≡ b → has (last_pass q (pass_if doc k q b g)) ≡ true
+      by_test : (b : Bool) → is_pass_due doc k q g ≡ b → has (last_pass q (if b then whole_pass doc k q g else g)) ≡ true
       by_test false is = not_after doc k q (last_pass q g) is
       by_test true is = pass_rest doc k q (λ f. has (last_pass q f) ≡ true) (λ t f kind old. passed_more t f old) (add k q Pass g) (says_beat k (last_pass q g) (is_by q (actor_of q)) (same_self q))
 
   pub begun_tick : (h : List Entry) → HasBegun q h → HasBegun q (tick doc k q h)
   begun_tick h s = by_synced (is_synced q (sync doc k q h)) refl
     where
-      by_synced : (b : Bool) → is_synced q (sync doc k q h) ≡ b → HasBegun q (tick_if doc k q b (sync doc k q h))
+      by_synced : (b : Bool) → is_synced q (sync doc k q h) ≡ b → HasBegun q (if b then phases doc k q (sync doc k q h) else (sync doc k q h))
       by_synced false is = subst (HasBegun q) (sym (unsynced_none doc k q h is)) s
       by_synced true is =
           let a = sync doc k q h in

@@ -1,4 +1,5 @@
 use Rattle.std.proofs.Common.{◌≡◌, ◌∙◌, ◌||◌, ℕ, Bool, List, ◌+◌, ◌≤◌, ◌&&◌, not, false, true, ap, drop, sym, subst, arith}
+use Rattle.std.specs.Prelude.{if◌then◌else◌}
 use Rattle.std.proofs.lemmas.Result.{on_ok_weaker}
 use Rattle.std.specs.BTreeSet.{contains}
 use Rattle.std.specs.Ordering.{nat_cmp}
@@ -9,7 +10,7 @@ use Rattle.kube_objects.specs.InForce.{watches}
 use Rattle.kube_objects.specs.Seen.{is_fresh}
 use Rattle.kube_objects.specs.Stored.{node_key}
 use Rattle.object_store.specs.Stands.{changed_in}
-use Rattle.kube_objects.specs.Tick.{add, sync, sync_if}
+use Rattle.kube_objects.specs.Tick.{add, sync}
 use Rattle.tick_laws.specs.Since.{keys_since}
 use Rattle.tick_laws.specs.Steps.{tick_cost, write_costs}
 use Rattle.tick_laws.specs.ToJudge.{is_to_judge}
@@ -23,7 +24,7 @@ use Rattle.term_sync.proofs.phase.sync.Goals as goal
 
 -- where there is no sync
 none_is : (doc : Doc) (k : ℕ) (q : Identity) (h : List Entry) (b : Bool) → b ≡ (watches doc q.process h && not (is_fresh q h)) → b ≡ false → sync doc k q h ≡ h
-none_is doc k q h b is off = ap (λ c. sync_if k q c h) (sym is ∙ off)
+none_is doc k q h b is off = ap (λ c. (if c then add k q Sync h else h)) (sym is ∙ off)
 
 pub returns-then-not-syncs-clause-stands : goal.returns-then-not-syncs-clause-stands
 returns-then-not-syncs-clause-stands g c doc k q h s st r v =
@@ -42,7 +43,7 @@ returns-then-not-syncs-clause-counted g c doc k q h s st r v =
 
 -- where there is one
 comes : (doc : Doc) (k : ℕ) (q : Identity) (h : List Entry) (b : Bool) → b ≡ (watches doc q.process h && not (is_fresh q h)) → b ≡ true → sync doc k q h ≡ add k q Sync h
-comes doc k q h b is on = ap (λ c. sync_if k q c h) (sym is ∙ on)
+comes doc k q h b is on = ap (λ c. (if c then add k q Sync h else h)) (sym is ∙ on)
 
 pub returns-clause-stands : goal.returns-clause-stands
 returns-clause-stands g c doc k q h s st r v =

@@ -1,11 +1,12 @@
 use Rattle.std.proofs.Common.{◌≡◌, ◌∙◌, ℕ, List, ap, sym, subst, true, false, arith}
+use Rattle.std.specs.Prelude.{if◌then◌else◌}
 use Rattle.std.proofs.lemmas.Result.{on_ok_weaker}
 use Rattle.kube_objects.specs.declared.deed.Deed.{Deed}
 use Rattle.kube_objects.specs.Document.{Doc}
 use Rattle.kube_objects.specs.Entry.{Entry, Identity}
 use Rattle.kube_objects.specs.Seen.{is_synced}
 use Rattle.kube_objects.specs.Tainting.{before_tick, waits}
-use Rattle.kube_objects.specs.Tick.{sync, tick, tick_if}
+use Rattle.kube_objects.specs.Tick.{sync, tick, phases}
 use Rattle.node_health.proofs.Frames.{health-same}
 use Rattle.object_store.specs.declared.store.Store.{Store}
 use Rattle.term_evict.proofs.Walking.{view_kept}
@@ -32,7 +33,7 @@ returns-then-not-is_synced-clause-stands g c doc k q before h s st told v start 
     let seen = c.in_ok-sync.ensures.stands doc k q h s.cluster st s.reached v in
     let unsynced : is_synced q (sync doc k q h) ≡ false = sym (c.is_synced.ensures q (sync doc k q h) seen) ∙ c.if-not-is_synced.true in
     let same = unsynced_none doc k q h unsynced in
-    let whole : tick doc k q h ≡ h = ap (λ b. tick_if doc k q b (sync doc k q h)) unsynced ∙ same in
+    let whole : tick doc k q h ≡ h = ap (λ b. (if b then phases doc k q (sync doc k q h) else (sync doc k q h))) unsynced ∙ same in
     went_same doc k q before h (tick doc k q h) _ _ _ whole
     (record {
       term = record {
@@ -52,7 +53,7 @@ pub returns-then-not-is_synced-clause-counted : goal.returns-then-not-is_synced-
 returns-then-not-is_synced-clause-counted g c doc k q before h s st told v start small =
     let seen = c.in_ok-sync.ensures.stands doc k q h s.cluster st s.reached v in
     let unsynced : is_synced q (sync doc k q h) ≡ false = sym (c.is_synced.ensures q (sync doc k q h) seen) ∙ c.if-not-is_synced.true in
-    let whole : tick doc k q h ≡ sync doc k q h = ap (λ b. tick_if doc k q b (sync doc k q h)) unsynced in
+    let whole : tick doc k q h ≡ sync doc k q h = ap (λ b. (if b then phases doc k q (sync doc k q h) else (sync doc k q h))) unsynced in
     let one = c.in_ok-sync.ensures.counted doc k q h s.cluster st s.reached v in
     omega (arith, one, ap (tick_cost q k) whole)
 
@@ -63,7 +64,7 @@ returns-clause-stands g c doc k q before h s st told v start small =
     let synced : is_synced q f ≡ true = sym (c.is_synced.ensures q f seen) ∙ c.if-not-is_synced.false in
     let beneath : before_tick q k f ≡ before_tick q k h = ticked_before q k h f (sync_ticked doc k q h) in
     let moved : IsMoved q k h c.args.self.now.cluster = λ n out place. ap (waits q place n) (sym start) in
-    let whole : tick doc k q h ≡ acted doc k q f = ap (λ b. tick_if doc k q b f) synced in
+    let whole : tick doc k q h ≡ acted doc k q f = ap (λ b. (if b then phases doc k q f else f)) synced in
     on_ok_weaker c.act.result
     (λ a. subst (λ f. Went doc k q before f c.act.new.self c.act.new.store c.act.new.told) (sym whole) (record {
       term = record {
@@ -101,7 +102,7 @@ returns-clause-counted g c doc k q before h s st told v start small =
     let synced : is_synced q f ≡ true = sym (c.is_synced.ensures q f seen) ∙ c.if-not-is_synced.false in
     let beneath : before_tick q k f ≡ before_tick q k h = ticked_before q k h f (sync_ticked doc k q h) in
     let moved : IsMoved q k h c.args.self.now.cluster = λ n out place. ap (waits q place n) (sym start) in
-    let whole : tick doc k q h ≡ acted doc k q f = ap (λ b. tick_if doc k q b f) synced in
+    let whole : tick doc k q h ≡ acted doc k q f = ap (λ b. (if b then phases doc k q f else f)) synced in
     let one = c.in_ok-sync.ensures.counted doc k q h s.cluster st s.reached v in
     on_ok_weaker c.act.result
     (λ two. omega (arith, one, two, cost_start q k h start, ap (tick_cost q k) whole))

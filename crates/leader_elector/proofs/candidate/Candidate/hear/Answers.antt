@@ -1,9 +1,10 @@
 use Rattle.leader_elector.proofs.Taken.{answered-never, takes-ask, takes-silent}
+use Rattle.std.specs.Prelude.{if◌then◌else◌}
 use Rattle.std.proofs.Common.{◌≡◌, ◌∙◌, ◌∷◌, None, true, false, sym, ap, subst, refl}
 use Rattle.kube_base.specs.declared.numbers.Local.{Local}
 use Rattle.kube_objects.specs.Elector.{Fails, Succeeds, leads}
 use Rattle.kube_objects.specs.Entry.{Delivers, Leads, Plain, Sends, entry}
-use Rattle.kube_objects.specs.Turns.{lead_if, react, with_reply}
+use Rattle.kube_objects.specs.Turns.{react, with_reply}
 use Rattle.kube_objects.specs.Wire.{next_call, send}
 use Rattle.leader_elector.specs.Calls.{TakesReply}
 use Rattle.leader_elector.specs.Moves.{Asked, Received, reacted}
@@ -51,7 +52,7 @@ returns-in-Succeeds-clause-counts c doc q h k call s now wall room is =
     let version = c.in-Succeeds.field-0 in
     let t = c.in-Some.ensures.counts doc q h k call s.elector s.leads now wall is in
     let next : reacted doc k q call c.args.reply.now h ≡ entry k 3 q (Leads version) ∷ g =
-    ap (λ f. react k q (leads q h) f g) (sym t.0 ∙ ap follow_of c.in-Succeeds.is) ∙ ap (λ b. lead_if k q b version g) s.leads in
+    ap (λ f. react k q (leads q h) f g) (sym t.0 ∙ ap follow_of c.in-Succeeds.is) ∙ ap (λ b. (if b then g else entry k 3 q (Leads version) ∷ g)) s.leads in
     (version, next, record { elector = subst (λ e. ElectorStands doc q g e) (sym c.win.ensures.0) t.1; now = ap (λ (x : Local). x.0) c.win.ensures.1 ∙ now })
 
 pub returns-in_default-clause-takes : goal.returns-in_default-clause-takes
