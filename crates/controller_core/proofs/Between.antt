@@ -17,7 +17,7 @@ use Rattle.taint_zones.specs.declared.zones.Zones.{Zones}
 use Rattle.taint_zones.specs.Limits.{LimitsStand, limit_at}
 use Rattle.term_pass.specs.Passing.{LastStands}
 use Rattle.term_state.specs.declared.told.Told.{Told}
-use Rattle.term_state.specs.Running.{IsTold}
+use Rattle.term_state.specs.MidTick.{IsTold}
 use Rattle.term_state.proofs.Telling.{told_beside}
 use Rattle.tick_laws.proofs.Phases.{KeepsLimits, cleaned_keeps, evicted_keeps, is_cleaning, is_heading, sync_keeps, tainted_keeps}
 use Rattle.tick_laws.proofs.Syncing.{sync_synced}

@@ -13,7 +13,7 @@ use Rattle.taint_zones.specs.Limits.{LimitsStand}
 use Rattle.term_pass.specs.Passing.{LastStands}
 use Rattle.term_state.specs.declared.told.Told.{Told}
 use Rattle.term_state.specs.ClusterStands.{ClusterStands}
-use Rattle.term_state.specs.Running.{IsTold, Running}
+use Rattle.term_state.specs.MidTick.{IsTold, MidTick}
 use Rattle.term_taint.specs.QueuesStand.{QueuesStand}
 use Rattle.tick_laws.specs.Rows.{no_heads}
 use Rattle.tick_laws.specs.Since.{AreReached}
@@ -40,7 +40,7 @@ pub record Ticked (doc : Doc) (k : ℕ) (q : Identity) (h : List Entry) (deeds :
 
 -- after the sync; who waits is as before the tick
 pub record Begun (doc : Doc) (k : ℕ) (q : Identity) (before : List Deed) (h : List Entry) (t : Term) (s : Store) (o : Told) : Type 0 where
-  pub running : Running q k before h t.cluster s o
+  pub running : MidTick q k before h t.cluster s o
   pub health : HealthStands doc q h t.health
   pub limits : LimitsStand doc q h t.zones
   pub queues : QueuesStand q (before_tick q k h) t.zones.queues
@@ -50,7 +50,7 @@ pub record Begun (doc : Doc) (k : ℕ) (q : Identity) (before : List Deed) (h : 
 
 -- after the evictions
 pub record Acted (doc : Doc) (k : ℕ) (q : Identity) (before : List Deed) (h : List Entry) (t : Term) (s : Store) (o : Told) : Type 0 where
-  pub running : Running q k before h t.cluster s o
+  pub running : MidTick q k before h t.cluster s o
   pub health : HealthStands doc q h t.health
   pub limits : LimitsStand doc q h t.zones
   pub queues : QueuesStand q h t.zones.queues

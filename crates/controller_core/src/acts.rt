@@ -8,7 +8,7 @@ ghost use Rattle.kube_objects.specs.Tainting.{before_tick};
 ghost use Rattle.kube_objects.specs.Tick as model;
 ghost use Rattle.kube_objects.specs.declared.deed.Deed.{Deed};
 ghost use Rattle.object_store.specs.Stands.{StoreStands};
-ghost use Rattle.term_state.specs.Running.{IsTold, IsView};
+ghost use Rattle.term_state.specs.MidTick.{IsTold, IsView};
 ghost use Rattle.tick_laws.specs.Steps.{tick_cost};
 
 use crate::Term;

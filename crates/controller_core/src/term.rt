@@ -9,7 +9,7 @@ ghost use Rattle.kube_objects.specs.Tainting.{before_tick};
 ghost use Rattle.kube_objects.specs.Tick as model;
 ghost use Rattle.leader_elector.specs.Stands.{acting_identity};
 ghost use Rattle.object_store.specs.Stands.{StoreStands};
-ghost use Rattle.term_state.specs.Running.{IsView};
+ghost use Rattle.term_state.specs.MidTick.{IsView};
 ghost use Rattle.tick_laws.specs.Steps.{tick_cost};
 ghost use Rattle.watch_cache.specs.Stands.{ticks};
 ghost use Rattle.zone_counts.specs.Settings.{AreSettings};

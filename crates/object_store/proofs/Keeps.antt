@@ -13,7 +13,7 @@ use Rattle.object_store.specs.declared.faults.StoreFault.{StoreFault}
 use Rattle.object_store.specs.declared.faults.StoreFault.TheVariants as fault
 use Rattle.object_store.specs.declared.store.Store.{Store}
 use Rattle.object_store.specs.Stands.{StoreStands, Writes, SameStore, kept_as}
-use Rattle.object_store.specs.StoreAnswers.{and_key, changed_keys, kept_of, Told}
+use Rattle.object_store.specs.StoreAnswers.{and_key, changed_keys, kept_of, IsReply}
 use Rattle.object_store.proofs.KeptLaws.{IsAfter}
 
 -- ---- the history's words at one more entry
@@ -109,6 +109,6 @@ pub written-stands : {E : Type 0} (h : List Entry) (e : Entry) (old new : Store)
 written-stands h e old new key content (Ok v) s ok is = stands_after h e old new key content s ok.0 is
 written-stands h e old new key content (Err f) s ok is = tt
 
-pub written-told : (h : List Entry) (old new : Store) (key : Key) (content : Option Object) (r : Result Version StoreFault) → StoreStands h old → IfOk r (λ v. Writes old new key content × (v.0 ≡ vec_len old.changes + 1)) → IfErr r (λ f. (f ≡ fault.NoMemory) × SameStore old new) → Told r (reply.Done (next_version h))
+pub written-told : (h : List Entry) (old new : Store) (key : Key) (content : Option Object) (r : Result Version StoreFault) → StoreStands h old → IfOk r (λ v. Writes old new key content × (v.0 ≡ vec_len old.changes + 1)) → IfErr r (λ f. (f ≡ fault.NoMemory) × SameStore old new) → IsReply r (reply.Done (next_version h))
 written-told h old new key content (Ok v) s ok err = ap (λ v. reply.Done v) (sym (next-version h old v s ok.1))
-written-told h old new key content (Err f) s ok err = subst (λ f. Told (Err f) (reply.Done (next_version h))) (sym err.0) tt
+written-told h old new key content (Err f) s ok err = subst (λ f. IsReply (Err f) (reply.Done (next_version h))) (sym err.0) tt

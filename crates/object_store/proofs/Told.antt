@@ -19,7 +19,7 @@ use Rattle.object_store.specs.declared.faults.StoreFault.{StoreFault}
 use Rattle.object_store.specs.declared.faults.StoreFault.TheVariants as fault
 use Rattle.object_store.specs.declared.store.Store.{Store}
 use Rattle.object_store.specs.Stands.{StoreStands, version_in, node_in_pair}
-use Rattle.object_store.specs.StoreAnswers.{kept_of, Told, ToldPost, UnlessPosted, reply_of, reply_of_post}
+use Rattle.object_store.specs.StoreAnswers.{kept_of, IsReply, IsReplyToPost, UnlessPosted, reply_of, reply_of_post}
 use Rattle.object_store.proofs.Keeps.{store-beside}
 
 abbrev number_of : Option Version → ℕ
@@ -79,14 +79,14 @@ unposted next status at (Some x) is = by_written (posted_node status at (Some x)
 
 -- ---- a whole request
 
-pub answered-told : (a : Reply) (r : Result Version StoreFault) → Told r a → IfOk (reply_of r) (λ x. x ≡ a)
+pub answered-told : (a : Reply) (r : Result Version StoreFault) → IsReply r a → IfOk (reply_of r) (λ x. x ≡ a)
 answered-told a (Ok v) told = sym told
 answered-told a (Err fault.Absent) told = sym told
 answered-told a (Err fault.Exists) told = sym told
 answered-told a (Err (fault.Conflict v)) told = sym told
 answered-told a (Err fault.NoMemory) told = tt
 
-pub answered-stands : (h : List Entry) (e : Entry) (new : Store) (request : Request) (x : Object) (a : Reply) (r : Result Version StoreFault) → Told r a → write_of e.fact ≡ request_write request (if_done a x) → (write_of e.fact ≡ Some (key_of request, Some x) → OnOk r (StoreStands (e ∷ h) new)) → OnErr r (StoreStands h new) → OnOk (reply_of r) (StoreStands (e ∷ h) new)
+pub answered-stands : (h : List Entry) (e : Entry) (new : Store) (request : Request) (x : Object) (a : Reply) (r : Result Version StoreFault) → IsReply r a → write_of e.fact ≡ request_write request (if_done a x) → (write_of e.fact ≡ Some (key_of request, Some x) → OnOk r (StoreStands (e ∷ h) new)) → OnErr r (StoreStands h new) → OnOk (reply_of r) (StoreStands (e ∷ h) new)
 answered-stands h e new request x a (Ok v) told is ok err = ok (is ∙ ap (λ a. request_write request (if_done a x)) told)
 answered-stands h e new request x a (Err fault.Absent) told is ok err = store-beside h e new err (is ∙ ap (λ a. request_write request (if_done a x)) told)
 answered-stands h e new request x a (Err fault.Exists) told is ok err = store-beside h e new err (is ∙ ap (λ a. request_write request (if_done a x)) told)
@@ -100,7 +100,7 @@ answered-err h new (Err fault.Exists) err = tt
 answered-err h new (Err (fault.Conflict v)) err = tt
 answered-err h new (Err fault.NoMemory) err = err
 
-pub posted-told : (a : Reply) (r : Result Posted StoreFault) → ToldPost r a → IfOk (reply_of_post r) (λ x. x ≡ a)
+pub posted-told : (a : Reply) (r : Result Posted StoreFault) → IsReplyToPost r a → IfOk (reply_of_post r) (λ x. x ≡ a)
 posted-told a (Ok (posted.Done v)) told = sym told
 posted-told a (Ok posted.Unchanged) told = sym told
 posted-told a (Err fault.Absent) told = sym told
@@ -108,7 +108,7 @@ posted-told a (Err fault.Exists) told = sym told
 posted-told a (Err (fault.Conflict v)) told = sym told
 posted-told a (Err fault.NoMemory) told = tt
 
-pub posted-stands : (h : List Entry) (e : Entry) (new : Store) (request : Request) (next : Version) (status : ReadyStatus) (at : ℕ) (k : Option (Version × Node)) (r : Result Posted StoreFault) → ToldPost r (answer_post next k (posted_node status at k)) → write_of e.fact ≡ request_write request (node_object (posted_node status at k)) → OnOk r (StoreStands (e ∷ h) new) → UnlessPosted r (StoreStands h new) → OnOk (reply_of_post r) (StoreStands (e ∷ h) new)
+pub posted-stands : (h : List Entry) (e : Entry) (new : Store) (request : Request) (next : Version) (status : ReadyStatus) (at : ℕ) (k : Option (Version × Node)) (r : Result Posted StoreFault) → IsReplyToPost r (answer_post next k (posted_node status at k)) → write_of e.fact ≡ request_write request (node_object (posted_node status at k)) → OnOk r (StoreStands (e ∷ h) new) → UnlessPosted r (StoreStands h new) → OnOk (reply_of_post r) (StoreStands (e ∷ h) new)
 posted-stands h e new request next status at k (Ok (posted.Done v)) told is ok same = ok
 posted-stands h e new request next status at k (Ok posted.Unchanged) told is ok same = ok
 posted-stands h e new request next status at k (Err fault.Absent) told is ok same = store-beside h e new same (is ∙ ap (λ w. request_write request (node_object w)) (unposted next status at k told))

@@ -50,20 +50,20 @@ answer_remove key h = when (has (stored key h)) (next_version h)
 
 -- ---- a result tells this reply, or that memory ran out
 
-abbrev pub Told : Result Version StoreFault → Reply → Type 0
-Told (Ok version) answered = answered ≡ reply.Done version
-Told (Err fault.Absent) answered = answered ≡ reply.Absent
-Told (Err fault.Exists) answered = answered ≡ reply.Exists
-Told (Err (fault.Conflict version)) answered = answered ≡ reply.Conflict version
-Told (Err fault.NoMemory) answered = Unit {0}
+abbrev pub IsReply : Result Version StoreFault → Reply → Type 0
+IsReply (Ok version) answered = answered ≡ reply.Done version
+IsReply (Err fault.Absent) answered = answered ≡ reply.Absent
+IsReply (Err fault.Exists) answered = answered ≡ reply.Exists
+IsReply (Err (fault.Conflict version)) answered = answered ≡ reply.Conflict version
+IsReply (Err fault.NoMemory) answered = Unit {0}
 
-abbrev pub ToldPost : Result Posted StoreFault → Reply → Type 0
-ToldPost (Ok (posted.Done version)) answered = answered ≡ reply.Done version
-ToldPost (Ok posted.Unchanged) answered = answered ≡ reply.Unchanged
-ToldPost (Err fault.Absent) answered = answered ≡ reply.Absent
-ToldPost (Err fault.Exists) answered = answered ≡ reply.Exists
-ToldPost (Err (fault.Conflict version)) answered = answered ≡ reply.Conflict version
-ToldPost (Err fault.NoMemory) answered = Unit {0}
+abbrev pub IsReplyToPost : Result Posted StoreFault → Reply → Type 0
+IsReplyToPost (Ok (posted.Done version)) answered = answered ≡ reply.Done version
+IsReplyToPost (Ok posted.Unchanged) answered = answered ≡ reply.Unchanged
+IsReplyToPost (Err fault.Absent) answered = answered ≡ reply.Absent
+IsReplyToPost (Err fault.Exists) answered = answered ≡ reply.Exists
+IsReplyToPost (Err (fault.Conflict version)) answered = answered ≡ reply.Conflict version
+IsReplyToPost (Err fault.NoMemory) answered = Unit {0}
 
 -- where a post wrote nothing, this holds
 abbrev pub UnlessPosted : Result Posted StoreFault → Type 0 → Type 0

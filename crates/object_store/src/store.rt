@@ -38,7 +38,7 @@ pub struct Store {
 }
 
 impl Store {
-    ghost use Rattle.object_store.specs.StoreAnswers.{Told, ToldPost, UnlessPosted, answer_remove, kept_of, object_of, changed_keys};
+    ghost use Rattle.object_store.specs.StoreAnswers.{IsReply, IsReplyToPost, UnlessPosted, answer_remove, kept_of, object_of, changed_keys};
     ghost use Rattle.object_store.specs.Stands.{StoreStands, Writes, SameStore, shown_in, version_in, changed_in};
     ghost use Rattle.object_store.specs.Stands.{node_in_pair, object_in_pair, start_since, keys_since, shown_since};
 
@@ -66,7 +66,7 @@ impl Store {
     #[inline(never)]
     pub fn create(&mut self, key: Key, object: Object) -> Result<Version, StoreFault>
         requires kind { IsOfKind key object }
-        ensures answer { (h : List Entry) → StoreStands h self.old → Told result (answers.answer_create (next_version h) (stored key h)) }
+        ensures answer { (h : List Entry) → StoreStands h self.old → IsReply result (answers.answer_create (next_version h) (stored key h)) }
         ensures ok { (h : List Entry) (e : Entry) → StoreStands h self.old → write_of e.fact ≡ Some (key, Some object)
             → OnOk result (StoreStands (e ∷ h) self.new) }
         ensures err { (h : List Entry) → StoreStands h self.old → OnErr result (StoreStands h self.new) }
@@ -88,7 +88,7 @@ impl Store {
     ) -> Result<Version, StoreFault>
         requires kind { IsOfKind key object }
         ensures answer { (h : List Entry) → StoreStands h self.old
-            → Told result (answers.answer_update (next_version h) version (stored key h)) }
+            → IsReply result (answers.answer_update (next_version h) version (stored key h)) }
         ensures ok { (h : List Entry) (e : Entry) → StoreStands h self.old → write_of e.fact ≡ Some (key, Some object)
             → OnOk result (StoreStands (e ∷ h) self.new) }
         ensures err { (h : List Entry) → StoreStands h self.old → OnErr result (StoreStands h self.new) }
@@ -113,7 +113,7 @@ impl Store {
         status: ReadyStatus,
         at: Wall,
     ) -> Result<Posted, StoreFault>
-        ensures answer { (h : List Entry) → StoreStands h self.old → ToldPost result (answer (PostStatus node status at) h) }
+        ensures answer { (h : List Entry) → StoreStands h self.old → IsReplyToPost result (answer (PostStatus node status at) h) }
         ensures ok { (h : List Entry) (e : Entry) → StoreStands h self.old
             → write_of e.fact ≡ request_write (PostStatus node status at) (written (PostStatus node status at) h)
             → OnOk result (StoreStands (e ∷ h) self.new) }
@@ -144,7 +144,7 @@ impl Store {
         node: Key,
         node_version: Version,
     ) -> Result<Version, StoreFault>
-        ensures answer { (h : List Entry) → StoreStands h self.old → Told result (answer_delete pod pod_version node node_version h) }
+        ensures answer { (h : List Entry) → StoreStands h self.old → IsReply result (answer_delete pod pod_version node node_version h) }
         ensures ok { (h : List Entry) (e : Entry) → StoreStands h self.old → write_of e.fact ≡ Some (pod, None)
             → OnOk result (StoreStands (e ∷ h) self.new) }
         ensures err { (h : List Entry) → StoreStands h self.old → OnErr result (StoreStands h self.new) }

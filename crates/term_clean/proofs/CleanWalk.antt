@@ -19,7 +19,7 @@ use Rattle.term_state.specs.declared.cluster.Cluster.{Cluster}
 use Rattle.term_state.specs.declared.told.Told.{Told}
 use Rattle.term_state.specs.declared.view.View.{View}
 use Rattle.term_state.specs.Queues.{ComesAfter, IsNextAfter}
-use Rattle.term_state.specs.Running.{IsView, Running}
+use Rattle.term_state.specs.MidTick.{IsView, MidTick}
 use Rattle.term_state.proofs.Viewing.{view_ticked}
 
 after_is : (c : Option ℕ) (n : ℕ) → ComesAfter c n → is_after nat_cmp c n ≡ true
@@ -42,12 +42,12 @@ comes_later (Some c) n m later less = omega (arith, later, less)
 
 -- h is the history at the start, now the one that is reached, and c the name that the walk is at
 pub record Walking (doc : Doc) (k : ℕ) (q : Identity) (before : List Deed) (h now : List Entry) (c : Option ℕ) (t : Cluster) (s : Store) (v : View) (told : Told) : Type 0 where
-  pub running : Running q k before now t s told
+  pub running : MidTick q k before now t s told
   pub view : IsView doc k q now v
   pub follows : for_each (clean doc k q) (after nat_cmp c (node_names h)) now ≡ cleaned doc k q h
   pub untouched : (m : ℕ) → ComesAfter c m → is_dirty q m now ≡ is_dirty q m h
 
-pub begin_walk : (doc : Doc) (k : ℕ) (q : Identity) (before : List Deed) (h : List Entry) (t : Cluster) (s : Store) (v : View) (told : Told) → Running q k before h t s told → IsView doc k q h v
+pub begin_walk : (doc : Doc) (k : ℕ) (q : Identity) (before : List Deed) (h : List Entry) (t : Cluster) (s : Store) (v : View) (told : Told) → MidTick q k before h t s told → IsView doc k q h v
     → Walking doc k q before h h None t s v told
 begin_walk doc k q before h t s v told r view =
     record {
@@ -61,7 +61,7 @@ pub next_dirty : (q : Identity) (now : List Entry) (c : Option ℕ) (n : ℕ) �
 next_dirty q now c n (later, dirty, none) = dirty
 
 pub next_walk : (doc : Doc) (k : ℕ) (q : Identity) (before : List Deed) (h now : List Entry) (c : Option ℕ) (n : ℕ) (t u : Cluster) (s z : Store) (v : View) (told more : Told)
-    → Walking doc k q before h now c t s v told → IsNextAfter (λ n. is_dirty q n now) c (Some n) → Running q k before (clean doc k q n now) u z more
+    → Walking doc k q before h now c t s v told → IsNextAfter (λ n. is_dirty q n now) c (Some n) → MidTick q k before (clean doc k q n now) u z more
     → Walking doc k q before h (clean doc k q n now) (Some n) u z v more
 next_walk doc k q before h now c n t u s z v told more w (later, dirty, none) r =
     record {

@@ -10,7 +10,7 @@ ghost use Rattle.tick_laws.specs.Changes.{cleaned_node};
 ghost use Rattle.tick_laws.specs.Judged.{is_dirty};
 ghost use Rattle.tick_laws.specs.Steps.{tick_cost};
 ghost use Rattle.term_clean.specs.Cleaning.{write_for};
-ghost use Rattle.term_state.specs.Running.{IsView, Running};
+ghost use Rattle.term_state.specs.MidTick.{IsView, MidTick};
 
 use kube_base::{NoMemory, Steps, Wall, whole_second};
 use kube_objects::Node;
@@ -28,10 +28,10 @@ pub(crate) fn clean_one<L>(
     name: u32,
 ) -> Result<(), NoMemory>
     ensures stands { (doc : Doc) (k : ℕ) (q : Identity) (before : List Deed) (h : List Entry)
-        → Running q k before h cluster.old store.old told.old → IsView doc k q h view.entry.now → is_dirty q name h ≡ true
-        → OnOk result (Running q k before (tick.clean doc k q name h) cluster.new store.new told.new) }
+        → MidTick q k before h cluster.old store.old told.old → IsView doc k q h view.entry.now → is_dirty q name h ≡ true
+        → OnOk result (MidTick q k before (tick.clean doc k q name h) cluster.new store.new told.new) }
     ensures counted { (doc : Doc) (k : ℕ) (q : Identity) (before : List Deed) (h : List Entry)
-        → Running q k before h cluster.old store.old told.old → IsView doc k q h view.entry.now → is_dirty q name h ≡ true
+        → MidTick q k before h cluster.old store.old told.old → IsView doc k q h view.entry.now → is_dirty q name h ≡ true
         → OnOk result (steps.new + tick_cost q k h ≤ steps.old + tick_cost q k (tick.clean doc k q name h)) }
 {
     let Some((given, node)) = cluster.node(name) else {

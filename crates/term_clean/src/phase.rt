@@ -5,7 +5,7 @@ ghost use Rattle.kube_objects.specs.Entry.{Entry, Identity};
 ghost use Rattle.kube_objects.specs.Tick as tick;
 ghost use Rattle.kube_objects.specs.declared.deed.Deed.{Deed};
 ghost use Rattle.tick_laws.specs.Steps.{tick_cost};
-ghost use Rattle.term_state.specs.Running.{IsView, Running};
+ghost use Rattle.term_state.specs.MidTick.{IsView, MidTick};
 
 use crate::attempt::clean_one;
 use kube_base::{NoMemory, Steps};
@@ -24,10 +24,10 @@ pub fn clean<L>(
     steps: &mut Steps<L>,
 ) -> Result<(), NoMemory>
     ensures stands { (doc : Doc) (k : ℕ) (q : Identity) (before : List Deed) (h : List Entry)
-        → Running q k before h cluster.old store.old told.old → IsView doc k q h view.entry.now
-        → OnOk result (Running q k before (tick.cleaned doc k q h) cluster.new store.new told.new) }
+        → MidTick q k before h cluster.old store.old told.old → IsView doc k q h view.entry.now
+        → OnOk result (MidTick q k before (tick.cleaned doc k q h) cluster.new store.new told.new) }
     ensures counted { (doc : Doc) (k : ℕ) (q : Identity) (before : List Deed) (h : List Entry)
-        → Running q k before h cluster.old store.old told.old → IsView doc k q h view.entry.now
+        → MidTick q k before h cluster.old store.old told.old → IsView doc k q h view.entry.now
         → OnOk result (steps.new + tick_cost q k h ≤ steps.old + tick_cost q k (tick.cleaned doc k q h)) }
 {
     let mut next = cluster.next_unclean(None);

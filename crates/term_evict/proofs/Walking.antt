@@ -28,7 +28,7 @@ use Rattle.term_state.specs.declared.cluster.Cluster.{Cluster}
 use Rattle.term_state.specs.declared.told.Told.{Told}
 use Rattle.term_state.specs.declared.view.View.{View}
 use Rattle.term_state.specs.ClusterStands.{but_pod, no_node, no_pod}
-use Rattle.term_state.specs.Running.{IsView, Running}
+use Rattle.term_state.specs.MidTick.{IsView, MidTick}
 use Rattle.term_state.proofs.Widen.{widen}
 use Rattle.term_evict.specs.Deleting.{Deleting}
 
@@ -157,8 +157,8 @@ module _ (doc : Doc) (k : ℕ) (q : Identity) (before : List Deed) (h now : List
   pub end_history : ((p : Key) → contains key_cmp todo p ≡ false) → now ≡ evicted doc k q h
   end_history empty = sym (evict_end doc k q c h now (λ p after_c. sym (w.due p after_c) ∙ empty p)) ∙ w.follows
 
-  pub end_evicting : ((p : Key) → contains key_cmp todo p ≡ false) → Running q k before (evicted doc k q h) l s t
-  end_evicting empty = subst (λ g. Running q k before g l s t) (end_history empty)
+  pub end_evicting : ((p : Key) → contains key_cmp todo p ≡ false) → MidTick q k before (evicted doc k q h) l s t
+  end_evicting empty = subst (λ g. MidTick q k before g l s t) (end_history empty)
       (record {
         cluster = widen q now no_node no_node (λ p. contains key_cmp todo p) no_pod l (λ x is. is) (λ p is. empty p) w.deleting.cluster;
         moved = w.deleting.moved;

@@ -9,7 +9,7 @@ use Rattle.object_store.specs.declared.store.Store.{Store}
 use Rattle.term_state.specs.declared.cluster.Cluster.{Cluster}
 use Rattle.term_state.specs.declared.told.Told.{Told}
 use Rattle.term_state.specs.ClusterStands.{ClusterBut, no_node}
-use Rattle.term_state.specs.Running.{IsMoved, IsTold}
+use Rattle.term_state.specs.MidTick.{IsMoved, IsTold}
 
 -- the dues of these pods are taken out
 pub record Deleting (q : Identity) (k : ℕ) (before : List Deed) (h : List Entry)

@@ -12,7 +12,7 @@ ghost use Rattle.kube_objects.specs.declared.pod.Due.TheVariants.{At};
 ghost use Rattle.tick_laws.specs.Changes.{IsChange, gone_by, refused_by};
 ghost use Rattle.tick_laws.specs.Judged.{is_by_now, seen_due};
 ghost use Rattle.term_state.specs.ClusterStands.{ClusterBut, but_pod, has_moved, no_node};
-ghost use Rattle.term_state.specs.Running.{IsTold, IsView};
+ghost use Rattle.term_state.specs.MidTick.{IsTold, IsView};
 ghost use Rattle.term_evict.specs.Deleting.{Deleting};
 
 use kube_base::{NoMemory, Steps};

@@ -6,7 +6,7 @@ ghost use Rattle.kube_objects.specs.Tainting.{before_tick};
 ghost use Rattle.kube_objects.specs.Tick as tick;
 ghost use Rattle.kube_objects.specs.declared.deed.Deed.{Deed};
 ghost use Rattle.tick_laws.specs.Steps.{tick_cost};
-ghost use Rattle.term_state.specs.Running.{IsView, Running};
+ghost use Rattle.term_state.specs.MidTick.{IsView, MidTick};
 
 use crate::attempt::evict_one;
 use kube_base::{NoMemory, Steps};
@@ -23,10 +23,10 @@ pub fn evict<L>(
     steps: &mut Steps<L>,
 ) -> Result<(), NoMemory>
     ensures stands { (doc : Doc) (k : ℕ) (q : Identity) (before : List Deed) (h : List Entry)
-        → Running q k before h cluster.old store.old told.old
-        → IsView doc k q h view.entry.now → OnOk result (Running q k before (tick.evicted doc k q h) cluster.new store.new told.new) }
+        → MidTick q k before h cluster.old store.old told.old
+        → IsView doc k q h view.entry.now → OnOk result (MidTick q k before (tick.evicted doc k q h) cluster.new store.new told.new) }
     ensures counted { (doc : Doc) (k : ℕ) (q : Identity) (before : List Deed) (h : List Entry)
-        → Running q k before h cluster.old store.old told.old
+        → MidTick q k before h cluster.old store.old told.old
         → IsView doc k q h view.entry.now
         → OnOk result (steps.new + tick_cost q k h ≤ steps.old + (1 + tick_cost q k (tick.evicted doc k q h))) }
 {

@@ -25,7 +25,7 @@ use Rattle.node_health.specs.Kept.{is_listed, verdict_of}
 use Rattle.node_health.specs.Stands.{HealthStands, IsGraceOf, IsLook, and_looked}
 use Rattle.node_health.proofs.Frames.{pass-same}
 use Rattle.object_store.specs.declared.store.Store.{Store}
-use Rattle.term_state.specs.Running.{IsView, Running}
+use Rattle.term_state.specs.MidTick.{IsView, MidTick}
 use Rattle.term_state.specs.declared.cluster.Cluster.{Cluster}
 use Rattle.term_state.specs.declared.told.Told.{Told}
 use Rattle.term_state.specs.declared.view.View.{View}
@@ -140,7 +140,7 @@ pub named_passed : (q : Identity) (k : ℕ) (h : List Entry) (names : List ℕ) 
 named_passed q k h names s = record { ascend = s.ascend; named = λ n. s.named n ∙ ap has (sym (passed_seen q k h n)) }
 
 pub begin_looking : (doc : Doc) (k : ℕ) (q : Identity) (before : List Deed) (h : List Entry) (names : List ℕ) (v : View) (c : Cluster) (x : Health) (s : Store) (t : Told) (old : ℕ)
-    → Running q k before (add k q Pass h) c s t → HealthStands doc q h x → IsView doc k q (add k q Pass h) v → AreNamed (λ n. has (seen_node q n h)) names
+    → MidTick q k before (add k q Pass h) c s t → HealthStands doc q h x → IsView doc k q (add k q Pass h) v → AreNamed (λ n. has (seen_node q n h)) names
     → Looking doc k q before h names names v c x s t old old
 begin_looking doc k q before h names v c x s t old running health view are =
     record {

@@ -14,7 +14,7 @@ use Rattle.history.specs.Printed.{map_answer, reason_in}
 use Rattle.tick_laws.proofs.Frames.{mark_is}
 use Rattle.term_state.specs.declared.view.View.{View}
 use Rattle.term_state.specs.declared.writes.NodeWrite.TheVariants as write
-use Rattle.term_state.specs.Running.{IsView}
+use Rattle.term_state.specs.MidTick.{IsView}
 use Rattle.term_state.specs.Writes.{IsWrite}
 
 -- the history with the mark

@@ -12,7 +12,7 @@ use Rattle.node_health.proofs.Frames.{health-same, unheard-kind}
 use Rattle.object_store.proofs.Keeps.{store-beside}
 use Rattle.object_store.specs.declared.store.Store.{Store}
 use Rattle.term_state.specs.ClusterStands.{ClusterStands}
-use Rattle.term_state.specs.Running.{IsMoved, IsTold, Running}
+use Rattle.term_state.specs.MidTick.{IsMoved, IsTold, MidTick}
 use Rattle.term_state.specs.declared.cluster.Cluster.{Cluster}
 use Rattle.term_state.specs.declared.told.Told.{Told}
 use Rattle.tick_laws.proofs.Frames.{mode_change}
@@ -41,8 +41,8 @@ pub health_on : (doc : Doc) (k : ℕ) (q : Identity) (h : List Entry) (health : 
 health_on doc k q h health s = health-same doc q h (add k q (Mode true) h) health (unheard-kind q h _ refl) s
 
 pub running_after : (q : Identity) (k : ℕ) (before : List Deed) (h : List Entry) (on : Bool) (old new : Cluster) (store : Store) (told after : Told)
-    → Running q k before h old store told → ClusterStands q (add k q (Mode on) h) new → IsMoved q k (add k q (Mode on) h) new
-    → IsTold q k before (add k q (Mode on) h) after → Running q k before (add k q (Mode on) h) new store after
+    → MidTick q k before h old store told → ClusterStands q (add k q (Mode on) h) new → IsMoved q k (add k q (Mode on) h) new
+    → IsTold q k before (add k q (Mode on) h) after → MidTick q k before (add k q (Mode on) h) new store after
 running_after q k before h on old new store told after r cluster moved told_after =
     record {
       cluster = cluster;

@@ -30,7 +30,7 @@ use Rattle.term_pass.proofs.Marks.{mark_either, mark_view}
 use Rattle.term_state.proofs.Aside.{same_aside, refused_moved}
 use Rattle.term_state.proofs.Telling.{told_beside}
 use Rattle.term_state.specs.ClusterStands.{ClusterStands, no_node, no_pod}
-use Rattle.term_state.specs.Running.{IsMoved, IsView, Running}
+use Rattle.term_state.specs.MidTick.{IsMoved, IsView, MidTick}
 use Rattle.term_state.specs.declared.cluster.Cluster.{Cluster}
 use Rattle.term_state.specs.declared.told.Told.{Told}
 use Rattle.term_state.specs.declared.view.View.{View}
@@ -46,7 +46,7 @@ use Rattle.watch_cache.proofs.Ticks.{same_self}
 use Rattle.watch_cache.specs.Told.{AreNamed}
 
 -- after the pass's own entry
-pub run_pass : (q : Identity) (k : ℕ) (before : List Deed) (h : List Entry) (c : Cluster) (s : Store) (t : Told) → Running q k before h c s t → Running q k before (add k q Pass h) c s t
+pub run_pass : (q : Identity) (k : ℕ) (before : List Deed) (h : List Entry) (c : Cluster) (s : Store) (t : Told) → MidTick q k before h c s t → MidTick q k before (add k q Pass h) c s t
 run_pass q k before h c s t r =
     let change = pass_change q k h in
     record {

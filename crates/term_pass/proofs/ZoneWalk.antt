@@ -19,7 +19,7 @@ use Rattle.taint_zones.specs.declared.place.Place.{Place}
 use Rattle.taint_zones.specs.declared.zones.Zones.{Zones}
 use Rattle.taint_zones.specs.Limits.{LimitStands, LimitsStand, limit_at}
 use Rattle.taint_zones.specs.Places.{of_place, entry_place, zone_cmp}
-use Rattle.term_state.specs.Running.{IsTold}
+use Rattle.term_state.specs.MidTick.{IsTold}
 use Rattle.term_state.specs.declared.told.Told.{Told}
 use Rattle.term_pass.specs.Zoned.{ArePassed}
 use Rattle.term_pass.proofs.ZoneLimits.{other_limit}

@@ -10,7 +10,7 @@ use Rattle.kube_objects.specs.Tick.{add}
 use Rattle.node_health.specs.Stands.{PassStands}
 use Rattle.node_health.specs.declared.health.Health.{Health}
 use Rattle.object_store.specs.declared.store.Store.{Store}
-use Rattle.term_state.specs.Running.{Running}
+use Rattle.term_state.specs.MidTick.{MidTick}
 use Rattle.term_state.specs.declared.cluster.Cluster.{Cluster}
 use Rattle.term_state.specs.declared.told.Told.{Told}
 use Rattle.tick_laws.specs.Steps.{tick_cost}
@@ -31,7 +31,7 @@ HaveCost q k h g old new = new + tick_cost q k h ≤ old + tick_cost q k g
 -- of, are as they were after the entry of the pass
 pub record IsPassing (doc : Doc) (k : ℕ) (q : Identity) (before : List Deed) (h now : List Entry) (looked : ℕ → Bool)
     (c : Cluster) (x : Health) (s : Store) (t : Told) : Type 0 where
-  pub running : Running q k before now c s t
+  pub running : MidTick q k before now c s t
   pub health : PassStands doc k q h looked x
   pub leases : (name : ℕ) → renewal q name now ≡ renewal q name h
   pub probes : (name : ℕ) → probe q name now ≡ probe q name (add k q Pass h)

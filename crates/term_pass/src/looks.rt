@@ -11,7 +11,7 @@ ghost use Rattle.kube_objects.specs.Tick as model;
 ghost use Rattle.kube_objects.specs.declared.deed.Deed.{Deed};
 ghost use Rattle.node_health.specs.Stands.{HealthStands, IsGraceOf, and_looked};
 ghost use Rattle.term_state.specs.ClusterStands.{ClusterStands};
-ghost use Rattle.term_state.specs.Running.{IsView, Running};
+ghost use Rattle.term_state.specs.MidTick.{IsView, MidTick};
 ghost use Rattle.term_pass.specs.Passing.{HaveCost, IsPassing};
 ghost use Rattle.node_health.specs.Kept as spec;
 ghost use Rattle.watch_cache.specs.Told.{AreNamed};
@@ -102,13 +102,13 @@ pub(crate) fn look_all<L>(
     steps: &mut Steps<L>,
 ) -> Result<(), NoMemory>
     ensures stands { (doc : Doc) (k : ℕ) (q : Identity) (before : List Deed) (h : List Entry)
-        → Running q k before (add k q Pass h) cluster.old store.old told.old → HealthStands doc q h health.old
+        → MidTick q k before (add k q Pass h) cluster.old store.old told.old → HealthStands doc q h health.old
         → IsView doc k q h view.entry.now
         → IsGraceOf doc grace.now → AreNamed (λ n. has (seen_node q n h)) names.now
         → OnOk result (IsPassing doc k q before h (model.marks doc k q (add k q Pass h)) (λ n. spec.is_listed names.now n)
         cluster.new health.new store.new told.new) }
     ensures counted { (doc : Doc) (k : ℕ) (q : Identity) (before : List Deed) (h : List Entry)
-        → Running q k before (add k q Pass h) cluster.old store.old told.old → HealthStands doc q h health.old
+        → MidTick q k before (add k q Pass h) cluster.old store.old told.old → HealthStands doc q h health.old
         → IsView doc k q h view.entry.now
         → IsGraceOf doc grace.now → AreNamed (λ n. has (seen_node q n h)) names.now
         → OnOk result (HaveCost q k (add k q Pass h) (model.marks doc k q (add k q Pass h)) steps.old steps.new) }

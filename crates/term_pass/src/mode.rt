@@ -8,7 +8,7 @@ ghost use Rattle.kube_objects.specs.Tick as model;
 ghost use Rattle.kube_objects.specs.declared.deed.Deed.{Deed};
 ghost use Rattle.node_health.specs.Stands.{HealthStands};
 ghost use Rattle.object_store.specs.declared.store.Store.{Store};
-ghost use Rattle.term_state.specs.Running.{IsView, Running};
+ghost use Rattle.term_state.specs.MidTick.{IsView, MidTick};
 ghost use Rattle.zone_counts.specs.Counted.{zone_counts};
 
 use kube_base::{Local, NoMemory};
@@ -37,9 +37,9 @@ pub(crate) fn set_mode(
     told: &mut Told,
 ) -> Result<(), NoMemory>
     ensures { (doc : Doc) (k : ℕ) (q : Identity) (before : List Deed) (h : List Entry) (store : Store)
-        → Running q k before h cluster.old store told.old → HealthStands doc q h health.old → IsView doc k q h view.entry.now
+        → MidTick q k before h cluster.old store told.old → HealthStands doc q h health.old → IsView doc k q h view.entry.now
         → zones.now ≡ zone_counts (nodes q h) → percent ≡ doc.settings.unhealthy_percent
-        → OnOk result (Running q k before (model.set_mode doc k q h) cluster.new store told.new
+        → OnOk result (MidTick q k before (model.set_mode doc k q h) cluster.new store told.new
         × HealthStands doc q (model.set_mode doc k q h) health.new) }
 {
     let on = all_full(zones, percent);

@@ -12,7 +12,7 @@ ghost use Rattle.taint_zones.specs.Limits.{LimitStands, LimitsStand};
 ghost use Rattle.taint_zones.specs.Places.{entry_place};
 ghost use Rattle.taint_zones.specs.Waiting.{since};
 ghost use Rattle.taint_zones.specs.declared.place.Place.{Place};
-ghost use Rattle.term_state.specs.Running.{IsTold};
+ghost use Rattle.term_state.specs.MidTick.{IsTold};
 ghost use Rattle.term_pass.specs.Zoned.{ArePassed};
 ghost use Rattle.zone_counts.specs.Counted.{zone_counts};
 ghost use Rattle.zone_counts.specs.Settings.{AreSettings};

@@ -23,7 +23,7 @@ use Rattle.watch_cache.specs.TaintChanges.{taints_in}
 use Rattle.watch_cache.specs.Stands.{CacheStands, kept_in, position_in, stale_in, synced_in}
 use Rattle.term_state.specs.declared.cluster.Cluster.{Cluster}
 use Rattle.term_state.specs.ClusterStands.{ClusterBut, ClusterStands, has_moved, no_node, no_pod}
-use Rattle.term_state.specs.Running.{IsMoved}
+use Rattle.term_state.specs.MidTick.{IsMoved}
 use Rattle.term_state.proofs.SameTaints.{due_retained}
 use Rattle.term_state.proofs.Widen.{first_none, second_none}
 

@@ -5,7 +5,7 @@ use Rattle.kube_objects.specs.Entry.{Entry, Identity, Tick, actor_of}
 use Rattle.kube_objects.specs.Tick.{add}
 use Rattle.history.specs.Printed.{deeds_of, printed, tick_act}
 use Rattle.term_state.specs.declared.told.Told.{Told}
-use Rattle.term_state.specs.Running.{IsTold}
+use Rattle.term_state.specs.MidTick.{IsTold}
 
 append_nil : (xs : List Deed) → xs ++ [] ≡ xs
 append_nil [] = refl

@@ -1,7 +1,7 @@
 pub mod ClusterStands
 pub mod Evictions
+pub mod MidTick
 pub mod Queues
-pub mod Running
 pub mod Taking
 pub mod Tried
 pub mod Writes

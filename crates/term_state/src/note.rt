@@ -20,7 +20,7 @@ use kube_objects::{Key, Node, Object};
 impl Cluster {
     ghost use Rattle.kube_objects.specs.declared.key.Key.{Key};
     ghost use Rattle.term_state.specs.ClusterStands.{ClusterBut, ClusterStands, but_pod, has_moved, no_node, no_pod};
-    ghost use Rattle.term_state.specs.Running.{IsMoved};
+    ghost use Rattle.term_state.specs.MidTick.{IsMoved};
 
     /// The node is seen as it was written. It counts at most two steps for each pod on the node, and none where its taints are
     /// as they were.

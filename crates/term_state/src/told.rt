@@ -4,7 +4,7 @@ ghost use Rattle.kube_objects.specs.Entry.{Entry, Identity, Tick, actor_of};
 ghost use Rattle.kube_objects.specs.Tick.{add};
 ghost use Rattle.kube_objects.specs.declared.deed.Deed.{Deed};
 ghost use Rattle.history.specs.Printed.{printed, tick_act};
-ghost use Rattle.term_state.specs.Running.{IsTold};
+ghost use Rattle.term_state.specs.MidTick.{IsTold};
 
 use kube_base::{Beat, ListOf, NoMemory};
 use kube_objects::{Act, Actor, Deed, Deeds};
@@ -19,7 +19,7 @@ pub struct Told {
 }
 
 impl Told {
-    ghost use Rattle.term_state.specs.Running.{deeds_in};
+    ghost use Rattle.term_state.specs.MidTick.{deeds_in};
 
     /// No deed. Takes no memory.
     pub fn new(alloc: Global, who: Actor, beat: Beat) -> Told

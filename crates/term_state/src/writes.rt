@@ -15,7 +15,7 @@ ghost use Rattle.kube_objects.specs.declared.deed.Deed.{Deed};
 ghost use Rattle.object_store.specs.Stands.{StoreStands};
 ghost use Rattle.tick_laws.specs.Changes.{IsChange, noted_by};
 ghost use Rattle.tick_laws.specs.Steps.{own_cost, tick_cost};
-ghost use Rattle.term_state.specs.Running.{IsTold, IsView, Running};
+ghost use Rattle.term_state.specs.MidTick.{IsTold, IsView, MidTick};
 ghost use Rattle.term_state.specs.Writes.{IsWrite, act_for, makes_stale, stale_by};
 
 use crate::tries::try_node;
@@ -74,7 +74,7 @@ fn tell(
 
 impl Cluster {
     ghost use Rattle.term_state.specs.ClusterStands.{ClusterStands};
-    ghost use Rattle.term_state.specs.Running.{IsMoved};
+    ghost use Rattle.term_state.specs.MidTick.{IsMoved};
 
     // What an answer leaves: an accepted write is seen, and a lost one changes nothing.
     fn note_answer<L>(
@@ -134,11 +134,11 @@ pub fn try_write<L>(
     ensures answer { (q : Identity) (h : List Entry) → StoreStands h store.old → view.entry.now.passes ≡ not (loses_requests q.process h)
         → IfOk result (λ answer. answer ≡ tries.try_node q name given h) }
     ensures stands { (doc : Doc) (k : ℕ) (q : Identity) (before : List Deed) (h : List Entry) (tick : Tick)
-        → Running q k before h cluster.old store.old told.old → IsView doc k q h view.entry.now
+        → MidTick q k before h cluster.old store.old told.old → IsView doc k q h view.entry.now
         → IsWrite write name written (tries.try_node q name given h) tick
-        → OnOk result (Running q k before (add k q tick h) cluster.new store.new told.new) }
+        → OnOk result (MidTick q k before (add k q tick h) cluster.new store.new told.new) }
     ensures counted { (doc : Doc) (k : ℕ) (q : Identity) (before : List Deed) (h : List Entry) (tick : Tick)
-        → Running q k before h cluster.old store.old told.old → IsView doc k q h view.entry.now
+        → MidTick q k before h cluster.old store.old told.old → IsView doc k q h view.entry.now
         → IsWrite write name written (tries.try_node q name given h) tick
         → OnOk result (steps.new + tick_cost q k h ≤ steps.old + tick_cost q k (add k q tick h)) }
 {

@@ -15,7 +15,7 @@ use Rattle.tick_laws.proofs.Syncing.{sync_waits}
 use Rattle.watch_cache.specs.Stands.{synced_writes}
 use Rattle.term_state.specs.declared.cluster.Cluster.{Cluster}
 use Rattle.term_state.specs.ClusterStands.{has_moved}
-use Rattle.term_state.specs.Running.{IsMoved}
+use Rattle.term_state.specs.MidTick.{IsMoved}
 use Rattle.term_state.proofs.Takes.{since_is}
 use Rattle.term_state.proofs.Widen.{first_none, second_none}
 

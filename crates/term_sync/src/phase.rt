@@ -10,7 +10,7 @@ ghost use Rattle.object_store.specs.Stands.{StoreStands};
 ghost use Rattle.tick_laws.specs.Since.{AreReached};
 ghost use Rattle.tick_laws.specs.Steps.{tick_cost};
 ghost use Rattle.term_state.specs.ClusterStands.{ClusterStands};
-ghost use Rattle.term_state.specs.Running.{IsMoved, IsView};
+ghost use Rattle.term_state.specs.MidTick.{IsMoved, IsView};
 
 use crate::judge::judge_changes;
 use kube_base::{NoMemory, Steps};

@@ -23,7 +23,7 @@ use Rattle.tick_laws.proofs.Waiting.{settle}
 use Rattle.term_state.specs.ClusterStands.{has_moved}
 use Rattle.term_state.specs.declared.cluster.Cluster.{Cluster}
 use Rattle.term_state.specs.Queues.{ComesAfter, IsNextAfter}
-use Rattle.term_state.specs.Running.{IsMoved}
+use Rattle.term_state.specs.MidTick.{IsMoved}
 use Rattle.term_taint.specs.QueuesStand.{QueuesStand}
 use Rattle.term_taint.specs.Settling.{IsWaitingIn, is_zone}
 

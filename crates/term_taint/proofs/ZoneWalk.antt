@@ -27,7 +27,7 @@ use Rattle.tick_laws.proofs.Walks.{above_less, after_more, after_none, not_befor
 use Rattle.term_state.specs.declared.cluster.Cluster.{Cluster}
 use Rattle.term_state.specs.declared.told.Told.{Told}
 use Rattle.term_state.specs.declared.view.View.{View}
-use Rattle.term_state.specs.Running.{IsView}
+use Rattle.term_state.specs.MidTick.{IsView}
 use Rattle.term_state.proofs.Viewing.{view_ticked}
 use Rattle.term_taint.specs.Heading.{Heading}
 use Rattle.term_taint.specs.QueuesStand.{QueuesStand}

@@ -16,7 +16,7 @@ ghost use Rattle.taint_zones.specs.Places.{entry_place};
 ghost use Rattle.taint_zones.specs.Waiting.{since};
 ghost use Rattle.tick_laws.specs.Steps.{tick_cost};
 ghost use Rattle.term_state.specs.ClusterStands.{ClusterStands};
-ghost use Rattle.term_state.specs.Running.{IsView, Running};
+ghost use Rattle.term_state.specs.MidTick.{IsView, MidTick};
 ghost use Rattle.term_taint.specs.Heading.{Heading};
 ghost use Rattle.term_taint.specs.Attempts.{headed, lacking_of, requeued};
 
@@ -108,15 +108,15 @@ fn attempt<L>(
     lacking: Lacking,
 ) -> Result<(), NoMemory>
     ensures stands { (doc : Doc) (k : ℕ) (q : Identity) (before : List Deed) (h : List Entry)
-        → Running q k before h cluster.old store.old told.old → IsView doc k q h view.entry.now
-        → OnOk result (Running q k before (headed k q (entry_place place) name lacking h) cluster.new store.new told.new) }
+        → MidTick q k before h cluster.old store.old told.old → IsView doc k q h view.entry.now
+        → OnOk result (MidTick q k before (headed k q (entry_place place) name lacking h) cluster.new store.new told.new) }
     ensures queues { (doc : Doc) (k : ℕ) (q : Identity) (before : List Deed) (h : List Entry)
-        → Running q k before h cluster.old store.old told.old → IsView doc k q h view.entry.now
+        → MidTick q k before h cluster.old store.old told.old → IsView doc k q h view.entry.now
         → OnOk result ((zone : Place) (other : ℕ) → since queues.new zone other
         ≡ (if name == other then requeued (tries.try_node q name lacking.given h) place zone k (since queues.old zone name)
         else since queues.old zone other)) }
     ensures counted { (doc : Doc) (k : ℕ) (q : Identity) (before : List Deed) (h : List Entry)
-        → Running q k before h cluster.old store.old told.old → IsView doc k q h view.entry.now
+        → MidTick q k before h cluster.old store.old told.old → IsView doc k q h view.entry.now
         → OnOk result (steps.new + tick_cost q k h ≤ steps.old + tick_cost q k (headed k q (entry_place place) name lacking h)) }
 {
     let answer = try_write(

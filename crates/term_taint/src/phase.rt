@@ -6,7 +6,7 @@ ghost use Rattle.kube_objects.specs.Entry.{Entry, Identity};
 ghost use Rattle.kube_objects.specs.Tick as tick;
 ghost use Rattle.kube_objects.specs.declared.deed.Deed.{Deed};
 ghost use Rattle.tick_laws.specs.Steps.{tick_cost};
-ghost use Rattle.term_state.specs.Running.{IsView};
+ghost use Rattle.term_state.specs.MidTick.{IsView};
 ghost use Rattle.term_taint.specs.Heading.{Heading};
 
 use crate::head::taint_first;

@@ -7,7 +7,7 @@ ghost use Rattle.kube_objects.specs.Tainting.{before_tick, waits};
 ghost use Rattle.taint_zones.specs.Places.{of_place};
 ghost use Rattle.taint_zones.specs.Waiting.{since};
 ghost use Rattle.term_state.specs.ClusterStands.{ClusterStands};
-ghost use Rattle.term_state.specs.Running.{IsMoved};
+ghost use Rattle.term_state.specs.MidTick.{IsMoved};
 ghost use Rattle.tick_laws.specs.Rows.{no_heads, settled};
 ghost use Rattle.term_taint.specs.QueuesStand.{QueuesStand};
 ghost use Rattle.term_taint.specs.Settling.{IsWaitingIn};

@@ -9,5 +9,5 @@ mod queues;
 mod tests;
 mod wire;
 
-pub use message::{Arrived, Delivered, Sent};
+pub use message::{Arrived, Delivered, Fate};
 pub use wire::Wire;

@@ -3,7 +3,7 @@ ghost use Rattle.std.specs.Prelude.{◌≡◌, ◌≤◌, false};
 ghost use Rattle.kube_objects.specs.Wire.{arrival};
 ghost use Rattle.wire_calls.specs.Messages.{sent_as_told};
 
-use crate::Sent;
+use crate::Fate;
 use kube_base::Beat;
 
 /// How messages of one process travel, each way. Delays are in beats.
@@ -30,13 +30,13 @@ impl Link {
 }
 
 /// What becomes of a message that is sent now. The delay is in beats.
-pub(crate) fn travel(lost: bool, now: Beat, delay: u32) -> Sent
+pub(crate) fn travel(lost: bool, now: Beat, delay: u32) -> Fate
     requires { now.0 ≤ 700000000 }
     ensures { delay ≤ 6000 → result ≡ sent_as_told (arrival lost now.0 delay) }
 {
     if lost {
-        return Sent::Lost;
+        return Fate::Lost;
     }
     // With a delay of at most 6,000 beats the sum is below the greatest number.
-    Sent::InFlight(Beat(now.0.saturating_add(delay)))
+    Fate::InFlight(Beat(now.0.saturating_add(delay)))
 }

@@ -4,7 +4,7 @@ use kube_objects::{Reply, Request};
 
 /// What became of a message: lost, or in flight until it arrives at a beat.
 #[derive(Clone, Copy, Debug, PartialEq, Eq)]
-pub enum Sent {
+pub enum Fate {
     Lost,
     InFlight(Beat),
 }

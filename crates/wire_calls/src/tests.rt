@@ -1,5 +1,5 @@
 // The wire's calls, by tables.
-use crate::{Sent, Wire};
+use crate::{Fate, Wire};
 use kube_base::{Beat, ProcId, Version};
 use kube_objects::{Ask, Key, Kind, Reply, Request};
 use std::test::Fail;
@@ -21,7 +21,7 @@ fn sends_and_loses(rt: HostRuntime) -> Result<(), Fail> {
     let who = ProcId(1);
     assert_eq!(rt; wire.next(), None);
     let sent = wire.send(who, 1, ask(1), Beat(5))?;
-    assert_eq!(rt; sent, Sent::InFlight(Beat(6)));
+    assert_eq!(rt; sent, Fate::InFlight(Beat(6)));
     assert_eq!(rt; wire.next(), Some(Beat(6)));
     assert!(rt; !wire.has_request(Beat(5)));
     assert_eq!(rt; wire.arrival(Beat(5)), None);
@@ -41,7 +41,7 @@ fn sends_and_loses(rt: HostRuntime) -> Result<(), Fail> {
     wire.set_loss(who, true, false);
     assert!(rt; !wire.passes(who));
     assert!(rt; wire.passes(ProcId(0)));
-    assert_eq!(rt; wire.send(who, 1, ask(2), Beat(6))?, Sent::Lost);
+    assert_eq!(rt; wire.send(who, 1, ask(2), Beat(6))?, Fate::Lost);
     assert_eq!(rt; wire.next(), None);
     Ok(())
 }
@@ -52,7 +52,7 @@ fn keeps_the_order_of_sending(rt: HostRuntime) -> Result<(), Fail> {
     wire.set_delay(ProcId(0), 3, 1);
     for (who, number, now, arrives) in [(0, 1, 0, 3), (0, 2, 1, 4), (1, 3, 2, 3), (1, 4, 3, 4)] {
         let sent = wire.send(ProcId(who), 1, ask(number), Beat(now))?;
-        assert_eq!(rt; sent, Sent::InFlight(Beat(arrives)), "{number}");
+        assert_eq!(rt; sent, Fate::InFlight(Beat(arrives)), "{number}");
     }
     // A delay that is set later doesn't move what was sent before.
     wire.set_delay(ProcId(0), 9, 1);
@@ -79,11 +79,11 @@ fn replies_and_loses(rt: HostRuntime) -> Result<(), Fail> {
     };
     let reply = Reply::Done(Version(1));
     let travels = wire.reply_travel(who, Beat(1));
-    assert_eq!(rt; travels, Sent::InFlight(Beat(61)));
+    assert_eq!(rt; travels, Fate::InFlight(Beat(61)));
     wire.reply(&arrived, reply, travels)?;
     // A reply comes at the beat that is handed in, and a lost one never.
-    wire.reply(&arrived, Reply::Absent, Sent::InFlight(Beat(70)))?;
-    wire.reply(&arrived, Reply::Exists, Sent::Lost)?;
+    wire.reply(&arrived, Reply::Absent, Fate::InFlight(Beat(70)))?;
+    wire.reply(&arrived, Reply::Exists, Fate::Lost)?;
     for (beat, told) in [(61, reply), (70, Reply::Absent)] {
         assert_eq!(rt; wire.next(), Some(Beat(beat)));
         assert!(rt; !wire.has_reply(Beat(beat - 1)));
@@ -102,6 +102,6 @@ fn replies_and_loses(rt: HostRuntime) -> Result<(), Fail> {
     assert_eq!(rt; wire.next(), None);
     wire.set_loss(who, false, true);
     assert!(rt; wire.passes(who));
-    assert_eq!(rt; wire.reply_travel(who, Beat(70)), Sent::Lost);
+    assert_eq!(rt; wire.reply_travel(who, Beat(70)), Fate::Lost);
     Ok(())
 }

@@ -36,7 +36,7 @@ use Rattle.world_process.proofs.Plainly.{known-later, plain-entry}
 use Rattle.world_process.proofs.Processes.{process-ticked}
 use Rattle.world_process.proofs.Readings.{reading-local, wall-when}
 use Rattle.world_process.proofs.Unheard.{and-false}
-use Rattle.world_terms.specs.TermsStand.{IsUpAs, Ticked}
+use Rattle.world_terms.specs.TermsStand.{IsUpAs, TermsTicked}
 use Rattle.world_core.specs.declared.state.State.{State}
 use Rattle.world_core.specs.States.{EachStands, Running, StateWithin}
 use Rattle.world_core.specs.Waits.{awake_turn, own_ticks, own_ticks_as, turn_if}
@@ -160,7 +160,7 @@ pub record SameButTicked (w v : State) : Type 0 where
   pub controllers : v.controllers ≡ w.controllers
 
 pub running-ticked : (doc : Doc) (k p i : ℕ) (before deeds told : List Deed) (arriving : List Sent) (coming : List Back) (h : List Entry) (w v : State) → is_paused doc p k ≡ false → p < processes doc → alive p h ≡ Some i → InTermAs doc k p i h → SameButTicked w v
-    → Running doc k before arriving coming h w deeds → Ticked doc k (identity p i) h told v.terms v.store → Running doc k before arriving coming (own_ticks doc k p h) v (deeds ++ told)
+    → Running doc k before arriving coming h w deeds → TermsTicked doc k (identity p i) h told v.terms v.store → Running doc k before arriving coming (own_ticks doc k p h) v (deeds ++ told)
 running-ticked doc k p i before deeds told arriving coming h w v awake within up acts same r t =
     let q = identity p i in
     let d = r.world.rest.document in

@@ -12,7 +12,7 @@ ghost use Rattle.world_core.specs.States.{EachStands, with_answer};
 
 use kube_base::{Beat, NoMemory, ProcId};
 use kube_objects::Reply;
-use wire_calls::{Arrived, Sent, Wire};
+use wire_calls::{Arrived, Fate, Wire};
 use world_process::Process;
 
 /// The reply to a request that arrived is sent. It stays out of line, as the answer does.
@@ -38,16 +38,16 @@ pub fn send_back(
 }
 
 // What becomes of a message to a process: it waits where the process is paused.
-fn held_up(processes: &[Process], who: ProcId, travels: Sent) -> Sent
+fn held_up(processes: &[Process], who: ProcId, travels: Fate) -> Fate
     ensures { (doc : Doc) (h : List Entry) (comes : Option ℕ) → EachStands doc h processes.now → who.0 < length processes.now
         → travels ≡ sent_as_told comes → result ≡ sent_as_told (held_up_at doc who.0 comes) }
 {
-    let Sent::InFlight(comes) = travels else {
+    let Fate::InFlight(comes) = travels else {
         return travels;
     };
     let i = who.0 as usize;
     if i >= processes.len() {
         return travels;
     }
-    Sent::InFlight(processes[i].resume(comes))
+    Fate::InFlight(processes[i].resume(comes))
 }

@@ -58,7 +58,7 @@ abbrev pub IsFresh : ℕ → List Entry → Type 0
 IsFresh who h = (i : ℕ) → alive who h ≡ Some i → ticks (identity who i) h ≡ 0
 
 -- after a tick: the terms and the store stand for the history with the tick, and the deeds are those that are printed for it
-pub record Ticked (doc : Doc) (k : ℕ) (q : Identity) (h : List Entry) (deeds : List Deed) (x : Terms) (s : Store) : Type 0 where
+pub record TermsTicked (doc : Doc) (k : ℕ) (q : Identity) (h : List Entry) (deeds : List Deed) (x : Terms) (s : Store) : Type 0 where
   pub terms : TermsStand doc (tick doc k q h) x
   pub store : StoreStands (tick doc k q h) s
   pub told : printed h ++ deeds ≡ printed (tick doc k q h)

@@ -12,7 +12,7 @@ ghost use Rattle.kube_objects.specs.Tainting.{before_tick};
 ghost use Rattle.kube_objects.specs.Tick as model;
 ghost use Rattle.leader_elector.specs.Stands.{acting_identity};
 ghost use Rattle.object_store.specs.Stands.{StoreStands};
-ghost use Rattle.term_state.specs.Running.{IsView};
+ghost use Rattle.term_state.specs.MidTick.{IsView};
 ghost use Rattle.world_terms.specs.Readings.{picoseconds};
 
 use crate::settings::tick_settings;
@@ -35,7 +35,7 @@ pub struct Terms {
 }
 
 impl Terms {
-    ghost use Rattle.world_terms.specs.TermsStand.{TermsStand, TermsStandBut, Ticked, IsFresh, IsUpAs, count_of};
+    ghost use Rattle.world_terms.specs.TermsStand.{TermsStand, TermsStandBut, TermsTicked, IsFresh, IsUpAs, count_of};
 
     /// Terms of so many controllers, none of which has been up.
     pub fn new(alloc: Global, settings: &Settings, controllers: usize) -> Result<Terms, NoMemory>
@@ -86,7 +86,7 @@ impl Terms {
         ensures { (doc : Doc) (k : ℕ) (q : Identity) (h : List Entry) → TermsStand doc h self.old → StoreStands h store.old
             → IsView doc k q h view.entry.now → acting_identity acting.now ≡ q → IsUpAs doc who.0 q h → before_tick q k h ≡ h
             → length (nodes q (model.sync doc k q h)) < 4294967296
-            → IfOk result (λ deeds. Ticked doc k q h deeds self.new store.new) }
+            → IfOk result (λ deeds. TermsTicked doc k q h deeds self.new store.new) }
     {
         match self.terms.get_mut(who.0 as usize) {
             Some(term) => term.tick(acting, store, view, policies, steps),

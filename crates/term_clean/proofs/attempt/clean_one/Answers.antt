@@ -2,7 +2,7 @@ use Rattle.std.proofs.Common.{◌∙◌, ◌+◌, ◌≤◌, ap, subst, sym}
 use Rattle.tick_laws.specs.Steps.{tick_cost}
 use Rattle.watch_cache.specs.Told.{found_pair}
 use Rattle.term_state.specs.ClusterStands.{no_node, no_pod}
-use Rattle.term_state.specs.Running.{Running}
+use Rattle.term_state.specs.MidTick.{MidTick}
 use Rattle.term_clean.proofs.Cleans.{cleans_by, unseen}
 use Rattle.term_clean.proofs.attempt.clean_one.Goals as goal
 
@@ -14,7 +14,7 @@ pub returns-clause-stands : goal.returns-clause-stands
 returns-clause-stands g c doc k q before h r v dirty =
     let x = cleans_by doc k q c.args.name h c.in-Some.given c.in-Some.node.now c.in_ok-written.written c.mode.result _ c.write_for.result dirty (c.in-Some.ensures q h no_node no_pod r.cluster r.synced)
     (c.mode.ensures q h no_node no_pod r.cluster) c.want_of-wants.ensures (c.in_ok-written.ensures doc k q v.time) c.write_for.ensures in
-    subst (λ more. Running q k before more c.try_write.new.cluster c.try_write.new.store c.try_write.new.told) x.adds (c.in_ok-try_write.ensures.stands doc k q before h x.tick r v x.write)
+    subst (λ more. MidTick q k before more c.try_write.new.cluster c.try_write.new.store c.try_write.new.told) x.adds (c.in_ok-try_write.ensures.stands doc k q before h x.tick r v x.write)
 
 pub returns-clause-counted : goal.returns-clause-counted
 returns-clause-counted g c doc k q before h r v dirty =

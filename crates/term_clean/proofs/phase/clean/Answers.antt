@@ -3,7 +3,7 @@ use Rattle.kube_objects.specs.Tick.{clean}
 use Rattle.tick_laws.specs.Judged.{is_dirty}
 use Rattle.tick_laws.specs.Steps.{tick_cost}
 use Rattle.term_state.specs.Queues.{IsNextAfter}
-use Rattle.term_state.specs.Running.{Running}
+use Rattle.term_state.specs.MidTick.{MidTick}
 use Rattle.term_clean.proofs.CleanWalk.{begin_walk, end_walk, next_dirty, next_walk}
 use Rattle.term_clean.proofs.phase.clean.Goals as goal
 
@@ -30,7 +30,7 @@ pub returns-clause-stands : goal.returns-clause-stands
 returns-clause-stands g c doc k q before h r v =
     let i = c.loop-next.invariant doc k q before h r v in
     let none = subst (IsNextAfter (λ n. is_dirty q n i.0) i.1) c.in_default.is i.3 in
-    subst (λ now. Running q k before now c.loop-next.cluster c.loop-next.store c.loop-next.told)
+    subst (λ now. MidTick q k before now c.loop-next.cluster c.loop-next.store c.loop-next.told)
     (end_walk doc k q before h i.0 i.1 c.loop-next.cluster c.loop-next.store c.args.view.now c.loop-next.told i.2 none) i.2.running
 
 pub returns-clause-counted : goal.returns-clause-counted

@@ -5,13 +5,13 @@ use Rattle.kube_objects.specs.Entry.{Entry, Identity}
 use Rattle.tick_laws.specs.Judged.{is_dirty}
 use Rattle.tick_laws.specs.Steps.{tick_cost}
 use Rattle.term_state.specs.Queues.{IsNextAfter}
-use Rattle.term_state.specs.Running.{IsView, Running}
+use Rattle.term_state.specs.MidTick.{IsView, MidTick}
 use Rattle.term_clean.proofs.CleanWalk.{Walking}
 use Rattle.term_clean.proofs.phase.clean.Given as goal
 
 abbrev pub invariant-loop-next : goal.invariant-loop-next
 invariant-loop-next g l =
-    (doc : Doc) (k : ℕ) (q : Identity) (before : List Deed) (h : List Entry) → Running q k before h l.fn.cluster l.fn.store l.fn.told → IsView doc k q h l.view
+    (doc : Doc) (k : ℕ) (q : Identity) (before : List Deed) (h : List Entry) → MidTick q k before h l.fn.cluster l.fn.store l.fn.told → IsView doc k q h l.view
     → (now : List Entry) × (c : Option ℕ) × Walking doc k q before h now c l.cluster l.store l.view l.told × IsNextAfter (λ n. is_dirty q n now) c l.next
     × (l.steps + tick_cost q k h ≤ l.fn.steps + tick_cost q k now)
 

@@ -8,7 +8,7 @@ use Rattle.kube_objects.specs.Seen.{seen_node}
 use Rattle.kube_objects.specs.Tick.{add, mark}
 use Rattle.kube_objects.specs.Tries.{try_node}
 use Rattle.term_state.specs.ClusterStands.{no_node, no_pod}
-use Rattle.term_state.specs.Running.{Running}
+use Rattle.term_state.specs.MidTick.{MidTick}
 use Rattle.term_pass.specs.Passing.{HaveCost, IsPassing}
 use Rattle.term_pass.proofs.Looking.{keep_none, look_is, mark_is, marks_by, unseen}
 use Rattle.term_pass.proofs.Marks.{mark_probe}
@@ -65,7 +65,7 @@ returns-in_ok-try_write-in-MarkUnknown-clause-stands g c doc k q before h now lo
     c.whole_second.result.0 c.args.view.now.wall.0 p sees says view.time c.whole_second.ensures c.in_ok-written-in-MarkUnknown.ensures in
     let tick = Mark name given c.in_ok-written-in-MarkUnknown.written (try_node q name given now) in
     record {
-      running = subst (λ g. Running q k before g c.try_write.new.cluster c.try_write.new.store c.try_write.new.told) x.adds
+      running = subst (λ g. MidTick q k before g c.try_write.new.cluster c.try_write.new.store c.try_write.new.told) x.adds
           (c.in_ok-try_write-in-MarkUnknown.ensures.stands doc k q before now tick p.running view x.is);
       health = c.in_ok-look.ensures.stands doc k q h looked p.health new seen;
       leases = λ n. ap lease_renewal ((mark_keeps doc k q name now).leases n) ∙ p.leases n;

@@ -6,7 +6,7 @@ use Rattle.kube_objects.specs.Newest.{has}
 use Rattle.kube_objects.specs.Seen.{seen_node}
 use Rattle.kube_objects.specs.Tick.{add}
 use Rattle.node_health.specs.Stands.{HealthStands, IsGraceOf}
-use Rattle.term_state.specs.Running.{IsView, Running}
+use Rattle.term_state.specs.MidTick.{IsView, MidTick}
 use Rattle.term_pass.proofs.Looking.{Looking}
 use Rattle.term_pass.proofs.looks.look_all.Given as goal
 use Rattle.watch_cache.specs.Told.{AreNamed}
@@ -16,7 +16,7 @@ decreases-loop-name g l = length l.rest
 
 abbrev pub invariant-loop-name : goal.invariant-loop-name
 invariant-loop-name g l = record {
-  looking : (doc : Doc) (k : ℕ) (q : Identity) (before : List Deed) (h : List Entry) → Running q k before (add k q Pass h) l.fn.cluster l.fn.store l.fn.told → HealthStands doc q h l.fn.health
+  looking : (doc : Doc) (k : ℕ) (q : Identity) (before : List Deed) (h : List Entry) → MidTick q k before (add k q Pass h) l.fn.cluster l.fn.store l.fn.told → HealthStands doc q h l.fn.health
       → IsView doc k q h l.fn.view → IsGraceOf doc l.fn.grace → AreNamed (λ n. has (seen_node q n h)) l.fn.names
       → Looking doc k q before h l.fn.names l.rest l.fn.view l.cluster l.health l.store l.told l.fn.steps l.steps;
 }

@@ -12,7 +12,7 @@ use Rattle.term_pass.specs.Passing.{HaveCost, LastStands}
 use Rattle.term_pass.proofs.Marks.{view_more}
 use Rattle.term_pass.proofs.Passed.{are_passed, found_named, marks_many, marks_named, marks_say, marks_view, moded, moded_nodes, ok_always, pass_is, pass_last, rest_cost, run_pass, zones_leave}
 use Rattle.term_state.specs.ClusterStands.{no_node, no_pod}
-use Rattle.term_state.specs.Running.{Running}
+use Rattle.term_state.specs.MidTick.{MidTick}
 use Rattle.tick_laws.proofs.Steps.{cost_grows}
 use Rattle.zone_counts.specs.Counted.{zone_counts}
 use Rattle.term_pass.proofs.passing.pass.Goals as goal
@@ -35,7 +35,7 @@ returns-clause-running g c doc k q before h r health limits last view s few =
     let both = c.in_ok-set_mode.ensures doc k q before m c.look_all.new.store looked.running heard (marks_view doc k q p c.args.view.now (view_more doc k q h Pass c.args.view.now view)) (c.deref.ensures.value ∙ counted) s.percent in
     let left = zones_leave doc k q (moded doc k q h) c.set_mode.new.cluster c.look_all.new.store c.set_mode.new.health (record { cluster = both.0.cluster; moved = both.0.moved; store = both.0.store; synced = both.0.synced; health = both.1 }) in
     on_ok_weaker c.set_zones.result
-    (λ done. subst (λ f. Running q k before f c.set_mode.new.cluster c.look_all.new.store c.set_zones.new.told × HealthStands doc q f c.set_mode.new.health × LimitsStand doc q f c.set_zones.new.zones × LastStands doc q f (Some c.args.view.now.now))
+    (λ done. subst (λ f. MidTick q k before f c.set_mode.new.cluster c.look_all.new.store c.set_zones.new.told × HealthStands doc q f c.set_mode.new.health × LimitsStand doc q f c.set_zones.new.zones × LastStands doc q f (Some c.args.view.now.now))
     (sym (pass_is doc k q h due)) (
       record { cluster = left.cluster; moved = left.moved; store = left.store; told = done.0; synced = left.synced },
       left.health,

@@ -17,7 +17,7 @@ use Rattle.tick_laws.specs.ToJudge.{is_to_judge}
 use Rattle.tick_laws.proofs.Steps.{cost_sync, costs_grow}
 use Rattle.tick_laws.proofs.Syncing.{sync_synced}
 use Rattle.term_state.specs.ClusterStands.{ClusterStands}
-use Rattle.term_state.specs.Running.{IsMoved}
+use Rattle.term_state.specs.MidTick.{IsMoved}
 use Rattle.term_sync.specs.Left.{LeftBut}
 use Rattle.term_sync.proofs.Synced.{changed_since, store_synced, sync_moved}
 use Rattle.term_sync.proofs.phase.sync.Goals as goal

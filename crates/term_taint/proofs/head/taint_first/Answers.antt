@@ -8,7 +8,7 @@ use Rattle.taint_zones.specs.Places.{entry_place, of_place}
 use Rattle.taint_zones.specs.Waiting.{since}
 use Rattle.tick_laws.specs.Steps.{tick_cost}
 use Rattle.tick_laws.proofs.Tainting.{heading_fresh}
-use Rattle.term_state.specs.Running.{Running}
+use Rattle.term_state.specs.MidTick.{MidTick}
 use Rattle.term_state.proofs.Writing.{both_ok}
 use Rattle.term_taint.specs.Attempts.{headed, requeued}
 use Rattle.term_taint.specs.Heading.{Heading}
@@ -55,7 +55,7 @@ returns-clause-stands g c doc q k before h s v =
     })
     (subst
     (λ l. OnOk c.attempt.result
-    (Running q k before (headed k q (entry_place p) name l h) c.attempt.new.cluster c.attempt.new.store c.attempt.new.told
+    (MidTick q k before (headed k q (entry_place p) name l h) c.attempt.new.cluster c.attempt.new.store c.attempt.new.told
     × ((zone : Place) (other : ℕ) → since c.attempt.new.queues zone other ≡ cond (name == other) (requeued (try_node q name l.given h) p zone k (since c.try_take.new.self.queues zone name)) (since c.try_take.new.self.queues zone other))))
     t.is (both_ok c.attempt.result _ _ (c.attempt.ensures.stands doc k q before h s.running v) (c.attempt.ensures.queues doc k q before h s.running v))))
 

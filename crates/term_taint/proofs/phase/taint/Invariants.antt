@@ -5,7 +5,7 @@ use Rattle.kube_objects.specs.Entry.{Entry, Identity}
 use Rattle.taint_zones.specs.declared.place.Place.{Place}
 use Rattle.taint_zones.specs.Waiting.{IsNextZone}
 use Rattle.tick_laws.specs.Steps.{tick_cost}
-use Rattle.term_state.specs.Running.{IsView}
+use Rattle.term_state.specs.MidTick.{IsView}
 use Rattle.term_taint.specs.Heading.{Heading}
 use Rattle.term_taint.proofs.ZoneWalk.{Walking, zones_left}
 use Rattle.term_taint.proofs.phase.taint.Given as goal

@@ -4,7 +4,7 @@ use Rattle.kube_objects.specs.Seen.{is_synced}
 use Rattle.kube_objects.specs.Tainting.{before_tick}
 use Rattle.term_state.specs.ClusterStands.{ClusterStands, has_moved}
 use Rattle.term_state.specs.Queues.{IsNextAfter}
-use Rattle.term_state.specs.Running.{IsMoved}
+use Rattle.term_state.specs.MidTick.{IsMoved}
 use Rattle.tick_laws.specs.Rows.{no_heads}
 use Rattle.term_taint.specs.QueuesStand.{QueuesStand}
 use Rattle.term_taint.proofs.Settles.{AreSettled}

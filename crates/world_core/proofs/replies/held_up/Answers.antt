@@ -3,22 +3,22 @@ use Rattle.std.proofs.lemmas.Option.{slice_get_read}
 use Rattle.kube_base.specs.declared.numbers.Beat.{Beat}
 use Rattle.kube_objects.specs.Document.{Doc}
 use Rattle.kube_objects.specs.Pauses.{held_up, resume}
-use Rattle.wire_calls.specs.declared.message.Sent.{Sent}
-use Rattle.wire_calls.specs.declared.message.Sent.TheVariants as sent
+use Rattle.wire_calls.specs.declared.message.Fate.{Fate}
+use Rattle.wire_calls.specs.declared.message.Fate.TheVariants as fate
 use Rattle.wire_calls.specs.Messages.{sent_as_told}
 use Rattle.world_core.proofs.replies.held_up.Goals as goal
 
 -- what is lost stays lost
-lost : (doc : Doc) (p : ℕ) (travels : Sent) (comes : Option ℕ) → ((beat : Beat) → ¬ (travels ≡ sent.InFlight beat)) → travels ≡ sent_as_told comes → travels ≡ sent_as_told (held_up doc p comes)
+lost : (doc : Doc) (p : ℕ) (travels : Fate) (comes : Option ℕ) → ((beat : Beat) → ¬ (travels ≡ fate.InFlight beat)) → travels ≡ sent_as_told comes → travels ≡ sent_as_told (held_up doc p comes)
 lost doc p travels None never is = is
 lost doc p travels (Some at) never is = absurd (never _ is)
 
 -- what comes, comes where the pause is over
-comes-then : (doc : Doc) (p : ℕ) (beat then : Beat) (comes : Option ℕ) → sent.InFlight beat ≡ sent_as_told comes → then.0 ≡ resume doc p beat.0 → sent.InFlight then ≡ sent_as_told (held_up doc p comes)
+comes-then : (doc : Doc) (p : ℕ) (beat then : Beat) (comes : Option ℕ) → fate.InFlight beat ≡ sent_as_told comes → then.0 ≡ resume doc p beat.0 → fate.InFlight then ≡ sent_as_told (held_up doc p comes)
 comes-then doc p beat then None is late = cc
 comes-then doc p beat then (Some at) is late =
     let same : beat.0 ≡ at = cc in
-    ap (λ n. sent.InFlight (record { 0 = n })) (late ∙ ap (resume doc p) same)
+    ap (λ n. fate.InFlight (record { 0 = n })) (late ∙ ap (resume doc p) same)
 
 pub returns : goal.returns
 returns c doc h comes each within travels =

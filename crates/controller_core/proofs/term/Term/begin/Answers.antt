@@ -12,7 +12,7 @@ use Rattle.object_store.specs.declared.store.Store.{Store}
 use Rattle.term_evict.proofs.Walking.{view_kept}
 use Rattle.term_state.specs.declared.told.Told.{Told}
 use Rattle.term_state.specs.ClusterStands.{ClusterStands}
-use Rattle.term_state.specs.Running.{IsMoved}
+use Rattle.term_state.specs.MidTick.{IsMoved}
 use Rattle.tick_laws.specs.Judged.{waits_since}
 use Rattle.tick_laws.specs.Since.{AreReached}
 use Rattle.tick_laws.specs.Steps.{tick_cost}

@@ -5,7 +5,7 @@ use Rattle.kube_objects.specs.Entry.{actor_of}
 use Rattle.kube_objects.specs.Tick.{tick}
 use Rattle.leader_elector.specs.Stands.{Names}
 use Rattle.term_state.specs.ClusterStands.{no_node, no_pod}
-use Rattle.term_state.specs.Running.{IsTold}
+use Rattle.term_state.specs.MidTick.{IsTold}
 use Rattle.controller_core.proofs.term.Term.tick.Goals as goal
 
 pub returns-clause-stands : goal.returns-clause-stands

@@ -37,7 +37,7 @@ pub record IsTold (q : Identity) (k : ℕ) (before : List Deed) (h : List Entry)
   pub told : before ++ t.deeds ≡ printed h
 
 -- within a tick, after its sync
-pub record Running (q : Identity) (k : ℕ) (before : List Deed) (h : List Entry) (c : Cluster) (s : Store) (t : Told) : Type 0 where
+pub record MidTick (q : Identity) (k : ℕ) (before : List Deed) (h : List Entry) (c : Cluster) (s : Store) (t : Told) : Type 0 where
   pub cluster : ClusterStands q h c
   pub moved : IsMoved q k h c
   pub store : StoreStands h s
