@@ -1,4 +1,3 @@
-pub mod Due
 pub mod Evictions
 pub mod History
 pub mod Premise

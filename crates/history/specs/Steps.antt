@@ -12,6 +12,7 @@ use Rattle.kube_objects.specs.Document.{Doc, processes, is_controller, is_up_fir
 use Rattle.kube_objects.specs.Elector.{follow_on, leads, deadline, release, acts}
 use Rattle.kube_objects.specs.Entry.{Entry, Identity, Call, Release, Event as Happens, Starts, Crashes, Stops, Stalls, Answers, Delivers, entry, script_entry}
 use Rattle.kube_objects.specs.Identities.{identity}
+use Rattle.kube_objects.specs.InFlight.{requests_due, replies_due}
 use Rattle.kube_objects.specs.Kubelet.{next_request, send_next, round}
 use Rattle.kube_objects.specs.Newest.{when, only_if, has}
 use Rattle.kube_objects.specs.Pauses.{is_paused}
@@ -20,7 +21,7 @@ use Rattle.kube_objects.specs.Stamps.{stamped}
 use Rattle.kube_objects.specs.Stored.{stored, next_version}
 use Rattle.kube_objects.specs.Tick.{tick}
 use Rattle.kube_objects.specs.Turns.{react, end_term, expired, try, with_reply}
-use Rattle.kube_objects.specs.Wire.{reply_arrival, send, Sent, Back, sent_of, back_of}
+use Rattle.kube_objects.specs.Wire.{reply_arrival, send, Sent, Back}
 
 -- ---- step 1: starts at beat 0, and the script's events
 
@@ -94,24 +95,16 @@ step_one doc k h = happen_all doc k doc.events (first_starts doc k h)
 
 -- ---- step 2: requests that arrive are answered, in the order of their sending
 
--- for each entry of a history, the oldest first
-abbrev pub each : (Entry → List Entry → List Entry) → List Entry → List Entry → List Entry
-each f [] h = h
-each f (e ∷ l) h = f e (each f l h)
-
-abbrev pub comes_at : ℕ → Option ℕ → Bool
-comes_at k None = false
-comes_at k (Some at) = at == k
-
 abbrev pub answered : Doc → ℕ → Sent → List Entry → List Entry
 answered doc k s h = entry k 2 s.who (Answers s.call (answer s.call.request h) (reply_arrival doc s.who.process k h) (written s.call.request h)) ∷ h
 
-abbrev pub answer_due : Doc → ℕ → Option Sent → List Entry → List Entry
-answer_due doc k None h = h
-answer_due doc k (Some s) h = if comes_at k s.arrives then answered doc k s h else h
+-- one after the other
+abbrev pub answer_all : Doc → ℕ → List Sent → List Entry → List Entry
+answer_all doc k [] h = h
+answer_all doc k (s ∷ ss) h = answer_all doc k ss (answered doc k s h)
 
 abbrev pub step_two : Doc → ℕ → List Entry → List Entry
-step_two doc k h = each (λ e. answer_due doc k (sent_of e.actor e.fact)) h h
+step_two doc k h = answer_all doc k (requests_due k h) h
 
 -- ---- step 3: replies that arrive are delivered, in the order of their answering; none arrives in a pause
 
@@ -132,12 +125,12 @@ deliver_as doc k q call reply (Some waiting) h = react_as doc k q waiting reply 
 abbrev pub delivered : Doc → ℕ → Back → List Entry → List Entry
 delivered doc k b h = deliver_as doc k b.who b.call b.reply (counted doc b.who k b.call.number h) h
 
-abbrev pub deliver_due : Doc → ℕ → Option Back → List Entry → List Entry
-deliver_due doc k None h = h
-deliver_due doc k (Some b) h = if comes_at k b.comes then delivered doc k b h else h
+abbrev pub deliver_all : Doc → ℕ → List Back → List Entry → List Entry
+deliver_all doc k [] h = h
+deliver_all doc k (b ∷ bs) h = deliver_all doc k bs (delivered doc k b h)
 
 abbrev pub step_three : Doc → ℕ → List Entry → List Entry
-step_three doc k h = each (λ e. deliver_due doc k (back_of e.actor e.fact)) h h
+step_three doc k h = deliver_all doc k (replies_due k h) h
 
 -- ---- step 4: each process has its turn, in order
 

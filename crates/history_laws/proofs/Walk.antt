@@ -1,5 +1,7 @@
 -- One walk through the steps of every beat: what each kind of entry keeps holds of every history.
 use Rattle.std.proofs.Common.{◌≡◌, ◌⊎◌, ℕ, zero, suc, ◌+◌, ◌==◌, ◌&&◌, not, nat_lt, Bool, true, false, List, [], ◌∷◌, Option, Some, None, IfSome, refl, sym, subst, inl, inr}
+use Rattle.kube_objects.specs.InFlight.{is_due}
+use Rattle.history.proofs.Due.{step_two-walks, step_three-walks, each, answer_due, deliver_due}
 use Rattle.std.specs.Prelude.{if◌then◌else◌}
 use Rattle.kube_base.specs.declared.numbers.ProcId.{ProcId}
 use Rattle.kube_base.specs.declared.numbers.Version.{Version}
@@ -23,7 +25,7 @@ use Rattle.kube_objects.specs.Tick.{tick}
 use Rattle.kube_objects.specs.Turns.{react, expire_call, end_term, just_expired, is_fast_call, attempt_if, try}
 use Rattle.kube_objects.specs.Wire.{send, Sent, Back, sent_of, back_of}
 use Rattle.history.specs.History.{three_steps, history, at_turn}
-use Rattle.history.specs.Steps.{start, start_first, starts_below, first_starts, start_if_down, crash, stall, released, stop, effect, stamp, event_version, happen_all, step_one, each, comes_at, answered, answer_due, step_two, react_as, deliver_as, deliver_due, step_three, if_up, restart_if, restart, expire, finish, attempts, ticks, controller_turn, kubelet_turn, turn, turns, elector_turn, happens, delivered, unpaused_turn}
+use Rattle.history.specs.Steps.{start, start_first, starts_below, first_starts, start_if_down, crash, stall, released, stop, effect, stamp, event_version, happen_all, step_one, answered, step_two, react_as, deliver_as, step_three, if_up, restart_if, restart, expire, finish, attempts, ticks, controller_turn, kubelet_turn, turn, turns, elector_turn, happens, delivered, unpaused_turn}
 use Rattle.history_laws.specs.Tails.{In}
 use Rattle.history_laws.proofs.Counting.{counted_is, only_test, only_value}
 use Rattle.history_laws.proofs.Expired.{expired_none}
@@ -43,14 +45,14 @@ pub record Arriving (k : ℕ) (h : List Entry) (s : Sent) : Type 0 where
   pub e : Entry
   pub stands : In e h
   pub is : sent_of e.actor e.fact ≡ Some s
-  pub now : comes_at k s.arrives ≡ true
+  pub now : is_due k s.arrives ≡ true
 
 -- a reply of the history comes at this beat
 pub record Coming (k : ℕ) (h : List Entry) (b : Back) : Type 0 where
   pub e : Entry
   pub stands : In e h
   pub is : back_of e.actor e.fact ≡ Some b
-  pub now : comes_at k b.comes ≡ true
+  pub now : is_due k b.comes ≡ true
 
 -- the entries of a stop at beat k, on the history before it
 abbrev pub stopped_at : ℕ → ProcId → ℕ → List Entry → List Entry
@@ -421,16 +423,17 @@ module _ (doc : Doc) (P : ℕ → ℕ → List Entry → Type 0) (keeps : Keeps 
   more_over : (g : List Entry) (k step : ℕ) (x : Entry) (h : List Entry) → Over g k step h → P k step (x ∷ h) → Over g k step (x ∷ h)
   more_over g k step x h s new = (new, λ e at. inr (s.1 e at))
 
-  walk_answer_if : (k : ℕ) (g : List Entry) (e : Entry) (x : Sent) (b : Bool) → In e g → sent_of e.actor e.fact ≡ Some x → comes_at k x.arrives ≡ b → (h : List Entry) → Over g k 2 h → Over g k 2 (if b then answered doc k x h else h)
+  walk_answer_if : (k : ℕ) (g : List Entry) (e : Entry) (x : Sent) (b : Bool) → In e g → sent_of e.actor e.fact ≡ Some x → is_due k x.arrives ≡ b → (h : List Entry) → Over g k 2 h → Over g k 2 (if b then answered doc k x h else h)
   walk_answer_if k g e x false stands is now h s = s
   walk_answer_if k g e x true stands is now h s = more_over g k 2 _ h s (keeps.answers k x h (record { e = e; stands = s.1 e stands; is = is; now = now }) s.0)
 
   walk_answer : (k : ℕ) (g : List Entry) (e : Entry) (o : Option Sent) → In e g → sent_of e.actor e.fact ≡ o → (h : List Entry) → Over g k 2 h → Over g k 2 (answer_due doc k o h)
   walk_answer k g e None stands is h s = s
-  walk_answer k g e (Some x) stands is h s = walk_answer_if k g e x (comes_at k x.arrives) stands is refl h s
+  walk_answer k g e (Some x) stands is h s = walk_answer_if k g e x (is_due k x.arrives) stands is refl h s
 
   pub walk_two : (k : ℕ) (h : List Entry) → P k 2 h → P k 2 (step_two doc k h)
-  walk_two k h s = (walk_each k 2 (λ e. answer_due doc k (sent_of e.actor e.fact)) h (λ e stands g t. walk_answer k h e (sent_of e.actor e.fact) stands refl g t) h (λ e at. at) h (s, λ e at. at)).0
+  walk_two k h s = subst (P k 2) (sym (step_two-walks doc k h))
+      (walk_each k 2 (λ e. answer_due doc k (sent_of e.actor e.fact)) h (λ e stands g t. walk_answer k h e (sent_of e.actor e.fact) stands refl g t) h (λ e at. at) h (s, λ e at. at)).0
 
   walk_lead : (k : ℕ) (g : List Entry) (b : Back) (waiting : Call) (h : List Entry) (led : Bool) (version : Version)
       → Over g k 3 (after_reply k b waiting h) → (P k 3 (after_reply k b waiting h) → P k 3 (entry k 3 b.who (Leads version) ∷ after_reply k b waiting h))
@@ -460,16 +463,17 @@ module _ (doc : Doc) (P : ℕ → ℕ → List Entry → Type 0) (keeps : Keeps 
   walk_deliver_as k g b h coming (Some waiting) is s =
       walk_react_as k g b waiting h coming is (is_controller doc b.who.process) refl s.0 (more_over g k 3 _ h s (keeps.counts k b waiting h coming is s.0))
 
-  walk_deliver_if : (k : ℕ) (g : List Entry) (e : Entry) (x : Back) (b : Bool) → In e g → back_of e.actor e.fact ≡ Some x → comes_at k x.comes ≡ b → (h : List Entry) → Over g k 3 h → Over g k 3 (if b then delivered doc k x h else h)
+  walk_deliver_if : (k : ℕ) (g : List Entry) (e : Entry) (x : Back) (b : Bool) → In e g → back_of e.actor e.fact ≡ Some x → is_due k x.comes ≡ b → (h : List Entry) → Over g k 3 h → Over g k 3 (if b then delivered doc k x h else h)
   walk_deliver_if k g e x false stands is now h s = s
   walk_deliver_if k g e x true stands is now h s = walk_deliver_as k g x h (record { e = e; stands = s.1 e stands; is = is; now = now }) (counted doc x.who k x.call.number h) refl s
 
   walk_deliver : (k : ℕ) (g : List Entry) (e : Entry) (o : Option Back) → In e g → back_of e.actor e.fact ≡ o → (h : List Entry) → Over g k 3 h → Over g k 3 (deliver_due doc k o h)
   walk_deliver k g e None stands is h s = s
-  walk_deliver k g e (Some x) stands is h s = walk_deliver_if k g e x (comes_at k x.comes) stands is refl h s
+  walk_deliver k g e (Some x) stands is h s = walk_deliver_if k g e x (is_due k x.comes) stands is refl h s
 
   pub walk_three : (k : ℕ) (h : List Entry) → P k 3 h → P k 3 (step_three doc k h)
-  walk_three k h s = (walk_each k 3 (λ e. deliver_due doc k (back_of e.actor e.fact)) h (λ e stands g t. walk_deliver k h e (back_of e.actor e.fact) stands refl g t) h (λ e at. at) h (s, λ e at. at)).0
+  walk_three k h s = subst (P k 3) (sym (step_three-walks doc k h))
+      (walk_each k 3 (λ e. deliver_due doc k (back_of e.actor e.fact)) h (λ e stands g t. walk_deliver k h e (back_of e.actor e.fact) stands refl g t) h (λ e at. at) h (s, λ e at. at)).0
 
   pub walk_steps : (k : ℕ) (h : List Entry) → P k 1 h → P k 4 (three_steps doc k h)
   walk_steps k h s =

@@ -1,5 +1,7 @@
 -- Every process that starts is one of the document's.
-use Rattle.std.proofs.Common.{ℕ, zero, suc, ◌<◌, ◌≤◌, ◌==◌, ◌&&◌, not, nat_lt, Bool, true, false, List, [], ◌∷◌, Option, Some, None, arith}
+use Rattle.std.proofs.Common.{ℕ, zero, suc, ◌<◌, ◌≤◌, ◌==◌, ◌&&◌, not, nat_lt, Bool, true, false, List, [], ◌∷◌, Option, Some, None, sym, subst, arith}
+use Rattle.kube_objects.specs.InFlight.{is_due}
+use Rattle.history.proofs.Due.{step_two-walks, step_three-walks, each, answer_due, deliver_due}
 use Rattle.std.specs.Prelude.{if◌then◌else◌}
 use Rattle.kube_objects.specs.Tick.{tick}
 use Rattle.kube_objects.specs.declared.call.Reply.{Reply}
@@ -24,7 +26,7 @@ use Rattle.kube_objects.specs.Turns.{react, expire_call, end_term, just_expired,
 use Rattle.kube_objects.specs.Wire.{Sent, Back, sent_of, back_of}
 use Rattle.kube_objects.specs.Writable.{IsOneOf}
 use Rattle.history.specs.History.{put_all, three_steps, history}
-use Rattle.history.specs.Steps.{start_first, starts_below, first_starts, start_if_down, crash, stall, released, stop, effect, stamp, event_version, happen_all, step_one, each, comes_at, answer_due, step_two, react_as, deliver_as, deliver_due, if_up, restart_if, restart, expire, finish, attempts, turns, happens, answered, delivered, start, controller_turn, kubelet_turn, unpaused_turn}
+use Rattle.history.specs.Steps.{start_first, starts_below, first_starts, start_if_down, crash, stall, released, stop, effect, stamp, event_version, happen_all, step_one, step_two, react_as, deliver_as, if_up, restart_if, restart, expire, finish, attempts, turns, happens, answered, delivered, start, controller_turn, kubelet_turn, unpaused_turn}
 use Rattle.history_laws.proofs.Ticks.{walk_tick}
 use Rattle.script_reader.specs.Lawful.{IsLawfulWhat, AreLawfulFrom, IsLawfulDoc}
 
@@ -103,7 +105,7 @@ module _ (doc : Doc) (lawful : IsLawfulDoc doc) where
 
   good_answer : (k : ℕ) (o : Option Sent) (h : List Entry) → Good h → Good (answer_due doc k o h)
   good_answer k None h s = s
-  good_answer k (Some x) h s = by (comes_at k x.arrives)
+  good_answer k (Some x) h s = by (is_due k x.arrives)
     where
       by : (b : Bool) → Good (if b then answered doc k x h else h)
       by true = (tt, s)
@@ -129,7 +131,7 @@ module _ (doc : Doc) (lawful : IsLawfulDoc doc) where
 
   good_deliver : (k : ℕ) (o : Option Back) (h : List Entry) → Good h → Good (deliver_due doc k o h)
   good_deliver k None h s = s
-  good_deliver k (Some b) h s = by (comes_at k b.comes)
+  good_deliver k (Some b) h s = by (is_due k b.comes)
     where
       by : (t : Bool) → Good (if t then delivered doc k b h else h)
       by true = good_deliver_as k b.who b.call b.reply (counted doc b.who k b.call.number h) h s
@@ -219,8 +221,8 @@ module _ (doc : Doc) (lawful : IsLawfulDoc doc) where
       let h1 = step_one doc k h in
       let h2 = step_two doc k h1 in
       let s1 : Good h1 = good_all k 0 doc.events lawful.events (first_starts doc k h) (good_starts k h s) in
-      let s2 : Good h2 = good_each (λ e. answer_due doc k (sent_of e.actor e.fact)) (λ e g s. good_answer k (sent_of e.actor e.fact) g s) h1 h1 s1 in
-      good_each (λ e. deliver_due doc k (back_of e.actor e.fact)) (λ e g s. good_deliver k (back_of e.actor e.fact) g s) h2 h2 s2
+      let s2 : Good h2 = subst Good (sym (step_two-walks doc k h1)) (good_each (λ e. answer_due doc k (sent_of e.actor e.fact)) (λ e g s. good_answer k (sent_of e.actor e.fact) g s) h1 h1 s1) in
+      subst Good (sym (step_three-walks doc k h2)) (good_each (λ e. deliver_due doc k (back_of e.actor e.fact)) (λ e g s. good_deliver k (back_of e.actor e.fact) g s) h2 h2 s2)
 
   pub starts_are_of_one : (k : ℕ) → Good (history doc k)
   starts_are_of_one zero = good_put doc.objects [] tt

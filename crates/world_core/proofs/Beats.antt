@@ -8,10 +8,8 @@ use Rattle.kube_objects.specs.InFlight.{requests_due, replies_due, is_due}
 use Rattle.kube_objects.specs.Pauses.{held_up, resume}
 use Rattle.kube_objects.proofs.Pauses.{resume_later}
 use Rattle.kube_objects.specs.Wire.{Sent, reply_delay, loses_replies, arrival, reply_arrival}
-use Rattle.history.specs.Due.{answer_all, deliver_all}
 use Rattle.history.specs.History.{beat, three_steps}
-use Rattle.history.specs.Steps.{start_first, starts_below, first_starts, step_one, answered, step_three, turns}
-use Rattle.history.proofs.Due.{step_two-due, step_three-due}
+use Rattle.history.specs.Steps.{start_first, starts_below, first_starts, step_one, answered, step_three, turns, answer_all, deliver_all}
 use Rattle.beat_laws.specs.Unticked.{IsUnticked}
 use Rattle.beat_laws.proofs.Unticked.{beat_unticked, steps_unticked}
 use Rattle.wire_calls.proofs.Frames.{wire-next-beat}
@@ -90,11 +88,11 @@ three doc k h = deliver_all doc k (replies_due k (two doc k h)) (two doc k h)
 
 pub beat-is : (doc : Doc) (k : ℕ) (h : List Entry) → beat doc h k ≡ turns doc k (processes doc) (three doc k h)
 beat-is doc k h =
-    ap (λ g. turns doc k (processes doc) (step_three doc k g)) (step_two-due doc k (one doc k h))
-    ∙ ap (turns doc k (processes doc)) (step_three-due doc k (two doc k h))
+    ap (λ g. turns doc k (processes doc) (step_three doc k g)) (refl)
+    ∙ ap (turns doc k (processes doc)) (refl)
 
 pub three-is : (doc : Doc) (k : ℕ) (h : List Entry) → three_steps doc k h ≡ three doc k h
-three-is doc k h = ap (step_three doc k) (step_two-due doc k (one doc k h)) ∙ step_three-due doc k (two doc k h)
+three-is doc k h = ap (step_three doc k) (refl) ∙ refl
 
 pub few-three : (doc : Doc) (k : ℕ) (h : List Entry) → IsFew (turns doc k (processes doc) (three doc k h)) → IsFew (three doc k h)
 few-three doc k h few = few-before (three doc k h) (turns doc k (processes doc) (three doc k h)) (grows-turns doc k (processes doc) (three doc k h)) few

@@ -12,9 +12,8 @@ use Rattle.kube_objects.specs.Identities.{identity}
 use Rattle.kube_objects.specs.Pauses.{is_paused}
 use Rattle.kube_objects.specs.Stored.{write_of, request_write}
 use Rattle.kube_objects.specs.Wire.{Sent, Back, reply_arrival}
-use Rattle.history.specs.Due.{answer_all, deliver_all}
 use Rattle.history.specs.Printed.{deeds_of, answer_act}
-use Rattle.history.specs.Steps.{answered, delivered, elector_turn, starts_below, ticks, turn, turns, controller_turn, kubelet_turn, unpaused_turn}
+use Rattle.history.specs.Steps.{answered, delivered, elector_turn, starts_below, ticks, turn, turns, controller_turn, kubelet_turn, unpaused_turn, answer_all, deliver_all}
 use Rattle.object_store.specs.Stands.{StoreStands}
 use Rattle.wire_calls.specs.declared.message.Arrived.{Arrived}
 use Rattle.wire_calls.specs.declared.message.Delivered.{Delivered}

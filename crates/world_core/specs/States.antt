@@ -15,10 +15,9 @@ use Rattle.kube_objects.specs.Entry.{Entry, Identity, Call, Answers, Sends, entr
 use Rattle.kube_objects.specs.InFlight.{requests_due, replies_due}
 use Rattle.kube_objects.specs.Kinds.{IsOfKind}
 use Rattle.kube_objects.specs.Wire.{Sent, Back, reply_arrival, request_arrival}
-use Rattle.history.specs.Due.{answer_all, deliver_all}
 use Rattle.history.specs.History.{beat}
 use Rattle.history.specs.Printed.{printed}
-use Rattle.history.specs.Steps.{happens, happen_all}
+use Rattle.history.specs.Steps.{happens, happen_all, answer_all, deliver_all}
 use Rattle.beat_tree.specs.declared.tree.BeatTree.{BeatTree}
 use Rattle.beat_tree.specs.Leaves.{leaf, room}
 use Rattle.beat_laws.specs.Unticked.{IsUnticked}

@@ -1,5 +1,7 @@
 -- The steps of a beat only add entries.
 use Rattle.std.proofs.Common.{◌≡◌, ℕ, zero, suc, ◌+◌, ◌≤◌, ◌==◌, ◌&&◌, not, Bool, true, false, List, [], ◌∷◌, length, Option, Some, None, sym, subst, arith}
+use Rattle.kube_objects.specs.InFlight.{is_due}
+use Rattle.history.proofs.Due.{step_two-walks, step_three-walks, each, answer_due, deliver_due}
 use Rattle.std.specs.Prelude.{if◌then◌else◌}
 use Rattle.std.specs.Ordering.{nat_cmp}
 use Rattle.std.specs.declared.cmp.Ordering.{Ordering}
@@ -23,7 +25,7 @@ use Rattle.kube_objects.specs.Stored.{write_of}
 use Rattle.kube_objects.specs.Tick.{add, tick}
 use Rattle.kube_objects.specs.Turns.{react, expire_call, end_term, attempt_if, try}
 use Rattle.kube_objects.specs.Wire.{Sent, Back, sent_of, back_of}
-use Rattle.history.specs.Steps.{start_if_down, crash, stall, released, stop, effect, stamp, event_version, happens, happen_all, start_first, starts_below, first_starts, each, answer_due, step_two, react_as, deliver_as, delivered, deliver_due, step_three, if_up, restart_if, restart, expire, finish, attempts, ticks, elector_turn, controller_turn, kubelet_turn, turn, turns, comes_at, answered, start, unpaused_turn}
+use Rattle.history.specs.Steps.{start_if_down, crash, stall, released, stop, effect, stamp, event_version, happens, happen_all, start_first, starts_below, first_starts, step_two, react_as, deliver_as, delivered, step_three, if_up, restart_if, restart, expire, finish, attempts, ticks, elector_turn, controller_turn, kubelet_turn, turn, turns, answered, start, unpaused_turn}
 use Rattle.history_laws.proofs.Ticks.{walk_tick}
 use Rattle.world_process.specs.Plain.{IsFew}
 use Rattle.world_process.proofs.Plainly.{added-more, starts-more}
@@ -145,10 +147,10 @@ grows-answer_if doc k s true h = grows-entry _ h
 
 grows-answer_due : (doc : Doc) (k : ℕ) (s : Option Sent) (h : List Entry) → Grows h (answer_due doc k s h)
 grows-answer_due doc k None h = grows-same h
-grows-answer_due doc k (Some s) h = grows-answer_if doc k s (comes_at k s.arrives) h
+grows-answer_due doc k (Some s) h = grows-answer_if doc k s (is_due k s.arrives) h
 
 pub grows-step_two : (doc : Doc) (k : ℕ) (h : List Entry) → Grows h (step_two doc k h)
-grows-step_two doc k h = grows-each (λ e. answer_due doc k (sent_of e.actor e.fact)) (λ e h. grows-answer_due doc k (sent_of e.actor e.fact) h) h h
+grows-step_two doc k h = subst (Grows h) (sym (step_two-walks doc k h)) (grows-each (λ e. answer_due doc k (sent_of e.actor e.fact)) (λ e h. grows-answer_due doc k (sent_of e.actor e.fact) h) h h)
 
 grows-lead_if : (k : ℕ) (q : Identity) (led : Bool) (version : Version) (h : List Entry) → Grows h (if led then h else entry k 3 q (Leads version) ∷ h)
 grows-lead_if k q true version h = grows-same h
@@ -182,10 +184,10 @@ grows-deliver_if doc k b true h = grows-delivered doc k b h
 
 grows-deliver_due : (doc : Doc) (k : ℕ) (b : Option Back) (h : List Entry) → Grows h (deliver_due doc k b h)
 grows-deliver_due doc k None h = grows-same h
-grows-deliver_due doc k (Some b) h = grows-deliver_if doc k b (comes_at k b.comes) h
+grows-deliver_due doc k (Some b) h = grows-deliver_if doc k b (is_due k b.comes) h
 
 pub grows-step_three : (doc : Doc) (k : ℕ) (h : List Entry) → Grows h (step_three doc k h)
-grows-step_three doc k h = grows-each (λ e. deliver_due doc k (back_of e.actor e.fact)) (λ e h. grows-deliver_due doc k (back_of e.actor e.fact) h) h h
+grows-step_three doc k h = subst (Grows h) (sym (step_three-walks doc k h)) (grows-each (λ e. deliver_due doc k (back_of e.actor e.fact)) (λ e h. grows-deliver_due doc k (back_of e.actor e.fact) h) h h)
 
 -- ---- step 4
 

@@ -1,6 +1,6 @@
 use Rattle.std.proofs.Common.{◌≡◌, [], sym, ◌∙◌, subst}
+use Rattle.history.specs.Steps.{answer_all}
 use Rattle.kube_objects.specs.Document.{processes}
-use Rattle.history.specs.Due.{answer_all}
 use Rattle.world_core.specs.States.{Running}
 use Rattle.world_core.proofs.Lists.{none-from}
 use Rattle.world_core.proofs.state.State.arrivals.Goals as goal

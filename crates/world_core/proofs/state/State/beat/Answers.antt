@@ -2,9 +2,8 @@ use Rattle.std.proofs.Common.{◌≡◌, ◌+◌, ◌++◌, [], sym, ap, ◌∙�
 use Rattle.std.proofs.lemmas.List.{append-nil}
 use Rattle.kube_objects.specs.Document.{processes}
 use Rattle.kube_objects.specs.InFlight.{requests_due, replies_due}
-use Rattle.history.specs.Due.{answer_all, deliver_all}
 use Rattle.history.specs.Printed.{printed}
-use Rattle.history.specs.Steps.{first_starts, turns}
+use Rattle.history.specs.Steps.{first_starts, turns, answer_all, deliver_all}
 use Rattle.world_core.specs.declared.state.State.{State}
 use Rattle.world_process.specs.Plain.{IsFew, SentByKnown, BackToKnown}
 use Rattle.world_core.specs.States.{IsPlaced, StateStands, Running}

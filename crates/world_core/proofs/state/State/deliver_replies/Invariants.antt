@@ -1,9 +1,9 @@
 use Rattle.std.proofs.Common.{ℕ, List}
+use Rattle.history.specs.Steps.{deliver_all}
 use Rattle.kube_objects.specs.declared.deed.Deed.{Deed}
 use Rattle.kube_objects.specs.Document.{Doc, processes}
 use Rattle.kube_objects.specs.Entry.{Entry}
 use Rattle.kube_objects.specs.Wire.{Sent, Back}
-use Rattle.history.specs.Due.{deliver_all}
 use Rattle.wire_calls.specs.WireStands.{replies_at}
 use Rattle.world_process.specs.Plain.{BackToKnown, IsFew}
 use Rattle.world_core.specs.States.{Keeps, Running}
