@@ -87,12 +87,10 @@ abbrev pub three : Doc → ℕ → List Entry → List Entry
 three doc k h = deliver_all doc k (replies_due k (two doc k h)) (two doc k h)
 
 pub beat-is : (doc : Doc) (k : ℕ) (h : List Entry) → beat doc h k ≡ turns doc k (processes doc) (three doc k h)
-beat-is doc k h =
-    ap (λ g. turns doc k (processes doc) (step_three doc k g)) (refl)
-    ∙ ap (turns doc k (processes doc)) (refl)
+beat-is doc k h = refl
 
 pub three-is : (doc : Doc) (k : ℕ) (h : List Entry) → three_steps doc k h ≡ three doc k h
-three-is doc k h = ap (step_three doc k) (refl) ∙ refl
+three-is doc k h = refl
 
 pub few-three : (doc : Doc) (k : ℕ) (h : List Entry) → IsFew (turns doc k (processes doc) (three doc k h)) → IsFew (three doc k h)
 few-three doc k h few = few-before (three doc k h) (turns doc k (processes doc) (three doc k h)) (grows-turns doc k (processes doc) (three doc k h)) few
