@@ -1,4 +1,4 @@
-use Rattle.std.proofs.Common.{◌≡◌, Some, None, sym, subst}
+use Rattle.std.proofs.Common.{Some, None, sym, subst}
 use Rattle.kube_base.specs.declared.numbers.ProcId.{ProcId}
 use Rattle.beat_tree.specs.Leaves.{IsFirst}
 use Rattle.world_core.specs.Waits.{IsFirstTurn, beat_of}

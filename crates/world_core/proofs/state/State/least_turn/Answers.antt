@@ -1,4 +1,4 @@
-use Rattle.std.proofs.Common.{◌≡◌, Some, None, IfNone, IfSome, ℕ, true, false, sym, subst}
+use Rattle.std.proofs.Common.{sym, subst}
 use Rattle.kube_base.specs.declared.numbers.ProcId.{ProcId}
 use Rattle.world_core.specs.Waits.{IsLeastTurn}
 use Rattle.world_core.proofs.Leaves.{least-none, least-some}
