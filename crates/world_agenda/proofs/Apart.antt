@@ -1,5 +1,5 @@
 -- Of each two pauses of a process the later begins after the end of the earlier, as each process of the world knows of the document.
-use Rattle.std.proofs.Common.{◌≡◌, ◌<◌, ◌≤◌, ℕ, List, ⊎_elim, arith}
+use Rattle.std.proofs.Common.{◌<◌, ℕ, List, ⊎_elim, arith}
 use Rattle.std.proofs.lemmas.Option.{slice_get_cases}
 use Rattle.kube_objects.specs.Document.{Doc, processes}
 use Rattle.kube_objects.specs.Entry.{Entry}

@@ -10,7 +10,7 @@ use Rattle.kube_objects.specs.Pauses.{is_paused}
 use Rattle.history.specs.History.{history}
 use Rattle.history.specs.Sound.{AreApart}
 use Rattle.history_laws.proofs.Plainly.{some_is, true_is, not_true, and_left, and_right, and_both}
-use Rattle.agenda_laws.specs.Ahead.{IsAhead, IsSilent, IsNextStart, IsNextEvent, IsNextMessage, IsNextBelow, IsNextBeat, NoTurnsAreFirst, TurnsAreAdded, TheSoonestIsNext}
+use Rattle.agenda_laws.specs.Ahead.{IsAhead, IsSilent, IsNextStart, IsNextEvent, IsNextMessage, IsNextBelow, IsNextBeat, NoTurnsAreFirst, TurnsAreAdded}
 use Rattle.agenda_laws.specs.Standing.{StandsAt}
 use Rattle.agenda_laws.specs.Times.{is_early, sooner}
 use Rattle.agenda_laws.specs.Waking.{AreAsleep, NextBeatsWake, acts_as}

@@ -1,11 +1,11 @@
 -- The processes that are asked only where their turns come first.
-use Rattle.std.proofs.Common.{◌≡◌, ◌⊎◌, ℕ, ◌+◌, ◌<◌, ◌≤◌, ◌==◌, ◌&&◌, Bool, true, false, List, Option, Some, None, refl, sym, ap, ◌∙◌, subst, inl, inr, arith}
+use Rattle.std.proofs.Common.{◌≡◌, ◌⊎◌, ℕ, ◌<◌, ◌≤◌, true, false, List, Option, Some, refl, sym, ap, ◌∙◌, subst, inl, inr, arith}
 use Rattle.std.proofs.lemmas.Bool.{cases_lt}
 use Rattle.kube_base.specs.declared.numbers.ProcId.{ProcId}
 use Rattle.kube_objects.specs.Clocks.{local}
-use Rattle.kube_objects.specs.Document.{Doc, processes, end_beat, is_controller, is_up_first}
+use Rattle.kube_objects.specs.Document.{Doc, processes, end_beat, is_controller}
 use Rattle.kube_objects.specs.Entry.{Entry}
-use Rattle.agenda_laws.specs.Ahead.{IsAhead, IsNextBelow, IsNextTurn}
+use Rattle.agenda_laws.specs.Ahead.{IsAhead, IsNextBelow}
 use Rattle.agenda_laws.specs.Times.{is_early, sooner}
 use Rattle.agenda_laws.specs.Waking.{AreAsleep, IsAsleep, Rests, wakes_as, wakes_of}
 use Rattle.agenda_laws.proofs.Between.{sooner_both}

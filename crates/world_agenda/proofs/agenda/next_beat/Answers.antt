@@ -1,4 +1,4 @@
-use Rattle.std.proofs.Common.{◌≡◌, ◌<◌, ◌≤◌, true, false, sym, ◌∙◌, subst, arith}
+use Rattle.std.proofs.Common.{◌≡◌, ◌≤◌, true, false, sym, ◌∙◌, subst, arith}
 use Rattle.kube_objects.specs.Document.{processes, end_beat}
 use Rattle.history.specs.History.{history}
 use Rattle.agenda_laws.specs.Ahead.{IsNextBelow}

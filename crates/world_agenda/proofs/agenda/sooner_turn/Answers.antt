@@ -1,4 +1,4 @@
-use Rattle.std.proofs.Common.{◌≡◌, ◌<◌, ◌≤◌, ℕ, Some, sym, ◌∙◌, subst, arith}
+use Rattle.std.proofs.Common.{◌≡◌, ◌<◌, ◌≤◌, Some, sym, ◌∙◌, subst, arith}
 use Rattle.kube_objects.specs.Document.{end_beat}
 use Rattle.kube_objects.specs.Pauses.{resume}
 use Rattle.history_laws.proofs.Plainly.{not_true}

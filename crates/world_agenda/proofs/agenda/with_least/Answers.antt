@@ -1,4 +1,3 @@
-use Rattle.std.proofs.Common.{◌<◌, ◌≤◌}
 use Rattle.world_core.specs.Waits.{beat_of}
 use Rattle.world_agenda.proofs.Apart.{inside}
 use Rattle.world_agenda.proofs.Others.{beside}

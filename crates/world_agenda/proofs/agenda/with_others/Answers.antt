@@ -1,6 +1,5 @@
-use Rattle.std.proofs.Common.{◌+◌, ◌<◌, ◌≤◌, Some, None, arith}
+use Rattle.std.proofs.Common.{Some, None, arith}
 use Rattle.kube_objects.specs.Document.{processes}
-use Rattle.agenda_laws.specs.Ahead.{IsNextBelow}
 use Rattle.world_core.specs.Waits.{beat_of}
 use Rattle.world_agenda.proofs.Apart.{inside}
 use Rattle.world_agenda.proofs.Others.{only-later, passed-over}

@@ -1,4 +1,4 @@
-use Rattle.std.proofs.Common.{◌≡◌, ◌≤◌, ◌-◌, ℕ, List}
+use Rattle.std.proofs.Common.{◌≡◌, ◌≤◌, ◌-◌, List}
 use Rattle.kube_objects.specs.Document.{Doc, end_beat}
 use Rattle.kube_objects.specs.Entry.{Entry}
 use Rattle.agenda_laws.specs.Ahead.{IsNextBelow}

@@ -1,4 +1,3 @@
-use Rattle.std.proofs.Common.{◌<◌, ◌≤◌}
 use Rattle.world_agenda.proofs.Apart.{inside, world_apart}
 use Rattle.world_agenda.proofs.Looking.{with-turn}
 use Rattle.world_agenda.proofs.agenda.with_turn.Goals as goal
