@@ -1,11 +1,11 @@
 -- Of each two pauses of a process the later begins after the end of the earlier, as each process of the world knows of the document.
-use Rattle.std.proofs.Common.{◌≡◌, ◌<◌, ◌≤◌, ℕ, List, ⊎_elim, arith}
+use Rattle.std.proofs.Common.{◌<◌, ℕ, List, ⊎_elim, arith}
 use Rattle.std.proofs.lemmas.Option.{slice_get_cases}
 use Rattle.kube_objects.specs.Document.{Doc, processes}
 use Rattle.kube_objects.specs.Entry.{Entry}
 use Rattle.history.specs.Sound.{AreApart}
 use Rattle.world_core.specs.declared.world.World.{World}
-use Rattle.world_core.specs.Worlds.{WorldStands}
+use Rattle.world_core.specs.Worlds.{WorldStands, count_of}
 use Rattle.world_process.specs.declared.process.Process.{Process}
 use Rattle.world_process.specs.declared.process.Process.TheVariants.{Controller, Kubelet}
 use Rattle.world_process.specs.Processes.{ProcessStands}
@@ -18,3 +18,7 @@ pub world_apart : (doc : Doc) (k p : ℕ) (h : List Entry) (w : World) → World
 world_apart doc k p h w s below =
     ⊎_elim (λ there. own_apart doc p h there.0 (s.within.processes p there.0 there.2))
     (λ past. absurd (omega (arith, below, past.0, s.within.rest.document.count))) (slice_get_cases w.state.value.processes.items p).1
+
+-- a process of the world is one of the document
+pub inside : (doc : Doc) (k p : ℕ) (h : List Entry) (w : World) → WorldStands doc k h w → p < count_of w → p < processes doc
+inside doc k p h w s within = let count = s.within.rest.document.count in let len = w.state.value.processes.ok.0 in omega (arith, within, count, len)

@@ -1,12 +1,12 @@
 -- A process goes on where it isn't paused, and a turn past the end is none.
-use Rattle.std.proofs.Common.{◌≡◌, ◌⊎◌, ◌<◌, ◌≤◌, ℕ, ◌+◌, ◌==◌, ◌&&◌, ◌||◌, nat_le, nat_lt, not, min, Bool, true, false, Option, Some, None, refl, sym, ap, ◌∙◌, subst, inl, inr, arith}
-use Rattle.std.proofs.lemmas.Bool.{leb-true, ltb-true, ltb-false}
+use Rattle.std.proofs.Common.{◌≡◌, ◌<◌, ◌≤◌, ℕ, ◌+◌, ◌==◌, ◌&&◌, ◌||◌, nat_le, not, min, Bool, true, false, Option, Some, None, refl, sym, ap, ◌∙◌, arith}
+use Rattle.std.proofs.lemmas.Bool.{ltb-false}
 use Rattle.std.proofs.lemmas.Bool.Decides.{nat_tests}
 use Rattle.kube_objects.specs.Document.{Doc, end_beat}
 use Rattle.kube_objects.specs.Newest.{when, has, or_else}
 use Rattle.kube_objects.specs.Pauses.{pause_end, is_paused, resume}
 use Rattle.kube_objects.proofs.Pauses.{pause_later, resume_later}
-use Rattle.history_laws.proofs.Plainly.{true_is, false_is}
+use Rattle.history_laws.proofs.Plainly.{true_is}
 use Rattle.agenda_laws.specs.Times.{is_early, sooner}
 use Rattle.world_core.specs.declared.wakes.Wakes.{Wakes}
 use Rattle.world_agenda.specs.Woken.{goes_now, resumed}

@@ -3,4 +3,5 @@ pub mod Waking
 pub mod Acting
 pub mod Resuming
 pub mod Looking
+pub mod Others
 pub mod Going

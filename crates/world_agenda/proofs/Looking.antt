@@ -10,13 +10,13 @@ use Rattle.kube_objects.specs.Pauses.{is_paused}
 use Rattle.history.specs.History.{history}
 use Rattle.history.specs.Sound.{AreApart}
 use Rattle.history_laws.proofs.Plainly.{some_is, true_is, not_true, and_left, and_right, and_both}
-use Rattle.agenda_laws.specs.Ahead.{IsAhead, IsSilent, IsNextStart, IsNextEvent, IsNextMessage, IsNextBelow, IsNextBeat, NoTurnsAreFirst, TurnsAreAdded, TheSoonestIsNext}
+use Rattle.agenda_laws.specs.Ahead.{IsAhead, IsSilent, IsNextStart, IsNextEvent, IsNextMessage, IsNextBelow, IsNextBeat, NoTurnsAreFirst, TurnsAreAdded}
 use Rattle.agenda_laws.specs.Standing.{StandsAt}
 use Rattle.agenda_laws.specs.Times.{is_early, sooner}
 use Rattle.agenda_laws.specs.Waking.{AreAsleep, NextBeatsWake, acts_as}
 use Rattle.world_core.specs.declared.wakes.Wakes.{Wakes}
 use Rattle.world_core.specs.Waits.{WakesStand, beat_of, reading_of, starts_now}
-use Rattle.world_agenda.specs.Woken.{IsDue, IsLooked, IsNextDue, IsWoken, goes_now, not_before, resumed}
+use Rattle.world_agenda.specs.Woken.{IsDue, IsLooked, IsNextDue, IsWithTurn, IsWoken, OnlyTurns, goes_now, not_before, resumed}
 use Rattle.world_agenda.proofs.Acting.{acting_wakes, nobody_acts_first}
 use Rattle.world_agenda.proofs.Resuming.{turns_resume}
 
@@ -130,26 +130,37 @@ looked-first doc k h event message both law e m is =
         let at : (k == 0) ≡ true = grind (arith, nat_tests) in
         sym (ap (λ b. b && is_up_first doc p) at) ∙ idle
 
-pub looked-next : (doc : Doc) (k p : ℕ) (h : List Entry) (w : Wakes) (next due both : Option Beat) → TurnsAreAdded → p < processes doc → AreApart doc.events → IsLooked doc k p h next
-    → WakesStand doc k p h w → goes_now doc k p w ≡ false → IsDue doc k p w due → beat_of both ≡ sooner (beat_of next) (resumed doc p (beat_of due)) → IsLooked doc k (p + 1) h both
-looked-next doc k p h w next due both law inside apart looked s stays d is =
+-- the sooner of a beat and the one at which the process goes on
+pub with-turn : (doc : Doc) (k p : ℕ) (h : List Entry) (w : Wakes) (next due both : Option Beat) → AreApart doc.events → starts_now doc k p ≡ false → WakesStand doc k p h w → IsDue doc k p w due
+    → beat_of both ≡ sooner (beat_of next) (resumed doc p (beat_of due)) → IsWithTurn doc k p h (beat_of next) (beat_of both)
+with-turn doc k p h w next due both apart idle s d is =
+    record { turn = resumed doc p (beat_of due); first = turns_resume doc k p h (beat_of due) apart (next-due doc k p h w due idle s d); sooner = is }
+
+pub turn-added : (doc : Doc) (k p : ℕ) (h : List Entry) (next both : Option ℕ) → TurnsAreAdded → p < processes doc → IsNextBelow doc k p h next → IsWithTurn doc k p h next both → IsNextBelow doc k (p + 1) h both
+turn-added doc k p h next both law inside below t =
+    let more = law doc k p h next t.turn inside below t.first in
+    let count : suc p ≡ p + 1 = omega arith in
+    subst (λ n. IsNextBelow doc k n h both) count (subst (IsNextBelow doc k (suc p) h) (sym t.sooner) more)
+
+pub looked-next : (doc : Doc) (k p : ℕ) (h : List Entry) (next both : Option Beat) → TurnsAreAdded → p < processes doc → IsLooked doc k p h next → starts_now doc k p ≡ false → IsWithTurn doc k p h (beat_of next) (beat_of both)
+    → IsLooked doc k (p + 1) h both
+looked-next doc k p h next both law inside looked calm t =
     record {
       idle = λ i less. by_place i less (cases_lt i p);
-      below = λ idle.
-          let one = turns_resume doc k p h (beat_of due) apart (next-due doc k p h w due (idle p inside) s d) in
-          let more = law doc k p h (beat_of next) (resumed doc p (beat_of due)) inside (looked.below idle) one in
-          let count : suc p ≡ p + 1 = omega arith in
-          subst (λ n. IsNextBelow doc k n h (beat_of both)) count (subst (IsNextBelow doc k (suc p) h) (sym is) more);
+      below = λ idle. turn-added doc k p h (beat_of next) (beat_of both) law inside (looked.below idle) t;
     }
   where
     by_place : (i : ℕ) → i < p + 1 → (i < p) ⊎ (p ≤ i) → starts_now doc k i ≡ false
     by_place i less (inl before) = looked.idle i before
-    by_place i less (inr after) = let same : p ≡ i = omega (arith, less, after) in subst (λ n. starts_now doc k n ≡ false) same (idle-one doc k p h w s stays)
+    by_place i less (inr after) = let same : p ≡ i = omega (arith, less, after) in subst (λ n. starts_now doc k n ≡ false) same calm
 
-pub looked-all : (doc : Doc) (k p : ℕ) (next : Option Beat) → TheSoonestIsNext → k ≤ end_beat doc → p ≡ processes doc → IsLooked doc k p (history doc k) next → IsNextBeat doc k (beat_of next)
-looked-all doc k p next law start count looked =
-    let below = looked.below (λ i less. looked.idle i (omega (arith, less, count))) in
-    law doc k (beat_of next) start (subst (λ n. IsNextBelow doc k n (history doc k) (beat_of next)) count below)
+-- those that are asked one by one, where nobody of the others starts
+pub looked-each : (doc : Doc) (k asked p : ℕ) (h : List Entry) (next : Option Beat) → p ≡ asked → OnlyTurns doc k asked → IsLooked doc k p h next → IsNextBelow doc k asked h (beat_of next)
+looked-each doc k asked p h next all others looked = subst (λ n. IsNextBelow doc k n h (beat_of next)) all (looked.below (λ i less. by_place i less (cases_lt i p)))
+  where
+    by_place : (i : ℕ) → i < processes doc → (i < p) ⊎ (p ≤ i) → starts_now doc k i ≡ false
+    by_place i less (inl before) = looked.idle i before
+    by_place i less (inr after) = others.idle i (omega (arith, all, after)) less
 
 -- ---- somebody does something at once
 
@@ -192,7 +203,7 @@ early-later : (k j : ℕ) (b : Option ℕ) → k ≤ j → is_early k b ≡ fals
 early-later k j None from late early = true_is late
 early-later k j (Some n) from late early = let less = ltb-true j n early in let more : n ≤ k = grind (arith, nat_tests) in omega (arith, from, less, more)
 
-one-of : (a b : Option ℕ) (n : ℕ) → sooner a b ≡ Some n → (a ≡ Some n) ⊎ (b ≡ Some n)
+pub one-of : (a b : Option ℕ) (n : ℕ) → sooner a b ≡ Some n → (a ≡ Some n) ⊎ (b ≡ Some n)
 one-of None b n is = inr is
 one-of (Some a) None n is = inl is
 one-of (Some a) (Some b) n is = by_order (cases_lt a b)

@@ -2,12 +2,12 @@
 use Rattle.std.specs.Prelude.{◌≡◌, ℕ, max, ◌==◌, ◌&&◌, ◌||◌, ◌<◌, ◌≤◌, nat_le, not, Bool, true, false, List, Option, Some, None}
 use Rattle.kube_base.specs.declared.numbers.Beat.{Beat}
 use Rattle.kube_objects.specs.Clocks.{local, wall}
-use Rattle.kube_objects.specs.Document.{Doc, processes, end_beat}
+use Rattle.kube_objects.specs.Document.{Doc, processes, end_beat, is_controller}
 use Rattle.kube_objects.specs.Entry.{Entry}
 use Rattle.kube_objects.specs.Newest.{when}
 use Rattle.kube_objects.specs.Pauses.{is_paused, resume}
-use Rattle.agenda_laws.specs.Ahead.{IsAhead, IsNextBelow}
-use Rattle.agenda_laws.specs.Times.{is_early}
+use Rattle.agenda_laws.specs.Ahead.{IsAhead, IsNextBelow, IsNextTurn}
+use Rattle.agenda_laws.specs.Times.{is_early, sooner as soonest}
 use Rattle.agenda_laws.specs.Waking.{IsAsleep, wakes_of}
 use Rattle.skew_clock.specs.Clocking.{Clocking, wall_of}
 use Rattle.world_core.specs.declared.wakes.Wakes.{Wakes}
@@ -54,3 +54,14 @@ pub record IsDue (doc : Doc) (k p : ℕ) (w : Wakes) (b : Option Beat) : Type 0 
 pub record IsLooked (doc : Doc) (k p : ℕ) (h : List Entry) (b : Option Beat) : Type 0 where
   pub idle : (i : ℕ) → i < p → starts_now doc k i ≡ false
   pub below : ((i : ℕ) → i < processes doc → starts_now doc k i ≡ false) → IsNextBelow doc k p h (beat_of b)
+
+-- a beat and the process's next turn, the sooner of both
+pub record IsWithTurn (doc : Doc) (k p : ℕ) (h : List Entry) (next both : Option ℕ) : Type 0 where
+  pub turn : Option ℕ
+  pub first : IsNextTurn doc k p h turn
+  pub sooner : both ≡ soonest next turn
+
+-- none of the processes from this one on is a controller, or starts in the next beat
+pub record OnlyTurns (doc : Doc) (k from : ℕ) : Type 0 where
+  pub kubelets : (p : ℕ) → from ≤ p → is_controller doc p ≡ false
+  pub idle : (p : ℕ) → from ≤ p → p < processes doc → starts_now doc k p ≡ false

@@ -1,19 +1,19 @@
 // The next beat of a world at which something happens.
 ghost use Rattle.std.specs.Prelude.{◌≡◌, ◌<◌, ◌≤◌, not, ℕ, List, false, min};
-ghost use Rattle.kube_objects.specs.Document.{Doc, end_beat};
+ghost use Rattle.kube_objects.specs.Document.{Doc, end_beat, processes};
 ghost use Rattle.kube_objects.specs.Entry.{Entry};
 ghost use Rattle.history.specs.History.{history};
-ghost use Rattle.agenda_laws.specs.Ahead.{IsNextBeat};
+ghost use Rattle.agenda_laws.specs.Ahead.{IsNextBeat, IsNextBelow};
 ghost use Rattle.agenda_laws.specs.Times.{is_early, sooner as soonest};
 ghost use Rattle.script_reader.specs.Lawful.{AreLawfulFrom};
-ghost use Rattle.world_core.specs.Waits.{beat_of};
+ghost use Rattle.world_core.specs.Waits.{WakesStand, beat_of, starts_now};
 ghost use Rattle.world_core.specs.Worlds.{IsReady, WorldStands, at_of, count_of, end_of};
-ghost use Rattle.world_agenda.specs.Woken.{IsDue, IsTimeBeat, IsWoken, goes_now, not_before as since, resumed};
+ghost use Rattle.world_agenda.specs.Woken.{IsDue, IsTimeBeat, IsWithTurn, IsWoken, OnlyTurns, goes_now, not_before as since, resumed};
 
 use agenda_laws::{beats_wake_by_causes, next_beats_are_soonest};
 use kube_base::{Beat, ProcId, Wall};
 use skew_clock::Clock;
-use world_core::{Wakes, World};
+use world_core::{Wakes, World, sooner_beat};
 
 /// The least beat from the world's next one to the end at which an entry of the history stands. None exactly where there is no such
 /// beat. It takes no memory.
@@ -26,21 +26,86 @@ pub fn next_beat(world: &World) -> Option<Beat>
     beats_wake_by_causes();
     next_beats_are_soonest();
     let at = world.at();
-    let first = sooner(world.next_event(), world.next_wire());
+    let first = sooner_beat(world.next_event(), world.next_wire());
     if is_there(first, at) {
         return first;
     }
+    let asked = asked_each(world, at);
     let mut next = first;
-    for i in 0..world.processes() {
+    for i in 0..asked {
         let who = ProcId(i);
         let wakes = world.wakes(who);
         if goes_at_once(world, who, &wakes, at) {
             return Some(at);
         }
-        let due = due_beat(world, who, &wakes, at);
-        next = sooner_turn(world, who, due, next);
+        next = with_turn(world, who, &wakes, at, next);
+    }
+    with_others(world, asked, at, next)
+}
+
+// How many processes are asked one by one: in beat 0 all, since each may start, and later the controllers, since each may act.
+fn asked_each(world: &World, at: Beat) -> u32
+    requires { IsReady world.now }
+    ensures few { result ≤ count_of world.now }
+    ensures others { (doc : Doc) (k : ℕ) (h : List Entry) → WorldStands doc k h world.now → OnlyTurns doc at.0 result }
+{
+    if at.0 == 0 {
+        world.processes()
+    } else {
+        world.controllers()
+    }
+}
+
+// The sooner of a beat and the next turns of the kubelets from one on. One is asked only where its turn comes before the soonest beat
+// so far, pauses aside: a pause only makes it later. The least turn is asked first, so that few more have to be.
+fn with_others(world: &World, from: u32, at: Beat, next: Option<Beat>) -> Option<Beat>
+    requires ready { IsReady world.now }
+    requires within { at.0 ≤ end_of world.now }
+    requires at { at.0 ≡ at_of world.now }
+    ensures { (doc : Doc) (h : List Entry) → WorldStands doc at.0 h world.now → end_of world.now ≡ end_beat doc → OnlyTurns doc at.0 from
+        → IsNextBelow doc at.0 from h (beat_of next) → IsNextBelow doc at.0 (processes doc) h (beat_of result) }
+{
+    next_beats_are_soonest();
+    let mut next = with_least(world, from, at, next);
+    let mut from = from;
+    'others: while let Some(who) = world.first_turn(from, next) {
+        next = with_turn(world, who, &world.wakes(who), at, next);
+        from = who.0 + 1;
     }
     next
+}
+
+// The sooner of a beat and the next turn of the process whose turn is the least, where that is among those from one on.
+fn with_least(world: &World, from: u32, at: Beat, next: Option<Beat>) -> Option<Beat>
+    requires ready { IsReady world.now }
+    requires within { at.0 ≤ end_of world.now }
+    requires at { at.0 ≡ at_of world.now }
+    ensures { (doc : Doc) (h : List Entry) → WorldStands doc at.0 h world.now → end_of world.now ≡ end_beat doc → OnlyTurns doc at.0 from
+        → IsNextBelow doc at.0 from h (beat_of next) → IsNextBelow doc at.0 from h (beat_of result) }
+{
+    match world.least_turn() {
+        Some(who) if from <= who.0 => with_turn(world, who, &world.wakes(who), at, next),
+        _ => next,
+    }
+}
+
+// The sooner of a beat and the next turn of a process that waits for this.
+fn with_turn(
+    world: &World,
+    who: ProcId,
+    wakes: &Wakes,
+    at: Beat,
+    next: Option<Beat>,
+) -> Option<Beat>
+    requires ready { IsReady world.now }
+    requires within { at.0 ≤ end_of world.now }
+    requires process { who.0 < count_of world.now }
+    ensures { (doc : Doc) (h : List Entry) → WorldStands doc at.0 h world.now → end_of world.now ≡ end_beat doc
+        → WakesStand doc at.0 who.0 h wakes.now → starts_now doc at.0 who.0 ≡ false
+        → IsWithTurn doc at.0 who.0 h (beat_of next) (beat_of result) }
+{
+    let due = due_beat(world, who, wakes, at);
+    sooner_turn(world, who, due, next)
 }
 
 // Whether there is a beat, and it comes no later than another.
@@ -99,7 +164,7 @@ fn sooner_turn(world: &World, who: ProcId, due: Option<Beat>, next: Option<Beat>
     if end.0 < goes_on.0 {
         return next;
     }
-    sooner(next, Some(goes_on))
+    sooner_beat(next, Some(goes_on))
 }
 
 // The first beat at which the reading or the time of day is there for which a process waits.
@@ -109,7 +174,7 @@ fn beat_of_waking(world: &World, who: ProcId, wakes: &Wakes) -> Option<Beat>
     ensures { (doc : Doc) (k : ℕ) (h : List Entry) → WorldStands doc k h world.now → end_of world.now ≡ end_beat doc
         → IsWoken doc who.0 wakes.now result }
 {
-    sooner(
+    sooner_beat(
         world.turn_beat(who, wakes),
         at_time(world.clock(who), wakes.wall),
     )
@@ -137,16 +202,6 @@ fn shown(at: u128) -> u64
         at as u64
     } else {
         NEVER
-    }
-}
-
-fn sooner(one: Option<Beat>, other: Option<Beat>) -> Option<Beat>
-    ensures { beat_of result ≡ soonest (beat_of one) (beat_of other) }
-{
-    match (one, other) {
-        (None, other) => other,
-        (Some(one), Some(other)) if other.0 < one.0 => Some(other),
-        (one, _) => one,
     }
 }
 

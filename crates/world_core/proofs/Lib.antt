@@ -23,5 +23,6 @@ pub mod Noting
 pub mod Passing
 pub mod Skipping
 pub mod Awake
+pub mod Leaves
 -- ---- layer 5: what can be written
 pub mod Writing

@@ -21,7 +21,7 @@ use Rattle.wire_calls.specs.InFlight.{first_of, rest_of}
 use Rattle.wire_calls.specs.WireStands.{WireStands, arrived_of, as_arrived, delivered_of, as_delivered}
 use Rattle.world_core.specs.declared.state.State.{State}
 use Rattle.world_process.specs.InForce.{InForceStands}
-use Rattle.world_process.specs.Moves.{own_turn, own_turn_as}
+use Rattle.world_process.specs.Moves.{own_turn_as}
 use Rattle.world_process.specs.Plain.{IsKnown, IsFew, SentByKnown, BackToKnown}
 use Rattle.world_core.specs.States.{IsReady, SameDocument, Keeps, EachStands, Running}
 use Rattle.world_core.specs.Waits.{awake_turn, turn_if}

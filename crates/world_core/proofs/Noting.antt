@@ -1,5 +1,5 @@
 -- Layer 4, the steps of a beat: a process that has changed keeps the beat of its next turn; what it did it has still done.
-use Rattle.std.proofs.Common.{◌≡◌, ℕ, ◌<◌, ◌++◌, Bool, true, false, List, ◌∷◌, Option, Some, None, refl, sym, ap, ◌∙◌, subst, vec_len, arith}
+use Rattle.std.proofs.Common.{◌≡◌, ℕ, Bool, List, Option, Some, None, sym, subst}
 use Rattle.kube_base.specs.declared.numbers.ProcId.{ProcId}
 use Rattle.kube_objects.specs.declared.call.Ask.{Ask}
 use Rattle.kube_objects.specs.declared.script.What.TheVariants as what
@@ -12,7 +12,7 @@ use Rattle.world_process.specs.declared.moves.Received.{Received}
 use Rattle.world_process.specs.declared.moves.Stopped.{Stopped}
 use Rattle.world_process.specs.declared.process.Process.{Process}
 use Rattle.world_process.specs.Moves as moves
-use Rattle.world_process.specs.Processes.{Begun, Crashed, IsKept, IsTimed, ProcessStands, Replied, SameProcess, StoppedAs, clock_of, incarnation_of, waking_of}
+use Rattle.world_process.specs.Processes.{Begun, Crashed, IsKept, IsTimed, ProcessStands, Replied, SameProcess, StoppedAs, incarnation_of, waking_of}
 use Rattle.world_process.proofs.Wakes.{timed-same}
 use Rattle.world_core.proofs.Turns.{asks-kept}
 

@@ -1,5 +1,5 @@
 -- Layer 4, the steps of a beat: the kubelets whose turns' beats haven't come, and whom nobody asks.
-use Rattle.std.proofs.Common.{◌≡◌, ℕ, zero, suc, ◌+◌, ◌-◌, ◌<◌, ◌≤◌, nat_lt, Bool, true, false, List, [], ◌∷◌, Option, Some, None, length, slice_get, vec_len, refl, sym, ap, ◌∙◌, subst, arith, ◌⊎◌, inl, inr, ◌==◌, if◌then◌else◌}
+use Rattle.std.proofs.Common.{◌≡◌, ℕ, zero, suc, ◌+◌, ◌-◌, ◌<◌, ◌≤◌, Bool, true, false, List, [], ◌∷◌, Option, Some, None, length, slice_get, vec_len, refl, sym, ap, ◌∙◌, subst, arith, ◌⊎◌, inl, inr, ◌==◌, if◌then◌else◌}
 use Rattle.std.proofs.lemmas.Bool.{cases_lt}
 use Rattle.std.proofs.lemmas.Bool.Decides.{nat_tests}
 use Rattle.std.proofs.lemmas.Option.{slice_get_within}
@@ -15,7 +15,7 @@ use Rattle.beat_tree.specs.Leaves.{leaf, room}
 use Rattle.beat_tree.specs.Tidy.{comes_before}
 use Rattle.world_process.specs.declared.process.Process.{Process}
 use Rattle.world_process.specs.Beats.{beat_in}
-use Rattle.world_process.specs.Processes.{clock_of, waking_of}
+use Rattle.world_process.specs.Processes.{waking_of}
 use Rattle.world_process.proofs.Names.{eq-is, eq-isnt, eq-self}
 use Rattle.world_process.proofs.Wakes.{kept-still}
 use Rattle.world_core.specs.declared.state.State.{State}

@@ -1,5 +1,5 @@
 -- Layer 5, what can be written: what a beat prints and what is stored then can be written with the document's names.
-use Rattle.std.proofs.Common.{◌≡◌, ℕ, suc, ◌+◌, ◌≤◌, Bool, true, false, List, [], ◌∷◌, ◌++◌, length, slice_get, Option, Some, None, Result, Ok, Err, IfOk, refl, sym, ap, ◌∙◌, subst, arith}
+use Rattle.std.proofs.Common.{◌≡◌, ℕ, suc, ◌+◌, ◌≤◌, true, List, [], ◌∷◌, ◌++◌, length, slice_get, Option, Some, None, Result, Ok, Err, IfOk, refl, sym, ◌∙◌, subst, arith}
 use Rattle.std.proofs.lemmas.Map.Entries.{lookup_from_place}
 use Rattle.std.proofs.lemmas.Map.Keys.{IsDistinct-from_sorted}
 use Rattle.std.specs.List.{AllByRecursion, list_all}

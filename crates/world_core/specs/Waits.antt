@@ -1,9 +1,10 @@
 -- What a process of the world waits for, and the beats at which it is there.
-use Rattle.std.specs.Prelude.{◌≡◌, ◌↔◌, ℕ, ◌==◌, ◌&&◌, ◌||◌, ◌≤◌, not, Bool, true, false, List, Option, Some, None, option_map}
+use Rattle.std.specs.Prelude.{◌≡◌, ◌↔◌, ℕ, ◌==◌, ◌&&◌, ◌||◌, ◌<◌, ◌≤◌, not, Bool, true, false, List, Option, Some, None, IfSome, IfNone, option_map}
 use Rattle.kube_base.specs.declared.numbers.Beat.{Beat}
 use Rattle.kube_base.specs.declared.numbers.Local.{Local}
+use Rattle.kube_base.specs.declared.numbers.ProcId.{ProcId}
 use Rattle.kube_objects.specs.Clocks.{local, wall}
-use Rattle.kube_objects.specs.Document.{Doc, end_beat, is_controller, is_up_first}
+use Rattle.kube_objects.specs.Document.{Doc, end_beat, is_controller, is_up_first, processes}
 use Rattle.kube_objects.specs.Elector.{in_term}
 use Rattle.kube_objects.specs.Entry.{Entry, Identity}
 use Rattle.kube_objects.specs.Newest.{only_if}
@@ -88,3 +89,27 @@ pub record IsTurnBeat (doc : Doc) (p : ℕ) (w : Wakes) (b : Option Beat) : Type
 abbrev pub IsTermReading : Doc → ℕ → Identity → List Entry → Option Local → Type 0
 IsTermReading doc p q h at =
     (j : ℕ) → j ≤ end_beat doc → is_early (local doc p j) (local_of at) ≡ is_early (local doc p j) (term_reading doc q h)
+
+-- ---- whose turn comes first, pauses and ticks aside
+
+-- up to the end the reading isn't there before a beat that the process's turn waits for; None comes after all beats
+abbrev pub WaitsUntil : Doc → ℕ → List Entry → Option ℕ → Type 0
+WaitsUntil doc p h before =
+    (j : ℕ) → j ≤ end_beat doc → is_early j before ≡ true → is_early (local doc p j) (own_reading doc p h) ≡ true
+
+-- the process comes before the one that was found
+abbrev pub IsPassed : ℕ → Option ProcId → Type 0
+IsPassed p None = Unit {0}
+IsPassed p (Some who) = p < who.0
+
+-- the first process from one on whose turn comes before a beat; none exactly where there is none
+pub record IsFirstTurn (doc : Doc) (from : ℕ) (before : Option ℕ) (h : List Entry) (found : Option ProcId) : Type 0 where
+  pub there : IfSome found (λ who. ¬ WaitsUntil doc who.0 h before)
+  pub passed : (p : ℕ) → from ≤ p → p < processes doc → IsPassed p found → WaitsUntil doc p h before
+
+-- a process before whose turn no other's comes; none exactly where none comes up to the end
+pub record IsLeastTurn (doc : Doc) (h : List Entry) (found : Option ProcId) : Type 0 where
+  pub there : IfSome found (λ who. ¬ WaitsUntil doc who.0 h None)
+  pub least : IfSome found (λ who. (p : ℕ) → p < processes doc → (j : ℕ) → j ≤ end_beat doc
+      → is_early (local doc who.0 j) (own_reading doc who.0 h) ≡ true → is_early (local doc p j) (own_reading doc p h) ≡ true)
+  pub none : IfNone found ((p : ℕ) → p < processes doc → WaitsUntil doc p h None)

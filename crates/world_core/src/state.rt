@@ -1,6 +1,6 @@
 // What a world keeps, and how it does one beat.
 ghost use Rattle.std.specs.Prelude.{◌≡◌, ◌==◌, ◌∷◌, ◌||◌, ◌+◌, ◌*◌, ◌<◌, ◌≤◌, ◌++◌, ◌↔◌, ℕ, List, [], length, min, All, true, false, Option, Some};
-ghost use Rattle.std.specs.Prelude.{IfOk, OnOk, IsTrue, vec_len, if◌then◌else◌};
+ghost use Rattle.std.specs.Prelude.{IfOk, IfSome, OnOk, IsTrue, vec_len, if◌then◌else◌};
 ghost use Rattle.beat_tree.specs.Leaves.{leaf, room};
 ghost use Rattle.std.specs.List.Sorted.{IsStrictlySortedBy};
 ghost use Rattle.std.specs.Map.{keys_of, lookup};
@@ -34,7 +34,7 @@ ghost use Rattle.kube_base.specs.Steps.{counted};
 ghost use Rattle.world_process.specs.Clocked.{ClockStands};
 ghost use Rattle.world_terms.specs.TermsStand.{IsFresh, IsUpAs, TermsStand, TermsStandBut};
 ghost use Rattle.world_process.specs.Processes.{IsKept, IsTimed, ProcessStands, SameProcess, incarnation_of, waking_of};
-ghost use Rattle.world_core.specs.Waits.{IsTermReading, IsTurnBeat, WakesStand, awake_turn, beat_of, local_of, own_ticks};
+ghost use Rattle.world_core.specs.Waits.{IsFirstTurn, IsLeastTurn, IsTermReading, IsTurnBeat, WakesStand, awake_turn, beat_of, local_of, own_ticks};
 ghost use Rattle.world_process.specs.Plain.{IsFew, IsKnown};
 ghost use Rattle.world_core.specs.States.{at_of, count_of, end_of, names_of, GoOnTo, IsFit, IsReady, IsPlaced, SameDocument, Keeps};
 ghost use Rattle.world_core.specs.States.{AreKept, AreMadeOf, AreNoted, AreQuiet, EachStands, SendsAsked, StateStands, Running};
@@ -44,7 +44,7 @@ use crate::printing::{
     answer_act, crash_act, end_act, lead_act, pause_act, remove_act, start_act, stop_act, tell,
 };
 use crate::replies::send_back;
-use crate::wakes::{Wakes, sooner_beat};
+use crate::wakes::Wakes;
 use beat_tree::BeatTree;
 use kube_base::{Beat, Local, Names, NoMemory, ProcId, Steps, Wall};
 use kube_objects::{
@@ -220,6 +220,15 @@ impl State {
         self.processes.len() as u32
     }
 
+    /// How many of the processes are controllers. They come first.
+    pub fn controllers(&self) -> u32
+        requires { IsReady self.now }
+        ensures few { result ≤ count_of self.now }
+        ensures stands { (doc : Doc) (k : ℕ) (h : List Entry) → StateStands doc k h self.now → result ≡ length doc.controllers }
+    {
+        self.controllers as u32
+    }
+
     /// A process's clock.
     pub fn clock(&self, who: ProcId) -> &Clock
         requires { who.0 < count_of self.now }
@@ -265,6 +274,29 @@ impl State {
             return process.turn_beat();
         }
         first_beat(process.clock(), wakes.local)
+    }
+
+    /// The first process from one on whose turn, its tick aside, would add something at a beat before another, were it not paused; None
+    /// exactly where there is none. Nobody is asked: each has the beat of its next turn noted.
+    pub fn first_turn(&self, from: u32, before: Option<Beat>) -> Option<ProcId>
+        requires { IsReady self.now }
+        ensures range { IfSome result (λ who. (from ≤ who.0) × (who.0 < count_of self.now)) }
+        ensures first { (doc : Doc) (k : ℕ) (h : List Entry) → StateStands doc k h self.now → end_of self.now ≡ end_beat doc
+            → IsFirstTurn doc from (beat_of before) h result }
+    {
+        let i = self.turn_beats.first_before(from as usize, before)?;
+        Some(ProcId(i as u32))
+    }
+
+    /// A process before whose turn no other's comes, pauses and ticks aside; None exactly where none comes up to the end.
+    pub fn least_turn(&self) -> Option<ProcId>
+        requires { IsReady self.now }
+        ensures range { IfSome result (λ who. who.0 < count_of self.now) }
+        ensures least { (doc : Doc) (k : ℕ) (h : List Entry) → StateStands doc k h self.now → end_of self.now ≡ end_beat doc
+            → IsLeastTurn doc h result }
+    {
+        let i = self.turn_beats.least()?;
+        Some(ProcId(i as u32))
     }
 
     /// The first beat from this one on at which a process isn't paused; the beat after the end, where there is none up to the end.

@@ -1,5 +1,5 @@
 // The world of a document, which does one beat at a time.
-ghost use Rattle.std.specs.Prelude.{◌≡◌, ◌+◌, ◌<◌, ◌≤◌, ◌++◌, ℕ, List, length, min, IfOk, IsTrue, ◌↔◌};
+ghost use Rattle.std.specs.Prelude.{◌≡◌, ◌+◌, ◌<◌, ◌≤◌, ◌++◌, ℕ, List, length, min, IfOk, IfSome, IsTrue, ◌↔◌};
 ghost use Rattle.std.specs.List.{AllByRecursion};
 ghost use Rattle.std.specs.List.Sorted.{IsStrictlySortedBy};
 ghost use Rattle.std.specs.Map.{keys_of, lookup};
@@ -19,7 +19,7 @@ ghost use Rattle.kube_base.specs.Steps.{counted};
 ghost use Rattle.script_reader.specs.Lawful.{AreLawfulFrom, IsLawfulDoc};
 ghost use Rattle.world_process.specs.Clocked.{ClockStands};
 ghost use Rattle.world_process.specs.Plain.{IsFew};
-ghost use Rattle.world_core.specs.Waits.{IsTurnBeat, WakesStand, beat_of};
+ghost use Rattle.world_core.specs.Waits.{IsFirstTurn, IsLeastTurn, IsTurnBeat, WakesStand, beat_of};
 ghost use Rattle.world_core.specs.Worlds.{AreQuiet, AreWritable, IsOwn, IsReady, WorldStands, at_of, count_of, end_of, names_of};
 
 use crate::state::State;
@@ -144,6 +144,15 @@ impl World {
         self.state.processes()
     }
 
+    /// How many of the processes are controllers. They come first.
+    pub fn controllers(&self) -> u32
+        requires { IsReady self.now }
+        ensures few { result ≤ count_of self.now }
+        ensures stands { (doc : Doc) (k : ℕ) (h : List Entry) → WorldStands doc k h self.now → result ≡ length doc.controllers }
+    {
+        self.state.controllers()
+    }
+
     /// A process's clock.
     pub fn clock(&self, who: ProcId) -> &Clock
         requires { who.0 < count_of self.now }
@@ -162,6 +171,27 @@ impl World {
             → WakesStand doc k who.0 h result }
     {
         self.state.wakes(who)
+    }
+
+    /// The first process from one on whose turn, its tick aside, would add something at a beat before another, were it not paused; None
+    /// exactly where there is none. Nobody is asked: each has the beat of its next turn noted.
+    pub fn first_turn(&self, from: u32, before: Option<Beat>) -> Option<ProcId>
+        requires { IsReady self.now }
+        ensures range { IfSome result (λ who. (from ≤ who.0) × (who.0 < count_of self.now)) }
+        ensures first { (doc : Doc) (k : ℕ) (h : List Entry) → WorldStands doc k h self.now → end_of self.now ≡ end_beat doc
+            → IsFirstTurn doc from (beat_of before) h result }
+    {
+        self.state.first_turn(from, before)
+    }
+
+    /// A process before whose turn no other's comes, pauses and ticks aside; None exactly where none comes up to the end.
+    pub fn least_turn(&self) -> Option<ProcId>
+        requires { IsReady self.now }
+        ensures range { IfSome result (λ who. who.0 < count_of self.now) }
+        ensures least { (doc : Doc) (k : ℕ) (h : List Entry) → WorldStands doc k h self.now → end_of self.now ≡ end_beat doc
+            → IsLeastTurn doc h result }
+    {
+        self.state.least_turn()
     }
 
     /// The first beat from this one on at which a process isn't paused; the beat after the end, where there is none up to the end.

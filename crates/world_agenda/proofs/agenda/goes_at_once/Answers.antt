@@ -1,6 +1,5 @@
 use Rattle.std.proofs.Common.{◌≡◌, ◌==◌, false, arith}
 use Rattle.std.proofs.lemmas.Bool.Decides.{nat_tests}
-use Rattle.kube_objects.specs.Document.{end_beat}
 use Rattle.world_agenda.proofs.Going.{goes-here}
 use Rattle.world_agenda.proofs.agenda.goes_at_once.Goals as goal
 

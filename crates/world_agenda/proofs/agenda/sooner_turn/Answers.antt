@@ -1,4 +1,4 @@
-use Rattle.std.proofs.Common.{◌≡◌, ◌<◌, ◌≤◌, ℕ, Some, sym, ◌∙◌, subst, arith}
+use Rattle.std.proofs.Common.{◌≡◌, ◌<◌, ◌≤◌, Some, sym, ◌∙◌, subst, arith}
 use Rattle.kube_objects.specs.Document.{end_beat}
 use Rattle.kube_objects.specs.Pauses.{resume}
 use Rattle.history_laws.proofs.Plainly.{not_true}
@@ -35,6 +35,6 @@ returns c doc k h stands end =
     let next = beat_of c.args.next in
     let due = c.in-Some.due.0 in
     let within : c.resume-goes_on.result.0 ≤ end_beat doc = omega (arith, c.if-end-goes_on.false, c.end-end.ensures, c.clock.ensures.end c.requires.ready, end) in
-    c.sooner.ensures
+    c.sooner_beat.ensures
     ∙ subst (λ o. sooner next (Some c.resume-goes_on.result.0) ≡ sooner next (resumed doc c.args.who.0 (beat_of o))) (sym c.in-Some.is)
     (goes-on doc c.args.who.0 due c.resume-goes_on.result.0 next (c.resume-goes_on.ensures doc k h stands end) within)

@@ -1,4 +1,4 @@
-use Rattle.std.proofs.Common.{◌≡◌, Some, sym, ap, ◌∙◌, arith}
+use Rattle.std.proofs.Common.{Some, sym, ap, ◌∙◌, arith}
 use Rattle.std.proofs.lemmas.Option.{slice_get-get_or}
 use Rattle.world_core.proofs.Passing.{noted-all, noted-first, noted-more}
 use Rattle.world_core.proofs.state.turn_beats_of.Goals as goal

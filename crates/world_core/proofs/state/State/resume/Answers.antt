@@ -1,4 +1,4 @@
-use Rattle.std.proofs.Common.{◌≡◌, ◌+◌, ◌<◌, vec_len, min, arith}
+use Rattle.std.proofs.Common.{◌≡◌, arith}
 use Rattle.kube_objects.specs.Pauses.{resume}
 use Rattle.world_core.proofs.Moving.{read-at}
 use Rattle.world_core.proofs.state.State.resume.Goals as goal

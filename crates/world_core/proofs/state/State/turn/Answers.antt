@@ -1,8 +1,7 @@
-use Rattle.std.proofs.Common.{◌≡◌, ◌<◌, true, refl, sym, ap, ◌∙◌, subst, arith}
+use Rattle.std.proofs.Common.{◌≡◌, ◌<◌, sym, ap, ◌∙◌, subst, arith}
 use Rattle.std.proofs.lemmas.Bool.Decides.{nat_tests}
 use Rattle.agenda_laws.specs.Times.{is_early}
 use Rattle.world_process.specs.Beats.{beat_in}
-use Rattle.world_process.specs.Processes.{clock_of}
 use Rattle.world_process.proofs.Wakes.{kept-still}
 use Rattle.world_core.specs.States.{Running}
 use Rattle.world_core.proofs.Moving.{read-at, within-end}
