@@ -19,7 +19,7 @@ use Rattle.history.specs.Steps.{start_if_down, crash, stall, released, stop, hap
 use Rattle.script_reader.specs.Lawful.{IsLawfulWhat, AreLawfulFrom}
 use Rattle.world_core.specs.declared.state.State.{State}
 use Rattle.world_process.specs.Plain.{IsFew}
-use Rattle.world_core.specs.States.{DocStands, IsPlaced, Running, Scripted}
+use Rattle.world_core.specs.States.{DocStands, IsPlaced, MidBeat, Scripted}
 use Rattle.world_core.proofs.Beats.{not_due}
 use Rattle.world_core.proofs.Events.{drop-at, drop-past, happens-now, happen-earlier, happen-later, lawful-later, lawful-rest, lawful-what, earlier-more}
 use Rattle.world_process.proofs.Grows.{grows-happen_all, few-before}
@@ -103,14 +103,14 @@ event-at doc k w xs ys e s xs_are ys_are less is =
 -- some events of beat k have happened
 pub record Happening (doc : Doc) (k : ℕ) (before : List Deed) (arriving : List Sent) (coming : List Back) (h : List Entry) (w : State) (deeds : List Deed) : Type 0 where
   pub now : List Entry
-  pub running : Running doc k before arriving coming now w deeds
+  pub running : MidBeat doc k before arriving coming now w deeds
   pub earlier : (i : ℕ) (e : Event) → i < w.place → slice_get doc.events i ≡ Some e → e.beat.0 < k + 1
   pub later : AreLawfulFrom doc k (drop w.place doc.events)
   pub same : happen_all doc k (drop w.place doc.events) now ≡ happen_all doc k doc.events h
   pub requests : requests_due k now ≡ requests_due k h
   pub replies : replies_due k now ≡ replies_due k h
 
-pub happening-first : (doc : Doc) (k : ℕ) (before deeds : List Deed) (arriving : List Sent) (coming : List Back) (h : List Entry) (w : State) → Running doc k before arriving coming h w deeds → IsPlaced doc k w.place → Happening doc k before arriving coming h w deeds
+pub happening-first : (doc : Doc) (k : ℕ) (before deeds : List Deed) (arriving : List Sent) (coming : List Back) (h : List Entry) (w : State) → MidBeat doc k before arriving coming h w deeds → IsPlaced doc k w.place → Happening doc k before arriving coming h w deeds
 happening-first doc k before deeds arriving coming h w r placed =
     record {
       now = h;
@@ -123,7 +123,7 @@ happening-first doc k before deeds arriving coming h w r placed =
     }
 
 pub happening-more : (doc : Doc) (k : ℕ) (before deeds new : List Deed) (arriving : List Sent) (coming : List Back) (h : List Entry) (w v : State) (e : Event) → (a : Happening doc k before arriving coming h w deeds) → slice_get doc.events w.place ≡ Some e → e.beat.0 ≡ k → v.place ≡ w.place + 1 →
-    IsFew (happen_all doc k doc.events h) → (IsLawfulWhat doc e.what → IsFew (happens doc k e.what a.now) → Running doc k before arriving coming (happens doc k e.what a.now) v new) → Happening doc k before arriving coming h v new
+    IsFew (happen_all doc k doc.events h) → (IsLawfulWhat doc e.what → IsFew (happens doc k e.what a.now) → MidBeat doc k before arriving coming (happens doc k e.what a.now) v new) → Happening doc k before arriving coming h v new
 happening-more doc k before deeds new arriving coming h w v e a here beat place few happened =
     let rest = drop (w.place + 1) doc.events in
     let is : drop w.place doc.events ≡ e ∷ rest = drop-at doc.events w.place e here in
@@ -144,7 +144,7 @@ happening-more doc k before deeds new arriving coming h w v e a here beat place 
 scripted-all : (doc : Doc) (k : ℕ) (before deeds : List Deed) (arriving : List Sent) (coming : List Back) (h : List Entry) (w : State) → (a : Happening doc k before arriving coming h w deeds) → a.now ≡ happen_all doc k doc.events h → AreLawfulFrom doc (k + 1) (drop w.place doc.events) → Scripted doc k before arriving coming h w deeds
 scripted-all doc k before deeds arriving coming h w a all later =
     record {
-      running = subst (λ g. Running doc k before arriving coming g w deeds) all a.running;
+      running = subst (λ g. MidBeat doc k before arriving coming g w deeds) all a.running;
       placed = record { earlier = a.earlier; later = later };
       requests = ap (requests_due k) (sym all) ∙ a.requests;
       replies = ap (replies_due k) (sym all) ∙ a.replies;

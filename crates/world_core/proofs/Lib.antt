@@ -11,7 +11,7 @@ pub mod Events
 -- ---- layer 3: the world around one process
 pub mod Around
 pub mod Renewing
-pub mod Running
+pub mod MidBeat
 pub mod Scripts
 -- ---- layer 4: the steps of a beat, and beats that are passed over
 pub mod Loops

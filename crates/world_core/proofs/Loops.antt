@@ -23,11 +23,11 @@ use Rattle.world_core.specs.declared.state.State.{State}
 use Rattle.world_process.specs.InForce.{InForceStands}
 use Rattle.world_process.specs.Moves.{own_turn_as}
 use Rattle.world_process.specs.Plain.{IsKnown, IsFew, SentByKnown, BackToKnown}
-use Rattle.world_core.specs.States.{IsReady, SameDocument, Keeps, EachStands, Running}
+use Rattle.world_core.specs.States.{IsReady, SameDocument, Keeps, EachStands, MidBeat}
 use Rattle.world_core.specs.Waits.{awake_turn, turn_if}
 use Rattle.world_process.proofs.Grows.{Grows, grows-on, grows-same, grows-entry, grows-delivered, grows-more_starts, grows-more_turns, grows-ticks, few-before}
 use Rattle.world_core.proofs.Known.{sent-later, back-later}
-use Rattle.world_core.proofs.Running.{Unmoved, doc-same, answered-running}
+use Rattle.world_core.proofs.MidBeat.{Unmoved, doc-same, answered-running}
 use Rattle.world_terms.specs.TermsStand.{TermsStand}
 
 -- ---- requests
@@ -35,7 +35,7 @@ use Rattle.world_terms.specs.TermsStand.{TermsStand}
 pub record Answering (doc : Doc) (k : ℕ) (before : List Deed) (arriving : List Sent) (coming : List Back) (h : List Entry) (w : State) (deeds : List Deed) : Type 0 where
   pub now : List Entry
   pub left : List Sent
-  pub running : Running doc k before left coming now w deeds
+  pub running : MidBeat doc k before left coming now w deeds
   pub known : SentByKnown (processes doc) now left
   pub same : answer_all doc k left now ≡ answer_all doc k arriving h
 
@@ -46,8 +46,8 @@ pub record Serves (doc : Doc) (k : ℕ) (rest : List Sent) (coming : List Back) 
   pub wire : (q : Identity) (call : Call) (wrote : Option Object) → q ≡ identity x.who.0 x.incarnation → call.number ≡ x.number → q.process < processes doc → WireStands (processes doc) k rest coming (entry k 2 q (Answers call r (reply_arrival doc q.process k h) wrote) ∷ h) v.wire
   pub told : new ≡ deeds ++ deeds_of k (actor.Proc x.who x.incarnation) (answer_act x.request r)
 
-serve-one : (doc : Doc) (k : ℕ) (before deeds new : List Deed) (s : Sent) (left rest : List Sent) (coming : List Back) (h : List Entry) (w v : State) (r : Reply) → Running doc k before left coming h w deeds → IsKnown (processes doc) h s.who → Unmoved w v → v.in_force ≡ w.in_force →
-    Serves doc k rest coming h deeds new v r (as_arrived s) → Running doc k before rest coming (answered doc k s h) v new
+serve-one : (doc : Doc) (k : ℕ) (before deeds new : List Deed) (s : Sent) (left rest : List Sent) (coming : List Back) (h : List Entry) (w v : State) (r : Reply) → MidBeat doc k before left coming h w deeds → IsKnown (processes doc) h s.who → Unmoved w v → v.in_force ≡ w.in_force →
+    Serves doc k rest coming h deeds new v r (as_arrived s) → MidBeat doc k before rest coming (answered doc k s h) v new
 serve-one doc k before deeds new s left rest coming h w v r run known unmoved in_force serves =
     answered-running doc k before deeds new left rest coming s h w v run known unmoved in_force
     (serves.store (entry k 2 s.who (Answers s.call (answer s.call.request h) (reply_arrival doc s.who.process k h) (written s.call.request h))) refl)
@@ -58,7 +58,7 @@ pub answering-more : (doc : Doc) (k : ℕ) (before deeds new : List Deed) (arriv
     arrived_of (first_of a.left) ≡ Some x → Unmoved w v → v.in_force ≡ w.in_force → Serves doc k (rest_of a.left) coming a.now deeds new v r x → Answering doc k before arriving coming h v new
 answering-more doc k before deeds new arriving coming h w v r x a first unmoved in_force serves = by_left a.left a.running a.known a.same first serves
   where
-    by_left : (left : List Sent) → Running doc k before left coming a.now w deeds → SentByKnown (processes doc) a.now left → answer_all doc k left a.now ≡ answer_all doc k arriving h → arrived_of (first_of left) ≡ Some x →
+    by_left : (left : List Sent) → MidBeat doc k before left coming a.now w deeds → SentByKnown (processes doc) a.now left → answer_all doc k left a.now ≡ answer_all doc k arriving h → arrived_of (first_of left) ≡ Some x →
         Serves doc k (rest_of left) coming a.now deeds new v r x → Answering doc k before arriving coming h v new
     by_left [] run known same first serves = cc
     by_left (s ∷ rest) run known same first serves =
@@ -73,17 +73,17 @@ answering-more doc k before deeds new arriving coming h w v r x a first unmoved 
 
 -- nothing is left
 pub answering-done : (doc : Doc) (k : ℕ) (before deeds : List Deed) (arriving : List Sent) (coming : List Back) (h : List Entry) (w v : State) → (a : Answering doc k before arriving coming h w deeds) → arrived_of (first_of a.left) ≡ None →
-    (Running doc k before a.left coming a.now w deeds → Running doc k before (rest_of a.left) coming a.now v deeds) → Running doc k before [] coming (answer_all doc k arriving h) v deeds
+    (MidBeat doc k before a.left coming a.now w deeds → MidBeat doc k before (rest_of a.left) coming a.now v deeds) → MidBeat doc k before [] coming (answer_all doc k arriving h) v deeds
 answering-done doc k before deeds arriving coming h w v a none taken = by_left a.left a.running a.same none taken
   where
-    by_left : (left : List Sent) → Running doc k before left coming a.now w deeds → answer_all doc k left a.now ≡ answer_all doc k arriving h → arrived_of (first_of left) ≡ None →
-        (Running doc k before left coming a.now w deeds → Running doc k before (rest_of left) coming a.now v deeds) → Running doc k before [] coming (answer_all doc k arriving h) v deeds
-    by_left [] run same none taken = subst (λ g. Running doc k before [] coming g v deeds) same (taken run)
+    by_left : (left : List Sent) → MidBeat doc k before left coming a.now w deeds → answer_all doc k left a.now ≡ answer_all doc k arriving h → arrived_of (first_of left) ≡ None →
+        (MidBeat doc k before left coming a.now w deeds → MidBeat doc k before (rest_of left) coming a.now v deeds) → MidBeat doc k before [] coming (answer_all doc k arriving h) v deeds
+    by_left [] run same none taken = subst (λ g. MidBeat doc k before [] coming g v deeds) same (taken run)
     by_left (s ∷ rest) run same none taken = cc
 
 -- the wire gave something out
 pub rewired : (doc : Doc) (k : ℕ) (before deeds : List Deed) (arriving left : List Sent) (coming rest : List Back) (h : List Entry) (w v : State) → Unmoved w v → v.in_force ≡ w.in_force → v.store ≡ w.store →
-    WireStands (processes doc) k left rest h v.wire → Running doc k before arriving coming h w deeds → Running doc k before left rest h v deeds
+    WireStands (processes doc) k left rest h v.wire → MidBeat doc k before arriving coming h w deeds → MidBeat doc k before left rest h v deeds
 rewired doc k before deeds arriving left coming rest h w v unmoved in_force store wire r =
     record {
       world = record {
@@ -105,7 +105,7 @@ rewired doc k before deeds arriving left coming rest h w v unmoved in_force stor
 pub record Delivering (doc : Doc) (k : ℕ) (before : List Deed) (arriving : List Sent) (coming : List Back) (h : List Entry) (w : State) (deeds : List Deed) : Type 0 where
   pub now : List Entry
   pub left : List Back
-  pub running : Running doc k before arriving left now w deeds
+  pub running : MidBeat doc k before arriving left now w deeds
   pub known : BackToKnown (processes doc) now left
   pub same : deliver_all doc k left now ≡ deliver_all doc k coming h
 
@@ -114,11 +114,11 @@ grows-deliver_all doc k [] h = grows-same h
 grows-deliver_all doc k (b ∷ bs) h = grows-on h (delivered doc k b h) (deliver_all doc k bs (delivered doc k b h)) (grows-delivered doc k b h) (grows-deliver_all doc k bs (delivered doc k b h))
 
 pub delivering-more : (doc : Doc) (k : ℕ) (before deeds new : List Deed) (arriving : List Sent) (coming : List Back) (h : List Entry) (w v : State) (x : Delivered) → (a : Delivering doc k before arriving coming h w deeds) → delivered_of (first_of a.left) ≡ Some x → IsFew (deliver_all doc k coming h) →
-    ((b : Back) → x ≡ as_delivered b → IsKnown (processes doc) a.now b.who → IsFew (delivered doc k b a.now) → Running doc k before arriving (rest_of a.left) (delivered doc k b a.now) v new) → Delivering doc k before arriving coming h v new
+    ((b : Back) → x ≡ as_delivered b → IsKnown (processes doc) a.now b.who → IsFew (delivered doc k b a.now) → MidBeat doc k before arriving (rest_of a.left) (delivered doc k b a.now) v new) → Delivering doc k before arriving coming h v new
 delivering-more doc k before deeds new arriving coming h w v x a first few delivers = by_left a.left a.known a.same first delivers
   where
     by_left : (left : List Back) → BackToKnown (processes doc) a.now left → deliver_all doc k left a.now ≡ deliver_all doc k coming h → delivered_of (first_of left) ≡ Some x →
-        ((b : Back) → x ≡ as_delivered b → IsKnown (processes doc) a.now b.who → IsFew (delivered doc k b a.now) → Running doc k before arriving (rest_of left) (delivered doc k b a.now) v new) → Delivering doc k before arriving coming h v new
+        ((b : Back) → x ≡ as_delivered b → IsKnown (processes doc) a.now b.who → IsFew (delivered doc k b a.now) → MidBeat doc k before arriving (rest_of left) (delivered doc k b a.now) v new) → Delivering doc k before arriving coming h v new
     by_left [] known same first delivers = cc
     by_left (b ∷ rest) known same first delivers =
         let is : x ≡ as_delivered b = cc in
@@ -133,12 +133,12 @@ delivering-more doc k before deeds new arriving coming h w v x a first few deliv
         }
 
 pub delivering-done : (doc : Doc) (k : ℕ) (before deeds : List Deed) (arriving : List Sent) (coming : List Back) (h : List Entry) (w v : State) → (a : Delivering doc k before arriving coming h w deeds) → delivered_of (first_of a.left) ≡ None →
-    (Running doc k before arriving a.left a.now w deeds → Running doc k before arriving (rest_of a.left) a.now v deeds) → Running doc k before arriving [] (deliver_all doc k coming h) v deeds
+    (MidBeat doc k before arriving a.left a.now w deeds → MidBeat doc k before arriving (rest_of a.left) a.now v deeds) → MidBeat doc k before arriving [] (deliver_all doc k coming h) v deeds
 delivering-done doc k before deeds arriving coming h w v a none taken = by_left a.left a.running a.same none taken
   where
-    by_left : (left : List Back) → Running doc k before arriving left a.now w deeds → deliver_all doc k left a.now ≡ deliver_all doc k coming h → delivered_of (first_of left) ≡ None →
-        (Running doc k before arriving left a.now w deeds → Running doc k before arriving (rest_of left) a.now v deeds) → Running doc k before arriving [] (deliver_all doc k coming h) v deeds
-    by_left [] run same none taken = subst (λ g. Running doc k before arriving [] g v deeds) same (taken run)
+    by_left : (left : List Back) → MidBeat doc k before arriving left a.now w deeds → deliver_all doc k left a.now ≡ deliver_all doc k coming h → delivered_of (first_of left) ≡ None →
+        (MidBeat doc k before arriving left a.now w deeds → MidBeat doc k before arriving (rest_of left) a.now v deeds) → MidBeat doc k before arriving [] (deliver_all doc k coming h) v deeds
+    by_left [] run same none taken = subst (λ g. MidBeat doc k before arriving [] g v deeds) same (taken run)
     by_left (b ∷ rest) run same none taken = cc
 
 -- ---- what each turn of a loop keeps

@@ -19,7 +19,7 @@ use Rattle.world_process.specs.Processes.{waking_of}
 use Rattle.world_process.proofs.Names.{eq-is, eq-isnt, eq-self}
 use Rattle.world_process.proofs.Wakes.{kept-still}
 use Rattle.world_core.specs.declared.state.State.{State}
-use Rattle.world_core.specs.States.{AreNoted, IsReady, Running}
+use Rattle.world_core.specs.States.{AreNoted, IsReady, MidBeat}
 use Rattle.world_core.specs.Waits.{awake_turn, own_ticks_as}
 use Rattle.world_core.proofs.Ranges.{not-below}
 use Rattle.world_core.proofs.Ticking.{turn-is}
@@ -45,7 +45,7 @@ kubelet-turn doc k p h more = turn-is doc k p h ∙ ap (λ b. own_ticks_as doc k
 
 -- a kubelet whose leaf doesn't come before the next beat adds nothing in its turn
 passed-turn : (doc : Doc) (k p : ℕ) (before : List Deed) (arriving : List Sent) (coming : List Back) (h : List Entry) (w : State) (deeds : List Deed) (next : Beat) → IsReady w → w.beat.0 ≤ w.end.0 → next.0 ≡ w.beat.0 + 1
-    → Running doc k before arriving coming h w deeds → p < processes doc → length doc.controllers ≤ p → comes_before (leaf w.turn_beats p) (Some next) ≡ false → turn doc k p h ≡ h
+    → MidBeat doc k before arriving coming h w deeds → p < processes doc → length doc.controllers ≤ p → comes_before (leaf w.turn_beats p) (Some next) ≡ false → turn doc k p h ≡ h
 passed-turn doc k p before arriving coming h w deeds next ready within next_is r inside more later =
     let d = r.world.rest.document in
     let count = d.count in
@@ -61,7 +61,7 @@ passed-turn doc k p before arriving coming h w deeds next ready within next_is r
     kubelet-turn doc k p h more ∙ awake-still doc k p h still
 
 pub passed-turns : (doc : Doc) (k from n : ℕ) (before : List Deed) (arriving : List Sent) (coming : List Back) (h : List Entry) (w : State) (deeds : List Deed) (next : Beat) → IsReady w → w.beat.0 ≤ w.end.0 → next.0 ≡ w.beat.0 + 1
-    → Running doc k before arriving coming (turns doc k from h) w deeds → from + n ≤ processes doc → length doc.controllers ≤ from
+    → MidBeat doc k before arriving coming (turns doc k from h) w deeds → from + n ≤ processes doc → length doc.controllers ≤ from
     → ((p : ℕ) → from ≤ p → p < from + n → comes_before (leaf w.turn_beats p) (Some next) ≡ false) → turns doc k (from + n) h ≡ turns doc k from h
 passed-turns doc k from zero before arriving coming h w deeds next ready within next_is r inside more later = let same : from + 0 ≡ from = omega arith in ap (λ m. turns doc k m h) same
 passed-turns doc k from (suc n) before arriving coming h w deeds next ready within next_is r inside more later =
@@ -71,7 +71,7 @@ passed-turns doc k from (suc n) before arriving coming h w deeds next ready with
     ∙ passed-turn doc k (from + n) before arriving coming (turns doc k from h) w deeds next ready within next_is r (omega (arith, inside)) (omega (arith, more)) (later (from + n) (omega arith) (omega arith))
 
 pub passed-to : (doc : Doc) (k from i : ℕ) (before : List Deed) (arriving : List Sent) (coming : List Back) (h : List Entry) (w : State) (deeds : List Deed) (next : Beat) → IsReady w → w.beat.0 ≤ w.end.0 → next.0 ≡ w.beat.0 + 1
-    → Running doc k before arriving coming (turns doc k from h) w deeds → from ≤ i → i ≤ processes doc → length doc.controllers ≤ from
+    → MidBeat doc k before arriving coming (turns doc k from h) w deeds → from ≤ i → i ≤ processes doc → length doc.controllers ≤ from
     → ((p : ℕ) → from ≤ p → p < i → comes_before (leaf w.turn_beats p) (Some next) ≡ false) → turns doc k i h ≡ turns doc k from h
 passed-to doc k from i before arriving coming h w deeds next ready within next_is r up inside more later =
     let all : from + (i - from) ≡ i = omega (arith, up) in

@@ -25,7 +25,7 @@ use Rattle.world_process.specs.Processes.{IsKept, ProcessStands, SameProcess, As
 use Rattle.world_process.specs.InForce.{InForceStands}
 use Rattle.world_process.specs.Moves.{AsksOnReply, before_asking, own_turn, started_deeds, ended_deeds, lead_deeds}
 use Rattle.world_process.specs.Plain.{IsKnown, with_facts}
-use Rattle.world_core.specs.States.{AreKept, AreNoted, IsFit, IsReady, SameDocument, Keeps, DocStands, EachStands, OthersStand, StateWithin, Running, SendsAsked}
+use Rattle.world_core.specs.States.{AreKept, AreNoted, IsFit, IsReady, SameDocument, Keeps, DocStands, EachStands, OthersStand, StateWithin, MidBeat, SendsAsked}
 use Rattle.world_core.proofs.Around.{Around, around-world, around-own, around-facts, around-before, around-started}
 use Rattle.world_core.proofs.Renewing.{fresh-started, terms-delivered}
 use Rattle.world_process.proofs.Forces.{in_force-beside}
@@ -155,9 +155,9 @@ told-turn doc k i before deeds h c t told turned =
     let e = ended_deeds k (identity i (incarnation_of c)) t.ended in
     sym (append_assoc before (deeds ++ s) e) ∙ ap (λ x. x ++ e) (sym (append_assoc before deeds s)) ∙ ap (λ x. x ++ s ++ e) told ∙ sym turned.told
 
-pub running-turned : (doc : Doc) (k i : ℕ) (before deeds new : List Deed) (arriving : List Sent) (coming : List Back) (h : List Entry) (c0 c1 : Process) (w v : State) (t : Turn) → Running doc k before arriving coming h w deeds →
+pub running-turned : (doc : Doc) (k i : ℕ) (before deeds new : List Deed) (arriving : List Sent) (coming : List Back) (h : List Entry) (c0 c1 : Process) (w v : State) (t : Turn) → MidBeat doc k before arriving coming h w deeds →
     i < processes doc → Moved i c0 c1 w v → SendsAsked k (identity i (incarnation_of c1)) t.ask w.wire v.wire → Turned doc k i h c1 t → TermsStand doc (before_asking doc k i h) v.terms → new ≡ turn_told k (identity i (incarnation_of c1)) t deeds →
-    Running doc k before arriving coming (own_turn doc k i h) v new
+    MidBeat doc k before arriving coming (own_turn doc k i h) v new
 running-turned doc k i before deeds new arriving coming h c0 c1 w v t r within m sends turned terms new_is =
     let base = before_asking doc k i h in
     let around = around-before doc k i arriving coming h w within (around-world doc k i arriving coming h w r.world) in
@@ -187,9 +187,9 @@ within-replied doc k i arriving coming b h c0 c1 w v (Some ask) process within k
     let known_g : IsKnown (processes doc) g q = known-later (processes doc) (entry k 3 q d) h q known_q in
     within-sent doc k 3 i arriving coming g (delivered doc k b h) c0 c1 w v ask m sends (around-own doc k i k 3 arriving coming q d h w refl refl known_g a) within on.asked (terms-beside doc h (entry k 3 q d) v.terms refl terms)
 
-pub running-replied : (doc : Doc) (k i : ℕ) (before deeds new : List Deed) (arriving : List Sent) (coming : List Back) (b : Back) (h : List Entry) (c0 c1 : Process) (w v : State) (x : Received) → Running doc k before arriving coming h w deeds →
+pub running-replied : (doc : Doc) (k i : ℕ) (before deeds new : List Deed) (arriving : List Sent) (coming : List Back) (b : Back) (h : List Entry) (c0 c1 : Process) (w v : State) (x : Received) → MidBeat doc k before arriving coming h w deeds →
     b.who.process ≡ i → i < processes doc → IsKnown (processes doc) h b.who → Moved i c0 c1 w v → v.terms ≡ w.terms → SendsAsked k (identity i (incarnation_of c1)) x.ask w.wire v.wire → Replied doc k i b h c1 x → new ≡ reply_told k (identity i (incarnation_of c1)) x deeds →
-    Running doc k before arriving coming (delivered doc k b h) v new
+    MidBeat doc k before arriving coming (delivered doc k b h) v new
 running-replied doc k i before deeds new arriving coming b h c0 c1 w v x r process within known m terms sends replied new_is =
     record {
       world = within-replied doc k i arriving coming b h c0 c1 w v x.ask process within known m sends (around-world doc k i arriving coming h w r.world) replied.asks (subst (TermsStand doc h) (sym terms) r.world.terms);
@@ -289,22 +289,22 @@ keeps-set i c0 w v ready m count beats =
 
 -- ---- a first start
 
-pub first-not : (doc : Doc) (i : ℕ) (before deeds : List Deed) (arriving : List Sent) (coming : List Back) (h : List Entry) (c0 : Process) (w v : State) → Running doc 0 before arriving coming h w deeds → Moved i c0 c0 w v → v.wire ≡ w.wire → v.terms ≡ w.terms → is_up_first_as c0 ≡ false →
-    Running doc 0 before arriving coming (start_first i (is_up_first doc i) h) v deeds
+pub first-not : (doc : Doc) (i : ℕ) (before deeds : List Deed) (arriving : List Sent) (coming : List Back) (h : List Entry) (c0 : Process) (w v : State) → MidBeat doc 0 before arriving coming h w deeds → Moved i c0 c0 w v → v.wire ≡ w.wire → v.terms ≡ w.terms → is_up_first_as c0 ≡ false →
+    MidBeat doc 0 before arriving coming (start_first i (is_up_first doc i) h) v deeds
 first-not doc i before deeds arriving coming h c0 w v r m wire terms down =
     let s = r.world.processes i c0 m.was in
     let same : h ≡ start_first i (is_up_first doc i) h = ap (λ b. start_first i b h) (sym down ∙ process-up_first doc i h c0 s) in
-    subst (λ g. Running doc 0 before arriving coming g v deeds) same
+    subst (λ g. MidBeat doc 0 before arriving coming g v deeds) same
     (record { world = within-moved doc 0 i arriving coming h c0 c0 w v m wire (around-world doc 0 i arriving coming h w r.world) s (subst (TermsStand doc h) (sym terms) r.world.terms); told = r.told })
 
-pub first-started : (doc : Doc) (i : ℕ) (before deeds new : List Deed) (arriving : List Sent) (coming : List Back) (h : List Entry) (c0 c1 : Process) (w v : State) → Running doc 0 before arriving coming h w deeds → i < processes doc → Moved i c0 c1 w v → v.wire ≡ w.wire → is_up_first_as c0 ≡ true →
-    ProcessStands doc i (start 0 1 i h) c1 → (TermsStandBut doc i (start 0 1 i h) w.terms → IsFresh i (start 0 1 i h) → TermsStand doc (start 0 1 i h) v.terms) → new ≡ deeds ++ deeds_of 0 (actor_of (identity i (incarnation_of c1))) (Some act.Start) → Running doc 0 before arriving coming (start_first i (is_up_first doc i) h) v new
+pub first-started : (doc : Doc) (i : ℕ) (before deeds new : List Deed) (arriving : List Sent) (coming : List Back) (h : List Entry) (c0 c1 : Process) (w v : State) → MidBeat doc 0 before arriving coming h w deeds → i < processes doc → Moved i c0 c1 w v → v.wire ≡ w.wire → is_up_first_as c0 ≡ true →
+    ProcessStands doc i (start 0 1 i h) c1 → (TermsStandBut doc i (start 0 1 i h) w.terms → IsFresh i (start 0 1 i h) → TermsStand doc (start 0 1 i h) v.terms) → new ≡ deeds ++ deeds_of 0 (actor_of (identity i (incarnation_of c1))) (Some act.Start) → MidBeat doc 0 before arriving coming (start_first i (is_up_first doc i) h) v new
 first-started doc i before deeds new arriving coming h c0 c1 w v r within m wire up stands anew new_is =
     let s = r.world.processes i c0 m.was in
     let same : start 0 1 i h ≡ start_first i (is_up_first doc i) h = ap (λ b. start_first i b h) (sym up ∙ process-up_first doc i h c0 s) in
     let around = around-started doc 0 i 0 1 arriving coming h w within (around-world doc 0 i arriving coming h w r.world) in
     let last : (incarnation_of c1) ≡ starts i h + 1 = process-incarnation doc i (start 0 1 i h) c1 stands ∙ starts-start 0 1 (identity i (starts i h + 1)) h in
-    subst (λ g. Running doc 0 before arriving coming g v new) same
+    subst (λ g. MidBeat doc 0 before arriving coming g v new) same
     (record {
       world = within-moved doc 0 i arriving coming (start 0 1 i h) c0 c1 w v m wire around stands (anew around.terms (fresh-started (processes doc) 0 1 i h r.world.rest.plain));
       told = ap (λ ds. before ++ ds) new_is ∙ sym (append_assoc before deeds (deeds_of 0 (actor_of (identity i (incarnation_of c1))) (Some act.Start)))
@@ -314,9 +314,9 @@ first-started doc i before deeds new arriving coming h c0 c1 w v r within m wire
 
 -- ---- an answer of the store
 
-pub answered-running : (doc : Doc) (k : ℕ) (before deeds new : List Deed) (left rest : List Sent) (coming : List Back) (s : Sent) (h : List Entry) (w v : State) → Running doc k before left coming h w deeds →
+pub answered-running : (doc : Doc) (k : ℕ) (before deeds new : List Deed) (left rest : List Sent) (coming : List Back) (s : Sent) (h : List Entry) (w v : State) → MidBeat doc k before left coming h w deeds →
     IsKnown (processes doc) h s.who → Unmoved w v → v.in_force ≡ w.in_force → StoreStands (answered doc k s h) v.store → WireStands (processes doc) k rest coming (answered doc k s h) v.wire →
-    new ≡ deeds ++ deeds_of k (actor_of s.who) (answer_act s.call.request (answer s.call.request h)) → Running doc k before rest coming (answered doc k s h) v new
+    new ≡ deeds ++ deeds_of k (actor_of s.who) (answer_act s.call.request (answer s.call.request h)) → MidBeat doc k before rest coming (answered doc k s h) v new
 answered-running doc k before deeds new left rest coming s h w v run known unmoved in_force store wire new_is =
     let d = Answers s.call (answer s.call.request h) (reply_arrival doc s.who.process k h) (written s.call.request h) in
     let e = entry k 2 s.who d in

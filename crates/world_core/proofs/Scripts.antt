@@ -28,14 +28,14 @@ use Rattle.world_core.specs.declared.state.State.{State}
 use Rattle.world_process.specs.Processes.{ProcessStands, AsksOn, incarnation_of}
 use Rattle.world_process.specs.InForce.{InForceStands}
 use Rattle.world_process.specs.Moves.{stop_in, stopped}
-use Rattle.world_core.specs.States.{EachStands, Running, SendsAsked}
+use Rattle.world_core.specs.States.{EachStands, MidBeat, SendsAsked}
 use Rattle.world_core.proofs.Around.{Around, around-own, around-started, alive-known, rest-own}
 use Rattle.world_process.proofs.Forces.{sets_standing, in_force-beside}
 use Rattle.world_process.proofs.Names.{lt-from, eq-is, eq-isnt}
 use Rattle.world_process.proofs.Plainly.{known-later}
 use Rattle.world_process.proofs.Processes.{process-event, process-stalled}
 use Rattle.world_process.proofs.Scripted.{plain-script}
-use Rattle.world_core.proofs.Running.{Moved, Unmoved, doc-same, within-asked, within-moved, printed-asked, told-more, unmoved-self}
+use Rattle.world_core.proofs.MidBeat.{Moved, Unmoved, doc-same, within-asked, within-moved, printed-asked, told-more, unmoved-self}
 use Rattle.world_terms.specs.TermsStand.{TermsStand}
 use Rattle.world_terms.proofs.Frames.{but-beside, terms-beside}
 
@@ -48,9 +48,9 @@ controller-within doc p is = let less = lt-from p (length doc.controllers) is in
 abbrev pub scripted : ℕ → What → Option Version → List Entry → List Entry
 scripted k event version h = script_entry k 1 (Event event version) ∷ h
 
-pub running-event : (doc : Doc) (k : ℕ) (before deeds new : List Deed) (arriving : List Sent) (coming : List Back) (h : List Entry) (w v : State) (event : What) (version : Option Version) → Running doc k before arriving coming h w deeds →
+pub running-event : (doc : Doc) (k : ℕ) (before deeds new : List Deed) (arriving : List Sent) (coming : List Back) (h : List Entry) (w v : State) (event : What) (version : Option Version) → MidBeat doc k before arriving coming h w deeds →
     ((p : ℕ) → cancels doc p k event ≡ false) → Unmoved w v → InForceStands doc (scripted k event version h) v.in_force → StoreStands (scripted k event version h) v.store → WireStands (processes doc) k arriving coming (scripted k event version h) v.wire →
-    new ≡ deeds ++ deeds_of k actor.Script (event_act event version) → Running doc k before arriving coming (scripted k event version h) v new
+    new ≡ deeds ++ deeds_of k actor.Script (event_act event version) → MidBeat doc k before arriving coming (scripted k event version h) v new
 running-event doc k before deeds new arriving coming h w v event version r beside unmoved in_force store wire new_is =
     record {
       world = record {
@@ -68,8 +68,8 @@ running-event doc k before deeds new arriving coming h w v event version r besid
     }
 
 -- it changes nothing in the world and is not printed
-pub running-plain : (doc : Doc) (k : ℕ) (before deeds : List Deed) (arriving : List Sent) (coming : List Back) (h : List Entry) (w : State) (event : What) → Running doc k before arriving coming h w deeds → is_of_wire (Event event None) ≡ false → write_of (Event event None) ≡ None → sets_standing event ≡ false →
-    ((p : ℕ) → cancels doc p k event ≡ false) → Running doc k before arriving coming (scripted k event None h) w deeds
+pub running-plain : (doc : Doc) (k : ℕ) (before deeds : List Deed) (arriving : List Sent) (coming : List Back) (h : List Entry) (w : State) (event : What) → MidBeat doc k before arriving coming h w deeds → is_of_wire (Event event None) ≡ false → write_of (Event event None) ≡ None → sets_standing event ≡ false →
+    ((p : ℕ) → cancels doc p k event ≡ false) → MidBeat doc k before arriving coming (scripted k event None h) w deeds
 running-plain doc k before deeds arriving coming h w event r wire write standing beside =
     let e = script_entry k 1 (Event event None) in
     running-event doc k before deeds deeds arriving coming h w w event None r beside (unmoved-self w) (in_force-beside doc e h w.in_force standing r.world.rest.in_force)
@@ -146,9 +146,9 @@ around-stop doc k id arriving coming h w within a = by_pause (not (is_paused doc
 
 -- a controller that is paused isn't stopped
 pub running-unstopped : (doc : Doc) (k : ℕ) (before deeds : List Deed) (arriving : List Sent) (coming : List Back) (h : List Entry) (w : State) (id : ProcId) → is_paused doc id.0 k ≡ true
-    → Running doc k before arriving coming h w deeds → Running doc k before arriving coming (happens doc k (what.Stop id) h) w deeds
+    → MidBeat doc k before arriving coming h w deeds → MidBeat doc k before arriving coming (happens doc k (what.Stop id) h) w deeds
 running-unstopped doc k before deeds arriving coming h w id paused r =
-    subst (λ g. Running doc k before arriving coming g w deeds) (sym base) (running-plain doc k before deeds arriving coming h w (what.Stop id) r refl refl refl (λ p. by_place p (id.0 == p) refl))
+    subst (λ g. MidBeat doc k before arriving coming g w deeds) (sym base) (running-plain doc k before deeds arriving coming h w (what.Stop id) r refl refl refl (λ p. by_place p (id.0 == p) refl))
   where
     g : List Entry
     g = scripted k (what.Stop id) None h
@@ -161,19 +161,19 @@ running-unstopped doc k before deeds arriving coming h w id paused r =
     by_place p false other = ap (λ b. b && not (is_paused doc p k)) other
 
 -- a pause is told of a process that is up
-pub running-stalled : (doc : Doc) (k : ℕ) (before deeds new : List Deed) (arriving : List Sent) (coming : List Back) (h : List Entry) (w : State) (id : ProcId) (beats i : ℕ) (up : Bool) → Running doc k before arriving coming h w deeds → id.0 < processes doc → alive id.0 h ≡ when up i
-    → new ≡ deeds ++ deeds_of k (actor_of (identity id.0 i)) (when up (act.Pause beats)) → Running doc k before arriving coming (happens doc k (what.Pause id beats) h) w new
+pub running-stalled : (doc : Doc) (k : ℕ) (before deeds new : List Deed) (arriving : List Sent) (coming : List Back) (h : List Entry) (w : State) (id : ProcId) (beats i : ℕ) (up : Bool) → MidBeat doc k before arriving coming h w deeds → id.0 < processes doc → alive id.0 h ≡ when up i
+    → new ≡ deeds ++ deeds_of k (actor_of (identity id.0 i)) (when up (act.Pause beats)) → MidBeat doc k before arriving coming (happens doc k (what.Pause id beats) h) w new
 running-stalled doc k before deeds new arriving coming h w id beats i up r within lives new_is =
-    subst (λ o. Running doc k before arriving coming (stall k id.0 beats o g) w new) (sym lives) (by_life up lives new_is)
+    subst (λ o. MidBeat doc k before arriving coming (stall k id.0 beats o g) w new) (sym lives) (by_life up lives new_is)
   where
     g : List Entry
     g = scripted k (what.Pause id beats) None h
 
-    base : Running doc k before arriving coming g w deeds
+    base : MidBeat doc k before arriving coming g w deeds
     base = running-plain doc k before deeds arriving coming h w (what.Pause id beats) r refl refl refl (λ p. refl)
 
-    by_life : (b : Bool) → alive id.0 h ≡ when b i → new ≡ deeds ++ deeds_of k (actor_of (identity id.0 i)) (when b (act.Pause beats)) → Running doc k before arriving coming (stall k id.0 beats (when b i) g) w new
-    by_life false lives new_is = subst (Running doc k before arriving coming g w) (sym (new_is ∙ append-nil deeds)) base
+    by_life : (b : Bool) → alive id.0 h ≡ when b i → new ≡ deeds ++ deeds_of k (actor_of (identity id.0 i)) (when b (act.Pause beats)) → MidBeat doc k before arriving coming (stall k id.0 beats (when b i) g) w new
+    by_life false lives new_is = subst (MidBeat doc k before arriving coming g w) (sym (new_is ∙ append-nil deeds)) base
     by_life true lives new_is =
         let q = identity id.0 i in
         let e = entry k 1 q (Stalls beats) in
@@ -188,15 +188,15 @@ running-stalled doc k before deeds new arriving coming h w id beats i up r withi
         }
 
 -- the process stands for the history with the event, and sends nothing
-pub running-moved : (doc : Doc) (k i : ℕ) (before deeds new more : List Deed) (arriving : List Sent) (coming : List Back) (h next : List Entry) (c0 c1 : Process) (w v : State) → Running doc k before arriving coming h w deeds → Moved i c0 c1 w v → v.wire ≡ w.wire →
-    Around doc k i arriving coming next w → ProcessStands doc i next c1 → TermsStand doc next v.terms → printed next ≡ printed h ++ more → new ≡ deeds ++ more → Running doc k before arriving coming next v new
+pub running-moved : (doc : Doc) (k i : ℕ) (before deeds new more : List Deed) (arriving : List Sent) (coming : List Back) (h next : List Entry) (c0 c1 : Process) (w v : State) → MidBeat doc k before arriving coming h w deeds → Moved i c0 c1 w v → v.wire ≡ w.wire →
+    Around doc k i arriving coming next w → ProcessStands doc i next c1 → TermsStand doc next v.terms → printed next ≡ printed h ++ more → new ≡ deeds ++ more → MidBeat doc k before arriving coming next v new
 running-moved doc k i before deeds new more arriving coming h next c0 c1 w v r m wire around stands terms printed_is new_is =
     record { world = within-moved doc k i arriving coming next c0 c1 w v m wire around stands terms; told = told-more before deeds new more h next r.told new_is printed_is }
 
 -- what it asks was sent, where it asks
-pub running-asked : (doc : Doc) (k i : ℕ) (before deeds new more : List Deed) (arriving : List Sent) (coming : List Back) (h base next : List Entry) (c0 c1 : Process) (w v : State) (ask : Option Ask) → Running doc k before arriving coming h w deeds →
+pub running-asked : (doc : Doc) (k i : ℕ) (before deeds new more : List Deed) (arriving : List Sent) (coming : List Back) (h base next : List Entry) (c0 c1 : Process) (w v : State) (ask : Option Ask) → MidBeat doc k before arriving coming h w deeds →
     i < processes doc → Moved i c0 c1 w v → SendsAsked k (identity i (incarnation_of c1)) ask w.wire v.wire → Around doc k i arriving coming base w → AsksOn doc k 1 i base next c1 ask → TermsStand doc base v.terms → printed base ≡ printed h ++ more → new ≡ deeds ++ more →
-    Running doc k before arriving coming next v new
+    MidBeat doc k before arriving coming next v new
 running-asked doc k i before deeds new more arriving coming h base next c0 c1 w v ask r within m sends around asks terms printed_is new_is =
     record {
       world = within-asked doc k 1 i arriving coming base next c0 c1 w v ask m sends around within asks terms;

@@ -22,7 +22,7 @@ use Rattle.beat_laws.proofs.Names.{nodes_are_named}
 use Rattle.beat_laws.proofs.Unticked.{elector_unticked}
 use Rattle.skew_clock.specs.Clocking.{Clocking, reading, wall_when}
 use Rattle.term_state.specs.declared.view.View.{View}
-use Rattle.term_state.specs.Running.{IsView}
+use Rattle.term_state.specs.MidBeat.{IsView}
 use Rattle.wire_calls.specs.WireStands.{WireStands}
 use Rattle.wire_calls.proofs.Frames.{wire-beside}
 use Rattle.world_process.specs.Clocked.{ClockStands}
@@ -38,7 +38,7 @@ use Rattle.world_process.proofs.Readings.{reading-local, wall-when}
 use Rattle.world_process.proofs.Unheard.{and-false}
 use Rattle.world_terms.specs.TermsStand.{IsUpAs, TermsTicked}
 use Rattle.world_core.specs.declared.state.State.{State}
-use Rattle.world_core.specs.States.{EachStands, Running, StateWithin}
+use Rattle.world_core.specs.States.{EachStands, MidBeat, StateWithin}
 use Rattle.world_core.specs.Waits.{awake_turn, own_ticks, own_ticks_as, turn_if}
 use Rattle.world_core.proofs.Around.{alive-known}
 
@@ -160,14 +160,14 @@ pub record SameButTicked (w v : State) : Type 0 where
   pub controllers : v.controllers ≡ w.controllers
 
 pub running-ticked : (doc : Doc) (k p i : ℕ) (before deeds told : List Deed) (arriving : List Sent) (coming : List Back) (h : List Entry) (w v : State) → is_paused doc p k ≡ false → p < processes doc → alive p h ≡ Some i → InTermAs doc k p i h → SameButTicked w v
-    → Running doc k before arriving coming h w deeds → TermsTicked doc k (identity p i) h told v.terms v.store → Running doc k before arriving coming (own_ticks doc k p h) v (deeds ++ told)
+    → MidBeat doc k before arriving coming h w deeds → TermsTicked doc k (identity p i) h told v.terms v.store → MidBeat doc k before arriving coming (own_ticks doc k p h) v (deeds ++ told)
 running-ticked doc k p i before deeds told arriving coming h w v awake within up acts same r t =
     let q = identity p i in
     let d = r.world.rest.document in
     let known = alive-known (processes doc) p i h r.world.rest.plain within up in
     let b = beside-tick doc k arriving coming w k q h known (beside-world doc k arriving coming h w r.world) in
     let is = ticks-acting doc k p i h awake up acts in
-    subst (λ g. Running doc k before arriving coming g v (deeds ++ told)) (sym is)
+    subst (λ g. MidBeat doc k before arriving coming g v (deeds ++ told)) (sym is)
     (record {
       world = record {
         rest = record {
@@ -193,13 +193,13 @@ running-ticked doc k p i before deeds told arriving coming h w v awake within up
 
 -- no tick in a pause
 pub running-rests : (doc : Doc) (k p : ℕ) (before deeds : List Deed) (arriving : List Sent) (coming : List Back) (h : List Entry) (w : State) → is_paused doc p k ≡ true
-    → Running doc k before arriving coming h w deeds → Running doc k before arriving coming (own_ticks doc k p h) w deeds
-running-rests doc k p before deeds arriving coming h w paused r = subst (λ g. Running doc k before arriving coming g w deeds) (sym (ticks-paused doc k p h paused)) r
+    → MidBeat doc k before arriving coming h w deeds → MidBeat doc k before arriving coming (own_ticks doc k p h) w deeds
+running-rests doc k p before deeds arriving coming h w paused r = subst (λ g. MidBeat doc k before arriving coming g w deeds) (sym (ticks-paused doc k p h paused)) r
 
 -- no tick
 pub running-unticked : (doc : Doc) (k p : ℕ) (before deeds : List Deed) (arriving : List Sent) (coming : List Back) (h : List Entry) (w : State) → in_term_now doc k p h ≡ false
-    → Running doc k before arriving coming h w deeds → Running doc k before arriving coming (own_ticks doc k p h) w deeds
-running-unticked doc k p before deeds arriving coming h w none r = subst (λ g. Running doc k before arriving coming g w deeds) (sym (ticks-none doc k p h none)) r
+    → MidBeat doc k before arriving coming h w deeds → MidBeat doc k before arriving coming (own_ticks doc k p h) w deeds
+running-unticked doc k p before deeds arriving coming h w none r = subst (λ g. MidBeat doc k before arriving coming g w deeds) (sym (ticks-none doc k p h none)) r
 
 -- ---- a turn is its tick after the rest
 

@@ -15,10 +15,10 @@ use Rattle.world_process.specs.Processes.{AsksOn, ProcessStands, SameProcess, Tu
 use Rattle.world_process.proofs.Processes.{process-incarnation}
 use Rattle.world_terms.specs.TermsStand.{TermsStand}
 use Rattle.world_core.specs.declared.state.State.{State}
-use Rattle.world_core.specs.States.{Running}
+use Rattle.world_core.specs.States.{MidBeat}
 use Rattle.world_core.specs.Waits.{awake_turn, turn_if}
 use Rattle.world_core.proofs.Around.{around-world}
-use Rattle.world_core.proofs.Running.{Moved, within-moved}
+use Rattle.world_core.proofs.MidBeat.{Moved, within-moved}
 
 pub same-twice : (x y z : Process) → SameProcess x y → SameProcess y z → SameProcess x z
 same-twice x y z a b = record { me = b.me ∙ a.me; clock = b.clock ∙ a.clock }
@@ -47,7 +47,7 @@ turned-kept doc k p h x y t keeps turned =
 -- ---- the world with a process that did nothing but to keep that beat
 
 pub running-kept : (doc : Doc) (k i : ℕ) (before deeds : List Deed) (arriving : List Sent) (coming : List Back) (h : List Entry) (x y : Process) (w v : State) → Moved i x y w v → v.wire ≡ w.wire → v.terms ≡ w.terms → ProcessStands doc i h y
-    → Running doc k before arriving coming h w deeds → Running doc k before arriving coming h v deeds
+    → MidBeat doc k before arriving coming h w deeds → MidBeat doc k before arriving coming h v deeds
 running-kept doc k i before deeds arriving coming h x y w v m wire terms stands r =
     record {
       world = within-moved doc k i arriving coming h x y w v m wire (around-world doc k i arriving coming h w r.world) stands (subst (TermsStand doc h) (sym terms) r.world.terms);
@@ -71,15 +71,15 @@ awake-still doc k p h still = by_pause (not (is_paused doc p k))
 
 -- it has no turn in a pause
 pub running-paused : (doc : Doc) (k i : ℕ) (before deeds : List Deed) (arriving : List Sent) (coming : List Back) (h : List Entry) (w : State) → is_paused doc i k ≡ true
-    → Running doc k before arriving coming h w deeds → Running doc k before arriving coming (awake_turn doc k i h) w deeds
-running-paused doc k i before deeds arriving coming h w paused r = subst (λ g. Running doc k before arriving coming g w deeds) (sym (paused-is doc k i h paused)) r
+    → MidBeat doc k before arriving coming h w deeds → MidBeat doc k before arriving coming (awake_turn doc k i h) w deeds
+running-paused doc k i before deeds arriving coming h w paused r = subst (λ g. MidBeat doc k before arriving coming g w deeds) (sym (paused-is doc k i h paused)) r
 
 pub running-awake : (doc : Doc) (k i : ℕ) (before deeds : List Deed) (arriving : List Sent) (coming : List Back) (h : List Entry) (w : State) → is_paused doc i k ≡ false
-    → Running doc k before arriving coming (own_turn doc k i h) w deeds → Running doc k before arriving coming (awake_turn doc k i h) w deeds
-running-awake doc k i before deeds arriving coming h w awake r = subst (λ g. Running doc k before arriving coming g w deeds) (sym (awake-is doc k i h awake)) r
+    → MidBeat doc k before arriving coming (own_turn doc k i h) w deeds → MidBeat doc k before arriving coming (awake_turn doc k i h) w deeds
+running-awake doc k i before deeds arriving coming h w awake r = subst (λ g. MidBeat doc k before arriving coming g w deeds) (sym (awake-is doc k i h awake)) r
 
 -- its turn adds nothing
 pub running-still : (doc : Doc) (k i : ℕ) (before deeds : List Deed) (arriving : List Sent) (coming : List Back) (h : List Entry) (x y : Process) (w v : State) → own_turn doc k i h ≡ h → Moved i x y w v → v.wire ≡ w.wire → v.terms ≡ w.terms → ProcessStands doc i h y
-    → Running doc k before arriving coming h w deeds → Running doc k before arriving coming (awake_turn doc k i h) v deeds
+    → MidBeat doc k before arriving coming h w deeds → MidBeat doc k before arriving coming (awake_turn doc k i h) v deeds
 running-still doc k i before deeds arriving coming h x y w v still m wire terms stands r =
-    subst (λ g. Running doc k before arriving coming g v deeds) (sym (awake-still doc k i h still)) (running-kept doc k i before deeds arriving coming h x y w v m wire terms stands r)
+    subst (λ g. MidBeat doc k before arriving coming g v deeds) (sym (awake-still doc k i h still)) (running-kept doc k i before deeds arriving coming h x y w v m wire terms stands r)

@@ -149,7 +149,7 @@ pub record StateStands (doc : Doc) (k : ℕ) (h : List Entry) (w : State) : Type
   pub unticked : IsUnticked k h
 
 -- within a beat, with what was printed before the beat and in it
-pub record Running (doc : Doc) (k : ℕ) (before : List Deed) (arriving : List Sent) (coming : List Back) (h : List Entry) (w : State)
+pub record MidBeat (doc : Doc) (k : ℕ) (before : List Deed) (arriving : List Sent) (coming : List Back) (h : List Entry) (w : State)
     (deeds : List Deed) : Type 0 where
   pub world : StateWithin doc k arriving coming h w
   pub told : before ++ deeds ≡ printed h
@@ -176,22 +176,22 @@ abbrev pub Adds : {A E : Type 0} → State → List Deed → Result A E → Stat
     → Type 0
 Adds w deeds result v new next =
     (doc : Doc) (k : ℕ) (before : List Deed) (arriving : List Sent) (coming : List Back) (h : List Entry)
-    → Running doc k before arriving coming h w deeds → IsFew (next doc k h)
-    → OnOk result (Running doc k before arriving coming (next doc k h) v new)
+    → MidBeat doc k before arriving coming h w deeds → IsFew (next doc k h)
+    → OnOk result (MidBeat doc k before arriving coming (next doc k h) v new)
 
 -- all requests that had to be taken were answered
 abbrev pub AnswersArrivals : {A E : Type 0} → State → List Deed → Result A E → State → List Deed → Type 0
 AnswersArrivals w deeds result v new =
     (doc : Doc) (k : ℕ) (before : List Deed) (arriving : List Sent) (coming : List Back) (h : List Entry)
-    → Running doc k before arriving coming h w deeds → SentByKnown (processes doc) h arriving
-    → OnOk result (Running doc k before [] coming (answer_all doc k arriving h) v new)
+    → MidBeat doc k before arriving coming h w deeds → SentByKnown (processes doc) h arriving
+    → OnOk result (MidBeat doc k before [] coming (answer_all doc k arriving h) v new)
 
 -- all replies that had to be taken were delivered
 abbrev pub DeliversReplies : {A E : Type 0} → State → List Deed → Result A E → State → List Deed → Type 0
 DeliversReplies w deeds result v new =
     (doc : Doc) (k : ℕ) (before : List Deed) (arriving : List Sent) (coming : List Back) (h : List Entry)
-    → Running doc k before arriving coming h w deeds → BackToKnown (processes doc) h coming → IsFew (deliver_all doc k coming h)
-    → OnOk result (Running doc k before arriving [] (deliver_all doc k coming h) v new)
+    → MidBeat doc k before arriving coming h w deeds → BackToKnown (processes doc) h coming → IsFew (deliver_all doc k coming h)
+    → OnOk result (MidBeat doc k before arriving [] (deliver_all doc k coming h) v new)
 
 -- the history with a request's answer, whose reply is on its way
 abbrev pub with_answer : Doc → ℕ → ℕ → Identity → Call → Reply → Option Object → List Entry → List Entry
@@ -202,13 +202,13 @@ with_answer doc k step q call reply wrote h = entry k step q (Answers call reply
 -- an event has happened in a world within a beat, and what is printed of it was added
 abbrev pub Happens : State → List Deed → State → List Deed → What → Type 0
 Happens w deeds v new what = (doc : Doc) (k : ℕ) (before : List Deed) (arriving : List Sent) (coming : List Back) (h : List Entry)
-    → Running doc k before arriving coming h w deeds → IsLawfulWhat doc what → IsFew (happens doc k what h)
-    → Running doc k before arriving coming (happens doc k what h) v new
+    → MidBeat doc k before arriving coming h w deeds → IsLawfulWhat doc what → IsFew (happens doc k what h)
+    → MidBeat doc k before arriving coming (happens doc k what h) v new
 
 -- all events of the beat have happened; what they sent arrives later
 pub record Scripted (doc : Doc) (k : ℕ) (before : List Deed) (arriving : List Sent) (coming : List Back) (h : List Entry) (w : State)
     (deeds : List Deed) : Type 0 where
-  pub running : Running doc k before arriving coming (happen_all doc k doc.events h) w deeds
+  pub running : MidBeat doc k before arriving coming (happen_all doc k doc.events h) w deeds
   pub placed : IsPlaced doc (k + 1) w.place
   pub requests : requests_due k (happen_all doc k doc.events h) ≡ requests_due k h
   pub replies : replies_due k (happen_all doc k doc.events h) ≡ replies_due k h

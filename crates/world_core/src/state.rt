@@ -37,7 +37,7 @@ ghost use Rattle.world_process.specs.Processes.{IsKept, IsTimed, ProcessStands, 
 ghost use Rattle.world_core.specs.Waits.{IsFirstTurn, IsLeastTurn, IsTermReading, IsTurnBeat, WakesStand, awake_turn, beat_of, local_of, own_ticks};
 ghost use Rattle.world_process.specs.Plain.{IsFew, IsKnown};
 ghost use Rattle.world_core.specs.States.{at_of, count_of, end_of, names_of, GoOnTo, IsFit, IsReady, IsPlaced, SameDocument, Keeps};
-ghost use Rattle.world_core.specs.States.{AreKept, AreMadeOf, AreNoted, AreQuiet, EachStands, SendsAsked, StateStands, Running};
+ghost use Rattle.world_core.specs.States.{AreKept, AreMadeOf, AreNoted, AreQuiet, EachStands, SendsAsked, StateStands, MidBeat};
 ghost use Rattle.world_core.specs.States.{Adds, AnswersArrivals, DeliversReplies, Happens, Scripted, with_answer};
 
 use crate::printing::{
@@ -346,8 +346,8 @@ impl State {
         requires within { at_of self.old ≤ end_of self.old }
         ensures kept { OnOk result (Keeps self.old self.new) }
         ensures stands { (doc : Doc) (before : List Deed) (arriving : List Sent) (coming : List Back) (h : List Entry)
-            → Running doc 0 before arriving coming h self.old deeds.old → IsFew (start_first i (is_up_first doc i) h)
-            → OnOk result (Running doc 0 before arriving coming (start_first i (is_up_first doc i) h) self.new deeds.new) }
+            → MidBeat doc 0 before arriving coming h self.old deeds.old → IsFew (start_first i (is_up_first doc i) h)
+            → OnOk result (MidBeat doc 0 before arriving coming (start_first i (is_up_first doc i) h) self.new deeds.new) }
     {
         let process = &mut self.processes[i];
         if !process.is_up_first() {
@@ -368,7 +368,7 @@ impl State {
         requires within { at_of self.old ≤ end_of self.old }
         ensures kept { OnOk result (IsReady self.new × SameDocument self.old self.new) }
         ensures stands { (doc : Doc) (k : ℕ) (before : List Deed) (arriving : List Sent) (coming : List Back) (h : List Entry)
-            → Running doc k before arriving coming h self.old deeds.old → IsPlaced doc k self.old.place
+            → MidBeat doc k before arriving coming h self.old deeds.old → IsPlaced doc k self.old.place
             → IsFew (happen_all doc k doc.events h)
             → OnOk result (Scripted doc k before arriving coming h self.new deeds.new) }
     {
@@ -599,9 +599,9 @@ impl State {
         ensures kept { OnOk result (Keeps self.old self.new) }
         ensures left { OnOk result (replies_at self.new.wire (at_of self.old) ≡ replies_at self.old.wire (at_of self.old)) }
         ensures stands { (doc : Doc) (k : ℕ) (before : List Deed) (arriving : List Sent) (coming : List Back) (h : List Entry) (b : Back)
-            → Running doc k before arriving coming h self.old deeds.old → back.now ≡ as_delivered b
+            → MidBeat doc k before arriving coming h self.old deeds.old → back.now ≡ as_delivered b
             → IsKnown (processes doc) h b.who → IsFew (delivered doc k b h)
-            → OnOk result (Running doc k before arriving coming (delivered doc k b h) self.new deeds.new) }
+            → OnOk result (MidBeat doc k before arriving coming (delivered doc k b h) self.new deeds.new) }
     {
         let i = back.who.0 as usize;
         if i >= self.processes.len() {
@@ -624,8 +624,8 @@ impl State {
         requires within { at_of self.old ≤ end_of self.old }
         ensures kept { OnOk result (Keeps self.old self.new) }
         ensures stands { (doc : Doc) (k : ℕ) (before : List Deed) (arriving : List Sent) (coming : List Back) (h : List Entry)
-            → Running doc k before arriving coming h self.old deeds.old → IsUnticked k h → IsFew (turns doc k (processes doc) h)
-            → OnOk result (Running doc k before arriving coming (turns doc k (processes doc) h) self.new deeds.new) }
+            → MidBeat doc k before arriving coming h self.old deeds.old → IsUnticked k h → IsFew (turns doc k (processes doc) h)
+            → OnOk result (MidBeat doc k before arriving coming (turns doc k (processes doc) h) self.new deeds.new) }
     {
         for i in 0..self.controllers {
             self.turn(i, deeds)?;
@@ -640,9 +640,9 @@ impl State {
         requires within { at_of self.old ≤ end_of self.old }
         ensures kept { OnOk result (Keeps self.old self.new) }
         ensures stands { (doc : Doc) (k : ℕ) (before : List Deed) (arriving : List Sent) (coming : List Back) (h : List Entry)
-            → Running doc k before arriving coming (turns doc k (length doc.controllers) h) self.old deeds.old
+            → MidBeat doc k before arriving coming (turns doc k (length doc.controllers) h) self.old deeds.old
             → IsFew (turns doc k (processes doc) h)
-            → OnOk result (Running doc k before arriving coming (turns doc k (processes doc) h) self.new deeds.new) }
+            → OnOk result (MidBeat doc k before arriving coming (turns doc k (processes doc) h) self.new deeds.new) }
     {
         let after = Some(Beat(self.beat.0 + 1));
         let mut next = self.controllers;
@@ -699,9 +699,9 @@ impl State {
         requires within { at_of self.old ≤ end_of self.old }
         ensures kept { OnOk result (Keeps self.old self.new) }
         ensures stands { (doc : Doc) (k : ℕ) (before : List Deed) (arriving : List Sent) (coming : List Back) (h : List Entry)
-            → Running doc k before arriving coming h self.old deeds.old → (is_controller doc i ≡ true → IsUntickedFrom k i h)
+            → MidBeat doc k before arriving coming h self.old deeds.old → (is_controller doc i ≡ true → IsUntickedFrom k i h)
             → IsFew (own_ticks doc k i h)
-            → OnOk result (Running doc k before arriving coming (own_ticks doc k i h) self.new deeds.new) }
+            → OnOk result (MidBeat doc k before arriving coming (own_ticks doc k i h) self.new deeds.new) }
     {
         let process = &self.processes[i];
         let Some(leadership) = process.leadership(self.beat) else {

@@ -5,7 +5,7 @@ use Rattle.kube_objects.specs.Entry.{Entry}
 use Rattle.kube_objects.specs.Wire.{Sent, Back}
 use Rattle.wire_calls.specs.WireStands.{requests_at}
 use Rattle.world_process.specs.Plain.{SentByKnown}
-use Rattle.world_core.specs.States.{Keeps, Running}
+use Rattle.world_core.specs.States.{Keeps, MidBeat}
 use Rattle.world_core.proofs.Loops.{Answering}
 use Rattle.world_core.proofs.state.State.answer_requests.Given as goal
 
@@ -13,7 +13,7 @@ abbrev pub invariant-arriving : goal.invariant-arriving
 invariant-arriving l =
     record {
       kept : Keeps l.fn.self l.self;
-      stands : (doc : Doc) (k : ℕ) (before : List Deed) (arriving : List Sent) (coming : List Back) (h : List Entry) → Running doc k before arriving coming h l.fn.self l.fn.deeds → SentByKnown (processes doc) h arriving → Answering doc k before arriving coming h l.self l.deeds;
+      stands : (doc : Doc) (k : ℕ) (before : List Deed) (arriving : List Sent) (coming : List Back) (h : List Entry) → MidBeat doc k before arriving coming h l.fn.self l.fn.deeds → SentByKnown (processes doc) h arriving → Answering doc k before arriving coming h l.self l.deeds;
     }
 
 abbrev pub decreases-arriving : goal.decreases-arriving

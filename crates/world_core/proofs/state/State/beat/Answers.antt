@@ -6,7 +6,7 @@ use Rattle.history.specs.Printed.{printed}
 use Rattle.history.specs.Steps.{first_starts, turns, answer_all, deliver_all}
 use Rattle.world_core.specs.declared.state.State.{State}
 use Rattle.world_process.specs.Plain.{IsFew, SentByKnown, BackToKnown}
-use Rattle.world_core.specs.States.{IsPlaced, StateStands, Running}
+use Rattle.world_core.specs.States.{IsPlaced, StateStands, MidBeat}
 use Rattle.world_core.proofs.Beats.{one, two, three, beat-is, few-three, few-one, few-starts, requests-starts, replies-starts, replies-answers, unticked-three, unticked-next, world-next}
 use Rattle.world_core.proofs.Known.{requests-known, replies-known}
 use Rattle.world_core.proofs.state.State.beat.Goals as goal
@@ -23,7 +23,7 @@ returns-clause-stands g c doc k h few s =
     let few4 : IsFew (turns doc k n h3) = subst IsFew is few in
     let few3 = few-three doc k h few4 in
     let few1 = few-one doc k h few3 in
-    let r0 : Running doc k before (requests_due k h) (replies_due k h) h c.args.self.now c.new-deeds.result = record { world = s.within; told = ap (λ ds. before ++ ds) c.new-deeds.ensures ∙ append-nil before } in
+    let r0 : MidBeat doc k before (requests_due k h) (replies_due k h) h c.args.self.now c.new-deeds.result = record { world = s.within; told = ap (λ ds. before ++ ds) c.new-deeds.ensures ∙ append-nil before } in
     let started = c.in_ok-first_starts.ensures.stands doc k before (requests_due k h) (replies_due k h) h r0 (few-starts doc k h few1) in
     let placed = subst (IsPlaced doc k) (sym c.in_ok-first_starts.ensures.kept.place) s.placed in
     let scripted = c.in_ok-script.ensures.stands doc k before (requests_due k h) (replies_due k h) h0 started placed few1 in
@@ -31,11 +31,11 @@ returns-clause-stands g c doc k h few s =
     let asked : requests_due k h1 ≡ requests_due k h = scripted.requests ∙ requests-starts doc k k h in
     let r2 = c.in_ok-arrivals.ensures.stands doc k before (requests_due k h) (replies_due k h) h1 r1 (subst (SentByKnown n h1) asked (requests-known n k h1 r1.world.rest.plain)) in
     let same2 : answer_all doc k (requests_due k h) h1 ≡ h2 = ap (λ ss. answer_all doc k ss h1) (sym asked) in
-    let r2' : Running doc k before [] (replies_due k h) h2 c.arrivals.new.self c.arrivals.new.deeds = subst (λ g. Running doc k before [] (replies_due k h) g c.arrivals.new.self c.arrivals.new.deeds) same2 r2 in
+    let r2' : MidBeat doc k before [] (replies_due k h) h2 c.arrivals.new.self c.arrivals.new.deeds = subst (λ g. MidBeat doc k before [] (replies_due k h) g c.arrivals.new.self c.arrivals.new.deeds) same2 r2 in
     let back : replies_due k h2 ≡ replies_due k h = replies-answers doc k (requests_due k h1) h1 (λ p. (r1.world.rest.wire.delays p).1.0) ∙ scripted.replies ∙ replies-starts doc k k h in
     let same3 : deliver_all doc k (replies_due k h) h2 ≡ h3 = ap (λ bs. deliver_all doc k bs h2) (sym back) in
     let r3 = c.in_ok-deliveries.ensures.stands doc k before [] (replies_due k h) h2 r2' (subst (BackToKnown n h2) back (replies-known n k h2 r2'.world.rest.plain)) (subst IsFew (sym same3) few3) in
-    let r3' : Running doc k before [] [] h3 c.deliveries.new.self c.deliveries.new.deeds = subst (λ g. Running doc k before [] [] g c.deliveries.new.self c.deliveries.new.deeds) same3 r3 in
+    let r3' : MidBeat doc k before [] [] h3 c.deliveries.new.self c.deliveries.new.deeds = subst (λ g. MidBeat doc k before [] [] g c.deliveries.new.self c.deliveries.new.deeds) same3 r3 in
     let r4 = c.in_ok-turns.ensures.stands doc k before [] [] h3 r3' (unticked-three doc k h s.unticked) few4 in
     let w : State = record c.turns.new.self { beat = record { 0 = c.turns.new.self.beat.0 + 1 } } in
     let place = c.in_ok-turns.ensures.kept.place ∙ c.in_ok-deliveries.ensures.kept.place ∙ c.in_ok-arrivals.ensures.kept.place in

@@ -11,7 +11,7 @@ use Rattle.world_process.proofs.Processes.{process-me}
 use Rattle.world_core.proofs.Around.{around-world}
 use Rattle.world_core.proofs.Moving.{read-at, actor-is, on-ok, room-for}
 use Rattle.world_core.proofs.Noting.{crashed-kept, kept-after}
-use Rattle.world_core.proofs.Running.{keeps-moved}
+use Rattle.world_core.proofs.MidBeat.{keeps-moved}
 use Rattle.world_core.proofs.Turns.{same-twice}
 use Rattle.world_core.proofs.Renewing.{fresh-crashed}
 use Rattle.world_core.proofs.Scripts.{around-crash, running-moved}

@@ -8,7 +8,7 @@ use Rattle.world_process.proofs.Processes.{process-me}
 use Rattle.world_core.proofs.Moving.{read-at, within-processes, actor-is, on-ok, room-for, sends-as}
 use Rattle.world_core.proofs.Noting.{kept-after, replied-kept}
 use Rattle.world_core.proofs.Turns.{same-twice}
-use Rattle.world_core.proofs.Running.{keeps-moved, running-replied}
+use Rattle.world_core.proofs.MidBeat.{keeps-moved, running-replied}
 use Rattle.world_core.proofs.state.State.deliver.Goals as goal
 
 pub note-requires : goal.note-requires

@@ -6,7 +6,7 @@ use Rattle.kube_objects.specs.Entry.{Entry}
 use Rattle.kube_objects.specs.Wire.{Sent, Back}
 use Rattle.wire_calls.specs.WireStands.{replies_at}
 use Rattle.world_process.specs.Plain.{BackToKnown, IsFew}
-use Rattle.world_core.specs.States.{Keeps, Running}
+use Rattle.world_core.specs.States.{Keeps, MidBeat}
 use Rattle.world_core.proofs.Loops.{Delivering}
 use Rattle.world_core.proofs.state.State.deliver_replies.Given as goal
 
@@ -14,7 +14,7 @@ abbrev pub invariant-coming : goal.invariant-coming
 invariant-coming l =
     record {
       kept : Keeps l.fn.self l.self;
-      stands : (doc : Doc) (k : ℕ) (before : List Deed) (arriving : List Sent) (coming : List Back) (h : List Entry) → Running doc k before arriving coming h l.fn.self l.fn.deeds → BackToKnown (processes doc) h coming → IsFew (deliver_all doc k coming h) → Delivering doc k before arriving coming h l.self l.deeds;
+      stands : (doc : Doc) (k : ℕ) (before : List Deed) (arriving : List Sent) (coming : List Back) (h : List Entry) → MidBeat doc k before arriving coming h l.fn.self l.fn.deeds → BackToKnown (processes doc) h coming → IsFew (deliver_all doc k coming h) → Delivering doc k before arriving coming h l.self l.deeds;
     }
 
 abbrev pub decreases-coming : goal.decreases-coming

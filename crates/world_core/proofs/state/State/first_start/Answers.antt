@@ -10,7 +10,7 @@ use Rattle.world_core.proofs.Moving.{read-at, within-end, within-processes, acto
 use Rattle.world_core.proofs.Noting.{kept-after}
 use Rattle.world_core.proofs.Turns.{same-twice}
 use Rattle.world_process.proofs.Restarts.{starts-few}
-use Rattle.world_core.proofs.Running.{first-not, first-started, keeps-moved, keeps-set}
+use Rattle.world_core.proofs.MidBeat.{first-not, first-started, keeps-moved, keeps-set}
 use Rattle.world_terms.specs.TermsStand.{IsFresh, TermsStand, TermsStandBut}
 use Rattle.world_core.proofs.state.State.first_start.Goals as goal
 

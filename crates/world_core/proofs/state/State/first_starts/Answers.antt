@@ -2,7 +2,7 @@ use Rattle.std.proofs.Common.{◌≡◌, ◌<◌, sym, ◌∙◌, subst, arith, 
 use Rattle.kube_objects.specs.Document.{processes}
 use Rattle.history.specs.Steps.{first_starts, starts_below}
 use Rattle.world_process.specs.Plain.{IsFew}
-use Rattle.world_core.specs.States.{Running}
+use Rattle.world_core.specs.States.{MidBeat}
 use Rattle.world_core.proofs.Loops.{keeps-on, few-starts}
 use Rattle.world_core.proofs.state.State.first_starts.Goals as goal
 
@@ -16,7 +16,7 @@ loop-i-preserved c =
           let count = r.world.rest.document.count in
           let len = c.args.self.now.processes.ok.0 in
           let less : i < processes doc = omega (arith, c.loop-i-test.true, c.len-i-end.ensures, count, len) in
-          subst (λ n. Running doc 0 before arriving coming (starts_below doc n h) c.first_start.new.self c.first_start.new.deeds) (sym (add-one i))
+          subst (λ n. MidBeat doc 0 before arriving coming (starts_below doc n h) c.first_start.new.self c.first_start.new.deeds) (sym (add-one i))
           (c.in_ok-first_start.ensures.stands doc before arriving coming (starts_below doc i h) done (few-starts doc i (processes doc) h less few));
     }
 
@@ -26,5 +26,5 @@ returns-clause-stands c doc k before arriving coming h r few =
     let count = r.world.rest.document.count in
     let len = c.args.self.now.processes.ok.0 in
     let last : c.loop-i.i ≡ processes doc = omega (arith, c.loop-i-test.false, c.loop-i.auto.i-end, c.len-i-end.ensures, count, len) in
-    subst (λ n. Running doc n before arriving coming h c.args.self.now c.args.deeds.now → IsFew (first_starts doc n h) → Running doc n before arriving coming (first_starts doc n h) c.loop-i.self c.loop-i.deeds) zero_is
-    (λ r0 few0. subst (λ n. Running doc 0 before arriving coming (starts_below doc n h) c.loop-i.self c.loop-i.deeds) last (c.loop-i.invariant.stands doc before arriving coming h r0 few0)) r few
+    subst (λ n. MidBeat doc n before arriving coming h c.args.self.now c.args.deeds.now → IsFew (first_starts doc n h) → MidBeat doc n before arriving coming (first_starts doc n h) c.loop-i.self c.loop-i.deeds) zero_is
+    (λ r0 few0. subst (λ n. MidBeat doc 0 before arriving coming (starts_below doc n h) c.loop-i.self c.loop-i.deeds) last (c.loop-i.invariant.stands doc before arriving coming h r0 few0)) r few

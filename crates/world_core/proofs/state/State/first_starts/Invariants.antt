@@ -5,12 +5,12 @@ use Rattle.kube_objects.specs.Entry.{Entry}
 use Rattle.kube_objects.specs.Wire.{Sent, Back}
 use Rattle.history.specs.Steps.{starts_below}
 use Rattle.world_process.specs.Plain.{IsFew}
-use Rattle.world_core.specs.States.{Keeps, Running}
+use Rattle.world_core.specs.States.{Keeps, MidBeat}
 use Rattle.world_core.proofs.state.State.first_starts.Given as goal
 
 abbrev pub invariant-loop-i : goal.invariant-loop-i
 invariant-loop-i l =
     record {
       kept : Keeps l.fn.self l.self;
-      stands : (doc : Doc) (before : List Deed) (arriving : List Sent) (coming : List Back) (h : List Entry) → Running doc 0 before arriving coming h l.fn.self l.fn.deeds → IsFew (starts_below doc (processes doc) h) → Running doc 0 before arriving coming (starts_below doc l.i h) l.self l.deeds;
+      stands : (doc : Doc) (before : List Deed) (arriving : List Sent) (coming : List Back) (h : List Entry) → MidBeat doc 0 before arriving coming h l.fn.self l.fn.deeds → IsFew (starts_below doc (processes doc) h) → MidBeat doc 0 before arriving coming (starts_below doc l.i h) l.self l.deeds;
     }

@@ -5,7 +5,7 @@ use Rattle.kube_objects.specs.Entry.{Entry}
 use Rattle.kube_objects.specs.Wire.{Sent, Back}
 use Rattle.history.specs.Steps.{turns}
 use Rattle.world_process.specs.Plain.{IsFew}
-use Rattle.world_core.specs.States.{Keeps, Running}
+use Rattle.world_core.specs.States.{Keeps, MidBeat}
 use Rattle.world_core.proofs.state.State.kubelet_turns.Given as goal
 
 abbrev pub invariant-kubelets : goal.invariant-kubelets
@@ -15,7 +15,7 @@ invariant-kubelets l =
       least : l.fn.self.controllers ≤ l.next;
       most : l.next ≤ vec_len l.fn.self.processes;
       stands : (doc : Doc) (k : ℕ) (before : List Deed) (arriving : List Sent) (coming : List Back) (h : List Entry)
-          → Running doc k before arriving coming (turns doc k (length doc.controllers) h) l.fn.self l.fn.deeds → IsFew (turns doc k (processes doc) h) → Running doc k before arriving coming (turns doc k l.next h) l.self l.deeds;
+          → MidBeat doc k before arriving coming (turns doc k (length doc.controllers) h) l.fn.self l.fn.deeds → IsFew (turns doc k (processes doc) h) → MidBeat doc k before arriving coming (turns doc k l.next h) l.self l.deeds;
     }
 
 abbrev pub decreases-kubelets : goal.decreases-kubelets

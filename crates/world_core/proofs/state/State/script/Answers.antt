@@ -2,7 +2,7 @@ use Rattle.std.proofs.Common.{◌≡◌, ◌≤◌, length, refl, sym, ap, ◌�
 use Rattle.history.specs.Steps.{happens}
 use Rattle.script_reader.specs.Lawful.{IsLawfulWhat}
 use Rattle.world_process.specs.Plain.{IsFew}
-use Rattle.world_core.specs.States.{Running}
+use Rattle.world_core.specs.States.{MidBeat}
 use Rattle.world_core.proofs.Happening.{event-at, happening-first, happening-more, happening-before, happening-done}
 use Rattle.world_core.proofs.Loops.{same-on, rewired}
 use Rattle.world_core.proofs.state.State.script.Goals as goal
@@ -31,7 +31,7 @@ script-preserved c =
           let copied : c.in_ok-what.what ≡ e.what = c.in_ok-what.ensures in
           happening-more doc k before c.script.deeds c.happen.new.deeds arriving coming h c.script.self c.happen.new.self e a here (c.if-event-self.false ∙ a.running.world.rest.document.at) next.place few
           (λ lawful few_next.
-          subst (λ x. Running doc k before arriving coming (happens doc k x a.now) c.happen.new.self c.happen.new.deeds) copied
+          subst (λ x. MidBeat doc k before arriving coming (happens doc k x a.now) c.happen.new.self c.happen.new.deeds) copied
           (c.in_ok-happen.ensures.stands doc k before arriving coming a.now (rewired doc k before c.script.deeds arriving arriving coming coming a.now c.script.self _ (record { same = (record { beat = refl; end = refl; restart = refl; epoch = refl; micros = refl; events = refl; names = refl; controllers = refl }); processes = refl; terms = refl }) refl refl a.running.world.rest.wire a.running)
           (subst (IsLawfulWhat doc) (sym copied) lawful) (subst (λ x. IsFew (happens doc k x a.now)) (sym copied) few_next)));
     }

@@ -15,7 +15,7 @@ use Rattle.world_core.proofs.Moving.{read-at, actor-is, on-ok, room-for}
 use Rattle.world_core.proofs.Noting.{begun-kept, kept-after}
 use Rattle.world_core.proofs.Turns.{same-twice}
 use Rattle.world_core.proofs.Renewing.{terms-begun}
-use Rattle.world_core.proofs.Running.{Moved, keeps-moved}
+use Rattle.world_core.proofs.MidBeat.{Moved, keeps-moved}
 use Rattle.world_core.proofs.Ranges.{never}
 use Rattle.world_core.proofs.Scripts.{around-begin, running-moved}
 use Rattle.world_terms.specs.TermsStand.{IsFresh, TermsStand, TermsStandBut}

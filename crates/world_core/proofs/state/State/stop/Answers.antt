@@ -14,7 +14,7 @@ use Rattle.world_core.proofs.Around.{around-world}
 use Rattle.world_core.proofs.Moving.{read-at, actor-is, on-ok, room-for, sends-as}
 use Rattle.world_core.proofs.Noting.{kept-after, stopped-kept}
 use Rattle.world_core.proofs.Turns.{same-twice}
-use Rattle.world_core.proofs.Running.{keeps-moved}
+use Rattle.world_core.proofs.MidBeat.{keeps-moved}
 use Rattle.world_core.proofs.Renewing.{fresh-stopped}
 use Rattle.world_core.proofs.Scripts.{controller-within, around-stop, running-asked, running-unstopped}
 use Rattle.world_terms.specs.TermsStand.{IsFresh, TermsStand, TermsStandBut}

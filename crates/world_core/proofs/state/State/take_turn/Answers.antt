@@ -15,7 +15,7 @@ use Rattle.world_core.proofs.Around.{around-before, around-world}
 use Rattle.world_core.proofs.Moving.{read-at, within-processes, actor-is, on-ok, sends-as, room-for}
 use Rattle.world_core.proofs.Renewing.{terms-turned}
 use Rattle.world_core.proofs.Noting.{kept-after}
-use Rattle.world_core.proofs.Running.{keeps-moved, running-turned}
+use Rattle.world_core.proofs.MidBeat.{keeps-moved, running-turned}
 use Rattle.world_core.proofs.Turns.{awake-is, running-awake, running-paused, same-twice, turned-kept}
 use Rattle.world_core.proofs.state.State.take_turn.Goals as goal
 

@@ -12,7 +12,7 @@ use Rattle.skew_clock.specs.Clocking.{reading, wall_when}
 use Rattle.world_process.specs.Processes.{in_term_now, clock_of, incarnation_of}
 use Rattle.world_process.proofs.Processes.{process-me}
 use Rattle.world_terms.specs.TermsStand.{IsUpAs}
-use Rattle.world_core.specs.States.{Running}
+use Rattle.world_core.specs.States.{MidBeat}
 use Rattle.world_core.specs.Waits.{own_ticks}
 use Rattle.world_core.proofs.Awake.{its-clock, some-holds}
 use Rattle.world_core.proofs.Moving.{on-ok, read-at, within-end, within-processes}
@@ -72,6 +72,6 @@ returns-clause-stands g c doc k before arriving coming h r unticked few =
     let it = subst (λ p. IsUpAs doc p q h) (sym me) (up-as doc k i n h up acts) in
     let few_nodes : length (nodes q (model.sync doc k q h)) < 4294967296 = few-ticks doc k i q h few in
     let ticked = c.in_ok-printed.ensures doc k q h r.world.terms r.world.rest.store view who it (unticked acts.sort q (omega arith)) few_nodes in
-    on-ok c.append.result _ _ (λ told. subst (Running doc k before arriving coming (own_ticks doc k i h) _) (sym told)
+    on-ok c.append.result _ _ (λ told. subst (MidBeat doc k before arriving coming (own_ticks doc k i h) _) (sym told)
     (running-ticked doc k i n before c.args.deeds.now c.in_ok-printed.printed arriving coming h w _ awake within up acts
     (record { beat = refl; restart = refl; epoch = refl; micros = refl; events = refl; wire = refl; in_force = refl; processes = refl; controllers = refl }) r ticked)) c.append.ensures.ok

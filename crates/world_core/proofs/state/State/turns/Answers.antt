@@ -4,7 +4,7 @@ use Rattle.history.specs.Steps.{turns}
 use Rattle.beat_laws.proofs.Unticked.{turns_unticked}
 use Rattle.world_core.specs.Waits.{awake_turn}
 use Rattle.world_process.specs.Plain.{IsFew}
-use Rattle.world_core.specs.States.{Running}
+use Rattle.world_core.specs.States.{MidBeat}
 use Rattle.world_core.proofs.Loops.{keeps-on, few-own, few-turns}
 use Rattle.world_core.proofs.Moving.{on-ok}
 use Rattle.world_core.proofs.Ticking.{own-unticked, turn-is}
@@ -25,8 +25,8 @@ loop-i-preserved g c =
           let few_turn = few-turns doc k i (processes doc) h less few in
           let owned = c.in_ok-turn.ensures.stands doc k before arriving coming before_it done (few-own doc k i before_it few_turn) in
           let ticked = c.in_ok-tick.ensures.stands doc k before arriving coming (awake_turn doc k i before_it) owned (λ sort. own-unticked doc k i before_it sort (turns_unticked doc k i h unticked)) (subst IsFew (turn-is doc k i before_it) few_turn) in
-          subst (λ n. Running doc k before arriving coming (turns doc k n h) c.tick.new.self c.tick.new.deeds) (sym (add-one i))
-          (subst (λ f. Running doc k before arriving coming f c.tick.new.self c.tick.new.deeds) (sym (turn-is doc k i before_it)) ticked);
+          subst (λ n. MidBeat doc k before arriving coming (turns doc k n h) c.tick.new.self c.tick.new.deeds) (sym (add-one i))
+          (subst (λ f. MidBeat doc k before arriving coming f c.tick.new.self c.tick.new.deeds) (sym (turn-is doc k i before_it)) ticked);
     }
 
 pub returns-clause-kept : goal.returns-clause-kept
@@ -37,4 +37,4 @@ returns-clause-stands g c doc k before arriving coming h r unticked few =
     let all = r.world.rest.document.controllers in
     let last : c.loop-i.i ≡ length doc.controllers = omega (arith, c.loop-i-test.false, c.loop-i.auto.i-end, all) in
     c.kubelet_turns.ensures.stands doc k before arriving coming h
-    (subst (λ n. Running doc k before arriving coming (turns doc k n h) c.loop-i.self c.loop-i.deeds) last (c.loop-i.invariant.stands doc k before arriving coming h r unticked few)) few
+    (subst (λ n. MidBeat doc k before arriving coming (turns doc k n h) c.loop-i.self c.loop-i.deeds) last (c.loop-i.invariant.stands doc k before arriving coming h r unticked few)) few
