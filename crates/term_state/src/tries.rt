@@ -7,7 +7,7 @@ ghost use Rattle.kube_objects.specs.Tick.{add};
 ghost use Rattle.kube_objects.specs.Tries as spec;
 ghost use Rattle.kube_objects.specs.Wire.{loses_requests};
 ghost use Rattle.object_store.specs.Stands.{StoreStands};
-ghost use Rattle.object_store.specs.StoreAnswers.{Told};
+ghost use Rattle.object_store.specs.StoreAnswers.{IsReply};
 ghost use Rattle.term_state.specs.Tried.{answer_of};
 
 use kube_base::{NoMemory, Version};
