@@ -56,7 +56,7 @@ module _ (doc : Doc) (k : ℕ) (q : Identity) (h : List Entry) (place : Zone) (s
   -- a zone that had no limit
   pub begun : LimitStands doc q h place None → LimitStands doc q (zone_as k q place state rate h) place (Some (record { state = state; rate = rate; bucket = empty_at rate now }))
   begun s =
-      subst (λ o. LimitStands doc q (if (is_rated state rate o) then h else add k q (Zone place state rate) h) place (Some (record { state = state; rate = rate; bucket = empty_at rate now }))) s.rated
+      subst (λ o. LimitStands doc q (if (is_rated state rate o) then h else add k q (ZoneEntry place state rate) h) place (Some (record { state = state; rate = rate; bucket = empty_at rate now }))) s.rated
       (record {
         rated = sym rated_here;
         rate = refl;
@@ -84,7 +84,7 @@ module _ (doc : Doc) (k : ℕ) (q : Identity) (h : List Entry) (place : Zone) (s
     base_as_before true is same = s.base
     base_as_before false is same = absurd (cc)
 
-    by_test : (b : Bool) → is_rated state rate (Some (old.state, old.rate)) ≡ b → LimitStands doc q (if b then h else add k q (Zone place state rate) h) place (Some limit)
+    by_test : (b : Bool) → is_rated state rate (Some (old.state, old.rate)) ≡ b → LimitStands doc q (if b then h else add k q (ZoneEntry place state rate) h) place (Some limit)
     by_test true is =
         let state_is : old.state ≡ state = same_state old.state state (first_of _ _ is) in
         let rate_is : old.rate ≡ rate = same_number old.rate rate (second_of (is_same_state old.state state) (old.rate == rate) is) in
@@ -102,7 +102,7 @@ module _ (doc : Doc) (k : ℕ) (q : Identity) (h : List Entry) (place : Zone) (s
 
     pub went_on : LimitStands doc q (zone_as k q place state rate h) place (Some limit)
     went_on =
-        subst (λ o. LimitStands doc q (if (is_rated state rate o) then h else add k q (Zone place state rate) h) place (Some limit)) s.rated
+        subst (λ o. LimitStands doc q (if (is_rated state rate o) then h else add k q (ZoneEntry place state rate) h) place (Some limit)) s.rated
         (by_test (is_rated state rate (Some (old.state, old.rate))) refl)
 
 -- ---- the limits of other zones
@@ -119,7 +119,7 @@ other_limit doc k q h at state rate place x apart s = by_test (is_rated state ra
     base_is None is = tt
     base_is (Some x) is = is ∙ ap (local doc q.process) (sym base_kept)
 
-    by_test : (b : Bool) → LimitStands doc q (if b then h else add k q (Zone at state rate) h) place x
+    by_test : (b : Bool) → LimitStands doc q (if b then h else add k q (ZoneEntry at state rate) h) place x
     by_test true = s
     by_test false =
         record {

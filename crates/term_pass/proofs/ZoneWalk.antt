@@ -9,7 +9,7 @@ use Rattle.kube_objects.specs.declared.deed.Deed.{Deed}
 use Rattle.kube_objects.specs.declared.settings.Settings2.{Settings2}
 use Rattle.kube_objects.specs.Clocks.{local}
 use Rattle.kube_objects.specs.Document.{Doc}
-use Rattle.kube_objects.specs.Entry.{Entry, Identity, Place as Zone, Zone}
+use Rattle.kube_objects.specs.Entry.{Entry, Identity, Place as Zone, Zone as ZoneEntry}
 use Rattle.kube_objects.specs.Modes.{mode, nodes, place_cmp, place_eq, places, size_in, state_in, rate_in}
 use Rattle.kube_objects.specs.declared.node.ZoneState.{ZoneState}
 use Rattle.kube_objects.specs.Tick.{for_each, zone, zone_as, set_zones, add}
@@ -186,7 +186,7 @@ module _ (doc : Doc) (k : ℕ) (q : Identity) (before : List Deed) (h : List Ent
     (rated_is : (g : List Entry) (place : Zone) → LimitStands doc q g place old → is ≡ is_rated state rate (rated q place g))
     (renewed : (g : List Entry) (place : Zone) → LimitStands doc q g place old → LimitStands doc q (zone_as k q place state rate g) place (Some limit))
     (put : (p : Place) → get zone_cmp after p ≡ cond (is_eq (zone_cmp one.place p)) (Some limit) (get zone_cmp kept p))
-    (tells : (g : List Entry) → IsTold q k before g told → IsTold q k before (if is then g else add k q (Zone (entry_place one.place) state rate) g) new) where
+    (tells : (g : List Entry) → IsTold q k before g told → IsTold q k before (if is then g else add k q (ZoneEntry (entry_place one.place) state rate) g) new) where
   next : IsZone q h z.now one others z.left
   next = next_zone q h z.now one others z.left (sym head ∙ z.rest_is)
 
@@ -203,7 +203,7 @@ module _ (doc : Doc) (k : ℕ) (q : Identity) (before : List Deed) (h : List Ent
       ap (λ s. zone_as k q next.place s (rate_in doc (mode q z.now) (nodes q h) next.place) z.now) (sym (states next.place next.one_is))
       ∙ ap (λ r. zone_as k q next.place state r z.now) (ap (λ b. rate_in doc b (nodes q h) next.place) (z.mode_is ∙ sym owed.on_is) ∙ sym (rates next.place next.one_is))
 
-  mode_same : (b : Bool) → mode q (if b then z.now else add k q (Zone next.place state rate) z.now) ≡ mode q z.now
+  mode_same : (b : Bool) → mode q (if b then z.now else add k q (ZoneEntry next.place state rate) z.now) ≡ mode q z.now
   mode_same true = refl
   mode_same false = refl
 
@@ -213,6 +213,6 @@ module _ (doc : Doc) (k : ℕ) (q : Identity) (before : List Deed) (h : List Ent
       (subst (λ g. LimitStands doc q g next.place (Some limit)) (sym zone_is) (renewed z.now next.place old_stands))
       (λ place. put (of_place place) ∙ ap (λ p. cond (is_eq (zone_cmp p (of_place place))) (Some limit) (get zone_cmp kept (of_place place))) place_is)
       (λ place. taken (of_place place) ∙ ap (λ p. cond (is_eq (zone_cmp p (of_place place))) None (get zone_cmp zones.limits (of_place place))) place_is)
-      (subst (λ g. IsTold q k before g new) (ap (λ b. (if b then z.now else add k q (Zone next.place state rate) z.now)) (rated_is z.now next.place old_stands) ∙ sym zone_is)
-      (subst (λ p. IsTold q k before (if is then z.now else add k q (Zone (entry_place p) state rate) z.now) new) place_is (tells z.now z.printed)))
+      (subst (λ g. IsTold q k before g new) (ap (λ b. (if b then z.now else add k q (ZoneEntry next.place state rate) z.now)) (rated_is z.now next.place old_stands) ∙ sym zone_is)
+      (subst (λ p. IsTold q k before (if is then z.now else add k q (ZoneEntry (entry_place p) state rate) z.now) new) place_is (tells z.now z.printed)))
       (ap (mode q) zone_is ∙ mode_same (is_rated state rate (rated q next.place z.now)))

@@ -1,9 +1,9 @@
 // The zones' states and rates.
-ghost use Rattle.std.specs.Prelude.{◌≡◌, ◌≤◌, ◌<◌, ℕ, true, false, not, List, Some, None, length, OnOk};
+ghost use Rattle.std.specs.Prelude.{◌≡◌, ◌≤◌, ◌<◌, ℕ, true, false, not, List, Some, None, length, OnOk, if◌then◌else◌};
 ghost use Rattle.kube_base.specs.Bounds.{most_local};
 ghost use Rattle.kube_objects.specs.Clocks.{local};
 ghost use Rattle.kube_objects.specs.Document.{Doc};
-ghost use Rattle.kube_objects.specs.Entry.{Entry, Identity, Place as Zone};
+ghost use Rattle.kube_objects.specs.Entry.{Entry, Identity, Place as Zone, Zone as ZoneEntry};
 ghost use Rattle.kube_objects.specs.Modes.{mode, nodes};
 ghost use Rattle.kube_objects.specs.Tick as model;
 ghost use Rattle.kube_objects.specs.Tokens.{is_rated, rated};
@@ -72,7 +72,7 @@ fn tell(
     told: &mut Told,
 ) -> Result<(), NoMemory>
     ensures { (k : ℕ) (q : Identity) (before : List Deed) (h : List Entry) → IsTold q k before h told.old
-        → OnOk result (IsTold q k before (model.zone_if k q (entry_place place) state rate rated h) told.new) }
+        → OnOk result (IsTold q k before (if rated then h else model.add k q (ZoneEntry (entry_place place) state rate) h) told.new) }
 {
     if rated {
         return Ok(());
