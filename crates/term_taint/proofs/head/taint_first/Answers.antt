@@ -1,4 +1,4 @@
-use Rattle.std.proofs.Common.{◌≡◌, ◌∙◌, ◌==◌, ◌+◌, ◌≤◌, ℕ, cond, ap, sym, subst}
+use Rattle.std.proofs.Common.{◌≡◌, ◌∙◌, ◌==◌, ◌+◌, ◌≤◌, ℕ, cond, ap, sym, subst, arith}
 use Rattle.std.specs.Result.{OnOk}
 use Rattle.std.proofs.lemmas.Result.{on_ok_weaker}
 use Rattle.kube_objects.specs.Tries.{try_node}
@@ -21,6 +21,11 @@ pub returns-in_default-clause-stands : goal.returns-in_default-clause-stands
 returns-in_default-clause-stands g c doc q k before h s v =
     subst (λ more. Heading doc q k before more c.args.zones.now c.args.cluster.now c.args.store.now c.args.told.now)
     (sym (zone_idle doc k q h c.args.zones.now.queues (entry_place c.args.place) s.queues c.in_default.ensures.none)) s
+
+pub returns-in_default-clause-counted : goal.returns-in_default-clause-counted
+returns-in_default-clause-counted g c doc q k before h s v =
+    subst (λ more. c.args.steps.now + tick_cost q k h ≤ c.args.steps.now + tick_cost q k more)
+    (sym (zone_idle doc k q h c.args.zones.now.queues (entry_place c.args.place) s.queues c.in_default.ensures.none)) (omega arith)
 
 pub returns-in_default-2-clause-stands : goal.returns-in_default-2-clause-stands
 returns-in_default-2-clause-stands g c doc q k before h s v =
