@@ -238,6 +238,13 @@ try_lens() {
     done
     run --version </
     hint '--version' 0 "kube_lens $(cat "$top/VERSION")" ''
+    if [ -x "$top/crates/kube_lens/out/kube_lens" ]; then
+        for word in $("$top/crates/kube_lens/out/kube_lens" --help </dev/null | sed -n 's/^ *kube_lens \([a-z]*\).*/\1/p' | sort -u); do
+            run --help </
+            grep -o "^  ./kube_lens $word " "$room/output" | head -1 >"$room/found" && mv "$room/found" "$room/output"
+            hint "$word is told, not built" 0 "  ./kube_lens $word " ''
+        done
+    fi
     run leaderz </
     hint "no command, not built" 2 'usage: kube_lens COMMAND (kube_lens --help tells them)' "'leaderz' is no command"
     run </

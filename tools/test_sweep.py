@@ -1,12 +1,13 @@
 #!/usr/bin/env python3
 """Sweeps over the examples, and compares each answer with that of a single run, measured in another way.
 
-    python3 tools/test_sweep.py [--program COMMAND] [--only NAME] [--pictures FOLDER]
+    python3 tools/test_sweep.py [--program COMMAND] [--only NAME] [--install] [--pictures FOLDER]
 
-COMMAND is a program that takes the word `replay` and the document on standard input, by default the built one. The sweeps run on all
-cores, broken off twice, and by GNU parallel over ssh to this machine, whose server is started on a free port with keys of its own. Where
-parallel, rsync or the server are missing, the distribution's packages are installed. A document with kubelets is left out, and told, where
-the program refuses such documents. The exit status is 1 where anything differs. --pictures keeps the pictures.
+COMMAND is a program that takes the word `replay` and the document on standard input, by default the built one; without it nothing is tried, since
+a build for each of some 1,300 runs would take days. The sweeps run on all cores, broken off twice, and by GNU parallel over ssh to this machine,
+whose server is started on a free port with keys of its own. Where parallel, rsync or the server are missing that part is left out, and told;
+--install installs the distribution's packages. Each line has the seconds that it took. The exit status is 1 where anything differs.
+--pictures keeps the pictures.
 """
 import argparse
 import csv
@@ -43,7 +44,7 @@ def same(what, found, wanted):
 
 
 def sweep(*words, folder, wait=True):
-    command = ['nice', '-n', '10', sys.executable, SWEEP, *words]
+    command = [sys.executable, SWEEP, *words]
     if not wait:
         return subprocess.Popen(command, cwd=folder, stdout=subprocess.DEVNULL, stderr=subprocess.DEVNULL)
     done = subprocess.run(command, cwd=folder, stdout=subprocess.PIPE, stderr=subprocess.PIPE, text=True)
@@ -193,11 +194,14 @@ def test_broken_off(given, folder):
     print('broken off with %d traces, then whole' % len(before), flush=True)
 
 
-def need_packages():
-    missing = [package for command, package in PACKAGES.items() if not shutil.which(command)]
-    if missing:
+def lacking():
+    return sorted({package for command, package in PACKAGES.items() if not shutil.which(command)})
+
+
+def install(packages):
+    if packages:
         subprocess.run(['apt-get', 'update', '-qq'], check=True)
-        subprocess.run(['apt-get', 'install', '-y', '-qq', '--no-install-recommends', *missing], check=True, stdout=subprocess.DEVNULL)
+        subprocess.run(['apt-get', 'install', '-y', '-qq', '--no-install-recommends', *packages], check=True, stdout=subprocess.DEVNULL)
 
 
 def start_server(folder):
@@ -226,13 +230,17 @@ def start_server(folder):
 
 def test_over_ssh(given, folder):
     """The same sweep by GNU parallel over ssh to this machine: the same bytes."""
-    need_packages()
+    if given.install:
+        install(lacking())
+    if lacking():
+        print('over ssh: left out, since these packages are missing: %s; --install installs them' % ', '.join(lacking()), flush=True)
+        return
     server, login = start_server(folder)
     try:
         sweep('plan', CRASH_WORDS[0], 'far', *CRASH_WORDS[2:], folder=folder)
         names = sweep('missing', 'far', folder=folder)
         command = given.program + ' replay < {} > {.}.part; test $? -le 1 && mv {.}.part {.}.trace'
-        subprocess.run(['nice', '-n', '10', 'parallel', '--will-cite', '--sshlogin', '4/' + login, '--workdir', '...',
+        subprocess.run(['parallel', '--will-cite', '--sshlogin', '4/' + login, '--workdir', '...',
                         '--transferfile', '{}', '--return', '{.}.trace', '--cleanup', command],
                        input=names, text=True, cwd=folder, check=True, stdout=subprocess.DEVNULL)
     finally:
@@ -357,17 +365,25 @@ TESTS = [test_written_by_hand, test_lease_duration, test_crash_beat, test_two_va
 
 
 def main():
-    options = argparse.ArgumentParser(description=__doc__.splitlines()[0])
-    options.add_argument('--program', default=BUILT)
-    options.add_argument('--only', default='')
+    options = argparse.ArgumentParser(description=__doc__, formatter_class=argparse.RawDescriptionHelpFormatter)
+    options.add_argument('--program', default=BUILT, metavar='COMMAND')
+    options.add_argument('--only', default='', metavar='NAME', help='the tests that have NAME in their name, and the one that others need')
+    options.add_argument('--install', action='store_true', help="install what the part over ssh needs, by the distribution's packages")
     options.add_argument('--pictures', metavar='FOLDER')
     given = options.parse_args()
+    first, *words = shlex.split(given.program)
+    found = shutil.which(first)
+    if not found:
+        sys.exit('test_sweep: there is no program %s; prove and build it first (docs/running.md), or name another: --program COMMAND' % given.program)
+    given.program = shlex.join([os.path.abspath(found), *words])
     with tempfile.TemporaryDirectory() as folder:
         for test in TESTS:
             # The whole sweep over the crash's beat is what others are compared with.
             if given.only in test.__name__ or test is test_crash_beat:
+                since = time.monotonic()
                 test(given, folder)
-                print('%s: %s' % (test.__name__.removeprefix('test_'), '%d faults so far' % len(faults) if faults else 'done'), flush=True)
+                said = '%d faults so far' % len(faults) if faults else 'done'
+                print('%s: %s, %.1f s' % (test.__name__.removeprefix('test_'), said, time.monotonic() - since), flush=True)
         for name in ('leases', 'crashes', 'both', 'grace') if given.pictures else ():
             path = os.path.join(folder, name, 'answers.svg')
             if os.path.exists(path):
