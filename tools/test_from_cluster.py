@@ -76,6 +76,13 @@ def test_events():
     same('a zone with its region', [event['process'] for event in document('--kill-zone', 'eu-1/eu-1c@5s')['events']], ['kubelet/cp-3'])
 
 
+def test_hosts():
+    """A controller whose host's kubelet dies goes on, which is told."""
+    said = make('--kill-zone', 'eu-1b@60s').stderr
+    same('told of the leader', 'the controller cp-2 goes on where only the kubelet of its host dies; --kill-leader' in said, True)
+    same('nothing of others', 'goes on' in make('--kill', 'worker-1@60s', '--kill-leader', '@60s').stderr, False)
+
+
 def test_stalls():
     """A controller or a kubelet that is frozen: a document of version 3, whose events are in the order of their beats."""
     made = document('--stall', 'cp-1@60s+45s', '--stall', 'worker-1@10s+1m30s', '--stall', 'kubelet/cp-2@20s+2s', '--stall', '@2m+1s', '--kill', 'worker-3@30s')
@@ -131,7 +138,7 @@ def main():
     options = argparse.ArgumentParser(description=__doc__.splitlines()[0])
     options.add_argument('--program', default=BUILT)
     program = options.parse_args().program
-    for test in (test_document, test_flags, test_events, test_stalls, test_refused):
+    for test in (test_document, test_flags, test_events, test_hosts, test_stalls, test_refused):
         test()
     test_redacted(program)
     test_run(program)
