@@ -69,9 +69,15 @@ processes() {
     cat /proc/[0-9]*/stat 2>/dev/null
 }
 
-# The processes of the launcher's own child, by its session or as the child itself.
+# The launcher's own children: what it runs and, where kube_lens is built and the input is a pipe, what copies the input.
+children_of() {
+    processes | awk -v parent="$1" '{ number = $1; sub(/^.*\) /, ""); if ($2 == parent) print number }'
+}
+
+# Which processes there are of these children, by their sessions or as the children themselves.
 left_of() {
-    processes | awk -v child="$1" '{ number = $1; sub(/^.*\) /, ""); if (($4 == child || number == child) && $1 != "Z") print number }'
+    processes | awk -v children="$(echo $1)" 'BEGIN { split(children, list); for (i in list) child[list[i]] }
+        { number = $1; sub(/^.*\) /, ""); if (($4 in child || number in child) && $1 != "Z") print number }'
 }
 
 # The same of an unproved build that is long and has processes of its own, with a script in the place of the kit's command.
@@ -83,7 +89,7 @@ try_signal_to_build() {
     PATH=$room/kit:$PATH "$room/hints/kube_replay" check <"$room/document.json" >"$room/output" 2>"$room/errors" &
     started=$!
     sleep 2
-    child=$(processes | awk -v parent="$started" '{ number = $1; sub(/^.*\) /, ""); if ($2 == parent) print number }')
+    child=$(children_of "$started")
     before=$(left_of "$child" | wc -l)
     kill -TERM "$started"
     wait "$started"
@@ -104,7 +110,7 @@ try_signal() {
     "$launcher" check <"$input" >"$room/output" 2>"$room/errors" &
     started=$!
     sleep 3
-    child=$(processes | awk -v parent="$started" '{ number = $1; sub(/^.*\) /, ""); if ($2 == parent) print number }')
+    child=$(children_of "$started")
     before=$(left_of "$child" | wc -l)
     began=$(date +%s)
     kill -TERM "$started"
