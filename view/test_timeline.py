@@ -419,6 +419,7 @@ def test_edges(browser, folder, pictures):
             browser.run('timeline.chart.setWindow(%d, %d)' % window)
             cut = [text for text in drawn_texts(browser) if text[2] > browser.run('timeline.chart.width') + .5]
             same('%d wide, %s: words past the edge' % (width, window), cut, [])
+    check_long_names(browser, folder)
     open_large(browser, folder)
     browser.size(600, 500)
     browser.frame()
@@ -435,6 +436,21 @@ def test_edges(browser, folder, pictures):
                                        'getComputedStyle(document.documentElement).colorScheme]'), ['rgb(255, 255, 255)', 'rgb(255, 255, 255)', 'light'])
     browser.call('Emulation.setEmulatedMedia', media='')
     browser.run('timeline.theme = "light", timeline.applyTheme()')
+
+
+def check_long_names(browser, folder):
+    """Names that are too long for their column lose their middle, so that pods of one Deployment are told apart."""
+    names = ['default/some-service-with-a-long-name-7d4b9c6f5-%s' % end for end in ('2xk8p', 'pz6rt')]
+    path = os.path.join(folder, 'long-names.txt')
+    with open(path, 'w') as file:
+        file.write('trace 1 beat=1000 end=60 premise=yes\n0 c1_1 start\n4 c1_1 lead v=1\n')
+        file.writelines('9 c1_1 evict %s due=2024-01-01T00:00:09Z v=%d\n' % (name, i + 2) for i, name in enumerate(names))
+    open_trace(browser, folder, path)
+    browser.size(1280, 800)
+    browser.frame()
+    cut = [text for text in drawn_texts(browser) if text[0].startswith('default')]
+    same('the ends of long names', [text[0][-6:] for text in cut], ['-2xk8p', '-pz6rt'])
+    same('within their column', [text for text in cut if '…' not in text[0] or text[2] > browser.run('timeline.chart.gutter')], [])
 
 
 def open_large(browser, folder):
