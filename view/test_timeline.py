@@ -67,30 +67,45 @@ def per_beat(spans, layer, end):
     return kinds
 
 
+def edges_of(rows, end):
+    """The beats at which what the lines say can change: those of lines, and those at which a pause is over."""
+    beats = {at for _, at, _, _ in rows} | {at + int(words[1].removeprefix('beats=')) for _, at, _, words in rows if words[0] == 'pause'}
+    return sorted({0} | {beat for beat in beats if beat <= end})
+
+
+def each_beat(edges, end, state):
+    """What the lines say at each beat; from one edge to the next it is the same."""
+    said = []
+    for first, past in zip(edges, edges[1:] + [end + 1]):
+        said += [state(first)] * (past - first)
+    return said
+
+
 def check_states(name, data, head, rows):
     end = int(head['end'])
+    edges = edges_of(rows, end)
     for lane in data['lanes']:
         base, over = per_beat(lane['spans'], 'base', end), per_beat(lane['spans'], 'over', end)
         where = '%s: %s' % (name, lane['name'])
         if lane['name'] == 'who leads':
-            counts = [len(lines.leaders(rows, beat)) for beat in range(end + 1)]
+            counts = each_beat(edges, end, lambda beat: len(lines.leaders(rows, beat)))
             same(where, base, [('nobody', 'one', 'several')[min(count, 2)] for count in counts])
             same(name + ': leaderless', data['leaderless'], counts.count(0))
         elif lane['kind'] == 'controller':
-            leads = [any(lines.process(who)[1] == lane['name'] for who in lines.terms(rows, beat)) for beat in range(end + 1)]
+            leads = each_beat(edges, end, lambda beat: any(lines.process(who)[1] == lane['name'] for who in lines.terms(rows, beat)))
             same(where, [kind == 'leading' for kind in over], leads)
-            check_paused(where, data, lane, rows, end)
+            check_paused(where, lane, rows, end)
         elif lane['kind'] == 'node':
-            same(where, list(zip(base, over)), [lines.node_state(rows, lane['name'], beat) for beat in range(end + 1)])
-            check_paused(where, data, lane, rows, end)
+            same(where, list(zip(base, over)), each_beat(edges, end, lambda beat: lines.node_state(rows, lane['name'], beat)))
+            check_paused(where, lane, rows, end)
         elif lane['kind'] == 'zone':
-            same(where, base, [lines.zone_state(rows, lane['name'], beat) for beat in range(end + 1)])
+            same(where, base, each_beat(edges, end, lambda beat: lines.zone_state(rows, lane['name'], beat)))
 
 
-def check_paused(where, data, lane, rows, end):
+def check_paused(where, lane, rows, end):
     is_of = lambda actor: actor != 'script' and lines.process(actor) == (lane['kind'], lane['name'])
     same(where + ': paused', [kind == 'paused' for kind in per_beat(lane['spans'], 'pause', end)],
-         [lines.is_paused(rows, beat, is_of) for beat in range(end + 1)])
+         each_beat(edges_of(rows, end), end, lambda beat: lines.is_paused(rows, beat, is_of)))
 
 
 def check_drawn(name, browser, data):
