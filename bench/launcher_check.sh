@@ -69,9 +69,36 @@ processes() {
     cat /proc/[0-9]*/stat 2>/dev/null
 }
 
-# The processes of the launcher's own child, by its session or as the child itself.
+# The launcher's own children: what it runs and, where kube_lens is built and the input is a pipe, what copies the input.
+children_of() {
+    processes | awk -v parent="$1" '{ number = $1; sub(/^.*\) /, ""); if ($2 == parent) print number }'
+}
+
+# Which processes there are of these children, by their sessions or as the children themselves.
 left_of() {
-    processes | awk -v child="$1" '{ number = $1; sub(/^.*\) /, ""); if (($4 == child || number == child) && $1 != "Z") print number }'
+    processes | awk -v children="$(echo $1)" 'BEGIN { split(children, list); for (i in list) child[list[i]] }
+        { number = $1; sub(/^.*\) /, ""); if (($4 in child || number in child) && $1 != "Z") print number }'
+}
+
+# The same of an unproved build that is long and has processes of its own, with a script in the place of the kit's command.
+try_signal_to_build() {
+    mkdir -p "$room/kit" "$room/hints/crates/kube_replay"
+    printf '#!/bin/sh\nsleep 60 & sleep 60\n' >"$room/kit/rt"
+    chmod +x "$room/kit/rt"
+    rm -f "$room/hints/crates/kube_replay/out/kube_replay"
+    PATH=$room/kit:$PATH "$room/hints/kube_replay" check <"$room/document.json" >"$room/output" 2>"$room/errors" &
+    started=$!
+    sleep 2
+    child=$(children_of "$started")
+    before=$(left_of "$child" | wc -l)
+    kill -TERM "$started"
+    wait "$started"
+    echo $? >"$room/status"
+    sleep 1
+    hint 'a signal TERM in a build' 143 '' ''
+    [ "$before" -eq 3 ] && [ -z "$(left_of "$child")" ] && return
+    wrong=1
+    echo "$mode: $before processes before the signal, and after it: $(left_of "$child" | tr '\n' ' ')"
 }
 
 # A signal to the launcher ends the launcher within five seconds, and what it started.
@@ -83,7 +110,7 @@ try_signal() {
     "$launcher" check <"$input" >"$room/output" 2>"$room/errors" &
     started=$!
     sleep 3
-    child=$(processes | awk -v parent="$started" '{ number = $1; sub(/^.*\) /, ""); if ($2 == parent) print number }')
+    child=$(children_of "$started")
     before=$(left_of "$child" | wc -l)
     began=$(date +%s)
     kill -TERM "$started"
@@ -204,6 +231,7 @@ LENS
     rm "$room/hints/crates/kube_lens/out/kube_lens"
     run check <"$room/bad.json"
     hint 'no kube_lens' 1 'refused 3 /' ''
+    try_signal_to_build
 }
 
 # The other launcher, with and without a program.
@@ -216,6 +244,19 @@ try_lens() {
     done
     run --version </
     hint '--version' 0 "kube_lens $(cat "$top/VERSION")" ''
+    if [ -x "$top/crates/kube_lens/out/kube_lens" ]; then
+        for word in $("$top/crates/kube_lens/out/kube_lens" --help </dev/null | sed -n 's/^ *kube_lens \([a-z]*\).*/\1/p' | sort -u); do
+            run --help </
+            grep -o "^  ./kube_lens $word " "$room/output" | head -1 >"$room/found" && mv "$room/found" "$room/output"
+            hint "$word is told, not built" 0 "  ./kube_lens $word " ''
+        done
+    fi
+    run leaderz </
+    hint "no command, not built" 2 'usage: kube_lens COMMAND (kube_lens --help tells them)' "'leaderz' is no command"
+    run </
+    hint 'no words, not built' 2 'usage: kube_lens COMMAND (kube_lens --help tells them)' 'a command is missing'
+    run "$(printf 'leaders\377')" </
+    hint "no UTF-8, not built" 6 '' "a word of the command isn't UTF-8"
     stand_in kube_lens <<'LENS'
 case "$*" in --help) echo 'the help of the program' ;; margin) wc -c; exit 1 ;; *) echo 'usage: kube_lens COMMAND'; exit 2 ;; esac
 LENS

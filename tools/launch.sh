@@ -115,6 +115,14 @@ refuse_words() {
     exit 2
 }
 
+# The same of kube_lens, where it isn't built.
+refuse_lens_words() {
+    are_utf8 "$@" || end_with 6
+    { echo "usage: kube_lens COMMAND (kube_lens --help tells them)"; } 2>/dev/null || end_with 4
+    if [ $# -eq 0 ]; then say "a command is missing; $called --help tells them"; else say "'$1' is no command; $called --help tells them"; fi
+    exit 2
+}
+
 # Ends with the program's status, and after a fault with a sentence that names it.
 end_with() {
     case "$1" in
@@ -144,7 +152,8 @@ attend() {
 end_child() {
     trap '' HUP INT TERM
     if [ -n "$child" ]; then
-        kill -TERM -- "-$child" 2>/dev/null || kill -TERM "$child" 2>/dev/null
+        # Some shells take `--` here for a number.
+        kill -TERM "-$child" 2>/dev/null || kill -TERM "$child" 2>/dev/null
         wait "$child" 2>/dev/null
     fi
     [ -z "$feeder" ] || kill -TERM "$feeder" 2>/dev/null
@@ -167,12 +176,20 @@ answer_words() {
     is_command "$@" || refuse_words "$@"
 }
 
-# The same of kube_lens, whose program knows its own words: where it is built its help is told, else what stands here.
+# Whether the help of kube_lens has a command. A further one is named there.
+is_lens_command() {
+    case "$(tell_lens_help)" in *"  $called $1 "*) return 0 ;; *) return 1 ;; esac
+}
+
+# The same of kube_lens, whose program knows its own words: where it is built its help is told and it answers all other words, else what
+# stands here.
 answer_lens_words() {
     case "$#:$1" in
         1:--version) { echo "kube_lens $(cat "$version")"; } 2>/dev/null || end_with 4; exit 0 ;;
         1:--help | 1:-h | 1:help) ;;
-        *) return 0 ;;
+        *)
+            is_current "$program" || is_lens_command "$1" || refuse_lens_words "$@"
+            return 0 ;;
     esac
     if is_current "$program" && told=$("$program" --help </dev/null 2>/dev/null); then
         { printf '%s\n' "$told"; } 2>/dev/null || end_with 4

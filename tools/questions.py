@@ -105,8 +105,9 @@ class Told:
 
 
 def pod_lives(trace, told):
-    """Of each pod on a node that was marked or tainted: its node, since when that was silent, when it was marked, when tainted, and
-    when the pod was evicted, each the first time after the stroke that led to it; and the seconds from silent to evicted."""
+    """Of each pod that was evicted, or whose node was marked or tainted: its node, since when that was silent, when it was marked, when tainted, and
+    when the pod was evicted, each the first time after the stroke that led to it; and the seconds from silent to evicted. What was
+    so before the trace begins isn't told."""
     gone = {}
     for beat, pod in trace.evictions:
         gone.setdefault(pod, beat)
@@ -116,6 +117,8 @@ def pod_lives(trace, told):
         tainted = last([beat for beat, name in trace.taints if name == node and (evicted is None or beat <= evicted)])
         unknown = last([beat for beat, name in trace.unknown if name == node and (tainted is None or beat <= tainted)])
         if unknown is None and tainted is None:
+            if evicted is not None:
+                lives.append((pod, node, None, None, None, trace.seconds(evicted), None))
             continue
         until = unknown if unknown is not None else tainted
         silent = last([beat for beat, name in told.strokes if name == node and beat <= until])
@@ -131,11 +134,11 @@ def last(values):
 
 
 def pod_delay(trace, told, pod=None):
-    """The longest of all pods, or that of one; a pod that a toleration keeps has none."""
-    lives = {life[0]: life[-1] for life in pod_lives(trace, told)}
+    """The longest of all pods, or that of one. A pod that a toleration keeps has none; of one whose node was silent before the trace begins it isn't known."""
+    lives = {life[0]: life for life in pod_lives(trace, told)}
     if pod:
-        return lives[pod] if lives.get(pod) is not None else 'never'
-    return max((delay for delay in lives.values() if delay is not None), default=None)
+        return lives[pod][-1] if pod in lives and lives[pod][-2] is not None else 'never'
+    return max((life[-1] for life in lives.values() if life[-1] is not None), default=None)
 
 
 QUESTIONS = {

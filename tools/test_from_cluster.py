@@ -76,6 +76,13 @@ def test_events():
     same('a zone with its region', [event['process'] for event in document('--kill-zone', 'eu-1/eu-1c@5s')['events']], ['kubelet/cp-3'])
 
 
+def test_hosts():
+    """A controller whose host's kubelet dies goes on, which is told."""
+    said = make('--kill-zone', 'eu-1b@60s').stderr
+    same('told of the leader', 'the controller cp-2 goes on where only the kubelet of its host dies; --kill-leader' in said, True)
+    same('nothing of others', 'goes on' in make('--kill', 'worker-1@60s', '--kill-leader', '@60s').stderr, False)
+
+
 def test_stalls():
     """A controller or a kubelet that is frozen: a document of version 3, whose events are in the order of their beats."""
     made = document('--stall', 'cp-1@60s+45s', '--stall', 'worker-1@10s+1m30s', '--stall', 'kubelet/cp-2@20s+2s', '--stall', '@2m+1s', '--kill', 'worker-3@30s')
@@ -114,6 +121,24 @@ def test_run(program):
          [('default/cart-5f6d8b7c9-h4t2n', True), ('default/web-7d4b9c6f5-2xk8p', True)])
 
 
+def nodes(count, name='n'):
+    """A list of so many nodes."""
+    return json.dumps({'kind': 'List', 'items': [{'apiVersion': 'v1', 'kind': 'Node', 'metadata': {'name': '%s%d' % (name, i)}} for i in range(count)]})
+
+
+def pods(count, word):
+    tolerations = [{'key': '%s%d' % (word, i), 'operator': 'Exists'} for i in range(100)]
+    return json.dumps({'kind': 'List', 'items': [{'apiVersion': 'v1', 'kind': 'Pod', 'metadata': {'name': 'p%d' % i}, 'spec': {'tolerations': tolerations}} for i in range(count)]})
+
+
+def test_limits():
+    """What a document can't have is told, and nothing is written."""
+    same('a thousand nodes', make('--controller', 'a', given=nodes(1_000)).returncode, 0)
+    for given, wanted in ((nodes(1_001), '1001 Nodes'), (pods(2_000, 'x' * 80), 'bytes')):
+        done = make('--controller', 'a', given=given)
+        same('over the limit: ' + wanted, (done.returncode, done.stdout, wanted in done.stderr), (1, '', True))
+
+
 def test_refused():
     cases = [(('--kill', 'worker-9@60s'), None, 'there is no node worker-9'), (('--kill-zone', 'mars@60s'), None, 'no node is in it'),
              (('--clock', 'cp-9=1.02'), None, 'no such controller'), (('--kill', 'worker-1@20m'), None, 'let it run longer'),
@@ -131,7 +156,7 @@ def main():
     options = argparse.ArgumentParser(description=__doc__.splitlines()[0])
     options.add_argument('--program', default=BUILT)
     program = options.parse_args().program
-    for test in (test_document, test_flags, test_events, test_stalls, test_refused):
+    for test in (test_document, test_flags, test_events, test_hosts, test_stalls, test_limits, test_refused):
         test()
     test_redacted(program)
     test_run(program)

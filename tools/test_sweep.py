@@ -1,12 +1,13 @@
 #!/usr/bin/env python3
 """Sweeps over the examples, and compares each answer with that of a single run, measured in another way.
 
-    python3 tools/test_sweep.py [--program COMMAND] [--only NAME] [--pictures FOLDER]
+    python3 tools/test_sweep.py [--program COMMAND] [--only NAME] [--install] [--pictures FOLDER]
 
-COMMAND is a program that takes the word `replay` and the document on standard input, by default the built one. The sweeps run on all
-cores, broken off twice, and by GNU parallel over ssh to this machine, whose server is started on a free port with keys of its own. Where
-parallel, rsync or the server are missing, the distribution's packages are installed. A document with kubelets is left out, and told, where
-the program refuses such documents. The exit status is 1 where anything differs. --pictures keeps the pictures.
+COMMAND is a program that takes the word `replay` and the document on standard input, by default the built one; without it nothing is tried, since
+a build for each of some 1,200 runs would take days. The sweeps run on all cores, broken off twice, and by GNU parallel over ssh to this machine,
+whose server is started on a free port with keys of its own. Where parallel, rsync or the server are missing that part is left out, and told;
+--install installs the distribution's packages. Each line has the seconds that it took. The exit status is 1 where anything differs.
+--pictures keeps the pictures.
 """
 import argparse
 import csv
@@ -43,7 +44,7 @@ def same(what, found, wanted):
 
 
 def sweep(*words, folder, wait=True):
-    command = ['nice', '-n', '10', sys.executable, SWEEP, *words]
+    command = [sys.executable, SWEEP, *words]
     if not wait:
         return subprocess.Popen(command, cwd=folder, stdout=subprocess.DEVNULL, stderr=subprocess.DEVNULL)
     done = subprocess.run(command, cwd=folder, stdout=subprocess.PIPE, stderr=subprocess.PIPE, text=True)
@@ -193,11 +194,14 @@ def test_broken_off(given, folder):
     print('broken off with %d traces, then whole' % len(before), flush=True)
 
 
-def need_packages():
-    missing = [package for command, package in PACKAGES.items() if not shutil.which(command)]
-    if missing:
+def lacking():
+    return sorted({package for command, package in PACKAGES.items() if not shutil.which(command)})
+
+
+def install(packages):
+    if packages:
         subprocess.run(['apt-get', 'update', '-qq'], check=True)
-        subprocess.run(['apt-get', 'install', '-y', '-qq', '--no-install-recommends', *missing], check=True, stdout=subprocess.DEVNULL)
+        subprocess.run(['apt-get', 'install', '-y', '-qq', '--no-install-recommends', *packages], check=True, stdout=subprocess.DEVNULL)
 
 
 def start_server(folder):
@@ -208,7 +212,9 @@ def start_server(folder):
         free.bind(('127.0.0.1', 0))
         port = free.getsockname()[1]
     settings = {'Port': port, 'ListenAddress': '127.0.0.1', 'HostKey': os.path.join(folder, 'host'), 'PidFile': 'none', 'UsePAM': 'no',
-                'AuthorizedKeysFile': os.path.join(folder, 'user.pub'), 'StrictModes': 'no', 'PasswordAuthentication': 'no'}
+                'AuthorizedKeysFile': os.path.join(folder, 'user.pub'), 'StrictModes': 'no', 'PasswordAuthentication': 'no',
+                # As deep a shell reads no ~/.bashrc, which can take seconds at each of a hundred logins.
+                'SetEnv': 'SHLVL=9'}
     with open(os.path.join(folder, 'sshd_config'), 'w') as file:
         file.writelines('%s %s\n' % pair for pair in settings.items())
     os.makedirs('/run/sshd', exist_ok=True)
@@ -225,22 +231,29 @@ def start_server(folder):
 
 
 def test_over_ssh(given, folder):
-    """The same sweep by GNU parallel over ssh to this machine: the same bytes."""
-    need_packages()
+    """Twenty runs by GNU parallel over ssh to this machine: the same bytes as without."""
+    if given.install:
+        install(lacking())
+    if lacking():
+        print('over ssh: left out, since these packages are missing: %s; --install installs them' % ', '.join(lacking()), flush=True)
+        return
+    words = ('--vary', '/events/0/beat=5..204..10', '--ask', 'failover')
+    sweep('all', CRASHES, 'near', *words, '--program', given.program, folder=folder)
     server, login = start_server(folder)
     try:
-        sweep('plan', CRASH_WORDS[0], 'far', *CRASH_WORDS[2:], folder=folder)
+        sweep('plan', CRASHES, 'far', *words, folder=folder)
         names = sweep('missing', 'far', folder=folder)
         command = given.program + ' replay < {} > {.}.part; test $? -le 1 && mv {.}.part {.}.trace'
-        subprocess.run(['nice', '-n', '10', 'parallel', '--will-cite', '--sshlogin', '4/' + login, '--workdir', '...',
+        subprocess.run(['parallel', '--will-cite', '--sshlogin', '4/' + login, '--workdir', '...',
                         '--transferfile', '{}', '--return', '{.}.trace', '--cleanup', command],
                        input=names, text=True, cwd=folder, check=True, stdout=subprocess.DEVNULL)
     finally:
         server.terminate()
         server.wait()
     sweep('table', 'far', folder=folder)
+    same('runs over ssh', len(names.splitlines()), 20)
     for name in ('answers.csv', 'answers.svg'):
-        same('over ssh: ' + name, read_bytes(os.path.join(folder, 'far', name)), read_bytes(os.path.join(folder, 'crashes', name)))
+        same('over ssh: ' + name, read_bytes(os.path.join(folder, 'far', name)), read_bytes(os.path.join(folder, 'near', name)))
     print('over ssh: %d runs' % len(names.splitlines()), flush=True)
 
 
@@ -280,6 +293,20 @@ def test_pods(given, folder):
     wanted = {pod: {'node': 'node-c', 'silent': '15', 'unknown': '62', 'tainted': '62', 'evicted': '' if seconds is None else str(62 + seconds),
                     'delay': '' if seconds is None else str(47 + seconds)} for pod, seconds in tolerated.items()}
     same('pods', rows, wanted)
+
+
+def test_silent_before(given, folder):
+    """A pod that goes for a node that was silent before the trace begins has a row, and no delay."""
+    document, trace = [os.path.join(folder, 'before' + ending) for ending in ('.json', '.txt')]
+    pods = [{'apiVersion': 'v1', 'kind': 'Pod', 'metadata': {'name': name}, 'spec': {'nodeName': node}} for name, node in (('gone', 'n1'), ('stays', 'n2'))]
+    with open(document, 'w') as file:
+        json.dump({'version': 1, 'settings': {'endBeat': 60}, 'controllers': [{'name': 'c1'}], 'objects': {'apiVersion': 'v1', 'kind': 'List', 'items': pods}}, file)
+    with open(trace, 'w') as file:
+        file.write('trace 1 beat=1000 end=60 premise=yes\n0 c1_1 start\n4 c1_1 lead v=3\n50 c1_1 evict default/gone due=2024-01-01T00:00:50Z v=9\n')
+    same('silent before', sweep('pods', document, trace, folder=folder).splitlines()[1:], ['default/gone,n1,,,,50,'])
+    asked = ['pod-delay:default/gone', 'pod-delay:default/stays', 'pod-delay']
+    row = next(csv.DictReader(sweep('measure', trace, '--document', document, *[word for each in asked for word in ('--ask', each)], folder=folder).splitlines()))
+    same('delays', [row[each] for each in asked], ['', 'never', ''])
 
 
 def test_objects(given, folder):
@@ -353,21 +380,29 @@ def test_refused_words(given, folder):
 
 
 TESTS = [test_written_by_hand, test_lease_duration, test_crash_beat, test_two_values, test_document_with_nodes, test_grace_period,
-         test_pods, test_objects, test_pauses, test_worst_minute, test_picture, test_broken_off, test_over_ssh, test_shares, test_refused_words]
+         test_pods, test_silent_before, test_objects, test_pauses, test_worst_minute, test_picture, test_broken_off, test_over_ssh, test_shares, test_refused_words]
 
 
 def main():
-    options = argparse.ArgumentParser(description=__doc__.splitlines()[0])
-    options.add_argument('--program', default=BUILT)
-    options.add_argument('--only', default='')
+    options = argparse.ArgumentParser(description=__doc__, formatter_class=argparse.RawDescriptionHelpFormatter)
+    options.add_argument('--program', default=BUILT, metavar='COMMAND')
+    options.add_argument('--only', default='', metavar='NAME', help='the tests that have NAME in their name, and the one that others need')
+    options.add_argument('--install', action='store_true', help="install what the part over ssh needs, by the distribution's packages")
     options.add_argument('--pictures', metavar='FOLDER')
     given = options.parse_args()
+    first, *words = shlex.split(given.program)
+    found = shutil.which(first)
+    if not found:
+        sys.exit('test_sweep: there is no program %s; prove and build it first (docs/running.md), or name another: --program COMMAND' % given.program)
+    given.program = shlex.join([os.path.abspath(found), *words])
     with tempfile.TemporaryDirectory() as folder:
         for test in TESTS:
             # The whole sweep over the crash's beat is what others are compared with.
             if given.only in test.__name__ or test is test_crash_beat:
+                since = time.monotonic()
                 test(given, folder)
-                print('%s: %s' % (test.__name__.removeprefix('test_'), '%d faults so far' % len(faults) if faults else 'done'), flush=True)
+                said = '%d faults so far' % len(faults) if faults else 'done'
+                print('%s: %s, %.1f s' % (test.__name__.removeprefix('test_'), said, time.monotonic() - since), flush=True)
         for name in ('leases', 'crashes', 'both', 'grace') if given.pictures else ():
             path = os.path.join(folder, name, 'answers.svg')
             if os.path.exists(path):

@@ -67,30 +67,45 @@ def per_beat(spans, layer, end):
     return kinds
 
 
+def edges_of(rows, end):
+    """The beats at which what the lines say can change: those of lines, and those at which a pause is over."""
+    beats = {at for _, at, _, _ in rows} | {at + int(words[1].removeprefix('beats=')) for _, at, _, words in rows if words[0] == 'pause'}
+    return sorted({0} | {beat for beat in beats if beat <= end})
+
+
+def each_beat(edges, end, state):
+    """What the lines say at each beat; from one edge to the next it is the same."""
+    said = []
+    for first, past in zip(edges, edges[1:] + [end + 1]):
+        said += [state(first)] * (past - first)
+    return said
+
+
 def check_states(name, data, head, rows):
     end = int(head['end'])
+    edges = edges_of(rows, end)
     for lane in data['lanes']:
         base, over = per_beat(lane['spans'], 'base', end), per_beat(lane['spans'], 'over', end)
         where = '%s: %s' % (name, lane['name'])
         if lane['name'] == 'who leads':
-            counts = [len(lines.leaders(rows, beat)) for beat in range(end + 1)]
+            counts = each_beat(edges, end, lambda beat: len(lines.leaders(rows, beat)))
             same(where, base, [('nobody', 'one', 'several')[min(count, 2)] for count in counts])
             same(name + ': leaderless', data['leaderless'], counts.count(0))
         elif lane['kind'] == 'controller':
-            leads = [any(lines.process(who)[1] == lane['name'] for who in lines.terms(rows, beat)) for beat in range(end + 1)]
+            leads = each_beat(edges, end, lambda beat: any(lines.process(who)[1] == lane['name'] for who in lines.terms(rows, beat)))
             same(where, [kind == 'leading' for kind in over], leads)
-            check_paused(where, data, lane, rows, end)
+            check_paused(where, lane, rows, end)
         elif lane['kind'] == 'node':
-            same(where, list(zip(base, over)), [lines.node_state(rows, lane['name'], beat) for beat in range(end + 1)])
-            check_paused(where, data, lane, rows, end)
+            same(where, list(zip(base, over)), each_beat(edges, end, lambda beat: lines.node_state(rows, lane['name'], beat)))
+            check_paused(where, lane, rows, end)
         elif lane['kind'] == 'zone':
-            same(where, base, [lines.zone_state(rows, lane['name'], beat) for beat in range(end + 1)])
+            same(where, base, each_beat(edges, end, lambda beat: lines.zone_state(rows, lane['name'], beat)))
 
 
-def check_paused(where, data, lane, rows, end):
+def check_paused(where, lane, rows, end):
     is_of = lambda actor: actor != 'script' and lines.process(actor) == (lane['kind'], lane['name'])
     same(where + ': paused', [kind == 'paused' for kind in per_beat(lane['spans'], 'pause', end)],
-         [lines.is_paused(rows, beat, is_of) for beat in range(end + 1)])
+         each_beat(edges_of(rows, end), end, lambda beat: lines.is_paused(rows, beat, is_of)))
 
 
 def check_drawn(name, browser, data):
@@ -419,6 +434,7 @@ def test_edges(browser, folder, pictures):
             browser.run('timeline.chart.setWindow(%d, %d)' % window)
             cut = [text for text in drawn_texts(browser) if text[2] > browser.run('timeline.chart.width') + .5]
             same('%d wide, %s: words past the edge' % (width, window), cut, [])
+    check_long_names(browser, folder)
     open_large(browser, folder)
     browser.size(600, 500)
     browser.frame()
@@ -435,6 +451,21 @@ def test_edges(browser, folder, pictures):
                                        'getComputedStyle(document.documentElement).colorScheme]'), ['rgb(255, 255, 255)', 'rgb(255, 255, 255)', 'light'])
     browser.call('Emulation.setEmulatedMedia', media='')
     browser.run('timeline.theme = "light", timeline.applyTheme()')
+
+
+def check_long_names(browser, folder):
+    """Names that are too long for their column lose their middle, so that pods of one Deployment are told apart."""
+    names = ['default/some-service-with-a-long-name-7d4b9c6f5-%s' % end for end in ('2xk8p', 'pz6rt')]
+    path = os.path.join(folder, 'long-names.txt')
+    with open(path, 'w') as file:
+        file.write('trace 1 beat=1000 end=60 premise=yes\n0 c1_1 start\n4 c1_1 lead v=1\n')
+        file.writelines('9 c1_1 evict %s due=2024-01-01T00:00:09Z v=%d\n' % (name, i + 2) for i, name in enumerate(names))
+    open_trace(browser, folder, path)
+    browser.size(1280, 800)
+    browser.frame()
+    cut = [text for text in drawn_texts(browser) if text[0].startswith('default')]
+    same('the ends of long names', [text[0][-6:] for text in cut], ['-2xk8p', '-pz6rt'])
+    same('within their column', [text for text in cut if '…' not in text[0] or text[2] > browser.run('timeline.chart.gutter')], [])
 
 
 def open_large(browser, folder):
