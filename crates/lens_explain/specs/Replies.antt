@@ -12,9 +12,9 @@ use Rattle.script_reader.specs.Walk.{document_walk}
 -- the counts of a document
 unfoldable pub well_formed_text : Document → List ℕ
 well_formed_text d =
-    (codes "well-formed controllers=" ++ decimal (length d.controllers)) ++ (codes " kubelets=" ++ decimal (length d.kubelets))
-    ++ (codes " objects=" ++ decimal (length d.objects.items)) ++ (codes " skipped=" ++ decimal d.objects.skipped)
-    ++ (codes " events=" ++ decimal (length d.events)) ++ codes "\n"
+    (codes "well-formed controllers=" ++ decimal (length d.controllers)) ++ ((codes " kubelets=" ++ decimal (length d.kubelets))
+    ++ ((codes " objects=" ++ decimal (length d.objects.items)) ++ ((codes " skipped=" ++ decimal d.objects.skipped)
+    ++ ((codes " events=" ++ decimal (length d.events)) ++ codes "\n"))))
 
 abbrev pub well_formed : Document → Reply
 well_formed d = record { verdict = Done; text = well_formed_text d }

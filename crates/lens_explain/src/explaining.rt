@@ -1,7 +1,6 @@
 // What is said of a document.
 ghost use Rattle.std.specs.Prelude.{◌≡◌, ◌++◌, IfOk, OnOk, decimal};
 ghost use Rattle.lens_edge.specs.Outcome.{reply_of};
-ghost use Rattle.script_reader.specs.Walk.{document_walk};
 ghost use Rattle.lens_explain.specs.Replies.{IsExplained, IsRefused, well_formed, well_formed_text};
 
 use kube_base::NoMemory;
@@ -58,9 +57,21 @@ fn formed(alloc: Global, document: &Document) -> Result<Answer, NoMemory>
 fn add_counts(text: &mut Vec<u8>, document: &Document) -> Result<(), NoMemory>
     ensures { OnOk result (text.new.items ≡ text.old.items ++ well_formed_text document.now) }
 {
-    add_count(text, b"well-formed controllers=", document.controllers.as_slice().len() as u64)?;
-    add_count(text, b" kubelets=", document.kubelets.as_slice().len() as u64)?;
-    add_count(text, b" objects=", document.objects.items.as_slice().len() as u64)?;
+    add_count(
+        text,
+        b"well-formed controllers=",
+        document.controllers.as_slice().len() as u64,
+    )?;
+    add_count(
+        text,
+        b" kubelets=",
+        document.kubelets.as_slice().len() as u64,
+    )?;
+    add_count(
+        text,
+        b" objects=",
+        document.objects.items.as_slice().len() as u64,
+    )?;
     add_count(text, b" skipped=", document.objects.skipped)?;
     add_count(text, b" events=", document.events.as_slice().len() as u64)?;
     add(text, b"\n")

@@ -25,4 +25,3 @@ returns-else-is_command-clause-text g c bytes told =
 
 pub returns-else-is_command-clause-usage : goal.returns-else-is_command-clause-usage
 returns-else-is_command-clause-usage g c other = (refl, c.tell_usage.ensures.status, c.tell_usage.ensures.text [])
-
