@@ -6,7 +6,8 @@
 The documents are those of examples/, the FILEs, and as many from a seed as wanted: examples with faults of many sorts. Where `check` refuses
 one, the first line of `explain` has to be its line; the next one has to tell a line and a column at which the text shown stands. That is the
 place of the value at the refusal's path, or of the last value on the way to it that is there; for an unknown key that of a key of that
-object, and of the planted one where one was planted. Where `check` takes the document, `explain` has to tell its counts. PROGRAM is by default
+object, and of the planted one where one was planted. Where `check` takes the document, `explain` has to tell its counts, and of each key that an object has twice
+both places. PROGRAM is by default
 the built kube_lens. The exit status is 1 where anything differs. Nothing here is a proof.
 """
 import argparse
@@ -28,7 +29,7 @@ class Places:
     the last one counts."""
 
     def __init__(self, text):
-        self.text, self.values, self.keys = text, {}, {}
+        self.text, self.values, self.keys, self.twice = text, {}, {}, []
         self.value(self.blanks(0), '')
 
     def blanks(self, at):
@@ -52,7 +53,7 @@ class Places:
         return at + len(re.match(rb'[^\s,\]}]*', self.text[at:]).group())
 
     def members(self, at, path, is_object):
-        place = 0
+        place, seen = 0, {}
         if is_object:
             self.keys[path] = []
         while self.text[at:at + 1] not in (b'}', b']'):
@@ -61,6 +62,9 @@ class Places:
                 self.keys[path].append(at)
                 end = self.string(at)
                 name = self.text[at + 1:end - 1].decode()
+                if name in seen:
+                    self.twice.append((seen[name], at))
+                seen[name] = at
                 at = self.blanks(self.blanks(end) + 1)
                 for old in [p for p in self.values if p.startswith(f'{path}/{name}/')]:
                     del self.values[old]
@@ -92,7 +96,7 @@ def spots(value, path=()):
 
 def broken(dice, doc):
     """A document with some faults, as text."""
-    for _ in range(dice.choice((1, 1, 1, 2))):
+    for _ in range(dice.choice((0, 1, 1, 1, 2))):
         where = doc
         for step in dice.choice(list(spots(doc))):
             where = where[step]
@@ -103,7 +107,18 @@ def broken(dice, doc):
     text = json.dumps(doc, indent=dice.choice((None, None, 1, 2)), ensure_ascii=dice.random() < 0.5).encode()
     if dice.random() < 0.15:
         text = cut(dice, text)
+    elif dice.random() < 0.15:
+        text = doubled(dice, text)
     return text
+
+
+def doubled(dice, text):
+    """The text with a member of an object once more."""
+    found = list(re.finditer(rb'("[A-Za-z]+": *(?:[0-9]+|"[^"\\\\]*"|true|false)),', text))
+    if not found:
+        return text
+    one = dice.choice(found)
+    return text[:one.end()] + one[1] + b',' + text[one.end():]
 
 
 def change_key(dice, where):
@@ -184,11 +199,13 @@ def fault(text, checked, explained):
     if status != ended:
         return f'status {ended}, not {status}'
     if status == 0:
-        warned = told.startswith(counts(said)) and not told[len(counts(said)):].strip()
-        return None if warned else f'{told} of {said}'
+        warned = told[len(counts(said)):].splitlines()
+        places = [place_in(text, line) for number, line in enumerate(warned) if number % 3]
+        right = places == [at for both in Places(text).twice[:20] for at in both]
+        return None if right and told.startswith(counts(said)) else f'{told} of {said}'
     first, second, rest = (told.split(b'\n', 2) + [b'', b''])[:3]
     place = place_in(text, second)
-    if first + b'\n' != said or place is None or not rest.endswith(b'.\n'):
+    if first + b'\n' != said or place is None or not rest.endswith(b'\n'):
         return f'{told} of {said}'
     code, path = first.decode().split(' ')[1:]
     if code == '1':

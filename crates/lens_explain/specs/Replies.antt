@@ -5,6 +5,7 @@ use Rattle.lens_edge.specs.Outcome.{Outcome, Reply, Read, Unread, refusal_text, 
 use Rattle.lens_edge.specs.declared.status.Verdict.{Verdict}
 use Rattle.lens_edge.specs.declared.status.Verdict.TheVariants.{Done, Refused}
 use Rattle.lens_why.specs.Places.{IsWhy}
+use Rattle.lens_why.specs.Warnings.{AreWarnings}
 use Rattle.manifest_json.specs.declared.fault.Refusal.{Refusal}
 use Rattle.script_reader.specs.declared.document.Document.{Document}
 use Rattle.script_reader.specs.Walk.{document_walk}
@@ -16,8 +17,12 @@ well_formed_text d =
     ++ ((codes " objects=" ++ decimal (length d.objects.items)) ++ ((codes " skipped=" ++ decimal d.objects.skipped)
     ++ ((codes " events=" ++ decimal (length d.events)) ++ codes "\n"))))
 
-abbrev pub well_formed : Document → Reply
-well_formed d = record { verdict = Done; text = well_formed_text d }
+-- the counts, and warnings, each of two places of the input
+pub record IsFormed (input : List ℕ) (d : Document) (reply : Reply) : Type 0 where
+  pub verdict : reply.verdict ≡ Done
+  pub warnings : List ℕ
+  pub warned : AreWarnings input warnings
+  pub text : reply.text ≡ well_formed_text d ++ warnings
 
 -- the line of the refusal, and why: the line of a place of the input, and further lines
 pub record IsRefused (input : List ℕ) (r : Refusal) (reply : Reply) : Type 0 where
@@ -28,7 +33,7 @@ pub record IsRefused (input : List ℕ) (r : Refusal) (reply : Reply) : Type 0 w
 
 -- what is said of the document in these bytes, or of its first refusal
 abbrev pub Explains : List ℕ → Result Document Refusal → Reply → Type 0
-Explains input (Ok d) reply = reply ≡ well_formed d
+Explains input (Ok d) reply = IsFormed input d reply
 Explains input (Err r) reply = IsRefused input r reply
 
 abbrev pub IsExplained : List ℕ → Reply → Type 0

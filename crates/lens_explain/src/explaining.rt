@@ -1,11 +1,11 @@
 // What is said of a document.
 ghost use Rattle.std.specs.Prelude.{◌≡◌, ◌++◌, IfOk, OnOk, decimal};
 ghost use Rattle.lens_edge.specs.Outcome.{reply_of};
-ghost use Rattle.lens_explain.specs.Replies.{IsExplained, IsRefused, well_formed, well_formed_text};
+ghost use Rattle.lens_explain.specs.Replies.{IsExplained, IsFormed, IsRefused, well_formed_text};
 
 use kube_base::NoMemory;
 use lens_edge::{Answer, Verdict, refuse};
-use lens_why::why;
+use lens_why::{warnings, why};
 use manifest_json::{ReadFault, Refusal};
 use script_reader::{Document, read_document};
 use std::alloc::Global;
@@ -16,7 +16,7 @@ pub(crate) fn explained(alloc: Global, input: &[u8]) -> Result<Answer, NoMemory>
     ensures { IfOk result (λ answer. IsExplained input.now (reply_of answer)) }
 {
     match read_document(alloc, input) {
-        Ok(document) => formed(alloc, &document),
+        Ok(document) => formed(alloc, input, &document),
         Err(ReadFault::Refused(refusal)) => refused(alloc, input, &refusal),
         Err(ReadFault::NoMemory) => Err(NoMemory),
     }
@@ -41,12 +41,14 @@ fn with_more(answer: Answer, more: &[u8]) -> Result<Answer, NoMemory>
     Ok(Answer { verdict, text })
 }
 
-/// That a document is well formed, with its counts.
-fn formed(alloc: Global, document: &Document) -> Result<Answer, NoMemory>
-    ensures { IfOk result (λ answer. reply_of answer ≡ well_formed document.now) }
+/// That a document is well formed, with its counts, and warnings of keys that are there twice.
+fn formed(alloc: Global, input: &[u8], document: &Document) -> Result<Answer, NoMemory>
+    ensures { IfOk result (λ answer. IsFormed input.now document.now (reply_of answer)) }
 {
+    let more = warnings(alloc, input)?;
     let mut text = Vec::new(alloc);
     add_counts(&mut text, document)?;
+    add(&mut text, &more)?;
     Ok(Answer {
         verdict: Verdict::Done,
         text,

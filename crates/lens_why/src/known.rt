@@ -227,11 +227,11 @@ const RULES: [Rule; 36] = [
     },
     Rule {
         key: "name",
-        allowed: "a name: lower-case letters, digits, - and ., as \"cp-east-1\"",
+        allowed: "a name of lower-case letters, digits, - and ., as \"cp-east-1\"",
     },
     Rule {
         key: "node",
-        allowed: "a name: lower-case letters, digits, - and ., as \"worker-1\"",
+        allowed: "a name of lower-case letters, digits, - and ., as \"worker-1\"",
     },
     Rule {
         key: "ratePpm",

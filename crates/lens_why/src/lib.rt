@@ -11,6 +11,8 @@ mod rules;
 mod saying;
 mod scan;
 mod sentence;
+mod twice;
 mod walk;
 
 pub use saying::why;
+pub use twice::warnings;

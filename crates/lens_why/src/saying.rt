@@ -151,7 +151,7 @@ fn add_known(text: &mut Vec<u8>, known: &[&str]) -> Result<(), NoMemory> {
         add(text, b" ")?;
         add(text, key.as_bytes())?;
     }
-    add(text, b"\n")
+    add(text, b".\n")
 }
 
 /// Adds what may stand at the key at a path's end.
@@ -159,7 +159,7 @@ fn add_allowed(text: &mut Vec<u8>, path: &[u8]) -> Result<(), NoMemory> {
     match allowed_at(last_step(path)) {
         Some(allowed) if !path.starts_with(b"/objects/") => {
             add(text, last_step(path))?;
-            add(text, b" is ")?;
+            add(text, b" takes ")?;
             add(text, allowed.as_bytes())?;
             add(text, b".\n")
         }

@@ -1,7 +1,7 @@
 use Rattle.std.proofs.Common.{sym, ap, ◌∙◌, subst}
 use Rattle.lens_edge.specs.Outcome.{refusal}
 use Rattle.lens_why.specs.Places.{IsWhy}
-use Rattle.lens_explain.proofs.Refusals.{refused_with}
+use Rattle.lens_explain.proofs.Told.{refused_with}
 use Rattle.lens_explain.proofs.explaining.refused.Goals as goal
 
 pub returns : goal.returns
