@@ -51,6 +51,9 @@ fn hint_in(before: Option<&u8>, here: u8) -> &'static str {
     match here {
         b'}' | b']' if before == Some(&b',') =>
             "A comma stands before a closing bracket: leave it out.\n",
+        b'}' | b']' => {
+            "A bracket that closes nothing, or another one than is open, or a value is missing before it.\n"
+        }
         b'\'' => "JSON's quotes are \", not '.\n",
         b'/' | b'#' => "JSON has no comments.\n",
         b'"' => "A comma may be missing before this text.\n",

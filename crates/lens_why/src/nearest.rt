@@ -8,7 +8,7 @@ use strsim::generic_levenshtein;
 const LONGEST: usize = 64;
 
 /// Of these words one that another one begins, or else the one that the fewest edits make of it, where these are at most a third of its
-/// letters, and two.
+/// letters, and one.
 pub(crate) fn nearest(
     alloc: Global,
     word: &[u8],
@@ -39,7 +39,7 @@ fn by_edits(
     known: &[&'static str],
 ) -> Result<Option<&'static str>, NoMemory> {
     let mut found = None;
-    let mut least = word.len() / 3 + 3;
+    let mut least = word.len() / 3 + 2;
     for other in known {
         let edits = generic_levenshtein(alloc, word, other.as_bytes())?;
         if edits < least {

@@ -9,7 +9,7 @@ pub(crate) fn sentence(code: u32) -> &'static str {
         3 => "This object has a key that isn't known.",
         4 => "A key is missing that has to be there.",
         5 =>
-            "The value has the wrong JSON type. Whole numbers are written in digits alone, as 60: not \"60\", 60.0 or 6e1.",
+            "The value has the wrong JSON type, or is no whole number that is written in digits alone.",
         6 => "The value is out of its range, or no word that is known here.",
         7 => "These settings don't fit each other.",
         8 =>

@@ -73,11 +73,17 @@ pub(crate) fn number_at(input: &[u8], path: &[u8]) -> Option<u64> {
 
 /// How many keys and places a path has.
 fn steps_of(path: &[u8]) -> usize {
-    if path.len() < 2 {
-        0
-    } else {
-        path.iter().filter(|byte| **byte == b'/').count()
-    }
+    if path.len() < 2 { 0 } else { slashes_in(path) }
+}
+
+fn slashes_in(text: &[u8]) -> usize {
+    text.iter().filter(|byte| **byte == b'/').count()
+}
+
+/// Whether a key that has slashes itself, as that of a label, is the last one of a path, and leads out of this level.
+fn ends_path(path: &[u8], level: usize, key: &[u8]) -> bool {
+    let slashes = slashes_in(key);
+    slashes > 0 && slashes.saturating_add(level) == steps_of(path) && path.ends_with(key)
 }
 
 /// The key or place of a path that leads out of this level, counted from 1; nothing where there is none.
@@ -166,8 +172,8 @@ impl Walk {
     }
 
     fn key(&mut self, text: &[u8], path: &[u8]) {
-        if self.depth == self.level && !text.is_empty() && text == step_at(path, self.level) {
-            self.awaited = true;
+        if self.depth == self.level && !text.is_empty() {
+            self.awaited = text == step_at(path, self.level) || ends_path(path, self.level, text);
         }
     }
 }
