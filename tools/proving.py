@@ -11,6 +11,7 @@ from crates import TOP, Crates
 PROVED = re.compile(r'^fn .*: proved')
 USUAL = re.compile(r'^(statements |logic |axioms |(fn|struct|enum|impl|trait) \S+: proved)')
 LINES_SHOWN = 400
+TARGET = 'x86_64-unknown-linux-gnu'
 
 
 class Unbuilt(Exception):
@@ -37,6 +38,13 @@ class Checkout:
     def archive(self, name):
         """The static library that C links, of a crate that is one."""
         return os.path.join(self.folder(name), 'out', f'lib{name}.a')
+
+    def program(self, name):
+        """The built program, of a crate that is one."""
+        return os.path.join(self.folder(name), 'out', name)
+
+    def is_program(self, name):
+        return os.path.exists(os.path.join(self.folder(name), 'src', 'main.rt'))
 
     def note(self, name):
         """The file that tells of which sources prove-one made the library."""
@@ -117,8 +125,7 @@ def words(shelf, name, tests, place):
     """What the prover is called with for one crate; `place` is the kit's folder."""
     table = shelf.own.crates
     below, unkept = table.below(name), shelf.from_source(name)
-    is_program = os.path.exists(os.path.join(shelf.own.folder(name), 'src', 'main.rt'))
-    found = ['--crate-name', name, 'src/main.rt' if is_program else 'src/lib.rt', *(['--test'] if tests else [])]
+    found = ['--crate-name', name, 'src/main.rt' if shelf.own.is_program(name) else 'src/lib.rt', *(['--test'] if tests else [])]
     of_the_kit = ['std', *table.of_the_kit(name)]
     if unkept:
         of_the_kit += ['core', *(library for crate in unkept for library in table.of_the_kit(crate))]
@@ -171,7 +178,9 @@ class Prover:
         if self.shelf.from_source(name):
             raise Unbuilt(' '.join(self.shelf.from_source(name)))
         if name in self.own.crates.static:
-            return self.build_static(name)
+            return self.build_linked(name, self.own.archive(name))
+        if self.own.is_program(name):
+            return self.build_program(name)
         library, note = self.own.library(name), self.own.note(name)
         shutil.rmtree(os.path.dirname(library), ignore_errors=True)
         os.makedirs(os.path.dirname(library))
@@ -186,13 +195,22 @@ class Prover:
         self.shelf.forget()
         return status
 
-    def build_static(self, name):
-        """Proves a crate that is a static library, and puts the archive into its out/ folder."""
-        archive = self.own.archive(name)
-        os.makedirs(os.path.dirname(archive), exist_ok=True)
-        if os.path.exists(archive):
-            os.remove(archive)
-        return self.run('build', name, ['--toolchain', f'{self.place}/toolchain', '--backend', 'llvm', '-o', archive, '--empty-contracts'])
+    def build_linked(self, name, path):
+        """Proves a crate whose code is linked with all below it, and puts the archive or the object into this file."""
+        os.makedirs(os.path.dirname(path), exist_ok=True)
+        if os.path.exists(path):
+            os.remove(path)
+        return self.run('build', name, ['--toolchain', f'{self.place}/toolchain', '--backend', 'llvm', '-o', path, '--empty-contracts'])
+
+    def build_program(self, name):
+        """Proves a program, and puts it into its out/ folder."""
+        program = self.own.program(name)
+        status = self.build_linked(name, program + '.o')
+        if status != 0:
+            return status
+        libraries = [f'{self.place}/c/lib{library}_c.a' for library in ('os', 'libc')]
+        return subprocess.run([f'{self.place}/bin/rattle-link', '--target', TARGET, '--toolchain', f'{self.place}/toolchain', '-o', program,
+                               program + '.o', *libraries], cwd=self.own.folder(name)).returncode
 
     def build_below(self, name):
         """Proves and keeps what isn't kept below a crate, lowest first; returns the first status that isn't 0."""

@@ -16,6 +16,7 @@ import tempfile
 import time
 import unittest
 
+import bodies
 import crates
 import edits
 import proving
@@ -293,6 +294,48 @@ done
     def test_bad_edits_and_those_without_a_word_fail(self):
         found, status = self.outcome(a='BAD EDIT: it cannot be applied', b='')
         self.assertEqual((found[0][:2], found[1][:2], status), (['BAD', 'EDIT'], ['NOT', 'TRIED'], 1))
+
+
+class OfBodies(unittest.TestCase):
+    TEXT = '''// Each thing\nimpl Thing {\n    pub fn take(&self) -> u32\n        ensures { result ≡ 1 }\n    {\n        one()\n    }\n}\n\nfn one() -> u32 {\n    1\n}\n'''
+
+    def test_functions_have_their_paths(self):
+        self.assertEqual(bodies.functions('src/thing.rt', self.TEXT, '        one()'), ['thing::Thing::take'])
+        self.assertEqual(bodies.functions('src/lib.rt', self.TEXT, '    1'), ['one'])
+        self.assertEqual(bodies.functions('src/deep/mod.rt', self.TEXT, '// Each thing'), [])
+
+    def test_an_edit_beside_functions_is_checked_whole(self):
+        with tempfile.TemporaryDirectory() as room:
+            write(self.TEXT, room, 'src', 'thing.rt')
+            write('file: src/thing.rt\nold:         one()\nnew:         2\n', room, 'inside.edit')
+            write('file: src/thing.rt\nold: // Each thing\nnew: // Some\n', room, 'beside.edit')
+            texts, names = bodies.changed(os.path.join(room, 'inside.edit'), room)
+            self.assertEqual(names, ['thing::Thing::take'])
+            self.assertEqual(texts['src/thing.rt'], self.TEXT.replace('        one()', '        2'))
+            self.assertEqual(bodies.checks(names), [['--only', 'thing::Thing::take'], ['--empty-contracts']])
+            self.assertIsNone(bodies.changed(os.path.join(room, 'beside.edit'), room)[1])
+            self.assertEqual(bodies.checks(None), [['--empty-contracts']])
+
+    def test_what_a_check_says(self):
+        refused = 'note: src/a.rt:3:5: it is not proved\nonly=1 proved=0\n'
+        for status, text, is_whole, wanted in ((1, refused, False, 'refused'), (1, 'a\nlogic=not-proved', True, 'refused'), (0, 'only=1 proved=1', False, 'NOT REFUSED'),
+                                               (1, 'src/a.rt:3:5: error: expected the end', False, 'BAD EDIT'), (2, 'it has no function', False, None)):
+            self.assertEqual(bodies.judged(subprocess.CompletedProcess([], status, text), is_whole)[0], wanted)
+
+
+class OfQueues(unittest.TestCase):
+    def test_who_is_proved_when(self):
+        with tempfile.TemporaryDirectory() as room:
+            own = make(room)
+            write(TABLE, room, 'docs', 'gate.md')
+            keep(own, 'low')
+            queue = script('prove-all').Queue(own, own.crates.names, 2)
+            self.assertEqual(queue.kept, {'low'})
+            self.assertEqual(queue.way, {'low': 3.5, 'mid': 2.2, 'other': 2.5, 'top': 2.0})
+            self.assertEqual(queue.ready(), ['other', 'mid'])
+            queue.kept.add('mid')
+            queue.failed.append('other')
+            self.assertEqual(queue.ready(), [])
 
 
 class OfPictures(unittest.TestCase):
