@@ -3,12 +3,12 @@
 
     tools/test_lens_explain.py [--count 2000] [--seed 1] [--program PROGRAM] [--replay crates/kube_replay/out/kube_replay] [FILE ..]
 
-The documents are those of examples/, the FILEs, and as many from a seed as wanted: examples with faults of many sorts. Where `check` refuses
-one, the first line of `explain` has to be its line; the next one has to tell a line and a column at which the text shown stands. That is the
-place of the value at the refusal's path, or of the last value on the way to it that is there; for an unknown key that of a key of that
-object, and of the planted one where one was planted. Where `check` takes the document, `explain` has to tell its counts, and of each key that an object has twice
-both places. PROGRAM is by default
-the built kube_lens. The exit status is 1 where anything differs. Nothing here is a proof.
+The documents are those of examples/, of the rows of check_tables, the FILEs, and as many from a seed as wanted: examples with faults of many
+sorts. Where `check` refuses one, the first line of `explain` has to be its line; the next one has to tell a line and a column at which the
+text shown stands. That is the place of the value at the refusal's path, or of the last value on the way to it that is there; for an unknown
+key that of a key of that object, and of the planted one where one was planted. Where `check` takes the document, `explain` has to tell its
+counts, and of each key that an object has twice both places. PROGRAM is by default the built kube_lens. The exit status is 1 where anything
+differs. Nothing here is a proof.
 """
 import argparse
 import glob
@@ -155,12 +155,22 @@ def cut(dice, text):
                         text + b'}', text.replace(b'"', b"'"), text.replace(b'}', b',}', 1), b'# a comment\n' + text, b'\xef\xbb\xbf' + text, b''))
 
 
+def rows():
+    """The documents of check_tables' rows."""
+    found = []
+    for path in sorted(glob.glob(os.path.join(TOP, 'crates', 'check_tables', 'data', 'documents', '*.txt'))):
+        with open(path, 'rb') as file:
+            found += [line.split(b'\t')[1] for line in file.read().split(b'\n') if line.count(b'\t') == 1]
+    return found
+
+
 def texts(seed, count, files):
     kept = sorted(glob.glob(os.path.join(TOP, 'examples', '*', 'document.json'))) + [os.path.join(TOP, 'examples', 'one-controller.json')]
     cases = []
     for path in kept + files:
         with open(path, 'rb') as file:
             cases.append(file.read())
+    cases += rows()
     small = [json.loads(text) for text in cases[:len(kept)] if len(text) < 20000]
     dice = random.Random(seed)
     for _ in range(count):
@@ -212,7 +222,7 @@ def fault(text, checked, explained):
         return None
     places = Places(text)
     wanted = [places.nearest(path)]
-    if code == '3':
+    if code == '3' and path.rstrip('/') in places.keys:
         wanted = places.keys[path.rstrip('/')]
         planted = [at for at in wanted if text[at:].startswith(f'"{PLANTED}"'.encode())]
         wanted = planted if planted and len(wanted) == len(planted) else wanted

@@ -2,7 +2,7 @@
 use Rattle.std.proofs.Common.{◌≡◌, ℕ, List, [], ◌++◌, Result, Ok, Err, IfOk, refl, ap, ◌∙◌}
 use Rattle.kube_base.specs.declared.memory.NoMemory.{NoMemory}
 use Rattle.lens_edge.specs.declared.answer.Answer.{Answer}
-use Rattle.lens_edge.specs.Outcome.{Reply, refusal, reply_of}
+use Rattle.lens_edge.specs.Outcome.{refusal, reply_of}
 use Rattle.lens_explain.specs.Replies.{IsFormed, IsRefused, well_formed_text}
 use Rattle.lens_why.specs.Places.{IsWhy}
 use Rattle.lens_why.specs.Warnings.{AreWarnings}

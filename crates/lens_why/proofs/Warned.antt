@@ -1,10 +1,7 @@
 -- Warnings that are added one after the other.
-use Rattle.std.proofs.Common.{◌≡◌, ℕ, List, [], ◌∷◌, ◌++◌, refl, sym, ap, ◌∙◌, append_assoc}
+use Rattle.std.proofs.Common.{◌≡◌, ℕ, List, ◌∷◌, ◌++◌, ap, ◌∙◌, append_assoc}
 use Rattle.lens_why.specs.Places.{TellsPlace, place_line}
 use Rattle.lens_why.specs.Warnings.{AreWarnings, label}
-
-pub none_warned : (input text : List ℕ) → text ≡ [] → AreWarnings input text
-none_warned input text none = ([], none)
 
 joined : (t t0 t1 t2 a b c : List ℕ) → t0 ≡ t ++ a → t1 ≡ t0 ++ b → t2 ≡ t1 ++ c → t2 ≡ t ++ (a ++ (b ++ c))
 joined t t0 t1 t2 a b c p q r =

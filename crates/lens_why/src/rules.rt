@@ -1,5 +1,6 @@
 // Settings that don't fit each other, with their values.
 
+use crate::digits::digits_of;
 use crate::walk::{last_step, number_at};
 use kube_base::NoMemory;
 use std::alloc::Global;
@@ -109,16 +110,15 @@ fn add_retry(text: &mut Vec<u8>, timings: Timings) -> Result<(), NoMemory> {
 }
 
 fn add_rates(alloc: Global, text: &mut Vec<u8>, input: &[u8]) -> Result<(), NoMemory> {
+    let secondary = setting(alloc, input, b"/settings", b"/secondaryRate", 10)?;
+    let primary = setting(alloc, input, b"/settings", b"/primaryRate", 100)?;
+    if secondary <= primary {
+        return Ok(());
+    }
     add(text, b"secondaryRate is at most primaryRate: ")?;
-    add_number(
-        text,
-        setting(alloc, input, b"/settings", b"/secondaryRate", 10)?,
-    )?;
+    add_number(text, secondary)?;
     add(text, b" is more than ")?;
-    add_number(
-        text,
-        setting(alloc, input, b"/settings", b"/primaryRate", 100)?,
-    )?;
+    add_number(text, primary)?;
     add(text, b".\n")
 }
 
@@ -129,19 +129,26 @@ pub(crate) fn add_order(
     input: &[u8],
     path: &[u8],
 ) -> Result<(), NoMemory> {
-    let place = crate::digits::digits_of(last_step(path)).unwrap_or(0);
+    let place = digits_of(last_step(path)).unwrap_or(0);
+    let mut before = Vec::from_slice(alloc, b"/events/")?;
+    add_number(&mut before, place.saturating_sub(1))?;
     let beat = setting(alloc, input, path, b"/beat", 0)?;
+    let earlier = setting(alloc, input, &before, b"/beat", 0)?;
     let end = setting(alloc, input, b"/settings", b"/endBeat", 0)?;
+    if beat < earlier {
+        add_beats(text, beat, b", and the one before it at beat ", earlier)
+    } else if beat > end {
+        add_beats(text, beat, b", after endBeat ", end)
+    } else {
+        Ok(())
+    }
+}
+
+/// Adds the beat of an event beside another one.
+fn add_beats(text: &mut Vec<u8>, beat: u64, label: &[u8], other: u64) -> Result<(), NoMemory> {
     add(text, b"This event is at beat ")?;
     add_number(text, beat)?;
-    if beat > end {
-        add(text, b", after endBeat ")?;
-        add_number(text, end)?;
-        return add(text, b".\n");
-    }
-    let mut earlier = Vec::from_slice(alloc, b"/events/")?;
-    add_number(&mut earlier, place.saturating_sub(1))?;
-    add(text, b", and the one before it at beat ")?;
-    add_number(text, setting(alloc, input, &earlier, b"/beat", 0)?)?;
+    add(text, label)?;
+    add_number(text, other)?;
     add(text, b".\n")
 }

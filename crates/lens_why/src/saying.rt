@@ -65,12 +65,15 @@ fn place_of(
 
 /// The first key of the object at a path that no version knows there, or else that version 1 doesn't.
 fn odd_key(alloc: Global, input: &[u8], path: &[u8]) -> Result<Option<Span>, NoMemory> {
-    let place = follow(input, path).place;
+    let found = follow(input, path);
+    if !found.whole {
+        return Ok(None);
+    }
     let kind = kind_at(alloc, input, path)?;
     let part = part_of(path);
-    match key_beside(input, place, keys_in(part, kind)) {
+    match key_beside(input, found.place, keys_in(part, kind)) {
         Some(span) => Ok(Some(span)),
-        None => Ok(key_beside(input, place, first_keys_in(part, kind))),
+        None => Ok(key_beside(input, found.place, first_keys_in(part, kind))),
     }
 }
 

@@ -1,7 +1,6 @@
 // Keys that are there twice in one object.
-ghost use Rattle.std.specs.Prelude.{◌++◌, ◌≤◌, codes, length, IfOk, OnOk};
-ghost use Rattle.lens_why.specs.Places.{TellsPlace};
-ghost use Rattle.lens_why.specs.Warnings.{AreWarnings, label};
+ghost use Rattle.std.specs.Prelude.{IfOk, OnOk};
+ghost use Rattle.lens_why.specs.Warnings.{AreWarnings};
 
 use crate::place::add_place;
 use crate::scan::{Mark, Scan};

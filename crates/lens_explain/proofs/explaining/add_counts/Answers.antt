@@ -1,4 +1,4 @@
-use Rattle.std.proofs.Common.{ℕ, List, ◌++◌, length, codes, decimal, ap, ◌∙◌}
+use Rattle.std.proofs.Common.{◌++◌, length, codes, decimal, ap, ◌∙◌}
 use Rattle.std.proofs.lemmas.Result.{on_ok_weaker}
 use Rattle.lens_explain.specs.Replies.{well_formed_text}
 use Rattle.lens_explain.proofs.Added.{all_added}

@@ -1,4 +1,4 @@
-use Rattle.std.proofs.Common.{◌≡◌, IfOk, sym, subst}
+use Rattle.std.proofs.Common.{IfOk, sym, subst}
 use Rattle.lens_edge.specs.Outcome.{reply_of}
 use Rattle.lens_explain.specs.Replies.{Explains}
 use Rattle.lens_explain.proofs.explaining.explained.Goals as goal
