@@ -194,7 +194,7 @@ hint() {
     compare "$@"
 }
 
-# The program says `refused` of what has the word bad, and kube_lens says the bytes that it was given.
+# The program says `refused` of what has the word bad, and kube_lens the same, and the bytes that it was given.
 try_hints() {
     mode=hints launcher=$room/hints/kube_replay bytes=$(($(wc -c <"$room/bad.json")))
     stand_in kube_replay <<'PROGRAM'
@@ -203,6 +203,7 @@ echo ok
 PROGRAM
     stand_in kube_lens <<'LENS'
 [ "$*" = explain ] || { echo 'usage: kube_lens COMMAND'; exit 2; }
+echo 'refused 3 /'
 echo "$(wc -c) bytes"
 exit 1
 LENS

@@ -59,6 +59,7 @@ $(tell_command "$called margin < DOCUMENT" 'how much room each lease leaves, the
 $(tell_command "$called margin --lease 15s ..." 'the same of flags: --lease --renew --retry --timeout --skew --beat')
 $(tell_command "$called leaders < TRACE" 'who led from when to when, when nobody did, and whether two did at once')
 $(tell_command "$called summary < TRACE" 'what a trace comes to, as tables: terms, zones, nodes, evictions, totals')
+$(tell_command "$called explain < DOCUMENT" 'why a document is refused, where, and what may stand there')
 $(tell_command "$called --help, --version" 'these lines, and the version')
 
 Exit status: 0 answered, 1 unsafe, two at once, or the input is refused, 2 no such command, 3 the input can't be read,
@@ -213,12 +214,12 @@ keep_document() {
     fi
 }
 
-# Says in a sentence why a document is refused, where kube_lens is as new as the sources and knows how.
+# Says why a document is refused, where kube_lens is as new as the sources: what `explain` says behind the line of the refusal.
 explain_refusal() {
     [ "$status" -eq 1 ] && [ -n "$explained" ] && is_current "$lens" || return 0
     sentence=$({ "$lens" explain <"$explained"; } 2>/dev/null)
     [ $? -eq 1 ] || return 0
-    printf '%s\n' "$sentence" | sed "s/^/$name: /" >&2
+    printf '%s\n' "$sentence" | sed "1d;s/^/$name: /" >&2
 }
 
 run_program() {

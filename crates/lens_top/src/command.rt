@@ -15,6 +15,8 @@ pub enum Command {
     Leaders,
     /// What a trace comes to, as tables.
     Summary,
+    /// Why a document is refused.
+    Explain,
 }
 
 /// The command that the first word names, if any.
@@ -49,6 +51,8 @@ fn by_word(word: &str) -> Option<Command>
         Some(Command::Leaders)
     } else if word == "summary" {
         Some(Command::Summary)
+    } else if word == "explain" {
+        Some(Command::Explain)
     } else {
         None
     }

@@ -1,0 +1,63 @@
+// Where a text stops to be JSON, and why it may.
+
+use kube_base::NoMemory;
+use serde_json::Value;
+use std::alloc::Global;
+
+/// Where the reader stops in a text that is no JSON. It counts lines and columns, of which this makes a number of bytes.
+pub(crate) fn stop_of(alloc: Global, input: &[u8]) -> Result<usize, NoMemory> {
+    match Value::from_slice(alloc, input) {
+        Ok(_) => Ok(0),
+        Err(error) => {
+            if error.is_memory() {
+                Err(NoMemory)
+            } else {
+                Ok(place_of(input, error.line(), error.column()))
+            }
+        }
+    }
+}
+
+/// How many bytes stand before a line and column, both counted from 1.
+fn place_of(input: &[u8], line: usize, column: usize) -> usize {
+    let mut begin = 0_usize;
+    let mut here = 1_usize;
+    for (place, byte) in input.iter().enumerate() {
+        if here < line && *byte == b'\n' {
+            here = here.saturating_add(1);
+            begin = place.saturating_add(1);
+        }
+    }
+    begin.saturating_add(column.saturating_sub(1))
+}
+
+/// What may be wrong in a text that stops to be JSON at this place.
+pub(crate) fn hint(input: &[u8], place: usize) -> &'static str {
+    let text = input.trim_ascii_start();
+    let (front, rest) = input.split_at(place.min(input.len()));
+    let before = front.trim_ascii_end();
+    match (text.first(), rest.trim_ascii_start().first()) {
+        (None, _) => "The input is empty: give a document on standard input.\n",
+        (Some(b'{'), None) | (Some(b'['), None) =>
+            "The input ends before the value does: a bracket or a quote isn't closed.\n",
+        (Some(b'{'), Some(here)) | (Some(b'['), Some(here)) => hint_in(before.last(), *here),
+        (Some(_), _) =>
+            "A document begins with {. This may be YAML: yq -o=json . makes JSON of it.\n",
+    }
+}
+
+/// The same in a text that begins as JSON, by the bytes at the place and before it.
+fn hint_in(before: Option<&u8>, here: u8) -> &'static str {
+    match here {
+        b'}' | b']' if before == Some(&b',') =>
+            "A comma stands before a closing bracket: leave it out.\n",
+        b'}' | b']' => {
+            "A bracket that closes nothing, or another one than is open, or a value is missing before it.\n"
+        }
+        b'\'' => "JSON's quotes are \", not '.\n",
+        b'/' | b'#' => "JSON has no comments.\n",
+        b'"' => "A comma may be missing before this text.\n",
+        b',' => "A comma too many, or a value is missing before it.\n",
+        _ => "",
+    }
+}

@@ -1,0 +1,261 @@
+#!/usr/bin/env python3
+"""Compares `kube_lens explain` with `kube_replay check`, and the places that it tells with a reference in Python.
+
+    tools/test_lens_explain.py [--count 2000] [--seed 1] [--program PROGRAM] [--replay crates/kube_replay/out/kube_replay] [FILE ..]
+
+The documents are those of examples/, of the rows of check_tables, the FILEs, and as many from a seed as wanted: examples with faults of many
+sorts. Where `check` refuses one, the first line of `explain` has to be its line; the next one has to tell a line and a column at which the
+text shown stands. That is the place of the value at the refusal's path, or of the last value on the way to it that is there; for an unknown
+key that of a key of that object, and of the planted one where one was planted. Where `check` takes the document, `explain` has to tell its
+counts, and of each key that an object has twice both places. PROGRAM is by default the built kube_lens. The exit status is 1 where anything
+differs. Nothing here is a proof.
+"""
+import argparse
+import glob
+import json
+import os
+import random
+import re
+import subprocess
+import sys
+
+TOP = os.path.dirname(os.path.dirname(os.path.abspath(__file__)))
+PLANTED = 'leaseDurations'
+LINE = re.compile(rb'line (\d+), column (\d+): (.*)')
+
+
+class Places:
+    """Where each value of a JSON text begins, by its path, and each key of an object, by the object's path. Of a key that is there twice
+    the last one counts."""
+
+    def __init__(self, text):
+        self.text, self.values, self.keys, self.twice = text, {}, {}, []
+        self.value(self.blanks(0), '')
+
+    def blanks(self, at):
+        while self.text[at:at + 1] in (b' ', b'\t', b'\n', b'\r'):
+            at += 1
+        return at
+
+    def string(self, at):
+        end = at + 1
+        while self.text[end] != ord('"'):
+            end += 2 if self.text[end] == ord('\\') else 1
+        return end + 1
+
+    def value(self, at, path):
+        self.values[path] = at
+        first = self.text[at:at + 1]
+        if first == b'"':
+            return self.string(at)
+        if first in (b'{', b'['):
+            return self.members(self.blanks(at + 1), path, first == b'{')
+        return at + len(re.match(rb'[^\s,\]}]*', self.text[at:]).group())
+
+    def members(self, at, path, is_object):
+        place, seen = 0, {}
+        if is_object:
+            self.keys[path] = []
+        while self.text[at:at + 1] not in (b'}', b']'):
+            name = str(place)
+            if is_object:
+                self.keys[path].append(at)
+                end = self.string(at)
+                name = self.text[at + 1:end - 1].decode()
+                if name in seen:
+                    self.twice.append((seen[name], at))
+                seen[name] = at
+                at = self.blanks(self.blanks(end) + 1)
+                for old in [p for p in self.values if p.startswith(f'{path}/{name}/')]:
+                    del self.values[old]
+            at = self.blanks(self.value(at, f'{path}/{name}'))
+            if self.text[at:at + 1] == b',':
+                at = self.blanks(at + 1)
+            place += 1
+        return at + 1
+
+    def nearest(self, path):
+        """The place of the value at a path, or of the last one on the way to it."""
+        path = path.rstrip('/')
+        while path not in self.values:
+            path = path.rpartition('/')[0]
+        return self.values[path]
+
+
+def spots(value, path=()):
+    """The paths of all objects and arrays in a value."""
+    if isinstance(value, dict):
+        yield path
+        for key in value:
+            yield from spots(value[key], path + (key,))
+    elif isinstance(value, list):
+        yield path
+        for place, item in enumerate(value[:40]):
+            yield from spots(item, path + (place,))
+
+
+def broken(dice, doc):
+    """A document with some faults, as text."""
+    for _ in range(dice.choice((0, 1, 1, 1, 2))):
+        where = doc
+        for step in dice.choice(list(spots(doc))):
+            where = where[step]
+        if isinstance(where, dict):
+            change_key(dice, where)
+        else:
+            change_item(dice, where)
+    text = json.dumps(doc, indent=dice.choice((None, None, 1, 2)), ensure_ascii=dice.random() < 0.5).encode()
+    if dice.random() < 0.15:
+        text = cut(dice, text)
+    elif dice.random() < 0.15:
+        text = doubled(dice, text)
+    return text
+
+
+def doubled(dice, text):
+    """The text with a member of an object once more."""
+    found = list(re.finditer(rb'("[A-Za-z]+": *(?:[0-9]+|"[^"\\\\]*"|true|false)),', text))
+    if not found:
+        return text
+    one = dice.choice(found)
+    return text[:one.end()] + one[1] + b',' + text[one.end():]
+
+
+def change_key(dice, where):
+    key = dice.choice(sorted(where) or [PLANTED])
+    kind = dice.randrange(4)
+    if kind == 0 and key in where:
+        del where[key]
+    elif kind == 1:
+        where[PLANTED] = where.pop(key, 1)
+    elif kind == 2:
+        where[dice.choice((PLANTED, 'nam', 'Up', 'beat', 'version', 'spec', 'a/b', 'a~b', 'ü', '"', ''))] = dice.choice((1, 'x', {}, [], None))
+    else:
+        where[key] = odd(dice)
+
+
+def change_item(dice, where):
+    kind = dice.randrange(3)
+    if kind == 0 and where:
+        where.append(where[dice.randrange(len(where))])
+    elif kind == 1 and where:
+        where[dice.randrange(len(where))] = odd(dice)
+    else:
+        where.reverse()
+
+
+def odd(dice):
+    return dice.choice((0, -1, 1.5, 10 ** 12, 10 ** 25, '', 'x', 'Ü', '60', 'a"b\\', None, True, [], {}, [[]], {'a': {'b': []}}))
+
+
+def cut(dice, text):
+    """The text with some bytes lost, doubled or changed."""
+    at = dice.randrange(len(text))
+    return dice.choice((text[:at], text[at:], text[:at] + text[at + 1:], text[:at] + bytes([dice.randrange(256)]) + text[at + 1:],
+                        text + b'}', text.replace(b'"', b"'"), text.replace(b'}', b',}', 1), b'# a comment\n' + text, b'\xef\xbb\xbf' + text, b''))
+
+
+def rows():
+    """The documents of check_tables' rows."""
+    found = []
+    for path in sorted(glob.glob(os.path.join(TOP, 'crates', 'check_tables', 'data', 'documents', '*.txt'))):
+        with open(path, 'rb') as file:
+            found += [line.split(b'\t')[1] for line in file.read().split(b'\n') if line.count(b'\t') == 1]
+    return found
+
+
+def texts(seed, count, files):
+    kept = sorted(glob.glob(os.path.join(TOP, 'examples', '*', 'document.json'))) + [os.path.join(TOP, 'examples', 'one-controller.json')]
+    cases = []
+    for path in kept + files:
+        with open(path, 'rb') as file:
+            cases.append(file.read())
+    cases += rows()
+    small = [json.loads(text) for text in cases[:len(kept)] if len(text) < 20000]
+    dice = random.Random(seed)
+    for _ in range(count):
+        cases.append(broken(dice, json.loads(json.dumps(dice.choice(small)))))
+    return cases
+
+
+def ran(program, word, text):
+    done = subprocess.run([program, word], input=text, stdout=subprocess.PIPE, check=False)
+    return done.returncode, done.stdout
+
+
+def counts(said):
+    """The line of `explain` for the line of `check`."""
+    n = dict(word.split('=') for word in said.decode().split()[1:])
+    objects = int(n['nodes']) + int(n['leases']) + int(n['pods'])
+    return f"well-formed controllers={n['controllers']} kubelets={n['kubelets']} objects={objects} skipped={n['skipped']} events={n['events']}\n".encode()
+
+
+def place_in(text, told):
+    """The place that a line tells, if what it shows stands there."""
+    found = LINE.fullmatch(told)
+    if not found:
+        return None
+    line, column, shown = int(found[1]), int(found[2]), found[3]
+    lines = text.split(b'\n')
+    if line > len(lines) or column > len(lines[line - 1]) + 1 or not lines[line - 1][column - 1:].startswith(shown):
+        return None
+    return sum(len(l) + 1 for l in lines[:line - 1]) + column - 1
+
+
+def fault(text, checked, explained):
+    """What is wrong in the answer to a document, if anything."""
+    status, said = checked
+    ended, told = explained
+    if status != ended:
+        return f'status {ended}, not {status}'
+    if status == 0:
+        warned = told[len(counts(said)):].splitlines()
+        places = [place_in(text, line) for number, line in enumerate(warned) if number % 3]
+        right = places == [at for both in Places(text).twice[:20] for at in both]
+        return None if right and told.startswith(counts(said)) else f'{told} of {said}'
+    first, second, rest = (told.split(b'\n', 2) + [b'', b''])[:3]
+    place = place_in(text, second)
+    if first + b'\n' != said or place is None or not rest.endswith(b'\n'):
+        return f'{told} of {said}'
+    code, path = first.decode().split(' ')[1:]
+    if code == '1':
+        return None
+    places = Places(text)
+    wanted = [places.nearest(path)]
+    if code == '3' and path.rstrip('/') in places.keys:
+        wanted = places.keys[path.rstrip('/')]
+        planted = [at for at in wanted if text[at:].startswith(f'"{PLANTED}"'.encode())]
+        wanted = planted if planted and len(wanted) == len(planted) else wanted
+    return None if place in wanted else f'{told} tells {place}, not {wanted}'
+
+
+def built(name):
+    return os.path.join(TOP, 'crates', name, 'out', name)
+
+
+def main():
+    words = argparse.ArgumentParser(description=__doc__, formatter_class=argparse.RawDescriptionHelpFormatter)
+    words.add_argument('--count', type=int, default=2000)
+    words.add_argument('--seed', type=int, default=1)
+    words.add_argument('--program', default=built('kube_lens'))
+    words.add_argument('--replay', default=built('kube_replay'))
+    words.add_argument('files', nargs='*', metavar='FILE')
+    words = words.parse_args()
+    for program in (words.replay, words.program):
+        if not os.path.exists(program):
+            sys.exit(f'{program} is not built')
+    seen, wrong = {}, []
+    for text in texts(words.seed, words.count, words.files):
+        checked = ran(os.path.abspath(words.replay), 'check', text)
+        found = fault(text, checked, ran(os.path.abspath(words.program), 'explain', text))
+        kind = checked[1].split(b' ')[1].decode() if checked[0] == 1 else 'ok'
+        seen[kind] = seen.get(kind, 0) + 1
+        if found:
+            wrong.append((found, text))
+    print(f'{sum(seen.values())} documents:', *(f'{kind}: {seen[kind]}' for kind in sorted(seen)))
+    print(f'{len(wrong)} differ', *(f'{found}\n{text}' for found, text in wrong[:3]), sep='\n')
+    sys.exit(1 if wrong else 0)
+
+
+if __name__ == '__main__':
+    main()
