@@ -259,7 +259,7 @@ try_lens() {
     run "$(printf 'leaders\377')" </
     hint "no UTF-8, not built" 6 '' "a word of the command isn't UTF-8"
     stand_in kube_lens <<'LENS'
-case "$*" in --help) echo 'the help of the program' ;; margin) wc -c; exit 1 ;; *) echo 'usage: kube_lens COMMAND'; exit 2 ;; esac
+case "$*" in --help) echo 'the help of the program' ;; margin) wc -c; exit 1 ;; 'summary --document') cat ;; *) echo 'usage: kube_lens COMMAND'; exit 2 ;; esac
 LENS
     run help </
     hint 'help, built' 0 'the help of the program' ''
@@ -267,6 +267,18 @@ LENS
     hint 'unsafe' 1 "$(wc -c <"$room/document.json")" ''
     run leaderz </
     hint "a word that isn't a command" 2 'usage: kube_lens COMMAND' ''
+    echo 'trace 1 beat=100 end=60 premise=yes' >"$room/trace.txt"
+    both="$(cat "$room/document.json"; echo; cat "$room/trace.txt")"
+    run summary --document "$room/document.json" <"$room/trace.txt"
+    hint 'a document in a file' 0 "$both" ''
+    run summary --document </dev/null
+    hint 'a document on standard input' 0 '' ''
+    run summary --document "$room/none.json" <"$room/trace.txt"
+    hint "a document that isn't there" 3 '' "$room/none.json can't be read"
+    run summary --document "$room" <"$room/trace.txt"
+    hint 'a folder in place of a document' 3 '' "$room can't be read"
+    run summary --document "$room/document.json" </
+    hint 'a folder in place of a trace' 3 '' 'standard input is a directory'
 }
 
 if [ "${1:-hints}" = hints ]; then

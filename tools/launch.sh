@@ -59,6 +59,8 @@ $(tell_command "$called margin < DOCUMENT" 'how much room each lease leaves, the
 $(tell_command "$called margin --lease 15s ..." 'the same of flags: --lease --renew --retry --timeout --skew --beat')
 $(tell_command "$called leaders < TRACE" 'who led from when to when, when nobody did, and whether two did at once')
 $(tell_command "$called summary < TRACE" 'what a trace comes to, as tables: terms, zones, nodes, evictions, totals')
+$(tell_command "$called summary --document DOCUMENT < TRACE" '')
+$(tell_command '' 'the same, and how late each pod was evicted')
 $(tell_command "$called explain < DOCUMENT" 'why a document is refused, where, and what may stand there')
 $(tell_command "$called --help, --version" 'these lines, and the version')
 
@@ -198,6 +200,22 @@ answer_lens_words() {
         { tell_lens_help; } 2>/dev/null || end_with 4
     fi
     exit 0
+}
+
+# Of `summary --document FILE` puts the document in FILE before the trace on standard input, which then has both. Of an input with more bytes than
+# these, the bytes behind make no difference.
+join_document() {
+    case "$#:$1:$2" in 3:summary:--document) ;; *) return 1 ;; esac
+    if [ -d "$3" ] || [ ! -r "$3" ]; then say "$3 can't be read"; exit 3; fi
+    room=$(mktemp -d 2>/dev/null) || { say "no temporary folder can be made under ${TMPDIR:-/tmp}"; exit 5; }
+    attend head -c 16777217 <"$3" >"$room/both" 2>/dev/null
+    [ "$status" -eq 0 ] || { say "$3 can't be read"; exit 3; }
+    echo >>"$room/both"
+    attend head -c 16777217 >>"$room/both" 2>/dev/null
+    [ "$status" -eq 0 ] || end_with 3
+    exec <"$room/both"
+    rm -rf "$room"
+    room=''
 }
 
 # Sees to it that a document can be read once more after a refusal: from its file, or from a copy of what a pipe gives.

@@ -173,6 +173,8 @@ def try_lens(tried, system):
     tried.same('kube_lens margin by flags', (status, told.splitlines()[-1:]), (0, ['safe']))
     status, told, _ = system.run('kube_lens summary < %sexamples/uneven-clocks/trace.txt' % DOC)
     tried.same('kube_lens summary', (status, told.split()[:2], told.splitlines()[-1].split()[:1]), (0, ['BEAT-MILLIS', 'LAST-BEAT'], ['all']))
+    status, told, _ = system.run('kube_lens summary --document %sexamples/fast-clock/document.json < %sexamples/fast-clock/trace.txt' % (DOC, DOC))
+    tried.same('kube_lens summary --document', (status, told.split()[-1:]), (0, ['-17.0s']))
     tried.same("a word that isn't a command of kube_lens", system.run('kube_lens leaderz')[0], 2)
     refused = '{"version":1,"settings":{"endBeat":60,"beatMillis":0},"controllers":[{"name":"cp-east-1"}]}'
     knows = system.run('kube_lens explain', refused)[0] == 1

@@ -2,9 +2,13 @@
 
 _kube_lens() {
     COMPREPLY=()
-    [ "$COMP_CWORD" -ne 1 ] ||
-        mapfile -t COMPREPLY < <(compgen -W "$(kube_lens --help 2>/dev/null | sed -n 's/^ *kube_lens \([a-z]*\).*/\1/p' | sort -u) --help --version" \
-            -- "${COMP_WORDS[COMP_CWORD]}")
+    case "$COMP_CWORD:${COMP_WORDS[1]}:${COMP_WORDS[2]}" in
+        1:*)
+            mapfile -t COMPREPLY < <(compgen -W "$(kube_lens --help 2>/dev/null | sed -n 's/^ *kube_lens \([a-z]*\).*/\1/p' | sort -u) --help --version" \
+                -- "${COMP_WORDS[COMP_CWORD]}") ;;
+        2:summary:*) mapfile -t COMPREPLY < <(compgen -W --document -- "${COMP_WORDS[COMP_CWORD]}") ;;
+        3:summary:--document) mapfile -t COMPREPLY < <(compgen -f -- "${COMP_WORDS[COMP_CWORD]}") ;;
+    esac
 }
 
 complete -F _kube_lens kube_lens

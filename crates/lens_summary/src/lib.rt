@@ -14,4 +14,7 @@ mod totals;
 mod zones;
 
 pub use outcome::Outcome;
+pub use pods::eviction_in;
+pub use rows::add_row;
 pub use running::run;
+pub use summary::summary_of;

@@ -84,7 +84,7 @@ fn add_pod<'a>(
 }
 
 /// The pod that a line evicts, and when it was due.
-fn eviction_in<'a>(says: &Says<&'a [u8]>) -> Option<(&'a [u8], &'a [u8])>
+pub fn eviction_in<'a>(says: &Says<&'a [u8]>) -> Option<(&'a [u8], &'a [u8])>
     ensures { MatchOption result (spec.eviction_in (said says.now) ≡ None) (λ e. spec.eviction_in (said says.now) ≡ Some (e.0.now, e.1.now)) }
 {
     match says {

@@ -7,7 +7,7 @@ use kube_base::NoMemory;
 use lens_table::{Cell, Row};
 
 /// Adds a row of these cells.
-pub(crate) fn add_row<'a>(rows: &mut Vec<Row<'a>>, cells: Vec<Cell<'a>>) -> Result<(), NoMemory>
+pub fn add_row<'a>(rows: &mut Vec<Row<'a>>, cells: Vec<Cell<'a>>) -> Result<(), NoMemory>
     ensures { OnOk result (shown rows.new.items ≡ shown rows.old.items ++ map cell_text cells.entry.items ∷ []) }
 {
     rows.push(Row { cells })?;

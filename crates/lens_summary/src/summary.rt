@@ -27,7 +27,7 @@ use trace_lines::{Header, Line, cut, read_header};
 
 /// What the trace that this text is comes to.
 #[tactic(auto, unfolding(crate::specs::Summary::summary_reply))]
-pub(crate) fn summary_of(alloc: Global, text: &[u8]) -> Result<Answer, NoMemory>
+pub fn summary_of(alloc: Global, text: &[u8]) -> Result<Answer, NoMemory>
     ensures { IfOk result (λ answer. reply_of answer ≡ spec.summary_reply text.now) }
 {
     let judged = judge(alloc, text)?;

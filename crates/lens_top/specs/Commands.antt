@@ -2,7 +2,7 @@
 use Rattle.std.specs.Prelude.{ℕ, List, [], ◌∷◌, codes, Option, Some, None, if◌then◌else◌}
 use Rattle.std.specs.Str.{bytes_eq}
 use Rattle.lens_top.specs.declared.command.Command.{Command}
-use Rattle.lens_top.specs.declared.command.Command.TheVariants.{Help, Margin, Flags, Leaders, Summary, Explain}
+use Rattle.lens_top.specs.declared.command.Command.TheVariants.{Help, Margin, Flags, Leaders, Summary, Explain, Lateness}
 
 abbrev pub command_by : List ℕ → Option Command
 command_by word =
@@ -13,13 +13,14 @@ command_by word =
     else if bytes_eq word (codes "explain") then Some Explain
     else None
 
--- words behind `margin` are flags
-abbrev pub with_flags : Option Command → Option Command
-with_flags (Some Margin) = Some Flags
-with_flags other = other
+-- words behind `margin` are flags, and `summary` may have a document beside its trace
+abbrev pub with_flags : Option Command → List ℕ → Option Command
+with_flags (Some Margin) second = Some Flags
+with_flags (Some Summary) second = if bytes_eq second (codes "--document") then Some Lateness else Some Summary
+with_flags other second = other
 
 -- the command that the first word names
 abbrev pub command_of : List (List ℕ) → Option Command
 command_of [] = None
 command_of (word ∷ []) = command_by word
-command_of (word ∷ other ∷ more) = with_flags (command_by word)
+command_of (word ∷ second ∷ more) = with_flags (command_by word) second

@@ -17,6 +17,8 @@ pub enum Command {
     Summary,
     /// Why a document is refused.
     Explain,
+    /// The same of a document's trace, and how late its evictions were.
+    Lateness,
 }
 
 /// The command that the first word names, if any.
@@ -26,16 +28,17 @@ pub(crate) fn command_in(words: &Vec<String>) -> Option<Command>
     match words.as_slice() {
         [] => None,
         [word] => by_word(word.as_str()),
-        [word, ..] => with_flags(by_word(word.as_str())),
+        [word, second, ..] => with_flags(by_word(word.as_str()), second.as_str()),
     }
 }
 
-/// The command where further words stand behind the first: those of `margin` are flags.
-fn with_flags(command: Option<Command>) -> Option<Command>
-    ensures { result ≡ with_flags command }
+/// The command where further words stand behind the first: those of `margin` are flags, and `summary` may have a document beside its trace.
+fn with_flags(command: Option<Command>, second: &str) -> Option<Command>
+    ensures { result ≡ with_flags command second.now }
 {
     match command {
         Some(Command::Margin) => Some(Command::Flags),
+        Some(Command::Summary) if second == "--document" => Some(Command::Lateness),
         other => other,
     }
 }

@@ -64,6 +64,7 @@ pub fn run<S: Source, K: Sink>(
         Some(Command::Leaders) => lens_trace::run(alloc, words, source, sink),
         Some(Command::Summary) => lens_summary::run(alloc, words, source, sink),
         Some(Command::Explain) => lens_explain::run(alloc, words, source, sink),
+        Some(Command::Lateness) => lens_lateness::run(alloc, words, source, sink),
         None => tell_usage(sink),
     }
 }
@@ -77,6 +78,7 @@ kube_lens margin < document      for each controller what its lease has to outla
 kube_lens margin --lease 15s ..  the same of flags: --lease --renew --retry --timeout --skew --beat\n\
 kube_lens leaders < trace        who led from when to when, when nobody did, and whether two did at once\n\
 kube_lens summary < trace        what a trace comes to, as tables: terms, zones, nodes, evictions, totals\n\
+kube_lens summary --document     the same of a document and, behind it, its trace, and how late pods were evicted\n\
 kube_lens explain < document     why a document is refused, where, and what may stand there\n\
 kube_lens --help                 these lines\n\
 \n\

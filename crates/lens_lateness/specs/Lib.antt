@@ -1,0 +1,6 @@
+pub mod Clocks
+pub mod Input
+pub mod Late
+pub mod Replies
+pub mod Told
+pub mod Traces

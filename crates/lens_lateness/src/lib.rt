@@ -1,0 +1,11 @@
+//! How late each pod was evicted, of a document and its trace: the command `summary --document`, from words and bytes to text and status.
+#![tactic(auto)]
+
+mod clocks;
+mod input;
+mod late;
+mod running;
+mod table;
+mod trace;
+
+pub use running::run;
