@@ -2,7 +2,7 @@
 use Rattle.std.specs.Prelude.{ℕ, List, [], ◌∷◌, codes, Option, Some, None, if◌then◌else◌}
 use Rattle.std.specs.Str.{bytes_eq}
 use Rattle.lens_top.specs.declared.command.Command.{Command}
-use Rattle.lens_top.specs.declared.command.Command.TheVariants.{Help, Margin, Flags, Leaders, Summary}
+use Rattle.lens_top.specs.declared.command.Command.TheVariants.{Help, Margin, Flags, Leaders, Summary, Lines}
 
 abbrev pub command_by : List ℕ → Option Command
 command_by word =
@@ -10,6 +10,7 @@ command_by word =
     else if bytes_eq word (codes "margin") then Some Margin
     else if bytes_eq word (codes "leaders") then Some Leaders
     else if bytes_eq word (codes "summary") then Some Summary
+    else if bytes_eq word (codes "lines") then Some Lines
     else None
 
 -- words behind `margin` are flags

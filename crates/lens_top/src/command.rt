@@ -15,6 +15,8 @@ pub enum Command {
     Leaders,
     /// What a trace comes to, as tables.
     Summary,
+    /// The lines of a trace, as JSON objects.
+    Lines,
 }
 
 /// The command that the first word names, if any.
@@ -49,6 +51,8 @@ fn by_word(word: &str) -> Option<Command>
         Some(Command::Leaders)
     } else if word == "summary" {
         Some(Command::Summary)
+    } else if word == "lines" {
+        Some(Command::Lines)
     } else {
         None
     }
