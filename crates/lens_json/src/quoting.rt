@@ -27,7 +27,10 @@ fn add_escaped(text: &mut Vec<u8>, byte: u8) -> Result<(), NoMemory>
     if letter > 0 {
         add(text, &[b'\\', letter])
     } else if byte < 0x20 {
-        add(text, &[b'\\', b'u', b'0', b'0', hex(byte / 16), hex(byte % 16)])
+        add(
+            text,
+            &[b'\\', b'u', b'0', b'0', hex(byte / 16), hex(byte % 16)],
+        )
     } else {
         text.push(byte)?;
         Ok(())

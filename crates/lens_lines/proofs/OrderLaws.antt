@@ -1,5 +1,5 @@
 -- The members of each line stand in one order.
-use Rattle.std.proofs.Common.{◌≡◌, ℕ, true, false, List, ◌∷◌, [], map, refl}
+use Rattle.std.proofs.Common.{◌≡◌, ℕ, true, List, map, refl}
 use Rattle.trace_lines.specs.declared.line.Answer.{Answer}
 use Rattle.trace_lines.specs.declared.line.Answer.TheVariants.{Done, Conflict, Absent, Exists}
 use Rattle.trace_lines.specs.declared.line.Line.{Line}

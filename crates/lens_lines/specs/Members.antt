@@ -1,6 +1,6 @@
 -- The members of a line's object, in the order of the line's words. docs/trace.md has the forms of lines.
-use Rattle.std.specs.Prelude.{ℕ, ◌++◌, Bool, List, [], ◌∷◌, codes, if◌then◌else◌}
-use Rattle.serde_json.specs.Data.{Data, number, unsigned, string}
+use Rattle.std.specs.Prelude.{ℕ, Bool, List, [], ◌∷◌, codes, if◌then◌else◌}
+use Rattle.serde_json.specs.Data.{number, unsigned, string}
 use Rattle.lens_json.specs.Members.{Named}
 use Rattle.trace_lines.specs.declared.header.Header.{Header}
 use Rattle.trace_lines.specs.declared.line.Answer.{Answer}

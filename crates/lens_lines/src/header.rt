@@ -13,11 +13,7 @@ use trace_writer::add;
 
 /// Adds the object of the first line and a line feed.
 #[tactic(auto, unfolding(crate::specs::Lines::header_json))]
-pub(crate) fn add_header(
-    json: &mut Vec<u8>,
-    alloc: Global,
-    header: Header,
-) -> Result<(), NoMemory>
+pub(crate) fn add_header(json: &mut Vec<u8>, alloc: Global, header: Header) -> Result<(), NoMemory>
     ensures { OnOk result (json.new.items ≡ json.old.items ++ spec.ended (spec.header_json header)) }
 {
     let mut members = Vec::new(alloc);
