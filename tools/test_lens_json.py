@@ -1,10 +1,11 @@
 #!/usr/bin/env python3
-"""Compares the JSON of `kube_lens lines --json` with the lines of traces, on the examples' traces and on traces made from seeds.
+"""Compares the JSON of `kube_lens lines --json` and `kube_lens leaders --json` with the lines of traces, on the examples' traces and on traces
+made from seeds.
 
     tools/test_lens_json.py [--count 200] [--seed 1] [--program PROGRAM] [--traces FOLDER]
 
-What is wanted is made of each line's words as docs/lens.md tells, with no look at the program; Python's own reader reads the JSON, and names,
-values and their order are compared. FOLDER may have more traces, one a file. The exit status is 1 where anything differs. Nothing here is a proof.
+What is wanted of `lines` is made of each line's words as docs/lens.md tells, and of `leaders` it is what tools/test_lens_trace.py asks of each
+beat, with no look at the program; Python's own reader reads the JSON, and names, values and their order are compared. FOLDER may have more traces, one a file. The exit status is 1 where anything differs. Nothing here is a proof.
 """
 import argparse
 import json
@@ -49,7 +50,7 @@ def first(line):
     return [('kind', trace), ('version', int(version)), ('beatMillis', int(millis.split('=')[1])), named(end), ('premise', premise.split('=')[1])]
 
 
-def wanted(text, replay):
+def lines_wanted(text, replay):
     """The refusal of `audit`, or the members of each line."""
     said = subprocess.run([replay, 'audit'], input=text, stdout=subprocess.PIPE, text=True, check=False).stdout
     if said.startswith('refused 40 '):
@@ -58,14 +59,35 @@ def wanted(text, replay):
     return [first(head)] + [members(line) for line in lines]
 
 
-def told(program, text):
-    """What the program tells: a refusal as it is, and of objects their members."""
-    ran = subprocess.run([program, 'lines', '--json'], input=text, stdout=subprocess.PIPE, text=True, check=False)
-    if ran.stdout.startswith('refused '):
-        return ran.stdout if ran.returncode == 1 else f'status {ran.returncode}'
-    if ran.returncode != 0 or not ran.stdout.endswith('\n'):
-        return f'status {ran.returncode}, or no line feed at the end'
-    return [json.loads(line, object_pairs_hook=lambda pairs: pairs) for line in ran.stdout[:-1].split('\n')]
+def leaders_wanted(text, replay):
+    """The refusal of `audit`, or the one object of what `leaders` tells in lines."""
+    said = test_lens_trace.wanted(text, replay)
+    if said.startswith('refused '):
+        return said
+    terms, nobody, overlap = [], [], None
+    for line in said.splitlines():
+        who, *words = line.split()
+        found = [(name, int(value) if value.isdigit() else value) for name, value in (word.split('=') for word in words if '=' in word)]
+        if who == 'nobody':
+            nobody.append(found)
+        elif who == 'overlap':
+            overlap = found
+        elif words and words[0].startswith('from='):
+            terms.append([('leader', who)] + found)
+    return [[('terms', terms), ('nobody', nobody), ('overlap', overlap)]]
+
+
+def told(program, command, text):
+    """The exit status and what the program tells: a refusal as it is, and of objects their members."""
+    ran = subprocess.run([program, command, '--json'], input=text, stdout=subprocess.PIPE, text=True, check=False)
+    if ran.stdout.startswith('refused ') or not ran.stdout.endswith('\n'):
+        return ran.returncode, ran.stdout
+    return ran.returncode, [json.loads(line, object_pairs_hook=lambda pairs: pairs) for line in ran.stdout[:-1].split('\n')]
+
+
+def status(command, right):
+    """The exit status wanted: 1 for a refusal, and where `leaders` finds two at once."""
+    return int(isinstance(right, str) or (command == 'leaders' and dict(right[0])['overlap'] is not None))
 
 
 def main():
@@ -80,10 +102,11 @@ def main():
         if not os.path.exists(program):
             sys.exit(f'{program} is not built')
     program, replay = os.path.abspath(words.program), os.path.abspath(words.replay)
-    cases = [(text, wanted(text, replay)) for text in test_lens_summary.traces(words)]
-    refused = sum(isinstance(case[1], str) for case in cases)
-    print(f'{len(cases)} traces, {refused} refused, {sum(len(case[1]) for case in cases if isinstance(case[1], list))} objects', flush=True)
-    wrong = [text for text, right in cases if told(program, text) != right]
+    cases = [('lines', text, lines_wanted(text, replay)) for text in test_lens_summary.traces(words)]
+    cases += [('leaders', text, leaders_wanted(text, replay)) for text in test_lens_trace.traces(words.seed, words.count)]
+    refused = sum(isinstance(right, str) for _, _, right in cases)
+    print(f'{len(cases)} texts, {refused} refused, {sum(len(right) for _, _, right in cases if isinstance(right, list))} objects', flush=True)
+    wrong = [f'{command}: {text}' for command, text, right in cases if told(program, command, text) != (status(command, right), right)]
     print(f'{len(wrong)} differ', *wrong[:3], sep='\n')
     sys.exit(1 if wrong or refused == len(cases) else 0)
 

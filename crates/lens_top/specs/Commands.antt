@@ -2,7 +2,7 @@
 use Rattle.std.specs.Prelude.{ℕ, List, [], ◌∷◌, codes, Option, Some, None, if◌then◌else◌}
 use Rattle.std.specs.Str.{bytes_eq}
 use Rattle.lens_top.specs.declared.command.Command.{Command}
-use Rattle.lens_top.specs.declared.command.Command.TheVariants.{Help, Margin, Flags, Leaders, Summary, Lines}
+use Rattle.lens_top.specs.declared.command.Command.TheVariants.{Help, Margin, Flags, Leaders, LeadersJson, Summary, Lines}
 
 abbrev pub command_by : List ℕ → Option Command
 command_by word =
@@ -13,9 +13,10 @@ command_by word =
     else if bytes_eq word (codes "lines") then Some Lines
     else None
 
--- words behind `margin` are flags
+-- words behind `margin` are flags, and those behind `leaders` ask for its JSON
 abbrev pub with_flags : Option Command → Option Command
 with_flags (Some Margin) = Some Flags
+with_flags (Some Leaders) = Some LeadersJson
 with_flags other = other
 
 -- the command that the first word names

@@ -13,6 +13,8 @@ pub enum Command {
     Flags,
     /// Who led in a trace, and when nobody did.
     Leaders,
+    /// The same as one JSON object.
+    LeadersJson,
     /// What a trace comes to, as tables.
     Summary,
     /// The lines of a trace, as JSON objects.
@@ -30,12 +32,13 @@ pub(crate) fn command_in(words: &Vec<String>) -> Option<Command>
     }
 }
 
-/// The command where further words stand behind the first: those of `margin` are flags.
+/// The command where further words stand behind the first: those of `margin` are flags, and those of `leaders` ask for its JSON.
 fn with_flags(command: Option<Command>) -> Option<Command>
     ensures { result ≡ with_flags command }
 {
     match command {
         Some(Command::Margin) => Some(Command::Flags),
+        Some(Command::Leaders) => Some(Command::LeadersJson),
         other => other,
     }
 }

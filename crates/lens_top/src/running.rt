@@ -62,6 +62,7 @@ pub fn run<S: Source, K: Sink>(
         Some(Command::Margin) => lens_margin::run(alloc, words, source, sink),
         Some(Command::Flags) => lens_flags::run(alloc, words, sink),
         Some(Command::Leaders) => lens_trace::run(alloc, words, source, sink),
+        Some(Command::LeadersJson) => lens_leaders::run(alloc, words, source, sink),
         Some(Command::Summary) => lens_summary::run(alloc, words, source, sink),
         Some(Command::Lines) => lens_lines::run(alloc, words, source, sink),
         None => tell_usage(sink),
@@ -76,6 +77,7 @@ fn help() -> &'static [u8]
 kube_lens margin < document      for each controller what its lease has to outlast, and what is left\n\
 kube_lens margin --lease 15s ..  the same of flags: --lease --renew --retry --timeout --skew --beat\n\
 kube_lens leaders < trace        who led from when to when, when nobody did, and whether two did at once\n\
+kube_lens leaders --json < trace the same as one JSON object\n\
 kube_lens summary < trace        what a trace comes to, as tables: terms, zones, nodes, evictions, totals\n\
 kube_lens lines --json < trace   each line of a trace as a JSON object on a line of its own, for jq\n\
 kube_lens --help                 these lines\n\
