@@ -1,5 +1,5 @@
 -- The members of a whole answer, and the data that they are.
-use Rattle.std.specs.Prelude.{ℕ, List, [], ◌∷◌, map}
+use Rattle.std.specs.Prelude.{List, [], ◌∷◌, map}
 use Rattle.serde_json.specs.Data.{Data, null, array, Items, no_items, item}
 use Rattle.lens_json.specs.Members.{Named, named, data_of, object_of}
 use Rattle.lens_parts.specs.declared.part.Object.{Object}
