@@ -2,7 +2,7 @@
 use Rattle.std.specs.Prelude.{ℕ, List, [], ◌∷◌, codes, Option, Some, None, if◌then◌else◌}
 use Rattle.std.specs.Str.{bytes_eq}
 use Rattle.lens_top.specs.declared.command.Command.{Command}
-use Rattle.lens_top.specs.declared.command.Command.TheVariants.{Help, Margin, Flags, Leaders, Summary, Explain, Lateness}
+use Rattle.lens_top.specs.declared.command.Command.TheVariants.{Help, Margin, Flags, Leaders, LeadersJson, Summary, Lateness, Lines, Explain}
 
 abbrev pub command_by : List ℕ → Option Command
 command_by word =
@@ -11,11 +11,13 @@ command_by word =
     else if bytes_eq word (codes "leaders") then Some Leaders
     else if bytes_eq word (codes "summary") then Some Summary
     else if bytes_eq word (codes "explain") then Some Explain
+    else if bytes_eq word (codes "lines") then Some Lines
     else None
 
--- words behind `margin` are flags, and `summary` may have a document beside its trace
+-- words behind `margin` are flags, those behind `leaders` ask for its JSON, and `summary` may have a document beside its trace
 abbrev pub with_flags : Option Command → List ℕ → Option Command
 with_flags (Some Margin) second = Some Flags
+with_flags (Some Leaders) second = Some LeadersJson
 with_flags (Some Summary) second = if bytes_eq second (codes "--document") then Some Lateness else Some Summary
 with_flags other second = other
 

@@ -13,12 +13,16 @@ pub enum Command {
     Flags,
     /// Who led in a trace, and when nobody did.
     Leaders,
+    /// The same as one JSON object.
+    LeadersJson,
     /// What a trace comes to, as tables.
     Summary,
     /// Why a document is refused.
     Explain,
     /// The same of a document's trace, and how late its evictions were.
     Lateness,
+    /// The lines of a trace, as JSON objects.
+    Lines,
 }
 
 /// The command that the first word names, if any.
@@ -32,12 +36,14 @@ pub(crate) fn command_in(words: &Vec<String>) -> Option<Command>
     }
 }
 
-/// The command where further words stand behind the first: those of `margin` are flags, and `summary` may have a document beside its trace.
+/// The command where further words stand behind the first: those of `margin` are flags, those of `leaders` ask for its JSON, and `summary`
+/// may have a document beside its trace.
 fn with_flags(command: Option<Command>, second: &str) -> Option<Command>
     ensures { result ≡ with_flags command second.now }
 {
     match command {
         Some(Command::Margin) => Some(Command::Flags),
+        Some(Command::Leaders) => Some(Command::LeadersJson),
         Some(Command::Summary) if second == "--document" => Some(Command::Lateness),
         other => other,
     }
@@ -56,6 +62,8 @@ fn by_word(word: &str) -> Option<Command>
         Some(Command::Summary)
     } else if word == "explain" {
         Some(Command::Explain)
+    } else if word == "lines" {
+        Some(Command::Lines)
     } else {
         None
     }

@@ -1,0 +1,10 @@
+//! JSON on one line: texts in quotation marks, and objects with their members in order.
+#![tactic(auto)]
+
+mod member;
+mod object;
+mod quoting;
+
+pub use member::{Member, Value};
+pub use object::add_object;
+pub use quoting::add_quoted;

@@ -1,0 +1,12 @@
+//! The lines of a trace as JSON objects: the command `lines --json`, from words and bytes to text and status.
+#![tactic(auto)]
+
+mod answering;
+mod asking;
+mod header;
+mod line;
+mod members;
+mod running;
+mod said;
+
+pub use running::{Lines, run};

@@ -1,0 +1,74 @@
+// The text of a whole answer.
+ghost use Rattle.std.specs.Prelude.{◌≡◌, ◌++◌, ◌∷◌, OnOk, map};
+ghost use Rattle.json.specs.Print.{quoted};
+ghost use Rattle.serde_json.specs.Written.{compact_text, comma_if};
+ghost use Rattle.lens_json.specs.Members.{data_of, object_of};
+ghost use Rattle.lens_parts.specs.Parts.{list_of, members_in, part_of, what_of};
+
+use crate::part::{Object, Part, What};
+use kube_base::NoMemory;
+use lens_json::{Value, add_object, add_quoted};
+use trace_writer::{add, add_number};
+
+/// Adds the object of these members, in their order, on one line and without spaces.
+pub fn add_parts(text: &mut Vec<u8>, parts: &[Part<'_>]) -> Result<(), NoMemory>
+    ensures { OnOk result (text.new.items ≡ text.old.items ++ compact_text (object_of (map part_of parts.now))) }
+{
+    add(text, b"{")?;
+    let mut later = false;
+    for part in parts {
+        add_comma(text, later)?;
+        add_part(text, part)?;
+        later = true;
+    }
+    add(text, b"}")
+}
+
+/// Adds a comma where something stands before.
+fn add_comma(text: &mut Vec<u8>, later: bool) -> Result<(), NoMemory>
+    ensures { OnOk result (text.new.items ≡ text.old.items ++ comma_if later) }
+{
+    if later { add(text, b",") } else { Ok(()) }
+}
+
+fn add_part(text: &mut Vec<u8>, part: &Part<'_>) -> Result<(), NoMemory>
+    ensures { OnOk result (text.new.items
+        ≡ text.old.items ++ (quoted part.now.name.now ++ 58 ∷ compact_text (what_of part.now.what))) }
+{
+    add_quoted(text, part.name)?;
+    add(text, b":")?;
+    add_what(text, &part.what)
+}
+
+fn add_what(text: &mut Vec<u8>, what: &What<'_>) -> Result<(), NoMemory>
+    ensures { OnOk result (text.new.items ≡ text.old.items ++ compact_text (what_of what.now)) }
+{
+    match what {
+        What::Nothing => add(text, b"null"),
+        What::Value(value) => add_value(text, *value),
+        What::Object(object) => add_object(text, &object.members),
+        What::List(objects) => add_list(text, objects),
+    }
+}
+
+fn add_value(text: &mut Vec<u8>, value: Value<'_>) -> Result<(), NoMemory>
+    ensures { OnOk result (text.new.items ≡ text.old.items ++ compact_text (data_of value.entry)) }
+{
+    match value {
+        Value::Number(number) => add_number(text, number),
+        Value::Text(shown) => add_quoted(text, shown),
+    }
+}
+
+fn add_list(text: &mut Vec<u8>, objects: &[Object<'_>]) -> Result<(), NoMemory>
+    ensures { OnOk result (text.new.items ≡ text.old.items ++ compact_text (list_of (map members_in objects.now))) }
+{
+    add(text, b"[")?;
+    let mut later = false;
+    for object in objects {
+        add_comma(text, later)?;
+        add_object(text, &object.members)?;
+        later = true;
+    }
+    add(text, b"]")
+}

@@ -1,0 +1,115 @@
+#!/usr/bin/env python3
+"""Compares the JSON of `kube_lens lines --json` and `kube_lens leaders --json` with the lines of traces, on the examples' traces and on traces
+made from seeds.
+
+    tools/test_lens_json.py [--count 200] [--seed 1] [--program PROGRAM] [--traces FOLDER]
+
+What is wanted of `lines` is made of each line's words as docs/lens.md tells, and of `leaders` it is what tools/test_lens_trace.py asks of each
+beat, with no look at the program; Python's own reader reads the JSON, and names, values and their order are compared. FOLDER may have more traces, one a file. The exit status is 1 where anything differs. Nothing here is a proof.
+"""
+import argparse
+import json
+import os
+import subprocess
+import sys
+
+import test_lens_summary
+import test_lens_trace
+
+# the names of a kind's words that have no name of their own
+NAMES = {'put': ['key'], 'remove': ['key'], 'status': ['node', 'ready'], 'unknown': ['node', 'reason'], 'taint': ['node', 'taint'],
+         'swap': ['node', 'taint'], 'untaint': ['node'], 'evict': ['pod'], 'zone': ['zone', 'state'], 'mode': ['mode'],
+         'create': ['object', 'node'], 'update': ['object', 'node']}
+ANSWERS = ('conflict', 'absent', 'exists')
+
+
+def named(word):
+    """`NAME=VALUE`: a number, but for a time of day."""
+    name, value = word.split('=')
+    return name, value if name == 'due' else int(value)
+
+
+def members(line):
+    """The members of a line behind the first, in order."""
+    beat, actor, kind, *rest = line.split(' ')
+    names = iter(NAMES.get(kind, []))
+    found = [('beat', int(beat)), ('actor', actor), ('kind', kind)]
+    for word in rest:
+        if '=' in word:
+            found.append(named(word))
+        elif word in ANSWERS:
+            found.append(('answer', word))
+        else:
+            found.append((next(names), word))
+    return found
+
+
+def first(line):
+    """The members of the first line."""
+    trace, version, millis, end, premise = line.split(' ')
+    return [('kind', trace), ('version', int(version)), ('beatMillis', int(millis.split('=')[1])), named(end), ('premise', premise.split('=')[1])]
+
+
+def lines_wanted(text, replay):
+    """The refusal of `audit`, or the members of each line."""
+    said = subprocess.run([replay, 'audit'], input=text, stdout=subprocess.PIPE, text=True, check=False).stdout
+    if said.startswith('refused 40 '):
+        return said
+    head, *lines = text.splitlines()
+    return [first(head)] + [members(line) for line in lines]
+
+
+def leaders_wanted(text, replay):
+    """The refusal of `audit`, or the one object of what `leaders` tells in lines."""
+    said = test_lens_trace.wanted(text, replay)
+    if said.startswith('refused '):
+        return said
+    terms, nobody, overlap = [], [], None
+    for line in said.splitlines():
+        who, *words = line.split()
+        found = [(name, int(value) if value.isdigit() else value) for name, value in (word.split('=') for word in words if '=' in word)]
+        if who == 'nobody':
+            nobody.append(found)
+        elif who == 'overlap':
+            overlap = found
+        elif words and words[0].startswith('from='):
+            terms.append([('leader', who)] + found)
+    return [[('terms', terms), ('nobody', nobody), ('overlap', overlap)]]
+
+
+def told(program, command, text):
+    """The exit status and what the program tells: a refusal as it is, and of objects their members."""
+    ran = subprocess.run([program, command, '--json'], input=text, stdout=subprocess.PIPE, text=True, check=False)
+    if ran.stdout.startswith('refused ') or not ran.stdout.endswith('\n'):
+        return ran.returncode, ran.stdout
+    return ran.returncode, [json.loads(line, object_pairs_hook=lambda pairs: pairs) for line in ran.stdout[:-1].split('\n')]
+
+
+def status(command, right):
+    """The exit status wanted: 1 for a refusal, and where `leaders` finds two at once."""
+    return int(isinstance(right, str) or (command == 'leaders' and dict(right[0])['overlap'] is not None))
+
+
+def main():
+    words = argparse.ArgumentParser(description=__doc__, formatter_class=argparse.RawDescriptionHelpFormatter)
+    words.add_argument('--count', type=int, default=200)
+    words.add_argument('--seed', type=int, default=1)
+    words.add_argument('--program', default=test_lens_trace.built('kube_lens'))
+    words.add_argument('--replay', default=test_lens_trace.built('kube_replay'))
+    words.add_argument('--traces')
+    words = words.parse_args()
+    for program in (words.replay, words.program):
+        if not os.path.exists(program):
+            sys.exit(f'{program} is not built')
+    program, replay = os.path.abspath(words.program), os.path.abspath(words.replay)
+    cases = [('lines', text, lines_wanted(text, replay)) for text in test_lens_summary.traces(words)]
+    cases += [('leaders', text, leaders_wanted(text, replay)) for text in test_lens_trace.traces(words.seed, words.count)]
+    refused = sum(isinstance(right, str) for _, _, right in cases)
+    print(f'{len(cases)} texts, {refused} refused, {sum(len(right) for _, _, right in cases if isinstance(right, list))} objects', flush=True)
+    wrong = [f'{command}: {text}' for command, text, right in cases if told(program, command, text) != (status(command, right), right)]
+    print(f'{len(wrong)} differ', *wrong[:3], sep='\n')
+    sys.exit(1 if wrong or refused == len(cases) else 0)
+
+
+if __name__ == '__main__':
+    main()
