@@ -11,8 +11,9 @@ use kube_base::NoMemory;
 use lens_edge::{Answer, Question, Status, Verdict, ask, tell_usage};
 use std::alloc::Global;
 
-/// With the words `leaders --json`, reads a trace from the source and writes its terms, the spans in which nobody leads, and whether two ever lead at once, as one JSON object. A text that is no trace is answered by the line of its
-/// refusal, and other words by a line on the usage, for which the source isn't read and no memory is taken.
+/// With the words `leaders --json`, reads a trace from the source and writes its terms, the spans in which nobody leads, and whether two
+/// ever lead at once, as one JSON object. A text that is no trace is answered by the line of its refusal, and other words by a line on the
+/// usage, for which the source isn't read and no memory is taken.
 pub fn run<S: Source, K: Sink>(
     alloc: Global,
     words: &Vec<String>,
