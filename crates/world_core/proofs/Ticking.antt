@@ -22,7 +22,7 @@ use Rattle.beat_laws.proofs.Names.{nodes_are_named}
 use Rattle.beat_laws.proofs.Unticked.{elector_unticked}
 use Rattle.skew_clock.specs.Clocking.{Clocking, reading, wall_when}
 use Rattle.term_state.specs.declared.view.View.{View}
-use Rattle.term_state.specs.MidBeat.{IsView}
+use Rattle.term_state.specs.MidTick.{IsView}
 use Rattle.wire_calls.specs.WireStands.{WireStands}
 use Rattle.wire_calls.proofs.Frames.{wire-beside}
 use Rattle.world_process.specs.Clocked.{ClockStands}
