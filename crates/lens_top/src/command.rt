@@ -9,6 +9,8 @@ pub enum Command {
     Help,
     /// The margins of a document's leases.
     Margin,
+    /// The same as one JSON object.
+    MarginJson,
     /// The margin of the lease that flags describe.
     Flags,
     /// Who led in a trace, and when nobody did.
@@ -36,12 +38,13 @@ pub(crate) fn command_in(words: &Vec<String>) -> Option<Command>
     }
 }
 
-/// The command where further words stand behind the first: those of `margin` are flags, those of `leaders` ask for its JSON, and `summary`
-/// may have a document beside its trace.
+/// The command where further words stand behind the first: those of `margin` ask for its JSON or are flags, those of `leaders` ask for its
+/// JSON, and `summary` may have a document beside its trace.
 fn with_flags(command: Option<Command>, second: &str) -> Option<Command>
     ensures { result ≡ with_flags command second.now }
 {
     match command {
+        Some(Command::Margin) if second == "--json" => Some(Command::MarginJson),
         Some(Command::Margin) => Some(Command::Flags),
         Some(Command::Leaders) => Some(Command::LeadersJson),
         Some(Command::Summary) if second == "--document" => Some(Command::Lateness),
