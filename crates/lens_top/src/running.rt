@@ -65,6 +65,7 @@ pub fn run<S: Source, K: Sink>(
         Some(Command::Leaders) => lens_trace::run(alloc, words, source, sink),
         Some(Command::LeadersJson) => lens_leaders::run(alloc, words, source, sink),
         Some(Command::Summary) => lens_summary::run(alloc, words, source, sink),
+        Some(Command::SummaryJson) => lens_figures::run(alloc, words, source, sink),
         Some(Command::Explain) => lens_explain::run(alloc, words, source, sink),
         Some(Command::Lateness) => lens_lateness::run(alloc, words, source, sink),
         Some(Command::Lines) => lens_lines::run(alloc, words, source, sink),
@@ -83,7 +84,8 @@ kube_lens margin --lease 15s ..    the same of flags: --lease --renew --retry --
 kube_lens leaders < trace          who led from when to when, when nobody did, and whether two did at once\n\
 kube_lens leaders --json < trace   the same as one JSON object\n\
 kube_lens summary < trace          what a trace comes to, as tables: terms, zones, nodes, evictions, totals\n\
-kube_lens summary --document       the same of a document and, behind it, its trace, and how late pods were evicted\n\
+kube_lens summary --json < trace   the same as one JSON object\n\
+kube_lens summary --document       the tables of a document and, behind it, its trace, and how late pods were evicted\n\
 kube_lens lines --json < trace     each line of a trace as a JSON object on a line of its own, for jq\n\
 kube_lens explain < document       why a document is refused, where, and what may stand there\n\
 kube_lens --help                   these lines\n\
