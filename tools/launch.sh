@@ -56,12 +56,15 @@ tell_lens_help() {
 kube_lens answers what one asks of a document or a trace. It reads standard input and writes standard output.
 
 $(tell_command "$called margin < DOCUMENT" 'how much room each lease leaves, the least that would do, how long a leader may stand still')
+$(tell_command "$called margin --json < DOCUMENT" '')
+$(tell_command '' 'the same as one JSON object')
 $(tell_command "$called margin --lease 15s ..." 'the same of flags: --lease --renew --retry --timeout --skew --beat')
 $(tell_command "$called leaders < TRACE" 'who led from when to when, when nobody did, and whether two did at once')
 $(tell_command "$called leaders --json < TRACE" 'the same as one JSON object')
 $(tell_command "$called summary < TRACE" 'what a trace comes to, as tables: terms, zones, nodes, evictions, totals')
+$(tell_command "$called summary --json < TRACE" 'the same as one JSON object')
 $(tell_command "$called summary --document DOCUMENT < TRACE" '')
-$(tell_command '' 'the same, and how late each pod was evicted')
+$(tell_command '' 'the tables, and how late each pod was evicted')
 $(tell_command "$called lines --json < TRACE" 'each line of a trace as a JSON object on a line of its own, for jq')
 $(tell_command "$called explain < DOCUMENT" 'why a document is refused, where, and what may stand there')
 $(tell_command "$called --help, --version" 'these lines, and the version')

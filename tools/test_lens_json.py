@@ -1,11 +1,13 @@
 #!/usr/bin/env python3
-"""Compares the JSON of `kube_lens lines --json` and `kube_lens leaders --json` with the lines of traces, on the examples' traces and on traces
-made from seeds.
+"""Compares the JSON of `kube_lens lines --json`, `leaders --json` and `summary --json` with the lines of traces, and that of `kube_lens margin --json`
+with the numbers of documents, on the examples and on traces and documents made from seeds.
 
     tools/test_lens_json.py [--count 200] [--seed 1] [--program PROGRAM] [--traces FOLDER]
 
-What is wanted of `lines` is made of each line's words as docs/lens.md tells, and of `leaders` it is what tools/test_lens_trace.py asks of each
-beat, with no look at the program; Python's own reader reads the JSON, and names, values and their order are compared. FOLDER may have more traces, one a file. The exit status is 1 where anything differs. Nothing here is a proof.
+What is wanted of `lines` is made of each line's words as docs/lens.md tells, of `leaders` it is what tools/test_lens_trace.py asks of each
+beat, of `margin` what tools/test_lens.py finds by trying, and of `summary` the tables of tools/test_lens_summary.py, with no look at the program;
+Python's own reader reads the JSON, and names, values and their order are compared. FOLDER may have more traces, one a file. The exit status is 1
+where anything differs. Nothing here is a proof.
 """
 import argparse
 import json
@@ -13,6 +15,7 @@ import os
 import subprocess
 import sys
 
+import test_lens
 import test_lens_summary
 import test_lens_trace
 
@@ -77,6 +80,56 @@ def leaders_wanted(text, replay):
     return [[('terms', terms), ('nobody', nobody), ('overlap', overlap)]]
 
 
+def number_if(word):
+    """The number of a word in front of its unit, None for `none`."""
+    return None if word == 'none' else int(word.rstrip('ms'))
+
+
+def margin_wanted(doc, replay):
+    """The refusal of `check`, or the one object of what `margin` tells in lines."""
+    said = test_lens.expected(doc, replay)
+    if said.startswith('refused '):
+        return said
+    *lines, last = said.splitlines()
+    controllers = []
+    for line in lines:
+        name, *words = line.split()
+        lease, must, slack, least, stall = (number_if(word.split('=')[1]) for word in words)
+        controllers.append([('name', name), ('leaseMillis', lease), ('mustExceedMillis', must), ('slackMillis', slack), ('leastLeaseSeconds', least),
+                            ('longestStallMillis', stall)])
+    return [[('controllers', controllers), ('safe', last == 'safe')]]
+
+
+# the tables of `summary` by their members, and whether it is one object
+SUMMARY = (('header', True), ('terms', False), ('spansWithoutLeader', True), ('zones', False), ('nodes', False), ('evictions', False), ('totals', False))
+TEXTS = ('premise', 'leader', 'ended', 'zone', 'state', 'by', 'node', 'change', 'reason', 'pod', 'due', 'kind')
+
+
+def column(heading):
+    """The name of a member by its column: `LAST-BEAT` is `lastBeat`."""
+    first, *more = heading.lower().split('-')
+    return 'count' if heading == 'SPANS-WITHOUT-LEADER' else first + ''.join(word.capitalize() for word in more)
+
+
+def cell(name, text):
+    """What a member has by its cell: a beat without the time behind it."""
+    if text == '-':
+        return None
+    return text if name in TEXTS else int(text.split(' ')[0])
+
+
+def summary_wanted(text, replay):
+    """The refusal of `audit`, or the one object of what stands in the tables of `summary`."""
+    said = test_lens_summary.wanted(text, replay)
+    if said.startswith('refused '):
+        return said
+    found = []
+    for (table, lone), (heading, *rows) in zip(SUMMARY, test_lens_summary.tables(test_lens_summary.Trace(text))):
+        objects = [[(name, cell(name, word)) for name, word in zip(map(column, heading), row)] for row in rows]
+        found.append((table, objects[0] if lone else objects))
+    return [found]
+
+
 def told(program, command, text):
     """The exit status and what the program tells: a refusal as it is, and of objects their members."""
     ran = subprocess.run([program, command, '--json'], input=text, stdout=subprocess.PIPE, text=True, check=False)
@@ -86,8 +139,10 @@ def told(program, command, text):
 
 
 def status(command, right):
-    """The exit status wanted: 1 for a refusal, and where `leaders` finds two at once."""
-    return int(isinstance(right, str) or (command == 'leaders' and dict(right[0])['overlap'] is not None))
+    """The exit status wanted: 1 for a refusal, where `leaders` finds two at once, and where a lease is too short."""
+    if isinstance(right, str):
+        return 1
+    return int((command == 'leaders' and dict(right[0])['overlap'] is not None) or (command == 'margin' and not dict(right[0])['safe']))
 
 
 def main():
@@ -104,6 +159,8 @@ def main():
     program, replay = os.path.abspath(words.program), os.path.abspath(words.replay)
     cases = [('lines', text, lines_wanted(text, replay)) for text in test_lens_summary.traces(words)]
     cases += [('leaders', text, leaders_wanted(text, replay)) for text in test_lens_trace.traces(words.seed, words.count)]
+    cases += [('summary', text, summary_wanted(text, replay)) for text in test_lens_summary.traces(words)]
+    cases += [('margin', json.dumps(doc), margin_wanted(doc, replay)) for doc in test_lens.documents(words.seed, words.count)]
     refused = sum(isinstance(right, str) for _, _, right in cases)
     print(f'{len(cases)} texts, {refused} refused, {sum(len(right) for _, _, right in cases if isinstance(right, list))} objects', flush=True)
     wrong = [f'{command}: {text}' for command, text, right in cases if told(program, command, text) != (status(command, right), right)]

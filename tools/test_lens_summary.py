@@ -100,6 +100,12 @@ class Trace:
                    if earlier < later and one[0] != other[0] and max(one[1], other[1]) < min(one[2], other[2])]
         return str(leads[min(crossed)] + 2) if crossed else '-'
 
+    def shared(self):
+        """At how many beats two identities lead. Between two beats at which terms begin or end it is the same ones at each."""
+        terms = list(self.terms())
+        marks = sorted({since for _, since, _, _ in terms} | {until for _, _, until, _ in terms})
+        return sum(until - since for since, until in zip(marks, marks[1:]) if len({who for who, first, last, _ in terms if first <= since < last}) > 1)
+
     def quiet(self):
         """How long each span without a leader is. A span begins at beat 0 or where a term ends, and ends where one begins or at the end."""
         terms = [(since, until) for _, since, until, _ in self.terms()]
@@ -140,7 +146,8 @@ def totals(trace):
 def tables(trace):
     """Heading and rows of each table."""
     at = trace.at
-    yield [['BEAT-MILLIS', 'LAST-BEAT', 'PREMISE', 'TWO-LEAD-FROM-LINE'], [str(trace.millis), at(trace.end), trace.premise, trace.overlap()]]
+    yield [['BEAT-MILLIS', 'LAST-BEAT', 'PREMISE', 'TWO-LEAD-FROM-LINE', 'TWO-LEAD-BEATS'],
+           [str(trace.millis), at(trace.end), trace.premise, trace.overlap(), at(trace.shared())]]
     yield [['LEADER', 'FROM', 'UNTIL', 'LASTED', 'ENDED']] + [[who, at(since), at(until), at(until - since), how] for who, since, until, how in trace.terms()]
     quiet = trace.quiet()
     yield [['SPANS-WITHOUT-LEADER', 'LONGEST', 'SUM'], [str(len(quiet)), at(max(quiet, default=0)), at(sum(quiet))]]

@@ -4,7 +4,9 @@
 mod member;
 mod object;
 mod quoting;
+mod value;
 
 pub use member::{Member, Value};
 pub use object::add_object;
 pub use quoting::add_quoted;
+pub use value::add_value;

@@ -4,10 +4,11 @@ ghost use Rattle.json.specs.Print.{quoted};
 ghost use Rattle.serde_json.specs.Written.{compact_text, comma_if};
 ghost use Rattle.lens_json.specs.Members.{data_of, named, object_of};
 
-use crate::member::{Member, Value};
+use crate::member::Member;
 use crate::quoting::add_quoted;
+use crate::value::add_value;
 use kube_base::NoMemory;
-use trace_writer::{add, add_number};
+use trace_writer::add;
 
 /// Adds the object of these members, in their order, on one line and without spaces.
 pub fn add_object(text: &mut Vec<u8>, members: &[Member<'_>]) -> Result<(), NoMemory>
@@ -37,13 +38,4 @@ fn add_member(text: &mut Vec<u8>, member: &Member<'_>) -> Result<(), NoMemory>
     add_quoted(text, member.name)?;
     add(text, b":")?;
     add_value(text, member.value)
-}
-
-fn add_value(text: &mut Vec<u8>, value: Value<'_>) -> Result<(), NoMemory>
-    ensures { OnOk result (text.new.items ≡ text.old.items ++ compact_text (data_of value.entry)) }
-{
-    match value {
-        Value::Number(number) => add_number(text, number),
-        Value::Text(shown) => add_quoted(text, shown),
-    }
 }

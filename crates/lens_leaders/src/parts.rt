@@ -117,7 +117,7 @@ pub(crate) fn overlap_in<'a>(
             add_overlap(&mut members, stop, found, line)?;
             Ok(What::Object(Object { members }))
         }
-        None => Ok(What::Nothing),
+        None => Ok(What::Value(Value::Nothing)),
     }
 }
 

@@ -1,6 +1,6 @@
 -- The members of a whole answer, and the data that they are.
 use Rattle.std.specs.Prelude.{List, [], ◌∷◌, map}
-use Rattle.serde_json.specs.Data.{Data, null, array, Items, no_items, item}
+use Rattle.serde_json.specs.Data.{Data, array, Items, no_items, item}
 use Rattle.lens_json.specs.Members.{Named, named, data_of, object_of}
 use Rattle.lens_parts.specs.declared.part.Object.{Object}
 use Rattle.lens_parts.specs.declared.part.Part.{Part}
@@ -19,7 +19,6 @@ abbrev pub list_of : List (List Named) → Data
 list_of objects = array (items_of objects)
 
 abbrev pub what_of : What → Data
-what_of what.Nothing = null
 what_of (what.Value value) = data_of value
 what_of (what.Object object) = object_of (members_in object)
 what_of (what.List objects) = list_of (map members_in objects.items)

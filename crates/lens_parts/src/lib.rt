@@ -1,4 +1,4 @@
-//! JSON of a whole answer: one object, whose members are numbers, texts, objects and lists of objects.
+//! JSON of a whole answer: one object, whose members are values, objects and lists of objects.
 #![tactic(auto)]
 
 mod part;

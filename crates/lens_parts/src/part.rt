@@ -10,7 +10,6 @@ pub struct Object<'a> {
 /// What a member of an answer has.
 #[derive(Drop)]
 pub enum What<'a> {
-    Nothing,
     Value(Value<'a>),
     Object(Object<'a>),
     List(Vec<Object<'a>>),

@@ -2,13 +2,13 @@
 ghost use Rattle.std.specs.Prelude.{◌≡◌, ◌++◌, ◌∷◌, OnOk, map};
 ghost use Rattle.json.specs.Print.{quoted};
 ghost use Rattle.serde_json.specs.Written.{compact_text, comma_if};
-ghost use Rattle.lens_json.specs.Members.{data_of, object_of};
+ghost use Rattle.lens_json.specs.Members.{object_of};
 ghost use Rattle.lens_parts.specs.Parts.{list_of, members_in, part_of, what_of};
 
 use crate::part::{Object, Part, What};
 use kube_base::NoMemory;
-use lens_json::{Value, add_object, add_quoted};
-use trace_writer::{add, add_number};
+use lens_json::{add_object, add_quoted, add_value};
+use trace_writer::add;
 
 /// Adds the object of these members, in their order, on one line and without spaces.
 pub fn add_parts(text: &mut Vec<u8>, parts: &[Part<'_>]) -> Result<(), NoMemory>
@@ -44,19 +44,9 @@ fn add_what(text: &mut Vec<u8>, what: &What<'_>) -> Result<(), NoMemory>
     ensures { OnOk result (text.new.items ≡ text.old.items ++ compact_text (what_of what.now)) }
 {
     match what {
-        What::Nothing => add(text, b"null"),
         What::Value(value) => add_value(text, *value),
         What::Object(object) => add_object(text, &object.members),
         What::List(objects) => add_list(text, objects),
-    }
-}
-
-fn add_value(text: &mut Vec<u8>, value: Value<'_>) -> Result<(), NoMemory>
-    ensures { OnOk result (text.new.items ≡ text.old.items ++ compact_text (data_of value.entry)) }
-{
-    match value {
-        Value::Number(number) => add_number(text, number),
-        Value::Text(shown) => add_quoted(text, shown),
     }
 }
 

@@ -1,4 +1,5 @@
 pub mod ReplyLaws
 pub mod StepLaws
 pub mod ToldLaws
+pub mod TogetherLaws
 pub mod TotalLaws

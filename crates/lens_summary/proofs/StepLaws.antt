@@ -7,7 +7,7 @@ use Rattle.lens_terms.specs.Spans.{leaderless}
 use Rattle.lens_terms.specs.Terms.{shown}
 use Rattle.lens_trace.proofs.ShownLaws.{leaderless-shown}
 
-drop-more : {A : Type 0} (xs : List A) (n : ℕ) (d : A) → n < length xs → drop n xs ≡ get_or xs n d ∷ drop (n + 1) xs
+pub drop-more : {A : Type 0} (xs : List A) (n : ℕ) (d : A) → n < length xs → drop n xs ≡ get_or xs n d ∷ drop (n + 1) xs
 drop-more xs n d within = drop-cons xs n d within ∙ ap (λ k. get_or xs n d ∷ drop k xs) (sym (add-one n))
 
 option-more : {A : Type 0} (o : Option A) (xs : List A) → option_to_list o ++ xs ≡ cons_option o xs

@@ -13,11 +13,13 @@ use Rattle.lens_summary.specs.Nodes.{node_rows}
 use Rattle.lens_summary.specs.Part.{part}
 use Rattle.lens_summary.specs.Pods.{pod_rows}
 use Rattle.lens_summary.specs.Summary.{trace_rows, told, summary}
+use Rattle.lens_summary.specs.Together.{beats_of_two}
 use Rattle.lens_summary.specs.Totals.{total_rows}
 use Rattle.lens_summary.specs.Zones.{zone_rows}
 
-pub told-is : (header : Header) (overlap : Option ℕ) (ls : List (Line (List ℕ))) (ts also : List (Term (List ℕ))) (none one two three four five six seven : List ℕ)
-    → ts ≡ terms 2 ls → also ≡ terms 2 ls → none ≡ [] → one ≡ none ++ part (trace_rows header overlap)
+pub told-is : (header : Header) (overlap : Option ℕ) (ls : List (Line (List ℕ))) (beats : ℕ) (first_ts ts also : List (Term (List ℕ))) (none one two three four five six seven : List ℕ)
+    → first_ts ≡ terms 2 ls → ts ≡ terms 2 ls → also ≡ terms 2 ls → none ≡ [] → beats ≡ beats_of_two (header.end + 1) first_ts
+    → one ≡ none ++ part (trace_rows header overlap beats)
     → two ≡ one ++ part (term_rows header.beat_millis (header.end + 1) ts)
     → three ≡ two ++ part (span_rows header.beat_millis (header.end + 1) also)
     → four ≡ three ++ part (zone_rows header.beat_millis ls)
@@ -26,8 +28,10 @@ pub told-is : (header : Header) (overlap : Option ℕ) (ls : List (Line (List �
     → seven ≡ six ++ table_text (total_rows ls)
     → (let r : Reply = record { verdict = Done; text = seven } in r) ≡ summary header overlap ls
 unfolding told
-told-is header overlap ls ts also none one two three four five six seven are too empty first second third fourth fifth sixth last =
-    let a = part (trace_rows header overlap) in
+told-is header overlap ls beats first_ts ts also none one two three four five six seven were are too empty counted begun second third fourth fifth sixth last =
+    let a = part (trace_rows header overlap (beats_of_two (header.end + 1) (terms 2 ls))) in
+    let first : one ≡ none ++ a
+    = begun ∙ ap (λ n. none ++ part (trace_rows header overlap n)) (counted ∙ ap (beats_of_two (header.end + 1)) were) in
     let b = part (term_rows header.beat_millis (header.end + 1) (terms 2 ls)) in
     let c = part (span_rows header.beat_millis (header.end + 1) (terms 2 ls)) in
     let d = part (zone_rows header.beat_millis ls) in

@@ -6,5 +6,6 @@ pub mod Pods
 pub mod Replies
 pub mod Spread
 pub mod Summary
+pub mod Together
 pub mod Totals
 pub mod Zones

@@ -20,6 +20,7 @@ use Rattle.lens_summary.specs.Leaders.{term_rows, span_rows}
 use Rattle.lens_summary.specs.Nodes.{node_rows}
 use Rattle.lens_summary.specs.Part.{part}
 use Rattle.lens_summary.specs.Pods.{pod_rows}
+use Rattle.lens_summary.specs.Together.{beats_of_two}
 use Rattle.lens_summary.specs.Totals.{total_rows}
 use Rattle.lens_summary.specs.Zones.{zone_rows}
 
@@ -30,17 +31,18 @@ abbrev pub line_text : Option ℕ → List ℕ
 line_text None = codes "-"
 line_text (Some line) = decimal line
 
--- the trace itself: the milliseconds of a beat, the last beat, the premise as the writer has it, and the line of the first `lead` of an
--- identity while another one leads
-unfoldable pub trace_rows : Header → Option ℕ → List Texts
-trace_rows header overlap =
-    (codes "BEAT-MILLIS" ∷ codes "LAST-BEAT" ∷ codes "PREMISE" ∷ codes "TWO-LEAD-FROM-LINE" ∷ [])
-    ∷ (decimal header.beat_millis ∷ beat_text header.end header.beat_millis ∷ premise_word header.premise ∷ line_text overlap ∷ []) ∷ []
+-- the trace itself: the milliseconds of a beat, the last beat, the premise as the writer has it, the line of the first `lead` of an identity
+-- while another one leads, and at how many beats two lead
+unfoldable pub trace_rows : Header → Option ℕ → ℕ → List Texts
+trace_rows header overlap beats =
+    (codes "BEAT-MILLIS" ∷ codes "LAST-BEAT" ∷ codes "PREMISE" ∷ codes "TWO-LEAD-FROM-LINE" ∷ codes "TWO-LEAD-BEATS" ∷ [])
+    ∷ (decimal header.beat_millis ∷ beat_text header.end header.beat_millis ∷ premise_word header.premise ∷ line_text overlap
+    ∷ beat_text beats header.beat_millis ∷ []) ∷ []
 
 -- the tables of a trace of this first line
 unfoldable pub told : Header → Option ℕ → List (Line (List ℕ)) → List ℕ
 told header overlap ls =
-    part (trace_rows header overlap)
+    part (trace_rows header overlap (beats_of_two (header.end + 1) (terms 2 ls)))
     ++ part (term_rows header.beat_millis (header.end + 1) (terms 2 ls))
     ++ part (span_rows header.beat_millis (header.end + 1) (terms 2 ls))
     ++ part (zone_rows header.beat_millis ls)

@@ -100,7 +100,8 @@ fn add_term<'a>(
     add_row(rows, cells)
 }
 
-fn ended(closing: Option<Closing>) -> &'static [u8]
+/// The word for how a term ends.
+pub fn ended(closing: Option<Closing>) -> &'static [u8]
     ensures { result.now ≡ spec.ended closing }
 {
     match closing {

@@ -4,6 +4,7 @@ ghost use Rattle.byte_edge.specs.Bytes.{Rose};
 ghost use Rattle.lens_edge.specs.Outcome.{Ends, EndsAs, Unread, usage};
 ghost use Rattle.lens_summary.specs.Replies.{IsOutcome, is_summary};
 ghost use Rattle.lens_summary.specs.Summary.{summary_reply};
+ghost use Rattle.lens_summary.specs.Together.{BeatsOfTwoAreCounted};
 
 use crate::summary::summary_of;
 use byte_edge::{Sink, Source};
@@ -26,6 +27,9 @@ pub fn run<S: Source, K: Sink>(
     ensures usage { is_summary (map string_bytes words.now.items) ≡ false
         → (S.left source.new ≡ S.left source.old) × ((result ≡ Status.Answered Verdict.Usage) ⊎ (result ≡ Status.SinkFault))
         × Ends (Unread usage []) (Some []) (K.taken sink.old) (K.taken sink.new) result }
+
+    // The number told of beats at which two lead is that of the beats at which two identities of the trace lead.
+    ensures together { BeatsOfTwoAreCounted }
 
     ensures source_fault { result ≡ Status.SourceFault → Rose (S.faults source.old) (S.faults source.new) }
     ensures source_silent { result ≡ Status.SourceFault → K.taken sink.new ≡ K.taken sink.old }

@@ -14,6 +14,7 @@ use crate::nodes::tell_nodes;
 use crate::part::add_part;
 use crate::pods::tell_pods;
 use crate::rows::add_row;
+use crate::together::beats_of_two;
 use crate::totals::tell_totals;
 use crate::zones::tell_zones;
 use kube_base::NoMemory;
@@ -72,7 +73,13 @@ fn tell(
     let stop = header.end + 1;
     let found = terms_of(alloc, lines)?;
     let mut text = Vec::new(alloc);
-    tell_trace(&mut text, alloc, header, overlap)?;
+    tell_trace(
+        &mut text,
+        alloc,
+        header,
+        overlap,
+        beats_of_two(stop, &found),
+    )?;
     tell_terms(&mut text, alloc, millis, stop, &found)?;
     tell_spans(&mut text, alloc, millis, stop, &found)?;
     tell_zones(&mut text, alloc, millis, lines)?;
@@ -91,10 +98,11 @@ fn tell_trace(
     alloc: Global,
     header: Header,
     overlap: Option<u64>,
+    beats: u32,
 ) -> Result<(), NoMemory>
-    ensures { OnOk result (text.new.items ≡ text.old.items ++ part (spec.trace_rows header overlap)) }
+    ensures { OnOk result (text.new.items ≡ text.old.items ++ part (spec.trace_rows header overlap beats)) }
 {
-    let rows = trace_rows(alloc, header, overlap)?;
+    let rows = trace_rows(alloc, header, overlap, beats)?;
     add_part(text, alloc, &rows)
 }
 
@@ -104,8 +112,9 @@ fn trace_rows(
     alloc: Global,
     header: Header,
     overlap: Option<u64>,
+    beats: u32,
 ) -> Result<Vec<Row<'static>>, NoMemory>
-    ensures { IfOk result (λ rows. shown rows.items ≡ spec.trace_rows header overlap) }
+    ensures { IfOk result (λ rows. shown rows.items ≡ spec.trace_rows header overlap beats) }
 {
     let mut rows = Vec::new(alloc);
     let heading = vec![in alloc;
@@ -113,6 +122,7 @@ fn trace_rows(
         Cell::Text(b"LAST-BEAT"),
         Cell::Text(b"PREMISE"),
         Cell::Text(b"TWO-LEAD-FROM-LINE"),
+        Cell::Text(b"TWO-LEAD-BEATS"),
     ]?;
     add_row(&mut rows, heading)?;
     let cells = vec![in alloc;
@@ -120,12 +130,14 @@ fn trace_rows(
         Cell::Beat(header.end, header.beat_millis),
         Cell::Text(premise_word(header.premise)),
         line_cell(overlap),
+        Cell::Beat(beats, header.beat_millis),
     ]?;
     add_row(&mut rows, cells)?;
     Ok(rows)
 }
 
-fn premise_word(premise: bool) -> &'static [u8]
+/// The word for a premise.
+pub fn premise_word(premise: bool) -> &'static [u8]
     ensures { result.now ≡ spec.premise_word premise }
 {
     if premise { b"yes" } else { b"no" }

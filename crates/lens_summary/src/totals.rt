@@ -143,7 +143,7 @@ fn add_counts<'a>(
 }
 
 /// How many of some outcomes are this one.
-fn count(outcomes: &[Outcome], wanted: Outcome) -> u64
+pub fn count(outcomes: &[Outcome], wanted: Outcome) -> u64
     ensures { result ≡ count_by (spec.is wanted) outcomes.now }
 {
     let mut number = 0;
@@ -157,7 +157,7 @@ fn count(outcomes: &[Outcome], wanted: Outcome) -> u64
 
 /// The outcomes of all lines of a kind, by its word, or of all lines.
 #[tactic(auto, unfolding(crate::specs::Totals::outcomes))]
-fn outcomes(
+pub fn outcomes(
     alloc: Global,
     kind: Option<&[u8]>,
     lines: &[Line<&[u8]>],

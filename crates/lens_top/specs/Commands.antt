@@ -2,7 +2,7 @@
 use Rattle.std.specs.Prelude.{ℕ, List, [], ◌∷◌, codes, Option, Some, None, if◌then◌else◌}
 use Rattle.std.specs.Str.{bytes_eq}
 use Rattle.lens_top.specs.declared.command.Command.{Command}
-use Rattle.lens_top.specs.declared.command.Command.TheVariants.{Help, Margin, Flags, Leaders, LeadersJson, Summary, Lateness, Lines, Explain}
+use Rattle.lens_top.specs.declared.command.Command.TheVariants.{Help, Margin, MarginJson, Flags, Leaders, LeadersJson, Summary, SummaryJson, Lateness, Lines, Explain}
 
 abbrev pub command_by : List ℕ → Option Command
 command_by word =
@@ -14,11 +14,13 @@ command_by word =
     else if bytes_eq word (codes "lines") then Some Lines
     else None
 
--- words behind `margin` are flags, those behind `leaders` ask for its JSON, and `summary` may have a document beside its trace
+-- words behind `margin` ask for its JSON or are flags, those behind `leaders` ask for its JSON, and `summary` may be asked for its JSON or
+-- have a document beside its trace
 abbrev pub with_flags : Option Command → List ℕ → Option Command
-with_flags (Some Margin) second = Some Flags
+with_flags (Some Margin) second = if bytes_eq second (codes "--json") then Some MarginJson else Some Flags
 with_flags (Some Leaders) second = Some LeadersJson
-with_flags (Some Summary) second = if bytes_eq second (codes "--document") then Some Lateness else Some Summary
+with_flags (Some Summary) second =
+    if bytes_eq second (codes "--json") then Some SummaryJson else if bytes_eq second (codes "--document") then Some Lateness else Some Summary
 with_flags other second = other
 
 -- the command that the first word names

@@ -9,6 +9,8 @@ pub enum Command {
     Help,
     /// The margins of a document's leases.
     Margin,
+    /// The same as one JSON object.
+    MarginJson,
     /// The margin of the lease that flags describe.
     Flags,
     /// Who led in a trace, and when nobody did.
@@ -17,9 +19,11 @@ pub enum Command {
     LeadersJson,
     /// What a trace comes to, as tables.
     Summary,
+    /// The same as one JSON object.
+    SummaryJson,
     /// Why a document is refused.
     Explain,
-    /// The same of a document's trace, and how late its evictions were.
+    /// The tables of a document's trace, and how late its evictions were.
     Lateness,
     /// The lines of a trace, as JSON objects.
     Lines,
@@ -36,14 +40,16 @@ pub(crate) fn command_in(words: &Vec<String>) -> Option<Command>
     }
 }
 
-/// The command where further words stand behind the first: those of `margin` are flags, those of `leaders` ask for its JSON, and `summary`
-/// may have a document beside its trace.
+/// The command where further words stand behind the first: those of `margin` ask for its JSON or are flags, those of `leaders` ask for its
+/// JSON, and `summary` may be asked for its JSON or have a document beside its trace.
 fn with_flags(command: Option<Command>, second: &str) -> Option<Command>
     ensures { result ≡ with_flags command second.now }
 {
     match command {
+        Some(Command::Margin) if second == "--json" => Some(Command::MarginJson),
         Some(Command::Margin) => Some(Command::Flags),
         Some(Command::Leaders) => Some(Command::LeadersJson),
+        Some(Command::Summary) if second == "--json" => Some(Command::SummaryJson),
         Some(Command::Summary) if second == "--document" => Some(Command::Lateness),
         other => other,
     }

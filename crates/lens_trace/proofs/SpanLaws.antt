@@ -16,7 +16,7 @@ use Rattle.lens_trace.specs.Beats.{leads_at, covers, lies_in}
 -- ---- the order of lines and terms
 
 -- beats don't go down from a beat on, nor above the end
-abbrev AreOrdered : ℕ → ℕ → List (Line (List ℕ)) → Type 0
+abbrev pub AreOrdered : ℕ → ℕ → List (Line (List ℕ)) → Type 0
 AreOrdered end before [] = Unit {0}
 AreOrdered end before (l ∷ ls) = (nat_le before l.beat ≡ true) × (nat_le l.beat end ≡ true) × AreOrdered end l.beat ls
 
@@ -24,7 +24,7 @@ no-line : line_of [] ≡ None
 unfolding line_of
 no-line = refl
 
-lines-ordered : (end number before : ℕ) (texts : List (List ℕ)) → first_wrong end number before texts ≡ None → AreOrdered end before (filter_map line_of texts)
+pub lines-ordered : (end number before : ℕ) (texts : List (List ℕ)) → first_wrong end number before texts ≡ None → AreOrdered end before (filter_map line_of texts)
 unfolding first_wrong
 lines-ordered end number before [] right = tt
 lines-ordered end number before (l ∷ []) right = by l right
@@ -51,7 +51,7 @@ lines-ordered end number before (l ∷ m ∷ more) right = by (λ beat r. lines-
         in_bounds true true e f right = (e, f, again line.beat right)
 
 -- each term begins not before the one before it, and before the trace's end
-abbrev AreBegun : ℕ → ℕ → List (Term (List ℕ)) → Type 0
+abbrev pub AreBegun : ℕ → ℕ → List (Term (List ℕ)) → Type 0
 AreBegun end before [] = Unit {0}
 AreBegun end before (t ∷ ts) = (nat_le before t.from ≡ true) × (nat_le t.from end ≡ true) × AreBegun end t.from ts
 
@@ -59,7 +59,7 @@ begun-earlier : (end before beat : ℕ) (ts : List (Term (List ℕ))) → nat_le
 begun-earlier end before beat [] le h = tt
 begun-earlier end before beat (t ∷ ts) le h = let here : nat_le beat t.from ≡ true = h.0 in (grind (arith, nat_tests), h.1, h.2)
 
-terms-begun : (end number before : ℕ) (ls : List (Line (List ℕ))) → AreOrdered end before ls → AreBegun end before (terms number ls)
+pub terms-begun : (end number before : ℕ) (ls : List (Line (List ℕ))) → AreOrdered end before ls → AreBegun end before (terms number ls)
 unfolding terms
 terms-begun end number before [] h = tt
 terms-begun end number before (l ∷ ls) h = by (turn_of l.says) (terms-begun end (number + 1) l.beat ls h.2)

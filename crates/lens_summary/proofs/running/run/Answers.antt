@@ -3,6 +3,7 @@ use Rattle.lens_edge.specs.Outcome.{Outcome, Read, Unread, usage}
 use Rattle.lens_edge.proofs.Endings.{ends-wider}
 use Rattle.lens_summary.specs.Summary.{summary_reply}
 use Rattle.lens_summary.specs.Replies.{IsOutcome, IsOutcomeOf, is_summary}
+use Rattle.lens_summary.proofs.TogetherLaws.{beats-of-two-counted}
 use Rattle.lens_summary.proofs.running.run.Goals as goal
 
 outcome-summary : (words : List (List ℕ)) (bytes : List ℕ) → is_summary words ≡ true → (o : Outcome) → Read (λ input reply. reply ≡ summary_reply input) bytes o → IsOutcome words bytes o
@@ -26,3 +27,9 @@ returns-else-is_command-clause-text g c bytes told =
 
 pub returns-else-is_command-clause-usage : goal.returns-else-is_command-clause-usage
 returns-else-is_command-clause-usage g c other = (refl, c.tell_usage.ensures.status, c.tell_usage.ensures.text [])
+
+pub returns-then-is_command-clause-together : goal.returns-then-is_command-clause-together
+returns-then-is_command-clause-together g c end texts right = beats-of-two-counted end texts right
+
+pub returns-else-is_command-clause-together : goal.returns-else-is_command-clause-together
+returns-else-is_command-clause-together g c end texts right = beats-of-two-counted end texts right

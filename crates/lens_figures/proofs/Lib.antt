@@ -1,0 +1,3 @@
+pub mod PartLaws
+pub mod ReplyLaws
+pub mod TotalLaws

@@ -1,0 +1,12 @@
+use Rattle.std.proofs.Common.{◌≡◌, ℕ, List, ◌++◌, map, drop, Bor}
+use Rattle.std.specs.List.{flat_map}
+use Rattle.lens_parts.specs.Parts.{members_in}
+use Rattle.trace_lines.specs.Reads.{seen}
+use Rattle.lens_figures.specs.Totals.{kind_objects, kinds}
+use Rattle.lens_figures.proofs.totals.totals_in.Given as goal
+
+-- the objects so far and those of the rest
+abbrev pub invariant-loop-word : goal.invariant-loop-word
+invariant-loop-word l =
+    map members_in l.objects.items ++ flat_map (kind_objects (map seen l.lines)) (map (λ (word : Bor (List ℕ)). word.now) (drop l.word-index l.word-items))
+    ≡ flat_map (kind_objects (map seen l.lines)) kinds

@@ -1,0 +1,4 @@
+pub mod Lines
+pub mod Totals
+pub mod Figures
+pub mod Replies

@@ -1,0 +1,183 @@
+// The objects of lines: what became of zones and nodes, and the pods that were evicted.
+ghost use Rattle.std.specs.Prelude.{◌≡◌, ◌++◌, IfOk, OnOk, codes, map, option_to_list};
+ghost use Rattle.lens_json.specs.Members.{data_of, named};
+ghost use Rattle.lens_parts.specs.Parts.{members_in};
+ghost use Rattle.trace_lines.specs.Reads.{seen};
+ghost use Rattle.lens_figures.specs.Lines as spec;
+
+use crate::objects::add_object;
+use kube_base::NoMemory;
+use lens_json::{Member, Value};
+use lens_parts::Object;
+use lens_summary::{change_in, eviction_in, zone_in};
+use std::alloc::Global;
+use trace_lines::Line;
+
+/// An object for each state that a pass found a zone in, in the order of the lines.
+pub(crate) fn zones_in<'a>(
+    alloc: Global,
+    lines: &[Line<&'a [u8]>],
+) -> Result<Vec<Object<'a>>, NoMemory>
+    ensures { IfOk result (λ objects. map members_in objects.items ≡ spec.zones (map seen lines.now)) }
+{
+    let mut objects = Vec::new(alloc);
+    for line in lines {
+        add_zone(&mut objects, alloc, line)?;
+    }
+    Ok(objects)
+}
+
+/// Adds the object of the zone that a line tells of, if it does.
+fn add_zone<'a>(
+    objects: &mut Vec<Object<'a>>,
+    alloc: Global,
+    line: &Line<&'a [u8]>,
+) -> Result<(), NoMemory>
+    ensures { OnOk result (map members_in objects.new.items ≡ map members_in objects.old.items ++ option_to_list (spec.zone_by (seen line.now))) }
+{
+    match zone_in(&line.says) {
+        Some((zone, state, rate)) => {
+            let members = zone_members(alloc, line, zone, state, rate)?;
+            add_object(objects, members)
+        }
+        None => Ok(()),
+    }
+}
+
+fn zone_members<'a>(
+    alloc: Global,
+    line: &Line<&'a [u8]>,
+    zone: &'a [u8],
+    state: &'a [u8],
+    rate: u32,
+) -> Result<Vec<Member<'a>>, NoMemory>
+    ensures { IfOk result (λ members. map named members.items ≡ spec.zone_members (seen line.now) (zone.now, state.now, rate)) }
+{
+    let members = vec![in alloc;
+        Member::text(b"zone", zone),
+        Member::number(b"since", u64::from(line.beat)),
+        Member::text(b"state", state),
+        Member::number(b"rate", u64::from(rate)),
+        Member::text(b"by", line.actor),
+    ]?;
+    Ok(members)
+}
+
+/// An object for each change of a node that the store took, in the order of the lines.
+pub(crate) fn nodes_in<'a>(
+    alloc: Global,
+    lines: &[Line<&'a [u8]>],
+) -> Result<Vec<Object<'a>>, NoMemory>
+    ensures { IfOk result (λ objects. map members_in objects.items ≡ spec.nodes (map seen lines.now)) }
+{
+    let mut objects = Vec::new(alloc);
+    for line in lines {
+        add_node(&mut objects, alloc, line)?;
+    }
+    Ok(objects)
+}
+
+/// Adds the object of the node that a line changes, if it does.
+fn add_node<'a>(
+    objects: &mut Vec<Object<'a>>,
+    alloc: Global,
+    line: &Line<&'a [u8]>,
+) -> Result<(), NoMemory>
+    ensures { OnOk result (map members_in objects.new.items ≡ map members_in objects.old.items ++ option_to_list (spec.node_by (seen line.now))) }
+{
+    match change_in(&line.says) {
+        Some((node, change, reason)) => {
+            let members = node_members(alloc, line, node, change, reason)?;
+            add_object(objects, members)
+        }
+        None => Ok(()),
+    }
+}
+
+fn node_members<'a>(
+    alloc: Global,
+    line: &Line<&'a [u8]>,
+    node: &'a [u8],
+    change: &'static [u8],
+    reason: &'a [u8],
+) -> Result<Vec<Member<'a>>, NoMemory>
+    ensures { IfOk result (λ members. map named members.items ≡ spec.node_members (seen line.now) (node.now, change.now, reason.now)) }
+{
+    let members = vec![in alloc;
+        Member::text(b"node", node),
+        Member::number(b"since", u64::from(line.beat)),
+        Member::text(b"change", change),
+        reason_member(reason),
+        Member::text(b"by", line.actor),
+    ]?;
+    Ok(members)
+}
+
+fn reason_member<'a>(reason: &'a [u8]) -> Member<'a>
+    ensures { named result ≡ (codes "reason", spec.reason reason.now) }
+{
+    Member {
+        name: b"reason",
+        value: reason_value(reason),
+    }
+}
+
+/// A reason, where there is one.
+fn reason_value<'a>(reason: &'a [u8]) -> Value<'a>
+    ensures { data_of result ≡ spec.reason reason.now }
+{
+    let none: &[u8] = b"-";
+    if reason == none {
+        Value::Nothing
+    } else {
+        Value::Text(reason)
+    }
+}
+
+/// An object for each pod that was evicted, in the order in which that was done.
+pub(crate) fn pods_in<'a>(
+    alloc: Global,
+    lines: &[Line<&'a [u8]>],
+) -> Result<Vec<Object<'a>>, NoMemory>
+    ensures { IfOk result (λ objects. map members_in objects.items ≡ spec.pods (map seen lines.now)) }
+{
+    let mut objects = Vec::new(alloc);
+    for line in lines {
+        add_pod(&mut objects, alloc, line)?;
+    }
+    Ok(objects)
+}
+
+/// Adds the object of the pod that a line evicts, if it does.
+fn add_pod<'a>(
+    objects: &mut Vec<Object<'a>>,
+    alloc: Global,
+    line: &Line<&'a [u8]>,
+) -> Result<(), NoMemory>
+    ensures { OnOk result (map members_in objects.new.items ≡ map members_in objects.old.items ++ option_to_list (spec.pod_by (seen line.now))) }
+{
+    match eviction_in(&line.says) {
+        Some((pod, due)) => {
+            let members = pod_members(alloc, line, pod, due)?;
+            add_object(objects, members)
+        }
+        None => Ok(()),
+    }
+}
+
+fn pod_members<'a>(
+    alloc: Global,
+    line: &Line<&'a [u8]>,
+    pod: &'a [u8],
+    due: &'a [u8],
+) -> Result<Vec<Member<'a>>, NoMemory>
+    ensures { IfOk result (λ members. map named members.items ≡ spec.pod_members (seen line.now) (pod.now, due.now)) }
+{
+    let members = vec![in alloc;
+        Member::text(b"pod", pod),
+        Member::text(b"due", due),
+        Member::number(b"evicted", u64::from(line.beat)),
+        Member::text(b"by", line.actor),
+    ]?;
+    Ok(members)
+}

@@ -1,0 +1,97 @@
+// How many lines of each kind there are, and how what they write was answered.
+ghost use Rattle.std.specs.Prelude.{◌≡◌, ◌++◌, IfOk, OnOk, map};
+ghost use Rattle.lens_json.specs.Members.{named};
+ghost use Rattle.lens_parts.specs.Parts.{members_in};
+ghost use Rattle.trace_lines.specs.Reads.{seen};
+ghost use Rattle.lens_figures.specs.Totals as spec;
+
+use crate::objects::add_object;
+use kube_base::NoMemory;
+use lens_json::Member;
+use lens_parts::Object;
+use lens_summary::{Outcome, count, outcomes};
+use std::alloc::Global;
+use trace_lines::Line;
+
+/// An object for each kind of which there are lines, and one for all lines.
+pub(crate) fn totals_in<'a>(
+    alloc: Global,
+    lines: &[Line<&[u8]>],
+) -> Result<Vec<Object<'a>>, NoMemory>
+    ensures { IfOk result (λ objects. map members_in objects.items ≡ spec.totals (map seen lines.now)) }
+{
+    let mut objects = Vec::new(alloc);
+    let kinds = kinds();
+    for word in &kinds {
+        add_kind(&mut objects, alloc, *word, lines)?;
+    }
+    let outcomes = outcomes(alloc, None, lines)?;
+    let members = count_members(alloc, b"all", &outcomes)?;
+    add_object(&mut objects, members)?;
+    Ok(objects)
+}
+
+/// The kinds, in the order in which they are told.
+#[tactic(auto, unfolding(crate::specs::Totals::kinds))]
+fn kinds() -> [&'static [u8]; 19]
+    ensures { map (λ word. word.now) result ≡ spec.kinds }
+{
+    [
+        b"start",
+        b"crash",
+        b"stop",
+        b"end",
+        b"pause",
+        b"lead",
+        b"create-election",
+        b"update-election",
+        b"nodelease",
+        b"status",
+        b"put",
+        b"remove",
+        b"unknown",
+        b"mode",
+        b"zone",
+        b"taint",
+        b"swap",
+        b"untaint",
+        b"evict",
+    ]
+}
+
+/// Adds the object of a kind, where there are lines of it.
+#[tactic(auto, unfolding(crate::specs::Totals::kind_objects))]
+fn add_kind<'a>(
+    objects: &mut Vec<Object<'a>>,
+    alloc: Global,
+    word: &'a [u8],
+    lines: &[Line<&[u8]>],
+) -> Result<(), NoMemory>
+    ensures { OnOk result (map members_in objects.new.items
+        ≡ map members_in objects.old.items ++ spec.kind_objects (map seen lines.now) word.now) }
+{
+    let outcomes = outcomes(alloc, Some(word), lines)?;
+    if outcomes.is_empty() {
+        return Ok(());
+    }
+    let members = count_members(alloc, word, &outcomes)?;
+    add_object(objects, members)
+}
+
+fn count_members<'a>(
+    alloc: Global,
+    word: &'a [u8],
+    outcomes: &[Outcome],
+) -> Result<Vec<Member<'a>>, NoMemory>
+    ensures { IfOk result (λ members. map named members.items ≡ spec.count_members word.now outcomes.now) }
+{
+    let members = vec![in alloc;
+        Member::text(b"kind", word),
+        Member::number(b"lines", outcomes.len() as u64),
+        Member::number(b"written", count(outcomes, Outcome::Written)),
+        Member::number(b"conflict", count(outcomes, Outcome::Conflict)),
+        Member::number(b"absent", count(outcomes, Outcome::Absent)),
+        Member::number(b"exists", count(outcomes, Outcome::Exists)),
+    ]?;
+    Ok(members)
+}
