@@ -1,5 +1,5 @@
 -- The objects of lines: what became of zones and nodes, and the pods that were evicted, as `summary` tells them.
-use Rattle.std.specs.Prelude.{ℕ, List, [], ◌∷◌, codes, filter_map, Option, Some, None, if◌then◌else◌}
+use Rattle.std.specs.Prelude.{ℕ, List, [], ◌∷◌, codes, filter_map, Option, if◌then◌else◌}
 use Rattle.std.specs.Option.{option_map}
 use Rattle.std.specs.Str.{bytes_eq}
 use Rattle.serde_json.specs.Data.{Data, null, string}
