@@ -13,6 +13,7 @@ UNREAD = re.compile(r'^(?:\./)?(?:src|specs)/\S+:\d+:\d+: error: (?!`)')
 NAMED_AWAY = re.compile(r'^(?:note: )?(?:\./)?proofs/.*(?:has no field|is not in scope|has no `|was not admitted)')
 TOLD = re.compile(r'^(?:note: )?\S+:\d+:\d+:')
 PARTS = ('src', 'specs', 'proofs')
+SAYS_LITTLE = 'only a proof file names what the edit took away, so this says little of the contract: change a value and keep the names'
 
 
 def functions(path, text, old):
@@ -74,7 +75,7 @@ def judged(ran, is_whole):
     if ran.returncode == 1 and lines[-1].startswith('logic=not-proved' if is_whole else 'only='):
         told = [line for line in lines if TOLD.match(line) and (': error' in line or line.startswith('note: '))]
         why = next((line for line in told if not NAMED_AWAY.match(line)), None)
-        return 'refused', why or 'a proof file alone names what the edit took away'
+        return 'refused', why or SAYS_LITTLE
     return ('NOT REFUSED', 'it is still proved') if ran.returncode == 0 else (None, lines[-1])
 
 

@@ -322,6 +322,10 @@ class OfBodies(unittest.TestCase):
                                                (1, 'src/a.rt:3:5: error: expected the end', False, 'BAD EDIT'), (2, 'it has no function', False, None)):
             self.assertEqual(bodies.judged(subprocess.CompletedProcess([], status, text), is_whole)[0], wanted)
 
+    def test_a_refusal_by_a_proof_file_alone_says_little(self):
+        ran = subprocess.CompletedProcess([], 1, 'proofs/a.antt:3:5: error: `c` has no field `if`\nonly=1 proved=0')
+        self.assertEqual(bodies.judged(ran, False), ('refused', bodies.SAYS_LITTLE))
+
 
 class OfQueues(unittest.TestCase):
     def test_who_is_proved_when(self):
