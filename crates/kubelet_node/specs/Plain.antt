@@ -20,14 +20,14 @@ use Rattle.kubelet_node.specs.Stands.{Wait, waiting_of}
 
 -- how many calls were begun; number and sending of the call that waits, and what it asked; and the reading from which the
 -- next round may begin
-pub record Kept : Type 0 where
+pub record KubeletState : Type 0 where
   pub calls : ℕ
   pub held : Option (ℕ × ℕ)
   pub wait : Option Wait
   pub timer : ℕ
 
-abbrev pub kept_of : Kubelet → Kept
-kept_of x = record { calls = calls_of x.slot; held = held_call x.slot; wait = waiting_of x.waiting; timer = x.timer.0 }
+abbrev pub state_of : Kubelet → KubeletState
+state_of x = record { calls = calls_of x.slot; held = held_call x.slot; wait = waiting_of x.waiting; timer = x.timer.0 }
 
 -- who it is and its timings stay
 pub record IsSame (old new : Kubelet) : Type 0 where
@@ -42,11 +42,11 @@ abbrev pub asked_of : Option Ask → Option (ℕ × Request)
 asked_of = option_map (λ ask. (ask.number, ask.request))
 
 -- a request gets the next number
-abbrev pub numbered : Kept → Option Request → Option (ℕ × Request)
+abbrev pub numbered : KubeletState → Option Request → Option (ℕ × Request)
 numbered k = option_map (λ request. (next_number k.calls, request))
 
 -- a call has begun, where one is sent
-abbrev pub with_call : (timeout now : ℕ) → Kept → Option Request → Kept
+abbrev pub with_call : (timeout now : ℕ) → KubeletState → Option Request → KubeletState
 with_call timeout now k None = k
 with_call timeout now k (Some request) = record k {
   calls = next_number k.calls;
@@ -58,7 +58,7 @@ with_call timeout now k (Some request) = record k {
 pub record BeginsCall (old : Kubelet) (now : ℕ) (wanted : Request) (new : Kubelet) (ask : Ask) : Type 0 where
   pub number : ask.number ≡ next_number (calls_of old.slot)
   pub request : ask.request ≡ wanted
-  pub kept : kept_of new ≡ with_call old.timing.timeout now (kept_of old) (Some wanted)
+  pub kept : state_of new ≡ with_call old.timing.timeout now (state_of old) (Some wanted)
 
 -- the Lease of the node at a time of day; what a found one has besides stays
 abbrev pub heartbeat_at : Kubelet → (wall : ℕ) → Option Lease → Lease
@@ -88,30 +88,30 @@ abbrev pub has_lost_post : Kubelet → (now : ℕ) → Bool
 has_lost_post x now = is_overdue now x.timing.timeout (held_call x.slot) && is_post_wait (waiting_of x.waiting)
 
 -- a call that has expired is forgotten
-abbrev pub after_expiry : Kubelet → (now : ℕ) → Kept
+abbrev pub after_expiry : Kubelet → (now : ℕ) → KubeletState
 after_expiry x now =
-    cond (is_overdue now x.timing.timeout (held_call x.slot)) (record (kept_of x) { held = None; wait = None }) (kept_of x)
+    cond (is_overdue now x.timing.timeout (held_call x.slot)) (record (state_of x) { held = None; wait = None }) (state_of x)
 
 -- whether no call waits and it is time
-abbrev pub is_due : (now : ℕ) → Kept → Bool
+abbrev pub is_due : (now : ℕ) → KubeletState → Bool
 is_due now k = not (has k.held) && not (nat_lt now k.timer)
 
 -- what is sent after the expiry; after a post that has expired, the Get
-abbrev pub round_in : Kubelet → (now wall : ℕ) → ReadyStatus → (lost : Bool) → Kept → Option Request
+abbrev pub round_in : Kubelet → (now wall : ℕ) → ReadyStatus → (lost : Bool) → KubeletState → Option Request
 round_in x now wall status true k = Some (Get (node_lease x.node))
 round_in x now wall status false k = when (is_due now k) (PostStatus x.node status (record { 0 = wall }))
 
 -- the next round may begin a period after the beginning of this one
-abbrev pub timer_in : Kubelet → (now : ℕ) → (lost : Bool) → Kept → ℕ
+abbrev pub timer_in : Kubelet → (now : ℕ) → (lost : Bool) → KubeletState → ℕ
 timer_in x now true k = k.timer
 timer_in x now false k = cond (is_due now k) (now + period_of x.timing.lease_seconds) k.timer
 
-abbrev pub after_round : Kubelet → (now wall : ℕ) → ReadyStatus → (lost : Bool) → Kept → Kept
+abbrev pub after_round : Kubelet → (now wall : ℕ) → ReadyStatus → (lost : Bool) → KubeletState → KubeletState
 after_round x now wall status lost k =
     with_call x.timing.timeout now (record k { timer = timer_in x now lost k }) (round_in x now wall status lost k)
 
 -- the least reading at which a turn does anything
-abbrev pub wake_in : Kept → ℕ
+abbrev pub wake_in : KubeletState → ℕ
 wake_in k = elim k.wait [ None ↦ k.timer | Some w ↦ w.late ]
 
 -- ---- a reply
@@ -133,11 +133,11 @@ next_at x wall (Get key) reply = found_at x wall key reply
 next_at x wall _ reply = None
 
 -- no call waits
-abbrev pub finished : Kept → Kept
+abbrev pub finished : KubeletState → KubeletState
 finished k = record k { held = None; wait = None }
 
 -- a reply counted that answers what waited
 pub record TakesReply (old : Kubelet) (now wall : ℕ) (w : Wait) (reply : Reply) (new : Kubelet) (ask : Option Ask) : Type 0 where
   pub same : IsSame old new
-  pub asks : asked_of ask ≡ numbered (kept_of old) (next_at old wall w.request reply)
-  pub kept : kept_of new ≡ with_call old.timing.timeout now (finished (kept_of old)) (next_at old wall w.request reply)
+  pub asks : asked_of ask ≡ numbered (state_of old) (next_at old wall w.request reply)
+  pub kept : state_of new ≡ with_call old.timing.timeout now (finished (state_of old)) (next_at old wall w.request reply)

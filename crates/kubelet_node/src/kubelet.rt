@@ -13,7 +13,7 @@ ghost use Rattle.kube_objects.specs.Wire.{send};
 ghost use Rattle.kube_objects.specs.Turns.{expired, with_reply};
 ghost use Rattle.kubelet_node.specs.Moves.{Asked, Expired, IsLeast, Moved, followed, turned, wake_from};
 ghost use Rattle.kubelet_node.specs.Plain.{BeginsCall, IsSame, TakesReply, after_expiry, after_round, asked_of, counts_in};
-ghost use Rattle.kubelet_node.specs.Plain.{found_at, has_lost_post, heartbeat_at, is_post_wait, kept_of, next_at};
+ghost use Rattle.kubelet_node.specs.Plain.{found_at, has_lost_post, heartbeat_at, is_post_wait, state_of, next_at};
 ghost use Rattle.kubelet_node.specs.Plain.{numbered, round_in, wake_in};
 ghost use Rattle.kubelet_node.specs.Requests.{gets_lease};
 ghost use Rattle.kubelet_node.specs.Stands.{CallStands, KubeletStands, Wait, waiting_of};
@@ -48,7 +48,7 @@ impl Kubelet {
         requires timeout { timeout ≤ 600000000000000 }
         ensures node { (result.node ≡ node) × (result.incarnation ≡ incarnation) }
         ensures timing { (result.timing.lease_seconds ≡ lease_seconds) × (result.timing.timeout ≡ timeout) }
-        ensures kept { kept_of result ≡ record { calls = 0; held = None; wait = None; timer = now.0 } }
+        ensures kept { state_of result ≡ record { calls = 0; held = None; wait = None; timer = now.0 } }
         ensures stands { (doc : Doc) (q : Identity) (h : List Entry) (k step : ℕ) → node ≡ node_of doc q.process
             → incarnation ≡ q.incarnation → lease_seconds ≡ doc.settings.node_lease_duration_seconds
             → timeout ≡ call_timeout doc q.process → now.0 ≡ local doc q.process k → begun q h ≡ 0
@@ -74,7 +74,7 @@ impl Kubelet {
         ensures same { IsSame self.old self.new }
         ensures asks { asked_of result ≡ numbered (after_expiry self.old now.0)
             (round_in self.old now.0 wall.0 status (has_lost_post self.old now.0) (after_expiry self.old now.0)) }
-        ensures kept { kept_of self.new ≡ after_round self.old now.0 wall.0 status (has_lost_post self.old now.0)
+        ensures kept { state_of self.new ≡ after_round self.old now.0 wall.0 status (has_lost_post self.old now.0)
             (after_expiry self.old now.0) }
         ensures turns { (doc : Doc) (q : Identity) (h : List Entry) (k : ℕ)
             → KubeletStands doc q h self.old → now.0 ≡ local doc q.process k → wall.0 ≡ wall_at doc q.process k
@@ -120,7 +120,7 @@ impl Kubelet {
 
     /// The least reading at which `on_timer` does anything: that at which the call that waits has expired, or else the timer.
     pub fn wake(&self) -> Local
-        ensures kept { result.0 ≡ wake_in (kept_of self.now) }
+        ensures kept { result.0 ≡ wake_in (state_of self.now) }
         ensures reading { (doc : Doc) (q : Identity) (h : List Entry) → KubeletStands doc q h self.now
             → result.0 ≡ wake_from doc q (round_timer doc q h) (call_in q h) }
         ensures least { (doc : Doc) (q : Identity) (h : List Entry) (k : ℕ) → KubeletStands doc q h self.now
@@ -147,7 +147,7 @@ impl Kubelet {
         requires now { now.0 ≤ most_local }
         ensures same { IsSame self.old self.new }
         ensures lost { result ≡ has_lost_post self.old now.0 }
-        ensures kept { kept_of self.new ≡ after_expiry self.old now.0 }
+        ensures kept { state_of self.new ≡ after_expiry self.old now.0 }
         ensures history { (doc : Doc) (q : Identity) (h : List Entry) (k : ℕ)
             → KubeletStands doc q h self.old → now.0 ≡ local doc q.process k
             → Expired doc k q (expired doc k q h) self.new result }
@@ -165,8 +165,8 @@ impl Kubelet {
     fn round(&mut self, lost: bool, now: Local, wall: Wall, status: ReadyStatus) -> Option<Ask>
         requires now { now.0 ≤ most_local }
         ensures same { IsSame self.old self.new }
-        ensures asks { asked_of result ≡ numbered (kept_of self.old) (round_in self.old now.0 wall.0 status lost (kept_of self.old)) }
-        ensures kept { kept_of self.new ≡ after_round self.old now.0 wall.0 status lost (kept_of self.old) }
+        ensures asks { asked_of result ≡ numbered (state_of self.old) (round_in self.old now.0 wall.0 status lost (state_of self.old)) }
+        ensures kept { state_of self.new ≡ after_round self.old now.0 wall.0 status lost (state_of self.old) }
         ensures history { (doc : Doc) (q : Identity) (h : List Entry) (k : ℕ)
             → Expired doc k q h self.old lost → now.0 ≡ local doc q.process k → wall.0 ≡ wall_at doc q.process k
             → status ≡ posted_status doc q.process h → begun q h + 1 < 2 ^ 64

@@ -10,19 +10,19 @@ use Rattle.kube_objects.specs.Newest.{or_else}
 use Rattle.leader_elector.specs.declared.elector.Elector.{Elector}
 use Rattle.leader_elector.specs.declared.follow.Follow as code
 use Rattle.leader_elector.specs.Calls.{TakesReply, is_success}
-use Rattle.leader_elector.specs.Plain.{BeginsCall, IsSame, Kept, Receives, after_reply, asked_next, follow_in, kept_of, numbered, with_call}
+use Rattle.leader_elector.specs.Plain.{BeginsCall, IsSame, ElectorState, Receives, after_reply, asked_next, follow_in, state_of, numbered, with_call}
 use Rattle.leader_elector.specs.Stands.{Wait, follow_of}
 
-pub follow-is : {old new : Elector} {m : Moment} {led : Bool} {w : Wait} {reply : Reply} (f : code.Follow) → Receives old m led w reply new (Some f) → follow_in old m w reply (kept_of old) ≡ follow_of f
+pub follow-is : {old new : Elector} {m : Moment} {led : Bool} {w : Wait} {reply : Reply} (f : code.Follow) → Receives old m led w reply new (Some f) → follow_in old m w reply (state_of old) ≡ follow_of f
 follow-is f r = sym (ap (or_else Fails) r.follow)
 
 -- nothing is sent
 pub takes-silent : {old new : Elector} {m : Moment} {led : Bool} {w : Wait} {reply : Reply} (f : code.Follow) (x : Follow) → follow_of f ≡ x → asked_next x ≡ None
     → Receives old m led w reply new (Some f) → TakesReply led old m w reply new (is_success x) None
 takes-silent {old} {new} {m} {led} {w} {reply} f x is none r =
-    let k = after_reply old m led w reply (kept_of old) in
-    let follow : follow_in old m w reply (kept_of old) ≡ x = follow-is f r ∙ is in
-    let asked : asked_next (follow_in old m w reply (kept_of old)) ≡ None = ap asked_next follow ∙ none in
+    let k = after_reply old m led w reply (state_of old) in
+    let follow : follow_in old m w reply (state_of old) ≡ x = follow-is f r ∙ is in
+    let asked : asked_next (follow_in old m w reply (state_of old)) ≡ None = ap asked_next follow ∙ none in
     record {
       same = r.same;
       succeeds = ap is_success follow;
@@ -34,13 +34,13 @@ takes-silent {old} {new} {m} {led} {w} {reply} f x is none r =
 pub takes-ask : {old middle new : Elector} {m : Moment} {led : Bool} {w : Wait} {reply : Reply} (f : code.Follow) (request : Request) (ask : Ask) → follow_of f ≡ Asks request
     → Receives old m led w reply middle (Some f) → IsSame middle new → BeginsCall middle m.now (Plain, request) new ask → TakesReply led old m w reply new false (Some ask)
 takes-ask {old} {middle} {new} {m} {led} {w} {reply} f request ask is r same b =
-    let k = after_reply old m led w reply (kept_of old) in
-    let follow : follow_in old m w reply (kept_of old) ≡ Asks request = follow-is f r ∙ is in
-    let asked : asked_next (follow_in old m w reply (kept_of old)) ≡ Some (Plain, request) = ap asked_next follow in
+    let k = after_reply old m led w reply (state_of old) in
+    let follow : follow_in old m w reply (state_of old) ≡ Asks request = follow-is f r ∙ is in
+    let asked : asked_next (follow_in old m w reply (state_of old)) ≡ Some (Plain, request) = ap asked_next follow in
     record {
       same = record { me = same.me ∙ r.same.me; incarnation = same.incarnation ∙ r.same.incarnation; timing = same.timing ∙ r.same.timing };
       succeeds = ap is_success follow;
-      asks = (λ i. Some ((b.number ∙ ap (λ (k : Kept). next_number k.calls) r.kept) i, b.request i)) ∙ sym (ap (numbered k) asked);
+      asks = (λ i. Some ((b.number ∙ ap (λ (k : ElectorState). next_number k.calls) r.kept) i, b.request i)) ∙ sym (ap (numbered k) asked);
       kept = b.kept ∙ (λ i. with_call (r.same.timing i) m.now (r.kept i) (Some (Plain, request))) ∙ sym (ap (with_call old.timing m.now k) asked);
     }
 

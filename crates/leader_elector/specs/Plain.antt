@@ -20,7 +20,7 @@ use Rattle.leader_elector.specs.Moves.{last_of}
 
 -- how many calls were begun; number and sending of the call that waits, and what it asked; the version and record last
 -- shown, and the reading at which this version was first seen; and the reading at which the next attempt starts
-pub record Kept : Type 0 where
+pub record ElectorState : Type 0 where
   pub calls : ℕ
   pub held : Option (ℕ × ℕ)
   pub wait : Option Wait
@@ -28,8 +28,8 @@ pub record Kept : Type 0 where
   pub observed : ℕ
   pub timer : ℕ
 
-abbrev pub kept_of : Elector → Kept
-kept_of e = record {
+abbrev pub state_of : Elector → ElectorState
+state_of e = record {
   calls = calls_of e.slot;
   held = held_call e.slot;
   wait = waiting_of e.waiting;
@@ -57,11 +57,11 @@ abbrev pub asked_of : Option Ask → Option (ℕ × Request)
 asked_of = option_map (λ ask. (ask.number, ask.request))
 
 -- a request gets the next number
-abbrev pub numbered : Kept → Option (CallKind × Request) → Option (ℕ × Request)
+abbrev pub numbered : ElectorState → Option (CallKind × Request) → Option (ℕ × Request)
 numbered k = option_map (λ x. (next_number k.calls, x.1))
 
 -- a call has begun, where one is sent
-abbrev pub with_call : Timing → ℕ → Kept → Option (CallKind × Request) → Kept
+abbrev pub with_call : Timing → ℕ → ElectorState → Option (CallKind × Request) → ElectorState
 with_call t now k None = k
 with_call t now k (Some x) = record k {
   calls = next_number k.calls;
@@ -73,46 +73,46 @@ with_call t now k (Some x) = record k {
 pub record BeginsCall (old : Elector) (now : ℕ) (x : CallKind × Request) (new : Elector) (ask : Ask) : Type 0 where
   pub number : ask.number ≡ next_number (calls_of old.slot)
   pub request : ask.request ≡ x.1
-  pub kept : kept_of new ≡ with_call old.timing now (kept_of old) (Some x)
+  pub kept : state_of new ≡ with_call old.timing now (state_of old) (Some x)
 
 -- ---- a turn
 
 -- whether an update without a Get has expired
-abbrev pub has_lost_update : Timing → ℕ → Kept → Bool
+abbrev pub has_lost_update : Timing → ℕ → ElectorState → Bool
 has_lost_update t now k = is_overdue now t.timeout k.held && is_fast_wait k.wait
 
 -- a call that has expired is forgotten, which is a failure but for an update without a Get
-abbrev pub after_expiry : Timing → ℕ → Kept → Kept
+abbrev pub after_expiry : Timing → ℕ → ElectorState → ElectorState
 after_expiry t now k =
     cond (is_overdue now t.timeout k.held)
     (record k { held = None; wait = None; timer = cond (is_fast_wait k.wait) k.timer (now + t.retry) })
     k
 
 -- what begins an attempt: a leader may renew without a Get
-abbrev pub begun_in : Elector → Moment → (led : Bool) → Kept → CallKind × Request
+abbrev pub begun_in : Elector → Moment → (led : Bool) → ElectorState → CallKind × Request
 begun_in e m led k = cond (e.timing.fast && led) (attempt_from (identity_of e) m k.observed k.shown) (Plain, Get election)
 
 -- an attempt begins where no call waits and it is time
-abbrev pub attempt_in : Elector → Moment → (led : Bool) → Kept → Option (CallKind × Request)
+abbrev pub attempt_in : Elector → Moment → (led : Bool) → ElectorState → Option (CallKind × Request)
 attempt_in e m led k = when (not (has k.held) && not (nat_lt m.now k.timer)) (begun_in e m led k)
 
 -- what is sent after the expiry; after an update without a Get that has expired, the Get
-abbrev pub turn_in : Elector → Moment → (lost led : Bool) → Kept → Option (CallKind × Request)
+abbrev pub turn_in : Elector → Moment → (lost led : Bool) → ElectorState → Option (CallKind × Request)
 turn_in e m lost led k = cond lost (Some (Plain, Get election)) (attempt_in e m led k)
 
 -- the least reading at which a turn does anything
-abbrev pub wake_in : Kept → ℕ
+abbrev pub wake_in : ElectorState → ℕ
 wake_in k = elim k.wait [ None ↦ k.timer | Some w ↦ w.late ]
 
 -- ---- a reply that counts
 
-abbrev pub observed_after : ℕ → Wait → Reply → Kept → ℕ
+abbrev pub observed_after : ℕ → Wait → Reply → ElectorState → ℕ
 observed_after now w reply k = or_else k.observed (newly (told w.request reply) k.shown now)
 
-abbrev pub follow_in : Elector → Moment → Wait → Reply → Kept → Follow
+abbrev pub follow_in : Elector → Moment → Wait → Reply → ElectorState → Follow
 follow_in e m w reply k = follow (identity_of e) m (observed_after m.now w reply k) w.kind w.request reply
 
-abbrev pub after_reply : Elector → Moment → (led : Bool) → Wait → Reply → Kept → Kept
+abbrev pub after_reply : Elector → Moment → (led : Bool) → Wait → Reply → ElectorState → ElectorState
 after_reply e m led w reply k = record k {
   held = None;
   wait = None;
@@ -137,5 +137,5 @@ follow_keeps_kind (Succeeds version) = true
 pub record Receives (old : Elector) (m : Moment) (led : Bool) (w : Wait) (reply : Reply) (new : Elector)
     (answered : Option code.Follow) : Type 0 where
   pub same : IsSame old new
-  pub follow : option_map follow_of answered ≡ Some (follow_in old m w reply (kept_of old))
-  pub kept : kept_of new ≡ after_reply old m led w reply (kept_of old)
+  pub follow : option_map follow_of answered ≡ Some (follow_in old m w reply (state_of old))
+  pub kept : state_of new ≡ after_reply old m led w reply (state_of old)

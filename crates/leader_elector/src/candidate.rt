@@ -12,7 +12,7 @@ ghost use Rattle.leader_elector.specs.Moves.{CandidateHears, CandidateReplies, C
 ghost use Rattle.leader_elector.specs.Moves.{becomes_leader, candidate_turn, reacted, wake_from};
 ghost use Rattle.leader_elector.specs.Stands.{CandidateStands, IsNew, IsTimingOf};
 ghost use Rattle.leader_elector.specs.Calls.{CandidateFollows, CandidateTakesReply, CandidateTakesTurn, TakesTurn, counts_in};
-ghost use Rattle.leader_elector.specs.Plain.{identity_of, kept_of, moment_of, wake_in};
+ghost use Rattle.leader_elector.specs.Plain.{identity_of, state_of, moment_of, wake_in};
 ghost use Rattle.leader_elector.specs.Stands.{Wait, waiting_of};
 ghost use Rattle.leader_elector.specs.declared.candidate.CandidateNext.TheVariants as next;
 
@@ -49,7 +49,7 @@ impl Candidate {
     /// A candidate that has sent nothing. Its first attempt starts at its next turn.
     pub fn start(me: ProcId, incarnation: u32, timing: Timing, now: Local) -> Candidate
         ensures me { (result.elector.me ≡ me) × (result.elector.incarnation ≡ incarnation) × (result.elector.timing ≡ timing) }
-        ensures kept { kept_of result.elector ≡ record { calls = 0; held = None; wait = None; shown = None; observed = 0; timer = now.0 } }
+        ensures kept { state_of result.elector ≡ record { calls = 0; held = None; wait = None; shown = None; observed = 0; timer = now.0 } }
         ensures stands { (doc : Doc) (q : Identity) (h : List Entry) (k step : ℕ) → me.0 ≡ q.process
             → incarnation ≡ q.incarnation → IsTimingOf doc q.process timing
             → now.0 ≡ local doc q.process k → IsNew doc q h
@@ -155,7 +155,7 @@ impl Candidate {
 
     /// The least reading at which `on_timer` does anything: that at which the call that waits has expired, or else the timer.
     pub fn wake(&self) -> Local
-        ensures kept { result.0 ≡ wake_in (kept_of self.now.elector) }
+        ensures kept { result.0 ≡ wake_in (state_of self.now.elector) }
         ensures reading { (doc : Doc) (q : Identity) (h : List Entry)
             → CandidateStands doc q h self.now
             → result.0 ≡ wake_from doc q (timer doc q h) (call_in q h) }

@@ -17,7 +17,7 @@ ghost use Rattle.leader_elector.specs.Moves.{Asked, Received, Tried, last_of, wa
 ghost use Rattle.leader_elector.specs.Stands.{ElectorStands, IsNew, IsSettled, IsTimingOf, follow_of, is_fast_wait, kind_of, observed_of};
 ghost use Rattle.leader_elector.specs.Stands.{shown_of, waiting_of};
 ghost use Rattle.leader_elector.specs.Plain.{IsSame, after_expiry, after_reply, asked_of, attempt_in, follow_in, follow_keeps_kind};
-ghost use Rattle.leader_elector.specs.Plain.{has_lost_update, identity_of, kept_of, moment_of, numbered, turn_in, wake_in, with_call};
+ghost use Rattle.leader_elector.specs.Plain.{has_lost_update, identity_of, state_of, moment_of, numbered, turn_in, wake_in, with_call};
 ghost use Rattle.leader_elector.specs.Plain.{BeginsCall, Receives, begun_in};
 ghost use Rattle.leader_elector.specs.Stands.{Wait};
 
@@ -44,7 +44,7 @@ pub(crate) struct Elector {
 impl Elector {
     pub(crate) fn start(me: ProcId, incarnation: u32, timing: Timing, now: Local) -> Elector
         ensures me { (result.me ≡ me) × (result.incarnation ≡ incarnation) × (result.timing ≡ timing) }
-        ensures kept { kept_of result ≡ record { calls = 0; held = None; wait = None; shown = None; observed = 0; timer = now.0 } }
+        ensures kept { state_of result ≡ record { calls = 0; held = None; wait = None; shown = None; observed = 0; timer = now.0 } }
         ensures history { (doc : Doc) (q : Identity) (h : List Entry) (k step : ℕ) → me.0 ≡ q.process
             → incarnation ≡ q.incarnation → IsTimingOf doc q.process timing
             → now.0 ≡ local doc q.process k → IsNew doc q h
@@ -67,8 +67,8 @@ impl Elector {
     pub(crate) fn expire(&mut self, now: Local) -> bool
         requires now { now.0 ≤ most_local }
         ensures same { IsSame self.old self.new }
-        ensures lost { result ≡ has_lost_update self.old.timing now.0 (kept_of self.old) }
-        ensures kept { kept_of self.new ≡ after_expiry self.old.timing now.0 (kept_of self.old) }
+        ensures lost { result ≡ has_lost_update self.old.timing now.0 (state_of self.old) }
+        ensures kept { state_of self.new ≡ after_expiry self.old.timing now.0 (state_of self.old) }
         ensures stands { (doc : Doc) (q : Identity) (h : List Entry) (k : ℕ)
             → ElectorStands doc q h self.old → now.0 ≡ local doc q.process k
             → ElectorStands doc q (expired doc k q h) self.new }
@@ -101,10 +101,10 @@ impl Elector {
     ) -> Option<Ask>
         requires now { now.0 ≤ most_local }
         ensures same { IsSame self.old self.new }
-        ensures asks { asked_of result ≡ numbered (kept_of self.old)
-            (turn_in self.old (moment_of self.old now.0 wall.0) expired led (kept_of self.old)) }
-        ensures kept { kept_of self.new ≡ with_call self.old.timing now.0 (kept_of self.old)
-            (turn_in self.old (moment_of self.old now.0 wall.0) expired led (kept_of self.old)) }
+        ensures asks { asked_of result ≡ numbered (state_of self.old)
+            (turn_in self.old (moment_of self.old now.0 wall.0) expired led (state_of self.old)) }
+        ensures kept { state_of self.new ≡ with_call self.old.timing now.0 (state_of self.old)
+            (turn_in self.old (moment_of self.old now.0 wall.0) expired led (state_of self.old)) }
         ensures history { (doc : Doc) (q : Identity) (h : List Entry) (k : ℕ)
             → ElectorStands doc q h self.old → leads q h ≡ led
             → expired ≡ is_fast_call (just_expired q k h)
@@ -126,7 +126,7 @@ impl Elector {
         requires now { now.0 ≤ most_local }
         ensures same { IsSame self.old self.new }
         ensures asks { BeginsCall self.old now.0 (begun_in self.old (moment_of self.old now.0 wall.0) led
-            (kept_of self.old)) self.new result }
+            (state_of self.old)) self.new result }
         ensures history { (doc : Doc) (q : Identity) (h : List Entry) (k : ℕ)
             → ElectorStands doc q h self.old → leads q h ≡ led
             → now.0 ≡ local doc q.process k → wall.0 ≡ wall_at doc q.process k
@@ -144,7 +144,7 @@ impl Elector {
         requires now { now.0 ≤ most_local }
         ensures same { IsSame self.old self.new }
         ensures asks { BeginsCall self.old now.0 (attempt_from (identity_of self.old) (moment_of self.old now.0 wall.0)
-            (kept_of self.old).observed (kept_of self.old).shown) self.new result }
+            (state_of self.old).observed (state_of self.old).shown) self.new result }
         ensures history { (doc : Doc) (q : Identity) (h : List Entry) (k : ℕ)
             → ElectorStands doc q h self.old
             → now.0 ≡ local doc q.process k → wall.0 ≡ wall_at doc q.process k
@@ -315,7 +315,7 @@ impl Elector {
 
     /// The least reading at which a turn does anything, a leader's deadline aside.
     pub(crate) fn wake(&self) -> Local
-        ensures kept { result.0 ≡ wake_in (kept_of self.now) }
+        ensures kept { result.0 ≡ wake_in (state_of self.now) }
         ensures history { (doc : Doc) (q : Identity) (h : List Entry) → ElectorStands doc q h self.now
             → result.0 ≡ wake_from doc q (timer doc q h) (call_in q h) }
     {

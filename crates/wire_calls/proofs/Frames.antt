@@ -9,7 +9,7 @@ use Rattle.kube_objects.specs.Newest.{added, or_else}
 use Rattle.kube_objects.specs.Wire.{Sent, Back, sent_of, back_of, of_event, in_force, request_delay, reply_delay, request_delay_of, reply_delay_of, request_loss_of, reply_loss_of}
 use Rattle.wire_calls.specs.declared.wire.Wire.{Wire}
 use Rattle.wire_calls.specs.InFlight.{pending}
-use Rattle.wire_calls.specs.WireStands.{WireStands, IsDelay, as_arrived, as_delivered, link_in, is_of_wire, wire_entries}
+use Rattle.wire_calls.specs.WireStands.{WireStands, IsDelay, as_sent, as_back, link_in, is_of_wire, wire_entries}
 use Rattle.wire_calls.proofs.Orders.{in_order-next}
 
 -- from the end of a beat to the next one
@@ -18,8 +18,8 @@ wire-next-beat processes k h w s =
     record {
       count = s.count;
       links = s.links;
-      requests = in_order-next as_arrived k (λ j. requests_due j h) (pending w.requests) s.requests;
-      replies = in_order-next as_delivered k (λ j. replies_due j h) (pending w.replies) s.replies;
+      requests = in_order-next as_sent k (λ j. requests_due j h) (pending w.requests) s.requests;
+      replies = in_order-next as_back k (λ j. replies_due j h) (pending w.replies) s.replies;
       live_requests = s.live_requests;
       live_replies = s.live_replies;
       delays = s.delays;
@@ -53,12 +53,12 @@ wire-beside processes k arriving coming h e w unseen s =
       requests = record {
         before = s.requests.before;
         present = s.requests.present;
-        after = λ j above. s.requests.after j above ∙ ap (λ o. map as_arrived (and_request j o (requests_due j h))) (sym b.sent);
+        after = λ j above. s.requests.after j above ∙ ap (λ o. map as_sent (and_request j o (requests_due j h))) (sym b.sent);
       };
       replies = record {
         before = s.replies.before;
         present = s.replies.present;
-        after = λ j above. s.replies.after j above ∙ ap (λ o. map as_delivered (and_reply j o (replies_due j h))) (sym b.back);
+        after = λ j above. s.replies.after j above ∙ ap (λ o. map as_back (and_reply j o (replies_due j h))) (sym b.back);
       };
       live_requests = s.live_requests;
       live_replies = s.live_replies;

@@ -7,7 +7,7 @@ use Rattle.kube_objects.specs.InFlight.{requests_due, replies_due}
 use Rattle.kube_objects.specs.Wire.{Sent, Back}
 use Rattle.wire_calls.specs.declared.wire.Wire.{Wire}
 use Rattle.wire_calls.specs.InFlight.{pending, IsLeast}
-use Rattle.wire_calls.specs.WireStands.{WireStands, IsQuiet, NextIs, as_arrived, as_delivered}
+use Rattle.wire_calls.specs.WireStands.{WireStands, IsQuiet, NextIs, as_sent, as_back}
 use Rattle.wire_calls.specs.InFlight.{earlier_of}
 use Rattle.wire_calls.proofs.Orders.{quiet-kept, kept-quiet}
 
@@ -16,15 +16,15 @@ next-is processes k arriving coming h w a b s = by_least a b
   where
     quiet : (j : ℕ) → pending w.requests j ≡ [] → pending w.replies j ≡ [] → IsQuiet k arriving coming h j
     quiet j x y = (
-      quiet-kept as_arrived k arriving (λ i. requests_due i h) (pending w.requests) s.requests j x,
-      quiet-kept as_delivered k coming (λ i. replies_due i h) (pending w.replies) s.replies j y,
+      quiet-kept as_sent k arriving (λ i. requests_due i h) (pending w.requests) s.requests j x,
+      quiet-kept as_back k coming (λ i. replies_due i h) (pending w.replies) s.replies j y,
     )
 
     no_request : (j : ℕ) → IsQuiet k arriving coming h j → pending w.requests j ≡ []
-    no_request j q = kept-quiet as_arrived k arriving (λ i. requests_due i h) (pending w.requests) s.requests j q.0
+    no_request j q = kept-quiet as_sent k arriving (λ i. requests_due i h) (pending w.requests) s.requests j q.0
 
     no_reply : (j : ℕ) → IsQuiet k arriving coming h j → pending w.replies j ≡ []
-    no_reply j q = kept-quiet as_delivered k coming (λ i. replies_due i h) (pending w.replies) s.replies j q.1
+    no_reply j q = kept-quiet as_back k coming (λ i. replies_due i h) (pending w.replies) s.replies j q.1
 
     by_test : (x y : Beat) (t : Bool) → nat_lt y.0 x.0 ≡ t → IsLeast (pending w.requests) (Some x) → IsLeast (pending w.replies) (Some y) → NextIs k arriving coming h (cond t (Some y) (Some x))
     by_test x y true is l m = (λ q. m.0 (no_reply y.0 q), λ j below. quiet j (l.1 j (let lt : y.0 < x.0 = ltb-true y.0 x.0 is in omega (arith, lt, below))) (m.1 j below))

@@ -8,26 +8,26 @@ use Rattle.kube_objects.specs.Newest.{count}
 use Rattle.kube_objects.specs.Wire.{Sent, Back, request_delay, reply_delay, loses_requests, loses_replies}
 use Rattle.wire_calls.specs.InFlight.{pending, IsLive}
 use Rattle.wire_calls.specs.declared.link.Link.{Link}
-use Rattle.wire_calls.specs.declared.message.Arrived.{Arrived}
-use Rattle.wire_calls.specs.declared.message.Delivered.{Delivered}
+use Rattle.wire_calls.specs.declared.message.Sent as code_sent
+use Rattle.wire_calls.specs.declared.message.Back as code_back
 use Rattle.wire_calls.specs.declared.wire.Wire.{Wire}
 
 -- ---- messages as the code keeps them
 
-abbrev pub as_arrived : Sent → Arrived
-as_arrived s =
+abbrev pub as_sent : Sent → code_sent.Sent
+as_sent s =
     record { who = record { 0 = s.who.process }; incarnation = s.who.incarnation; number = s.call.number; request = s.call.request }
 
-abbrev pub as_delivered : Back → Delivered
-as_delivered b = record { who = record { 0 = b.who.process }; incarnation = b.who.incarnation; number = b.call.number; reply = b.reply }
+abbrev pub as_back : Back → code_back.Back
+as_back b = record { who = record { 0 = b.who.process }; incarnation = b.who.incarnation; number = b.call.number; reply = b.reply }
 
-abbrev pub arrived_of : Option Sent → Option Arrived
-arrived_of None = None
-arrived_of (Some s) = Some (as_arrived s)
+abbrev pub next_sent : Option Sent → Option code_sent.Sent
+next_sent None = None
+next_sent (Some s) = Some (as_sent s)
 
-abbrev pub delivered_of : Option Back → Option Delivered
-delivered_of None = None
-delivered_of (Some b) = Some (as_delivered b)
+abbrev pub next_back : Option Back → Option code_back.Back
+next_back None = None
+next_back (Some b) = Some (as_back b)
 
 -- ---- delays and losses
 
@@ -68,8 +68,8 @@ pub record InOrder {S T : Type 0} (as_kept : S → T) (k : ℕ) (due : List S) (
 pub record WireStands (processes k : ℕ) (arriving : List Sent) (coming : List Back) (h : List Entry) (w : Wire) : Type 0 where
   pub count : length w.links.items ≡ processes
   pub links : (p : ℕ) → link_at w.links.items p ≡ link_in p h
-  pub requests : InOrder as_arrived k arriving (λ j. requests_due j h) (pending w.requests)
-  pub replies : InOrder as_delivered k coming (λ j. replies_due j h) (pending w.replies)
+  pub requests : InOrder as_sent k arriving (λ j. requests_due j h) (pending w.requests)
+  pub replies : InOrder as_back k coming (λ j. replies_due j h) (pending w.replies)
   pub live_requests : IsLive w.requests
   pub live_replies : IsLive w.replies
   pub delays : (p : ℕ) → IsDelay (request_delay p h) × IsDelay (reply_delay p h)

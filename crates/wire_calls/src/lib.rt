@@ -9,5 +9,5 @@ mod queues;
 mod tests;
 mod wire;
 
-pub use message::{Arrived, Delivered, Fate};
+pub use message::{Sent, Back, Fate};
 pub use wire::Wire;

@@ -9,18 +9,18 @@ pub enum Fate {
     InFlight(Beat),
 }
 
-/// A request of a process in an incarnation, by the number of its call.
+/// A request on its way: of a process in an incarnation, by the number of its call.
 #[derive(Clone, Copy, Debug, PartialEq, Eq)]
-pub struct Arrived {
+pub struct Sent {
     pub who: ProcId,
     pub incarnation: u32,
     pub number: u64,
     pub request: Request,
 }
 
-/// A reply to a process in an incarnation, by the number of its call.
+/// A reply on its way back: to a process in an incarnation, by the number of its call.
 #[derive(Clone, Copy, Debug, PartialEq, Eq)]
-pub struct Delivered {
+pub struct Back {
     pub who: ProcId,
     pub incarnation: u32,
     pub number: u64,

@@ -15,10 +15,10 @@ use Rattle.kube_objects.specs.Wire.{Sent, Back, reply_arrival}
 use Rattle.history.specs.Printed.{deeds_of, answer_act}
 use Rattle.history.specs.Steps.{answered, delivered, elector_turn, starts_below, ticks, turn, turns, controller_turn, kubelet_turn, unpaused_turn, answer_all, deliver_all}
 use Rattle.object_store.specs.Stands.{StoreStands}
-use Rattle.wire_calls.specs.declared.message.Arrived.{Arrived}
-use Rattle.wire_calls.specs.declared.message.Delivered.{Delivered}
+use Rattle.wire_calls.specs.declared.message.Sent as code_sent
+use Rattle.wire_calls.specs.declared.message.Back as code_back
 use Rattle.wire_calls.specs.InFlight.{first_of, rest_of}
-use Rattle.wire_calls.specs.WireStands.{WireStands, arrived_of, as_arrived, delivered_of, as_delivered}
+use Rattle.wire_calls.specs.WireStands.{WireStands, next_sent, as_sent, next_back, as_back}
 use Rattle.world_core.specs.declared.state.State.{State}
 use Rattle.world_process.specs.InForce.{InForceStands}
 use Rattle.world_process.specs.Moves.{own_turn_as}
@@ -40,29 +40,29 @@ pub record Answering (doc : Doc) (k : ℕ) (before : List Deed) (arriving : List
   pub same : answer_all doc k left now ≡ answer_all doc k arriving h
 
 -- the store and the wire did what a request that arrived asks
-pub record Serves (doc : Doc) (k : ℕ) (rest : List Sent) (coming : List Back) (h : List Entry) (deeds new : List Deed) (v : State) (r : Reply) (x : Arrived) : Type 0 where
+pub record Serves (doc : Doc) (k : ℕ) (rest : List Sent) (coming : List Back) (h : List Entry) (deeds new : List Deed) (v : State) (r : Reply) (x : code_sent.Sent) : Type 0 where
   pub answers : r ≡ answer x.request h
   pub store : (e : Entry) → write_of e.fact ≡ request_write x.request (written x.request h) → StoreStands (e ∷ h) v.store
   pub wire : (q : Identity) (call : Call) (wrote : Option Object) → q ≡ identity x.who.0 x.incarnation → call.number ≡ x.number → q.process < processes doc → WireStands (processes doc) k rest coming (entry k 2 q (Answers call r (reply_arrival doc q.process k h) wrote) ∷ h) v.wire
   pub told : new ≡ deeds ++ deeds_of k (actor.Proc x.who x.incarnation) (answer_act x.request r)
 
 serve-one : (doc : Doc) (k : ℕ) (before deeds new : List Deed) (s : Sent) (left rest : List Sent) (coming : List Back) (h : List Entry) (w v : State) (r : Reply) → MidBeat doc k before left coming h w deeds → IsKnown (processes doc) h s.who → Unmoved w v → v.in_force ≡ w.in_force →
-    Serves doc k rest coming h deeds new v r (as_arrived s) → MidBeat doc k before rest coming (answered doc k s h) v new
+    Serves doc k rest coming h deeds new v r (as_sent s) → MidBeat doc k before rest coming (answered doc k s h) v new
 serve-one doc k before deeds new s left rest coming h w v r run known unmoved in_force serves =
     answered-running doc k before deeds new left rest coming s h w v run known unmoved in_force
     (serves.store (entry k 2 s.who (Answers s.call (answer s.call.request h) (reply_arrival doc s.who.process k h) (written s.call.request h))) refl)
     (subst (λ x. WireStands (processes doc) k rest coming (entry k 2 s.who (Answers s.call x (reply_arrival doc s.who.process k h) (written s.call.request h)) ∷ h) v.wire) serves.answers (serves.wire s.who s.call (written s.call.request h) refl refl known.within))
     (serves.told ∙ ap (λ x. deeds ++ deeds_of k (actor_of s.who) (answer_act s.call.request x)) serves.answers)
 
-pub answering-more : (doc : Doc) (k : ℕ) (before deeds new : List Deed) (arriving : List Sent) (coming : List Back) (h : List Entry) (w v : State) (r : Reply) (x : Arrived) → (a : Answering doc k before arriving coming h w deeds) →
-    arrived_of (first_of a.left) ≡ Some x → Unmoved w v → v.in_force ≡ w.in_force → Serves doc k (rest_of a.left) coming a.now deeds new v r x → Answering doc k before arriving coming h v new
+pub answering-more : (doc : Doc) (k : ℕ) (before deeds new : List Deed) (arriving : List Sent) (coming : List Back) (h : List Entry) (w v : State) (r : Reply) (x : code_sent.Sent) → (a : Answering doc k before arriving coming h w deeds) →
+    next_sent (first_of a.left) ≡ Some x → Unmoved w v → v.in_force ≡ w.in_force → Serves doc k (rest_of a.left) coming a.now deeds new v r x → Answering doc k before arriving coming h v new
 answering-more doc k before deeds new arriving coming h w v r x a first unmoved in_force serves = by_left a.left a.running a.known a.same first serves
   where
-    by_left : (left : List Sent) → MidBeat doc k before left coming a.now w deeds → SentByKnown (processes doc) a.now left → answer_all doc k left a.now ≡ answer_all doc k arriving h → arrived_of (first_of left) ≡ Some x →
+    by_left : (left : List Sent) → MidBeat doc k before left coming a.now w deeds → SentByKnown (processes doc) a.now left → answer_all doc k left a.now ≡ answer_all doc k arriving h → next_sent (first_of left) ≡ Some x →
         Serves doc k (rest_of left) coming a.now deeds new v r x → Answering doc k before arriving coming h v new
     by_left [] run known same first serves = cc
     by_left (s ∷ rest) run known same first serves =
-        let is : x ≡ as_arrived s = cc in
+        let is : x ≡ as_sent s = cc in
         record {
           now = answered doc k s a.now;
           left = rest;
@@ -72,11 +72,11 @@ answering-more doc k before deeds new arriving coming h w v r x a first unmoved 
         }
 
 -- nothing is left
-pub answering-done : (doc : Doc) (k : ℕ) (before deeds : List Deed) (arriving : List Sent) (coming : List Back) (h : List Entry) (w v : State) → (a : Answering doc k before arriving coming h w deeds) → arrived_of (first_of a.left) ≡ None →
+pub answering-done : (doc : Doc) (k : ℕ) (before deeds : List Deed) (arriving : List Sent) (coming : List Back) (h : List Entry) (w v : State) → (a : Answering doc k before arriving coming h w deeds) → next_sent (first_of a.left) ≡ None →
     (MidBeat doc k before a.left coming a.now w deeds → MidBeat doc k before (rest_of a.left) coming a.now v deeds) → MidBeat doc k before [] coming (answer_all doc k arriving h) v deeds
 answering-done doc k before deeds arriving coming h w v a none taken = by_left a.left a.running a.same none taken
   where
-    by_left : (left : List Sent) → MidBeat doc k before left coming a.now w deeds → answer_all doc k left a.now ≡ answer_all doc k arriving h → arrived_of (first_of left) ≡ None →
+    by_left : (left : List Sent) → MidBeat doc k before left coming a.now w deeds → answer_all doc k left a.now ≡ answer_all doc k arriving h → next_sent (first_of left) ≡ None →
         (MidBeat doc k before left coming a.now w deeds → MidBeat doc k before (rest_of left) coming a.now v deeds) → MidBeat doc k before [] coming (answer_all doc k arriving h) v deeds
     by_left [] run same none taken = subst (λ g. MidBeat doc k before [] coming g v deeds) same (taken run)
     by_left (s ∷ rest) run same none taken = cc
@@ -113,15 +113,15 @@ pub grows-deliver_all : (doc : Doc) (k : ℕ) (bs : List Back) (h : List Entry) 
 grows-deliver_all doc k [] h = grows-same h
 grows-deliver_all doc k (b ∷ bs) h = grows-on h (delivered doc k b h) (deliver_all doc k bs (delivered doc k b h)) (grows-delivered doc k b h) (grows-deliver_all doc k bs (delivered doc k b h))
 
-pub delivering-more : (doc : Doc) (k : ℕ) (before deeds new : List Deed) (arriving : List Sent) (coming : List Back) (h : List Entry) (w v : State) (x : Delivered) → (a : Delivering doc k before arriving coming h w deeds) → delivered_of (first_of a.left) ≡ Some x → IsFew (deliver_all doc k coming h) →
-    ((b : Back) → x ≡ as_delivered b → IsKnown (processes doc) a.now b.who → IsFew (delivered doc k b a.now) → MidBeat doc k before arriving (rest_of a.left) (delivered doc k b a.now) v new) → Delivering doc k before arriving coming h v new
+pub delivering-more : (doc : Doc) (k : ℕ) (before deeds new : List Deed) (arriving : List Sent) (coming : List Back) (h : List Entry) (w v : State) (x : code_back.Back) → (a : Delivering doc k before arriving coming h w deeds) → next_back (first_of a.left) ≡ Some x → IsFew (deliver_all doc k coming h) →
+    ((b : Back) → x ≡ as_back b → IsKnown (processes doc) a.now b.who → IsFew (delivered doc k b a.now) → MidBeat doc k before arriving (rest_of a.left) (delivered doc k b a.now) v new) → Delivering doc k before arriving coming h v new
 delivering-more doc k before deeds new arriving coming h w v x a first few delivers = by_left a.left a.known a.same first delivers
   where
-    by_left : (left : List Back) → BackToKnown (processes doc) a.now left → deliver_all doc k left a.now ≡ deliver_all doc k coming h → delivered_of (first_of left) ≡ Some x →
-        ((b : Back) → x ≡ as_delivered b → IsKnown (processes doc) a.now b.who → IsFew (delivered doc k b a.now) → MidBeat doc k before arriving (rest_of left) (delivered doc k b a.now) v new) → Delivering doc k before arriving coming h v new
+    by_left : (left : List Back) → BackToKnown (processes doc) a.now left → deliver_all doc k left a.now ≡ deliver_all doc k coming h → next_back (first_of left) ≡ Some x →
+        ((b : Back) → x ≡ as_back b → IsKnown (processes doc) a.now b.who → IsFew (delivered doc k b a.now) → MidBeat doc k before arriving (rest_of left) (delivered doc k b a.now) v new) → Delivering doc k before arriving coming h v new
     by_left [] known same first delivers = cc
     by_left (b ∷ rest) known same first delivers =
-        let is : x ≡ as_delivered b = cc in
+        let is : x ≡ as_back b = cc in
         let next = delivered doc k b a.now in
         let few_next = few-before next (deliver_all doc k rest next) (grows-deliver_all doc k rest next) (subst IsFew (sym same) few) in
         record {
@@ -132,11 +132,11 @@ delivering-more doc k before deeds new arriving coming h w v x a first few deliv
           same = same;
         }
 
-pub delivering-done : (doc : Doc) (k : ℕ) (before deeds : List Deed) (arriving : List Sent) (coming : List Back) (h : List Entry) (w v : State) → (a : Delivering doc k before arriving coming h w deeds) → delivered_of (first_of a.left) ≡ None →
+pub delivering-done : (doc : Doc) (k : ℕ) (before deeds : List Deed) (arriving : List Sent) (coming : List Back) (h : List Entry) (w v : State) → (a : Delivering doc k before arriving coming h w deeds) → next_back (first_of a.left) ≡ None →
     (MidBeat doc k before arriving a.left a.now w deeds → MidBeat doc k before arriving (rest_of a.left) a.now v deeds) → MidBeat doc k before arriving [] (deliver_all doc k coming h) v deeds
 delivering-done doc k before deeds arriving coming h w v a none taken = by_left a.left a.running a.same none taken
   where
-    by_left : (left : List Back) → MidBeat doc k before arriving left a.now w deeds → deliver_all doc k left a.now ≡ deliver_all doc k coming h → delivered_of (first_of left) ≡ None →
+    by_left : (left : List Back) → MidBeat doc k before arriving left a.now w deeds → deliver_all doc k left a.now ≡ deliver_all doc k coming h → next_back (first_of left) ≡ None →
         (MidBeat doc k before arriving left a.now w deeds → MidBeat doc k before arriving (rest_of left) a.now v deeds) → MidBeat doc k before arriving [] (deliver_all doc k coming h) v deeds
     by_left [] run same none taken = subst (λ g. MidBeat doc k before arriving [] g v deeds) same (taken run)
     by_left (b ∷ rest) run same none taken = cc

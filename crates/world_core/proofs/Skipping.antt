@@ -16,7 +16,7 @@ use Rattle.beat_laws.proofs.Unticked.{unticked_later}
 use Rattle.script_reader.specs.Lawful.{AreLawfulFrom}
 use Rattle.wire_calls.specs.declared.wire.Wire.{Wire}
 use Rattle.wire_calls.specs.InFlight.{pending}
-use Rattle.wire_calls.specs.WireStands.{InOrder, IsQuiet, NextIs, WireStands, as_arrived, as_delivered, at_beat}
+use Rattle.wire_calls.specs.WireStands.{InOrder, IsQuiet, NextIs, WireStands, as_sent, as_back, at_beat}
 use Rattle.world_process.proofs.Names.{eq-is, eq-self, le-from, lt-from}
 use Rattle.world_core.specs.declared.state.State.{State}
 use Rattle.world_core.specs.States.{AreQuiet, IsPlaced, StateStands}
@@ -57,8 +57,8 @@ wire-skips n k m h w most silent s =
     record {
       count = s.count;
       links = s.links;
-      requests = order-skips as_arrived k m (λ j. requests_due j h) (pending w.requests) most silent.requests s.requests;
-      replies = order-skips as_delivered k m (λ j. replies_due j h) (pending w.replies) most silent.replies s.replies;
+      requests = order-skips as_sent k m (λ j. requests_due j h) (pending w.requests) most silent.requests s.requests;
+      replies = order-skips as_back k m (λ j. replies_due j h) (pending w.replies) most silent.replies s.replies;
       live_requests = s.live_requests;
       live_replies = s.live_replies;
       delays = s.delays;

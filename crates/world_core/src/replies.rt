@@ -12,7 +12,7 @@ ghost use Rattle.world_core.specs.States.{EachStands, with_answer};
 
 use kube_base::{Beat, NoMemory, ProcId};
 use kube_objects::Reply;
-use wire_calls::{Arrived, Fate, Wire};
+use wire_calls::{Sent, Fate, Wire};
 use world_process::Process;
 
 /// The reply to a request that arrived is sent. It stays out of line, as the answer does.
@@ -20,7 +20,7 @@ use world_process::Process;
 pub fn send_back(
     wire: &mut Wire,
     processes: &[Process],
-    to: &Arrived,
+    to: &Sent,
     reply: Reply,
     now: Beat,
 ) -> Result<(), NoMemory>

@@ -23,7 +23,7 @@ ghost use Rattle.history.specs.Printed.{printed};
 ghost use Rattle.history.specs.Sound.{AreApart};
 ghost use Rattle.history.specs.Steps.{first_starts, start_first, happen_all, delivered, turns};
 ghost use Rattle.kube_objects.specs.Document.{end_beat, is_controller, is_up_first, processes};
-ghost use Rattle.wire_calls.specs.WireStands.{WireStands, as_delivered, replies_at, requests_at};
+ghost use Rattle.wire_calls.specs.WireStands.{WireStands, as_back, replies_at, requests_at};
 ghost use Rattle.script_reader.specs.Documents.{doc_of};
 ghost use Rattle.script_reader.specs.Lawful.{AreLawful, AreLawfulFrom, IsLawful, IsLawfulDoc};
 ghost use Rattle.world_process.specs.Clocked.{AreEventsFrom};
@@ -57,7 +57,7 @@ use skew_clock::Clock;
 use std::alloc::Global;
 use std::sync::ledger::Blank;
 use term_state::View;
-use wire_calls::{Delivered, Wire};
+use wire_calls::{Back, Wire};
 use world_process::{Controller, InForce, Kubelet, Process, first_beat, picoseconds};
 use world_terms::Terms;
 use zone_state::Policies;
@@ -593,13 +593,13 @@ impl State {
     }
 
     #[inline(never)]
-    fn deliver(&mut self, back: &Delivered, deeds: &mut Deeds) -> Result<(), NoMemory>
+    fn deliver(&mut self, back: &Back, deeds: &mut Deeds) -> Result<(), NoMemory>
         requires ready { IsReady self.old }
         requires within { at_of self.old ≤ end_of self.old }
         ensures kept { OnOk result (Keeps self.old self.new) }
         ensures left { OnOk result (replies_at self.new.wire (at_of self.old) ≡ replies_at self.old.wire (at_of self.old)) }
         ensures stands { (doc : Doc) (k : ℕ) (before : List Deed) (arriving : List Sent) (coming : List Back) (h : List Entry) (b : Back)
-            → MidBeat doc k before arriving coming h self.old deeds.old → back.now ≡ as_delivered b
+            → MidBeat doc k before arriving coming h self.old deeds.old → back.now ≡ as_back b
             → IsKnown (processes doc) h b.who → IsFew (delivered doc k b h)
             → OnOk result (MidBeat doc k before arriving coming (delivered doc k b h) self.new deeds.new) }
     {

@@ -64,6 +64,14 @@ grows-on f g h a b = record { calls = λ q. omega (arith, a.calls q, b.calls q);
 pub few-before : (h g : List Entry) → Grows h g → IsFew g → IsFew h
 few-before h g a few = record { calls = λ q. omega (arith, a.calls q, few.calls q); starts = λ p. omega (arith, a.starts p, few.starts p); nodes = omega (arith, a.nodes, few.nodes) }
 
+grows-where : (b : Bool) (h g : List Entry) → Grows h g → Grows h (if b then g else h)
+grows-where true h g more = more
+grows-where false h g more = grows-same h
+
+grows-unless : (b : Bool) (h g : List Entry) → Grows h g → Grows h (if b then h else g)
+grows-unless true h g more = grows-same h
+grows-unless false h g more = more
+
 -- ---- step 1
 
 grows-start_first : (p : ℕ) (b : Bool) (h : List Entry) → Grows h (start_first p b h)
@@ -125,15 +133,11 @@ grows-happens doc k event h =
     let g = script_entry k 1 (Event (stamp doc k event) (event_version event h)) ∷ h in
     grows-on h g (happens doc k event h) (grows-entry _ h) (grows-effect doc k event h g)
 
-grows-happens_if : (doc : Doc) (k : ℕ) (event : What) (b : Bool) (h : List Entry) → Grows h (if b then happens doc k event h else h)
-grows-happens_if doc k event false h = grows-same h
-grows-happens_if doc k event true h = grows-happens doc k event h
-
 pub grows-happen_all : (doc : Doc) (k : ℕ) (events : List script.Event) (h : List Entry) → Grows h (happen_all doc k events h)
 grows-happen_all doc k [] h = grows-same h
 grows-happen_all doc k (e ∷ es) h =
     let g = (if (e.beat.0 == k) then happens doc k e.what h else h) in
-    grows-on h g (happen_all doc k es g) (grows-happens_if doc k e.what (e.beat.0 == k) h) (grows-happen_all doc k es g)
+    grows-on h g (happen_all doc k es g) (grows-where (e.beat.0 == k) h _ (grows-happens doc k e.what h)) (grows-happen_all doc k es g)
 
 -- ---- steps 2 and 3
 
@@ -141,25 +145,17 @@ pub grows-each : (f : Entry → List Entry → List Entry) → ((e : Entry) (h :
 grows-each f more [] h = grows-same h
 grows-each f more (e ∷ l) h = grows-on h (each f l h) (f e (each f l h)) (grows-each f more l h) (more e (each f l h))
 
-grows-answer_if : (doc : Doc) (k : ℕ) (s : Sent) (b : Bool) (h : List Entry) → Grows h (if b then answered doc k s h else h)
-grows-answer_if doc k s false h = grows-same h
-grows-answer_if doc k s true h = grows-entry _ h
-
 grows-answer_due : (doc : Doc) (k : ℕ) (s : Option Sent) (h : List Entry) → Grows h (answer_due doc k s h)
 grows-answer_due doc k None h = grows-same h
-grows-answer_due doc k (Some s) h = grows-answer_if doc k s (is_due k s.arrives) h
+grows-answer_due doc k (Some s) h = grows-where (is_due k s.arrives) h _ (grows-entry _ h)
 
 pub grows-step_two : (doc : Doc) (k : ℕ) (h : List Entry) → Grows h (step_two doc k h)
 grows-step_two doc k h = subst (Grows h) (sym (step_two-walks doc k h)) (grows-each (λ e. answer_due doc k (sent_of e.actor e.fact)) (λ e h. grows-answer_due doc k (sent_of e.actor e.fact) h) h h)
 
-grows-lead_if : (k : ℕ) (q : Identity) (led : Bool) (version : Version) (h : List Entry) → Grows h (if led then h else entry k 3 q (Leads version) ∷ h)
-grows-lead_if k q true version h = grows-same h
-grows-lead_if k q false version h = grows-entry _ h
-
 pub grows-react : (k : ℕ) (q : Identity) (led : Bool) (wanted : Follow) (h : List Entry) → Grows h (react k q led wanted h)
 grows-react k q led Fails h = grows-same h
 grows-react k q led (Asks request) h = grows-entry _ h
-grows-react k q led (Succeeds version) h = grows-lead_if k q led version h
+grows-react k q led (Succeeds version) h = grows-unless led h _ (grows-entry _ h)
 
 grows-send_next : (k : ℕ) (q : Identity) (wanted : Option Request) (h : List Entry) → Grows h (send_next k q wanted h)
 grows-send_next k q None h = grows-same h
@@ -178,51 +174,34 @@ grows-deliver_as doc k q call reply (Some waiting) h =
 pub grows-delivered : (doc : Doc) (k : ℕ) (b : Back) (h : List Entry) → Grows h (delivered doc k b h)
 grows-delivered doc k b h = grows-deliver_as doc k b.who b.call b.reply (counted doc b.who k b.call.number h) h
 
-grows-deliver_if : (doc : Doc) (k : ℕ) (b : Back) (t : Bool) (h : List Entry) → Grows h (if t then delivered doc k b h else h)
-grows-deliver_if doc k b false h = grows-same h
-grows-deliver_if doc k b true h = grows-delivered doc k b h
-
 grows-deliver_due : (doc : Doc) (k : ℕ) (b : Option Back) (h : List Entry) → Grows h (deliver_due doc k b h)
 grows-deliver_due doc k None h = grows-same h
-grows-deliver_due doc k (Some b) h = grows-deliver_if doc k b (is_due k b.comes) h
+grows-deliver_due doc k (Some b) h = grows-where (is_due k b.comes) h _ (grows-delivered doc k b h)
 
 pub grows-step_three : (doc : Doc) (k : ℕ) (h : List Entry) → Grows h (step_three doc k h)
 grows-step_three doc k h = subst (Grows h) (sym (step_three-walks doc k h)) (grows-each (λ e. deliver_due doc k (back_of e.actor e.fact)) (λ e h. grows-deliver_due doc k (back_of e.actor e.fact) h) h h)
 
 -- ---- step 4
 
-grows-restart_as : (k p : ℕ) (b : Bool) (h : List Entry) → Grows h (if b then start k 4 p h else h)
-grows-restart_as k p false h = grows-same h
-grows-restart_as k p true h = grows-entry _ h
-
 grows-restart_if : (doc : Doc) (k p : ℕ) (up : Option ℕ) (h : List Entry) → Grows h (restart_if doc k p up h)
-grows-restart_if doc k p None h = grows-restart_as k p (is_restart_due doc p k (ended doc p h)) h
+grows-restart_if doc k p None h = grows-where (is_restart_due doc p k (ended doc p h)) h _ (grows-entry _ h)
 grows-restart_if doc k p (Some i) h = grows-same h
-
-grows-expire_as : (k : ℕ) (q : Identity) (call : Call) (b : Bool) (h : List Entry) → Grows h (if b then entry k 4 q (Expires call) ∷ h else h)
-grows-expire_as k q call false h = grows-same h
-grows-expire_as k q call true h = grows-entry _ h
 
 pub grows-expire_call : (doc : Doc) (k : ℕ) (q : Identity) (call : Option Call) (h : List Entry) → Grows h (expire_call doc k q call h)
 grows-expire_call doc k q None h = grows-same h
-grows-expire_call doc k q (Some call) h = grows-expire_as k q call (is_late doc q k call) h
-
-grows-end_as : (k : ℕ) (q : Identity) (b : Bool) (h : List Entry) → Grows h (if b then h else entry k 4 q Ends ∷ h)
-grows-end_as k q true h = grows-same h
-grows-end_as k q false h = grows-entry _ h
+grows-expire_call doc k q (Some call) h = grows-where (is_late doc q k call) h _ (grows-entry _ h)
 
 grows-end_term : (doc : Doc) (k : ℕ) (q : Identity) (at : Option ℕ) (h : List Entry) → Grows h (end_term doc k q at h)
 grows-end_term doc k q None h = grows-same h
-grows-end_term doc k q (Some at) h = grows-end_as k q _ h
+grows-end_term doc k q (Some at) h = grows-unless _ h _ (grows-entry _ h)
 
 grows-attempt_if : (doc : Doc) (k : ℕ) (q : Identity) (a b : Bool) (h : List Entry) → Grows h (attempt_if doc k q a b h)
 grows-attempt_if doc k q true b h = grows-entry _ h
 grows-attempt_if doc k q false true h = grows-entry _ h
 grows-attempt_if doc k q false false h = grows-same h
 
-grows-tick_as : (doc : Doc) (k : ℕ) (q : Identity) (b : Bool) (h : List Entry) → Grows h (if b then tick doc k q h else h)
-grows-tick_as doc k q false h = grows-same h
-grows-tick_as doc k q true h = walk_tick doc k q (Grows h) (λ t g made grown. grows-on h g (add k q t g) grown (grows-entry _ g)) h (grows-same h)
+grows-tick : (doc : Doc) (k : ℕ) (q : Identity) (h : List Entry) → Grows h (tick doc k q h)
+grows-tick doc k q h = walk_tick doc k q (Grows h) (λ t g made grown. grows-on h g (add k q t g) grown (grows-entry _ g)) h (grows-same h)
 
 grows-if_up : (p : ℕ) (f : Identity → List Entry → List Entry) → ((q : Identity) (h : List Entry) → Grows h (f q h)) → (up : Option ℕ) (h : List Entry) → Grows h (if_up p f up h)
 grows-if_up p f more None h = grows-same h
@@ -244,7 +223,7 @@ grows-attempts : (doc : Doc) (k p : ℕ) (h : List Entry) → Grows h (attempts 
 grows-attempts doc k p h = grows-if_up p (try doc k) (grows-try doc k) (alive p h) h
 
 pub grows-ticks : (doc : Doc) (k p : ℕ) (h : List Entry) → Grows h (ticks doc k p h)
-grows-ticks doc k p h = grows-if_up p (λ q T. (if (acts doc q k T) then tick doc k q T else T)) (λ q T. grows-tick_as doc k q (acts doc q k T) T) (alive p h) h
+grows-ticks doc k p h = grows-if_up p (λ q T. (if (acts doc q k T) then tick doc k q T else T)) (λ q T. grows-where (acts doc q k T) T _ (grows-tick doc k q T)) (alive p h) h
 
 pub grows-elector_turn : (doc : Doc) (k p : ℕ) (h : List Entry) → Grows h (elector_turn doc k p h)
 grows-elector_turn doc k p h =
@@ -273,12 +252,8 @@ grows-turn_as : (doc : Doc) (k p : ℕ) (b : Bool) (h : List Entry) → Grows h 
 grows-turn_as doc k p true h = grows-controller_turn doc k p h
 grows-turn_as doc k p false h = grows-kubelet_turn doc k p h
 
-grows-turn_unless : (doc : Doc) (k p : ℕ) (b : Bool) (h : List Entry) → Grows h (if b then h else unpaused_turn doc k p h)
-grows-turn_unless doc k p true h = grows-same h
-grows-turn_unless doc k p false h = grows-turn_as doc k p (is_controller doc p) h
-
 pub grows-turn : (doc : Doc) (k p : ℕ) (h : List Entry) → Grows h (turn doc k p h)
-grows-turn doc k p h = grows-turn_unless doc k p (is_paused doc p k) h
+grows-turn doc k p h = grows-unless (is_paused doc p k) h _ (grows-turn_as doc k p (is_controller doc p) h)
 
 pub grows-turns : (doc : Doc) (k n : ℕ) (h : List Entry) → Grows h (turns doc k n h)
 grows-turns doc k zero h = grows-same h

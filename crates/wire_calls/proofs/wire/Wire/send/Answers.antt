@@ -2,12 +2,12 @@ use Rattle.std.proofs.Common.{refl, ◌∙◌, ◌∷◌, ℕ, sym, ap, subst}
 use Rattle.kube_objects.specs.declared.call.Request.{Request}
 use Rattle.kube_objects.specs.Entry.{Identity, Sends, entry}
 use Rattle.kube_objects.specs.Wire.{request_arrival}
-use Rattle.wire_calls.specs.declared.message.Arrived.{Arrived}
+use Rattle.wire_calls.specs.declared.message.Sent.{Sent}
 use Rattle.wire_calls.specs.WireStands.{WireStands}
 use Rattle.wire_calls.proofs.Sends.{told-request, lost-from, beat-from, arrival-after, wire-lost-request, wire-request}
 use Rattle.wire_calls.proofs.wire.Wire.send.Goals as goal
 
-as_message : Identity → ℕ → Request → Arrived
+as_message : Identity → ℕ → Request → Sent
 as_message q number request = record { who = record { 0 = q.process }; incarnation = q.incarnation; number = number; request = request }
 
 pub returns-in-Lost-clause-answer : goal.returns-in-Lost-clause-answer
