@@ -101,13 +101,7 @@ fn count_beats<L>(
 {
     let mut counts = Counts::none();
     'beats: while let Some(beat) = next_of(&world) {
-        let deeds = match beat_at(world, beat, policies, steps) {
-            Ok((next, deeds)) => {
-                world = next;
-                deeds
-            }
-            Err(NoMemory) => return Err(NoMemory),
-        };
+        let deeds = beat_at(&mut world, beat, policies, steps)?;
         counts = counts.and(deeds.as_slice());
     }
     Ok(counts)

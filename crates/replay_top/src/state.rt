@@ -115,10 +115,7 @@ fn run_up_to<L>(
         → steps.new ≤ steps.old + standing_below doc (last.0 + 1) }
 {
     'beats: while let Some(beat) = next_up_to(&world, last) {
-        match beat_at(world, beat, policies, steps) {
-            Ok((next, _)) => world = next,
-            Err(NoMemory) => return Err(NoMemory),
-        }
+        beat_at(&mut world, beat, policies, steps)?;
     }
     Ok(world)
 }

@@ -149,11 +149,8 @@ fn write_beats<K: Sink, L>(
             Ok(()) => {}
             Err(Failed) => return Err(WriteFault::Sink),
         }
-        let deeds = match beat_at(world, beat, policies, steps) {
-            Ok((next, deeds)) => {
-                world = next;
-                deeds
-            }
+        let deeds = match beat_at(&mut world, beat, policies, steps) {
+            Ok(deeds) => deeds,
             Err(NoMemory) => return Err(WriteFault::NoMemory),
         };
         match add_lines(
@@ -187,28 +184,29 @@ pub(crate) fn next_of(world: &World) -> Option<Beat>
 
 /// Does the next beat with an entry, and answers what of it is printed.
 pub(crate) fn beat_at<L>(
-    world: World,
+    world: &mut World,
     beat: Beat,
     policies: &Policies,
     steps: &mut Steps<L>,
-) -> Result<(World, Deeds), NoMemory>
-    requires ready { IsReady world }
-    requires ahead { (at_of world ≤ beat.0) × (beat.0 ≤ end_of world) }
-    ensures kept { IfOk result (λ r. IsReady r.0 × (at_of r.0 ≡ beat.0 + 1) × (end_of r.0 ≡ end_of world)
-        × (names_of r.0 ≡ names_of world)) }
-    ensures stands { (doc : Doc) → IsLawfulDoc doc → StandsForNext doc world → end_of world ≡ end_beat doc
-        → IsNextBeat doc (at_of world) (Some beat.0)
-        → IfOk result (λ r. StandsForNext doc r.0 × (printed (history doc (at_of world)) ++ r.1 ≡ printed (history doc (at_of r.0)))) }
-    ensures writable { (doc : Doc) → IsOwn doc world → StandsForNext doc world → end_of world ≡ end_beat doc
-        → IsNextBeat doc (at_of world) (Some beat.0)
-        → IfOk result (λ r. AllByRecursion (IsWritable (names_of world) (process_count doc)) r.1) }
+) -> Result<Deeds, NoMemory>
+    requires ready { IsReady world.old }
+    requires ahead { (at_of world.old ≤ beat.0) × (beat.0 ≤ end_of world.old) }
+    ensures kept { OnOk result (IsReady world.new × (at_of world.new ≡ beat.0 + 1) × (end_of world.new ≡ end_of world.old)
+        × (names_of world.new ≡ names_of world.old)) }
+    ensures stands { (doc : Doc) → IsLawfulDoc doc → StandsForNext doc world.old → end_of world.old ≡ end_beat doc
+        → IsNextBeat doc (at_of world.old) (Some beat.0)
+        → IfOk result (λ deeds. StandsForNext doc world.new
+        × (printed (history doc (at_of world.old)) ++ deeds ≡ printed (history doc (at_of world.new)))) }
+    ensures writable { (doc : Doc) → IsOwn doc world.old → StandsForNext doc world.old → end_of world.old ≡ end_beat doc
+        → IsNextBeat doc (at_of world.old) (Some beat.0)
+        → IfOk result (AllByRecursion (IsWritable (names_of world.old) (process_count doc))) }
     ensures counted { steps.new ≡ counted steps.old 1 }
 {
     calls_are_numbered();
     starts_are_few();
     nodes_are_few();
-    let (next, deeds) = world.skip_to(beat).beat(policies, steps)?;
-    Ok((next, deeds))
+    world.skip_to(beat);
+    world.beat(policies, steps)
 }
 
 /// Gives the text so far, where it is long.

@@ -17,8 +17,8 @@ own_apart doc p h (Kubelet b) s = s.pauses.apart
 pub world_apart : (doc : Doc) (k p : ℕ) (h : List Entry) (w : World) → WorldStands doc k h w → p < processes doc → AreApart doc.events
 world_apart doc k p h w s below =
     ⊎_elim (λ there. own_apart doc p h there.0 (s.within.processes p there.0 there.2))
-    (λ past. absurd (omega (arith, below, past.0, s.within.rest.document.count))) (slice_get_cases w.state.value.processes.items p).1
+    (λ past. absurd (omega (arith, below, past.0, s.within.rest.document.count))) (slice_get_cases w.processes.items p).1
 
 -- a process of the world is one of the document
 pub inside : (doc : Doc) (k p : ℕ) (h : List Entry) (w : World) → WorldStands doc k h w → p < count_of w → p < processes doc
-inside doc k p h w s within = let count = s.within.rest.document.count in let len = w.state.value.processes.ok.0 in omega (arith, within, count, len)
+inside doc k p h w s within = let count = s.within.rest.document.count in let len = w.processes.ok.0 in omega (arith, within, count, len)

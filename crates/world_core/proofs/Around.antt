@@ -17,10 +17,10 @@ use Rattle.history.specs.Steps.{start, restart_if, restart, if_up, expire, finis
 use Rattle.object_store.proofs.Keeps.{store-beside}
 use Rattle.wire_calls.specs.WireStands.{is_of_wire}
 use Rattle.wire_calls.proofs.Frames.{wire-beside}
-use Rattle.world_core.specs.declared.state.State.{State}
+use Rattle.world_core.specs.declared.world.World.{World}
 use Rattle.world_process.specs.Moves.{settled, before_asking, before_asking_as}
 use Rattle.world_process.specs.Plain.{IsUnheard, IsKnown, IsPlain, is_quiet, AreQuiet, with_facts}
-use Rattle.world_core.specs.States.{RestStands, OthersStand, StateWithin}
+use Rattle.world_core.specs.Worlds.{RestStands, OthersStand, WorldWithin}
 use Rattle.world_process.proofs.Forces.{is_standing, in_force-beside}
 use Rattle.world_process.proofs.Processes.{process-others}
 use Rattle.world_process.proofs.Lives.{is_event}
@@ -52,15 +52,15 @@ quiet-standing (Event what version) is = cc
 quiet-standing _ is = refl
 
 -- all but process i and its term
-pub record Around (doc : Doc) (k i : ℕ) (arriving : List Sent) (coming : List Back) (h : List Entry) (w : State) : Type 0 where
+pub record Around (doc : Doc) (k i : ℕ) (arriving : List Sent) (coming : List Back) (h : List Entry) (w : World) : Type 0 where
   pub rest : RestStands doc k arriving coming h w
   pub others : OthersStand doc i h w.processes.items
   pub terms : TermsStandBut doc i h w.terms
 
-pub around-world : (doc : Doc) (k i : ℕ) (arriving : List Sent) (coming : List Back) (h : List Entry) (w : State) → StateWithin doc k arriving coming h w → Around doc k i arriving coming h w
+pub around-world : (doc : Doc) (k i : ℕ) (arriving : List Sent) (coming : List Back) (h : List Entry) (w : World) → WorldWithin doc k arriving coming h w → Around doc k i arriving coming h w
 around-world doc k i arriving coming h w s = record { rest = s.rest; others = λ p c other is. s.processes p c is; terms = terms-but doc i h w.terms s.terms }
 
-pub rest-own : (doc : Doc) (k j step : ℕ) (arriving : List Sent) (coming : List Back) (q : Identity) (d : Fact) (h : List Entry) (w : State) → is_quiet d ≡ true → IsKnown (processes doc) (entry j step q d ∷ h) q →
+pub rest-own : (doc : Doc) (k j step : ℕ) (arriving : List Sent) (coming : List Back) (q : Identity) (d : Fact) (h : List Entry) (w : World) → is_quiet d ≡ true → IsKnown (processes doc) (entry j step q d ∷ h) q →
     RestStands doc k arriving coming h w → RestStands doc k arriving coming (entry j step q d ∷ h) w
 rest-own doc k j step arriving coming q d h w quiet known s =
     record {
@@ -75,7 +75,7 @@ rest-own doc k j step arriving coming q d h w quiet known s =
 own-entry : (i : ℕ) (q : Identity) → q.process ≡ i → has (of_process i (actor_of q)) ≡ true
 own-entry i q is = ap (λ n. has (when (n == i) q.incarnation)) is ∙ ap (λ b. has (when b q.incarnation)) (eq-self i)
 
-pub around-own : (doc : Doc) (k i j step : ℕ) (arriving : List Sent) (coming : List Back) (q : Identity) (d : Fact) (h : List Entry) (w : State) → q.process ≡ i → is_quiet d ≡ true → IsKnown (processes doc) (entry j step q d ∷ h) q →
+pub around-own : (doc : Doc) (k i j step : ℕ) (arriving : List Sent) (coming : List Back) (q : Identity) (d : Fact) (h : List Entry) (w : World) → q.process ≡ i → is_quiet d ≡ true → IsKnown (processes doc) (entry j step q d ∷ h) q →
     Around doc k i arriving coming h w → Around doc k i arriving coming (entry j step q d ∷ h) w
 around-own doc k i j step arriving coming q d h w process quiet known s =
     record {
@@ -88,7 +88,7 @@ pub known-facts : (n k step : ℕ) (q : Identity) (ds : List Fact) (h : List Ent
 known-facts n k step q [] h known = known
 known-facts n k step q (d ∷ ds) h known = known-later n (entry k step q d) (with_facts k step q ds h) q (known-facts n k step q ds h known)
 
-pub around-facts : (doc : Doc) (k i j step : ℕ) (arriving : List Sent) (coming : List Back) (q : Identity) (ds : List Fact) (h : List Entry) (w : State) → q.process ≡ i → AreQuiet ds → IsKnown (processes doc) h q →
+pub around-facts : (doc : Doc) (k i j step : ℕ) (arriving : List Sent) (coming : List Back) (q : Identity) (ds : List Fact) (h : List Entry) (w : World) → q.process ≡ i → AreQuiet ds → IsKnown (processes doc) h q →
     Around doc k i arriving coming h w → Around doc k i arriving coming (with_facts j step q ds h) w
 around-facts doc k i j step arriving coming q [] h w process quiet known s = s
 around-facts doc k i j step arriving coming q (d ∷ ds) h w process quiet known s =
@@ -143,12 +143,12 @@ alive-known n p i h s within up = record { within = within; started = by_order (
 
 -- ---- through a turn up to its attempt
 
-pub around-started : (doc : Doc) (k i j step : ℕ) (arriving : List Sent) (coming : List Back) (h : List Entry) (w : State) → i < processes doc → Around doc k i arriving coming h w → Around doc k i arriving coming (start j step i h) w
+pub around-started : (doc : Doc) (k i j step : ℕ) (arriving : List Sent) (coming : List Back) (h : List Entry) (w : World) → i < processes doc → Around doc k i arriving coming h w → Around doc k i arriving coming (start j step i h) w
 around-started doc k i j step arriving coming h w within s =
     let q = identity i (starts i h + 1) in
     around-own doc k i j step arriving coming q Starts h w refl refl (record { within = within; started = let e = starts-start j step q h in omega (arith, e) }) s
 
-around-restart : (doc : Doc) (k i : ℕ) (arriving : List Sent) (coming : List Back) (h : List Entry) (w : State) → i < processes doc → Around doc k i arriving coming h w → Around doc k i arriving coming (restart doc k i h) w
+around-restart : (doc : Doc) (k i : ℕ) (arriving : List Sent) (coming : List Back) (h : List Entry) (w : World) → i < processes doc → Around doc k i arriving coming h w → Around doc k i arriving coming (restart doc k i h) w
 around-restart doc k i arriving coming h w within s = by_life (alive i h)
   where
     by_due : (b : Bool) → Around doc k i arriving coming (if b then start k 4 i h else h) w
@@ -159,7 +159,7 @@ around-restart doc k i arriving coming h w within s = by_life (alive i h)
     by_life None = by_due (is_restart_due doc i k (ended doc i h))
     by_life (Some j) = s
 
-around-expire : (doc : Doc) (k i : ℕ) (arriving : List Sent) (coming : List Back) (h : List Entry) (w : State) → i < processes doc → Around doc k i arriving coming h w → Around doc k i arriving coming (expire doc k i h) w
+around-expire : (doc : Doc) (k i : ℕ) (arriving : List Sent) (coming : List Back) (h : List Entry) (w : World) → i < processes doc → Around doc k i arriving coming h w → Around doc k i arriving coming (expire doc k i h) w
 around-expire doc k i arriving coming h w within s = by_life (alive i h) refl
   where
     by_late : (j : ℕ) → IsKnown (processes doc) h (identity i j) → (call : Call) (b : Bool) → Around doc k i arriving coming (if b then entry k 4 (identity i j) (Expires call) ∷ h else h) w
@@ -174,7 +174,7 @@ around-expire doc k i arriving coming h w within s = by_life (alive i h) refl
     by_life None is = s
     by_life (Some j) is = by_call j (alive-known (processes doc) i j h s.rest.plain within is) (call_in (identity i j) h)
 
-around-finish : (doc : Doc) (k i : ℕ) (arriving : List Sent) (coming : List Back) (h : List Entry) (w : State) → i < processes doc → Around doc k i arriving coming h w → Around doc k i arriving coming (finish doc k i h) w
+around-finish : (doc : Doc) (k i : ℕ) (arriving : List Sent) (coming : List Back) (h : List Entry) (w : World) → i < processes doc → Around doc k i arriving coming h w → Around doc k i arriving coming (finish doc k i h) w
 around-finish doc k i arriving coming h w within s = by_life (alive i h) refl
   where
     by_time : (j : ℕ) → IsKnown (processes doc) h (identity i j) → (b : Bool) → Around doc k i arriving coming (if b then h else entry k 4 (identity i j) Ends ∷ h) w
@@ -189,13 +189,13 @@ around-finish doc k i arriving coming h w within s = by_life (alive i h) refl
     by_life None is = s
     by_life (Some j) is = by_deadline j (alive-known (processes doc) i j h s.rest.plain within is) (deadline doc (identity i j) h)
 
-around-settled : (doc : Doc) (k i : ℕ) (arriving : List Sent) (coming : List Back) (h : List Entry) (w : State) → i < processes doc → Around doc k i arriving coming h w → Around doc k i arriving coming (settled doc k i (restart doc k i h)) w
+around-settled : (doc : Doc) (k i : ℕ) (arriving : List Sent) (coming : List Back) (h : List Entry) (w : World) → i < processes doc → Around doc k i arriving coming h w → Around doc k i arriving coming (settled doc k i (restart doc k i h)) w
 around-settled doc k i arriving coming h w within s =
     let r = restart doc k i h in
     around-finish doc k i arriving coming (expire doc k i r) w within (around-expire doc k i arriving coming r w within (around-restart doc k i arriving coming h w within s))
 
 -- through all of a turn that asks nothing, by the sort of the process
-pub around-before : (doc : Doc) (k i : ℕ) (arriving : List Sent) (coming : List Back) (h : List Entry) (w : State) → i < processes doc → Around doc k i arriving coming h w → Around doc k i arriving coming (before_asking doc k i h) w
+pub around-before : (doc : Doc) (k i : ℕ) (arriving : List Sent) (coming : List Back) (h : List Entry) (w : World) → i < processes doc → Around doc k i arriving coming h w → Around doc k i arriving coming (before_asking doc k i h) w
 around-before doc k i arriving coming h w within s = by_sort (is_controller doc i)
   where
     by_sort : (b : Bool) → Around doc k i arriving coming (before_asking_as doc k i b h) w

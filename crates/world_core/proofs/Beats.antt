@@ -13,9 +13,9 @@ use Rattle.history.specs.Steps.{start_first, starts_below, first_starts, step_on
 use Rattle.beat_laws.specs.Unticked.{IsUnticked}
 use Rattle.beat_laws.proofs.Unticked.{beat_unticked, steps_unticked}
 use Rattle.wire_calls.proofs.Frames.{wire-next-beat}
-use Rattle.world_core.specs.declared.state.State.{State}
+use Rattle.world_core.specs.declared.world.World.{World}
 use Rattle.world_process.specs.Plain.{IsFew}
-use Rattle.world_core.specs.States.{StateWithin, IsPlaced, StateStands}
+use Rattle.world_core.specs.Worlds.{WorldWithin, IsPlaced, WorldStands}
 use Rattle.world_process.proofs.Grows.{Grows, grows-on, grows-same, grows-entry, grows-happen_all, grows-turns, few-before}
 use Rattle.world_core.proofs.Loops.{grows-deliver_all}
 
@@ -111,7 +111,7 @@ pub unticked-next : (doc : Doc) (k : ℕ) (h : List Entry) → IsUnticked k h �
 unticked-next doc k h s = subst (λ n. IsUnticked n (turns doc k (processes doc) (three doc k h))) (sym (add-one k)) (subst (IsUnticked (suc k)) (beat-is doc k h) (beat_unticked doc k h s))
 
 -- the next beat begins
-pub world-next : (doc : Doc) (k : ℕ) (h : List Entry) (w : State) → StateWithin doc k [] [] h w → IsPlaced doc (k + 1) w.place → IsUnticked (k + 1) h → StateStands doc (k + 1) h (record w { beat = record { 0 = w.beat.0 + 1 } })
+pub world-next : (doc : Doc) (k : ℕ) (h : List Entry) (w : World) → WorldWithin doc k [] [] h w → IsPlaced doc (k + 1) w.place → IsUnticked (k + 1) h → WorldStands doc (k + 1) h (record w { beat = record { 0 = w.beat.0 + 1 } })
 world-next doc k h w s placed unticked =
     let d = s.rest.document in
     record {

@@ -17,9 +17,9 @@ use Rattle.kube_objects.specs.Process.{alive}
 use Rattle.kube_objects.specs.Wire.{Sent, Back, request_delay, loses_requests, next_call, request_arrival}
 use Rattle.history.specs.Steps.{start_if_down, crash, stall, released, stop, happens, happen_all}
 use Rattle.script_reader.specs.Lawful.{IsLawfulWhat, AreLawfulFrom}
-use Rattle.world_core.specs.declared.state.State.{State}
+use Rattle.world_core.specs.declared.world.World.{World}
 use Rattle.world_process.specs.Plain.{IsFew}
-use Rattle.world_core.specs.States.{DocStands, IsPlaced, MidBeat, Scripted}
+use Rattle.world_core.specs.Worlds.{DocStands, IsPlaced, MidBeat, Scripted}
 use Rattle.world_core.proofs.Beats.{not_due}
 use Rattle.world_core.proofs.Events.{drop-at, drop-past, happens-now, happen-earlier, happen-later, lawful-later, lawful-rest, lawful-what, earlier-more}
 use Rattle.world_process.proofs.Grows.{grows-happen_all, few-before}
@@ -96,12 +96,12 @@ replies-happens doc k (what.Remove key) h = refl
 -- ---- the loop over the events
 
 -- the event at the place
-pub event-at : (doc : Doc) (k : ℕ) (w : State) (xs ys : List Event) (e : Event) → DocStands doc k w → xs ≡ w.events → ys ≡ w.events → w.place < length ys → e ≡ get_or xs w.place e → slice_get doc.events w.place ≡ Some e
+pub event-at : (doc : Doc) (k : ℕ) (w : World) (xs ys : List Event) (e : Event) → DocStands doc k w → xs ≡ w.events → ys ≡ w.events → w.place < length ys → e ≡ get_or xs w.place e → slice_get doc.events w.place ≡ Some e
 event-at doc k w xs ys e s xs_are ys_are less is =
     ap (λ es. slice_get es w.place) (sym (xs_are ∙ s.events)) ∙ slice_get_read xs (length ys) w.place e (ap (λ es. length es) (ys_are ∙ sym xs_are)) less is
 
 -- some events of beat k have happened
-pub record Happening (doc : Doc) (k : ℕ) (before : List Deed) (arriving : List Sent) (coming : List Back) (h : List Entry) (w : State) (deeds : List Deed) : Type 0 where
+pub record Happening (doc : Doc) (k : ℕ) (before : List Deed) (arriving : List Sent) (coming : List Back) (h : List Entry) (w : World) (deeds : List Deed) : Type 0 where
   pub now : List Entry
   pub running : MidBeat doc k before arriving coming now w deeds
   pub earlier : (i : ℕ) (e : Event) → i < w.place → slice_get doc.events i ≡ Some e → e.beat.0 < k + 1
@@ -110,7 +110,7 @@ pub record Happening (doc : Doc) (k : ℕ) (before : List Deed) (arriving : List
   pub requests : requests_due k now ≡ requests_due k h
   pub replies : replies_due k now ≡ replies_due k h
 
-pub happening-first : (doc : Doc) (k : ℕ) (before deeds : List Deed) (arriving : List Sent) (coming : List Back) (h : List Entry) (w : State) → MidBeat doc k before arriving coming h w deeds → IsPlaced doc k w.place → Happening doc k before arriving coming h w deeds
+pub happening-first : (doc : Doc) (k : ℕ) (before deeds : List Deed) (arriving : List Sent) (coming : List Back) (h : List Entry) (w : World) → MidBeat doc k before arriving coming h w deeds → IsPlaced doc k w.place → Happening doc k before arriving coming h w deeds
 happening-first doc k before deeds arriving coming h w r placed =
     record {
       now = h;
@@ -122,7 +122,7 @@ happening-first doc k before deeds arriving coming h w r placed =
       replies = refl;
     }
 
-pub happening-more : (doc : Doc) (k : ℕ) (before deeds new : List Deed) (arriving : List Sent) (coming : List Back) (h : List Entry) (w v : State) (e : Event) → (a : Happening doc k before arriving coming h w deeds) → slice_get doc.events w.place ≡ Some e → e.beat.0 ≡ k → v.place ≡ w.place + 1 →
+pub happening-more : (doc : Doc) (k : ℕ) (before deeds new : List Deed) (arriving : List Sent) (coming : List Back) (h : List Entry) (w v : World) (e : Event) → (a : Happening doc k before arriving coming h w deeds) → slice_get doc.events w.place ≡ Some e → e.beat.0 ≡ k → v.place ≡ w.place + 1 →
     IsFew (happen_all doc k doc.events h) → (IsLawfulWhat doc e.what → IsFew (happens doc k e.what a.now) → MidBeat doc k before arriving coming (happens doc k e.what a.now) v new) → Happening doc k before arriving coming h v new
 happening-more doc k before deeds new arriving coming h w v e a here beat place few happened =
     let rest = drop (w.place + 1) doc.events in
@@ -141,7 +141,7 @@ happening-more doc k before deeds new arriving coming h w v e a here beat place 
       replies = replies-happens doc k e.what a.now ∙ a.replies;
     }
 
-scripted-all : (doc : Doc) (k : ℕ) (before deeds : List Deed) (arriving : List Sent) (coming : List Back) (h : List Entry) (w : State) → (a : Happening doc k before arriving coming h w deeds) → a.now ≡ happen_all doc k doc.events h → AreLawfulFrom doc (k + 1) (drop w.place doc.events) → Scripted doc k before arriving coming h w deeds
+scripted-all : (doc : Doc) (k : ℕ) (before deeds : List Deed) (arriving : List Sent) (coming : List Back) (h : List Entry) (w : World) → (a : Happening doc k before arriving coming h w deeds) → a.now ≡ happen_all doc k doc.events h → AreLawfulFrom doc (k + 1) (drop w.place doc.events) → Scripted doc k before arriving coming h w deeds
 scripted-all doc k before deeds arriving coming h w a all later =
     record {
       running = subst (λ g. MidBeat doc k before arriving coming g w deeds) all a.running;
@@ -151,7 +151,7 @@ scripted-all doc k before deeds arriving coming h w a all later =
     }
 
 -- the next event is of a later beat
-pub happening-before : (doc : Doc) (k : ℕ) (before deeds : List Deed) (arriving : List Sent) (coming : List Back) (h : List Entry) (w : State) (e : Event) → Happening doc k before arriving coming h w deeds → slice_get doc.events w.place ≡ Some e → ¬ (e.beat.0 ≡ k) → Scripted doc k before arriving coming h w deeds
+pub happening-before : (doc : Doc) (k : ℕ) (before deeds : List Deed) (arriving : List Sent) (coming : List Back) (h : List Entry) (w : World) (e : Event) → Happening doc k before arriving coming h w deeds → slice_get doc.events w.place ≡ Some e → ¬ (e.beat.0 ≡ k) → Scripted doc k before arriving coming h w deeds
 happening-before doc k before deeds arriving coming h w e a here other =
     let rest = drop (w.place + 1) doc.events in
     let is : drop w.place doc.events ≡ e ∷ rest = drop-at doc.events w.place e here in
@@ -160,7 +160,7 @@ happening-before doc k before deeds arriving coming h w e a here other =
     scripted-all doc k before deeds arriving coming h w a (sym (happen-later doc k (k + 1) (drop w.place doc.events) a.now (omega arith) later) ∙ a.same) later
 
 -- no event is left
-pub happening-done : (doc : Doc) (k : ℕ) (before deeds : List Deed) (arriving : List Sent) (coming : List Back) (h : List Entry) (w : State) → Happening doc k before arriving coming h w deeds → length doc.events ≤ w.place → Scripted doc k before arriving coming h w deeds
+pub happening-done : (doc : Doc) (k : ℕ) (before deeds : List Deed) (arriving : List Sent) (coming : List Back) (h : List Entry) (w : World) → Happening doc k before arriving coming h w deeds → length doc.events ≤ w.place → Scripted doc k before arriving coming h w deeds
 happening-done doc k before deeds arriving coming h w a past =
     let is : drop w.place doc.events ≡ [] = drop-past doc.events w.place past in
     scripted-all doc k before deeds arriving coming h w a (ap (λ es. happen_all doc k es a.now) (sym is) ∙ a.same) (subst (AreLawfulFrom doc (k + 1)) (sym is) tt)

@@ -13,8 +13,8 @@ use Rattle.world_process.specs.Beats.{beat_in, own_reading, reading_of}
 use Rattle.world_process.specs.Processes.{clock_of, waking_of}
 use Rattle.world_process.proofs.Readings.{reading-local}
 use Rattle.world_process.proofs.Wakes.{asked-reading, asked_at}
-use Rattle.world_core.specs.declared.state.State.{State}
-use Rattle.world_core.specs.States.{IsReady, StateStands, end_of}
+use Rattle.world_core.specs.declared.world.World.{World}
+use Rattle.world_core.specs.Worlds.{IsReady, WorldStands, end_of}
 use Rattle.world_core.specs.Waits.{IsFirstTurn, IsLeastTurn, WaitsUntil, beat_of}
 use Rattle.world_core.proofs.Awake.{beats-alike, its-clock}
 use Rattle.world_core.proofs.Moving.{within-processes}
@@ -25,7 +25,7 @@ pub record LeafTells (doc : Doc) (p : ℕ) (h : List Entry) (beat : Option Beat)
   pub tells : (j : ℕ) → j ≤ end_beat doc → is_early j (beat_in beat) ≡ is_early (local doc p j) (own_reading doc p h)
   pub within : IfSome beat (λ b. b.0 ≤ end_beat doc)
 
-pub leaf-tells : (doc : Doc) (k p : ℕ) (h : List Entry) (w : State) → IsReady w → StateStands doc k h w → end_of w ≡ end_beat doc → p < processes doc → LeafTells doc p h (leaf w.turn_beats p)
+pub leaf-tells : (doc : Doc) (k p : ℕ) (h : List Entry) (w : World) → IsReady w → WorldStands doc k h w → end_of w ≡ end_beat doc → p < processes doc → LeafTells doc p h (leaf w.turn_beats p)
 leaf-tells doc k p h w ready s ends inside =
     let count = s.within.rest.document.count in
     let there = slice_get-some w.processes.items p (omega (arith, inside, count)) in
@@ -64,7 +64,7 @@ waits-less doc p h (Some beat) before t sooner waits = not-itself beat.0 (t.tell
 
 -- ---- who comes first
 
-module _ (doc : Doc) (k : ℕ) (h : List Entry) (w : State) (ready : IsReady w) (s : StateStands doc k h w) (ends : end_of w ≡ end_beat doc) where
+module _ (doc : Doc) (k : ℕ) (h : List Entry) (w : World) (ready : IsReady w) (s : WorldStands doc k h w) (ends : end_of w ≡ end_beat doc) where
   its-leaf : (p : ℕ) → p < processes doc → LeafTells doc p h (leaf w.turn_beats p)
   its-leaf p inside = leaf-tells doc k p h w ready s ends inside
 

@@ -19,11 +19,11 @@ use Rattle.wire_calls.specs.declared.message.Sent as code_sent
 use Rattle.wire_calls.specs.declared.message.Back as code_back
 use Rattle.wire_calls.specs.InFlight.{first_of, rest_of}
 use Rattle.wire_calls.specs.WireStands.{WireStands, next_sent, as_sent, next_back, as_back}
-use Rattle.world_core.specs.declared.state.State.{State}
+use Rattle.world_core.specs.declared.world.World.{World}
 use Rattle.world_process.specs.InForce.{InForceStands}
 use Rattle.world_process.specs.Moves.{own_turn_as}
 use Rattle.world_process.specs.Plain.{IsKnown, IsFew, SentByKnown, BackToKnown}
-use Rattle.world_core.specs.States.{IsReady, SameDocument, Keeps, EachStands, MidBeat}
+use Rattle.world_core.specs.Worlds.{IsReady, SameDocument, Keeps, EachStands, MidBeat}
 use Rattle.world_core.specs.Waits.{awake_turn, turn_if}
 use Rattle.world_process.proofs.Grows.{Grows, grows-on, grows-same, grows-entry, grows-delivered, grows-more_starts, grows-more_turns, grows-ticks, few-before}
 use Rattle.world_core.proofs.Known.{sent-later, back-later}
@@ -32,7 +32,7 @@ use Rattle.world_terms.specs.TermsStand.{TermsStand}
 
 -- ---- requests
 
-pub record Answering (doc : Doc) (k : ℕ) (before : List Deed) (arriving : List Sent) (coming : List Back) (h : List Entry) (w : State) (deeds : List Deed) : Type 0 where
+pub record Answering (doc : Doc) (k : ℕ) (before : List Deed) (arriving : List Sent) (coming : List Back) (h : List Entry) (w : World) (deeds : List Deed) : Type 0 where
   pub now : List Entry
   pub left : List Sent
   pub running : MidBeat doc k before left coming now w deeds
@@ -40,13 +40,13 @@ pub record Answering (doc : Doc) (k : ℕ) (before : List Deed) (arriving : List
   pub same : answer_all doc k left now ≡ answer_all doc k arriving h
 
 -- the store and the wire did what a request that arrived asks
-pub record Serves (doc : Doc) (k : ℕ) (rest : List Sent) (coming : List Back) (h : List Entry) (deeds new : List Deed) (v : State) (r : Reply) (x : code_sent.Sent) : Type 0 where
+pub record Serves (doc : Doc) (k : ℕ) (rest : List Sent) (coming : List Back) (h : List Entry) (deeds new : List Deed) (v : World) (r : Reply) (x : code_sent.Sent) : Type 0 where
   pub answers : r ≡ answer x.request h
   pub store : (e : Entry) → write_of e.fact ≡ request_write x.request (written x.request h) → StoreStands (e ∷ h) v.store
   pub wire : (q : Identity) (call : Call) (wrote : Option Object) → q ≡ identity x.who.0 x.incarnation → call.number ≡ x.number → q.process < processes doc → WireStands (processes doc) k rest coming (entry k 2 q (Answers call r (reply_arrival doc q.process k h) wrote) ∷ h) v.wire
   pub told : new ≡ deeds ++ deeds_of k (actor.Proc x.who x.incarnation) (answer_act x.request r)
 
-serve-one : (doc : Doc) (k : ℕ) (before deeds new : List Deed) (s : Sent) (left rest : List Sent) (coming : List Back) (h : List Entry) (w v : State) (r : Reply) → MidBeat doc k before left coming h w deeds → IsKnown (processes doc) h s.who → Unmoved w v → v.in_force ≡ w.in_force →
+serve-one : (doc : Doc) (k : ℕ) (before deeds new : List Deed) (s : Sent) (left rest : List Sent) (coming : List Back) (h : List Entry) (w v : World) (r : Reply) → MidBeat doc k before left coming h w deeds → IsKnown (processes doc) h s.who → Unmoved w v → v.in_force ≡ w.in_force →
     Serves doc k rest coming h deeds new v r (as_sent s) → MidBeat doc k before rest coming (answered doc k s h) v new
 serve-one doc k before deeds new s left rest coming h w v r run known unmoved in_force serves =
     answered-running doc k before deeds new left rest coming s h w v run known unmoved in_force
@@ -54,7 +54,7 @@ serve-one doc k before deeds new s left rest coming h w v r run known unmoved in
     (subst (λ x. WireStands (processes doc) k rest coming (entry k 2 s.who (Answers s.call x (reply_arrival doc s.who.process k h) (written s.call.request h)) ∷ h) v.wire) serves.answers (serves.wire s.who s.call (written s.call.request h) refl refl known.within))
     (serves.told ∙ ap (λ x. deeds ++ deeds_of k (actor_of s.who) (answer_act s.call.request x)) serves.answers)
 
-pub answering-more : (doc : Doc) (k : ℕ) (before deeds new : List Deed) (arriving : List Sent) (coming : List Back) (h : List Entry) (w v : State) (r : Reply) (x : code_sent.Sent) → (a : Answering doc k before arriving coming h w deeds) →
+pub answering-more : (doc : Doc) (k : ℕ) (before deeds new : List Deed) (arriving : List Sent) (coming : List Back) (h : List Entry) (w v : World) (r : Reply) (x : code_sent.Sent) → (a : Answering doc k before arriving coming h w deeds) →
     next_sent (first_of a.left) ≡ Some x → Unmoved w v → v.in_force ≡ w.in_force → Serves doc k (rest_of a.left) coming a.now deeds new v r x → Answering doc k before arriving coming h v new
 answering-more doc k before deeds new arriving coming h w v r x a first unmoved in_force serves = by_left a.left a.running a.known a.same first serves
   where
@@ -72,7 +72,7 @@ answering-more doc k before deeds new arriving coming h w v r x a first unmoved 
         }
 
 -- nothing is left
-pub answering-done : (doc : Doc) (k : ℕ) (before deeds : List Deed) (arriving : List Sent) (coming : List Back) (h : List Entry) (w v : State) → (a : Answering doc k before arriving coming h w deeds) → next_sent (first_of a.left) ≡ None →
+pub answering-done : (doc : Doc) (k : ℕ) (before deeds : List Deed) (arriving : List Sent) (coming : List Back) (h : List Entry) (w v : World) → (a : Answering doc k before arriving coming h w deeds) → next_sent (first_of a.left) ≡ None →
     (MidBeat doc k before a.left coming a.now w deeds → MidBeat doc k before (rest_of a.left) coming a.now v deeds) → MidBeat doc k before [] coming (answer_all doc k arriving h) v deeds
 answering-done doc k before deeds arriving coming h w v a none taken = by_left a.left a.running a.same none taken
   where
@@ -82,7 +82,7 @@ answering-done doc k before deeds arriving coming h w v a none taken = by_left a
     by_left (s ∷ rest) run same none taken = cc
 
 -- the wire gave something out
-pub rewired : (doc : Doc) (k : ℕ) (before deeds : List Deed) (arriving left : List Sent) (coming rest : List Back) (h : List Entry) (w v : State) → Unmoved w v → v.in_force ≡ w.in_force → v.store ≡ w.store →
+pub rewired : (doc : Doc) (k : ℕ) (before deeds : List Deed) (arriving left : List Sent) (coming rest : List Back) (h : List Entry) (w v : World) → Unmoved w v → v.in_force ≡ w.in_force → v.store ≡ w.store →
     WireStands (processes doc) k left rest h v.wire → MidBeat doc k before arriving coming h w deeds → MidBeat doc k before left rest h v deeds
 rewired doc k before deeds arriving left coming rest h w v unmoved in_force store wire r =
     record {
@@ -102,7 +102,7 @@ rewired doc k before deeds arriving left coming rest h w v unmoved in_force stor
 
 -- ---- replies
 
-pub record Delivering (doc : Doc) (k : ℕ) (before : List Deed) (arriving : List Sent) (coming : List Back) (h : List Entry) (w : State) (deeds : List Deed) : Type 0 where
+pub record Delivering (doc : Doc) (k : ℕ) (before : List Deed) (arriving : List Sent) (coming : List Back) (h : List Entry) (w : World) (deeds : List Deed) : Type 0 where
   pub now : List Entry
   pub left : List Back
   pub running : MidBeat doc k before arriving left now w deeds
@@ -113,7 +113,7 @@ pub grows-deliver_all : (doc : Doc) (k : ℕ) (bs : List Back) (h : List Entry) 
 grows-deliver_all doc k [] h = grows-same h
 grows-deliver_all doc k (b ∷ bs) h = grows-on h (delivered doc k b h) (deliver_all doc k bs (delivered doc k b h)) (grows-delivered doc k b h) (grows-deliver_all doc k bs (delivered doc k b h))
 
-pub delivering-more : (doc : Doc) (k : ℕ) (before deeds new : List Deed) (arriving : List Sent) (coming : List Back) (h : List Entry) (w v : State) (x : code_back.Back) → (a : Delivering doc k before arriving coming h w deeds) → next_back (first_of a.left) ≡ Some x → IsFew (deliver_all doc k coming h) →
+pub delivering-more : (doc : Doc) (k : ℕ) (before deeds new : List Deed) (arriving : List Sent) (coming : List Back) (h : List Entry) (w v : World) (x : code_back.Back) → (a : Delivering doc k before arriving coming h w deeds) → next_back (first_of a.left) ≡ Some x → IsFew (deliver_all doc k coming h) →
     ((b : Back) → x ≡ as_back b → IsKnown (processes doc) a.now b.who → IsFew (delivered doc k b a.now) → MidBeat doc k before arriving (rest_of a.left) (delivered doc k b a.now) v new) → Delivering doc k before arriving coming h v new
 delivering-more doc k before deeds new arriving coming h w v x a first few delivers = by_left a.left a.known a.same first delivers
   where
@@ -132,7 +132,7 @@ delivering-more doc k before deeds new arriving coming h w v x a first few deliv
           same = same;
         }
 
-pub delivering-done : (doc : Doc) (k : ℕ) (before deeds : List Deed) (arriving : List Sent) (coming : List Back) (h : List Entry) (w v : State) → (a : Delivering doc k before arriving coming h w deeds) → next_back (first_of a.left) ≡ None →
+pub delivering-done : (doc : Doc) (k : ℕ) (before deeds : List Deed) (arriving : List Sent) (coming : List Back) (h : List Entry) (w v : World) → (a : Delivering doc k before arriving coming h w deeds) → next_back (first_of a.left) ≡ None →
     (MidBeat doc k before arriving a.left a.now w deeds → MidBeat doc k before arriving (rest_of a.left) a.now v deeds) → MidBeat doc k before arriving [] (deliver_all doc k coming h) v deeds
 delivering-done doc k before deeds arriving coming h w v a none taken = by_left a.left a.running a.same none taken
   where
@@ -143,7 +143,7 @@ delivering-done doc k before deeds arriving coming h w v a none taken = by_left 
 
 -- ---- what each turn of a loop keeps
 
-pub same-on : (u w v : State) → SameDocument u w → SameDocument w v → SameDocument u v
+pub same-on : (u w v : World) → SameDocument u w → SameDocument w v → SameDocument u v
 same-on u w v a b =
     record {
       beat = b.beat ∙ a.beat;
@@ -156,10 +156,10 @@ same-on u w v a b =
       controllers = b.controllers ∙ a.controllers;
     }
 
-pub keeps-on : (u w v : State) → Keeps u w → Keeps w v → Keeps u v
+pub keeps-on : (u w v : World) → Keeps u w → Keeps w v → Keeps u v
 keeps-on u w v a b = record { ready = b.ready; same = same-on u w v a.same b.same; place = b.place ∙ a.place; count = b.count ∙ a.count }
 
-pub keeps-same : (w : State) → IsReady w → Keeps w w
+pub keeps-same : (w : World) → IsReady w → Keeps w w
 keeps-same w ready = record { ready = ready; same = (record { beat = refl; end = refl; restart = refl; epoch = refl; micros = refl; events = refl; names = refl; controllers = refl }); place = refl; count = refl }
 
 pub few-starts : (doc : Doc) (i n : ℕ) (h : List Entry) → i < n → IsFew (starts_below doc n h) → IsFew (starts_below doc (suc i) h)

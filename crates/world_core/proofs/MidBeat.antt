@@ -20,12 +20,12 @@ use Rattle.wire_calls.specs.WireStands.{WireStands}
 use Rattle.world_process.specs.declared.process.Process.{Process}
 use Rattle.world_process.specs.declared.moves.Received.{Received}
 use Rattle.world_process.specs.declared.moves.Turn.{Turn}
-use Rattle.world_core.specs.declared.state.State.{State}
+use Rattle.world_core.specs.declared.world.World.{World}
 use Rattle.world_process.specs.Processes.{IsKept, ProcessStands, SameProcess, AsksOn, Turned, Replied, incarnation_of, clock_of, is_up_first_as, waking_of}
 use Rattle.world_process.specs.InForce.{InForceStands}
 use Rattle.world_process.specs.Moves.{AsksOnReply, before_asking, own_turn, started_deeds, ended_deeds, lead_deeds}
 use Rattle.world_process.specs.Plain.{IsKnown, with_facts}
-use Rattle.world_core.specs.States.{AreKept, AreNoted, IsFit, IsReady, SameDocument, Keeps, DocStands, EachStands, OthersStand, StateWithin, MidBeat, SendsAsked}
+use Rattle.world_core.specs.Worlds.{AreKept, AreNoted, IsFit, IsReady, SameDocument, Keeps, DocStands, EachStands, OthersStand, WorldWithin, MidBeat, SendsAsked}
 use Rattle.world_core.proofs.Around.{Around, around-world, around-own, around-facts, around-before, around-started}
 use Rattle.world_core.proofs.Renewing.{fresh-started, terms-delivered}
 use Rattle.world_process.proofs.Forces.{in_force-beside}
@@ -38,7 +38,7 @@ use Rattle.world_terms.specs.TermsStand.{IsFresh, TermsStand, TermsStandBut}
 use Rattle.world_terms.proofs.Frames.{terms-beside}
 
 -- the world with process i moved; its wire and its terms may have changed too
-pub record Moved (i : ℕ) (c0 c1 : Process) (w v : State) : Type 0 where
+pub record Moved (i : ℕ) (c0 c1 : Process) (w v : World) : Type 0 where
   pub was : slice_get w.processes.items i ≡ Some c0
   pub now : v.processes.items ≡ slice_set w.processes.items i c1
   pub same : SameDocument w v
@@ -47,12 +47,12 @@ pub record Moved (i : ℕ) (c0 c1 : Process) (w v : State) : Type 0 where
   pub in_force : v.in_force ≡ w.in_force
 
 -- the processes, their terms and what was read of the document are as before
-pub record Unmoved (w v : State) : Type 0 where
+pub record Unmoved (w v : World) : Type 0 where
   pub same : SameDocument w v
   pub processes : v.processes ≡ w.processes
   pub terms : v.terms ≡ w.terms
 
-pub unmoved-self : (w : State) → Unmoved w w
+pub unmoved-self : (w : World) → Unmoved w w
 unmoved-self w = record { same = record { beat = refl; end = refl; restart = refl; epoch = refl; micros = refl; events = refl; names = refl; controllers = refl }; processes = refl; terms = refl }
 
 each-set : (doc : Doc) (i : ℕ) (h : List Entry) (cs : List Process) (c0 c1 : Process) → slice_get cs i ≡ Some c0 → OthersStand doc i h cs → ProcessStands doc i h c1 → EachStands doc h (slice_set cs i c1)
@@ -69,7 +69,7 @@ each-set doc i h cs c0 c1 was others own p c is = by_place (p == i) refl
         others p c apart (sym (slice_get-set_other cs i p c1 apart) ∙ is)
 
 -- what was read of the document stands as before
-pub doc-same : (doc : Doc) (k : ℕ) (w v : State) → SameDocument w v → length v.processes.items ≡ length w.processes.items → DocStands doc k w → DocStands doc k v
+pub doc-same : (doc : Doc) (k : ℕ) (w v : World) → SameDocument w v → length v.processes.items ≡ length w.processes.items → DocStands doc k w → DocStands doc k v
 doc-same doc k w v same count s =
     record {
       at = ap (λ b. b.0) same.beat ∙ s.at;
@@ -81,12 +81,12 @@ doc-same doc k w v same count s =
       controllers = same.controllers ∙ s.controllers;
     }
 
-doc-moved : (doc : Doc) (k i : ℕ) (c0 c1 : Process) (w v : State) → Moved i c0 c1 w v → DocStands doc k w → DocStands doc k v
+doc-moved : (doc : Doc) (k i : ℕ) (c0 c1 : Process) (w v : World) → Moved i c0 c1 w v → DocStands doc k w → DocStands doc k v
 doc-moved doc k i c0 c1 w v m s = doc-same doc k w v m.same (ap length m.now ∙ length-set w.processes.items i c1) s
 
 -- nothing was sent
-pub within-moved : (doc : Doc) (k i : ℕ) (arriving : List Sent) (coming : List Back) (h : List Entry) (c0 c1 : Process) (w v : State) → Moved i c0 c1 w v → v.wire ≡ w.wire → Around doc k i arriving coming h w → ProcessStands doc i h c1 → TermsStand doc h v.terms →
-    StateWithin doc k arriving coming h v
+pub within-moved : (doc : Doc) (k i : ℕ) (arriving : List Sent) (coming : List Back) (h : List Entry) (c0 c1 : Process) (w v : World) → Moved i c0 c1 w v → v.wire ≡ w.wire → Around doc k i arriving coming h w → ProcessStands doc i h c1 → TermsStand doc h v.terms →
+    WorldWithin doc k arriving coming h v
 within-moved doc k i arriving coming h c0 c1 w v m wire a own terms =
     record {
       rest = record {
@@ -101,8 +101,8 @@ within-moved doc k i arriving coming h c0 c1 w v m wire a own terms =
     }
 
 -- a request was sent
-within-sent : (doc : Doc) (k step i : ℕ) (arriving : List Sent) (coming : List Back) (h next : List Entry) (c0 c1 : Process) (w v : State) (ask : Ask) → Moved i c0 c1 w v → SendsAsked k (identity i (incarnation_of c1)) (Some ask) w.wire v.wire →
-    Around doc k i arriving coming h w → i < processes doc → AsksOn doc k step i h next c1 (Some ask) → TermsStand doc h v.terms → StateWithin doc k arriving coming next v
+within-sent : (doc : Doc) (k step i : ℕ) (arriving : List Sent) (coming : List Back) (h next : List Entry) (c0 c1 : Process) (w v : World) (ask : Ask) → Moved i c0 c1 w v → SendsAsked k (identity i (incarnation_of c1)) (Some ask) w.wire v.wire →
+    Around doc k i arriving coming h w → i < processes doc → AsksOn doc k step i h next c1 (Some ask) → TermsStand doc h v.terms → WorldWithin doc k arriving coming next v
 within-sent doc k step i arriving coming h next c0 c1 w v ask m sends a within asked terms =
     let q = identity i (incarnation_of c1) in
     let call = next_call q k asked.kind ask.request h in
@@ -110,7 +110,7 @@ within-sent doc k step i arriving coming h next c0 c1 w v ask m sends a within a
     let e = entry k step q d in
     let last : incarnation_of c1 ≡ starts i h = process-incarnation doc i (entry k step q (Sends call None) ∷ h) c1 (asked.stands None) in
     let known : IsKnown (processes doc) h q = record { within = within; started = omega (arith, last) } in
-    subst (λ x. StateWithin doc k arriving coming x v) (sym asked.sent)
+    subst (λ x. WorldWithin doc k arriving coming x v) (sym asked.sent)
     (record {
       rest = record {
         document = doc-moved doc k i c0 c1 w v m a.rest.document;
@@ -125,10 +125,10 @@ within-sent doc k step i arriving coming h next c0 c1 w v ask m sends a within a
     })
 
 -- what a process asks was sent, where it asks
-pub within-asked : (doc : Doc) (k step i : ℕ) (arriving : List Sent) (coming : List Back) (h next : List Entry) (c0 c1 : Process) (w v : State) (ask : Option Ask) → Moved i c0 c1 w v → SendsAsked k (identity i (incarnation_of c1)) ask w.wire v.wire →
-    Around doc k i arriving coming h w → i < processes doc → AsksOn doc k step i h next c1 ask → TermsStand doc h v.terms → StateWithin doc k arriving coming next v
+pub within-asked : (doc : Doc) (k step i : ℕ) (arriving : List Sent) (coming : List Back) (h next : List Entry) (c0 c1 : Process) (w v : World) (ask : Option Ask) → Moved i c0 c1 w v → SendsAsked k (identity i (incarnation_of c1)) ask w.wire v.wire →
+    Around doc k i arriving coming h w → i < processes doc → AsksOn doc k step i h next c1 ask → TermsStand doc h v.terms → WorldWithin doc k arriving coming next v
 within-asked doc k step i arriving coming h next c0 c1 w v None m same a within asks terms =
-    subst (λ g. StateWithin doc k arriving coming g v) (sym asks.0) (within-moved doc k i arriving coming h c0 c1 w v m same a asks.1 terms)
+    subst (λ g. WorldWithin doc k arriving coming g v) (sym asks.0) (within-moved doc k i arriving coming h c0 c1 w v m same a asks.1 terms)
 within-asked doc k step i arriving coming h next c0 c1 w v (Some ask) m sends a within asked terms =
     within-sent doc k step i arriving coming h next c0 c1 w v ask m sends a within asked terms
 
@@ -155,7 +155,7 @@ told-turn doc k i before deeds h c t told turned =
     let e = ended_deeds k (identity i (incarnation_of c)) t.ended in
     sym (append_assoc before (deeds ++ s) e) ∙ ap (λ x. x ++ e) (sym (append_assoc before deeds s)) ∙ ap (λ x. x ++ s ++ e) told ∙ sym turned.told
 
-pub running-turned : (doc : Doc) (k i : ℕ) (before deeds new : List Deed) (arriving : List Sent) (coming : List Back) (h : List Entry) (c0 c1 : Process) (w v : State) (t : Turn) → MidBeat doc k before arriving coming h w deeds →
+pub running-turned : (doc : Doc) (k i : ℕ) (before deeds new : List Deed) (arriving : List Sent) (coming : List Back) (h : List Entry) (c0 c1 : Process) (w v : World) (t : Turn) → MidBeat doc k before arriving coming h w deeds →
     i < processes doc → Moved i c0 c1 w v → SendsAsked k (identity i (incarnation_of c1)) t.ask w.wire v.wire → Turned doc k i h c1 t → TermsStand doc (before_asking doc k i h) v.terms → new ≡ turn_told k (identity i (incarnation_of c1)) t deeds →
     MidBeat doc k before arriving coming (own_turn doc k i h) v new
 running-turned doc k i before deeds new arriving coming h c0 c1 w v t r within m sends turned terms new_is =
@@ -171,12 +171,12 @@ running-turned doc k i before deeds new arriving coming h c0 c1 w v t r within m
 abbrev pub reply_told : ℕ → Identity → Received → List Deed → List Deed
 reply_told k q r deeds = deeds ++ lead_deeds k q r.lead
 
-within-replied : (doc : Doc) (k i : ℕ) (arriving : List Sent) (coming : List Back) (b : Back) (h : List Entry) (c0 c1 : Process) (w v : State) (ask : Option Ask) → b.who.process ≡ i → i < processes doc → IsKnown (processes doc) h b.who →
+within-replied : (doc : Doc) (k i : ℕ) (arriving : List Sent) (coming : List Back) (b : Back) (h : List Entry) (c0 c1 : Process) (w v : World) (ask : Option Ask) → b.who.process ≡ i → i < processes doc → IsKnown (processes doc) h b.who →
     Moved i c0 c1 w v → SendsAsked k (identity i (incarnation_of c1)) ask w.wire v.wire → Around doc k i arriving coming h w → AsksOnReply doc k (identity i (incarnation_of c1)) b h (λ g. ProcessStands doc i g c1) ask → TermsStand doc h v.terms →
-    StateWithin doc k arriving coming (delivered doc k b h) v
+    WorldWithin doc k arriving coming (delivered doc k b h) v
 within-replied doc k i arriving coming b h c0 c1 w v None process within known m same a on terms =
     let next = with_facts k 3 b.who on.facts h in
-    subst (λ g. StateWithin doc k arriving coming g v) (sym on.adds)
+    subst (λ g. WorldWithin doc k arriving coming g v) (sym on.adds)
     (within-moved doc k i arriving coming next c0 c1 w v m same (around-facts doc k i k 3 arriving coming b.who on.facts h w process on.quiet known a) (subst (λ g. ProcessStands doc i g c1) on.adds on.stands)
     (subst (λ g. TermsStand doc g v.terms) on.adds (terms-delivered doc k v.terms b h terms)))
 within-replied doc k i arriving coming b h c0 c1 w v (Some ask) process within known m sends a on terms =
@@ -187,7 +187,7 @@ within-replied doc k i arriving coming b h c0 c1 w v (Some ask) process within k
     let known_g : IsKnown (processes doc) g q = known-later (processes doc) (entry k 3 q d) h q known_q in
     within-sent doc k 3 i arriving coming g (delivered doc k b h) c0 c1 w v ask m sends (around-own doc k i k 3 arriving coming q d h w refl refl known_g a) within on.asked (terms-beside doc h (entry k 3 q d) v.terms refl terms)
 
-pub running-replied : (doc : Doc) (k i : ℕ) (before deeds new : List Deed) (arriving : List Sent) (coming : List Back) (b : Back) (h : List Entry) (c0 c1 : Process) (w v : State) (x : Received) → MidBeat doc k before arriving coming h w deeds →
+pub running-replied : (doc : Doc) (k i : ℕ) (before deeds new : List Deed) (arriving : List Sent) (coming : List Back) (b : Back) (h : List Entry) (c0 c1 : Process) (w v : World) (x : Received) → MidBeat doc k before arriving coming h w deeds →
     b.who.process ≡ i → i < processes doc → IsKnown (processes doc) h b.who → Moved i c0 c1 w v → v.terms ≡ w.terms → SendsAsked k (identity i (incarnation_of c1)) x.ask w.wire v.wire → Replied doc k i b h c1 x → new ≡ reply_told k (identity i (incarnation_of c1)) x deeds →
     MidBeat doc k before arriving coming (delivered doc k b h) v new
 running-replied doc k i before deeds new arriving coming b h c0 c1 w v x r process within known m terms sends replied new_is =
@@ -199,7 +199,7 @@ running-replied doc k i before deeds new arriving coming b h c0 c1 w v x r proce
 -- ---- what stays plain
 
 -- the ranges stand as before
-pub ready-same : (w v : State) → SameDocument w v → vec_len v.processes ≡ vec_len w.processes → ((i : ℕ) (c : Process) → slice_get v.processes.items i ≡ Some c → (clock_of c).end ≡ w.end.0) → AreKept v.processes.items → AreNoted v.processes.items v.turn_beats → IsReady w → IsReady v
+pub ready-same : (w v : World) → SameDocument w v → vec_len v.processes ≡ vec_len w.processes → ((i : ℕ) (c : Process) → slice_get v.processes.items i ≡ Some c → (clock_of c).end ≡ w.end.0) → AreKept v.processes.items → AreNoted v.processes.items v.turn_beats → IsReady w → IsReady v
 ready-same w v same count clocks kept noted ready =
     record {
       end = subst (λ e. e.0 ≤ 604800000) (sym same.end) ready.end;
@@ -219,7 +219,7 @@ pub record Noted (i : ℕ) (c : Process) (old new : BeatTree) : Type 0 where
   pub room : room new ≡ room old
   pub leaves : (j : ℕ) → leaf new j ≡ (if i == j then (waking_of c).until else leaf old j)
 
-pub keeps-moved : (i : ℕ) (c0 c1 : Process) (w v : State) → IsReady w → Moved i c0 c1 w v → vec_len v.processes ≡ vec_len w.processes → SameProcess c0 c1 → IsKept c1 → Noted i c1 w.turn_beats v.turn_beats → Keeps w v
+pub keeps-moved : (i : ℕ) (c0 c1 : Process) (w v : World) → IsReady w → Moved i c0 c1 w v → vec_len v.processes ≡ vec_len w.processes → SameProcess c0 c1 → IsKept c1 → Noted i c1 w.turn_beats v.turn_beats → Keeps w v
 keeps-moved i c0 c1 w v ready m count same kept noted =
     record {
       ready = ready-same w v m.same count (λ j c is. by_place j c is (j == i) refl) (λ j c is. kept_at j c is (j == i) refl)
@@ -279,7 +279,7 @@ keeps-moved i c0 c1 w v ready m count same kept noted =
         ready.clocks j c (sym (slice_get-set_other w.processes.items i j c1 apart) ∙ ap (λ cs. slice_get cs j) (sym m.now) ∙ is)
 
 -- a process was written back as it was
-pub keeps-set : (i : ℕ) (c0 : Process) (w v : State) → IsReady w → Moved i c0 c0 w v → vec_len v.processes ≡ vec_len w.processes → v.turn_beats ≡ w.turn_beats → Keeps w v
+pub keeps-set : (i : ℕ) (c0 : Process) (w v : World) → IsReady w → Moved i c0 c0 w v → vec_len v.processes ≡ vec_len w.processes → v.turn_beats ≡ w.turn_beats → Keeps w v
 keeps-set i c0 w v ready m count beats =
     keeps-moved i c0 c0 w v ready m count (record { me = refl; clock = refl }) (ready.kept i c0 m.was) (record { room = ap room beats; leaves = λ j. ap (λ t. leaf t j) beats ∙ by_place j (i == j) refl })
   where
@@ -289,7 +289,7 @@ keeps-set i c0 w v ready m count beats =
 
 -- ---- a first start
 
-pub first-not : (doc : Doc) (i : ℕ) (before deeds : List Deed) (arriving : List Sent) (coming : List Back) (h : List Entry) (c0 : Process) (w v : State) → MidBeat doc 0 before arriving coming h w deeds → Moved i c0 c0 w v → v.wire ≡ w.wire → v.terms ≡ w.terms → is_up_first_as c0 ≡ false →
+pub first-not : (doc : Doc) (i : ℕ) (before deeds : List Deed) (arriving : List Sent) (coming : List Back) (h : List Entry) (c0 : Process) (w v : World) → MidBeat doc 0 before arriving coming h w deeds → Moved i c0 c0 w v → v.wire ≡ w.wire → v.terms ≡ w.terms → is_up_first_as c0 ≡ false →
     MidBeat doc 0 before arriving coming (start_first i (is_up_first doc i) h) v deeds
 first-not doc i before deeds arriving coming h c0 w v r m wire terms down =
     let s = r.world.processes i c0 m.was in
@@ -297,7 +297,7 @@ first-not doc i before deeds arriving coming h c0 w v r m wire terms down =
     subst (λ g. MidBeat doc 0 before arriving coming g v deeds) same
     (record { world = within-moved doc 0 i arriving coming h c0 c0 w v m wire (around-world doc 0 i arriving coming h w r.world) s (subst (TermsStand doc h) (sym terms) r.world.terms); told = r.told })
 
-pub first-started : (doc : Doc) (i : ℕ) (before deeds new : List Deed) (arriving : List Sent) (coming : List Back) (h : List Entry) (c0 c1 : Process) (w v : State) → MidBeat doc 0 before arriving coming h w deeds → i < processes doc → Moved i c0 c1 w v → v.wire ≡ w.wire → is_up_first_as c0 ≡ true →
+pub first-started : (doc : Doc) (i : ℕ) (before deeds new : List Deed) (arriving : List Sent) (coming : List Back) (h : List Entry) (c0 c1 : Process) (w v : World) → MidBeat doc 0 before arriving coming h w deeds → i < processes doc → Moved i c0 c1 w v → v.wire ≡ w.wire → is_up_first_as c0 ≡ true →
     ProcessStands doc i (start 0 1 i h) c1 → (TermsStandBut doc i (start 0 1 i h) w.terms → IsFresh i (start 0 1 i h) → TermsStand doc (start 0 1 i h) v.terms) → new ≡ deeds ++ deeds_of 0 (actor_of (identity i (incarnation_of c1))) (Some act.Start) → MidBeat doc 0 before arriving coming (start_first i (is_up_first doc i) h) v new
 first-started doc i before deeds new arriving coming h c0 c1 w v r within m wire up stands anew new_is =
     let s = r.world.processes i c0 m.was in
@@ -314,7 +314,7 @@ first-started doc i before deeds new arriving coming h c0 c1 w v r within m wire
 
 -- ---- an answer of the store
 
-pub answered-running : (doc : Doc) (k : ℕ) (before deeds new : List Deed) (left rest : List Sent) (coming : List Back) (s : Sent) (h : List Entry) (w v : State) → MidBeat doc k before left coming h w deeds →
+pub answered-running : (doc : Doc) (k : ℕ) (before deeds new : List Deed) (left rest : List Sent) (coming : List Back) (s : Sent) (h : List Entry) (w v : World) → MidBeat doc k before left coming h w deeds →
     IsKnown (processes doc) h s.who → Unmoved w v → v.in_force ≡ w.in_force → StoreStands (answered doc k s h) v.store → WireStands (processes doc) k rest coming (answered doc k s h) v.wire →
     new ≡ deeds ++ deeds_of k (actor_of s.who) (answer_act s.call.request (answer s.call.request h)) → MidBeat doc k before rest coming (answered doc k s h) v new
 answered-running doc k before deeds new left rest coming s h w v run known unmoved in_force store wire new_is =

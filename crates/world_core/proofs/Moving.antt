@@ -11,22 +11,22 @@ use Rattle.kube_objects.specs.Entry.{actor_of}
 use Rattle.kube_objects.specs.Identities.{identity}
 use Rattle.wire_calls.specs.declared.wire.Wire.{Wire}
 use Rattle.world_process.specs.declared.process.Process.{Process}
-use Rattle.world_core.specs.declared.state.State.{State}
+use Rattle.world_core.specs.declared.world.World.{World}
 use Rattle.world_process.specs.Processes.{clock_of, incarnation_of, me_of}
-use Rattle.world_core.specs.States.{IsReady, DocStands, SendsAsked}
+use Rattle.world_core.specs.Worlds.{IsReady, DocStands, SendsAsked}
 
 -- the process that a place reads
-pub read-at : (w : State) (i : ℕ) (c : Process) → i < vec_len w.processes → c ≡ slice_index_or w.processes.items i c → slice_get w.processes.items i ≡ Some c
+pub read-at : (w : World) (i : ℕ) (c : Process) → i < vec_len w.processes → c ≡ slice_index_or w.processes.items i c → slice_get w.processes.items i ≡ Some c
 read-at w i c within is = slice_get_read w.processes.items (vec_len w.processes) i c w.processes.ok.0 within is
 
-pub within-end : (w : State) (i : ℕ) (c : Process) → IsReady w → w.beat.0 ≤ w.end.0 → slice_get w.processes.items i ≡ Some c → w.beat.0 ≤ (clock_of c).end
+pub within-end : (w : World) (i : ℕ) (c : Process) → IsReady w → w.beat.0 ≤ w.end.0 → slice_get w.processes.items i ≡ Some c → w.beat.0 ≤ (clock_of c).end
 within-end w i c ready within was = let e = ready.clocks i c was in omega (arith, e, within)
 
-pub within-processes : (doc : Doc) (k : ℕ) (w : State) (i : ℕ) → DocStands doc k w → i < vec_len w.processes → i < processes doc
+pub within-processes : (doc : Doc) (k : ℕ) (w : World) (i : ℕ) → DocStands doc k w → i < vec_len w.processes → i < processes doc
 within-processes doc k w i s within = let count = s.count in let len = w.processes.ok.0 in omega (arith, count, len, within)
 
 -- a process has its leaf
-pub room-for : (w : State) (i : ℕ) → IsReady w → i < vec_len w.processes → i < room w.turn_beats
+pub room-for : (w : World) (i : ℕ) → IsReady w → i < vec_len w.processes → i < room w.turn_beats
 room-for w i ready within = let most = ready.noted.room in let len = w.processes.ok.0 in omega (arith, within, most, len)
 
 -- the actor that a process names

@@ -18,8 +18,8 @@ use Rattle.world_process.specs.Beats.{beat_in}
 use Rattle.world_process.specs.Processes.{waking_of}
 use Rattle.world_process.proofs.Names.{eq-is, eq-isnt, eq-self}
 use Rattle.world_process.proofs.Wakes.{kept-still}
-use Rattle.world_core.specs.declared.state.State.{State}
-use Rattle.world_core.specs.States.{AreNoted, IsReady, MidBeat}
+use Rattle.world_core.specs.declared.world.World.{World}
+use Rattle.world_core.specs.Worlds.{AreNoted, IsReady, MidBeat}
 use Rattle.world_core.specs.Waits.{awake_turn, own_ticks_as}
 use Rattle.world_core.proofs.Ranges.{not-below}
 use Rattle.world_core.proofs.Ticking.{turn-is}
@@ -44,7 +44,7 @@ pub kubelet-turn : (doc : Doc) (k p : ℕ) (h : List Entry) → length doc.contr
 kubelet-turn doc k p h more = turn-is doc k p h ∙ ap (λ b. own_ticks_as doc k p b (awake_turn doc k p h)) (kubelet-is doc p more)
 
 -- a kubelet whose leaf doesn't come before the next beat adds nothing in its turn
-passed-turn : (doc : Doc) (k p : ℕ) (before : List Deed) (arriving : List Sent) (coming : List Back) (h : List Entry) (w : State) (deeds : List Deed) (next : Beat) → IsReady w → w.beat.0 ≤ w.end.0 → next.0 ≡ w.beat.0 + 1
+passed-turn : (doc : Doc) (k p : ℕ) (before : List Deed) (arriving : List Sent) (coming : List Back) (h : List Entry) (w : World) (deeds : List Deed) (next : Beat) → IsReady w → w.beat.0 ≤ w.end.0 → next.0 ≡ w.beat.0 + 1
     → MidBeat doc k before arriving coming h w deeds → p < processes doc → length doc.controllers ≤ p → comes_before (leaf w.turn_beats p) (Some next) ≡ false → turn doc k p h ≡ h
 passed-turn doc k p before arriving coming h w deeds next ready within next_is r inside more later =
     let d = r.world.rest.document in
@@ -60,7 +60,7 @@ passed-turn doc k p before arriving coming h w deeds next ready within next_is r
     let still = (kept-still doc k p h x (ready.kept p x there.1) stands (omega (arith, at, end, within))).1 early in
     kubelet-turn doc k p h more ∙ awake-still doc k p h still
 
-pub passed-turns : (doc : Doc) (k from n : ℕ) (before : List Deed) (arriving : List Sent) (coming : List Back) (h : List Entry) (w : State) (deeds : List Deed) (next : Beat) → IsReady w → w.beat.0 ≤ w.end.0 → next.0 ≡ w.beat.0 + 1
+pub passed-turns : (doc : Doc) (k from n : ℕ) (before : List Deed) (arriving : List Sent) (coming : List Back) (h : List Entry) (w : World) (deeds : List Deed) (next : Beat) → IsReady w → w.beat.0 ≤ w.end.0 → next.0 ≡ w.beat.0 + 1
     → MidBeat doc k before arriving coming (turns doc k from h) w deeds → from + n ≤ processes doc → length doc.controllers ≤ from
     → ((p : ℕ) → from ≤ p → p < from + n → comes_before (leaf w.turn_beats p) (Some next) ≡ false) → turns doc k (from + n) h ≡ turns doc k from h
 passed-turns doc k from zero before arriving coming h w deeds next ready within next_is r inside more later = let same : from + 0 ≡ from = omega arith in ap (λ m. turns doc k m h) same
@@ -70,7 +70,7 @@ passed-turns doc k from (suc n) before arriving coming h w deeds next ready with
     ap (λ m. turns doc k m h) one ∙ ap (turn doc k (from + n)) fewer
     ∙ passed-turn doc k (from + n) before arriving coming (turns doc k from h) w deeds next ready within next_is r (omega (arith, inside)) (omega (arith, more)) (later (from + n) (omega arith) (omega arith))
 
-pub passed-to : (doc : Doc) (k from i : ℕ) (before : List Deed) (arriving : List Sent) (coming : List Back) (h : List Entry) (w : State) (deeds : List Deed) (next : Beat) → IsReady w → w.beat.0 ≤ w.end.0 → next.0 ≡ w.beat.0 + 1
+pub passed-to : (doc : Doc) (k from i : ℕ) (before : List Deed) (arriving : List Sent) (coming : List Back) (h : List Entry) (w : World) (deeds : List Deed) (next : Beat) → IsReady w → w.beat.0 ≤ w.end.0 → next.0 ≡ w.beat.0 + 1
     → MidBeat doc k before arriving coming (turns doc k from h) w deeds → from ≤ i → i ≤ processes doc → length doc.controllers ≤ from
     → ((p : ℕ) → from ≤ p → p < i → comes_before (leaf w.turn_beats p) (Some next) ≡ false) → turns doc k i h ≡ turns doc k from h
 passed-to doc k from i before arriving coming h w deeds next ready within next_is r up inside more later =
@@ -79,7 +79,7 @@ passed-to doc k from i before arriving coming h w deeds next ready within next_i
     ∙ passed-turns doc k from (i - from) before arriving coming h w deeds next ready within next_is r (omega (arith, up, inside)) more (λ p from_p less. later p from_p (omega (arith, less, up)))
 
 -- a leaf that comes before something is a process's
-pub has-process : (w : State) (i : ℕ) (before : Option Beat) → IsReady w → comes_before (leaf w.turn_beats i) before ≡ true → i < vec_len w.processes
+pub has-process : (w : World) (i : ℕ) (before : Option Beat) → IsReady w → comes_before (leaf w.turn_beats i) before ≡ true → i < vec_len w.processes
 has-process w i before ready sooner = by_order (cases_lt i (length w.processes.items))
   where
     by_order : (i < length w.processes.items) ⊎ (length w.processes.items ≤ i) → i < vec_len w.processes

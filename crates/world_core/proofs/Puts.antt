@@ -17,7 +17,7 @@ use Rattle.world_process.specs.declared.in_force.InForce.{InForce}
 use Rattle.world_process.specs.declared.process.Process.{Process}
 use Rattle.world_process.specs.InForce.{InForceStands}
 use Rattle.world_process.specs.Plain.{IsPlain}
-use Rattle.world_core.specs.States.{EachStands}
+use Rattle.world_core.specs.Worlds.{EachStands}
 use Rattle.world_process.proofs.Forces.{in_force-beside}
 use Rattle.world_process.proofs.Processes.{process-put_all}
 use Rattle.world_process.proofs.Scripted.{plain-script}

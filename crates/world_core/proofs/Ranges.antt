@@ -8,7 +8,7 @@ use Rattle.kube_objects.specs.declared.script.What.{What}
 use Rattle.kube_objects.specs.declared.script.What.TheVariants as what
 use Rattle.kube_objects.specs.Document.{Doc}
 use Rattle.script_reader.specs.Lawful.{IsLawfulWhat, AreLawfulFrom}
-use Rattle.world_core.specs.States.{IsFit}
+use Rattle.world_core.specs.Worlds.{IsFit}
 use Rattle.world_process.proofs.Names.{le-from, lt-from}
 
 pub end-most : (e b : ℕ) → 1 ≤ b → e * b ≤ 604800000 → e ≤ 604800000

@@ -24,11 +24,11 @@ use Rattle.object_store.specs.Stands.{StoreStands}
 use Rattle.wire_calls.specs.WireStands.{WireStands, is_of_wire}
 use Rattle.wire_calls.proofs.Frames.{wire-beside}
 use Rattle.world_process.specs.declared.process.Process.{Process}
-use Rattle.world_core.specs.declared.state.State.{State}
+use Rattle.world_core.specs.declared.world.World.{World}
 use Rattle.world_process.specs.Processes.{ProcessStands, AsksOn, incarnation_of}
 use Rattle.world_process.specs.InForce.{InForceStands}
 use Rattle.world_process.specs.Moves.{stop_in, stopped}
-use Rattle.world_core.specs.States.{EachStands, MidBeat, SendsAsked}
+use Rattle.world_core.specs.Worlds.{EachStands, MidBeat, SendsAsked}
 use Rattle.world_core.proofs.Around.{Around, around-own, around-started, alive-known, rest-own}
 use Rattle.world_process.proofs.Forces.{sets_standing, in_force-beside}
 use Rattle.world_process.proofs.Names.{lt-from, eq-is, eq-isnt}
@@ -48,7 +48,7 @@ controller-within doc p is = let less = lt-from p (length doc.controllers) is in
 abbrev pub scripted : ℕ → What → Option Version → List Entry → List Entry
 scripted k event version h = script_entry k 1 (Event event version) ∷ h
 
-pub running-event : (doc : Doc) (k : ℕ) (before deeds new : List Deed) (arriving : List Sent) (coming : List Back) (h : List Entry) (w v : State) (event : What) (version : Option Version) → MidBeat doc k before arriving coming h w deeds →
+pub running-event : (doc : Doc) (k : ℕ) (before deeds new : List Deed) (arriving : List Sent) (coming : List Back) (h : List Entry) (w v : World) (event : What) (version : Option Version) → MidBeat doc k before arriving coming h w deeds →
     ((p : ℕ) → cancels doc p k event ≡ false) → Unmoved w v → InForceStands doc (scripted k event version h) v.in_force → StoreStands (scripted k event version h) v.store → WireStands (processes doc) k arriving coming (scripted k event version h) v.wire →
     new ≡ deeds ++ deeds_of k actor.Script (event_act event version) → MidBeat doc k before arriving coming (scripted k event version h) v new
 running-event doc k before deeds new arriving coming h w v event version r beside unmoved in_force store wire new_is =
@@ -68,7 +68,7 @@ running-event doc k before deeds new arriving coming h w v event version r besid
     }
 
 -- it changes nothing in the world and is not printed
-pub running-plain : (doc : Doc) (k : ℕ) (before deeds : List Deed) (arriving : List Sent) (coming : List Back) (h : List Entry) (w : State) (event : What) → MidBeat doc k before arriving coming h w deeds → is_of_wire (Event event None) ≡ false → write_of (Event event None) ≡ None → sets_standing event ≡ false →
+pub running-plain : (doc : Doc) (k : ℕ) (before deeds : List Deed) (arriving : List Sent) (coming : List Back) (h : List Entry) (w : World) (event : What) → MidBeat doc k before arriving coming h w deeds → is_of_wire (Event event None) ≡ false → write_of (Event event None) ≡ None → sets_standing event ≡ false →
     ((p : ℕ) → cancels doc p k event ≡ false) → MidBeat doc k before arriving coming (scripted k event None h) w deeds
 running-plain doc k before deeds arriving coming h w event r wire write standing beside =
     let e = script_entry k 1 (Event event None) in
@@ -77,7 +77,7 @@ running-plain doc k before deeds arriving coming h w event r wire write standing
 
 -- ---- an event on a controller
 
-around-event : (doc : Doc) (k i : ℕ) (arriving : List Sent) (coming : List Back) (event : What) (h : List Entry) (w : State) → is_of_wire (Event event None) ≡ false → write_of (Event event None) ≡ None → sets_standing event ≡ false → ((p : ℕ) → ¬ (p ≡ i) → cancels doc p k event ≡ false) →
+around-event : (doc : Doc) (k i : ℕ) (arriving : List Sent) (coming : List Back) (event : What) (h : List Entry) (w : World) → is_of_wire (Event event None) ≡ false → write_of (Event event None) ≡ None → sets_standing event ≡ false → ((p : ℕ) → ¬ (p ≡ i) → cancels doc p k event ≡ false) →
     Around doc k i arriving coming h w → Around doc k i arriving coming (scripted k event None h) w
 around-event doc k i arriving coming event h w wire write standing beside a =
     record {
@@ -95,7 +95,7 @@ around-event doc k i arriving coming event h w wire write standing beside a =
 apart : (i p : ℕ) → ¬ (p ≡ i) → ¬ (i ≡ p)
 apart i p other = λ same. other (sym same)
 
-pub around-crash : (doc : Doc) (k : ℕ) (id : ProcId) (arriving : List Sent) (coming : List Back) (h : List Entry) (w : State) → id.0 < processes doc → Around doc k id.0 arriving coming h w → Around doc k id.0 arriving coming (happens doc k (what.Crash id) h) w
+pub around-crash : (doc : Doc) (k : ℕ) (id : ProcId) (arriving : List Sent) (coming : List Back) (h : List Entry) (w : World) → id.0 < processes doc → Around doc k id.0 arriving coming h w → Around doc k id.0 arriving coming (happens doc k (what.Crash id) h) w
 around-crash doc k id arriving coming h w within a = by_life (alive id.0 h) refl
   where
     g : List Entry
@@ -110,7 +110,7 @@ around-crash doc k id arriving coming h w within a = by_life (alive id.0 h) refl
         let known = known-later (processes doc) (script_entry k 1 (Event (what.Crash id) None)) h (identity id.0 i) (alive-known (processes doc) id.0 i h a.rest.plain within is) in
         around-own doc k id.0 k 1 arriving coming (identity id.0 i) Crashes g w refl refl (known-later (processes doc) (entry k 1 (identity id.0 i) Crashes) g (identity id.0 i) known) base
 
-pub around-begin : (doc : Doc) (k : ℕ) (id : ProcId) (arriving : List Sent) (coming : List Back) (h : List Entry) (w : State) → id.0 < processes doc → Around doc k id.0 arriving coming h w → Around doc k id.0 arriving coming (happens doc k (what.Start id) h) w
+pub around-begin : (doc : Doc) (k : ℕ) (id : ProcId) (arriving : List Sent) (coming : List Back) (h : List Entry) (w : World) → id.0 < processes doc → Around doc k id.0 arriving coming h w → Around doc k id.0 arriving coming (happens doc k (what.Start id) h) w
 around-begin doc k id arriving coming h w within a = by_life (alive id.0 h)
   where
     g : List Entry
@@ -123,7 +123,7 @@ around-begin doc k id arriving coming h w within a = by_life (alive id.0 h)
     by_life None = around-started doc k id.0 k 1 arriving coming g w within base
     by_life (Some i) = base
 
-pub around-stop : (doc : Doc) (k : ℕ) (id : ProcId) (arriving : List Sent) (coming : List Back) (h : List Entry) (w : State) → id.0 < processes doc → Around doc k id.0 arriving coming h w → Around doc k id.0 arriving coming (stopped doc k id h) w
+pub around-stop : (doc : Doc) (k : ℕ) (id : ProcId) (arriving : List Sent) (coming : List Back) (h : List Entry) (w : World) → id.0 < processes doc → Around doc k id.0 arriving coming h w → Around doc k id.0 arriving coming (stopped doc k id h) w
 around-stop doc k id arriving coming h w within a = by_pause (not (is_paused doc id.0 k))
   where
     g : List Entry
@@ -145,7 +145,7 @@ around-stop doc k id arriving coming h w within a = by_pause (not (is_paused doc
 -- ---- pauses
 
 -- a controller that is paused isn't stopped
-pub running-unstopped : (doc : Doc) (k : ℕ) (before deeds : List Deed) (arriving : List Sent) (coming : List Back) (h : List Entry) (w : State) (id : ProcId) → is_paused doc id.0 k ≡ true
+pub running-unstopped : (doc : Doc) (k : ℕ) (before deeds : List Deed) (arriving : List Sent) (coming : List Back) (h : List Entry) (w : World) (id : ProcId) → is_paused doc id.0 k ≡ true
     → MidBeat doc k before arriving coming h w deeds → MidBeat doc k before arriving coming (happens doc k (what.Stop id) h) w deeds
 running-unstopped doc k before deeds arriving coming h w id paused r =
     subst (λ g. MidBeat doc k before arriving coming g w deeds) (sym base) (running-plain doc k before deeds arriving coming h w (what.Stop id) r refl refl refl (λ p. by_place p (id.0 == p) refl))
@@ -161,7 +161,7 @@ running-unstopped doc k before deeds arriving coming h w id paused r =
     by_place p false other = ap (λ b. b && not (is_paused doc p k)) other
 
 -- a pause is told of a process that is up
-pub running-stalled : (doc : Doc) (k : ℕ) (before deeds new : List Deed) (arriving : List Sent) (coming : List Back) (h : List Entry) (w : State) (id : ProcId) (beats i : ℕ) (up : Bool) → MidBeat doc k before arriving coming h w deeds → id.0 < processes doc → alive id.0 h ≡ when up i
+pub running-stalled : (doc : Doc) (k : ℕ) (before deeds new : List Deed) (arriving : List Sent) (coming : List Back) (h : List Entry) (w : World) (id : ProcId) (beats i : ℕ) (up : Bool) → MidBeat doc k before arriving coming h w deeds → id.0 < processes doc → alive id.0 h ≡ when up i
     → new ≡ deeds ++ deeds_of k (actor_of (identity id.0 i)) (when up (act.Pause beats)) → MidBeat doc k before arriving coming (happens doc k (what.Pause id beats) h) w new
 running-stalled doc k before deeds new arriving coming h w id beats i up r within lives new_is =
     subst (λ o. MidBeat doc k before arriving coming (stall k id.0 beats o g) w new) (sym lives) (by_life up lives new_is)
@@ -188,13 +188,13 @@ running-stalled doc k before deeds new arriving coming h w id beats i up r withi
         }
 
 -- the process stands for the history with the event, and sends nothing
-pub running-moved : (doc : Doc) (k i : ℕ) (before deeds new more : List Deed) (arriving : List Sent) (coming : List Back) (h next : List Entry) (c0 c1 : Process) (w v : State) → MidBeat doc k before arriving coming h w deeds → Moved i c0 c1 w v → v.wire ≡ w.wire →
+pub running-moved : (doc : Doc) (k i : ℕ) (before deeds new more : List Deed) (arriving : List Sent) (coming : List Back) (h next : List Entry) (c0 c1 : Process) (w v : World) → MidBeat doc k before arriving coming h w deeds → Moved i c0 c1 w v → v.wire ≡ w.wire →
     Around doc k i arriving coming next w → ProcessStands doc i next c1 → TermsStand doc next v.terms → printed next ≡ printed h ++ more → new ≡ deeds ++ more → MidBeat doc k before arriving coming next v new
 running-moved doc k i before deeds new more arriving coming h next c0 c1 w v r m wire around stands terms printed_is new_is =
     record { world = within-moved doc k i arriving coming next c0 c1 w v m wire around stands terms; told = told-more before deeds new more h next r.told new_is printed_is }
 
 -- what it asks was sent, where it asks
-pub running-asked : (doc : Doc) (k i : ℕ) (before deeds new more : List Deed) (arriving : List Sent) (coming : List Back) (h base next : List Entry) (c0 c1 : Process) (w v : State) (ask : Option Ask) → MidBeat doc k before arriving coming h w deeds →
+pub running-asked : (doc : Doc) (k i : ℕ) (before deeds new more : List Deed) (arriving : List Sent) (coming : List Back) (h base next : List Entry) (c0 c1 : Process) (w v : World) (ask : Option Ask) → MidBeat doc k before arriving coming h w deeds →
     i < processes doc → Moved i c0 c1 w v → SendsAsked k (identity i (incarnation_of c1)) ask w.wire v.wire → Around doc k i arriving coming base w → AsksOn doc k 1 i base next c1 ask → TermsStand doc base v.terms → printed base ≡ printed h ++ more → new ≡ deeds ++ more →
     MidBeat doc k before arriving coming next v new
 running-asked doc k i before deeds new more arriving coming h base next c0 c1 w v ask r within m sends around asks terms printed_is new_is =

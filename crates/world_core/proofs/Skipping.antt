@@ -18,8 +18,8 @@ use Rattle.wire_calls.specs.declared.wire.Wire.{Wire}
 use Rattle.wire_calls.specs.InFlight.{pending}
 use Rattle.wire_calls.specs.WireStands.{InOrder, IsQuiet, NextIs, WireStands, as_sent, as_back, at_beat}
 use Rattle.world_process.proofs.Names.{eq-is, eq-self, le-from, lt-from}
-use Rattle.world_core.specs.declared.state.State.{State}
-use Rattle.world_core.specs.States.{AreQuiet, IsPlaced, StateStands}
+use Rattle.world_core.specs.declared.world.World.{World}
+use Rattle.world_core.specs.Worlds.{AreQuiet, IsPlaced, WorldStands}
 
 -- ---- the wire
 
@@ -118,7 +118,7 @@ placed-skips doc k n place h most quiet placed =
 -- ---- the world
 
 -- the world before a later beat
-pub world-skips : (doc : Doc) (k : ℕ) (at : Beat) (h : List Entry) (w : State) → k ≤ at.0 → AreQuiet doc k at.0 h → StateStands doc k h w → StateStands doc at.0 h (record w { beat = at })
+pub world-skips : (doc : Doc) (k : ℕ) (at : Beat) (h : List Entry) (w : World) → k ≤ at.0 → AreQuiet doc k at.0 h → WorldStands doc k h w → WorldStands doc at.0 h (record w { beat = at })
 world-skips doc k at h w most quiet s =
     let r = s.within.rest in
     let d = r.document in

@@ -37,23 +37,23 @@ use Rattle.world_process.proofs.Processes.{process-ticked}
 use Rattle.world_process.proofs.Readings.{reading-local, wall-when}
 use Rattle.world_process.proofs.Unheard.{and-false}
 use Rattle.world_terms.specs.TermsStand.{IsUpAs, TermsTicked}
-use Rattle.world_core.specs.declared.state.State.{State}
-use Rattle.world_core.specs.States.{EachStands, MidBeat, StateWithin}
+use Rattle.world_core.specs.declared.world.World.{World}
+use Rattle.world_core.specs.Worlds.{EachStands, MidBeat, WorldWithin}
 use Rattle.world_core.specs.Waits.{awake_turn, own_ticks, own_ticks_as, turn_if}
 use Rattle.world_core.proofs.Around.{alive-known}
 
 -- ---- all of the world but its store and its terms
 
-pub record Beside (doc : Doc) (k : ℕ) (arriving : List Sent) (coming : List Back) (h : List Entry) (w : State) : Type 0 where
+pub record Beside (doc : Doc) (k : ℕ) (arriving : List Sent) (coming : List Back) (h : List Entry) (w : World) : Type 0 where
   pub plain : IsPlain (processes doc) h
   pub wire : WireStands (processes doc) k arriving coming h w.wire
   pub in_force : InForceStands doc h w.in_force
   pub processes : EachStands doc h w.processes.items
 
-pub beside-world : (doc : Doc) (k : ℕ) (arriving : List Sent) (coming : List Back) (h : List Entry) (w : State) → StateWithin doc k arriving coming h w → Beside doc k arriving coming h w
+pub beside-world : (doc : Doc) (k : ℕ) (arriving : List Sent) (coming : List Back) (h : List Entry) (w : World) → WorldWithin doc k arriving coming h w → Beside doc k arriving coming h w
 beside-world doc k arriving coming h w s = record { plain = s.rest.plain; wire = s.rest.wire; in_force = s.rest.in_force; processes = s.processes }
 
-module _ (doc : Doc) (k : ℕ) (arriving : List Sent) (coming : List Back) (w : State) where
+module _ (doc : Doc) (k : ℕ) (arriving : List Sent) (coming : List Back) (w : World) where
   -- one entry more
   beside-entry : (at : ℕ) (q : Identity) (t : Tick) (g : List Entry) → Beside doc k arriving coming g w × IsKnown (processes doc) g q
       → Beside doc k arriving coming (add at q t g) w × IsKnown (processes doc) (add at q t g) q
@@ -148,7 +148,7 @@ few-ticks doc k p q h few =
 -- ---- the world after a tick
 
 -- v is the world w with another store and other terms
-pub record SameButTicked (w v : State) : Type 0 where
+pub record SameButTicked (w v : World) : Type 0 where
   pub beat : v.beat ≡ w.beat
   pub restart : v.restart ≡ w.restart
   pub epoch : v.epoch ≡ w.epoch
@@ -159,7 +159,7 @@ pub record SameButTicked (w v : State) : Type 0 where
   pub processes : v.processes ≡ w.processes
   pub controllers : v.controllers ≡ w.controllers
 
-pub running-ticked : (doc : Doc) (k p i : ℕ) (before deeds told : List Deed) (arriving : List Sent) (coming : List Back) (h : List Entry) (w v : State) → is_paused doc p k ≡ false → p < processes doc → alive p h ≡ Some i → InTermAs doc k p i h → SameButTicked w v
+pub running-ticked : (doc : Doc) (k p i : ℕ) (before deeds told : List Deed) (arriving : List Sent) (coming : List Back) (h : List Entry) (w v : World) → is_paused doc p k ≡ false → p < processes doc → alive p h ≡ Some i → InTermAs doc k p i h → SameButTicked w v
     → MidBeat doc k before arriving coming h w deeds → TermsTicked doc k (identity p i) h told v.terms v.store → MidBeat doc k before arriving coming (own_ticks doc k p h) v (deeds ++ told)
 running-ticked doc k p i before deeds told arriving coming h w v awake within up acts same r t =
     let q = identity p i in
@@ -192,12 +192,12 @@ running-ticked doc k p i before deeds told arriving coming h w v awake within up
     })
 
 -- no tick in a pause
-pub running-rests : (doc : Doc) (k p : ℕ) (before deeds : List Deed) (arriving : List Sent) (coming : List Back) (h : List Entry) (w : State) → is_paused doc p k ≡ true
+pub running-rests : (doc : Doc) (k p : ℕ) (before deeds : List Deed) (arriving : List Sent) (coming : List Back) (h : List Entry) (w : World) → is_paused doc p k ≡ true
     → MidBeat doc k before arriving coming h w deeds → MidBeat doc k before arriving coming (own_ticks doc k p h) w deeds
 running-rests doc k p before deeds arriving coming h w paused r = subst (λ g. MidBeat doc k before arriving coming g w deeds) (sym (ticks-paused doc k p h paused)) r
 
 -- no tick
-pub running-unticked : (doc : Doc) (k p : ℕ) (before deeds : List Deed) (arriving : List Sent) (coming : List Back) (h : List Entry) (w : State) → in_term_now doc k p h ≡ false
+pub running-unticked : (doc : Doc) (k p : ℕ) (before deeds : List Deed) (arriving : List Sent) (coming : List Back) (h : List Entry) (w : World) → in_term_now doc k p h ≡ false
     → MidBeat doc k before arriving coming h w deeds → MidBeat doc k before arriving coming (own_ticks doc k p h) w deeds
 running-unticked doc k p before deeds arriving coming h w none r = subst (λ g. MidBeat doc k before arriving coming g w deeds) (sym (ticks-none doc k p h none)) r
 

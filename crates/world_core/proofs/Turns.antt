@@ -14,8 +14,8 @@ use Rattle.world_process.specs.Moves.{own_turn}
 use Rattle.world_process.specs.Processes.{AsksOn, ProcessStands, SameProcess, Turned, incarnation_of}
 use Rattle.world_process.proofs.Processes.{process-incarnation}
 use Rattle.world_terms.specs.TermsStand.{TermsStand}
-use Rattle.world_core.specs.declared.state.State.{State}
-use Rattle.world_core.specs.States.{MidBeat}
+use Rattle.world_core.specs.declared.world.World.{World}
+use Rattle.world_core.specs.Worlds.{MidBeat}
 use Rattle.world_core.specs.Waits.{awake_turn, turn_if}
 use Rattle.world_core.proofs.Around.{around-world}
 use Rattle.world_core.proofs.MidBeat.{Moved, within-moved}
@@ -46,7 +46,7 @@ turned-kept doc k p h x y t keeps turned =
 
 -- ---- the world with a process that did nothing but to keep that beat
 
-pub running-kept : (doc : Doc) (k i : ℕ) (before deeds : List Deed) (arriving : List Sent) (coming : List Back) (h : List Entry) (x y : Process) (w v : State) → Moved i x y w v → v.wire ≡ w.wire → v.terms ≡ w.terms → ProcessStands doc i h y
+pub running-kept : (doc : Doc) (k i : ℕ) (before deeds : List Deed) (arriving : List Sent) (coming : List Back) (h : List Entry) (x y : Process) (w v : World) → Moved i x y w v → v.wire ≡ w.wire → v.terms ≡ w.terms → ProcessStands doc i h y
     → MidBeat doc k before arriving coming h w deeds → MidBeat doc k before arriving coming h v deeds
 running-kept doc k i before deeds arriving coming h x y w v m wire terms stands r =
     record {
@@ -70,16 +70,16 @@ awake-still doc k p h still = by_pause (not (is_paused doc p k))
     by_pause false = refl
 
 -- it has no turn in a pause
-pub running-paused : (doc : Doc) (k i : ℕ) (before deeds : List Deed) (arriving : List Sent) (coming : List Back) (h : List Entry) (w : State) → is_paused doc i k ≡ true
+pub running-paused : (doc : Doc) (k i : ℕ) (before deeds : List Deed) (arriving : List Sent) (coming : List Back) (h : List Entry) (w : World) → is_paused doc i k ≡ true
     → MidBeat doc k before arriving coming h w deeds → MidBeat doc k before arriving coming (awake_turn doc k i h) w deeds
 running-paused doc k i before deeds arriving coming h w paused r = subst (λ g. MidBeat doc k before arriving coming g w deeds) (sym (paused-is doc k i h paused)) r
 
-pub running-awake : (doc : Doc) (k i : ℕ) (before deeds : List Deed) (arriving : List Sent) (coming : List Back) (h : List Entry) (w : State) → is_paused doc i k ≡ false
+pub running-awake : (doc : Doc) (k i : ℕ) (before deeds : List Deed) (arriving : List Sent) (coming : List Back) (h : List Entry) (w : World) → is_paused doc i k ≡ false
     → MidBeat doc k before arriving coming (own_turn doc k i h) w deeds → MidBeat doc k before arriving coming (awake_turn doc k i h) w deeds
 running-awake doc k i before deeds arriving coming h w awake r = subst (λ g. MidBeat doc k before arriving coming g w deeds) (sym (awake-is doc k i h awake)) r
 
 -- its turn adds nothing
-pub running-still : (doc : Doc) (k i : ℕ) (before deeds : List Deed) (arriving : List Sent) (coming : List Back) (h : List Entry) (x y : Process) (w v : State) → own_turn doc k i h ≡ h → Moved i x y w v → v.wire ≡ w.wire → v.terms ≡ w.terms → ProcessStands doc i h y
+pub running-still : (doc : Doc) (k i : ℕ) (before deeds : List Deed) (arriving : List Sent) (coming : List Back) (h : List Entry) (x y : Process) (w v : World) → own_turn doc k i h ≡ h → Moved i x y w v → v.wire ≡ w.wire → v.terms ≡ w.terms → ProcessStands doc i h y
     → MidBeat doc k before arriving coming h w deeds → MidBeat doc k before arriving coming (awake_turn doc k i h) v deeds
 running-still doc k i before deeds arriving coming h x y w v still m wire terms stands r =
     subst (λ g. MidBeat doc k before arriving coming g v deeds) (sym (awake-still doc k i h still)) (running-kept doc k i before deeds arriving coming h x y w v m wire terms stands r)

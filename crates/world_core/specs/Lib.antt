@@ -1,3 +1,2 @@
-pub mod States
 pub mod Waits
 pub mod Worlds

@@ -4,7 +4,6 @@
 mod printing;
 mod replay;
 mod replies;
-mod state;
 mod wakes;
 mod world;
 

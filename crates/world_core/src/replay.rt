@@ -22,8 +22,7 @@ pub fn deeds_of(alloc: Global, document: Document, policies: &Policies) -> Resul
     let mut steps = Steps::new(Blank::new(1));
     let mut world = World::new(alloc, document)?;
     'beats: while !world.finished() {
-        let (next, printed) = world.beat(policies, &mut steps)?;
-        world = next;
+        let printed = world.beat(policies, &mut steps)?;
         deeds.append(&printed)?;
     }
     Ok(deeds)

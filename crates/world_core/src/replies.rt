@@ -8,11 +8,11 @@ ghost use Rattle.kube_objects.specs.Pauses.{held_up as held_up_at};
 ghost use Rattle.kube_objects.specs.Wire as flights;
 ghost use Rattle.wire_calls.specs.Messages.{sent_as_told};
 ghost use Rattle.wire_calls.specs.WireStands.{WireStands, requests_at};
-ghost use Rattle.world_core.specs.States.{EachStands, with_answer};
+ghost use Rattle.world_core.specs.Worlds.{EachStands, with_answer};
 
 use kube_base::{Beat, NoMemory, ProcId};
 use kube_objects::Reply;
-use wire_calls::{Sent, Fate, Wire};
+use wire_calls::{Fate, Sent, Wire};
 use world_process::Process;
 
 /// The reply to a request that arrived is sent. It stays out of line, as the answer does.

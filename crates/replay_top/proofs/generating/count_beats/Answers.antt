@@ -43,8 +43,8 @@ and-counts-requires g c =
     let most : at_of w * 2 ^ 64 ≤ 2 ^ 127 = omega (arith, c.beats.invariant.within, c.beats.invariant.ready.end) in
     most-later (at_of w * 2 ^ 64) (2 ^ 127) c.beats.counts most c.beats.invariant.small
 
-pub returns-in-Err-clause-counted : goal.returns-in-Err-clause-counted
-returns-in-Err-clause-counted g c doc lawful first is =
+pub returns-in_err-deeds-clause-counted : goal.returns-in_err-deeds-clause-counted
+returns-in_err-deeds-clause-counted g c doc lawful first is =
     let k = at_of c.beats.world in
     let now = c.beats.invariant.stands doc lawful first is in
     let next = c.in-Some.ensures doc lawful.events now.0 (c.beats.invariant.last ∙ is) in
@@ -57,9 +57,9 @@ pub beats-preserved : goal.beats-preserved
 beats-preserved g c =
     let k = at_of c.beats.world in
     let n = c.in-Some.beat.0 in
-    let done = c.in-Ok.next in
+    let done = c.beat_at.new.world in
     let m = at_of done in
-    let kept = c.in-Ok.ensures.kept in
+    let kept = c.in_ok-deeds.ensures.kept in
     let runs = c.beats.invariant.runs.1 in
     let own = runs.doc in
     let next = c.in-Some.ensures own runs.own.lawful.events runs.stands runs.end in
@@ -78,7 +78,7 @@ beats-preserved g c =
           doc = own;
           own = record { lawful = runs.own.lawful; named = subst (λ ns. IsWellNamed ns own) (sym kept.3) runs.own.named };
           end = kept.2 ∙ runs.end;
-          stands = (c.in-Ok.ensures.stands own runs.own.lawful runs.stands runs.end next).0;
+          stands = (c.in_ok-deeds.ensures.stands own runs.own.lawful runs.stands runs.end next).0;
           counted = runs.counted;
         },
       );
@@ -88,10 +88,10 @@ beats-preserved g c =
           let now = c.beats.invariant.stands doc lawful first is in
           let end = c.beats.invariant.last ∙ is in
           let here = c.in-Some.ensures doc lawful.events now.0 end in
-          let told = c.in-Ok.ensures.stands doc lawful now.0 end here in (
+          let told = c.in_ok-deeds.ensures.stands doc lawful now.0 end here in (
             told.0,
-            counts-one doc k n m c.args.steps.now c.beats.steps c.beat_at.new.steps here kept.1 now.1 c.in-Ok.ensures.counted,
-            counts-next (printed (history doc k)) c.in-Ok.deeds shown (printed (history doc m)) c.beats.counts new told.1
+            counts-one doc k n m c.args.steps.now c.beats.steps c.beat_at.new.steps here kept.1 now.1 c.in_ok-deeds.ensures.counted,
+            counts-next (printed (history doc k)) c.in_ok-deeds.deeds shown (printed (history doc m)) c.beats.counts new told.1
                 c.as_slice.ensures now.2 more,
           );
     }
@@ -101,7 +101,7 @@ beats-smaller g c =
     let runs = c.beats.invariant.runs.1 in
     let next = c.in-Some.ensures runs.doc runs.own.lawful.events runs.stands runs.end in
     let ahead = (next.there c.in-Some.beat.0 refl).0 in
-    let kept = c.in-Ok.ensures.kept in
+    let kept = c.in_ok-deeds.ensures.kept in
     omega (arith, ahead.from, ahead.within, kept.1, kept.2, runs.end)
 
 pub returns-clause-whole : goal.returns-clause-whole

@@ -32,8 +32,8 @@ beat_at-requires-clause-ahead g c =
     let ahead = (next.1.there c.in-Some.beat.0 refl).0 in
     (ahead.from, omega (arith, ahead.within, runs.end))
 
-pub returns-in-Err-clause-counted : goal.returns-in-Err-clause-counted
-returns-in-Err-clause-counted g c doc lawful first is =
+pub returns-in_err-beat_at-clause-counted : goal.returns-in_err-beat_at-clause-counted
+returns-in_err-beat_at-clause-counted g c doc lawful first is =
     let k = at_of c.beats.world in
     let now = c.beats.invariant.stands doc lawful first is in
     let n = c.in-Some.beat.0 in
@@ -45,9 +45,9 @@ pub beats-preserved : goal.beats-preserved
 beats-preserved g c =
     let k = at_of c.beats.world in
     let n = c.in-Some.beat.0 in
-    let done = c.in-Ok.next in
+    let done = c.beat_at.new.world in
     let m = at_of done in
-    let kept = c.in-Ok.ensures.kept in
+    let kept = c.in_ok-beat_at.ensures.kept in
     let runs = c.beats.invariant.runs.1 in
     let own = runs.doc in
     let next = (c.in-Some.ensures own runs.own.lawful.events runs.stands runs.end).there n refl in
@@ -62,7 +62,7 @@ beats-preserved g c =
           doc = own;
           own = record { lawful = runs.own.lawful; named = subst (λ ns. IsWellNamed ns own) (sym kept.3) runs.own.named };
           end = kept.2 ∙ runs.end;
-          stands = (c.in-Ok.ensures.stands own runs.own.lawful runs.stands runs.end next.1).0;
+          stands = (c.in_ok-beat_at.ensures.stands own runs.own.lawful runs.stands runs.end next.1).0;
           counted = runs.counted;
         },
       );
@@ -70,8 +70,8 @@ beats-preserved g c =
           let now = c.beats.invariant.stands doc lawful first is in
           let end = c.beats.invariant.last ∙ is in
           let here = (c.in-Some.ensures doc lawful.events now.0 end).there n refl in (
-            (c.in-Ok.ensures.stands doc lawful now.0 end here.1).0,
-            counts-one doc k n m c.args.steps.now c.beats.steps c.beat_at.new.steps here.1 kept.1 now.1 c.in-Ok.ensures.counted,
+            (c.in_ok-beat_at.ensures.stands doc lawful now.0 end here.1).0,
+            counts-one doc k n m c.args.steps.now c.beats.steps c.beat_at.new.steps here.1 kept.1 now.1 c.in_ok-beat_at.ensures.counted,
           );
     }
 
@@ -80,7 +80,7 @@ beats-smaller g c =
     let runs = c.beats.invariant.runs.1 in
     let next = (c.in-Some.ensures runs.doc runs.own.lawful.events runs.stands runs.end).there c.in-Some.beat.0 refl in
     let ahead = (next.1.there c.in-Some.beat.0 refl).0 in
-    let kept = c.in-Ok.ensures.kept in
+    let kept = c.in_ok-beat_at.ensures.kept in
     omega (arith, ahead.from, ahead.within, kept.1, kept.2, runs.end)
 
 pub returns-clause-stands : goal.returns-clause-stands

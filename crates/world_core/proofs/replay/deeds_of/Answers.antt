@@ -27,18 +27,18 @@ beats-preserved g c =
     let doc = doc_of c.args.document in
     let now = c.beats.invariant in
     let k = at_of c.beats.world in
-    let next = c.in_ok-next.next in
-    let kept = c.in_ok-next.ensures.kept in
+    let next = c.beat.new.self in
+    let kept = c.in_ok-printed.ensures.kept in
     let inside = not-over (end_of c.beats.world) k c.finished.result c.finished.ensures c.beats-test.true in
     let few = lawful-few doc k c.requires.lawful (omega (arith, inside, now.end)) in
-    let done = c.in_ok-next.ensures.stands doc k (history doc k) few now.stands in
+    let done = c.in_ok-printed.ensures.stands doc k (history doc k) few now.stands in
     let later : suc k ≡ at_of next = sym (kept.1 ∙ add-one k) in
     record {
       ready = kept.0;
       end = kept.2 ∙ now.end;
       within = omega (arith, inside, kept.1, kept.2);
       stands = subst (λ n. WorldStands doc n (history doc n) next) later (subst (λ n. WorldStands doc n (history doc (suc k)) next) (add-one k) done.0);
-      told = c.in_ok-append.ensures.ok ∙ ap (λ ds. ds ++ c.in_ok-next.printed) now.told ∙ done.1 ∙ ap (λ n. printed (history doc n)) later;
+      told = c.in_ok-append.ensures.ok ∙ ap (λ ds. ds ++ c.in_ok-printed.printed) now.told ∙ done.1 ∙ ap (λ n. printed (history doc n)) later;
     }
 
 pub returns : goal.returns

@@ -1,5 +1,0 @@
-use Rattle.world_core.proofs.Passing.{NotedTo}
-use Rattle.world_core.proofs.state.turn_beats_of.Given as goal
-
-abbrev pub invariant-loop-i : goal.invariant-loop-i
-invariant-loop-i l = NotedTo l.processes l.i l.turn_beats
