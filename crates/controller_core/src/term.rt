@@ -57,6 +57,13 @@ impl Term {
         }
     }
 
+    /// Forgets what it has seen, as where another term begins.
+    pub fn renew(&mut self)
+        ensures { (doc : Doc) (q : Identity) (h : List Entry) → ticks q h ≡ 0 → AreSettings doc self.old.settings → TermStands doc q h self.new }
+    {
+        *self = Term::new(self.alloc, &self.settings);
+    }
+
     /// One tick: a sync, and once there was one a pass where it is due, untaints and swaps, queued taints, and evictions.
     /// Answers the printed deeds in order. It counts at most one step more than the cost of the tick.
     pub fn tick<L>(

@@ -6,9 +6,9 @@ use Rattle.kube_objects.specs.declared.deed.Actor.TheVariants as actor
 use Rattle.kube_objects.specs.Clocks.{local}
 use Rattle.kube_objects.specs.Document.{Doc, is_controller, processes}
 use Rattle.kube_objects.specs.Elector.{deadline}
-use Rattle.kube_objects.specs.Entry.{Entry, Identity, Call, Fact, First, Event, Starts, Crashes, Stops, Stalls, Ends, Sends, Answers, Delivers, Expires, Leads, Ticks, entry, actor_of}
+use Rattle.kube_objects.specs.Entry.{Entry, Identity, Call, Fact, First, Event, Starts, Crashes, Stops, Stalls, Ends, Sends, Answers, Delivers, Expires, Leads, Ticks, entry}
 use Rattle.kube_objects.specs.Identities.{identity, is_by, of_process}
-use Rattle.kube_objects.specs.Newest.{has, join, when}
+use Rattle.kube_objects.specs.Newest.{join, when}
 use Rattle.kube_objects.specs.Process.{life_says, life, alive, born, gone, starts, call_in, is_late, ended, is_restart_due}
 use Rattle.kube_objects.specs.Stored.{write_of}
 use Rattle.kube_objects.specs.Turns.{expire_call, end_term}
@@ -26,8 +26,6 @@ use Rattle.world_process.proofs.Processes.{process-others}
 use Rattle.world_process.proofs.Lives.{is_event}
 use Rattle.world_process.proofs.Names.{lt-from, le-from, eq-self}
 use Rattle.world_process.proofs.Plainly.{plain-entry, known-later, starts-start}
-use Rattle.world_terms.specs.TermsStand.{TermsStandBut}
-use Rattle.world_terms.proofs.Frames.{but-own, terms-but}
 
 -- a quiet fact writes nothing, sends nothing, is no event and changes nothing in force
 quiet-write : (d : Fact) → is_quiet d ≡ true → write_of d ≡ None
@@ -51,14 +49,13 @@ quiet-standing : (d : Fact) → is_quiet d ≡ true → is_standing d ≡ false
 quiet-standing (Event what version) is = cc
 quiet-standing _ is = refl
 
--- all but process i and its term
+-- all but process i
 pub record Around (doc : Doc) (k i : ℕ) (arriving : List Sent) (coming : List Back) (h : List Entry) (w : World) : Type 0 where
   pub rest : RestStands doc k arriving coming h w
   pub others : OthersStand doc i h w.processes.items
-  pub terms : TermsStandBut doc i h w.terms
 
 pub around-world : (doc : Doc) (k i : ℕ) (arriving : List Sent) (coming : List Back) (h : List Entry) (w : World) → WorldWithin doc k arriving coming h w → Around doc k i arriving coming h w
-around-world doc k i arriving coming h w s = record { rest = s.rest; others = λ p c other is. s.processes p c is; terms = terms-but doc i h w.terms s.terms }
+around-world doc k i arriving coming h w s = record { rest = s.rest; others = λ p c other is. s.processes p c is }
 
 pub rest-own : (doc : Doc) (k j step : ℕ) (arriving : List Sent) (coming : List Back) (q : Identity) (d : Fact) (h : List Entry) (w : World) → is_quiet d ≡ true → IsKnown (processes doc) (entry j step q d ∷ h) q →
     RestStands doc k arriving coming h w → RestStands doc k arriving coming (entry j step q d ∷ h) w
@@ -71,17 +68,12 @@ rest-own doc k j step arriving coming q d h w quiet known s =
       in_force = in_force-beside doc (entry j step q d) h w.in_force (quiet-standing d quiet) s.in_force;
     }
 
--- whose entry it is
-own-entry : (i : ℕ) (q : Identity) → q.process ≡ i → has (of_process i (actor_of q)) ≡ true
-own-entry i q is = ap (λ n. has (when (n == i) q.incarnation)) is ∙ ap (λ b. has (when b q.incarnation)) (eq-self i)
-
 pub around-own : (doc : Doc) (k i j step : ℕ) (arriving : List Sent) (coming : List Back) (q : Identity) (d : Fact) (h : List Entry) (w : World) → q.process ≡ i → is_quiet d ≡ true → IsKnown (processes doc) (entry j step q d ∷ h) q →
     Around doc k i arriving coming h w → Around doc k i arriving coming (entry j step q d ∷ h) w
 around-own doc k i j step arriving coming q d h w process quiet known s =
     record {
       rest = rest-own doc k j step arriving coming q d h w quiet known s.rest;
       others = λ p c other is. process-others doc p j step q d h c (λ e. other (sym e ∙ process)) (quiet-event d quiet) (s.others p c other is);
-      terms = but-own doc i h (entry j step q d) w.terms (own-entry i q process) s.terms;
     }
 
 pub known-facts : (n k step : ℕ) (q : Identity) (ds : List Fact) (h : List Entry) → IsKnown n h q → IsKnown n (with_facts k step q ds h) q

@@ -124,7 +124,6 @@ world-next doc k h w s placed unticked =
           in_force = s.rest.in_force;
         };
         processes = s.processes;
-        terms = s.terms;
       };
       placed = placed;
       unticked = unticked;

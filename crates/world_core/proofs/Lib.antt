@@ -10,7 +10,6 @@ pub mod Puts
 pub mod Events
 -- ---- layer 3: the world around one process
 pub mod Around
-pub mod Renewing
 pub mod MidBeat
 pub mod Scripts
 -- ---- layer 4: the steps of a beat, and beats that are passed over

@@ -28,7 +28,6 @@ use Rattle.world_core.specs.Waits.{awake_turn, turn_if}
 use Rattle.world_process.proofs.Grows.{Grows, grows-on, grows-same, grows-entry, grows-delivered, grows-more_starts, grows-more_turns, grows-ticks, few-before}
 use Rattle.world_core.proofs.Known.{sent-later, back-later}
 use Rattle.world_core.proofs.MidBeat.{Unmoved, doc-same, answered-running}
-use Rattle.world_terms.specs.TermsStand.{TermsStand}
 
 -- ---- requests
 
@@ -95,7 +94,6 @@ rewired doc k before deeds arriving left coming rest h w v unmoved in_force stor
           in_force = subst (InForceStands doc h) (sym in_force) r.world.rest.in_force;
         };
         processes = subst (λ cs. EachStands doc h cs.items) (sym unmoved.processes) r.world.processes;
-        terms = subst (TermsStand doc h) (sym unmoved.terms) r.world.terms;
       };
       told = r.told;
     }

@@ -27,17 +27,14 @@ use Rattle.world_process.specs.Moves.{AsksOnReply, before_asking, own_turn, star
 use Rattle.world_process.specs.Plain.{IsKnown, with_facts}
 use Rattle.world_core.specs.Worlds.{AreKept, AreNoted, IsFit, IsReady, SameDocument, Keeps, DocStands, EachStands, OthersStand, WorldWithin, MidBeat, SendsAsked}
 use Rattle.world_core.proofs.Around.{Around, around-world, around-own, around-facts, around-before, around-started}
-use Rattle.world_core.proofs.Renewing.{fresh-started, terms-delivered}
 use Rattle.world_process.proofs.Forces.{in_force-beside}
 use Rattle.world_process.proofs.Processes.{process-incarnation, process-others, process-answered, process-up_first}
 use Rattle.world_core.proofs.Lists.{slice_get-set_same, slice_get-set_other, length-set}
 use Rattle.object_store.specs.Stands.{StoreStands}
 use Rattle.world_process.proofs.Names.{eq-is, eq-isnt, eq-self}
 use Rattle.world_process.proofs.Plainly.{plain-entry, known-later, starts-start}
-use Rattle.world_terms.specs.TermsStand.{IsFresh, TermsStand, TermsStandBut}
-use Rattle.world_terms.proofs.Frames.{terms-beside}
 
--- the world with process i moved; its wire and its terms may have changed too
+-- the world with process i moved; its wire may have changed too
 pub record Moved (i : ℕ) (c0 c1 : Process) (w v : World) : Type 0 where
   pub was : slice_get w.processes.items i ≡ Some c0
   pub now : v.processes.items ≡ slice_set w.processes.items i c1
@@ -46,14 +43,13 @@ pub record Moved (i : ℕ) (c0 c1 : Process) (w v : World) : Type 0 where
   pub store : v.store ≡ w.store
   pub in_force : v.in_force ≡ w.in_force
 
--- the processes, their terms and what was read of the document are as before
+-- the processes and what was read of the document are as before
 pub record Unmoved (w v : World) : Type 0 where
   pub same : SameDocument w v
   pub processes : v.processes ≡ w.processes
-  pub terms : v.terms ≡ w.terms
 
 pub unmoved-self : (w : World) → Unmoved w w
-unmoved-self w = record { same = record { beat = refl; end = refl; restart = refl; epoch = refl; micros = refl; events = refl; names = refl; controllers = refl }; processes = refl; terms = refl }
+unmoved-self w = record { same = record { beat = refl; end = refl; restart = refl; epoch = refl; micros = refl; events = refl; names = refl; controllers = refl }; processes = refl }
 
 each-set : (doc : Doc) (i : ℕ) (h : List Entry) (cs : List Process) (c0 c1 : Process) → slice_get cs i ≡ Some c0 → OthersStand doc i h cs → ProcessStands doc i h c1 → EachStands doc h (slice_set cs i c1)
 each-set doc i h cs c0 c1 was others own p c is = by_place (p == i) refl
@@ -85,9 +81,9 @@ doc-moved : (doc : Doc) (k i : ℕ) (c0 c1 : Process) (w v : World) → Moved i 
 doc-moved doc k i c0 c1 w v m s = doc-same doc k w v m.same (ap length m.now ∙ length-set w.processes.items i c1) s
 
 -- nothing was sent
-pub within-moved : (doc : Doc) (k i : ℕ) (arriving : List Sent) (coming : List Back) (h : List Entry) (c0 c1 : Process) (w v : World) → Moved i c0 c1 w v → v.wire ≡ w.wire → Around doc k i arriving coming h w → ProcessStands doc i h c1 → TermsStand doc h v.terms →
+pub within-moved : (doc : Doc) (k i : ℕ) (arriving : List Sent) (coming : List Back) (h : List Entry) (c0 c1 : Process) (w v : World) → Moved i c0 c1 w v → v.wire ≡ w.wire → Around doc k i arriving coming h w → ProcessStands doc i h c1 →
     WorldWithin doc k arriving coming h v
-within-moved doc k i arriving coming h c0 c1 w v m wire a own terms =
+within-moved doc k i arriving coming h c0 c1 w v m wire a own =
     record {
       rest = record {
         document = doc-moved doc k i c0 c1 w v m a.rest.document;
@@ -97,13 +93,12 @@ within-moved doc k i arriving coming h c0 c1 w v m wire a own terms =
         in_force = subst (InForceStands doc h) (sym m.in_force) a.rest.in_force;
       };
       processes = subst (EachStands doc h) (sym m.now) (each-set doc i h w.processes.items c0 c1 m.was a.others own);
-      terms = terms;
     }
 
 -- a request was sent
 within-sent : (doc : Doc) (k step i : ℕ) (arriving : List Sent) (coming : List Back) (h next : List Entry) (c0 c1 : Process) (w v : World) (ask : Ask) → Moved i c0 c1 w v → SendsAsked k (identity i (incarnation_of c1)) (Some ask) w.wire v.wire →
-    Around doc k i arriving coming h w → i < processes doc → AsksOn doc k step i h next c1 (Some ask) → TermsStand doc h v.terms → WorldWithin doc k arriving coming next v
-within-sent doc k step i arriving coming h next c0 c1 w v ask m sends a within asked terms =
+    Around doc k i arriving coming h w → i < processes doc → AsksOn doc k step i h next c1 (Some ask) → WorldWithin doc k arriving coming next v
+within-sent doc k step i arriving coming h next c0 c1 w v ask m sends a within asked =
     let q = identity i (incarnation_of c1) in
     let call = next_call q k asked.kind ask.request h in
     let d = Sends call (request_arrival i k h) in
@@ -121,16 +116,15 @@ within-sent doc k step i arriving coming h next c0 c1 w v ask m sends a within a
       };
       processes = subst (EachStands doc (e ∷ h)) (sym m.now)
           (each-set doc i (e ∷ h) w.processes.items c0 c1 m.was (λ p c other is. process-others doc p k step q d h c (λ same. other (sym same)) refl (a.others p c other is)) (asked.stands (request_arrival i k h)));
-      terms = terms-beside doc h e v.terms refl terms;
     })
 
 -- what a process asks was sent, where it asks
 pub within-asked : (doc : Doc) (k step i : ℕ) (arriving : List Sent) (coming : List Back) (h next : List Entry) (c0 c1 : Process) (w v : World) (ask : Option Ask) → Moved i c0 c1 w v → SendsAsked k (identity i (incarnation_of c1)) ask w.wire v.wire →
-    Around doc k i arriving coming h w → i < processes doc → AsksOn doc k step i h next c1 ask → TermsStand doc h v.terms → WorldWithin doc k arriving coming next v
-within-asked doc k step i arriving coming h next c0 c1 w v None m same a within asks terms =
-    subst (λ g. WorldWithin doc k arriving coming g v) (sym asks.0) (within-moved doc k i arriving coming h c0 c1 w v m same a asks.1 terms)
-within-asked doc k step i arriving coming h next c0 c1 w v (Some ask) m sends a within asked terms =
-    within-sent doc k step i arriving coming h next c0 c1 w v ask m sends a within asked terms
+    Around doc k i arriving coming h w → i < processes doc → AsksOn doc k step i h next c1 ask → WorldWithin doc k arriving coming next v
+within-asked doc k step i arriving coming h next c0 c1 w v None m same a within asks =
+    subst (λ g. WorldWithin doc k arriving coming g v) (sym asks.0) (within-moved doc k i arriving coming h c0 c1 w v m same a asks.1)
+within-asked doc k step i arriving coming h next c0 c1 w v (Some ask) m sends a within asked =
+    within-sent doc k step i arriving coming h next c0 c1 w v ask m sends a within asked
 
 printed-sent : (k step : ℕ) (q : Identity) (kind : CallKind) (ask : Ask) (h next : List Entry) → next ≡ send k step q kind ask.request h → printed next ≡ printed h
 printed-sent k step q kind ask h next is = ap printed is ∙ append-nil (printed h)
@@ -156,13 +150,13 @@ told-turn doc k i before deeds h c t told turned =
     sym (append_assoc before (deeds ++ s) e) ∙ ap (λ x. x ++ e) (sym (append_assoc before deeds s)) ∙ ap (λ x. x ++ s ++ e) told ∙ sym turned.told
 
 pub running-turned : (doc : Doc) (k i : ℕ) (before deeds new : List Deed) (arriving : List Sent) (coming : List Back) (h : List Entry) (c0 c1 : Process) (w v : World) (t : Turn) → MidBeat doc k before arriving coming h w deeds →
-    i < processes doc → Moved i c0 c1 w v → SendsAsked k (identity i (incarnation_of c1)) t.ask w.wire v.wire → Turned doc k i h c1 t → TermsStand doc (before_asking doc k i h) v.terms → new ≡ turn_told k (identity i (incarnation_of c1)) t deeds →
+    i < processes doc → Moved i c0 c1 w v → SendsAsked k (identity i (incarnation_of c1)) t.ask w.wire v.wire → Turned doc k i h c1 t → new ≡ turn_told k (identity i (incarnation_of c1)) t deeds →
     MidBeat doc k before arriving coming (own_turn doc k i h) v new
-running-turned doc k i before deeds new arriving coming h c0 c1 w v t r within m sends turned terms new_is =
+running-turned doc k i before deeds new arriving coming h c0 c1 w v t r within m sends turned new_is =
     let base = before_asking doc k i h in
     let around = around-before doc k i arriving coming h w within (around-world doc k i arriving coming h w r.world) in
     record {
-      world = within-asked doc k 4 i arriving coming base (own_turn doc k i h) c0 c1 w v t.ask m sends around within turned.asks terms;
+      world = within-asked doc k 4 i arriving coming base (own_turn doc k i h) c0 c1 w v t.ask m sends around within turned.asks;
       told = ap (λ ds. before ++ ds) new_is ∙ told-turn doc k i before deeds h c1 t r.told turned ∙ sym (printed-asked doc k 4 i base (own_turn doc k i h) c1 t.ask turned.asks);
     }
 
@@ -172,27 +166,26 @@ abbrev pub reply_told : ℕ → Identity → Received → List Deed → List Dee
 reply_told k q r deeds = deeds ++ lead_deeds k q r.lead
 
 within-replied : (doc : Doc) (k i : ℕ) (arriving : List Sent) (coming : List Back) (b : Back) (h : List Entry) (c0 c1 : Process) (w v : World) (ask : Option Ask) → b.who.process ≡ i → i < processes doc → IsKnown (processes doc) h b.who →
-    Moved i c0 c1 w v → SendsAsked k (identity i (incarnation_of c1)) ask w.wire v.wire → Around doc k i arriving coming h w → AsksOnReply doc k (identity i (incarnation_of c1)) b h (λ g. ProcessStands doc i g c1) ask → TermsStand doc h v.terms →
+    Moved i c0 c1 w v → SendsAsked k (identity i (incarnation_of c1)) ask w.wire v.wire → Around doc k i arriving coming h w → AsksOnReply doc k (identity i (incarnation_of c1)) b h (λ g. ProcessStands doc i g c1) ask →
     WorldWithin doc k arriving coming (delivered doc k b h) v
-within-replied doc k i arriving coming b h c0 c1 w v None process within known m same a on terms =
+within-replied doc k i arriving coming b h c0 c1 w v None process within known m same a on =
     let next = with_facts k 3 b.who on.facts h in
     subst (λ g. WorldWithin doc k arriving coming g v) (sym on.adds)
-    (within-moved doc k i arriving coming next c0 c1 w v m same (around-facts doc k i k 3 arriving coming b.who on.facts h w process on.quiet known a) (subst (λ g. ProcessStands doc i g c1) on.adds on.stands)
-    (subst (λ g. TermsStand doc g v.terms) on.adds (terms-delivered doc k v.terms b h terms)))
-within-replied doc k i arriving coming b h c0 c1 w v (Some ask) process within known m sends a on terms =
+    (within-moved doc k i arriving coming next c0 c1 w v m same (around-facts doc k i k 3 arriving coming b.who on.facts h w process on.quiet known a) (subst (λ g. ProcessStands doc i g c1) on.adds on.stands))
+within-replied doc k i arriving coming b h c0 c1 w v (Some ask) process within known m sends a on =
     let q = identity i (incarnation_of c1) in
     let d = Delivers on.call b.reply true in
     let g = entry k 3 q d ∷ h in
     let known_q : IsKnown (processes doc) h q = subst (IsKnown (processes doc) h) on.who known in
     let known_g : IsKnown (processes doc) g q = known-later (processes doc) (entry k 3 q d) h q known_q in
-    within-sent doc k 3 i arriving coming g (delivered doc k b h) c0 c1 w v ask m sends (around-own doc k i k 3 arriving coming q d h w refl refl known_g a) within on.asked (terms-beside doc h (entry k 3 q d) v.terms refl terms)
+    within-sent doc k 3 i arriving coming g (delivered doc k b h) c0 c1 w v ask m sends (around-own doc k i k 3 arriving coming q d h w refl refl known_g a) within on.asked
 
 pub running-replied : (doc : Doc) (k i : ℕ) (before deeds new : List Deed) (arriving : List Sent) (coming : List Back) (b : Back) (h : List Entry) (c0 c1 : Process) (w v : World) (x : Received) → MidBeat doc k before arriving coming h w deeds →
-    b.who.process ≡ i → i < processes doc → IsKnown (processes doc) h b.who → Moved i c0 c1 w v → v.terms ≡ w.terms → SendsAsked k (identity i (incarnation_of c1)) x.ask w.wire v.wire → Replied doc k i b h c1 x → new ≡ reply_told k (identity i (incarnation_of c1)) x deeds →
+    b.who.process ≡ i → i < processes doc → IsKnown (processes doc) h b.who → Moved i c0 c1 w v → SendsAsked k (identity i (incarnation_of c1)) x.ask w.wire v.wire → Replied doc k i b h c1 x → new ≡ reply_told k (identity i (incarnation_of c1)) x deeds →
     MidBeat doc k before arriving coming (delivered doc k b h) v new
-running-replied doc k i before deeds new arriving coming b h c0 c1 w v x r process within known m terms sends replied new_is =
+running-replied doc k i before deeds new arriving coming b h c0 c1 w v x r process within known m sends replied new_is =
     record {
-      world = within-replied doc k i arriving coming b h c0 c1 w v x.ask process within known m sends (around-world doc k i arriving coming h w r.world) replied.asks (subst (TermsStand doc h) (sym terms) r.world.terms);
+      world = within-replied doc k i arriving coming b h c0 c1 w v x.ask process within known m sends (around-world doc k i arriving coming h w r.world) replied.asks;
       told = told-more before deeds new (lead_deeds k (identity i (incarnation_of c1)) x.lead) h (delivered doc k b h) r.told new_is replied.told;
     }
 
@@ -289,24 +282,24 @@ keeps-set i c0 w v ready m count beats =
 
 -- ---- a first start
 
-pub first-not : (doc : Doc) (i : ℕ) (before deeds : List Deed) (arriving : List Sent) (coming : List Back) (h : List Entry) (c0 : Process) (w v : World) → MidBeat doc 0 before arriving coming h w deeds → Moved i c0 c0 w v → v.wire ≡ w.wire → v.terms ≡ w.terms → is_up_first_as c0 ≡ false →
+pub first-not : (doc : Doc) (i : ℕ) (before deeds : List Deed) (arriving : List Sent) (coming : List Back) (h : List Entry) (c0 : Process) (w v : World) → MidBeat doc 0 before arriving coming h w deeds → Moved i c0 c0 w v → v.wire ≡ w.wire → is_up_first_as c0 ≡ false →
     MidBeat doc 0 before arriving coming (start_first i (is_up_first doc i) h) v deeds
-first-not doc i before deeds arriving coming h c0 w v r m wire terms down =
+first-not doc i before deeds arriving coming h c0 w v r m wire down =
     let s = r.world.processes i c0 m.was in
     let same : h ≡ start_first i (is_up_first doc i) h = ap (λ b. start_first i b h) (sym down ∙ process-up_first doc i h c0 s) in
     subst (λ g. MidBeat doc 0 before arriving coming g v deeds) same
-    (record { world = within-moved doc 0 i arriving coming h c0 c0 w v m wire (around-world doc 0 i arriving coming h w r.world) s (subst (TermsStand doc h) (sym terms) r.world.terms); told = r.told })
+    (record { world = within-moved doc 0 i arriving coming h c0 c0 w v m wire (around-world doc 0 i arriving coming h w r.world) s; told = r.told })
 
 pub first-started : (doc : Doc) (i : ℕ) (before deeds new : List Deed) (arriving : List Sent) (coming : List Back) (h : List Entry) (c0 c1 : Process) (w v : World) → MidBeat doc 0 before arriving coming h w deeds → i < processes doc → Moved i c0 c1 w v → v.wire ≡ w.wire → is_up_first_as c0 ≡ true →
-    ProcessStands doc i (start 0 1 i h) c1 → (TermsStandBut doc i (start 0 1 i h) w.terms → IsFresh i (start 0 1 i h) → TermsStand doc (start 0 1 i h) v.terms) → new ≡ deeds ++ deeds_of 0 (actor_of (identity i (incarnation_of c1))) (Some act.Start) → MidBeat doc 0 before arriving coming (start_first i (is_up_first doc i) h) v new
-first-started doc i before deeds new arriving coming h c0 c1 w v r within m wire up stands anew new_is =
+    ProcessStands doc i (start 0 1 i h) c1 → new ≡ deeds ++ deeds_of 0 (actor_of (identity i (incarnation_of c1))) (Some act.Start) → MidBeat doc 0 before arriving coming (start_first i (is_up_first doc i) h) v new
+first-started doc i before deeds new arriving coming h c0 c1 w v r within m wire up stands new_is =
     let s = r.world.processes i c0 m.was in
     let same : start 0 1 i h ≡ start_first i (is_up_first doc i) h = ap (λ b. start_first i b h) (sym up ∙ process-up_first doc i h c0 s) in
     let around = around-started doc 0 i 0 1 arriving coming h w within (around-world doc 0 i arriving coming h w r.world) in
     let last : (incarnation_of c1) ≡ starts i h + 1 = process-incarnation doc i (start 0 1 i h) c1 stands ∙ starts-start 0 1 (identity i (starts i h + 1)) h in
     subst (λ g. MidBeat doc 0 before arriving coming g v new) same
     (record {
-      world = within-moved doc 0 i arriving coming (start 0 1 i h) c0 c1 w v m wire around stands (anew around.terms (fresh-started (processes doc) 0 1 i h r.world.rest.plain));
+      world = within-moved doc 0 i arriving coming (start 0 1 i h) c0 c1 w v m wire around stands;
       told = ap (λ ds. before ++ ds) new_is ∙ sym (append_assoc before deeds (deeds_of 0 (actor_of (identity i (incarnation_of c1))) (Some act.Start)))
           ∙ ap (λ ds. ds ++ deeds_of 0 (actor_of (identity i (incarnation_of c1))) (Some act.Start)) r.told
           ∙ ap (λ n. printed h ++ deeds_of 0 (actor_of (identity i n)) (Some act.Start)) last;
@@ -331,7 +324,6 @@ answered-running doc k before deeds new left rest coming s h w v run known unmov
         };
         processes = subst (λ cs. EachStands doc (e ∷ h) cs.items) (sym unmoved.processes)
             (λ p c is. process-answered doc p k 2 s.who s.call (answer s.call.request h) (reply_arrival doc s.who.process k h) (written s.call.request h) h c (run.world.processes p c is));
-        terms = subst (TermsStand doc (e ∷ h)) (sym unmoved.terms) (terms-beside doc h e w.terms refl run.world.terms);
       };
       told = ap (λ ds. before ++ ds) new_is ∙ sym (append_assoc before deeds _) ∙ ap (λ ds. ds ++ deeds_of k (actor_of s.who) (answer_act s.call.request (answer s.call.request h))) run.told;
     }

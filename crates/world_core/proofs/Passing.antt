@@ -20,7 +20,8 @@ use Rattle.world_process.proofs.Names.{eq-is, eq-isnt, eq-self}
 use Rattle.world_process.proofs.Wakes.{kept-still}
 use Rattle.world_core.specs.declared.world.World.{World}
 use Rattle.world_core.specs.Worlds.{AreNoted, IsReady, MidBeat}
-use Rattle.world_core.specs.Waits.{awake_turn, own_ticks_as}
+use Rattle.world_process.specs.Moves.{own_ticks_as}
+use Rattle.world_core.specs.Waits.{awake_turn}
 use Rattle.world_core.proofs.Ranges.{not-below}
 use Rattle.world_core.proofs.Ticking.{turn-is}
 use Rattle.world_core.proofs.Turns.{awake-still}

@@ -21,9 +21,6 @@ use Rattle.world_core.specs.Worlds.{EachStands}
 use Rattle.world_process.proofs.Forces.{in_force-beside}
 use Rattle.world_process.proofs.Processes.{process-put_all}
 use Rattle.world_process.proofs.Scripted.{plain-script}
-use Rattle.world_terms.specs.declared.terms.Terms.{Terms}
-use Rattle.world_terms.specs.TermsStand.{TermsStand}
-use Rattle.world_terms.proofs.Frames.{terms-beside}
 
 -- the entry of an object
 abbrev pub put_first : Doc → Key × Object → Entry
@@ -43,10 +40,6 @@ put-each doc xs h cs s p c is = process-put_all doc p xs h c (s p c is)
 pub put-in_force : (doc : Doc) (xs : List (Key × Object)) (h : List Entry) (x : InForce) → InForceStands doc h x → InForceStands doc (put_all doc xs h) x
 put-in_force doc [] h x s = s
 put-in_force doc (y ∷ ys) h x s = put-in_force doc ys (put_first doc y ∷ h) x (in_force-beside doc (put_first doc y) h x refl s)
-
-pub put-terms : (doc : Doc) (xs : List (Key × Object)) (h : List Entry) (x : Terms) → TermsStand doc h x → TermsStand doc (put_all doc xs h) x
-put-terms doc [] h x s = s
-put-terms doc (y ∷ ys) h x s = put-terms doc ys (put_first doc y ∷ h) x (terms-beside doc h (put_first doc y) x refl s)
 
 pub put-requests : (doc : Doc) (j : ℕ) (xs : List (Key × Object)) (h : List Entry) → requests_due j (put_all doc xs h) ≡ requests_due j h
 put-requests doc j [] h = refl

@@ -1,5 +1,5 @@
 -- Layer 3, the world around one process: the world through an entry of the script.
-use Rattle.std.proofs.Common.{◌≡◌, ℕ, ◌<◌, ◌++◌, ◌==◌, ◌&&◌, not, Bool, true, false, List, ◌∷◌, Option, Some, None, length, length-append, refl, sym, ap, ◌∙◌, subst, append_assoc, arith}
+use Rattle.std.proofs.Common.{◌≡◌, ℕ, ◌<◌, ◌++◌, ◌&&◌, not, Bool, true, false, List, ◌∷◌, Option, Some, None, length, length-append, refl, sym, ap, ◌∙◌, subst, append_assoc, arith}
 use Rattle.std.proofs.lemmas.List.{append-nil}
 use Rattle.kube_base.specs.declared.numbers.ProcId.{ProcId}
 use Rattle.kube_base.specs.declared.numbers.Version.{Version}
@@ -18,7 +18,7 @@ use Rattle.kube_objects.specs.Process.{alive, cancels}
 use Rattle.kube_objects.specs.Stored.{write_of}
 use Rattle.kube_objects.specs.Wire.{Sent, Back}
 use Rattle.history.specs.Printed.{printed, deeds_of, event_act}
-use Rattle.history.specs.Steps.{start_if_down, crash, stall, stop, happens}
+use Rattle.history.specs.Steps.{start_if_down, crash, stall, happens}
 use Rattle.object_store.proofs.Keeps.{store-beside}
 use Rattle.object_store.specs.Stands.{StoreStands}
 use Rattle.wire_calls.specs.WireStands.{WireStands, is_of_wire}
@@ -31,13 +31,11 @@ use Rattle.world_process.specs.Moves.{stop_in, stopped}
 use Rattle.world_core.specs.Worlds.{EachStands, MidBeat, SendsAsked}
 use Rattle.world_core.proofs.Around.{Around, around-own, around-started, alive-known, rest-own}
 use Rattle.world_process.proofs.Forces.{sets_standing, in_force-beside}
-use Rattle.world_process.proofs.Names.{lt-from, eq-is, eq-isnt}
+use Rattle.world_process.proofs.Names.{lt-from, eq-isnt}
 use Rattle.world_process.proofs.Plainly.{known-later}
 use Rattle.world_process.proofs.Processes.{process-event, process-stalled}
 use Rattle.world_process.proofs.Scripted.{plain-script}
 use Rattle.world_core.proofs.MidBeat.{Moved, Unmoved, doc-same, within-asked, within-moved, printed-asked, told-more, unmoved-self}
-use Rattle.world_terms.specs.TermsStand.{TermsStand}
-use Rattle.world_terms.proofs.Frames.{but-beside, terms-beside}
 
 pub controller-within : (doc : Doc) (p : ℕ) → is_controller doc p ≡ true → p < processes doc
 controller-within doc p is = let less = lt-from p (length doc.controllers) is in omega (arith, less, length-append doc.controllers doc.kubelets)
@@ -62,7 +60,6 @@ running-event doc k before deeds new arriving coming h w v event version r besid
           in_force = in_force;
         };
         processes = subst (λ cs. EachStands doc (scripted k event version h) cs.items) (sym unmoved.processes) (λ p c is. process-event doc p k 1 event version h c (beside p) (r.world.processes p c is));
-        terms = subst (TermsStand doc (scripted k event version h)) (sym unmoved.terms) (terms-beside doc h (script_entry k 1 (Event event version)) w.terms refl r.world.terms);
       };
       told = ap (λ ds. before ++ ds) new_is ∙ sym (append_assoc before deeds (deeds_of k actor.Script (event_act event version))) ∙ ap (λ ds. ds ++ deeds_of k actor.Script (event_act event version)) r.told;
     }
@@ -89,7 +86,6 @@ around-event doc k i arriving coming event h w wire write standing beside a =
         in_force = in_force-beside doc (script_entry k 1 (Event event None)) h w.in_force standing a.rest.in_force;
       };
       others = λ p c other is. process-event doc p k 1 event None h c (beside p other) (a.others p c other is);
-      terms = but-beside doc i h (script_entry k 1 (Event event None)) w.terms refl a.terms;
     }
 
 apart : (i p : ℕ) → ¬ (p ≡ i) → ¬ (i ≡ p)
@@ -144,22 +140,6 @@ around-stop doc k id arriving coming h w within a = by_pause (not (is_paused doc
 
 -- ---- pauses
 
--- a controller that is paused isn't stopped
-pub running-unstopped : (doc : Doc) (k : ℕ) (before deeds : List Deed) (arriving : List Sent) (coming : List Back) (h : List Entry) (w : World) (id : ProcId) → is_paused doc id.0 k ≡ true
-    → MidBeat doc k before arriving coming h w deeds → MidBeat doc k before arriving coming (happens doc k (what.Stop id) h) w deeds
-running-unstopped doc k before deeds arriving coming h w id paused r =
-    subst (λ g. MidBeat doc k before arriving coming g w deeds) (sym base) (running-plain doc k before deeds arriving coming h w (what.Stop id) r refl refl refl (λ p. by_place p (id.0 == p) refl))
-  where
-    g : List Entry
-    g = scripted k (what.Stop id) None h
-
-    base : happens doc k (what.Stop id) h ≡ g
-    base = ap (λ b. stop doc k id.0 (only_if (not b) (alive id.0 h)) h g) paused
-
-    by_place : (p : ℕ) (b : Bool) → (id.0 == p) ≡ b → cancels doc p k (what.Stop id) ≡ false
-    by_place p true same = ap (λ b. b && not (is_paused doc p k)) same ∙ ap not (subst (λ n. is_paused doc n k ≡ true) (eq-is id.0 p same) paused)
-    by_place p false other = ap (λ b. b && not (is_paused doc p k)) other
-
 -- a pause is told of a process that is up
 pub running-stalled : (doc : Doc) (k : ℕ) (before deeds new : List Deed) (arriving : List Sent) (coming : List Back) (h : List Entry) (w : World) (id : ProcId) (beats i : ℕ) (up : Bool) → MidBeat doc k before arriving coming h w deeds → id.0 < processes doc → alive id.0 h ≡ when up i
     → new ≡ deeds ++ deeds_of k (actor_of (identity id.0 i)) (when up (act.Pause beats)) → MidBeat doc k before arriving coming (happens doc k (what.Pause id beats) h) w new
@@ -182,23 +162,22 @@ running-stalled doc k before deeds new arriving coming h w id beats i up r withi
           world = record {
             rest = rest-own doc k k 1 arriving coming q (Stalls beats) g w refl (known-later (processes doc) e g q known) base.world.rest;
             processes = λ p c is. process-stalled doc p k 1 beats q g c (base.world.processes p c is);
-            terms = terms-beside doc g e w.terms refl base.world.terms;
           };
           told = told-more before deeds new (deeds_of k (actor_of q) (Some (act.Pause beats))) g (e ∷ g) base.told new_is refl;
         }
 
 -- the process stands for the history with the event, and sends nothing
 pub running-moved : (doc : Doc) (k i : ℕ) (before deeds new more : List Deed) (arriving : List Sent) (coming : List Back) (h next : List Entry) (c0 c1 : Process) (w v : World) → MidBeat doc k before arriving coming h w deeds → Moved i c0 c1 w v → v.wire ≡ w.wire →
-    Around doc k i arriving coming next w → ProcessStands doc i next c1 → TermsStand doc next v.terms → printed next ≡ printed h ++ more → new ≡ deeds ++ more → MidBeat doc k before arriving coming next v new
-running-moved doc k i before deeds new more arriving coming h next c0 c1 w v r m wire around stands terms printed_is new_is =
-    record { world = within-moved doc k i arriving coming next c0 c1 w v m wire around stands terms; told = told-more before deeds new more h next r.told new_is printed_is }
+    Around doc k i arriving coming next w → ProcessStands doc i next c1 → printed next ≡ printed h ++ more → new ≡ deeds ++ more → MidBeat doc k before arriving coming next v new
+running-moved doc k i before deeds new more arriving coming h next c0 c1 w v r m wire around stands printed_is new_is =
+    record { world = within-moved doc k i arriving coming next c0 c1 w v m wire around stands; told = told-more before deeds new more h next r.told new_is printed_is }
 
 -- what it asks was sent, where it asks
 pub running-asked : (doc : Doc) (k i : ℕ) (before deeds new more : List Deed) (arriving : List Sent) (coming : List Back) (h base next : List Entry) (c0 c1 : Process) (w v : World) (ask : Option Ask) → MidBeat doc k before arriving coming h w deeds →
-    i < processes doc → Moved i c0 c1 w v → SendsAsked k (identity i (incarnation_of c1)) ask w.wire v.wire → Around doc k i arriving coming base w → AsksOn doc k 1 i base next c1 ask → TermsStand doc base v.terms → printed base ≡ printed h ++ more → new ≡ deeds ++ more →
+    i < processes doc → Moved i c0 c1 w v → SendsAsked k (identity i (incarnation_of c1)) ask w.wire v.wire → Around doc k i arriving coming base w → AsksOn doc k 1 i base next c1 ask → printed base ≡ printed h ++ more → new ≡ deeds ++ more →
     MidBeat doc k before arriving coming next v new
-running-asked doc k i before deeds new more arriving coming h base next c0 c1 w v ask r within m sends around asks terms printed_is new_is =
+running-asked doc k i before deeds new more arriving coming h base next c0 c1 w v ask r within m sends around asks printed_is new_is =
     record {
-      world = within-asked doc k 1 i arriving coming base next c0 c1 w v ask m sends around within asks terms;
+      world = within-asked doc k 1 i arriving coming base next c0 c1 w v ask m sends around within asks;
       told = told-more before deeds new more h base r.told new_is printed_is ∙ sym (printed-asked doc k 1 i base next c1 ask asks);
     }

@@ -132,7 +132,6 @@ world-skips doc k at h w most quiet s =
           in_force = r.in_force;
         };
         processes = s.within.processes;
-        terms = s.within.terms;
       };
       placed = placed-skips doc k at.0 w.place h most quiet s.placed;
       unticked = unticked_later k at.0 h s.unticked most;

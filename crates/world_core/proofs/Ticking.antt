@@ -1,105 +1,43 @@
--- Layer 4, the steps of a beat: ticks beside the world, as the entries of a tick change the store and the terms alone.
-use Rattle.std.proofs.Common.{◌≡◌, ℕ, ◌<◌, ◌++◌, ◌&&◌, not, Bool, true, false, List, Option, Some, None, length, refl, sym, ap, ◌∙◌, subst, append_assoc, arith}
+-- Layer 4, the steps of a beat: the tick of a process, whose entries change the store and its term alone.
+use Rattle.std.proofs.Common.{◌≡◌, ℕ, ◌<◌, not, Bool, true, false, List, Option, Some, None, length, refl, sym, ap, ◌∙◌, subst, arith}
 use Rattle.std.specs.Prelude.{if◌then◌else◌}
-use Rattle.std.proofs.lemmas.Bool.{ltb-true}
-use Rattle.kube_base.specs.declared.numbers.Beat.{Beat}
 use Rattle.kube_objects.specs.declared.deed.Deed.{Deed}
-use Rattle.kube_objects.specs.Clocks.{local}
 use Rattle.kube_objects.specs.Document.{Doc, is_controller, processes}
 use Rattle.kube_objects.specs.Elector.{in_term, acts}
 use Rattle.kube_objects.specs.Entry.{Entry, Identity, Tick, Ticks, entry}
 use Rattle.kube_objects.specs.Identities.{identity}
-use Rattle.kube_objects.specs.InForce.{watches}
 use Rattle.kube_objects.specs.Modes.{nodes}
 use Rattle.kube_objects.specs.Pauses.{is_paused}
 use Rattle.kube_objects.specs.Process.{alive}
 use Rattle.kube_objects.specs.Tick.{add, sync, tick}
-use Rattle.kube_objects.specs.Wire.{Sent, Back, loses_requests}
+use Rattle.kube_objects.specs.Wire.{Sent, Back}
 use Rattle.history.specs.Steps.{if_up, turn, controller_turn, kubelet_turn, unpaused_turn}
 use Rattle.history_laws.proofs.Ticks.{walk_tick}
 use Rattle.beat_laws.specs.Unticked.{IsUntickedFrom}
 use Rattle.beat_laws.proofs.Names.{nodes_are_named}
 use Rattle.beat_laws.proofs.Unticked.{elector_unticked}
-use Rattle.skew_clock.specs.Clocking.{Clocking, reading, wall_when}
-use Rattle.term_state.specs.declared.view.View.{View}
-use Rattle.term_state.specs.MidTick.{IsView}
+use Rattle.object_store.specs.declared.store.Store.{Store}
+use Rattle.object_store.specs.Stands.{StoreStands}
 use Rattle.wire_calls.specs.WireStands.{WireStands}
 use Rattle.wire_calls.proofs.Frames.{wire-beside}
-use Rattle.world_process.specs.Clocked.{ClockStands}
 use Rattle.world_process.specs.InForce.{InForceStands}
-use Rattle.world_process.specs.Moves.{own_turn_as}
+use Rattle.world_process.specs.declared.process.Process.{Process}
+use Rattle.world_process.specs.Moves.{own_ticks, own_ticks_as, own_turn_as}
+use Rattle.world_process.specs.OwnTerm.{CanTick}
 use Rattle.world_process.specs.Plain.{IsFew, IsKnown, IsPlain}
-use Rattle.world_process.specs.Processes.{in_term_as, in_term_if_up, in_term_now}
+use Rattle.world_process.specs.Processes.{ProcessStands, Ticked, in_term_as, in_term_if_up, in_term_now}
 use Rattle.world_process.proofs.Forces.{in_force-beside}
 use Rattle.world_process.proofs.Grows.{Grows, few-before, grows-same, grows-ticks}
 use Rattle.world_process.proofs.Plainly.{known-later, plain-entry}
-use Rattle.world_process.proofs.Processes.{process-ticked}
-use Rattle.world_process.proofs.Readings.{reading-local, wall-when}
-use Rattle.world_process.proofs.Unheard.{and-false}
-use Rattle.world_terms.specs.TermsStand.{IsUpAs, TermsTicked}
+use Rattle.world_process.proofs.Acting.{ticks-none, ticks-paused}
+use Rattle.world_process.proofs.Processes.{process-others}
 use Rattle.world_core.specs.declared.world.World.{World}
-use Rattle.world_core.specs.Worlds.{EachStands, MidBeat, WorldWithin}
-use Rattle.world_core.specs.Waits.{awake_turn, own_ticks, own_ticks_as, turn_if}
-use Rattle.world_core.proofs.Around.{alive-known}
-
--- ---- all of the world but its store and its terms
-
-pub record Beside (doc : Doc) (k : ℕ) (arriving : List Sent) (coming : List Back) (h : List Entry) (w : World) : Type 0 where
-  pub plain : IsPlain (processes doc) h
-  pub wire : WireStands (processes doc) k arriving coming h w.wire
-  pub in_force : InForceStands doc h w.in_force
-  pub processes : EachStands doc h w.processes.items
-
-pub beside-world : (doc : Doc) (k : ℕ) (arriving : List Sent) (coming : List Back) (h : List Entry) (w : World) → WorldWithin doc k arriving coming h w → Beside doc k arriving coming h w
-beside-world doc k arriving coming h w s = record { plain = s.rest.plain; wire = s.rest.wire; in_force = s.rest.in_force; processes = s.processes }
-
-module _ (doc : Doc) (k : ℕ) (arriving : List Sent) (coming : List Back) (w : World) where
-  -- one entry more
-  beside-entry : (at : ℕ) (q : Identity) (t : Tick) (g : List Entry) → Beside doc k arriving coming g w × IsKnown (processes doc) g q
-      → Beside doc k arriving coming (add at q t g) w × IsKnown (processes doc) (add at q t g) q
-  beside-entry at q t g s =
-      let e = entry at 4 q (Ticks t) in
-      let b = s.0 in
-      let known = known-later (processes doc) e g q s.1 in (
-        record {
-          plain = plain-entry (processes doc) at 4 q (Ticks t) g known b.plain;
-          wire = wire-beside (processes doc) k arriving coming g e w.wire refl b.wire;
-          in_force = in_force-beside doc e g w.in_force refl b.in_force;
-          processes = λ p x place. process-ticked doc p at 4 q t g x (b.processes p x place);
-        },
-        known,
-      )
-
-  -- a whole tick
-  pub beside-tick : (at : ℕ) (q : Identity) (g : List Entry) → IsKnown (processes doc) g q → Beside doc k arriving coming g w → Beside doc k arriving coming (tick doc at q g) w
-  beside-tick at q g known s =
-      (walk_tick doc at q (λ f. Beside doc k arriving coming f w × IsKnown (processes doc) f q) (λ t f made r. beside-entry at q t f r) g (s, known)).0
+use Rattle.world_core.specs.Worlds.{IsReady, Keeps, MidBeat, OthersStand, WorldWithin}
+use Rattle.world_core.specs.Waits.{awake_turn, turn_if}
+use Rattle.world_core.proofs.Around.{Around, alive-known}
+use Rattle.world_core.proofs.MidBeat.{Moved, within-moved}
 
 -- ---- whose tick it is
-
--- without a leader whose term isn't over there is none
-pub ticks-none : (doc : Doc) (k p : ℕ) (h : List Entry) → in_term_now doc k p h ≡ false → own_ticks doc k p h ≡ h
-ticks-none doc k p h none = by_sort (is_controller doc p) none
-  where
-    by_life : (o : Option ℕ) → in_term_if_up doc k p o h ≡ false → if_up p (λ q T. (if (acts doc q k T) then tick doc k q T else T)) o h ≡ h
-    by_life None is = refl
-    by_life (Some i) is = ap (λ b. (if (not (is_paused doc p k) && b) then tick doc k (identity p i) h else h)) is ∙ ap (λ b. (if b then tick doc k (identity p i) h else h)) (and-false (not (is_paused doc p k)))
-
-    by_sort : (b : Bool) → in_term_as doc k p b h ≡ false → own_ticks_as doc k p b h ≡ h
-    by_sort true is = by_life (alive p h) is
-    by_sort false is = refl
-
--- nor is there one in a pause
-pub ticks-paused : (doc : Doc) (k p : ℕ) (h : List Entry) → is_paused doc p k ≡ true → own_ticks doc k p h ≡ h
-ticks-paused doc k p h paused = by_sort (is_controller doc p)
-  where
-    by_life : (o : Option ℕ) → if_up p (λ q T. (if (acts doc q k T) then tick doc k q T else T)) o h ≡ h
-    by_life None = refl
-    by_life (Some i) = ap (λ b. (if (not b && in_term doc (identity p i) k h) then tick doc k (identity p i) h else h)) paused
-
-    by_sort : (b : Bool) → own_ticks_as doc k p b h ≡ h
-    by_sort true = by_life (alive p h)
-    by_sort false = refl
 
 -- whoever is in its term is a controller, in the incarnation in which it is up
 pub record InTermAs (doc : Doc) (k p i : ℕ) (h : List Entry) : Type 0 where
@@ -113,23 +51,7 @@ term-is doc k p i h up acts = by_sort (is_controller doc p) refl acts
     by_sort true sort is = record { sort = sort; term = sym (ap (λ o. in_term_if_up doc k p o h) up) ∙ is }
     by_sort false sort is = cc
 
-pub up-as : (doc : Doc) (k p i : ℕ) (h : List Entry) → alive p h ≡ Some i → InTermAs doc k p i h → IsUpAs doc p (identity p i) h
-up-as doc k p i h up s = record { process = refl; inside = ltb-true _ _ s.sort; up = up }
-
-pub ticks-acting : (doc : Doc) (k p i : ℕ) (h : List Entry) → is_paused doc p k ≡ false → alive p h ≡ Some i → InTermAs doc k p i h → own_ticks doc k p h ≡ tick doc k (identity p i) h
-ticks-acting doc k p i h awake up s =
-    ap (λ b. own_ticks_as doc k p b h) s.sort
-    ∙ ap (λ o. if_up p (λ q T. (if (acts doc q k T) then tick doc k q T else T)) o h) up
-    ∙ ap (λ b. (if (not b && in_term doc (identity p i) k h) then tick doc k (identity p i) h else h)) awake
-    ∙ ap (λ b. (if b then tick doc k (identity p i) h else h)) s.term
-
--- ---- what a tick is given
-
-pub view-is : (doc : Doc) (k : ℕ) (q : Identity) (h : List Entry) (c : Clocking) (v : View) → ClockStands doc q.process c → v.watch ≡ watches doc q.process h → v.passes ≡ not (loses_requests q.process h) → v.beat.0 ≡ k
-    → v.now.0 ≡ reading c v.beat.0 → v.wall.0 ≡ wall_when c v.now.0 → IsView doc k q h v
-view-is doc k q h c v clock watch passes beat now wall =
-    let read : v.now.0 ≡ local doc q.process k = now ∙ ap (reading c) beat ∙ reading-local doc q.process k c clock in
-    record { watch = watch; passes = passes; beat = beat; reading = read; time = wall ∙ wall-when doc q.process k v.now.0 c clock read }
+-- ---- what a tick finds
 
 grows-own_ticks : (doc : Doc) (k p : ℕ) (h : List Entry) → Grows h (own_ticks doc k p h)
 grows-own_ticks doc k p h = by_sort (is_controller doc p)
@@ -139,62 +61,98 @@ grows-own_ticks doc k p h = by_sort (is_controller doc p)
     by_sort false = grows-same h
 
 -- a term has no more nodes than names
-pub few-ticks : (doc : Doc) (k p : ℕ) (q : Identity) (h : List Entry) → IsFew (own_ticks doc k p h) → length (nodes q (sync doc k q h)) < 4294967296
+few-ticks : (doc : Doc) (k p : ℕ) (q : Identity) (h : List Entry) → IsFew (own_ticks doc k p h) → length (nodes q (sync doc k q h)) < 4294967296
 few-ticks doc k p q h few =
     let most = (few-before h (own_ticks doc k p h) (grows-own_ticks doc k p h) few).nodes in
     let least = nodes_are_named doc k q h in
     omega (arith, most, least)
 
+pub can-tick : (doc : Doc) (k p : ℕ) (h : List Entry) → IsUntickedFrom k p h → IsFew (own_ticks doc k p h) → CanTick doc k p h
+can-tick doc k p h unticked few = record { fresh = λ q own. unticked q (omega (arith, own)); few = λ q. few-ticks doc k p q h few }
+
+-- ---- the world around a process that ticks
+
+-- all but the process and the store
+record Beside (doc : Doc) (k p : ℕ) (arriving : List Sent) (coming : List Back) (h : List Entry) (w : World) : Type 0 where
+  pub plain : IsPlain (processes doc) h
+  pub wire : WireStands (processes doc) k arriving coming h w.wire
+  pub in_force : InForceStands doc h w.in_force
+  pub others : OthersStand doc p h w.processes.items
+
+module _ (doc : Doc) (k p : ℕ) (arriving : List Sent) (coming : List Back) (w : World) where
+  -- one entry more
+  beside-entry : (i : ℕ) (t : Tick) (g : List Entry) → Beside doc k p arriving coming g w × IsKnown (processes doc) g (identity p i)
+      → Beside doc k p arriving coming (add k (identity p i) t g) w × IsKnown (processes doc) (add k (identity p i) t g) (identity p i)
+  beside-entry i t g s =
+      let q = identity p i in
+      let e = entry k 4 q (Ticks t) in
+      let b = s.0 in
+      let known = known-later (processes doc) e g q s.1 in (
+        record {
+          plain = plain-entry (processes doc) k 4 q (Ticks t) g known b.plain;
+          wire = wire-beside (processes doc) k arriving coming g e w.wire refl b.wire;
+          in_force = in_force-beside doc e g w.in_force refl b.in_force;
+          others = λ o x other place. process-others doc o k 4 q (Ticks t) g x (λ same. other (sym same)) refl (b.others o x other place);
+        },
+        known,
+      )
+
+  -- its tick, where it has one
+  beside-ticks : (h : List Entry) → p < processes doc → Beside doc k p arriving coming h w → Beside doc k p arriving coming (own_ticks doc k p h) w
+  beside-ticks h within s = by_sort (is_controller doc p)
+    where
+      by_test : (i : ℕ) → alive p h ≡ Some i → (b : Bool) → Beside doc k p arriving coming (if b then tick doc k (identity p i) h else h) w
+      by_test i up true = (walk_tick doc k (identity p i) (λ f. Beside doc k p arriving coming f w × IsKnown (processes doc) f (identity p i)) (λ t f made r. beside-entry i t f r) h (s, alive-known (processes doc) p i h s.plain within up)).0
+      by_test i up false = s
+
+      by_life : (o : Option ℕ) → alive p h ≡ o → Beside doc k p arriving coming (if_up p (λ q T. (if (acts doc q k T) then tick doc k q T else T)) o h) w
+      by_life None is = s
+      by_life (Some i) is = by_test i is (acts doc (identity p i) k h)
+
+      by_sort : (b : Bool) → Beside doc k p arriving coming (own_ticks_as doc k p b h) w
+      by_sort true = by_life (alive p h) refl
+      by_sort false = s
+
+-- the world with another store
+abbrev stored : World → Store → World
+stored w s = record w { store = s }
+
+around-ticks : (doc : Doc) (k p : ℕ) (arriving : List Sent) (coming : List Back) (h : List Entry) (w : World) (s : Store) → p < processes doc → WorldWithin doc k arriving coming h w → StoreStands (own_ticks doc k p h) s
+    → Around doc k p arriving coming (own_ticks doc k p h) (stored w s)
+around-ticks doc k p arriving coming h w s within r store =
+    let d = r.rest.document in
+    let b = beside-ticks doc k p arriving coming w h within (record { plain = r.rest.plain; wire = r.rest.wire; in_force = r.rest.in_force; others = λ o x other is. r.processes o x is }) in
+    record {
+      rest = record {
+        document = record { at = d.at; restart = d.restart; count = d.count; epoch = d.epoch; micros = d.micros; events = d.events; controllers = d.controllers };
+        plain = b.plain;
+        store = store;
+        wire = b.wire;
+        in_force = b.in_force;
+      };
+      others = b.others;
+    }
+
 -- ---- the world after a tick
 
--- v is the world w with another store and other terms
-pub record SameButTicked (w v : World) : Type 0 where
-  pub beat : v.beat ≡ w.beat
-  pub restart : v.restart ≡ w.restart
-  pub epoch : v.epoch ≡ w.epoch
-  pub micros : v.micros ≡ w.micros
-  pub events : v.events ≡ w.events
-  pub wire : v.wire ≡ w.wire
-  pub in_force : v.in_force ≡ w.in_force
-  pub processes : v.processes ≡ w.processes
-  pub controllers : v.controllers ≡ w.controllers
+pub running-ticked : (doc : Doc) (k p : ℕ) (before deeds new : List Deed) (arriving : List Sent) (coming : List Back) (h : List Entry) (x y z : Process) (w v : World) (s : Store) → p < processes doc → Moved p x z (stored w s) v → v.wire ≡ w.wire
+    → ((g : List Entry) → ProcessStands doc p g y → ProcessStands doc p g z) → MidBeat doc k before arriving coming h w deeds → Ticked doc k p h y s deeds new → MidBeat doc k before arriving coming (own_ticks doc k p h) v new
+running-ticked doc k p before deeds new arriving coming h x y z w v s within m wire keeps r ticked = record {
+  world = within-moved doc k p arriving coming (own_ticks doc k p h) x z (stored w s) v m wire (around-ticks doc k p arriving coming h w s within r.world ticked.store) (keeps (own_ticks doc k p h) ticked.stands);
+  told = ticked.told before r.told;
+}
 
-pub running-ticked : (doc : Doc) (k p i : ℕ) (before deeds told : List Deed) (arriving : List Sent) (coming : List Back) (h : List Entry) (w v : World) → is_paused doc p k ≡ false → p < processes doc → alive p h ≡ Some i → InTermAs doc k p i h → SameButTicked w v
-    → MidBeat doc k before arriving coming h w deeds → TermsTicked doc k (identity p i) h told v.terms v.store → MidBeat doc k before arriving coming (own_ticks doc k p h) v (deeds ++ told)
-running-ticked doc k p i before deeds told arriving coming h w v awake within up acts same r t =
-    let q = identity p i in
-    let d = r.world.rest.document in
-    let known = alive-known (processes doc) p i h r.world.rest.plain within up in
-    let b = beside-tick doc k arriving coming w k q h known (beside-world doc k arriving coming h w r.world) in
-    let is = ticks-acting doc k p i h awake up acts in
-    subst (λ g. MidBeat doc k before arriving coming g v (deeds ++ told)) (sym is)
-    (record {
-      world = record {
-        rest = record {
-          document = record {
-            at = ap (λ (b : Beat). b.0) same.beat ∙ d.at;
-            restart = same.restart ∙ d.restart;
-            count = ap (λ xs. length xs.items) same.processes ∙ d.count;
-            epoch = same.epoch ∙ d.epoch;
-            micros = same.micros ∙ d.micros;
-            events = same.events ∙ d.events;
-            controllers = same.controllers ∙ d.controllers;
-          };
-          plain = b.plain;
-          store = t.store;
-          wire = subst (WireStands (processes doc) k arriving coming (tick doc k q h)) (sym same.wire) b.wire;
-          in_force = subst (InForceStands doc (tick doc k q h)) (sym same.in_force) b.in_force;
-        };
-        processes = subst (λ xs. EachStands doc (tick doc k q h) xs.items) (sym same.processes) b.processes;
-        terms = t.terms;
-      };
-      told = sym (append_assoc before deeds told) ∙ ap (λ ds. ds ++ told) r.told ∙ t.told;
-    })
-
--- no tick in a pause
-pub running-rests : (doc : Doc) (k p : ℕ) (before deeds : List Deed) (arriving : List Sent) (coming : List Back) (h : List Entry) (w : World) → is_paused doc p k ≡ true
-    → MidBeat doc k before arriving coming h w deeds → MidBeat doc k before arriving coming (own_ticks doc k p h) w deeds
-running-rests doc k p before deeds arriving coming h w paused r = subst (λ g. MidBeat doc k before arriving coming g w deeds) (sym (ticks-paused doc k p h paused)) r
+-- the store is no part of what is plain
+pub keeps-stored : (w v : World) (s : Store) → (IsReady (stored w s) → Keeps (stored w s) v) → IsReady w → Keeps w v
+keeps-stored w v s keeps r =
+    let k = keeps (record { end = r.end; restart = r.restart; epoch = r.epoch; micros = r.micros; events = r.events; few = r.few; clocks = r.clocks; controllers = r.controllers; kept = r.kept; noted = r.noted }) in
+    let d = k.same in
+    record {
+      ready = k.ready;
+      same = record { beat = d.beat; end = d.end; restart = d.restart; epoch = d.epoch; micros = d.micros; events = d.events; names = d.names; controllers = d.controllers };
+      place = k.place;
+      count = k.count;
+    }
 
 -- no tick
 pub running-unticked : (doc : Doc) (k p : ℕ) (before deeds : List Deed) (arriving : List Sent) (coming : List Back) (h : List Entry) (w : World) → in_term_now doc k p h ≡ false

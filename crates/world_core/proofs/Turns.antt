@@ -13,7 +13,6 @@ use Rattle.world_process.specs.Moves as moves
 use Rattle.world_process.specs.Moves.{own_turn}
 use Rattle.world_process.specs.Processes.{AsksOn, ProcessStands, SameProcess, Turned, incarnation_of}
 use Rattle.world_process.proofs.Processes.{process-incarnation}
-use Rattle.world_terms.specs.TermsStand.{TermsStand}
 use Rattle.world_core.specs.declared.world.World.{World}
 use Rattle.world_core.specs.Worlds.{MidBeat}
 use Rattle.world_core.specs.Waits.{awake_turn, turn_if}
@@ -46,11 +45,11 @@ turned-kept doc k p h x y t keeps turned =
 
 -- ---- the world with a process that did nothing but to keep that beat
 
-pub running-kept : (doc : Doc) (k i : ℕ) (before deeds : List Deed) (arriving : List Sent) (coming : List Back) (h : List Entry) (x y : Process) (w v : World) → Moved i x y w v → v.wire ≡ w.wire → v.terms ≡ w.terms → ProcessStands doc i h y
+pub running-kept : (doc : Doc) (k i : ℕ) (before deeds : List Deed) (arriving : List Sent) (coming : List Back) (h : List Entry) (x y : Process) (w v : World) → Moved i x y w v → v.wire ≡ w.wire → ProcessStands doc i h y
     → MidBeat doc k before arriving coming h w deeds → MidBeat doc k before arriving coming h v deeds
-running-kept doc k i before deeds arriving coming h x y w v m wire terms stands r =
+running-kept doc k i before deeds arriving coming h x y w v m wire stands r =
     record {
-      world = within-moved doc k i arriving coming h x y w v m wire (around-world doc k i arriving coming h w r.world) stands (subst (TermsStand doc h) (sym terms) r.world.terms);
+      world = within-moved doc k i arriving coming h x y w v m wire (around-world doc k i arriving coming h w r.world) stands;
       told = r.told;
     }
 
@@ -79,7 +78,7 @@ pub running-awake : (doc : Doc) (k i : ℕ) (before deeds : List Deed) (arriving
 running-awake doc k i before deeds arriving coming h w awake r = subst (λ g. MidBeat doc k before arriving coming g w deeds) (sym (awake-is doc k i h awake)) r
 
 -- its turn adds nothing
-pub running-still : (doc : Doc) (k i : ℕ) (before deeds : List Deed) (arriving : List Sent) (coming : List Back) (h : List Entry) (x y : Process) (w v : World) → own_turn doc k i h ≡ h → Moved i x y w v → v.wire ≡ w.wire → v.terms ≡ w.terms → ProcessStands doc i h y
+pub running-still : (doc : Doc) (k i : ℕ) (before deeds : List Deed) (arriving : List Sent) (coming : List Back) (h : List Entry) (x y : Process) (w v : World) → own_turn doc k i h ≡ h → Moved i x y w v → v.wire ≡ w.wire → ProcessStands doc i h y
     → MidBeat doc k before arriving coming h w deeds → MidBeat doc k before arriving coming (awake_turn doc k i h) v deeds
-running-still doc k i before deeds arriving coming h x y w v still m wire terms stands r =
-    subst (λ g. MidBeat doc k before arriving coming g v deeds) (sym (awake-still doc k i h still)) (running-kept doc k i before deeds arriving coming h x y w v m wire terms stands r)
+running-still doc k i before deeds arriving coming h x y w v still m wire stands r =
+    subst (λ g. MidBeat doc k before arriving coming g v deeds) (sym (awake-still doc k i h still)) (running-kept doc k i before deeds arriving coming h x y w v m wire stands r)

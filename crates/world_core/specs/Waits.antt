@@ -10,7 +10,6 @@ use Rattle.kube_objects.specs.Entry.{Entry, Identity}
 use Rattle.kube_objects.specs.Newest.{only_if}
 use Rattle.kube_objects.specs.Pauses.{is_paused}
 use Rattle.kube_objects.specs.Process.{alive}
-use Rattle.history.specs.Steps.{ticks}
 use Rattle.agenda_laws.specs.Ticking.{term_reading, term_time}
 use Rattle.agenda_laws.specs.Times.{is_early, sooner, if_up}
 use Rattle.agenda_laws.specs.Waking.{IsAsleep, acts_as, wakes_of}
@@ -26,14 +25,6 @@ reading_of w = local_of w.local
 
 abbrev pub beat_of : Option Beat → Option ℕ
 beat_of = option_map (λ beat. beat.0)
-
--- the tick of a controller's turn; a kubelet has none
-abbrev pub own_ticks_as : Doc → ℕ → ℕ → Bool → List Entry → List Entry
-own_ticks_as doc k p true h = ticks doc k p h
-own_ticks_as doc k p false h = h
-
-abbrev pub own_ticks : Doc → ℕ → ℕ → List Entry → List Entry
-own_ticks doc k p h = own_ticks_as doc k p (is_controller doc p) h
 
 -- a turn but for its tick; a process that is paused has none
 abbrev pub turn_if : Doc → ℕ → ℕ → Bool → List Entry → List Entry

@@ -34,7 +34,6 @@ use Rattle.world_core.specs.declared.world.World.{World}
 use Rattle.world_process.specs.InForce.{InForceStands}
 use Rattle.world_process.specs.Plain.{IsFew, IsPlain, SentByKnown, BackToKnown}
 use Rattle.world_process.specs.Processes.{IsKept, ProcessStands, clock_of, waking_of}
-use Rattle.world_terms.specs.TermsStand.{TermsStand}
 
 -- ---- plain facts, that callers see
 
@@ -119,7 +118,7 @@ pub record IsPlaced (doc : Doc) (k place : ℕ) : Type 0 where
   pub earlier : (i : ℕ) (e : Event) → i < place → slice_get doc.events i ≡ Some e → e.beat.0 < k
   pub later : AreLawfulFrom doc k (drop place doc.events)
 
--- all but the processes and their terms; these requests and replies have still to be taken at the beat
+-- all but the processes; these requests and replies have still to be taken at the beat
 pub record RestStands (doc : Doc) (k : ℕ) (arriving : List Sent) (coming : List Back) (h : List Entry) (w : World) : Type 0 where
   pub document : DocStands doc k w
   pub plain : IsPlain (processes doc) h
@@ -144,7 +143,6 @@ pub record AreMadeOf (doc : Doc) (s : Settings) (cs ks : List Proc) (es : List E
 pub record WorldWithin (doc : Doc) (k : ℕ) (arriving : List Sent) (coming : List Back) (h : List Entry) (w : World) : Type 0 where
   pub rest : RestStands doc k arriving coming h w
   pub processes : EachStands doc h w.processes.items
-  pub terms : TermsStand doc h w.terms
 
 -- the world before beat k, whose history is h
 pub record WorldStands (doc : Doc) (k : ℕ) (h : List Entry) (w : World) : Type 0 where

@@ -32,7 +32,6 @@ use skew_clock::Clock;
 use std::alloc::Global;
 use wire_calls::Wire;
 use world_process::{InForce, Process};
-use world_terms::Terms;
 use zone_state::Policies;
 
 /// Processes, the store and the wire between them, before a beat. The events before the place have happened.
@@ -50,7 +49,6 @@ pub struct World {
     controllers: usize,
     turn_beats: BeatTree,
     in_force: InForce,
-    terms: Terms,
     place: usize,
     events: Events,
     names: Names,

@@ -30,6 +30,7 @@ use Rattle.world_process.proofs.Names.{eq-isnt}
 use Rattle.kube_base.specs.declared.numbers.Local.{Local}
 use Rattle.world_process.specs.declared.controller.Role.TheVariants as role
 use Rattle.world_process.proofs.Beside.{role-stranger}
+use Rattle.world_process.proofs.OwnTerm.{keeps-beside, keeps-both}
 use Rattle.world_process.proofs.Standing.{stands-role, role-at}
 
 -- the reply is this one
@@ -90,7 +91,7 @@ replied-uncounted doc k p i b number reply h c r s is none stands =
     let next = entry k 3 q (Delivers b.call reply false) ∷ h in
     let same = ap (λ w. entry k 3 w (Delivers b.call reply false) ∷ h) (sym is.who) in
     replied-none doc k (identity p c.incarnation) b h (Delivers b.call reply false ∷ []) (λ g. ControllerStands doc p g (record c { role = r })) (refl, tt) (uncounted-is doc k b q number reply h is none ∙ same) (append-nil (printed h))
-    (subst (λ g. ControllerStands doc p g (record c { role = r })) same (stands-role doc p h next c r s refl stands))
+    (subst (λ g. ControllerStands doc p g (record c { role = r })) same (stands-role doc p h next c r s refl (keeps-beside doc p (entry k 3 q (Delivers b.call reply false)) h refl) stands))
 
 -- it counts, and nothing follows
 pub replied-stays : (doc : Doc) (k p : ℕ) (b : Back) (number : ℕ) (reply : Reply) (waiting : Call) (h : List Entry) (c : Controller) (r : Role) → ControllerStands doc p h c → IsBack b (identity p c.incarnation) number reply →
@@ -101,7 +102,7 @@ replied-stays doc k p b number reply waiting h c r s is some stays stands =
     let next = with_reply k q waiting reply h in
     let same = ap (λ w. entry k 3 w (Delivers waiting reply true) ∷ h) (sym is.who) in
     replied-none doc k (identity p c.incarnation) b h (Delivers waiting reply true ∷ []) (λ g. ControllerStands doc p g (record c { role = r })) (refl, tt) (counted-is doc k b q number reply waiting h is s.sort some ∙ stays ∙ same) (append-nil (printed h))
-    (subst (λ g. ControllerStands doc p g (record c { role = r })) same (stands-role doc p h next c r s refl stands))
+    (subst (λ g. ControllerStands doc p g (record c { role = r })) same (stands-role doc p h next c r s refl (keeps-beside doc p (entry k 3 q (Delivers waiting reply true)) h refl) stands))
 
 -- it counts, and a request follows
 pub replied-asks : (doc : Doc) (k p : ℕ) (b : Back) (number : ℕ) (reply : Reply) (waiting : Call) (h : List Entry) (c : Controller) (r : Role) (ask : Ask) (Stands : List Entry → Type 0) → ControllerStands doc p h c →
@@ -124,8 +125,9 @@ replied-asks doc k p b number reply waiting h c r ask Stands s is some up a stan
               sent = next_is ∙ a.sent;
               number = a.number;
               stands = λ arrives.
-                  let f = entry k 3 q (Sends (next_call q k a.kind ask.request g) arrives) ∷ g in
-                  stands-role doc p h f c r s refl (stands f up (a.stands arrives));
+                  let e = entry k 3 q (Sends (next_call q k a.kind ask.request g) arrives) in
+                  let f = e ∷ g in
+                  stands-role doc p h f c r s refl (keeps-both doc p e (entry k 3 q (Delivers waiting reply true)) h refl refl) (stands f up (a.stands arrives));
             });
       };
     }
@@ -147,7 +149,7 @@ replied-leads doc k p b number reply waiting h c r version s is some next_leads 
         facts = Leads version ∷ Delivers waiting reply true ∷ [];
         quiet = (refl, (refl, tt));
         adds = next_is ∙ ap (λ w. entry k 3 w (Leads version) ∷ entry k 3 w (Delivers waiting reply true) ∷ h) (sym is.who);
-        stands = subst (λ x. ControllerStands doc p x (record c { role = r })) (sym next_is) (stands-role doc p h next c r s refl stands);
+        stands = subst (λ x. ControllerStands doc p x (record c { role = r })) (sym next_is) (stands-role doc p h next c r s refl (keeps-both doc p (entry k 3 q (Leads version)) (entry k 3 q (Delivers waiting reply true)) h refl refl) stands);
       };
     }
 

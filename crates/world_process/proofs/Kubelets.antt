@@ -11,7 +11,7 @@ use Rattle.kube_objects.specs.declared.script.What.{What}
 use Rattle.kube_objects.specs.declared.script.What.TheVariants as what
 use Rattle.kube_objects.specs.Clocks.{store_wall, whole_second}
 use Rattle.kube_objects.specs.Document.{Doc}
-use Rattle.kube_objects.specs.Entry.{Entry, Identity, Call, Fact, First, Event, Crashes, Stalls, Answers, Tick, Ticks, entry, script_entry, actor_of}
+use Rattle.kube_objects.specs.Entry.{Entry, Identity, Call, Fact, First, Event, Crashes, Stalls, Answers, entry, script_entry, actor_of}
 use Rattle.kube_objects.specs.Identities.{identity, is_by}
 use Rattle.kube_objects.specs.Newest.{join}
 use Rattle.kube_objects.specs.Process.{alive, gone, life, starts}
@@ -80,9 +80,6 @@ kubelet-answered doc p k step q call reply comes written h b s = kubelet-kind do
 
 pub kubelet-stalled : (doc : Doc) (p k step beats : ℕ) (q : Identity) (h : List Entry) (b : Kubelet) → KubeletStands doc p h b → KubeletStands doc p (entry k step q (Stalls beats) ∷ h) b
 kubelet-stalled doc p k step beats q h b s = kubelet-kind doc p (entry k step q (Stalls beats)) h b refl refl refl s
-
-pub kubelet-ticked : (doc : Doc) (p k step : ℕ) (q : Identity) (tick : Tick) (h : List Entry) (b : Kubelet) → KubeletStands doc p h b → KubeletStands doc p (entry k step q (Ticks tick) ∷ h) b
-kubelet-ticked doc p k step q tick h b s = kubelet-kind doc p (entry k step q (Ticks tick)) h b refl refl refl s
 
 pub kubelet-put_all : (doc : Doc) (p : ℕ) (items : List (Key × Object)) (h : List Entry) (b : Kubelet) → KubeletStands doc p h b → KubeletStands doc p (put_all doc items h) b
 kubelet-put_all doc p [] h b s = s

@@ -8,6 +8,10 @@ pub mod Grows
 pub mod Firsts
 pub mod Rates
 pub mod Readings
+-- ---- a controller's term
+pub mod Begun
+pub mod Times
+pub mod OwnTerm
 -- ---- a controller beside entries of others, and through its own
 pub mod Standing
 pub mod Beside
@@ -17,6 +21,7 @@ pub mod Scripted
 pub mod Terms
 pub mod Timers
 pub mod Answering
+pub mod Acting
 -- ---- a kubelet
 pub mod Kubelets
 pub mod Rounds

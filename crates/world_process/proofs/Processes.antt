@@ -6,7 +6,7 @@ use Rattle.kube_objects.specs.declared.key.Key.{Key}
 use Rattle.kube_objects.specs.declared.object.Object.{Object}
 use Rattle.kube_objects.specs.declared.script.What.{What}
 use Rattle.kube_objects.specs.Document.{Doc, is_up_first}
-use Rattle.kube_objects.specs.Entry.{Entry, Identity, Call, Fact, Event, Answers, Stalls, Tick, Ticks, entry, script_entry}
+use Rattle.kube_objects.specs.Entry.{Entry, Identity, Call, Fact, Event, Answers, Stalls, entry, script_entry}
 use Rattle.kube_objects.specs.Newest.{when}
 use Rattle.kube_objects.specs.Process.{alive, cancels, starts}
 use Rattle.history.specs.History.{put_all}
@@ -18,8 +18,8 @@ use Rattle.world_process.specs.declared.process.Process.TheVariants.{Controller,
 use Rattle.world_process.specs.Controllers.{RoleStands, is_up_as}
 use Rattle.world_process.specs.Kubelets.{RoundsStand}
 use Rattle.world_process.specs.Processes.{ProcessStands, me_of, incarnation_of, is_up_first_as}
-use Rattle.world_process.proofs.Beside.{controller-others, controller-answered, controller-stalled, controller-ticked}
-use Rattle.world_process.proofs.Kubelets.{kubelet-others, kubelet-answered, kubelet-stalled, kubelet-ticked, kubelet-put_all, kubelet-event}
+use Rattle.world_process.proofs.Beside.{controller-others, controller-answered, controller-stalled}
+use Rattle.world_process.proofs.Kubelets.{kubelet-others, kubelet-answered, kubelet-stalled, kubelet-put_all, kubelet-event}
 use Rattle.world_process.proofs.Lives.{is_event}
 use Rattle.world_process.proofs.Scripted.{controller-put_all, controller-event}
 
@@ -57,10 +57,6 @@ pub process-answered : (doc : Doc) (p k step : ℕ) (q : Identity) (call : Call)
     ProcessStands doc p (entry k step q (Answers call reply comes written) ∷ h) x
 process-answered doc p k step q call reply comes written h (Controller c) s = controller-answered doc p k step q call reply comes written h c s
 process-answered doc p k step q call reply comes written h (Kubelet b) s = kubelet-answered doc p k step q call reply comes written h b s
-
-pub process-ticked : (doc : Doc) (p k step : ℕ) (q : Identity) (tick : Tick) (h : List Entry) (x : Process) → ProcessStands doc p h x → ProcessStands doc p (entry k step q (Ticks tick) ∷ h) x
-process-ticked doc p k step q tick h (Controller c) s = controller-ticked doc p k step q tick h c s
-process-ticked doc p k step q tick h (Kubelet b) s = kubelet-ticked doc p k step q tick h b s
 
 pub process-stalled : (doc : Doc) (p k step beats : ℕ) (q : Identity) (h : List Entry) (x : Process) → ProcessStands doc p h x → ProcessStands doc p (entry k step q (Stalls beats) ∷ h) x
 process-stalled doc p k step beats q h (Controller c) s = controller-stalled doc p k step beats q h c s

@@ -14,7 +14,7 @@ use Rattle.kube_objects.specs.Clocks.{store_wall, whole_second}
 use Rattle.kube_objects.specs.Document.{Doc}
 use Rattle.kube_objects.specs.Elector.{release}
 use Rattle.kube_objects.specs.Entry.{Entry, Identity, Fact, First, Event, Stops, Sends, Release, entry, script_entry, actor_of}
-use Rattle.kube_objects.specs.Identities.{identity}
+use Rattle.kube_objects.specs.Identities.{identity, is_by}
 use Rattle.kube_objects.specs.Newest.{added, newest, when, only_if, join}
 use Rattle.kube_objects.specs.Pauses.{is_paused}
 use Rattle.kube_objects.specs.Process.{alive, gone, life, cancels, ended, is_start, restart_says, starts}
@@ -23,6 +23,8 @@ use Rattle.kube_objects.specs.Wire.{next_call, send}
 use Rattle.history.specs.History.{put_all}
 use Rattle.history.specs.Printed.{printed, deeds_of}
 use Rattle.history.specs.Steps.{happens, released, start, start_if_down, stop}
+use Rattle.history_laws.proofs.Plainly.{false_is}
+use Rattle.leader_elector.proofs.Frames.{candidate-foreign, leading-foreign}
 use Rattle.leader_elector.specs.Moves.{Releases}
 use Rattle.world_process.specs.declared.controller.Controller.{Controller}
 use Rattle.world_process.specs.declared.controller.Role.{Role}
@@ -33,6 +35,7 @@ use Rattle.world_process.specs.Moves.{stop_in, stopped}
 use Rattle.world_process.specs.Plain.{IsFew, IsPlain}
 use Rattle.world_process.proofs.Beside.{controller-quiet}
 use Rattle.world_process.proofs.Names.{eq-self, of_process-own}
+use Rattle.world_process.proofs.OwnTerm.{KeepsTerm, keeps-beside, keeps-both}
 use Rattle.world_process.proofs.Plainly.{starts-start}
 use Rattle.world_process.proofs.Restarts.{starts-few}
 use Rattle.world_process.proofs.Standing.{stands-role}
@@ -41,7 +44,7 @@ use Rattle.world_process.proofs.Unheard.{and-false}
 -- ---- entries of the script that aren't on the process
 
 pub controller-first : (doc : Doc) (p beat step : ℕ) (key : Key) (object : Object) (h : List Entry) (c : Controller) → ControllerStands doc p h c → ControllerStands doc p (script_entry beat step (First key object) ∷ h) c
-controller-first doc p beat step key object h c s = controller-quiet doc p (script_entry beat step (First key object)) h c refl refl refl refl s
+controller-first doc p beat step key object h c s = controller-quiet doc p (script_entry beat step (First key object)) h c refl refl refl refl refl s
 
 -- before beat 0
 pub controller-put_all : (doc : Doc) (p : ℕ) (items : List (Key × Object)) (h : List Entry) (c : Controller) → ControllerStands doc p h c → ControllerStands doc p (put_all doc items h) c
@@ -57,7 +60,7 @@ said now before = join (elim now as (λ o. Option (Option ℕ)) [ None ↦ befor
 pub controller-event : (doc : Doc) (p k step : ℕ) (event : What) (version : Option Version) (h : List Entry) (c : Controller) → cancels doc p k event ≡ false → ControllerStands doc p h c → ControllerStands doc p (script_entry k step (Event event version) ∷ h) c
 controller-event doc p k step event version h c other s =
     let ends = ap (λ b. said (when b None) (newest (λ e T. restart_says doc p e.beat e.actor e.fact) h)) other in
-    controller-quiet doc p (script_entry k step (Event event version)) h c refl ends refl refl s
+    controller-quiet doc p (script_entry k step (Event event version)) h c refl ends refl refl refl s
 
 -- ---- an event on the process itself
 
@@ -80,7 +83,7 @@ down-is doc p i h (role.Leading x) down s = cc
 pub down-event : (doc : Doc) (p k step : ℕ) (event : What) (version : Option Version) (h : List Entry) (c : Controller) → cancels doc p k event ≡ true → is_up_as c.role ≡ false → ControllerStands doc p h c →
     ControllerStands doc p (script_entry k step (Event event version) ∷ h) (record c { role = role.Down None })
 down-event doc p k step event version h c own down s =
-    stands-role doc p h (script_entry k step (Event event version) ∷ h) c (role.Down None) s refl
+    stands-role doc p h (script_entry k step (Event event version) ∷ h) c (role.Down None) s refl (keeps-beside doc p (script_entry k step (Event event version)) h refl)
     (down-is doc p c.incarnation h c.role down s.role, ap (restart_reading doc p) (sym (cancelled doc p k step event version h own)))
 
 pub start-is : (doc : Doc) (k : ℕ) (id : ProcId) (h : List Entry) → alive id.0 h ≡ None → happens doc k (what.Start id) h ≡ start k 1 id.0 (script_entry k 1 (Event (what.Start id) None) ∷ h)
@@ -105,6 +108,22 @@ begun-with doc k id h i Stands down count stands =
 
 pub begun-starts : (doc : Doc) (k : ℕ) (id : ProcId) (h : List Entry) (c : Controller) → alive id.0 h ≡ None → ControllerStands doc id.0 (start k 1 id.0 (script_entry k 1 (Event (what.Start id) None) ∷ h)) c → Begun doc k id h c true
 begun-starts doc k id h c down s = begun-with doc k id h c.incarnation (λ x. ControllerStands doc id.0 x c) down s.incarnation s
+
+-- a controller that is up stays as it is
+role-up-event : (doc : Doc) (p i : ℕ) (e : Entry) (h : List Entry) (r : Role) → is_up_as r ≡ true → alive p (e ∷ h) ≡ alive p h → is_by (identity p i) e.actor ≡ false → RoleStands doc p i h r → (alive p h ≡ Some i) × RoleStands doc p i (e ∷ h) r
+role-up-event doc p i e h (role.Down at) up lives other s = absurd (false_is up)
+role-up-event doc p i e h (role.Candidate x) up lives other s = (s.0, (lives ∙ s.0, candidate-foreign doc (identity p i) e h x other s.1))
+role-up-event doc p i e h (role.Leading x) up lives other s = (s.0, (lives ∙ s.0, leading-foreign doc (identity p i) e h x other s.1))
+
+pub begun-up : (doc : Doc) (k : ℕ) (id : ProcId) (h : List Entry) (c : Controller) → is_up_as c.role ≡ true → ControllerStands doc id.0 h c → Begun doc k id h c false
+begun-up doc k id h c up s =
+    let e = script_entry k 1 (Event (what.Start id) None) in
+    let r = role-up-event doc id.0 c.incarnation e h c.role up refl refl s.role in
+    let is : happens doc k (what.Start id) h ≡ e ∷ h = ap (λ x. start_if_down k 1 id.0 x (e ∷ h)) r.0 in
+    record {
+      stands = subst (λ g. ControllerStands doc id.0 g c) (sym is) (stands-role doc id.0 h (e ∷ h) c c.role s refl (keeps-beside doc id.0 e h refl) r.1);
+      told = ap printed is;
+    }
 
 -- ---- a leader is stopped
 
@@ -134,6 +153,9 @@ stopped-leading doc k id h c ask awake s up r =
     g : List Entry
     g = entry k 1 q Stops ∷ e ∷ h
 
+    keeps : KeepsTerm doc p h g
+    keeps = keeps-both doc p (entry k 1 q Stops) e h refl refl
+
     base : stopped doc k id h ≡ g
     base = ap (λ b. stop_in k p (only_if (not b) (alive p h)) (e ∷ h)) awake ∙ ap (λ x. stop_in k p x (e ∷ h)) up
 
@@ -144,7 +166,7 @@ stopped-leading doc k id h c ask awake s up r =
     down = (alive-stop k 1 q (e ∷ h), ap (restart_reading doc p) (sym (cancelled doc p k 1 (what.Stop id) None h (ap (λ a. a && not (is_paused doc p k)) (eq-self p) ∙ ap not awake))))
 
     by_release : (o : Option Request) (ask : Option Ask) → Releases q h o ask → AsksOn doc k 1 p g (released k q o g) c' ask
-    by_release None None r = (refl, stands-role doc p h g c (role.Down None) s refl down)
+    by_release None None r = (refl, stands-role doc p h g c (role.Down None) s refl keeps down)
     by_release None (Some ask) r = absurd r
     by_release (Some request) None r = absurd r
     by_release (Some request) (Some ask) r =
@@ -152,7 +174,9 @@ stopped-leading doc k id h c ask awake s up r =
           kind = Release;
           sent = ap (λ x. send k 1 q Release x g) (sym r.0);
           number = r.1;
-          stands = λ arrives. stands-role doc p h (entry k 1 q (Sends (next_call q k Release ask.request g) arrives) ∷ g) c (role.Down None) s refl down;
+          stands = λ arrives.
+              let f = entry k 1 q (Sends (next_call q k Release ask.request g) arrives) in
+              stands-role doc p h (f ∷ g) c (role.Down None) s refl (λ t s. keeps-beside doc p f g refl t (keeps t s)) down;
         }
 
 -- ---- a controller that is paused isn't stopped

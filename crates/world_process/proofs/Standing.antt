@@ -1,5 +1,6 @@
 -- A controller that changed its role stands for a history that started nothing since.
 use Rattle.std.proofs.Common.{◌≡◌, ℕ, ◌+◌, List, Some, sym, ap, ◌∙◌, subst}
+use Rattle.std.specs.Box.{with_value}
 use Rattle.kube_objects.specs.Clocks.{local}
 use Rattle.kube_objects.specs.Document.{Doc}
 use Rattle.kube_objects.specs.Entry.{Entry, Identity}
@@ -7,20 +8,23 @@ use Rattle.kube_objects.specs.Identities.{identity}
 use Rattle.kube_objects.specs.Newest.{or_zero}
 use Rattle.kube_objects.specs.Process.{starts}
 use Rattle.history.specs.Steps.{start}
+use Rattle.controller_core.specs.declared.term.Term.{Term}
 use Rattle.leader_elector.specs.declared.candidate.Candidate.{Candidate}
 use Rattle.leader_elector.specs.Stands.{CandidateStands, IsNew}
 use Rattle.world_process.specs.declared.controller.Controller.{Controller}
 use Rattle.world_process.specs.declared.controller.Role.{Role}
 use Rattle.world_process.specs.declared.controller.Role.TheVariants as role
 use Rattle.world_process.specs.Controllers.{RoleStands, ControllerStands}
+use Rattle.world_process.specs.OwnTerm.{OwnsTerm}
 use Rattle.world_process.specs.Plain.{IsUnheard}
 use Rattle.world_process.proofs.Lives.{alive-start}
+use Rattle.world_process.proofs.OwnTerm.{KeepsTerm}
 use Rattle.world_process.proofs.Plainly.{starts-start}
 use Rattle.world_process.proofs.Unheard.{begun-unheard, call-unheard, shown-unheard, observed-unheard, leads-unheard}
 
-pub stands-role : (doc : Doc) (p : ℕ) (h g : List Entry) (c : Controller) (r : Role) → ControllerStands doc p h c → starts p g ≡ starts p h → RoleStands doc p c.incarnation g r → ControllerStands doc p g (record c { role = r })
-stands-role doc p h g c r s same stands =
-    record { sort = s.sort; me = s.me; incarnation = s.incarnation ∙ sym same; timing = s.timing; clock = s.clock; up_first = s.up_first; pauses = s.pauses; waking = s.waking; role = stands }
+pub stands-role : (doc : Doc) (p : ℕ) (h g : List Entry) (c : Controller) (r : Role) → ControllerStands doc p h c → starts p g ≡ starts p h → KeepsTerm doc p h g → RoleStands doc p c.incarnation g r → ControllerStands doc p g (record c { role = r })
+stands-role doc p h g c r s same keeps stands =
+    record { sort = s.sort; me = s.me; incarnation = s.incarnation ∙ sym same; timing = s.timing; clock = s.clock; up_first = s.up_first; pauses = s.pauses; waking = s.waking; term = keeps c.term.value s.term; role = stands }
 
 pub role-at : (doc : Doc) (p : ℕ) (h : List Entry) (c : Controller) (r : Role) → ControllerStands doc p h c → c.role ≡ r → RoleStands doc p c.incarnation h r
 role-at doc p h c r s is = subst (λ x. RoleStands doc p c.incarnation h x) is s.role
@@ -36,9 +40,9 @@ new-unheard doc q h u =
     }
 
 -- a controller that has started
-pub stands-started : (doc : Doc) (k step p i : ℕ) (h : List Entry) (c : Controller) (x : Candidate) → ControllerStands doc p h c → i ≡ starts p h + 1 → CandidateStands doc (identity p (starts p h + 1)) (start k step p h) x →
-    ControllerStands doc p (start k step p h) (record c { incarnation = i; role = role.Candidate x })
-stands-started doc k step p i h c x s is stands =
+pub stands-started : (doc : Doc) (k step p i : ℕ) (h : List Entry) (c : Controller) (x : Candidate) (t : Term) → ControllerStands doc p h c → i ≡ starts p h + 1 → CandidateStands doc (identity p (starts p h + 1)) (start k step p h) x →
+    OwnsTerm doc p (start k step p h) t → ControllerStands doc p (start k step p h) (record c { incarnation = i; role = role.Candidate x; term = with_value c.term t })
+stands-started doc k step p i h c x t s is stands owns =
     record {
       sort = s.sort;
       me = s.me;
@@ -48,5 +52,6 @@ stands-started doc k step p i h c x s is stands =
       up_first = s.up_first;
       pauses = s.pauses;
       waking = s.waking;
+      term = owns;
       role = (alive-start k step (identity p (starts p h + 1)) h ∙ ap (λ (n : ℕ). Some n) (sym is), subst (λ n. CandidateStands doc (identity p n) (start k step p h) x) (sym is) stands);
     }

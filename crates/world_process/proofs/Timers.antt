@@ -24,6 +24,7 @@ use Rattle.world_process.specs.declared.controller.Role.TheVariants as role
 use Rattle.world_process.specs.Controllers.{RoleStands, ControllerStands, AsksOn, Timed, restart_reading}
 use Rattle.world_process.specs.Moves.{ended_deeds, settled}
 use Rattle.world_process.proofs.Lives.{alive-end, ended-end}
+use Rattle.world_process.proofs.OwnTerm.{keeps-beside, keeps-expired}
 use Rattle.world_process.proofs.Standing.{stands-role, role-at}
 use Rattle.world_process.proofs.Terms.{no_deadline}
 use Rattle.world_process.proofs.Unheard.{and-false}
@@ -42,7 +43,7 @@ timed-down doc k p h c at s is =
     let down = role-at doc p h c (role.Down at) s is in
     let same : settled doc k p h ≡ h = ap (finish doc k p) (expire-down doc k p h down.0) ∙ finish-down doc k p h down.0 in
     timed-from doc k p h h (record c { role = role.Down at }) false None same (sym (append-nil (printed h)))
-    (attempts-down doc k p h down.0, stands-role doc p h h c (role.Down at) s refl down)
+    (attempts-down doc k p h down.0, stands-role doc p h h c (role.Down at) s refl (λ t s. s) down)
 
 -- where a controller is up: the history after the expiry and the test of the deadline
 pub up-settled : (doc : Doc) (k p i : ℕ) (h : List Entry) → alive p h ≡ Some i → settled doc k p h ≡ tested doc k (identity p i) (expired doc k (identity p i) h)
@@ -63,7 +64,7 @@ quiet-asks : (doc : Doc) (k p : ℕ) (h : List Entry) (c : Controller) (r : Role
 quiet-asks doc k p h c r s up tries stands =
     let q = identity p c.incarnation in
     let e = expired doc k q h in
-    (attempts-up doc k p c.incarnation e (alive-expired doc k p q h ∙ up) ∙ tries, stands-role doc p h e c r s (starts-expired doc k p q h) stands)
+    (attempts-up doc k p c.incarnation e (alive-expired doc k p q h ∙ up) ∙ tries, stands-role doc p h e c r s (starts-expired doc k p q h) (keeps-expired doc k p q h) stands)
 
 told-expired : (doc : Doc) (k : ℕ) (q : Identity) (h : List Entry) → printed (expired doc k q h) ≡ printed h ++ []
 told-expired doc k q h = printed-expired doc k q h ∙ sym (append-nil (printed h))
@@ -102,7 +103,7 @@ asking-asks doc k p h c r ask Stands s up a stands =
       number = a.number;
       stands = λ arrives.
           let g = entry k 4 q (Sends (next_call q k a.kind ask.request e) arrives) ∷ e in
-          stands-role doc p h g c r s (starts-expired doc k p q h) (stands g up_e (a.stands arrives));
+          stands-role doc p h g c r s (starts-expired doc k p q h) (λ t s. keeps-beside doc p (entry k 4 q (Sends (next_call q k a.kind ask.request e) arrives)) e refl t (keeps-expired doc k p q h t s)) (stands g up_e (a.stands arrives));
     }
 
 pub candidate-asks : (doc : Doc) (k p : ℕ) (h : List Entry) (c : Controller) (x : Candidate) (ask : Ask) → ControllerStands doc p h c → alive p h ≡ Some c.incarnation →
@@ -135,7 +136,7 @@ leading-ends doc k p h c at s up goes at_is =
     let down : alive p g ≡ None = alive-end k 4 q e in
     let restarts : Some at.0 ≡ restart_reading doc p (ended doc p g) = ap (λ (n : ℕ). Some n) at_is ∙ ap (restart_reading doc p) (sym (ended-end doc k 4 q e)) in
     timed-from doc k p h g (record c { role = role.Down (Some at) }) true None (up-settled doc k p c.incarnation h up ∙ goes) (ap (λ ds. ds ++ deeds_of k (actor_of q) (Some act.End)) (printed-expired doc k q h))
-    (attempts-down doc k p g down, stands-role doc p h g c (role.Down (Some at)) s (starts-expired doc k p q h) (down, restarts))
+    (attempts-down doc k p g down, stands-role doc p h g c (role.Down (Some at)) s (starts-expired doc k p q h) (λ t s. keeps-beside doc p (entry k 4 q Ends) e refl t (keeps-expired doc k p q h t s)) (down, restarts))
 
 -- whatever a candidate's turn asks
 pub candidate-turned : (doc : Doc) (k p : ℕ) (h : List Entry) (c : Controller) (x : Candidate) (ask : Option Ask) → ControllerStands doc p h c → alive p h ≡ Some c.incarnation →

@@ -3,6 +3,7 @@ use Rattle.std.specs.Prelude.{◌≡◌, ℕ, ◌+◌, ◌++◌, Bool, true, fal
 use Rattle.kube_base.specs.declared.numbers.Local.{Local}
 use Rattle.kube_base.specs.declared.numbers.ProcId.{ProcId}
 use Rattle.kube_objects.specs.declared.call.Ask.{Ask}
+use Rattle.kube_objects.specs.declared.deed.Deed.{Deed}
 use Rattle.kube_objects.specs.Clocks.{local}
 use Rattle.kube_objects.specs.Document.{Doc, is_controller, is_up_first, restart_delay}
 use Rattle.kube_objects.specs.Entry.{Entry}
@@ -12,6 +13,7 @@ use Rattle.kube_objects.specs.Wire.{Back}
 use Rattle.history.specs.Printed.{printed}
 use Rattle.history.specs.Steps.{restart, attempts}
 use Rattle.leader_elector.specs.Stands.{IsTimingOf, CandidateStands, LeadingStands}
+use Rattle.object_store.specs.declared.store.Store.{Store}
 use Rattle.pause_times.specs.Owned.{PausesStand}
 use Rattle.world_process.specs.declared.controller.Controller.{Controller}
 use Rattle.world_process.specs.declared.controller.Role.{Role}
@@ -23,6 +25,7 @@ use Rattle.world_process.specs.Beats.{IsBeatOf, reading_of}
 use Rattle.world_process.specs.Clocked.{ClockStands}
 use Rattle.world_process.specs.Moves as moves
 use Rattle.world_process.specs.Moves.{settled, started_deeds, ended_deeds}
+use Rattle.world_process.specs.OwnTerm.{OwnsTerm}
 
 -- the reading at which a process that ended at a beat starts again
 abbrev pub restart_reading : Doc → ℕ → Option ℕ → Option ℕ
@@ -55,6 +58,7 @@ pub record ControllerStands (doc : Doc) (p : ℕ) (h : List Entry) (c : Controll
   pub pauses : PausesStand doc p c.pauses
   pub up_first : c.up_first ≡ is_up_first doc p
   pub role : RoleStands doc p c.incarnation h c.role
+  pub term : OwnsTerm doc p h c.term.value
   pub waking : IsBeatOf c.clock c.waking.until c.waking.below
 
 -- the plain facts that a controller keeps
@@ -96,3 +100,6 @@ pub record Timed (doc : Doc) (k p : ℕ) (h : List Entry) (c : Controller) (ende
 
 abbrev pub Turned : Doc → ℕ → ℕ → List Entry → Controller → Turn → Type 0
 Turned doc k p h c t = moves.TurnedAs doc k p true h c.incarnation (λ x. ControllerStands doc p x c) t
+
+abbrev pub Ticked : Doc → ℕ → ℕ → List Entry → Controller → Store → List Deed → List Deed → Type 0
+Ticked doc k p h c s old new = moves.TickedAs doc k p true h (λ x. ControllerStands doc p x c) s old new

@@ -4,5 +4,6 @@ pub mod Controllers
 pub mod InForce
 pub mod Kubelets
 pub mod Moves
+pub mod OwnTerm
 pub mod Plain
 pub mod Processes

@@ -14,8 +14,10 @@ use Rattle.kube_objects.specs.Pauses.{is_paused}
 use Rattle.kube_objects.specs.Process.{alive}
 use Rattle.kube_objects.specs.Wire.{Back}
 use Rattle.history.specs.Printed.{printed, deeds_of}
-use Rattle.history.specs.Steps.{happens, restart, expire, finish, delivered, elector_turn, kubelet_turn}
+use Rattle.history.specs.Steps.{happens, restart, expire, finish, delivered, elector_turn, kubelet_turn, ticks}
 use Rattle.leader_elector.specs.Moves.{Asked}
+use Rattle.object_store.specs.declared.store.Store.{Store}
+use Rattle.object_store.specs.Stands.{StoreStands}
 use Rattle.world_process.specs.declared.moves.Received.{Received}
 use Rattle.world_process.specs.declared.moves.Stopped.{Stopped}
 use Rattle.world_process.specs.declared.moves.Turn.{Turn}
@@ -94,6 +96,22 @@ pub record TurnedAs (doc : Doc) (k p : ℕ) (sort : Bool) (h : List Entry) (i : 
 
 abbrev pub Turned : Doc → ℕ → ℕ → List Entry → ℕ → (List Entry → Type 0) → Turn → Type 0
 Turned doc k p h i Stands t = TurnedAs doc k p (is_controller doc p) h i Stands t
+
+-- ---- a tick
+
+-- the tick of a controller's turn; a kubelet has none
+abbrev pub own_ticks_as : Doc → ℕ → ℕ → Bool → List Entry → List Entry
+own_ticks_as doc k p true h = ticks doc k p h
+own_ticks_as doc k p false h = h
+
+abbrev pub own_ticks : Doc → ℕ → ℕ → List Entry → List Entry
+own_ticks doc k p h = own_ticks_as doc k p (is_controller doc p) h
+
+-- a process of this sort has done its tick on the store, where it has one, and the deeds that are printed for it were added
+pub record TickedAs (doc : Doc) (k p : ℕ) (sort : Bool) (h : List Entry) (Stands : List Entry → Type 0) (s : Store) (old new : List Deed) : Type 0 where
+  pub stands : Stands (own_ticks_as doc k p sort h)
+  pub store : StoreStands (own_ticks_as doc k p sort h) s
+  pub told : (before : List Deed) → before ++ old ≡ printed h → before ++ new ≡ printed (own_ticks_as doc k p sort h)
 
 -- ---- a reply
 

@@ -3,12 +3,14 @@ use Rattle.std.specs.Prelude.{◌≡◌, ℕ, Bool, true, false, List, Option, S
 use Rattle.kube_base.specs.declared.numbers.Local.{Local}
 use Rattle.kube_base.specs.declared.numbers.ProcId.{ProcId}
 use Rattle.kube_objects.specs.declared.call.Ask.{Ask}
+use Rattle.kube_objects.specs.declared.deed.Deed.{Deed}
 use Rattle.kube_objects.specs.Document.{Doc, is_controller}
 use Rattle.kube_objects.specs.Elector.{in_term}
 use Rattle.kube_objects.specs.Entry.{Entry}
 use Rattle.kube_objects.specs.Identities.{identity}
 use Rattle.kube_objects.specs.Process.{alive}
 use Rattle.kube_objects.specs.Wire.{Back}
+use Rattle.object_store.specs.declared.store.Store.{Store}
 use Rattle.skew_clock.specs.Clocking.{Clocking}
 use Rattle.world_process.specs.declared.moves.Received.{Received}
 use Rattle.world_process.specs.declared.moves.Stopped.{Stopped}
@@ -92,6 +94,9 @@ StoppedAs doc k id h x s = moves.StoppedAs doc k id h (incarnation_of x) (λ g. 
 
 abbrev pub Turned : Doc → ℕ → ℕ → List Entry → Process → Turn → Type 0
 Turned doc k p h x t = moves.Turned doc k p h (incarnation_of x) (λ g. ProcessStands doc p g x) t
+
+abbrev pub Ticked : Doc → ℕ → ℕ → List Entry → Process → Store → List Deed → List Deed → Type 0
+Ticked doc k p h x s old new = moves.TickedAs doc k p (is_controller doc p) h (λ g. ProcessStands doc p g x) s old new
 
 abbrev pub Replied : Doc → ℕ → ℕ → Back → List Entry → Process → Received → Type 0
 Replied doc k p b h x r = moves.Replied doc k (identity p (incarnation_of x)) b h (λ g. ProcessStands doc p g x) r

@@ -1,4 +1,4 @@
-// A controller of the world: its clock and its part in the election.
+// A controller of the world: its clock, its part in the election, and its term.
 ghost use Rattle.std.specs.Prelude.{◌≡◌, ◌+◌, ◌<◌, ◌≤◌, ◌^◌, ℕ, true, false, List, [], Option, Some, None, IfOk, IfSome, is_some};
 ghost use Rattle.kube_base.specs.Bounds.{most_local};
 ghost use Rattle.kube_base.specs.declared.numbers.Local.{Local};
@@ -18,15 +18,17 @@ ghost use Rattle.leader_elector.specs.Stands.{acting_identity};
 ghost use Rattle.script_reader.specs.Lawful.{AreLawful, IsLawful};
 ghost use Rattle.world_process.specs.declared.controller.Role.TheVariants as role;
 ghost use Rattle.world_process.specs.Beats.{IsBeatOf, reading_of};
-ghost use Rattle.world_process.specs.Clocked.{AreEventsFrom, IsMadeOf};
-ghost use Rattle.world_process.specs.Controllers.{ControllerStands, SameController, is_up_as, waiting_of};
+ghost use Rattle.world_process.specs.Clocked.{AreEventsFrom, ClockStands, IsMadeOf};
+ghost use Rattle.world_process.specs.Controllers.{ControllerStands, RoleStands, SameController, is_up_as, waiting_of};
 ghost use Rattle.world_process.specs.Controllers.{Crashed, Begun, StoppedAs, Restarted, Timed, Turned, Replied};
 ghost use Rattle.world_process.specs.Plain.{IsPlain, IsFew};
 ghost use Rattle.world_process.specs.Processes.{in_term_as};
 
 use crate::clocks::{picoseconds, times_for};
 use crate::moves::{Received, Stopped, Turn, asks, final_turn, leads, stays, stop_with, turn_with};
+use crate::settings::tick_settings;
 use crate::waking::Waking;
+use controller_core::Term;
 use kube_base::{Beat, Local, NoMemory, ProcId, Wall};
 use kube_objects::{Event, Proc, Reply, Settings};
 use leader_elector::{Acting, Candidate, Heard, Leading, LeadingNext, Timing};
@@ -43,7 +45,26 @@ pub enum Role {
     Leading(Leading),
 }
 
-/// A controller with its clock. The incarnation counts its starts.
+impl Role {
+    /// The leadership at a beat, in a term that isn't over; None where there is none.
+    pub fn acting(&self, clock: &Clock, beat: Beat) -> Option<Acting<'_>>
+        requires { beat.0 ≤ clock.now.end }
+        ensures in_term { (doc : Doc) (k p i : ℕ) (h : List Entry) → RoleStands doc p i h self.now → ClockStands doc p clock.now
+            → beat.0 ≡ k → is_some result ≡ in_term_as doc k p true h }
+        ensures identity { (doc : Doc) (p i : ℕ) (h : List Entry) → RoleStands doc p i h self.now
+            → IfSome result (λ a. acting_identity a ≡ identity p i) }
+        ensures up { (doc : Doc) (p i : ℕ) (h : List Entry) → RoleStands doc p i h self.now
+            → IfSome result (λ a. alive p h ≡ Some i) }
+    {
+        match self {
+            Role::Down(_) => None,
+            Role::Candidate(_) => None,
+            Role::Leading(leading) => leading.acting(clock.local(beat)),
+        }
+    }
+}
+
+/// A controller with its clock. The incarnation counts its starts, and the term is that of the incarnation that is up.
 #[derive(Drop)]
 pub struct Controller {
     pub me: ProcId,
@@ -53,6 +74,7 @@ pub struct Controller {
     pub pauses: Pauses,
     pub up_first: bool,
     pub role: Role,
+    pub term: Box<Term>,
     pub waking: Waking,
 }
 
@@ -82,6 +104,7 @@ impl Controller {
             fast: settings.fast_renew,
         };
         let (clock, pauses) = times_for(alloc, me, settings, process, events)?;
+        let term = Term::new(alloc, &tick_settings(settings));
         Ok(Controller {
             me,
             incarnation: 0,
@@ -90,11 +113,12 @@ impl Controller {
             pauses,
             up_first: process.up,
             role: Role::Down(None),
+            term: Box::new(alloc, term)?,
             waking: Waking::new(),
         })
     }
 
-    /// Starts in the next incarnation.
+    /// Starts in the next incarnation, whose term has seen nothing.
     pub fn start(&mut self, beat: Beat)
         requires { beat.0 ≤ self.old.clock.end }
         ensures same { SameController self.old self.new }
@@ -106,6 +130,7 @@ impl Controller {
         let now = self.clock.local(beat);
         self.incarnation = incarnation;
         self.role = Role::Candidate(Candidate::start(self.me, incarnation, self.timing, now));
+        self.term.renew();
     }
 
     /// Goes down where it is up, and its call is forgotten; a restart that waits is cancelled. Tells whether it was up.
@@ -206,11 +231,7 @@ impl Controller {
         ensures up { (doc : Doc) (p : ℕ) (h : List Entry) → ControllerStands doc p h self.now
             → IfSome result (λ a. alive p h ≡ Some self.now.incarnation) }
     {
-        match &self.role {
-            Role::Down(_) => None,
-            Role::Candidate(_) => None,
-            Role::Leading(leading) => leading.acting(self.clock.local(beat)),
-        }
+        self.role.acting(&self.clock, beat)
     }
 
     /// Starts again, where it is down and its clock has reached its restart.

@@ -8,6 +8,8 @@ mod kubelet;
 mod moves;
 mod process;
 mod round_timing;
+mod settings;
+mod ticking;
 mod waking;
 
 pub use clocks::{first_beat, picoseconds};

@@ -1,36 +1,43 @@
 // A process of the world, and what the world asks of each.
-ghost use Rattle.std.specs.Prelude.{◌≡◌, ◌↔◌, ◌+◌, ◌<◌, ◌≤◌, ◌^◌, ℕ, true, false, List, Option, Some, IfSome, is_some};
+ghost use Rattle.std.specs.Prelude.{◌≡◌, ◌↔◌, ◌+◌, ◌<◌, ◌≤◌, ◌^◌, not, ℕ, true, false, List, Option, Some, IfSome, OnOk, is_some};
+ghost use Rattle.kube_base.specs.Bounds.{most_local};
 ghost use Rattle.kube_base.specs.declared.numbers.Local.{Local};
 ghost use Rattle.kube_base.specs.declared.numbers.ProcId.{ProcId};
 ghost use Rattle.kube_objects.specs.declared.deed.Actor.TheVariants as actor;
 ghost use Rattle.kube_objects.specs.declared.script.What.TheVariants as what;
+ghost use Rattle.kube_objects.specs.Clocks.{local};
 ghost use Rattle.kube_objects.specs.Document.{Doc, is_controller, restart_delay};
-ghost use Rattle.kube_objects.specs.Entry.{Entry};
+ghost use Rattle.kube_objects.specs.Entry.{Entry, Identity};
 ghost use Rattle.kube_objects.specs.Identities.{identity};
-ghost use Rattle.kube_objects.specs.InForce.{posted_status};
+ghost use Rattle.kube_objects.specs.InForce.{posted_status, watches};
 ghost use Rattle.kube_objects.specs.Newest.{when};
 ghost use Rattle.kube_objects.specs.Pauses.{is_paused as is_paused_at, resume as resume_of};
 ghost use Rattle.kube_objects.specs.Process.{alive, starts};
-ghost use Rattle.kube_objects.specs.Wire.{Back};
+ghost use Rattle.kube_objects.specs.Wire.{Back, loses_requests};
 ghost use Rattle.history.specs.Steps.{happens, start};
+ghost use Rattle.agenda_laws.specs.Ticking.{is_due_at_once, term_reading, term_time};
 ghost use Rattle.agenda_laws.specs.Times.{is_early};
 ghost use Rattle.leader_elector.specs.Stands.{acting_identity};
+ghost use Rattle.object_store.specs.Stands.{StoreStands};
 ghost use Rattle.pause_times.specs.Owned.{PausesStand};
 ghost use Rattle.world_process.specs.Beats.{IsBeatOf, beat_in, own_reading, reading_of};
 ghost use Rattle.world_process.specs.Moves.{own_turn};
+ghost use Rattle.world_process.specs.OwnTerm.{CanTick, IsUpAs};
 ghost use Rattle.world_process.specs.Plain.{IsPlain, IsFew};
-ghost use Rattle.world_process.specs.Processes.{IsKept, IsTimed, ProcessStands, SameProcess, Crashed, Begun, StoppedAs, Turned, Replied};
+ghost use Rattle.world_process.specs.Processes.{IsKept, IsTimed, ProcessStands, SameProcess, Crashed, Begun, StoppedAs, Turned, Ticked, Replied};
 ghost use Rattle.world_process.specs.Processes.{in_term_now, me_of, incarnation_of, clock_of, waking_of, is_up_first_as};
 
 use crate::controller::Controller;
 use crate::kubelet::Kubelet;
 use crate::moves::{Received, Stopped, Turn, stop_with};
 use crate::waking::Waking;
-use kube_base::{Beat, Local, ProcId};
-use kube_objects::{Actor, ReadyStatus, Reply};
+use kube_base::{Beat, Local, NoMemory, ProcId};
+use kube_objects::{Actor, Deeds, ReadyStatus, Reply};
 use leader_elector::Acting;
+use object_store::Store;
 use pause_times::Pauses;
 use skew_clock::Clock;
+use zone_state::Policies;
 
 /// A process of the world.
 #[derive(Drop)]
@@ -183,6 +190,68 @@ impl Process {
         match self {
             Process::Controller(controller) => controller.turn(beat, delay),
             Process::Kubelet(kubelet) => kubelet.turn(beat, status),
+        }
+    }
+
+    /// A controller's tick, where it acts as the leader: in a term that isn't over, and not in a pause. It is told whether its watch
+    /// is on and whether its requests pass. What is printed of the tick is added to the deeds. A kubelet has none.
+    pub fn tick(
+        &mut self,
+        beat: Beat,
+        watch: bool,
+        passes: bool,
+        store: &mut Store,
+        policies: &Policies,
+        deeds: &mut Deeds,
+    ) -> Result<(), NoMemory>
+        requires { beat.0 ≤ (clock_of self.old).end }
+        ensures same { SameProcess self.old self.new }
+        ensures waking { waking_of self.new ≡ waking_of self.old }
+        ensures stands { (doc : Doc) (k p : ℕ) (h : List Entry) → ProcessStands doc p h self.old → StoreStands h store.old → beat.0 ≡ k
+            → watch ≡ watches doc p h → passes ≡ not (loses_requests p h) → (is_controller doc p ≡ true → CanTick doc k p h)
+            → OnOk result (Ticked doc k p h self.new store.new deeds.old deeds.new) }
+    {
+        match self {
+            Process::Controller(controller) => {
+                controller.tick(beat, watch, passes, store, policies, deeds)
+            }
+            Process::Kubelet(_) => Ok(()),
+        }
+    }
+
+    /// Whether a tick of a controller's term would have a sync, an untaint or a swap now, whatever the time. A kubelet has no term.
+    pub fn at_once(&self, store: &Store, watch: bool) -> bool
+        ensures { (doc : Doc) (q : Identity) (h : List Entry) → ProcessStands doc q.process h self.now → StoreStands h store.now
+            → watch ≡ watches doc q.process h → IsUpAs doc q h → result ≡ is_due_at_once doc q h }
+    {
+        match self {
+            Process::Controller(controller) => controller.at_once(store, watch),
+            Process::Kubelet(_) => false,
+        }
+    }
+
+    /// The least reading at which a tick of a controller's term has a pass, or a queued taint of those who wait now. None where there
+    /// is none. Readings are at most `most_local`.
+    pub fn term_wake(&self) -> Option<Local>
+        ensures { (doc : Doc) (k : ℕ) (q : Identity) (h : List Entry) → ProcessStands doc q.process h self.now → IsUpAs doc q h
+            → local doc q.process k ≤ most_local
+            → is_early (local doc q.process k) (reading_of result) ≡ is_early (local doc q.process k) (term_reading doc q h) }
+    {
+        match self {
+            Process::Controller(controller) => controller.term_wake(),
+            Process::Kubelet(_) => None,
+        }
+    }
+
+    /// The least due of the pods that a controller's term sees on a node that it sees, the stale ones aside, in microseconds since
+    /// 1970. None where there is none.
+    pub fn least_due(&self) -> Option<u128>
+        ensures { (doc : Doc) (q : Identity) (h : List Entry) (w : ℕ) → ProcessStands doc q.process h self.now → IsUpAs doc q h
+            → is_early w result ≡ is_early w (term_time q h) }
+    {
+        match self {
+            Process::Controller(controller) => controller.least_due(),
+            Process::Kubelet(_) => None,
         }
     }
 

@@ -27,7 +27,6 @@ impl World {
         let crashed = process.crash();
         note(process, i, &mut self.turn_beats);
         let actor = process.actor();
-        self.terms.renew(who);
         tell(deeds, self.beat, actor, crash_act(crashed))
     }
 
@@ -46,13 +45,10 @@ impl World {
         let started = process.start_if_down(self.beat);
         note(process, i, &mut self.turn_beats);
         let actor = process.actor();
-        if started {
-            self.terms.renew(who);
-        }
         tell(deeds, self.beat, actor, start_act(started))
     }
 
-    // A stopped leader's release is sent at once. A controller that is paused goes on with its term.
+    // A stopped leader's release is sent at once. A controller that is paused goes on.
     pub(super) fn stop(&mut self, who: ProcId, deeds: &mut Deeds) -> Result<(), NoMemory>
         requires ready { IsReady self.old }
         requires within { at_of self.old ≤ end_of self.old }
@@ -63,17 +59,12 @@ impl World {
         if i >= self.processes.len() {
             return Ok(());
         }
-        let paused = self.processes[i].is_paused(self.beat);
-        if paused {
-            return Ok(());
-        }
         let process = &mut self.processes[i];
         let stopped = process.stop(self.beat);
         note(process, i, &mut self.turn_beats);
         let actor = process.actor();
         let who = process.me();
         let incarnation = process.incarnation();
-        self.terms.renew(who);
         tell(deeds, self.beat, actor, stop_act(stopped.stopped))?;
         send_asked(&mut self.wire, who, incarnation, stopped.ask, self.beat)
     }

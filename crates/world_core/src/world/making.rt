@@ -19,7 +19,6 @@ use script_reader::Document;
 use std::alloc::Global;
 use wire_calls::Wire;
 use world_process::{Controller, InForce, Kubelet, Process, picoseconds};
-use world_terms::Terms;
 
 impl World {
     /// The world of a document before beat 0, with the document's objects in its store.
@@ -40,7 +39,6 @@ impl World {
         let controllers = document.controllers.as_slice().len();
         let turn_beats = turn_beats_of(alloc, processes.as_slice())?;
         let in_force = InForce::new(alloc, &document.controllers, &document.kubelets)?;
-        let terms = Terms::new(alloc, &settings, controllers)?;
         let wire = Wire::new(alloc, processes.len() as u32)?;
         let store = store_of(alloc, &document.objects.items, settings.epoch)?;
         Ok(World {
@@ -56,7 +54,6 @@ impl World {
             controllers,
             turn_beats,
             in_force,
-            terms,
             place: 0,
             events: document.events,
             names: document.names,

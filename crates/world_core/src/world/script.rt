@@ -49,8 +49,6 @@ impl World {
         process.start(self.beat);
         note(process, i, &mut self.turn_beats);
         let actor = process.actor();
-        let who = process.me();
-        self.terms.renew(who);
         tell(deeds, self.beat, actor, Some(Act::Start))
     }
 

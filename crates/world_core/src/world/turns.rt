@@ -1,5 +1,5 @@
 // The processes' turns, and the ticks of the controllers.
-ghost use Rattle.std.specs.Prelude.{◌≡◌, ◌==◌, ◌||◌, ◌<◌, ◌≤◌, ℕ, List, length, true, false, OnOk, vec_len, if◌then◌else◌};
+ghost use Rattle.std.specs.Prelude.{◌≡◌, ◌==◌, ◌<◌, ◌≤◌, ℕ, List, length, true, OnOk, vec_len, if◌then◌else◌};
 ghost use Rattle.beat_tree.specs.Leaves.{leaf, room};
 ghost use Rattle.kube_objects.specs.declared.deed.Deed.{Deed};
 ghost use Rattle.kube_objects.specs.Document.{Doc, is_controller, processes};
@@ -7,9 +7,9 @@ ghost use Rattle.kube_objects.specs.Entry.{Entry};
 ghost use Rattle.kube_objects.specs.Wire.{Sent, Back};
 ghost use Rattle.history.specs.Steps.{turns};
 ghost use Rattle.beat_laws.specs.Unticked.{IsUnticked, IsUntickedFrom};
-ghost use Rattle.world_terms.specs.TermsStand.{IsFresh, TermsStand, TermsStandBut};
 ghost use Rattle.world_process.specs.Processes.{IsKept, IsTimed, ProcessStands, SameProcess, incarnation_of, waking_of};
-ghost use Rattle.world_core.specs.Waits.{awake_turn, own_ticks};
+ghost use Rattle.world_core.specs.Waits.{awake_turn};
+ghost use Rattle.world_process.specs.Moves.{own_ticks};
 ghost use Rattle.world_process.specs.Plain.{IsFew};
 ghost use Rattle.world_core.specs.Worlds.{at_of, end_of, IsReady, Keeps, MidBeat, Adds};
 
@@ -17,12 +17,9 @@ use crate::printing::{end_act, start_act, tell};
 use crate::world::World;
 use crate::world::messages::send_asked;
 use beat_tree::BeatTree;
-use kube_base::{Beat, NoMemory, ProcId, Steps};
+use kube_base::{Beat, NoMemory};
 use kube_objects::Deeds;
-use std::sync::ledger::Blank;
-use term_state::View;
 use world_process::Process;
-use world_terms::Terms;
 use zone_state::Policies;
 
 impl World {
@@ -95,7 +92,6 @@ impl World {
         let actor = process.actor();
         let who = process.me();
         let incarnation = process.incarnation();
-        renew_if(&mut self.terms, who, turn.started, turn.ended);
         tell(deeds, self.beat, actor, start_act(turn.started))?;
         tell(deeds, self.beat, actor, end_act(turn.ended))?;
         send_asked(&mut self.wire, who, incarnation, turn.ask, self.beat)
@@ -112,32 +108,16 @@ impl World {
             → IsFew (own_ticks doc k i h)
             → OnOk result (MidBeat doc k before arriving coming (own_ticks doc k i h) self.new deeds.new) }
     {
-        let process = &self.processes[i];
-        let Some(leadership) = process.leadership(self.beat) else {
-            return Ok(());
-        };
-        if process.is_paused(self.beat) {
+        if self.processes[i].leadership(self.beat).is_none() {
             return Ok(());
         }
-        let who = process.me();
-        let now = process.clock().local(self.beat);
-        let view = View {
-            watch: self.in_force.watch(who),
-            passes: self.wire.passes(who),
-            beat: self.beat,
-            now,
-            wall: process.clock().wall_at(now),
-        };
-        let mut steps = Steps::new(Blank::new(1));
-        let printed = self.terms.tick(
-            who,
-            &leadership,
-            &mut self.store,
-            &view,
-            policies,
-            &mut steps,
-        )?;
-        deeds.append(&printed)
+        let who = self.processes[i].me();
+        let watch = self.in_force.watch(who);
+        let passes = self.wire.passes(who);
+        let process = &mut self.processes[i];
+        process.tick(self.beat, watch, passes, &mut self.store, policies, deeds)?;
+        note(process, i, &mut self.turn_beats);
+        Ok(())
     }
 }
 
@@ -153,15 +133,4 @@ pub(super) fn note(process: &mut Process, i: usize, turn_beats: &mut BeatTree)
 {
     process.keep_turn_beat();
     turn_beats.set(i, process.kept_beat());
-}
-
-// A process that started or ended has a term that has seen nothing.
-fn renew_if(terms: &mut Terms, who: ProcId, started: bool, ended: bool)
-    ensures anew { (doc : Doc) (h : List Entry) → (started || ended) ≡ true → TermsStandBut doc who.0 h terms.old → IsFresh who.0 h
-        → TermsStand doc h terms.new }
-    ensures same { (started || ended) ≡ false → terms.new ≡ terms.old }
-{
-    if started || ended {
-        terms.renew(who);
-    }
 }

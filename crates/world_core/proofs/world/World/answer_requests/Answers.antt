@@ -22,7 +22,7 @@ arriving-preserved c =
           let rest = a.running.world.rest in
           let at = rest.document.at in
           let first = c.arrival.ensures.answer (processes doc) k a.left coming a.now rest.wire at in
-          answering-more doc k before c.arriving.deeds c.tell.new.deeds arriving coming h c.arriving.self _ c.in_ok-reply.reply c.in-Some.arrived a (sym first ∙ c.in-Some.is) (record { same = (record { beat = refl; end = refl; restart = refl; epoch = refl; micros = refl; events = refl; names = refl; controllers = refl }); processes = refl; terms = refl }) refl
+          answering-more doc k before c.arriving.deeds c.tell.new.deeds arriving coming h c.arriving.self _ c.in_ok-reply.reply c.in-Some.arrived a (sym first ∙ c.in-Some.is) (record { same = (record { beat = refl; end = refl; restart = refl; epoch = refl; micros = refl; events = refl; names = refl; controllers = refl }); processes = refl }) refl
           (record {
             answers = c.in_ok-reply.ensures.answer a.now rest.store;
             store = λ e is. c.in_ok-reply.ensures.ok a.now e rest.store is;
@@ -41,4 +41,4 @@ returns-clause-stands c doc k before arriving coming h r known =
     let at = rest.document.at in
     let first = c.arrival.ensures.answer (processes doc) k a.left coming a.now rest.wire at in
     answering-done doc k before c.arriving.deeds arriving coming h c.arriving.self _ a (sym first ∙ c.in_default.is)
-    (λ run. rewired doc k before c.arriving.deeds a.left (rest_of a.left) coming coming a.now c.arriving.self _ (record { same = (record { beat = refl; end = refl; restart = refl; epoch = refl; micros = refl; events = refl; names = refl; controllers = refl }); processes = refl; terms = refl }) refl refl (c.arrival.ensures.stands (processes doc) k a.left coming a.now rest.wire at) run)
+    (λ run. rewired doc k before c.arriving.deeds a.left (rest_of a.left) coming coming a.now c.arriving.self _ (record { same = (record { beat = refl; end = refl; restart = refl; epoch = refl; micros = refl; events = refl; names = refl; controllers = refl }); processes = refl }) refl refl (c.arrival.ensures.stands (processes doc) k a.left coming a.now rest.wire at) run)

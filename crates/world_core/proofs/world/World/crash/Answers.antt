@@ -13,7 +13,6 @@ use Rattle.world_core.proofs.Moving.{read-at, actor-is, on-ok, room-for}
 use Rattle.world_core.proofs.Noting.{crashed-kept, kept-after}
 use Rattle.world_core.proofs.MidBeat.{keeps-moved}
 use Rattle.world_core.proofs.Turns.{same-twice}
-use Rattle.world_core.proofs.Renewing.{fresh-crashed}
 use Rattle.world_core.proofs.Scripts.{around-crash, running-moved}
 use Rattle.world_core.proofs.world.World.crash.Goals as goal
 
@@ -51,5 +50,4 @@ returns-clause-stands c =
     let who = actor-is i c1 c.actor-actor.result c.actor-actor.ensures (ap (λ m. m.0) (c.note.ensures.same.me ∙ c.crash-crashed.ensures.same.me) ∙ process-me doc i h c0 s) in
     let new_is = told ∙ ap (λ a. c.args.deeds.now ++ deeds_of w.beat.0 c.actor-actor.result a) c.crash_act.ensures ∙ ap (λ n. c.args.deeds.now ++ deeds_of n c.actor-actor.result done) r.world.rest.document.at ∙ ap (λ x. c.args.deeds.now ++ deeds_of k x done) who in
     running-moved doc k i before c.args.deeds.now c.tell.new.deeds (crashed_deeds k (identity i (incarnation_of c1)) c.crash-crashed.result) arriving coming h (happens doc k (what.Crash c.args.who) h) c0 c1 w _ r (record { was = was; now = refl; same = (record { beat = refl; end = refl; restart = refl; epoch = refl; micros = refl; events = refl; names = refl; controllers = refl }); place = refl; store = refl; in_force = refl }) refl
-    around crashed.stands
-    (c.renew.ensures.stands doc (happens doc k (what.Crash c.args.who) h) around.terms (fresh-crashed doc k c.args.who h)) crashed.told new_is) c.tell.ensures
+    around crashed.stands crashed.told new_is) c.tell.ensures

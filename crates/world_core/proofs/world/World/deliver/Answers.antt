@@ -47,4 +47,4 @@ returns-clause-stands c doc k before arriving coming h b r is known few =
     let told = c.in_ok-tell.ensures ∙ ap (λ a. c.args.deeds.now ++ deeds_of w.beat.0 c.actor-actor.result a) c.lead_act.ensures ∙ ap (λ n. c.args.deeds.now ++ deeds_of n c.actor-actor.result done) at ∙ ap (λ x. c.args.deeds.now ++ deeds_of k x done) who in
     on-ok c.send_asked.result _ _ (λ sent.
     let sends = sends-as k w.beat.0 i c.incarnation-incarnation.result c.me-who.result c1 c.receive-received.result.ask w.wire c.send_asked.new.wire at c.me-who.ensures c.incarnation-incarnation.ensures me sent in
-    running-replied doc k i before c.args.deeds.now c.tell.new.deeds arriving coming b h c0 c1 w _ c.receive-received.result r process within known (record { was = was; now = refl; same = (record { beat = refl; end = refl; restart = refl; epoch = refl; micros = refl; events = refl; names = refl; controllers = refl }); place = refl; store = refl; in_force = refl }) refl sends replied told) c.send_asked.ensures.sends
+    running-replied doc k i before c.args.deeds.now c.tell.new.deeds arriving coming b h c0 c1 w _ c.receive-received.result r process within known (record { was = was; now = refl; same = (record { beat = refl; end = refl; restart = refl; epoch = refl; micros = refl; events = refl; names = refl; controllers = refl }); place = refl; store = refl; in_force = refl }) sends replied told) c.send_asked.ensures.sends

@@ -17,7 +17,7 @@ coming-preserved c =
           let first = c.delivery.ensures.answer (processes doc) k arriving a.left a.now rest.wire at in
           let wire = c.delivery.ensures.stands (processes doc) k arriving a.left a.now rest.wire at in
           delivering-more doc k before c.coming.deeds c.deliver.new.deeds arriving coming h c.coming.self c.deliver.new.self c.in-Some.back a (sym first ∙ c.in-Some.is) few
-          (λ b is known_b few_b. c.in_ok-deliver.ensures.stands doc k before arriving (rest_of a.left) a.now b (rewired doc k before c.coming.deeds arriving arriving a.left (rest_of a.left) a.now c.coming.self _ (record { same = (record { beat = refl; end = refl; restart = refl; epoch = refl; micros = refl; events = refl; names = refl; controllers = refl }); processes = refl; terms = refl }) refl refl wire a.running) is known_b few_b);
+          (λ b is known_b few_b. c.in_ok-deliver.ensures.stands doc k before arriving (rest_of a.left) a.now b (rewired doc k before c.coming.deeds arriving arriving a.left (rest_of a.left) a.now c.coming.self _ (record { same = (record { beat = refl; end = refl; restart = refl; epoch = refl; micros = refl; events = refl; names = refl; controllers = refl }); processes = refl }) refl refl wire a.running) is known_b few_b);
     }
 
 pub returns-clause-stands : goal.returns-clause-stands
@@ -27,4 +27,4 @@ returns-clause-stands c doc k before arriving coming h r known few =
     let at = rest.document.at in
     let first = c.delivery.ensures.answer (processes doc) k arriving a.left a.now rest.wire at in
     delivering-done doc k before c.coming.deeds arriving coming h c.coming.self _ a (sym first ∙ c.in_default.is)
-    (λ run. rewired doc k before c.coming.deeds arriving arriving a.left (rest_of a.left) a.now c.coming.self _ (record { same = (record { beat = refl; end = refl; restart = refl; epoch = refl; micros = refl; events = refl; names = refl; controllers = refl }); processes = refl; terms = refl }) refl refl (c.delivery.ensures.stands (processes doc) k arriving a.left a.now rest.wire at) run)
+    (λ run. rewired doc k before c.coming.deeds arriving arriving a.left (rest_of a.left) a.now c.coming.self _ (record { same = (record { beat = refl; end = refl; restart = refl; epoch = refl; micros = refl; events = refl; names = refl; controllers = refl }); processes = refl }) refl refl (c.delivery.ensures.stands (processes doc) k arriving a.left a.now rest.wire at) run)

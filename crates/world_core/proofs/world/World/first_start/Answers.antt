@@ -11,13 +11,12 @@ use Rattle.world_core.proofs.Noting.{kept-after}
 use Rattle.world_core.proofs.Turns.{same-twice}
 use Rattle.world_process.proofs.Restarts.{starts-few}
 use Rattle.world_core.proofs.MidBeat.{first-not, first-started, keeps-moved, keeps-set}
-use Rattle.world_terms.specs.TermsStand.{IsFresh, TermsStand, TermsStandBut}
 use Rattle.world_core.proofs.world.World.first_start.Goals as goal
 
 pub returns-then-not-is_up_first-clause-stands : goal.returns-then-not-is_up_first-clause-stands
 returns-then-not-is_up_first-clause-stands c doc before arriving coming h r few =
     let was = read-at c.args.self.now c.args.i c.index_mut-process.result.now c.requires.index c.index_mut-process.ensures.value in
-    first-not doc c.args.i before c.args.deeds.now arriving coming h c.index_mut-process.result.now c.args.self.now _ r (record { was = was; now = refl; same = (record { beat = refl; end = refl; restart = refl; epoch = refl; micros = refl; events = refl; names = refl; controllers = refl }); place = refl; store = refl; in_force = refl }) refl refl (sym c.is_up_first.ensures ∙ c.if-not-is_up_first.true)
+    first-not doc c.args.i before c.args.deeds.now arriving coming h c.index_mut-process.result.now c.args.self.now _ r (record { was = was; now = refl; same = (record { beat = refl; end = refl; restart = refl; epoch = refl; micros = refl; events = refl; names = refl; controllers = refl }); place = refl; store = refl; in_force = refl }) refl (sym c.is_up_first.ensures ∙ c.if-not-is_up_first.true)
 
 pub start-requires : goal.start-requires
 start-requires c =
@@ -56,5 +55,4 @@ returns-clause-stands c doc before arriving coming h r few =
     let stands = c.note.ensures.stands doc i (start 0 1 i h) (c.start.ensures.stands doc (processes doc) 0 1 i h s at r.world.rest.plain count) in
     on-ok c.tell.result _ _ (λ told.
     first-started doc i before c.args.deeds.now c.tell.new.deeds arriving coming h c0 c1 w _ r (within-processes doc 0 w i r.world.rest.document c.requires.index) (record { was = was; now = refl; same = (record { beat = refl; end = refl; restart = refl; epoch = refl; micros = refl; events = refl; names = refl; controllers = refl }); place = refl; store = refl; in_force = refl }) refl up stands
-    (subst (λ n. TermsStandBut doc n (start 0 1 i h) w.terms → IsFresh n (start 0 1 i h) → TermsStand doc (start 0 1 i h) c.renew.new.self) (ap (λ id. id.0) c.me-who.ensures ∙ process-me doc i (start 0 1 i h) c1 stands) (c.renew.ensures.stands doc (start 0 1 i h)))
     (told ∙ ap (λ n. c.args.deeds.now ++ deeds_of n c.actor-actor.result (Some act.Start)) at ∙ ap (λ who. c.args.deeds.now ++ deeds_of 0 who (Some act.Start)) (actor-is i c1 c.actor-actor.result c.actor-actor.ensures (process-me doc i (start 0 1 i h) c1 stands)))) c.tell.ensures

@@ -9,7 +9,7 @@ use Rattle.script_reader.specs.Lawful.{AreLawfulFrom}
 use Rattle.wire_calls.specs.WireStands.{WireStands}
 use Rattle.world_core.specs.Worlds.{AreNoted}
 use Rattle.world_core.proofs.Ranges.{end-most, all-fit}
-use Rattle.world_core.proofs.Puts.{put-plain, put-wire, put-each, put-in_force, put-terms, put-requests, put-replies}
+use Rattle.world_core.proofs.Puts.{put-plain, put-wire, put-each, put-in_force, put-requests, put-replies}
 use Rattle.world_core.proofs.world.World.new.Goals as goal
 
 pub processes_of-requires-clause-events : goal.processes_of-requires-clause-events
@@ -51,7 +51,6 @@ returns-clause-stands c = record {
       in_force = put-in_force doc doc.objects [] c.in_ok-in_force.in_force (c.in_ok-in_force.ensures doc refl refl);
     };
     processes = put-each doc doc.objects [] c.in_ok-processes.processes.items (c.in_ok-processes.ensures.stands doc (record { settings = refl; controllers = refl; kubelets = refl; events = sym c.as_slice.ensures }));
-    terms = put-terms doc doc.objects [] c.in_ok-terms.terms (c.in_ok-terms.ensures doc refl (ap (λ xs. length xs) c.as_slice-controllers.ensures));
   };
   placed = record { earlier = λ i e less is. absurd (omega (arith, less)); later = c.requires.lawful.events };
   unticked = first_unticked doc;

@@ -32,7 +32,7 @@ script-preserved c =
           happening-more doc k before c.script.deeds c.happen.new.deeds arriving coming h c.script.self c.happen.new.self e a here (c.if-event-self.false ∙ a.running.world.rest.document.at) next.place few
           (λ lawful few_next.
           subst (λ x. MidBeat doc k before arriving coming (happens doc k x a.now) c.happen.new.self c.happen.new.deeds) copied
-          (c.in_ok-happen.ensures.stands doc k before arriving coming a.now (rewired doc k before c.script.deeds arriving arriving coming coming a.now c.script.self _ (record { same = (record { beat = refl; end = refl; restart = refl; epoch = refl; micros = refl; events = refl; names = refl; controllers = refl }); processes = refl; terms = refl }) refl refl a.running.world.rest.wire a.running)
+          (c.in_ok-happen.ensures.stands doc k before arriving coming a.now (rewired doc k before c.script.deeds arriving arriving coming coming a.now c.script.self _ (record { same = (record { beat = refl; end = refl; restart = refl; epoch = refl; micros = refl; events = refl; names = refl; controllers = refl }); processes = refl }) refl refl a.running.world.rest.wire a.running)
           (subst (IsLawfulWhat doc) (sym copied) lawful) (subst (λ x. IsFew (happens doc k x a.now)) (sym copied) few_next)));
     }
 

@@ -1,9 +1,8 @@
-use Rattle.std.proofs.Common.{◌≡◌, ◌<◌, ◌++◌, true, false, vec_len, refl, sym, ap, subst, ◌∙◌, arith}
+use Rattle.std.proofs.Common.{◌≡◌, ◌<◌, ◌++◌, vec_len, refl, ap, ◌∙◌, arith}
 use Rattle.kube_objects.specs.declared.deed.Act.TheVariants as act
 use Rattle.kube_objects.specs.declared.script.What.TheVariants as what
 use Rattle.kube_objects.specs.Identities.{identity}
 use Rattle.kube_objects.specs.Newest.{when}
-use Rattle.kube_objects.specs.Pauses.{is_paused}
 use Rattle.history.specs.Printed.{deeds_of}
 use Rattle.history.specs.Steps.{happens}
 use Rattle.world_process.specs.Moves.{stopped_deeds, stopped}
@@ -15,20 +14,8 @@ use Rattle.world_core.proofs.Moving.{read-at, actor-is, on-ok, room-for, sends-a
 use Rattle.world_core.proofs.Noting.{kept-after, stopped-kept}
 use Rattle.world_core.proofs.Turns.{same-twice}
 use Rattle.world_core.proofs.MidBeat.{keeps-moved}
-use Rattle.world_core.proofs.Renewing.{fresh-stopped}
-use Rattle.world_core.proofs.Scripts.{controller-within, around-stop, running-asked, running-unstopped}
-use Rattle.world_terms.specs.TermsStand.{IsFresh, TermsStand, TermsStandBut}
+use Rattle.world_core.proofs.Scripts.{controller-within, around-stop, running-asked}
 use Rattle.world_core.proofs.world.World.stop.Goals as goal
-
-pub returns-then-paused-clause-stands : goal.returns-then-paused-clause-stands
-returns-then-paused-clause-stands c doc k before arriving coming h r lawful few =
-    let w = c.args.self.now in
-    let i = c.args.who.0 in
-    let x = c.index.result.now in
-    let index : i < vec_len w.processes = omega (arith, c.if-i-len.false, c.len.ensures) in
-    let s = r.world.processes i x (read-at w i x index c.index.ensures) in
-    let paused : is_paused doc i k ≡ true = ap (is_paused doc i) (sym r.world.rest.document.at) ∙ sym (c.is_paused-paused.ensures doc i h s) ∙ c.if-paused.true in
-    running-unstopped doc k before c.args.deeds.now arriving coming h w c.args.who paused r
 
 pub note-requires : goal.note-requires
 note-requires c =
@@ -57,14 +44,11 @@ returns-clause-stands c =
     on-ok c.send_asked.result _ _ (λ sent doc k before arriving coming h r lawful few.
     let s = r.world.processes i c0 was in
     let at : w.beat.0 ≡ k = r.world.rest.document.at in
-    let awake : is_paused doc i k ≡ false = ap (is_paused doc i) (sym at) ∙ sym (c.is_paused-paused.ensures doc i h (r.world.processes i c.index.result.now (read-at w i c.index.result.now index c.index.ensures))) ∙ c.if-paused.false in
     let moved = stopped-kept doc k c.args.who h y c1 c.stop-stopped.result c.note.ensures.stands c.note.ensures.incarnation (c.stop-stopped.ensures.stands doc k c.args.who h s lawful at (few-before h (happens doc k (what.Stop c.args.who) h) (grows-happens doc k (what.Stop c.args.who) h) few)) in
     let me = ap (λ m. m.0) (c.note.ensures.same.me ∙ c.stop-stopped.ensures.same.me) ∙ process-me doc i h c0 s in
     let around = around-stop doc k c.args.who arriving coming h w (controller-within doc i lawful) (around-world doc k i arriving coming h w r.world) in
-    let anew = subst (λ n. TermsStandBut doc n (stopped doc k c.args.who h) w.terms → IsFresh n (stopped doc k c.args.who h) → TermsStand doc (stopped doc k c.args.who h) c.renew.new.self) (ap (λ id. id.0) c.me-who.ensures ∙ me)
-    (c.renew.ensures.stands doc (stopped doc k c.args.who h)) around.terms (fresh-stopped doc k c.args.who h awake) in
     let who = actor-is i c1 c.actor-actor.result c.actor-actor.ensures me in
     let new_is = c.in_ok-tell.ensures ∙ ap (λ a. c.args.deeds.now ++ deeds_of w.beat.0 c.actor-actor.result a) c.stop_act.ensures ∙ ap (λ n. c.args.deeds.now ++ deeds_of n c.actor-actor.result done) at ∙ ap (λ x. c.args.deeds.now ++ deeds_of k x done) who in
     let sends = sends-as k w.beat.0 i c.incarnation-incarnation.result c.me-who.result c1 c.stop-stopped.result.ask w.wire c.send_asked.new.wire at c.me-who.ensures c.incarnation-incarnation.ensures me sent in
     running-asked doc k i before c.args.deeds.now c.tell.new.deeds (stopped_deeds k (identity i (incarnation_of c1)) c.stop-stopped.result.stopped) arriving coming h (stopped doc k c.args.who h) (happens doc k (what.Stop c.args.who) h) c0 c1 w _ c.stop-stopped.result.ask r (controller-within doc i lawful) (record { was = was; now = refl; same = (record { beat = refl; end = refl; restart = refl; epoch = refl; micros = refl; events = refl; names = refl; controllers = refl }); place = refl; store = refl; in_force = refl }) sends
-    around moved.asks anew moved.told new_is) c.send_asked.ensures.sends
+    around moved.asks moved.told new_is) c.send_asked.ensures.sends

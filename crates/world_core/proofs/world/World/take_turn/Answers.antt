@@ -1,19 +1,14 @@
 use Rattle.std.proofs.Common.{◌≡◌, ◌<◌, ◌++◌, true, false, refl, sym, ap, ◌∙◌, subst}
 use Rattle.kube_objects.specs.declared.deed.Act.TheVariants as act
 use Rattle.kube_objects.specs.Document.{processes}
-use Rattle.kube_objects.specs.Identities.{identity}
 use Rattle.kube_objects.specs.InForce.{posted_status}
 use Rattle.kube_objects.specs.Newest.{when}
 use Rattle.kube_objects.specs.Pauses.{is_paused}
 use Rattle.history.specs.Printed.{deeds_of}
-use Rattle.world_process.specs.Moves.{before_asking}
 use Rattle.world_process.specs.Plain.{IsFew}
-use Rattle.world_process.specs.Processes.{incarnation_of, me_of}
+use Rattle.world_process.specs.Processes.{me_of}
 use Rattle.world_process.proofs.Processes.{process-me}
-use Rattle.world_terms.specs.TermsStand.{IsFresh, TermsStandBut}
-use Rattle.world_core.proofs.Around.{around-before, around-world}
 use Rattle.world_core.proofs.Moving.{read-at, within-processes, actor-is, on-ok, sends-as, room-for}
-use Rattle.world_core.proofs.Renewing.{terms-turned}
 use Rattle.world_core.proofs.Noting.{kept-after}
 use Rattle.world_core.proofs.MidBeat.{keeps-moved, running-turned}
 use Rattle.world_core.proofs.Turns.{awake-is, running-awake, running-paused, same-twice, turned-kept}
@@ -49,7 +44,6 @@ returns-clause-stands c doc k before arriving coming h r few =
     let z = c.note.new.process in
     let t = c.turn-turn.result in
     let named = c.actor-actor.result in
-    let base = before_asking doc k i h in
     let was = read-at w i x c.requires.index c.index_mut-process.ensures.value in
     let s = r.world.processes i x was in
     let d = r.world.rest.document in
@@ -61,12 +55,7 @@ returns-clause-stands c doc k before arriving coming h r few =
     let turned = turned-kept doc k i h y z t (λ g stands. c.note.ensures.stands doc i g stands)
     (c.turn-turn.ensures.stands doc (processes doc) k i h s at d.restart status r.world.rest.plain (subst IsFew (awake-is doc k i h awake) few)) in
     let me : (me_of z).0 ≡ i = ap (λ m. m.0) (c.note.ensures.same.me ∙ c.turn-turn.ensures.same.me) ∙ process-me doc i h x s in
-    let whose : c.me-who.result.0 ≡ i = ap (λ m. m.0) c.me-who.ensures ∙ me in
     let who = actor-is i z named c.actor-actor.ensures me in
-    let around = around-before doc k i arriving coming h w within (around-world doc k i arriving coming h w r.world) in
-    let terms = terms-turned doc k i (processes doc) h w.terms (identity i (incarnation_of z)) t.started t.ended c.renew_if.new.terms r.world.rest.plain r.world.terms around.terms turned.told
-    (λ anew but fresh. c.renew_if.ensures.anew doc base anew (subst (λ n. TermsStandBut doc n base w.terms) (sym whose) but) (subst (λ n. IsFresh n base) (sym whose) fresh))
-    (λ same. c.renew_if.ensures.same same) in
     let told = c.in_ok-tell-2.ensures
     ∙ ap (λ ds. ds ++ deeds_of w.beat.0 named c.end_act.result) c.in_ok-tell.ensures
     ∙ ap (λ a. c.args.deeds.now ++ deeds_of w.beat.0 named a ++ deeds_of w.beat.0 named c.end_act.result) c.start_act.ensures
@@ -75,4 +64,4 @@ returns-clause-stands c doc k before arriving coming h r few =
     ∙ ap (λ q. c.args.deeds.now ++ deeds_of k q (when t.started act.Start) ++ deeds_of k q (when t.ended act.End)) who in
     on-ok c.send_asked.result _ _ (λ sent.
     let sends = sends-as k w.beat.0 i c.incarnation-incarnation.result c.me-who.result z t.ask w.wire c.send_asked.new.wire at c.me-who.ensures c.incarnation-incarnation.ensures me sent in
-    running-awake doc k i before c.tell-2.new.deeds arriving coming h _ awake (running-turned doc k i before c.args.deeds.now c.tell-2.new.deeds arriving coming h x z w _ t r within (record { was = was; now = refl; same = (record { beat = refl; end = refl; restart = refl; epoch = refl; micros = refl; events = refl; names = refl; controllers = refl }); place = refl; store = refl; in_force = refl }) sends turned terms told)) c.send_asked.ensures.sends
+    running-awake doc k i before c.tell-2.new.deeds arriving coming h _ awake (running-turned doc k i before c.args.deeds.now c.tell-2.new.deeds arriving coming h x z w _ t r within (record { was = was; now = refl; same = (record { beat = refl; end = refl; restart = refl; epoch = refl; micros = refl; events = refl; names = refl; controllers = refl }); place = refl; store = refl; in_force = refl }) sends turned told)) c.send_asked.ensures.sends

@@ -1,5 +1,8 @@
-use Rattle.std.proofs.Common.{false, refl, sym, ap, ◌∙◌}
+use Rattle.std.proofs.Common.{false, [], refl, sym, ap, ◌∙◌, subst}
 use Rattle.kube_objects.specs.Document.{field, of_millis}
+use Rattle.kube_objects.specs.Identities.{identity}
+use Rattle.history_laws.proofs.Plainly.{none_is}
+use Rattle.world_process.specs.OwnTerm.{OwnsTerm}
 use Rattle.world_process.proofs.controller.Controller.new.Goals as goal
 
 pub returns-clause-stands : goal.returns-clause-stands
@@ -20,8 +23,10 @@ returns-clause-stands c doc p made sort =
       pauses = c.in_ok-clock.ensures.pauses doc p made;
       up_first = ap (λ y. field (λ x. x.up) false y) (sym process);
       role = (refl, refl);
-      waking = c.new.ensures c.in_ok-clock.clock;
+      term = subst (OwnsTerm doc p []) (sym c.in_ok-new.ensures.ok)
+          (record { settings = (c.new-term.ensures doc (identity p 0) [] refl (c.tick_settings.ensures.stands doc made.settings)).settings; each = λ i up. absurd (none_is i up) });
+      waking = c.new-2.ensures c.in_ok-clock.clock;
     }
 
 pub returns-clause-timed : goal.returns-clause-timed
-returns-clause-timed c = c.new.ensures c.in_ok-clock.clock
+returns-clause-timed c = c.new-2.ensures c.in_ok-clock.clock

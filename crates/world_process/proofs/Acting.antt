@@ -1,0 +1,122 @@
+-- A controller's tick, where it has one.
+use Rattle.std.proofs.Common.{◌≡◌, ◌∙◌, ◌++◌, ℕ, ◌&&◌, not, Bool, true, false, List, Some, None, Option, refl, sym, ap, subst, append_assoc}
+use Rattle.std.specs.Prelude.{if◌then◌else◌}
+use Rattle.std.specs.Box.{with_value}
+use Rattle.kube_objects.specs.declared.deed.Deed.{Deed}
+use Rattle.kube_objects.specs.Clocks.{local}
+use Rattle.kube_objects.specs.Document.{Doc, is_controller}
+use Rattle.kube_objects.specs.Elector.{acts, in_term}
+use Rattle.kube_objects.specs.Entry.{Entry, Identity, Ticks, entry}
+use Rattle.kube_objects.specs.Identities.{identity}
+use Rattle.kube_objects.specs.InForce.{watches}
+use Rattle.kube_objects.specs.Pauses.{is_paused}
+use Rattle.kube_objects.specs.Process.{alive, starts}
+use Rattle.kube_objects.specs.Tick.{tick}
+use Rattle.kube_objects.specs.Wire.{loses_requests}
+use Rattle.history.specs.Printed.{printed}
+use Rattle.history.specs.Steps.{if_up, ticks}
+use Rattle.history_laws.proofs.Ticks.{walk_tick}
+use Rattle.controller_core.specs.declared.term.Term.{Term}
+use Rattle.controller_core.specs.TermStands as after
+use Rattle.object_store.specs.declared.store.Store.{Store}
+use Rattle.object_store.specs.Stands.{StoreStands}
+use Rattle.skew_clock.specs.Clocking.{Clocking, reading, wall_when}
+use Rattle.term_state.specs.declared.view.View.{View}
+use Rattle.term_state.specs.MidTick.{IsView}
+use Rattle.world_process.specs.declared.controller.Controller.{Controller}
+use Rattle.world_process.specs.declared.controller.Role.{Role}
+use Rattle.world_process.specs.Clocked.{ClockStands}
+use Rattle.world_process.specs.Controllers.{ControllerStands, RoleStands, Ticked}
+use Rattle.world_process.specs.Moves.{own_ticks, own_ticks_as}
+use Rattle.world_process.specs.Processes.{in_term_as, in_term_if_up, in_term_now}
+use Rattle.world_process.proofs.Beside.{role-quiet}
+use Rattle.world_process.proofs.OwnTerm.{owns-ticked}
+use Rattle.world_process.proofs.Readings.{reading-local, wall-when}
+use Rattle.world_process.proofs.Unheard.{and-false}
+
+-- ---- whose tick it is
+
+-- without a leader whose term isn't over there is none
+pub unled-ticks : (doc : Doc) (k p : ℕ) (h : List Entry) → in_term_if_up doc k p (alive p h) h ≡ false → ticks doc k p h ≡ h
+unled-ticks doc k p h is = by_life (alive p h) is
+  where
+    by_life : (o : Option ℕ) → in_term_if_up doc k p o h ≡ false → if_up p (λ q T. (if (acts doc q k T) then tick doc k q T else T)) o h ≡ h
+    by_life None is = refl
+    by_life (Some i) is = ap (λ b. (if (not (is_paused doc p k) && b) then tick doc k (identity p i) h else h)) is ∙ ap (λ b. (if b then tick doc k (identity p i) h else h)) (and-false (not (is_paused doc p k)))
+
+pub ticks-none : (doc : Doc) (k p : ℕ) (h : List Entry) → in_term_now doc k p h ≡ false → own_ticks doc k p h ≡ h
+ticks-none doc k p h none = by_sort (is_controller doc p) none
+  where
+    by_sort : (b : Bool) → in_term_as doc k p b h ≡ false → own_ticks_as doc k p b h ≡ h
+    by_sort true is = unled-ticks doc k p h is
+    by_sort false is = refl
+
+-- nor is there one in a pause
+pub paused-ticks : (doc : Doc) (k p : ℕ) (h : List Entry) → is_paused doc p k ≡ true → ticks doc k p h ≡ h
+paused-ticks doc k p h paused = by_life (alive p h)
+  where
+    by_life : (o : Option ℕ) → if_up p (λ q T. (if (acts doc q k T) then tick doc k q T else T)) o h ≡ h
+    by_life None = refl
+    by_life (Some i) = ap (λ b. (if (not b && in_term doc (identity p i) k h) then tick doc k (identity p i) h else h)) paused
+
+pub ticks-paused : (doc : Doc) (k p : ℕ) (h : List Entry) → is_paused doc p k ≡ true → own_ticks doc k p h ≡ h
+ticks-paused doc k p h paused = by_sort (is_controller doc p)
+  where
+    by_sort : (b : Bool) → own_ticks_as doc k p b h ≡ h
+    by_sort true = paused-ticks doc k p h paused
+    by_sort false = refl
+
+pub acting-ticks : (doc : Doc) (k p i : ℕ) (h : List Entry) → is_paused doc p k ≡ false → alive p h ≡ Some i → in_term doc (identity p i) k h ≡ true → ticks doc k p h ≡ tick doc k (identity p i) h
+acting-ticks doc k p i h awake up term =
+    ap (λ o. if_up p (λ q T. (if (acts doc q k T) then tick doc k q T else T)) o h) up
+    ∙ ap (λ b. (if (not b && in_term doc (identity p i) k h) then tick doc k (identity p i) h else h)) awake
+    ∙ ap (λ b. (if b then tick doc k (identity p i) h else h)) term
+
+-- ---- what a tick is given
+
+pub view-is : (doc : Doc) (k : ℕ) (q : Identity) (h : List Entry) (c : Clocking) (v : View) → ClockStands doc q.process c → v.watch ≡ watches doc q.process h → v.passes ≡ not (loses_requests q.process h) → v.beat.0 ≡ k
+    → v.now.0 ≡ reading c v.beat.0 → v.wall.0 ≡ wall_when c v.now.0 → IsView doc k q h v
+view-is doc k q h c v clock watch passes beat now wall =
+    let read : v.now.0 ≡ local doc q.process k = now ∙ ap (reading c) beat ∙ reading-local doc q.process k c clock in
+    record { watch = watch; passes = passes; beat = beat; reading = read; time = wall ∙ wall-when doc q.process k v.now.0 c clock read }
+
+-- ---- after it
+
+-- without a tick all is as it was
+pub ticked-not : (doc : Doc) (k p : ℕ) (h : List Entry) (c : Controller) (s : Store) (deeds : List Deed) → ticks doc k p h ≡ h → ControllerStands doc p h c → StoreStands h s → Ticked doc k p h c s deeds deeds
+ticked-not doc k p h c s deeds is stands store = record {
+  stands = subst (λ g. ControllerStands doc p g c) (sym is) stands;
+  store = subst (λ g. StoreStands g s) (sym is) store;
+  told = λ before told. told ∙ ap printed (sym is);
+}
+
+-- the elector doesn't look at a tick
+role-tick : (doc : Doc) (k p i : ℕ) (q : Identity) (h : List Entry) (r : Role) → RoleStands doc p i h r → RoleStands doc p i (tick doc k q h) r
+role-tick doc k p i q h r s = walk_tick doc k q (λ g. RoleStands doc p i g r) (λ t g made old. role-quiet doc p i (entry k 4 q (Ticks t)) g r refl refl refl old) h s
+
+starts-tick : (doc : Doc) (k p : ℕ) (q : Identity) (h : List Entry) → starts p (tick doc k q h) ≡ starts p h
+starts-tick doc k p q h = walk_tick doc k q (λ g. starts p g ≡ starts p h) (λ t g made same. same) h refl
+
+-- the term and the store have the tick
+pub ticked-acting : (doc : Doc) (k p : ℕ) (h : List Entry) (c : Controller) (t : Term) (s : Store) (old told : List Deed) → ticks doc k p h ≡ tick doc k (identity p c.incarnation) h → alive p h ≡ Some c.incarnation → ControllerStands doc p h c
+    → after.Ticked doc k (identity p c.incarnation) h told t s → Ticked doc k p h (record c { term = with_value c.term t }) s old (old ++ told)
+ticked-acting doc k p h c t s old told is up stands went =
+    let q = identity p c.incarnation in
+    let new = record c { term = with_value c.term t } in
+    record {
+      stands = subst (λ g. ControllerStands doc p g new) (sym is)
+          (record {
+            sort = stands.sort;
+            me = stands.me;
+            incarnation = stands.incarnation ∙ sym (starts-tick doc k p q h);
+            timing = stands.timing;
+            clock = stands.clock;
+            pauses = stands.pauses;
+            up_first = stands.up_first;
+            role = role-tick doc k p c.incarnation q h c.role stands.role;
+            term = owns-ticked doc k p c.incarnation h c.term.value t up stands.term went.term;
+            waking = stands.waking;
+          });
+      store = subst (λ g. StoreStands g s) (sym is) went.store;
+      told = λ before told_before. sym (append_assoc before old told) ∙ ap (λ ds. ds ++ told) told_before ∙ went.told ∙ ap printed (sym is);
+    }
