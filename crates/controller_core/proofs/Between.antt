@@ -15,7 +15,7 @@ use Rattle.node_health.specs.Stands.{is_of_health}
 use Rattle.node_health.proofs.Frames.{SaysSame, says-same, says-then, unheard-kind}
 use Rattle.taint_zones.specs.declared.zones.Zones.{Zones}
 use Rattle.taint_zones.specs.Limits.{LimitsStand, limit_at}
-use Rattle.term_pass.specs.Passing.{LastStands}
+use Rattle.controller_core.specs.Passing.{LastStands}
 use Rattle.term_state.specs.declared.told.Told.{Told}
 use Rattle.term_state.specs.MidTick.{IsTold}
 use Rattle.term_state.proofs.Telling.{told_beside}

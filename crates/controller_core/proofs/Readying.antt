@@ -20,8 +20,8 @@ use Rattle.taint_zones.specs.declared.queues.Queues.{Queues}
 use Rattle.taint_zones.specs.Limits.{LimitStands}
 use Rattle.taint_zones.specs.Places.{entry_place, of_place, zone_cmp}
 use Rattle.taint_zones.specs.Waiting.{IsAfter, IsEmpty, IsNextZone}
-use Rattle.term_taint.specs.QueuesStand.{QueuesStand}
-use Rattle.term_taint.proofs.ZoneWalk.{number}
+use Rattle.controller_core.specs.QueuesStand.{QueuesStand}
+use Rattle.controller_core.proofs.Tainting.ZoneWalk.{number}
 use Rattle.tick_laws.specs.Judged.{key_if}
 use Rattle.tick_laws.proofs.Orders.{places_strict}
 use Rattle.controller_core.specs.Wakes.{IsHeadDue, IsTokenReading, is_token_at}

@@ -7,7 +7,7 @@ use Rattle.kube_objects.specs.Clocks.{local}
 use Rattle.kube_objects.specs.Document.{Doc, of_millis}
 use Rattle.kube_objects.specs.Entry.{Entry, Identity}
 use Rattle.kube_objects.specs.Health.{is_after_pass, is_pass_due, last_pass}
-use Rattle.term_pass.specs.Passing.{LastStands}
+use Rattle.controller_core.specs.Passing.{LastStands}
 use Rattle.controller_core.specs.Wakes.{pass_reading}
 
 pub some_number : (a b : ℕ) → ◌≡◌ {A = Option ℕ} (Some a) (Some b) → a ≡ b

@@ -12,14 +12,14 @@ ghost use Rattle.term_state.specs.MidTick.{IsTold, IsView};
 ghost use Rattle.tick_laws.specs.Steps.{tick_cost};
 
 use crate::Term;
+use crate::clean::clean;
+use crate::evict::evict;
+use crate::pass::pass;
+use crate::sync::sync;
+use crate::taint::{settle, taint};
 use kube_base::{NoMemory, Steps};
 use object_store::Store;
-use term_clean::clean;
-use term_evict::evict;
-use term_pass::pass;
 use term_state::{Told, View};
-use term_sync::sync;
-use term_taint::{settle, taint};
 use zone_state::Policies;
 
 impl Term {

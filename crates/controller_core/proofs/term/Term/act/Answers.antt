@@ -4,9 +4,9 @@ use Rattle.kube_objects.specs.Tainting.{before_tick}
 use Rattle.kube_objects.specs.Tick.{cleaned, evicted, pass, tainted}
 use Rattle.node_health.proofs.Frames.{health-same}
 use Rattle.taint_zones.specs.Places.{of_place}
-use Rattle.term_evict.proofs.Walking.{view_kept}
-use Rattle.term_taint.specs.Heading.{Heading}
-use Rattle.term_taint.specs.QueuesStand.{QueuesStand}
+use Rattle.controller_core.proofs.Evicting.Walking.{view_kept}
+use Rattle.controller_core.specs.Heading.{Heading}
+use Rattle.controller_core.specs.QueuesStand.{QueuesStand}
 use Rattle.tick_laws.specs.Judged.{waits_since}
 use Rattle.tick_laws.specs.Rows.{no_heads}
 use Rattle.tick_laws.proofs.Phases.{cleaned_heads, cleaned_limits, evicted_limits, evicted_since, pass_heads, tainted_passed}

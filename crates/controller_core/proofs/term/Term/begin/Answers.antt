@@ -9,7 +9,7 @@ use Rattle.kube_objects.specs.Tainting.{before_tick, waits}
 use Rattle.kube_objects.specs.Tick.{sync, tick, phases}
 use Rattle.node_health.proofs.Frames.{health-same}
 use Rattle.object_store.specs.declared.store.Store.{Store}
-use Rattle.term_evict.proofs.Walking.{view_kept}
+use Rattle.controller_core.proofs.Evicting.Walking.{view_kept}
 use Rattle.term_state.specs.declared.told.Told.{Told}
 use Rattle.term_state.specs.ClusterStands.{ClusterStands}
 use Rattle.term_state.specs.MidTick.{IsMoved}

@@ -5,7 +5,7 @@ use Rattle.taint_zones.specs.declared.place.Place.{Place}
 use Rattle.taint_zones.specs.declared.queues.Queues.{Queues}
 use Rattle.taint_zones.specs.Places.{entry_place}
 use Rattle.taint_zones.specs.Waiting.{IsNextZone}
-use Rattle.term_taint.proofs.ZoneWalk.{number_grows}
+use Rattle.controller_core.proofs.Tainting.ZoneWalk.{number_grows}
 use Rattle.controller_core.specs.Wakes.{IsTokenReading}
 use Rattle.controller_core.proofs.Readying.{answered_all, end_covered, next_covered, zones_left}
 use Rattle.controller_core.proofs.term.Term.first_ready.Goals as goal

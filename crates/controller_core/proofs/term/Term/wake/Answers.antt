@@ -1,7 +1,7 @@
 use Rattle.std.proofs.Common.{◌≡◌, ◌∙◌, inl, inr, ◌+◌, ◌*◌, ◌<◌, ◌≤◌, ◌⊎◌, Some, ap, sym, subst, arith}
 use Rattle.kube_base.specs.Bounds.{most_local}
 use Rattle.kube_objects.specs.Clocks.{local}
-use Rattle.term_pass.specs.Passing.{LastStands}
+use Rattle.controller_core.specs.Passing.{LastStands}
 use Rattle.controller_core.specs.Wakes.{pass_reading}
 use Rattle.controller_core.proofs.Readying.{head_reading, reading_head}
 use Rattle.controller_core.proofs.Waking.{by_then, due_from, last_fits, not_none, not_yet, pass_is, period_is, some_number}
