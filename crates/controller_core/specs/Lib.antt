@@ -1,5 +1,6 @@
 pub mod Attempts
 pub mod Cleaning
+pub mod Costs
 pub mod Deleting
 pub mod Heading
 pub mod Left

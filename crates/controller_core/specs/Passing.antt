@@ -1,5 +1,5 @@
 -- Within a pass.
-use Rattle.std.specs.Prelude.{◌≡◌, ◌≤◌, ◌+◌, ℕ, Bool, List, Option, Some, None, option_map}
+use Rattle.std.specs.Prelude.{◌≡◌, ℕ, Bool, List, Option, Some, None, option_map}
 use Rattle.kube_base.specs.declared.numbers.Local.{Local}
 use Rattle.kube_objects.specs.declared.deed.Deed.{Deed}
 use Rattle.kube_objects.specs.Clocks.{local}
@@ -13,7 +13,6 @@ use Rattle.object_store.specs.declared.store.Store.{Store}
 use Rattle.term_state.specs.MidTick.{MidTick}
 use Rattle.term_state.specs.declared.cluster.Cluster.{Cluster}
 use Rattle.term_state.specs.declared.told.Told.{Told}
-use Rattle.tick_laws.specs.Steps.{tick_cost}
 
 abbrev pub reading_of : Option Local → Option ℕ
 reading_of None = None
@@ -22,10 +21,6 @@ reading_of (Some at) = Some at.0
 -- the reading of the last pass
 abbrev pub LastStands : Doc → Identity → List Entry → Option Local → Type 0
 LastStands doc q h last = reading_of last ≡ option_map (local doc q.process) (last_pass q h)
-
--- so many steps were counted, from one history to the other
-abbrev pub HaveCost : Identity → ℕ → List Entry → List Entry → ℕ → ℕ → Type 0
-HaveCost q k h g old new = new + tick_cost q k h ≤ old + tick_cost q k g
 
 -- h is the history before the pass, and now has the marks so far; some nodes were looked at. Leases, and when nodes were last heard
 -- of, are as they were after the entry of the pass

@@ -1,10 +1,10 @@
 // The untaints and swaps of a tick: nodes lose condition taints that they don't want.
-ghost use Rattle.std.specs.Prelude.{◌≡◌, ◌≤◌, ◌+◌, ℕ, List, OnOk};
+ghost use Rattle.std.specs.Prelude.{ℕ, List, OnOk};
 ghost use Rattle.kube_objects.specs.Document.{Doc};
 ghost use Rattle.kube_objects.specs.Entry.{Entry, Identity};
 ghost use Rattle.kube_objects.specs.Tick as tick;
 ghost use Rattle.kube_objects.specs.declared.deed.Deed.{Deed};
-ghost use Rattle.tick_laws.specs.Steps.{tick_cost};
+ghost use Rattle.controller_core.specs.Costs.{HaveCost};
 ghost use Rattle.term_state.specs.MidTick.{IsView, MidTick};
 
 mod attempt;
@@ -25,12 +25,10 @@ pub(crate) fn clean<L>(
     told: &mut Told,
     steps: &mut Steps<L>,
 ) -> Result<(), NoMemory>
-    ensures stands { (doc : Doc) (k : ℕ) (q : Identity) (before : List Deed) (h : List Entry)
+    ensures { (doc : Doc) (k : ℕ) (q : Identity) (before : List Deed) (h : List Entry)
         → MidTick q k before h cluster.old store.old told.old → IsView doc k q h view.entry.now
-        → OnOk result (MidTick q k before (tick.cleaned doc k q h) cluster.new store.new told.new) }
-    ensures counted { (doc : Doc) (k : ℕ) (q : Identity) (before : List Deed) (h : List Entry)
-        → MidTick q k before h cluster.old store.old told.old → IsView doc k q h view.entry.now
-        → OnOk result (steps.new + tick_cost q k h ≤ steps.old + tick_cost q k (tick.cleaned doc k q h)) }
+        → OnOk result (MidTick q k before (tick.cleaned doc k q h) cluster.new store.new told.new
+        × HaveCost q k h (tick.cleaned doc k q h) steps.old steps.new) }
 {
     let mut next = cluster.next_unclean(None);
     while let Some(name) = next {

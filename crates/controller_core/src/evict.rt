@@ -1,11 +1,10 @@
 // The evictions of a tick: pods that are due are deleted.
-ghost use Rattle.std.specs.Prelude.{◌≡◌, ◌≤◌, ◌+◌, ℕ, List, OnOk};
+ghost use Rattle.std.specs.Prelude.{◌+◌, ℕ, List, OnOk};
 ghost use Rattle.kube_objects.specs.Document.{Doc};
 ghost use Rattle.kube_objects.specs.Entry.{Entry, Identity};
-ghost use Rattle.kube_objects.specs.Tainting.{before_tick};
 ghost use Rattle.kube_objects.specs.Tick as tick;
 ghost use Rattle.kube_objects.specs.declared.deed.Deed.{Deed};
-ghost use Rattle.tick_laws.specs.Steps.{tick_cost};
+ghost use Rattle.controller_core.specs.Costs.{HaveCost};
 ghost use Rattle.term_state.specs.MidTick.{IsView, MidTick};
 
 mod attempt;
@@ -24,13 +23,10 @@ pub(crate) fn evict<L>(
     told: &mut Told,
     steps: &mut Steps<L>,
 ) -> Result<(), NoMemory>
-    ensures stands { (doc : Doc) (k : ℕ) (q : Identity) (before : List Deed) (h : List Entry)
-        → MidTick q k before h cluster.old store.old told.old
-        → IsView doc k q h view.entry.now → OnOk result (MidTick q k before (tick.evicted doc k q h) cluster.new store.new told.new) }
-    ensures counted { (doc : Doc) (k : ℕ) (q : Identity) (before : List Deed) (h : List Entry)
-        → MidTick q k before h cluster.old store.old told.old
-        → IsView doc k q h view.entry.now
-        → OnOk result (steps.new + tick_cost q k h ≤ steps.old + (1 + tick_cost q k (tick.evicted doc k q h))) }
+    ensures { (doc : Doc) (k : ℕ) (q : Identity) (before : List Deed) (h : List Entry)
+        → MidTick q k before h cluster.old store.old told.old → IsView doc k q h view.entry.now
+        → OnOk result (MidTick q k before (tick.evicted doc k q h) cluster.new store.new told.new
+        × HaveCost q k h (tick.evicted doc k q h) (steps.old + 1) steps.new) }
 {
     let mut todo = cluster.take_due(view.wall, steps)?;
     while let Some(pod) = todo.pop_first() {

@@ -11,7 +11,8 @@ ghost use Rattle.taint_zones.specs.Limits.{LimitsStand};
 ghost use Rattle.taint_zones.specs.Waiting.{since};
 ghost use Rattle.taint_zones.specs.declared.place.Place.{Place};
 ghost use Rattle.term_state.specs.MidTick.{IsView, MidTick};
-ghost use Rattle.controller_core.specs.Passing.{HaveCost, LastStands};
+ghost use Rattle.controller_core.specs.Costs.{HaveCost};
+ghost use Rattle.controller_core.specs.Passing.{LastStands};
 ghost use Rattle.zone_counts.specs.Settings.{AreSettings};
 
 mod counting;
@@ -52,18 +53,14 @@ pub(crate) fn pass<L>(
 ) -> Result<(), NoMemory>
     requires ordered { settings.now.secondary_rate ≤ settings.now.primary_rate }
     requires reading { view.now.now.0 ≤ most_local }
-    ensures running { (doc : Doc) (k : ℕ) (q : Identity) (before : List Deed) (h : List Entry)
+    ensures stands { (doc : Doc) (k : ℕ) (q : Identity) (before : List Deed) (h : List Entry)
         → MidTick q k before h cluster.old store.old told.old
         → HealthStands doc q h health.old → LimitsStand doc q h zones.old → LastStands doc q h last.old → IsView doc k q h view.entry.now
         → AreSettings doc settings.now → length (nodes q h) < 4294967296
         → OnOk result (MidTick q k before (model.pass doc k q h) cluster.new store.new told.new
         × HealthStands doc q (model.pass doc k q h) health.new
-        × LimitsStand doc q (model.pass doc k q h) zones.new × LastStands doc q (model.pass doc k q h) last.new) }
-    ensures counted { (doc : Doc) (k : ℕ) (q : Identity) (before : List Deed) (h : List Entry)
-        → MidTick q k before h cluster.old store.old told.old
-        → HealthStands doc q h health.old → LimitsStand doc q h zones.old → LastStands doc q h last.old → IsView doc k q h view.entry.now
-        → AreSettings doc settings.now → length (nodes q h) < 4294967296
-        → OnOk result (HaveCost q k h (model.pass doc k q h) steps.old steps.new) }
+        × LimitsStand doc q (model.pass doc k q h) zones.new × LastStands doc q (model.pass doc k q h) last.new
+        × HaveCost q k h (model.pass doc k q h) steps.old steps.new) }
     ensures queues { (zone : Place) (node : ℕ) → since zones.new.queues zone node ≡ since zones.old.queues zone node }
 {
     if !is_due(*last, of_millis(settings.monitor_period_millis), view.now) {

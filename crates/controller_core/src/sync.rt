@@ -1,14 +1,14 @@
 // The sync of a tick: what was written since the last one is taken over, and judged.
-ghost use Rattle.std.specs.Prelude.{◌≡◌, ◌≤◌, ◌+◌, ◌&&◌, not, ℕ, true, List, OnOk};
+ghost use Rattle.std.specs.Prelude.{◌≡◌, ◌&&◌, not, ℕ, List, OnOk};
 ghost use Rattle.kube_objects.specs.Document.{Doc};
-ghost use Rattle.kube_objects.specs.Entry.{Entry, Identity, Sync};
+ghost use Rattle.kube_objects.specs.Entry.{Entry, Identity};
 ghost use Rattle.kube_objects.specs.InForce.{watches};
 ghost use Rattle.kube_objects.specs.Seen as seen_words;
 ghost use Rattle.kube_objects.specs.Tainting.{before_tick};
 ghost use Rattle.kube_objects.specs.Tick as tick;
 ghost use Rattle.object_store.specs.Stands.{StoreStands};
 ghost use Rattle.tick_laws.specs.Since.{AreReached};
-ghost use Rattle.tick_laws.specs.Steps.{tick_cost};
+ghost use Rattle.controller_core.specs.Costs.{HaveCost};
 ghost use Rattle.term_state.specs.ClusterStands.{ClusterStands};
 ghost use Rattle.term_state.specs.MidTick.{IsMoved, IsView};
 
@@ -44,17 +44,13 @@ pub(crate) fn sync<L>(
     steps: &mut Steps<L>,
 ) -> Result<(), NoMemory>
     ensures stands { (doc : Doc) (k : ℕ) (q : Identity) (h : List Entry) → ClusterStands q h cluster.old → StoreStands h store.now
-        → AreReached q h
-        → IsView doc k q h view.entry.now → OnOk result (ClusterStands q (tick.sync doc k q h) cluster.new) }
+        → AreReached q h → IsView doc k q h view.entry.now
+        → OnOk result (ClusterStands q (tick.sync doc k q h) cluster.new × HaveCost q k h (tick.sync doc k q h) steps.old steps.new) }
     ensures store { (doc : Doc) (k : ℕ) (q : Identity) (h : List Entry) → StoreStands h store.now
         → StoreStands (tick.sync doc k q h) store.now }
     ensures moved { (doc : Doc) (k : ℕ) (q : Identity) (h : List Entry) → ClusterStands q h cluster.old → StoreStands h store.now
-        → AreReached q h
-        → IsView doc k q h view.entry.now → IsMoved q k h cluster.old → before_tick q k (tick.sync doc k q h) ≡ before_tick q k h
+        → AreReached q h → IsView doc k q h view.entry.now → IsMoved q k h cluster.old → before_tick q k (tick.sync doc k q h) ≡ before_tick q k h
         → OnOk result (IsMoved q k (tick.sync doc k q h) cluster.new) }
-    ensures counted { (doc : Doc) (k : ℕ) (q : Identity) (h : List Entry) → ClusterStands q h cluster.old → StoreStands h store.now
-        → AreReached q h
-        → IsView doc k q h view.entry.now → OnOk result (steps.new + tick_cost q k h ≤ steps.old + tick_cost q k (tick.sync doc k q h)) }
 {
     if !syncs(cluster, store, view.watch) {
         return Ok(());

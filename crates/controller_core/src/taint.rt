@@ -1,12 +1,12 @@
 // The queued taints of a tick.
-ghost use Rattle.std.specs.Prelude.{◌≡◌, ◌≤◌, ◌+◌, ℕ, List, OnOk};
+ghost use Rattle.std.specs.Prelude.{◌≤◌, ℕ, List, OnOk};
 ghost use Rattle.kube_base.specs.Bounds.{most_local};
 ghost use Rattle.kube_objects.specs.Document.{Doc};
 ghost use Rattle.kube_objects.specs.Entry.{Entry, Identity};
 ghost use Rattle.kube_objects.specs.Tick as tick;
 ghost use Rattle.kube_objects.specs.declared.deed.Deed.{Deed};
-ghost use Rattle.tick_laws.specs.Steps.{tick_cost};
 ghost use Rattle.term_state.specs.MidTick.{IsView};
+ghost use Rattle.controller_core.specs.Costs.{HaveCost};
 ghost use Rattle.controller_core.specs.Heading.{Heading};
 
 mod head;
@@ -34,12 +34,10 @@ pub(crate) fn taint<L>(
     steps: &mut Steps<L>,
 ) -> Result<(), NoMemory>
     requires { view.now.now.0 ≤ most_local }
-    ensures stands { (doc : Doc) (q : Identity) (k : ℕ) (before : List Deed) (h : List Entry)
+    ensures { (doc : Doc) (q : Identity) (k : ℕ) (before : List Deed) (h : List Entry)
         → Heading doc q k before h zones.old cluster.old store.old told.old → IsView doc k q h view.entry.now
-        → OnOk result (Heading doc q k before (tick.tainted doc k q h) zones.new cluster.new store.new told.new) }
-    ensures counted { (doc : Doc) (q : Identity) (k : ℕ) (before : List Deed) (h : List Entry)
-        → Heading doc q k before h zones.old cluster.old store.old told.old → IsView doc k q h view.entry.now
-        → OnOk result (steps.new + tick_cost q k h ≤ steps.old + tick_cost q k (tick.tainted doc k q h)) }
+        → OnOk result (Heading doc q k before (tick.tainted doc k q h) zones.new cluster.new store.new told.new
+        × HaveCost q k h (tick.tainted doc k q h) steps.old steps.new) }
 {
     let mut next = zones.queues.next_zone(None);
     while let Some(place) = next {

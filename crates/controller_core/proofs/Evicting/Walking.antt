@@ -16,19 +16,19 @@ use Rattle.history_laws.proofs.Plainly.{false_is}
 use Rattle.object_store.specs.declared.store.Store.{Store}
 use Rattle.tick_laws.specs.Judged.{is_by_now, seen_due}
 use Rattle.tick_laws.specs.Steps.{tick_cost}
-use Rattle.tick_laws.specs.Ticked.{IsTicked}
 use Rattle.tick_laws.specs.Walks.{Among, after, is_after}
 use Rattle.tick_laws.proofs.Evicting.{by_now_seen, due_is_pod, due_seen, evict_adds, evict_end, evict_next, evict_others}
 use Rattle.tick_laws.proofs.Named.{pod_is_named}
 use Rattle.tick_laws.proofs.Orders.{keys_strict}
 use Rattle.tick_laws.proofs.Steps.{cost_delete}
-use Rattle.tick_laws.proofs.Ticked.{evict_ticked, ticked_losses, ticked_watches}
+use Rattle.tick_laws.proofs.Ticked.{evict_ticked}
 use Rattle.tick_laws.proofs.Walks.{after_none}
 use Rattle.term_state.specs.declared.cluster.Cluster.{Cluster}
 use Rattle.term_state.specs.declared.told.Told.{Told}
 use Rattle.term_state.specs.declared.view.View.{View}
 use Rattle.term_state.specs.ClusterStands.{but_pod, no_node, no_pod}
 use Rattle.term_state.specs.MidTick.{IsView, MidTick}
+use Rattle.term_state.proofs.Viewing.{view_ticked}
 use Rattle.term_state.proofs.Widen.{widen}
 use Rattle.controller_core.specs.Deleting.{Deleting}
 
@@ -69,15 +69,6 @@ begin_evicting doc k q before h todo l s v t d view due = record {
   untouched = λ p is. refl;
 }
 
-pub view_kept : (doc : Doc) (k : ℕ) (q : Identity) (h g : List Entry) (v : View) → IsTicked q k h g → IsView doc k q h v → IsView doc k q g v
-view_kept doc k q h g v is view = record {
-  watch = view.watch ∙ sym (ticked_watches q k h g is doc q.process);
-  passes = view.passes ∙ ap not (sym (ticked_losses q k h g is q.process));
-  beat = view.beat;
-  reading = view.reading;
-  time = view.time;
-}
-
 module _ (doc : Doc) (k : ℕ) (q : Identity) (before : List Deed) (h now : List Entry) (c : Option Key) (todo : BTreeSet Key) (l : Cluster) (s : Store) (v : View) (t : Told) (w : Evicting doc k q before h now c todo l s v t) where
   pub later : (n : Key) → contains key_cmp todo n ≡ true → is_after key_cmp c n ≡ true
   later n there = by_test (is_after key_cmp c n) refl
@@ -102,7 +93,7 @@ module _ (doc : Doc) (k : ℕ) (q : Identity) (before : List Deed) (h now : List
       told = d.told;
       synced = d.synced;
     };
-    view = view_kept doc k q now (evict doc k q n now) v (evict_ticked doc k q n now) w.view;
+    view = view_ticked doc k q now (evict doc k q n now) v (evict_ticked doc k q n now) w.view;
     follows = sym (evict_next doc k q c n h now (later n there) named idle) ∙ w.follows;
     due = λ p after_n.
         let less = less_is (key_cmp n p) after_n in

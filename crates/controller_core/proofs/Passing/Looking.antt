@@ -31,7 +31,8 @@ use Rattle.term_state.specs.declared.told.Told.{Told}
 use Rattle.term_state.specs.declared.view.View.{View}
 use Rattle.term_state.specs.declared.writes.NodeWrite.TheVariants as write
 use Rattle.term_state.specs.Writes.{IsWrite}
-use Rattle.controller_core.specs.Passing.{HaveCost, IsPassing}
+use Rattle.controller_core.specs.Costs.{HaveCost}
+use Rattle.controller_core.specs.Passing.{IsPassing}
 use Rattle.controller_core.proofs.Passing.Listed.{listed_first, listed_later}
 use Rattle.controller_core.proofs.Passing.Marks.{mark_view, mark_write}
 use Rattle.tick_laws.specs.Walks.{Above, Ascends}

@@ -1,5 +1,5 @@
 -- A pass begins, and what it leaves.
-use Rattle.std.proofs.Common.{◌≡◌, ◌∙◌, ◌≤◌, ℕ, nat_lt, Bool, true, false, cond, List, [], ◌∷◌, map, length, Result, Ok, Err, OnOk, Some, None, IfSome, refl, sym, ap, subst, arith}
+use Rattle.std.proofs.Common.{◌≡◌, ◌∙◌, ◌≤◌, ℕ, nat_lt, Bool, true, false, cond, List, [], ◌∷◌, map, length, Some, None, IfSome, refl, sym, ap, subst, arith}
 use Rattle.std.specs.Prelude.{if◌then◌else◌}
 use Rattle.std.proofs.lemmas.Bool.Decides.{nat_tests}
 use Rattle.kube_objects.specs.declared.node.Node.{Node}
@@ -215,8 +215,3 @@ rest_cost doc k q g =
 
     grows : (t : Tick) (f : List Entry) → is_passing t ≡ true → tick_cost q k g ≤ tick_cost q k f → tick_cost q k g ≤ tick_cost q k (add k q t f)
     grows t f is le = omega (arith, le, cost_grows q k f t)
-
--- what holds anyway holds where there is an answer
-pub ok_always : {A E : Type 0} (r : Result A E) (P : Type 0) → P → OnOk r P
-ok_always (Ok a) P p = p
-ok_always (Err e) P p = tt

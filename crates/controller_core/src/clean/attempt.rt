@@ -1,5 +1,5 @@
 // Untainting or swapping one node.
-ghost use Rattle.std.specs.Prelude.{◌≡◌, ◌≤◌, ◌+◌, ℕ, true, List, OnOk, IfOk};
+ghost use Rattle.std.specs.Prelude.{◌≡◌, ℕ, true, List, OnOk, IfOk};
 ghost use Rattle.kube_objects.specs.Clocks.{wall};
 ghost use Rattle.kube_objects.specs.Document.{Doc};
 ghost use Rattle.kube_objects.specs.Entry.{Entry, Identity};
@@ -8,8 +8,8 @@ ghost use Rattle.kube_objects.specs.declared.deed.Deed.{Deed};
 ghost use Rattle.node_taints.specs.Wanting.{wants_of};
 ghost use Rattle.tick_laws.specs.Changes.{cleaned_node};
 ghost use Rattle.tick_laws.specs.Judged.{is_dirty};
-ghost use Rattle.tick_laws.specs.Steps.{tick_cost};
 ghost use Rattle.controller_core.specs.Cleaning.{write_for};
+ghost use Rattle.controller_core.specs.Costs.{HaveCost};
 ghost use Rattle.term_state.specs.MidTick.{IsView, MidTick};
 
 use kube_base::{NoMemory, Steps, Wall, whole_second};
@@ -27,12 +27,10 @@ pub(crate) fn clean_one<L>(
     steps: &mut Steps<L>,
     name: u32,
 ) -> Result<(), NoMemory>
-    ensures stands { (doc : Doc) (k : ℕ) (q : Identity) (before : List Deed) (h : List Entry)
+    ensures { (doc : Doc) (k : ℕ) (q : Identity) (before : List Deed) (h : List Entry)
         → MidTick q k before h cluster.old store.old told.old → IsView doc k q h view.entry.now → is_dirty q name h ≡ true
-        → OnOk result (MidTick q k before (tick.clean doc k q name h) cluster.new store.new told.new) }
-    ensures counted { (doc : Doc) (k : ℕ) (q : Identity) (before : List Deed) (h : List Entry)
-        → MidTick q k before h cluster.old store.old told.old → IsView doc k q h view.entry.now → is_dirty q name h ≡ true
-        → OnOk result (steps.new + tick_cost q k h ≤ steps.old + tick_cost q k (tick.clean doc k q name h)) }
+        → OnOk result (MidTick q k before (tick.clean doc k q name h) cluster.new store.new told.new
+        × HaveCost q k h (tick.clean doc k q name h) steps.old steps.new) }
 {
     let Some((given, node)) = cluster.node(name) else {
         return Ok(());

@@ -1,5 +1,5 @@
 // Deleting one pod that is due.
-ghost use Rattle.std.specs.Prelude.{◌≡◌, ◌≤◌, ◌+◌, not, ℕ, Bool, true, List, Some, None, OnOk};
+ghost use Rattle.std.specs.Prelude.{◌≡◌, ◌≤◌, ◌+◌, ℕ, Bool, true, List, Some, None, OnOk};
 ghost use Rattle.kube_objects.specs.Clocks.{wall};
 ghost use Rattle.kube_objects.specs.Document.{Doc};
 ghost use Rattle.kube_objects.specs.Entry.{Delete, Entry, Identity};

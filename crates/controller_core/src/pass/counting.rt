@@ -1,5 +1,5 @@
 // How many nodes of each zone are ready.
-ghost use Rattle.std.specs.Prelude.{◌≡◌, ◌<◌, ℕ, true, List, length, IfOk};
+ghost use Rattle.std.specs.Prelude.{◌≡◌, ◌<◌, true, List, length, IfOk};
 ghost use Rattle.kube_objects.specs.Entry.{Entry, Identity};
 ghost use Rattle.kube_objects.specs.Modes.{nodes};
 ghost use Rattle.kube_objects.specs.Newest.{has};

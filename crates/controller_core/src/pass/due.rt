@@ -1,5 +1,5 @@
 // When a tick has a pass.
-ghost use Rattle.std.specs.Prelude.{◌≡◌, ◌+◌, ℕ, List};
+ghost use Rattle.std.specs.Prelude.{◌≡◌, ℕ, List};
 ghost use Rattle.kube_objects.specs.Clocks.{local};
 ghost use Rattle.kube_objects.specs.Document.{Doc, of_millis};
 ghost use Rattle.kube_objects.specs.Entry.{Entry, Identity};

@@ -1,5 +1,5 @@
 // Looks at the nodes.
-ghost use Rattle.std.specs.Prelude.{◌≡◌, ◌∷◌, [], ℕ, Bool, true, false, List, Some, OnOk};
+ghost use Rattle.std.specs.Prelude.{◌≡◌, ℕ, Bool, true, false, List, Some, OnOk};
 ghost use Rattle.kube_objects.specs.Document.{Doc};
 ghost use Rattle.kube_objects.specs.Entry.{Entry, Identity, Pass};
 ghost use Rattle.kube_objects.specs.Health.{renewal};
@@ -12,7 +12,8 @@ ghost use Rattle.kube_objects.specs.declared.deed.Deed.{Deed};
 ghost use Rattle.node_health.specs.Stands.{HealthStands, IsGraceOf, and_looked};
 ghost use Rattle.term_state.specs.ClusterStands.{ClusterStands};
 ghost use Rattle.term_state.specs.MidTick.{IsView, MidTick};
-ghost use Rattle.controller_core.specs.Passing.{HaveCost, IsPassing};
+ghost use Rattle.controller_core.specs.Costs.{HaveCost};
+ghost use Rattle.controller_core.specs.Passing.{IsPassing};
 ghost use Rattle.node_health.specs.Kept as spec;
 ghost use Rattle.watch_cache.specs.Told.{AreNamed};
 
@@ -54,17 +55,12 @@ fn look<L>(
     told: &mut Told,
     steps: &mut Steps<L>,
 ) -> Result<(), NoMemory>
-    ensures stands { (doc : Doc) (k : ℕ) (q : Identity) (before : List Deed) (h now : List Entry) (looked : ℕ → Bool)
+    ensures { (doc : Doc) (k : ℕ) (q : Identity) (before : List Deed) (h now : List Entry) (looked : ℕ → Bool)
         → IsPassing doc k q before h now looked cluster.old health.old store.old told.old → IsView doc k q now view.entry.now
         → IsGraceOf doc grace.now
         → looked name ≡ false → has (seen_node q name h) ≡ true → seen_node q name now ≡ seen_node q name h
         → OnOk result (IsPassing doc k q before h (model.mark doc k q name now) (and_looked name looked)
-        cluster.new health.new store.new told.new) }
-    ensures counted { (doc : Doc) (k : ℕ) (q : Identity) (before : List Deed) (h now : List Entry) (looked : ℕ → Bool)
-        → IsPassing doc k q before h now looked cluster.old health.old store.old told.old → IsView doc k q now view.entry.now
-        → IsGraceOf doc grace.now
-        → looked name ≡ false → has (seen_node q name h) ≡ true → seen_node q name now ≡ seen_node q name h
-        → OnOk result (HaveCost q k now (model.mark doc k q name now) steps.old steps.new) }
+        cluster.new health.new store.new told.new × HaveCost q k now (model.mark doc k q name now) steps.old steps.new) }
 {
     let renewed = renew_time(cluster, name);
     let Some((given, node)) = cluster.node(name) else {
@@ -101,17 +97,13 @@ pub(crate) fn look_all<L>(
     told: &mut Told,
     steps: &mut Steps<L>,
 ) -> Result<(), NoMemory>
-    ensures stands { (doc : Doc) (k : ℕ) (q : Identity) (before : List Deed) (h : List Entry)
+    ensures { (doc : Doc) (k : ℕ) (q : Identity) (before : List Deed) (h : List Entry)
         → MidTick q k before (add k q Pass h) cluster.old store.old told.old → HealthStands doc q h health.old
         → IsView doc k q h view.entry.now
         → IsGraceOf doc grace.now → AreNamed (λ n. has (seen_node q n h)) names.now
         → OnOk result (IsPassing doc k q before h (model.marks doc k q (add k q Pass h)) (λ n. spec.is_listed names.now n)
-        cluster.new health.new store.new told.new) }
-    ensures counted { (doc : Doc) (k : ℕ) (q : Identity) (before : List Deed) (h : List Entry)
-        → MidTick q k before (add k q Pass h) cluster.old store.old told.old → HealthStands doc q h health.old
-        → IsView doc k q h view.entry.now
-        → IsGraceOf doc grace.now → AreNamed (λ n. has (seen_node q n h)) names.now
-        → OnOk result (HaveCost q k (add k q Pass h) (model.marks doc k q (add k q Pass h)) steps.old steps.new) }
+        cluster.new health.new store.new told.new
+        × HaveCost q k (add k q Pass h) (model.marks doc k q (add k q Pass h)) steps.old steps.new) }
 {
     let mut rest = names.as_slice();
     while let Some((name, others)) = rest.split_first() {

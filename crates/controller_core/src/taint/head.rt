@@ -1,5 +1,5 @@
 // The queued taint of one zone.
-ghost use Rattle.std.specs.Prelude.{◌≡◌, ◌≤◌, ◌+◌, ◌==◌, ℕ, true, List, Some, OnOk, IfOk, if◌then◌else◌};
+ghost use Rattle.std.specs.Prelude.{◌≡◌, ◌≤◌, ◌==◌, ℕ, true, List, Some, OnOk, IfOk, if◌then◌else◌};
 ghost use Rattle.kube_base.specs.Bounds.{most_local};
 ghost use Rattle.kube_objects.specs.Document.{Doc};
 ghost use Rattle.kube_objects.specs.Entry.{Entry, Identity};
@@ -14,9 +14,9 @@ ghost use Rattle.kube_objects.specs.declared.node.Node.{Node};
 ghost use Rattle.kube_base.specs.declared.numbers.Version.{Version};
 ghost use Rattle.taint_zones.specs.Places.{entry_place};
 ghost use Rattle.taint_zones.specs.Waiting.{since};
-ghost use Rattle.tick_laws.specs.Steps.{tick_cost};
 ghost use Rattle.term_state.specs.ClusterStands.{ClusterStands};
 ghost use Rattle.term_state.specs.MidTick.{IsView, MidTick};
+ghost use Rattle.controller_core.specs.Costs.{HaveCost};
 ghost use Rattle.controller_core.specs.Heading.{Heading};
 ghost use Rattle.controller_core.specs.Attempts.{headed, lacking_of, requeued};
 
@@ -38,12 +38,10 @@ pub(crate) fn taint_first<L>(
     place: Place,
 ) -> Result<(), NoMemory>
     requires { view.now.now.0 ≤ most_local }
-    ensures stands { (doc : Doc) (q : Identity) (k : ℕ) (before : List Deed) (h : List Entry)
+    ensures { (doc : Doc) (q : Identity) (k : ℕ) (before : List Deed) (h : List Entry)
         → Heading doc q k before h zones.old cluster.old store.old told.old → IsView doc k q h view.entry.now
-        → OnOk result (Heading doc q k before (tick.taint doc k q (entry_place place) h) zones.new cluster.new store.new told.new) }
-    ensures counted { (doc : Doc) (q : Identity) (k : ℕ) (before : List Deed) (h : List Entry)
-        → Heading doc q k before h zones.old cluster.old store.old told.old → IsView doc k q h view.entry.now
-        → OnOk result (steps.new + tick_cost q k h ≤ steps.old + tick_cost q k (tick.taint doc k q (entry_place place) h)) }
+        → OnOk result (Heading doc q k before (tick.taint doc k q (entry_place place) h) zones.new cluster.new store.new told.new
+        × HaveCost q k h (tick.taint doc k q (entry_place place) h) steps.old steps.new) }
 {
     let Some(name) = zones.queues.head(place) else {
         return Ok(());
@@ -107,17 +105,13 @@ fn attempt<L>(
     name: u32,
     lacking: Lacking,
 ) -> Result<(), NoMemory>
-    ensures stands { (doc : Doc) (k : ℕ) (q : Identity) (before : List Deed) (h : List Entry)
+    ensures { (doc : Doc) (k : ℕ) (q : Identity) (before : List Deed) (h : List Entry)
         → MidTick q k before h cluster.old store.old told.old → IsView doc k q h view.entry.now
-        → OnOk result (MidTick q k before (headed k q (entry_place place) name lacking h) cluster.new store.new told.new) }
-    ensures queues { (doc : Doc) (k : ℕ) (q : Identity) (before : List Deed) (h : List Entry)
-        → MidTick q k before h cluster.old store.old told.old → IsView doc k q h view.entry.now
-        → OnOk result ((zone : Place) (other : ℕ) → since queues.new zone other
+        → OnOk result (MidTick q k before (headed k q (entry_place place) name lacking h) cluster.new store.new told.new
+        × HaveCost q k h (headed k q (entry_place place) name lacking h) steps.old steps.new
+        × ((zone : Place) (other : ℕ) → since queues.new zone other
         ≡ (if name == other then requeued (tries.try_node q name lacking.given h) place zone k (since queues.old zone name)
-        else since queues.old zone other)) }
-    ensures counted { (doc : Doc) (k : ℕ) (q : Identity) (before : List Deed) (h : List Entry)
-        → MidTick q k before h cluster.old store.old told.old → IsView doc k q h view.entry.now
-        → OnOk result (steps.new + tick_cost q k h ≤ steps.old + tick_cost q k (headed k q (entry_place place) name lacking h)) }
+        else since queues.old zone other))) }
 {
     let answer = try_write(
         cluster,

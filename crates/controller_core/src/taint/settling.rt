@@ -1,14 +1,11 @@
 // Who waits for a taint.
 ghost use Rattle.std.specs.Prelude.{◌≡◌, ℕ, true, List, Some, None, OnOk};
 ghost use Rattle.kube_objects.specs.Entry.{Entry, Identity};
-ghost use Rattle.kube_objects.specs.Entry as entry_words;
 ghost use Rattle.kube_objects.specs.Seen.{is_synced};
 ghost use Rattle.kube_objects.specs.Tainting.{before_tick, waits};
-ghost use Rattle.taint_zones.specs.Places.{of_place};
-ghost use Rattle.taint_zones.specs.Waiting.{since};
 ghost use Rattle.term_state.specs.ClusterStands.{ClusterStands};
 ghost use Rattle.term_state.specs.MidTick.{IsMoved};
-ghost use Rattle.tick_laws.specs.Rows.{no_heads, settled};
+ghost use Rattle.tick_laws.specs.Rows.{no_heads};
 ghost use Rattle.controller_core.specs.QueuesStand.{QueuesStand};
 ghost use Rattle.controller_core.specs.Settling.{IsWaitingIn};
 

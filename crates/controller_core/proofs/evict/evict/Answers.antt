@@ -53,16 +53,10 @@ empty_len : (xs : List Key) → (0 < length xs → ⊥) → length xs ≡ 0
 empty_len [] h = refl
 empty_len (x ∷ xs) h = absurd (h (omega arith))
 
-pub returns-clause-stands : goal.returns-clause-stands
-returns-clause-stands g c doc k q before h r v =
-    let i = c.loop-pod.invariant doc k q before h r v in
-    let none = λ (p : Key). empty_any (is_at (key_cmp p)) c.loop-pod.todo.keys (λ more. false_is (c.in_default.ensures.variant.1 more)) in
-    end_evicting doc k q before h i.0 i.1 c.loop-pod.todo c.loop-pod.cluster c.loop-pod.store c.args.view.now c.loop-pod.told i.2 none
-
-pub returns-clause-counted : goal.returns-clause-counted
-returns-clause-counted g c doc k q before h r v =
+pub returns : goal.returns
+returns g c doc k q before h r v =
     let i = c.loop-pod.invariant doc k q before h r v in
     let none = λ (p : Key). empty_any (is_at (key_cmp p)) c.loop-pod.todo.keys (λ more. false_is (c.in_default.ensures.variant.1 more)) in
     let same = end_history doc k q before h i.0 i.1 c.loop-pod.todo c.loop-pod.cluster c.loop-pod.store c.args.view.now c.loop-pod.told i.2 none in
     let zero : btree_set_len c.loop-pod.todo ≡ 0 = empty_len c.loop-pod.todo.keys (λ more. false_is (c.in_default.ensures.variant.1 more)) in
-    omega (arith, i.3, zero, ap (tick_cost q k) same)
+    (end_evicting doc k q before h i.0 i.1 c.loop-pod.todo c.loop-pod.cluster c.loop-pod.store c.args.view.now c.loop-pod.told i.2 none, omega (arith, i.3, zero, ap (tick_cost q k) same))

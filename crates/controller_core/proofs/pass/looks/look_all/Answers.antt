@@ -25,20 +25,13 @@ loop-name-preserved g c =
           let l = c.loop-name.invariant.looking doc k q before h r health view graces are in
           let new : looked_of names c.loop-name.rest.now n ≡ false = ap (λ xs. looked_of names xs n) split ∙ first_new names n others in
           let listed : is_listed c.loop-name.rest.now n ≡ true = ap (λ xs. is_listed xs n) split ∙ listed_first n others in
+          let one = c.in_ok-look.ensures doc k q before h l.now (looked_of names c.loop-name.rest.now) l.passing l.view graces new (l.seen n listed) (l.untouched n listed) in
           next_looking doc k q before h names c.loop-name.rest.now others n c.args.view.now c.loop-name.cluster c.look.new.cluster c.loop-name.health c.look.new.health c.loop-name.store c.look.new.store
-          c.loop-name.told c.look.new.told c.args.steps.now c.loop-name.steps c.look.new.steps split l
-          (c.in_ok-look.ensures.stands doc k q before h l.now (looked_of names c.loop-name.rest.now) l.passing l.view graces new (l.seen n listed) (l.untouched n listed))
-          (c.in_ok-look.ensures.counted doc k q before h l.now (looked_of names c.loop-name.rest.now) l.passing l.view graces new (l.seen n listed) (l.untouched n listed));
+          c.loop-name.told c.look.new.told c.args.steps.now c.loop-name.steps c.look.new.steps split l one.0 one.1;
     }
 
-pub returns-clause-stands : goal.returns-clause-stands
-returns-clause-stands g c doc k q before h r health view graces are =
+pub returns : goal.returns
+returns g c doc k q before h r health view graces are =
     let empty : c.loop-name.rest.now ≡ [] = grind (arith, common_steps) in
-    (end_looking doc k q before h c.args.names.now c.loop-name.rest.now c.args.view.now c.loop-name.cluster c.loop-name.health c.loop-name.store c.loop-name.told c.args.steps.now c.loop-name.steps empty
-    (c.loop-name.invariant.looking doc k q before h r health view graces are)).0
-
-pub returns-clause-counted : goal.returns-clause-counted
-returns-clause-counted g c doc k q before h r health view graces are =
-    let empty : c.loop-name.rest.now ≡ [] = grind (arith, common_steps) in
-    (end_looking doc k q before h c.args.names.now c.loop-name.rest.now c.args.view.now c.loop-name.cluster c.loop-name.health c.loop-name.store c.loop-name.told c.args.steps.now c.loop-name.steps empty
-    (c.loop-name.invariant.looking doc k q before h r health view graces are)).1
+    end_looking doc k q before h c.args.names.now c.loop-name.rest.now c.args.view.now c.loop-name.cluster c.loop-name.health c.loop-name.store c.loop-name.told c.args.steps.now c.loop-name.steps empty
+    (c.loop-name.invariant.looking doc k q before h r health view graces are)

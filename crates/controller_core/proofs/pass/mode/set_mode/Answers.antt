@@ -1,7 +1,7 @@
 use Rattle.std.proofs.Common.{◌≡◌, ◌∙◌, refl, sym, subst, rules}
 use Rattle.kube_objects.specs.Entry.{Mode}
 use Rattle.kube_objects.specs.Modes.{all_full, mode, nodes}
-use Rattle.kube_objects.specs.Tick.{add, set_mode}
+use Rattle.kube_objects.specs.Tick.{add}
 use Rattle.node_health.specs.Stands.{HealthStands}
 use Rattle.term_state.specs.ClusterStands.{no_node, no_pod}
 use Rattle.term_state.specs.MidTick.{MidTick}

@@ -1,4 +1,4 @@
-use Rattle.std.proofs.Common.{Some, subst, sym, rules}
+use Rattle.std.proofs.Common.{Some, subst, sym}
 use Rattle.kube_objects.specs.Tick.{zone_as}
 use Rattle.taint_zones.specs.Limits.{LimitStands}
 use Rattle.controller_core.proofs.Passing.ZoneLimits.{went_on}
