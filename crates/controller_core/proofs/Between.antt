@@ -24,7 +24,7 @@ use Rattle.tick_laws.proofs.Syncing.{sync_synced}
 
 -- ---- the health of nodes
 
-says_more : (q : Identity) (k : ℕ) (h g : List Entry) (t : Tick) → is_of_health (Ticks t) ≡ false → SaysSame q h g → SaysSame q h (add k q t g)
+pub says_more : (q : Identity) (k : ℕ) (h g : List Entry) (t : Tick) → is_of_health (Ticks t) ≡ false → SaysSame q h g → SaysSame q h (add k q t g)
 says_more q k h g t other s = says-then q h g (add k q t g) s (unheard-kind q g (entry k 4 q (Ticks t)) other)
 
 cleaning_unheard : (t : Tick) → is_cleaning t ≡ true → is_of_health (Ticks t) ≡ false

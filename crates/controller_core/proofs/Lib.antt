@@ -1,3 +1,4 @@
+pub mod Cursors
 pub mod Syncing
 pub mod Passing
 pub mod Cleaning

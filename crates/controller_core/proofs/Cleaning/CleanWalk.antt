@@ -21,24 +21,13 @@ use Rattle.term_state.specs.declared.view.View.{View}
 use Rattle.term_state.specs.Queues.{ComesAfter, IsNextAfter}
 use Rattle.term_state.specs.MidTick.{IsView, MidTick}
 use Rattle.term_state.proofs.Viewing.{view_ticked}
-
-after_is : (c : Option ℕ) (n : ℕ) → ComesAfter c n → is_after nat_cmp c n ≡ true
-after_is None n later = refl
-after_is (Some c) n later = grind (arith, nat_tests)
-
-is_later : (c : Option ℕ) (n : ℕ) → is_after nat_cmp c n ≡ true → ComesAfter c n
-is_later None n later = tt
-is_later (Some c) n later = grind (arith, nat_tests)
+use Rattle.controller_core.proofs.Cursors.{after_is, comes_later, is_later}
 
 less_is : (m n : ℕ) → nat_cmp m n ≡ Less → m < n
 less_is m n is = grind (arith, nat_tests)
 
 apart_is : (n m : ℕ) → n < m → (n == m) ≡ false
 apart_is n m less = grind (arith, nat_tests)
-
-comes_later : (c : Option ℕ) (n m : ℕ) → ComesAfter c n → n < m → ComesAfter c m
-comes_later None n m later less = tt
-comes_later (Some c) n m later less = omega (arith, later, less)
 
 -- h is the history at the start, now the one that is reached, and c the name that the walk is at
 pub record Walking (doc : Doc) (k : ℕ) (q : Identity) (before : List Deed) (h now : List Entry) (c : Option ℕ) (t : Cluster) (s : Store) (v : View) (told : Told) : Type 0 where

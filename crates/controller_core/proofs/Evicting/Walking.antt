@@ -30,14 +30,10 @@ use Rattle.term_state.specs.ClusterStands.{but_pod, no_node, no_pod}
 use Rattle.term_state.specs.MidTick.{IsView, MidTick}
 use Rattle.term_state.proofs.Viewing.{view_ticked}
 use Rattle.term_state.proofs.Widen.{widen}
+use Rattle.controller_core.proofs.Cursors.{less_is}
 use Rattle.controller_core.specs.Deleting.{Deleting}
 
 -- ---- the order of keys
-
-less_is : (o : Ordering) → is_lt o ≡ true → o ≡ Less
-less_is Less is = refl
-less_is Equal is = absurd (cc)
-less_is Greater is = absurd (cc)
 
 not_less : (o : Ordering) → is_lt o ≡ false → (o ≡ Equal → ⊥) → o ≡ Greater
 not_less Less is differ = absurd (false_is (sym is))

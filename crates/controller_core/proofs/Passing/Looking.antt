@@ -31,6 +31,7 @@ use Rattle.term_state.specs.declared.told.Told.{Told}
 use Rattle.term_state.specs.declared.view.View.{View}
 use Rattle.term_state.specs.declared.writes.NodeWrite.TheVariants as write
 use Rattle.term_state.specs.Writes.{IsWrite}
+use Rattle.term_state.proofs.Widen.{and_not}
 use Rattle.controller_core.specs.Costs.{HaveCost}
 use Rattle.controller_core.specs.Passing.{IsPassing}
 use Rattle.controller_core.proofs.Passing.Listed.{listed_first, listed_later}
@@ -120,10 +121,6 @@ pub record Looking (doc : Doc) (k : ℕ) (q : Identity) (before : List Deed) (h 
 
 -- ---- its beginning
 
-not_yet : (b : Bool) → (b && not b) ≡ false
-not_yet true = refl
-not_yet false = refl
-
 passed_seen : (q : Identity) (k : ℕ) (h : List Entry) (n : ℕ) → seen_node q n (add k q Pass h) ≡ seen_node q n h
 passed_seen q k h n = kept_node q h (add k q Pass h) None (pass_change q k h) n
 
@@ -148,7 +145,7 @@ begin_looking doc k q before h names v c x s t old running health view are =
       now = add k q Pass h;
       passing = record {
         running = running;
-        health = pass-same doc k q h (λ n. false) (looked_of names names) x (λ n. sym (not_yet (is_listed names n))) health;
+        health = pass-same doc k q h (λ n. false) (looked_of names names) x (λ n. sym (and_not (is_listed names n))) health;
         leases = passed_renewal q k h;
         probes = λ name. refl;
       };

@@ -15,9 +15,9 @@ use Rattle.kube_objects.specs.Seen.{is_synced, node_names, seen_node}
 use Rattle.kube_objects.specs.Tick.{add, is_same_mode, mark, marks, pass, set_mode, set_zones, zone, whole_pass}
 use Rattle.kube_objects.specs.Tries.{try_node}
 use Rattle.kube_objects.specs.Tokens.{base, is_rated, is_zone, rated}
-use Rattle.node_health.proofs.Frames.{SaysSame, health-same, says-same, says-then, unheard-kind}
+use Rattle.node_health.proofs.Frames.{SaysSame, health-same, says-same, unheard-kind}
 use Rattle.node_health.specs.Kept.{is_listed}
-use Rattle.node_health.specs.Stands.{HealthStands, is_of_health}
+use Rattle.node_health.specs.Stands.{HealthStands}
 use Rattle.node_health.specs.declared.health.Health.{Health}
 use Rattle.object_store.proofs.Keeps.{store-beside}
 use Rattle.object_store.specs.Stands.{StoreStands}
@@ -25,6 +25,7 @@ use Rattle.object_store.specs.declared.store.Store.{Store}
 use Rattle.taint_zones.specs.Limits.{LimitsStand, limit_at}
 use Rattle.taint_zones.specs.declared.zones.Zones.{Zones}
 use Rattle.controller_core.specs.Zoned.{ArePassed}
+use Rattle.controller_core.proofs.Between.{says_more}
 use Rattle.controller_core.proofs.Passing.Looking.{named_passed}
 use Rattle.controller_core.proofs.Passing.Marks.{mark_either, mark_view}
 use Rattle.term_state.proofs.Aside.{same_aside, refused_moved}
@@ -121,9 +122,6 @@ module _ (doc : Doc) (k : ℕ) (q : Identity) (h : List Entry) where
       }
 
 -- ---- health through the marks and the zones' entries
-
-says_more : (q : Identity) (k : ℕ) (h g : List Entry) (t : Tick) → is_of_health (Ticks t) ≡ false → SaysSame q h g → SaysSame q h (add k q t g)
-says_more q k h g t other s = says-then q h g (add k q t g) s (unheard-kind q g (entry k 4 q (Ticks t)) other)
 
 pub marks_say : (doc : Doc) (k : ℕ) (q : Identity) (h : List Entry) → SaysSame q h (marks doc k q h)
 marks_say doc k q h =

@@ -1,7 +1,6 @@
 -- The limits of zones through a pass.
-use Rattle.std.proofs.Common.{◌≡◌, ◌∙◌, ℕ, ◌==◌, ◌&&◌, not, Bool, true, false, cond, List, Option, Some, None, IfSome, refl, sym, ap, subst, arith}
+use Rattle.std.proofs.Common.{◌≡◌, ◌∙◌, ℕ, ◌==◌, ◌&&◌, not, Bool, true, false, cond, List, Option, Some, None, IfSome, refl, sym, ap, subst}
 use Rattle.std.specs.Prelude.{if◌then◌else◌}
-use Rattle.std.proofs.lemmas.Bool.Decides.{nat_tests}
 use Rattle.kube_objects.specs.declared.node.ZoneState.{ZoneState}
 use Rattle.kube_objects.specs.declared.node.ZoneState.TheVariants.{Normal, Partial, Full}
 use Rattle.kube_objects.specs.Clocks.{local}
@@ -10,9 +9,11 @@ use Rattle.kube_objects.specs.Entry.{Entry, Identity, Place as Zone, Zone as Zon
 use Rattle.kube_objects.specs.Modes.{place_eq}
 use Rattle.kube_objects.specs.Tick.{add, zone_as}
 use Rattle.kube_objects.specs.Tokens.{rated, base, has_rate, is_rated, is_same_state}
+use Rattle.history_laws.proofs.Plainly.{and_left, and_right}
 use Rattle.rate_bucket.specs.Filling.{Filling, empty_at, swapped}
 use Rattle.taint_zones.specs.declared.limit.Limit.{Limit}
 use Rattle.taint_zones.specs.Limits.{LimitStands}
+use Rattle.watch_cache.proofs.Same.{same_number}
 use Rattle.tick_laws.proofs.Orders.{place_itself}
 use Rattle.tick_laws.proofs.Zoning.{rated_zoned, base_zoned}
 
@@ -28,17 +29,6 @@ same_state Partial Normal is = absurd (cc)
 same_state Partial Full is = absurd (cc)
 same_state Full Normal is = absurd (cc)
 same_state Full Partial is = absurd (cc)
-
-first_of : (a b : Bool) → (a && b) ≡ true → a ≡ true
-first_of true b is = refl
-first_of false b is = is
-
-second_of : (a b : Bool) → (a && b) ≡ true → b ≡ true
-second_of true b is = is
-second_of false b is = absurd (cc)
-
-same_number : (a b : ℕ) → (a == b) ≡ true → a ≡ b
-same_number a b is = grind (arith, nat_tests)
 
 module _ (doc : Doc) (k : ℕ) (q : Identity) (h : List Entry) (place : Zone) (state : ZoneState) (rate now : ℕ) (reading : now ≡ local doc q.process k) where
   abbrev zoned : List Entry
@@ -86,12 +76,12 @@ module _ (doc : Doc) (k : ℕ) (q : Identity) (h : List Entry) (place : Zone) (s
 
     by_test : (b : Bool) → is_rated state rate (Some (old.state, old.rate)) ≡ b → LimitStands doc q (if b then h else add k q (ZoneEntry place state rate) h) place (Some limit)
     by_test true is =
-        let state_is : old.state ≡ state = same_state old.state state (first_of _ _ is) in
-        let rate_is : old.rate ≡ rate = same_number old.rate rate (second_of (is_same_state old.state state) (old.rate == rate) is) in
+        let state_is : old.state ≡ state = same_state old.state state (and_left _ _ is) in
+        let rate_is : old.rate ≡ rate = same_number old.rate rate (and_right (is_same_state old.state state) (old.rate == rate) is) in
         record {
           rated = ap (λ x. Some (x, rate)) (sym state_is) ∙ ap (λ n. Some (old.state, n)) (sym rate_is) ∙ s.rated;
           rate = rate_of_bucket (old.bucket.rate == rate) refl;
-          base = base_as_before (old.bucket.rate == rate) refl (ap (λ n. n == rate) s.rate ∙ second_of (is_same_state old.state state) (old.rate == rate) is);
+          base = base_as_before (old.bucket.rate == rate) refl (ap (λ n. n == rate) s.rate ∙ and_right (is_same_state old.state state) (old.rate == rate) is);
         }
     by_test false is =
         record {

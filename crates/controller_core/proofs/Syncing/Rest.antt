@@ -183,9 +183,3 @@ end_left q g keys names c empty s = widen q g (λ n. is_among [] (node_key n)) n
     by_pod p true (Some x) = refl
     by_pod p false None = refl
     by_pod p false (Some x) = refl
-
--- the moved nodes
-pub moved_keys : (here later before : Bool) → (later || (here || before)) ≡ ((here || later) || before)
-moved_keys true true before = refl
-moved_keys true false before = refl
-moved_keys false later before = refl

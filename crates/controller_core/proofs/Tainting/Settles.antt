@@ -22,10 +22,11 @@ use Rattle.tick_laws.specs.Walks.{is_after}
 use Rattle.tick_laws.proofs.Waiting.{settle}
 use Rattle.term_state.specs.ClusterStands.{has_moved}
 use Rattle.term_state.specs.declared.cluster.Cluster.{Cluster}
-use Rattle.term_state.specs.Queues.{ComesAfter, IsNextAfter}
+use Rattle.term_state.specs.Queues.{IsNextAfter}
 use Rattle.term_state.specs.MidTick.{IsMoved}
 use Rattle.controller_core.specs.QueuesStand.{QueuesStand}
 use Rattle.controller_core.specs.Settling.{IsWaitingIn, is_zone}
+use Rattle.controller_core.proofs.Cursors.{after_is, comes_later, is_later}
 
 -- ---- where a node waits
 
@@ -81,23 +82,11 @@ settled_here (Some wanted) (Some place) zone k old is = ap (λ b. cond b (Some (
 not_after_itself : (n : ℕ) → is_after nat_cmp (Some n) n ≡ false
 not_after_itself n = grind (arith, nat_tests)
 
-after_is : (c : Option ℕ) (n : ℕ) → ComesAfter c n → is_after nat_cmp c n ≡ true
-after_is None n later = refl
-after_is (Some c) n later = grind (arith, nat_tests)
-
-is_later : (c : Option ℕ) (n : ℕ) → is_after nat_cmp c n ≡ true → ComesAfter c n
-is_later None n later = tt
-is_later (Some c) n later = grind (arith, nat_tests)
-
 past_is : (c n : ℕ) → is_after nat_cmp (Some c) n ≡ true → c < n
 past_is c n is = grind (arith, nat_tests)
 
 before_it : (c n : ℕ) → (c == n) ≡ false → is_after nat_cmp (Some c) n ≡ false → n < c
 before_it c n apart is = grind (arith, nat_tests)
-
-comes_later : (c : Option ℕ) (n m : ℕ) → ComesAfter c n → n < m → ComesAfter c m
-comes_later None n m later less = tt
-comes_later (Some c) n m later less = omega (arith, later, less)
 
 module _ (q : Identity) (k : ℕ) (h : List Entry) (cluster : Cluster) (none : no_heads q k h ≡ true) (moved : IsMoved q k h cluster) where
   pub begin_settling : (queues : Queues) → QueuesStand q (before_tick q k h) queues → AreSettled q k h None queues

@@ -29,6 +29,7 @@ use Rattle.term_state.specs.declared.told.Told.{Told}
 use Rattle.term_state.specs.declared.view.View.{View}
 use Rattle.term_state.specs.MidTick.{IsView}
 use Rattle.term_state.proofs.Viewing.{view_ticked}
+use Rattle.controller_core.proofs.Cursors.{less_is}
 use Rattle.controller_core.specs.Heading.{Heading}
 use Rattle.controller_core.specs.QueuesStand.{QueuesStand}
 
@@ -46,11 +47,6 @@ greater_less : (o : Ordering) → o ≡ Greater → o ≡ Less → ⊥
 greater_less Less is isnt = cc
 greater_less Equal is isnt = cc
 greater_less Greater is isnt = cc
-
-less_is : (o : Ordering) → is_lt o ≡ true → o ≡ Less
-less_is Less is = refl
-less_is Equal is = absurd (false_is is)
-less_is Greater is = absurd (false_is is)
 
 below : (a b : ℕ) → nat_cmp a b ≡ Less → a < b
 below a b is = grind (arith, nat_tests)

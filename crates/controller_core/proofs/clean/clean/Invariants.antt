@@ -1,4 +1,4 @@
-use Rattle.std.proofs.Common.{ℕ, ◌-◌, List, Option, Some, None}
+use Rattle.std.proofs.Common.{ℕ, List, Option}
 use Rattle.kube_objects.specs.declared.deed.Deed.{Deed}
 use Rattle.kube_objects.specs.Document.{Doc}
 use Rattle.kube_objects.specs.Entry.{Entry, Identity}
@@ -6,6 +6,7 @@ use Rattle.tick_laws.specs.Judged.{is_dirty}
 use Rattle.term_state.specs.Queues.{IsNextAfter}
 use Rattle.term_state.specs.MidTick.{IsView, MidTick}
 use Rattle.controller_core.specs.Costs.{HaveCost}
+use Rattle.controller_core.proofs.Cursors.{names_left}
 use Rattle.controller_core.proofs.Cleaning.CleanWalk.{Walking}
 use Rattle.controller_core.proofs.clean.clean.Given as goal
 
@@ -14,10 +15,6 @@ invariant-loop-next g l =
     (doc : Doc) (k : ℕ) (q : Identity) (before : List Deed) (h : List Entry) → MidTick q k before h l.fn.cluster l.fn.store l.fn.told → IsView doc k q h l.view
     → (now : List Entry) × (c : Option ℕ) × Walking doc k q before h now c l.cluster l.store l.view l.told × IsNextAfter (λ n. is_dirty q n now) c l.next
     × HaveCost q k h now l.fn.steps l.steps
-
-abbrev pub names_left : Option ℕ → ℕ
-names_left None = 0
-names_left (Some n) = 4294967296 - n
 
 abbrev pub decreases-loop-next : goal.decreases-loop-next
 decreases-loop-next g l = names_left l.next

@@ -8,8 +8,9 @@ use Rattle.object_store.specs.Stands.{changed_in}
 use Rattle.tick_laws.specs.Steps.{write_costs}
 use Rattle.term_state.specs.ClusterStands.{has_moved}
 use Rattle.term_state.specs.Taking.{is_open}
+use Rattle.term_state.proofs.Judging.{moved_nodes}
 use Rattle.controller_core.specs.Left.{LeftBut}
-use Rattle.controller_core.proofs.Syncing.Rest.{moved_keys, next_drop}
+use Rattle.controller_core.proofs.Syncing.Rest.{next_drop}
 use Rattle.controller_core.proofs.sync.judge.judge_changes.Goals as goal
 
 pub loop-place-preserved : goal.loop-place-preserved
@@ -24,7 +25,7 @@ loop-place-preserved g c =
       stands = λ q g' s synced. c.in_ok-judge.ensures.stands q g' rest (subst (λ xs. LeftBut q g' xs c.args.to_judge.now c.loop-place.cluster) split (c.loop-place.invariant.stands q g' s synced)) synced;
       moved = λ n.
           ap (λ b. is_among rest (node_key n) || b) (c.in_ok-judge.ensures.moved n)
-          ∙ moved_keys (key_eq key (node_key n)) (is_among rest (node_key n)) (has_moved c.loop-place.cluster n)
+          ∙ moved_nodes (key_eq key (node_key n)) (is_among rest (node_key n)) (has_moved c.loop-place.cluster n)
           ∙ ap (λ xs. is_among xs (node_key n) || has_moved c.loop-place.cluster n) (sym split)
           ∙ c.loop-place.invariant.moved n;
       counted = λ q g' s synced.
