@@ -15,7 +15,7 @@ use Rattle.node_health.specs.Stands.{is_of_health}
 use Rattle.node_health.proofs.Frames.{SaysSame, says-same, says-then, unheard-kind}
 use Rattle.taint_zones.specs.declared.zones.Zones.{Zones}
 use Rattle.taint_zones.specs.Limits.{LimitsStand, limit_at}
-use Rattle.term_pass.specs.Passing.{LastStands}
+use Rattle.controller_core.specs.Passing.{LastStands}
 use Rattle.term_state.specs.declared.told.Told.{Told}
 use Rattle.term_state.specs.MidTick.{IsTold}
 use Rattle.term_state.proofs.Telling.{told_beside}
@@ -24,7 +24,7 @@ use Rattle.tick_laws.proofs.Syncing.{sync_synced}
 
 -- ---- the health of nodes
 
-says_more : (q : Identity) (k : ℕ) (h g : List Entry) (t : Tick) → is_of_health (Ticks t) ≡ false → SaysSame q h g → SaysSame q h (add k q t g)
+pub says_more : (q : Identity) (k : ℕ) (h g : List Entry) (t : Tick) → is_of_health (Ticks t) ≡ false → SaysSame q h g → SaysSame q h (add k q t g)
 says_more q k h g t other s = says-then q h g (add k q t g) s (unheard-kind q g (entry k 4 q (Ticks t)) other)
 
 cleaning_unheard : (t : Tick) → is_cleaning t ≡ true → is_of_health (Ticks t) ≡ false

@@ -1,3 +1,9 @@
+pub mod Cursors
+pub mod Syncing
+pub mod Passing
+pub mod Cleaning
+pub mod Tainting
+pub mod Evicting
 pub mod Between
 pub mod Others
 pub mod Readying

@@ -1,5 +1,5 @@
 -- When a zone's queued taint is made.
-use Rattle.std.proofs.Common.{◌≡◌, ◌∙◌, ℕ, ◌*◌, ◌-◌, ◌≤◌, ◌^◌, nat_le, Bool, true, false, List, Option, Some, None, IfSome, IfNone, IsNone, ◌↔◌, ◌⊎◌, inl, inr, zero, suc, refl, sym, ap, subst, arith, Less, Equal, Greater}
+use Rattle.std.proofs.Common.{◌≡◌, ◌∙◌, ℕ, ◌*◌, ◌-◌, ◌≤◌, nat_le, Bool, true, false, List, Option, Some, None, IfSome, IfNone, IsNone, ◌↔◌, ◌⊎◌, inl, inr, zero, suc, refl, sym, ap, subst, arith, Less, Equal, Greater}
 use Rattle.std.proofs.lemmas.Bool.Decides.{nat_tests}
 use Rattle.std.specs.Ordering.{is_lt, ordering_reverse}
 use Rattle.std.specs.declared.cmp.Ordering.{Ordering}
@@ -20,13 +20,16 @@ use Rattle.taint_zones.specs.declared.queues.Queues.{Queues}
 use Rattle.taint_zones.specs.Limits.{LimitStands}
 use Rattle.taint_zones.specs.Places.{entry_place, of_place, zone_cmp}
 use Rattle.taint_zones.specs.Waiting.{IsAfter, IsEmpty, IsNextZone}
-use Rattle.term_taint.specs.QueuesStand.{QueuesStand}
-use Rattle.term_taint.proofs.ZoneWalk.{number}
+use Rattle.controller_core.specs.QueuesStand.{QueuesStand}
 use Rattle.tick_laws.specs.Judged.{key_if}
 use Rattle.tick_laws.proofs.Orders.{places_strict}
 use Rattle.controller_core.specs.Wakes.{IsHeadDue, IsTokenReading, is_token_at}
 
-le_true : (a b : ℕ) → a ≤ b → nat_le a b ≡ true
+pub either : {A B C : Type 0} → A ⊎ B → (A → C) → (B → C) → C
+either (inl a) f g = f a
+either (inr b) f g = g b
+
+pub le_true : (a b : ℕ) → a ≤ b → nat_le a b ≡ true
 le_true a b le = grind (arith, nat_tests)
 
 true_le : (a b : ℕ) → nat_le a b ≡ true → a ≤ b
@@ -150,11 +153,6 @@ past_is : (c : Option Place) (zone : Place) → is_past c zone ≡ true → IsAf
 past_is None zone is = tt
 past_is (Some place) zone is = is
 
-less_is : (o : Ordering) → is_lt o ≡ true → o ≡ Less
-less_is Less is = refl
-less_is Equal is = absurd (false_is is)
-less_is Greater is = absurd (false_is is)
-
 -- of the zones up to this one none has a queued taint before the least reading
 abbrev pub AreCovered : Doc → Identity → List Entry → Option Place → ℕ → Type 0
 AreCovered doc q h c least = (place : entry.Place) (at : ℕ) → is_past c (of_place place) ≡ false → IsTokenReading doc q h place at → least ≤ at
@@ -183,11 +181,6 @@ module _ (doc : Doc) (q : Identity) (h : List Entry) (queues : Queues) (s : Queu
       by_past : (b : Bool) → is_past c (of_place place) ≡ b → least ≤ at
       by_past true past = absurd (nobody q h queues place r.name s (none (of_place place) (past_is c (of_place place) past)) r.waiting)
       by_past false past = covered place at past r
-
--- how many zones there are from this one on
-abbrev pub zones_left : Option Place → ℕ
-zones_left None = 0
-zones_left (Some place) = 2 ^ 64 - number place
 
 -- ---- the reading of a zone
 

@@ -1,5 +1,5 @@
 -- When a pass is due.
-use Rattle.std.proofs.Common.{◌≡◌, ◌∙◌, ℕ, ◌+◌, ◌*◌, ◌<◌, ◌≤◌, nat_le, true, false, List, Option, Some, None, option_map, refl, sym, ap, subst, arith}
+use Rattle.std.proofs.Common.{◌≡◌, ◌∙◌, ℕ, ◌+◌, ◌*◌, ◌<◌, ◌≤◌, nat_le, false, List, Option, Some, None, option_map, refl, sym, ap, subst, arith}
 use Rattle.std.proofs.lemmas.Bool.Decides.{nat_tests}
 use Rattle.kube_base.specs.Bounds.{most_local}
 use Rattle.kube_base.specs.declared.numbers.Local.{Local}
@@ -7,7 +7,7 @@ use Rattle.kube_objects.specs.Clocks.{local}
 use Rattle.kube_objects.specs.Document.{Doc, of_millis}
 use Rattle.kube_objects.specs.Entry.{Entry, Identity}
 use Rattle.kube_objects.specs.Health.{is_after_pass, is_pass_due, last_pass}
-use Rattle.term_pass.specs.Passing.{LastStands}
+use Rattle.controller_core.specs.Passing.{LastStands}
 use Rattle.controller_core.specs.Wakes.{pass_reading}
 
 pub some_number : (a b : ℕ) → ◌≡◌ {A = Option ℕ} (Some a) (Some b) → a ≡ b
@@ -58,9 +58,6 @@ none_last doc q h s = by_pass (last_pass q h) s
 
 pub not_yet : (a b : ℕ) → b < a → nat_le a b ≡ false
 not_yet a b less = grind (arith, nat_tests)
-
-pub by_then : (a b : ℕ) → a ≤ b → nat_le a b ≡ true
-by_then a b le = grind (arith, nat_tests)
 
 pub period_is : (millis period other : ℕ) → other ≡ millis → period ≡ millis * 1000000000 → period ≡ of_millis other
 unfolding of_millis

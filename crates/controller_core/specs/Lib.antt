@@ -1,2 +1,12 @@
+pub mod Attempts
+pub mod Cleaning
+pub mod Costs
+pub mod Deleting
+pub mod Heading
+pub mod Left
+pub mod Passing
+pub mod QueuesStand
+pub mod Settling
 pub mod TermStands
 pub mod Wakes
+pub mod Zoned

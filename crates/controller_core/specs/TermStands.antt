@@ -10,11 +10,11 @@ use Rattle.node_health.specs.Stands.{HealthStands}
 use Rattle.object_store.specs.Stands.{StoreStands}
 use Rattle.object_store.specs.declared.store.Store.{Store}
 use Rattle.taint_zones.specs.Limits.{LimitsStand}
-use Rattle.term_pass.specs.Passing.{LastStands}
+use Rattle.controller_core.specs.Passing.{LastStands}
 use Rattle.term_state.specs.declared.told.Told.{Told}
 use Rattle.term_state.specs.ClusterStands.{ClusterStands}
 use Rattle.term_state.specs.MidTick.{IsTold, MidTick}
-use Rattle.term_taint.specs.QueuesStand.{QueuesStand}
+use Rattle.controller_core.specs.QueuesStand.{QueuesStand}
 use Rattle.tick_laws.specs.Rows.{no_heads}
 use Rattle.tick_laws.specs.Since.{AreReached}
 use Rattle.zone_counts.specs.Settings.{AreSettings}

@@ -10,16 +10,17 @@ ghost use Rattle.kube_objects.specs.declared.deed.Deed.{Deed};
 ghost use Rattle.object_store.specs.Stands.{StoreStands};
 ghost use Rattle.term_state.specs.MidTick.{IsTold, IsView};
 ghost use Rattle.tick_laws.specs.Steps.{tick_cost};
+ghost use Rattle.controller_core.specs.Costs.{HaveCost};
 
 use crate::Term;
+use crate::clean::clean;
+use crate::evict::evict;
+use crate::pass::pass;
+use crate::sync::sync;
+use crate::taint::{settle, taint};
 use kube_base::{NoMemory, Steps};
 use object_store::Store;
-use term_clean::clean;
-use term_evict::evict;
-use term_pass::pass;
 use term_state::{Told, View};
-use term_sync::sync;
-use term_taint::{settle, taint};
 use zone_state::Policies;
 
 impl Term {
@@ -35,14 +36,11 @@ impl Term {
         steps: &mut Steps<L>,
     ) -> Result<(), NoMemory>
         requires { view.now.now.0 ≤ most_local }
-        ensures stands { (doc : Doc) (k : ℕ) (q : Identity) (before : List Deed) (h : List Entry) → TermStands doc q h self.old
+        ensures { (doc : Doc) (k : ℕ) (q : Identity) (before : List Deed) (h : List Entry) → TermStands doc q h self.old
             → StoreStands h store.old → IsTold q k before h told.old → IsView doc k q h view.entry.now → before_tick q k h ≡ h
             → length (nodes q (model.sync doc k q h)) < 4294967296
-            → OnOk result (Went doc k q before (model.tick doc k q h) self.new store.new told.new) }
-        ensures counted { (doc : Doc) (k : ℕ) (q : Identity) (before : List Deed) (h : List Entry) → TermStands doc q h self.old
-            → StoreStands h store.old → IsTold q k before h told.old → IsView doc k q h view.entry.now → before_tick q k h ≡ h
-            → length (nodes q (model.sync doc k q h)) < 4294967296
-            → OnOk result (steps.new ≤ steps.old + (1 + tick_cost q k (model.tick doc k q h))) }
+            → OnOk result (Went doc k q before (model.tick doc k q h) self.new store.new told.new
+            × (steps.new ≤ steps.old + (1 + tick_cost q k (model.tick doc k q h)))) }
     {
         sync(&mut self.cluster, store, view, steps)?;
         if !self.cluster.is_synced() {
@@ -61,12 +59,10 @@ impl Term {
         steps: &mut Steps<L>,
     ) -> Result<(), NoMemory>
         requires { view.now.now.0 ≤ most_local }
-        ensures stands { (doc : Doc) (k : ℕ) (q : Identity) (before : List Deed) (h : List Entry)
+        ensures { (doc : Doc) (k : ℕ) (q : Identity) (before : List Deed) (h : List Entry)
             → Begun doc k q before h self.old store.old told.old → IsView doc k q h view.entry.now → length (nodes q h) < 4294967296
-            → OnOk result (Acted doc k q before (acted doc k q h) self.new store.new told.new) }
-        ensures counted { (doc : Doc) (k : ℕ) (q : Identity) (before : List Deed) (h : List Entry)
-            → Begun doc k q before h self.old store.old told.old → IsView doc k q h view.entry.now → length (nodes q h) < 4294967296
-            → OnOk result (steps.new + tick_cost q k h ≤ steps.old + (1 + tick_cost q k (acted doc k q h))) }
+            → OnOk result (Acted doc k q before (acted doc k q h) self.new store.new told.new
+            × HaveCost q k h (acted doc k q h) (steps.old + 1) steps.new) }
     {
         pass(
             self.alloc,

@@ -2,7 +2,12 @@
 #![tactic(auto)]
 
 mod acts;
+mod clean;
+mod evict;
+mod pass;
 mod ready;
+mod sync;
+mod taint;
 mod term;
 mod wakes;
 

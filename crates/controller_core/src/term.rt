@@ -1,5 +1,5 @@
 // A term of a leader.
-ghost use Rattle.std.specs.Prelude.{◌≡◌, ◌≤◌, ◌<◌, ◌+◌, ◌++◌, ℕ, List, length, IfOk, OnOk};
+ghost use Rattle.std.specs.Prelude.{◌≡◌, ◌≤◌, ◌<◌, ◌+◌, ℕ, List, length, IfOk, OnOk};
 ghost use Rattle.kube_base.specs.Bounds.{most_local};
 ghost use Rattle.history.specs.Printed.{printed};
 ghost use Rattle.kube_objects.specs.Document.{Doc};

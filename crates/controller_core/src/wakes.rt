@@ -9,8 +9,8 @@ ghost use Rattle.object_store.specs.Stands.{StoreStands};
 ghost use Rattle.tick_laws.specs.Judged.{is_dirty, seen_due};
 
 use crate::Term;
+use crate::sync::syncs;
 use object_store::Store;
-use term_sync::syncs;
 
 impl Term {
     ghost use Rattle.kube_objects.specs.declared.key.Key.{Key};

@@ -9,10 +9,10 @@ use Rattle.kube_objects.specs.Tainting.{before_tick, waits}
 use Rattle.kube_objects.specs.Tick.{sync, tick, phases}
 use Rattle.node_health.proofs.Frames.{health-same}
 use Rattle.object_store.specs.declared.store.Store.{Store}
-use Rattle.term_evict.proofs.Walking.{view_kept}
 use Rattle.term_state.specs.declared.told.Told.{Told}
 use Rattle.term_state.specs.ClusterStands.{ClusterStands}
 use Rattle.term_state.specs.MidTick.{IsMoved}
+use Rattle.term_state.proofs.Viewing.{view_ticked}
 use Rattle.tick_laws.specs.Judged.{waits_since}
 use Rattle.tick_laws.specs.Since.{AreReached}
 use Rattle.tick_laws.specs.Steps.{tick_cost}
@@ -28,60 +28,57 @@ use Rattle.controller_core.proofs.term.Term.begin.Goals as goal
 went_same : (doc : Doc) (k : ℕ) (q : Identity) (before : List Deed) (h g : List Entry) (t : Term) (s : Store) (o : Told) → g ≡ h → Went doc k q before h t s o → Went doc k q before g t s o
 went_same doc k q before h g t s o is w = subst (λ f. Went doc k q before f t s o) (sym is) w
 
-pub returns-then-not-is_synced-clause-stands : goal.returns-then-not-is_synced-clause-stands
-returns-then-not-is_synced-clause-stands g c doc k q before h s st told v start small =
-    let seen = c.in_ok-sync.ensures.stands doc k q h s.cluster st s.reached v in
-    let unsynced : is_synced q (sync doc k q h) ≡ false = sym (c.is_synced.ensures q (sync doc k q h) seen) ∙ c.if-not-is_synced.true in
+pub returns-then-not-is_synced : goal.returns-then-not-is_synced
+returns-then-not-is_synced g c doc k q before h s st told v start small =
+    let one = c.in_ok-sync.ensures.stands doc k q h s.cluster st s.reached v in
+    let unsynced : is_synced q (sync doc k q h) ≡ false = sym (c.is_synced.ensures q (sync doc k q h) one.0) ∙ c.if-not-is_synced.true in
     let same = unsynced_none doc k q h unsynced in
-    let whole : tick doc k q h ≡ h = ap (λ b. (if b then phases doc k q (sync doc k q h) else (sync doc k q h))) unsynced ∙ same in
-    went_same doc k q before h (tick doc k q h) _ _ _ whole
-    (record {
-      term = record {
-        cluster = subst (λ f. ClusterStands q f c.sync.new.cluster) same seen;
-        reached = s.reached;
-        health = s.health;
-        limits = s.limits;
-        queues = s.queues;
-        last = s.last;
-        settings = s.settings;
-      };
-      store = st;
-      told = told;
-    })
+    let whole : tick doc k q h ≡ sync doc k q h = ap (λ b. (if b then phases doc k q (sync doc k q h) else (sync doc k q h))) unsynced in (
+      went_same doc k q before h (tick doc k q h) _ _ _ (whole ∙ same)
+          (record {
+            term = record {
+              cluster = subst (λ f. ClusterStands q f c.sync.new.cluster) same one.0;
+              reached = s.reached;
+              health = s.health;
+              limits = s.limits;
+              queues = s.queues;
+              last = s.last;
+              settings = s.settings;
+            };
+            store = st;
+            told = told;
+          }),
+      omega (arith, one.1, ap (tick_cost q k) whole),
+    )
 
-pub returns-then-not-is_synced-clause-counted : goal.returns-then-not-is_synced-clause-counted
-returns-then-not-is_synced-clause-counted g c doc k q before h s st told v start small =
-    let seen = c.in_ok-sync.ensures.stands doc k q h s.cluster st s.reached v in
-    let unsynced : is_synced q (sync doc k q h) ≡ false = sym (c.is_synced.ensures q (sync doc k q h) seen) ∙ c.if-not-is_synced.true in
-    let whole : tick doc k q h ≡ sync doc k q h = ap (λ b. (if b then phases doc k q (sync doc k q h) else (sync doc k q h))) unsynced in
-    let one = c.in_ok-sync.ensures.counted doc k q h s.cluster st s.reached v in
-    omega (arith, one, ap (tick_cost q k) whole)
-
-pub returns-clause-stands : goal.returns-clause-stands
-returns-clause-stands g c doc k q before h s st told v start small =
+pub returns : goal.returns
+returns g c doc k q before h s st told v start small =
     let f = sync doc k q h in
-    let seen = c.in_ok-sync.ensures.stands doc k q h s.cluster st s.reached v in
-    let synced : is_synced q f ≡ true = sym (c.is_synced.ensures q f seen) ∙ c.if-not-is_synced.false in
+    let one = c.in_ok-sync.ensures.stands doc k q h s.cluster st s.reached v in
+    let synced : is_synced q f ≡ true = sym (c.is_synced.ensures q f one.0) ∙ c.if-not-is_synced.false in
     let beneath : before_tick q k f ≡ before_tick q k h = ticked_before q k h f (sync_ticked doc k q h) in
     let moved : IsMoved q k h c.args.self.now.cluster = λ n out place. ap (waits q place n) (sym start) in
     let whole : tick doc k q h ≡ acted doc k q f = ap (λ b. (if b then phases doc k q f else f)) synced in
     on_ok_weaker c.act.result
-    (λ a. subst (λ f. Went doc k q before f c.act.new.self c.act.new.store c.act.new.told) (sym whole) (record {
-      term = record {
-        cluster = a.running.cluster;
-        reached = subst (AreReached q) whole (reached_after_tick doc k q h s.reached);
-        health = a.health;
-        limits = a.limits;
-        queues = a.queues;
-        last = a.last;
-        settings = a.settings;
-      };
-      store = a.running.store;
-      told = a.running.told;
-    }))
-    (c.act.ensures.stands doc k q before f (record {
+    (λ two. (
+      subst (λ f. Went doc k q before f c.act.new.self c.act.new.store c.act.new.told) (sym whole) (record {
+        term = record {
+          cluster = two.0.running.cluster;
+          reached = subst (AreReached q) whole (reached_after_tick doc k q h s.reached);
+          health = two.0.health;
+          limits = two.0.limits;
+          queues = two.0.queues;
+          last = two.0.last;
+          settings = two.0.settings;
+        };
+        store = two.0.running.store;
+        told = two.0.running.told;
+      }),
+      omega (arith, one.1, two.1, cost_start q k h start, ap (tick_cost q k) whole),
+    ))
+    (c.act.ensures doc k q before f (record {
       running = record {
-        cluster = seen;
+        cluster = one.0;
         moved = c.in_ok-sync.ensures.moved doc k q h s.cluster st s.reached v moved beneath;
         store = c.in_ok-sync.ensures.store doc k q h st;
         told = told_synced doc k q before h c.args.told.now told;
@@ -93,31 +90,4 @@ returns-clause-stands g c doc k q before h s st told v start small =
       heads = sync_heads doc k q h (no_heads_start q k h start);
       last = last_stands doc q h f c.args.self.now.last (sync_limits doc k q h).passed s.last;
       settings = s.settings;
-    }) (view_kept doc k q h f c.args.view.now (sync_ticked doc k q h) v) small)
-
-pub returns-clause-counted : goal.returns-clause-counted
-returns-clause-counted g c doc k q before h s st told v start small =
-    let f = sync doc k q h in
-    let seen = c.in_ok-sync.ensures.stands doc k q h s.cluster st s.reached v in
-    let synced : is_synced q f ≡ true = sym (c.is_synced.ensures q f seen) ∙ c.if-not-is_synced.false in
-    let beneath : before_tick q k f ≡ before_tick q k h = ticked_before q k h f (sync_ticked doc k q h) in
-    let moved : IsMoved q k h c.args.self.now.cluster = λ n out place. ap (waits q place n) (sym start) in
-    let whole : tick doc k q h ≡ acted doc k q f = ap (λ b. (if b then phases doc k q f else f)) synced in
-    let one = c.in_ok-sync.ensures.counted doc k q h s.cluster st s.reached v in
-    on_ok_weaker c.act.result
-    (λ two. omega (arith, one, two, cost_start q k h start, ap (tick_cost q k) whole))
-    (c.act.ensures.counted doc k q before f (record {
-      running = record {
-        cluster = seen;
-        moved = c.in_ok-sync.ensures.moved doc k q h s.cluster st s.reached v moved beneath;
-        store = c.in_ok-sync.ensures.store doc k q h st;
-        told = told_synced doc k q before h c.args.told.now told;
-        synced = synced;
-      };
-      health = health-same doc q h f c.args.self.now.health (sync_says doc k q h) s.health;
-      limits = limits_stand doc q h f c.args.self.now.zones (sync_limits doc k q h) s.limits;
-      queues = λ place n. s.queues place n ∙ ap (waits_since q place n) (sym (beneath ∙ start));
-      heads = sync_heads doc k q h (no_heads_start q k h start);
-      last = last_stands doc q h f c.args.self.now.last (sync_limits doc k q h).passed s.last;
-      settings = s.settings;
-    }) (view_kept doc k q h f c.args.view.now (sync_ticked doc k q h) v) small)
+    }) (view_ticked doc k q h f c.args.view.now (sync_ticked doc k q h) v) small)

@@ -1,23 +1,12 @@
-use Rattle.std.proofs.Common.{◌≡◌, inl, inr, ◌<◌, ◌⊎◌, Option, Some, None, IfSome, refl, sym, subst, arith, rules}
+use Rattle.std.proofs.Common.{◌≡◌, inl, inr, ◌<◌, ◌⊎◌, Some, None, IfSome, refl, sym, subst, arith, rules}
 use Rattle.history_laws.proofs.Plainly.{false_is}
 use Rattle.kube_objects.specs.Entry as entry
-use Rattle.taint_zones.specs.declared.place.Place.{Place}
-use Rattle.taint_zones.specs.declared.queues.Queues.{Queues}
 use Rattle.taint_zones.specs.Places.{entry_place}
 use Rattle.taint_zones.specs.Waiting.{IsNextZone}
-use Rattle.term_taint.proofs.ZoneWalk.{number_grows}
+use Rattle.controller_core.proofs.Tainting.ZoneWalk.{fewer_left, zones_left}
 use Rattle.controller_core.specs.Wakes.{IsTokenReading}
-use Rattle.controller_core.proofs.Readying.{answered_all, end_covered, next_covered, zones_left}
+use Rattle.controller_core.proofs.Readying.{answered_all, either, end_covered, next_covered}
 use Rattle.controller_core.proofs.term.Term.first_ready.Goals as goal
-
-either : {A B C : Type 0} → A ⊎ B → (A → C) → (B → C) → C
-either (inl a) f g = f a
-either (inr b) f g = g b
-
--- fewer zones are left after this one
-zones_fewer : (queues : Queues) (place : Place) (next : Option Place) → IsNextZone queues (Some place) next → place.region < 4294967296 → place.zone < 4294967296 → zones_left next < zones_left (Some place)
-zones_fewer queues place None is region zone = omega (arith, region, zone)
-zones_fewer queues place (Some next) is region zone = let more = number_grows place next zone is.0 in omega (arith, region, zone, more)
 
 pub loop-next-init : goal.loop-next-init
 loop-next-init c = record {
@@ -31,7 +20,7 @@ loop-next-smaller c =
     let place = c.in-Some.place in
     let region : place.region < 4294967296 = omega arith in
     let zone : place.zone < 4294967296 = omega arith in
-    subst (λ o. zones_left c.next_zone-next-in-Some.result < zones_left o) (sym c.in-Some.is) (zones_fewer c.args.self.now.zones.queues place c.next_zone-next-in-Some.result c.next_zone-next-in-Some.ensures region zone)
+    subst (λ o. zones_left c.next_zone-next-in-Some.result < zones_left o) (sym c.in-Some.is) (fewer_left place c.next_zone-next-in-Some.result c.args.self.now.zones.queues region zone c.next_zone-next-in-Some.ensures)
 
 pub loop-next-preserved : goal.loop-next-preserved
 loop-next-preserved c =

@@ -6,7 +6,8 @@ use Rattle.taint_zones.specs.declared.place.Place.{Place}
 use Rattle.taint_zones.specs.Waiting.{IsNextZone}
 use Rattle.controller_core.specs.TermStands.{TermStands}
 use Rattle.controller_core.specs.Wakes.{IsTokenReading}
-use Rattle.controller_core.proofs.Readying.{AreCovered, zones_left}
+use Rattle.controller_core.proofs.Readying.{AreCovered}
+use Rattle.controller_core.proofs.Tainting.ZoneWalk.{zones_left}
 use Rattle.controller_core.proofs.term.Term.first_ready.Given as goal
 
 abbrev pub decreases-loop-next : goal.decreases-loop-next

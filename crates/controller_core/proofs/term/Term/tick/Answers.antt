@@ -13,7 +13,7 @@ returns-clause-stands g c doc k q h s st v acts start small =
     let names = subst (λ x. Names x c.identity-incarnation.result) acts c.identity-incarnation.ensures in
     let who : actor.Proc c.identity-incarnation.result.0 c.identity-incarnation.result.1 ≡ actor_of q = λ i. actor.Proc (record { 0 = names.0 i }) (names.1 i) in
     let told = subst (λ n. IsTold q n (printed h) h c.new-told.result) v.beat (c.new-told.ensures.stands q h who) in
-    let w = c.in_ok-begin.ensures.stands doc k q (printed h) h s st told v start small in
+    let w = (c.in_ok-begin.ensures doc k q (printed h) h s st told v start small).0 in
     record {
       term = record {
         cluster = c.forget_moved.ensures.stands q (tick doc k q h) no_node no_pod w.term.cluster;
@@ -33,4 +33,4 @@ returns-clause-counted g c doc k q h s st v acts start small =
     let names = subst (λ x. Names x c.identity-incarnation.result) acts c.identity-incarnation.ensures in
     let who : actor.Proc c.identity-incarnation.result.0 c.identity-incarnation.result.1 ≡ actor_of q = λ i. actor.Proc (record { 0 = names.0 i }) (names.1 i) in
     let told = subst (λ n. IsTold q n (printed h) h c.new-told.result) v.beat (c.new-told.ensures.stands q h who) in
-    c.in_ok-begin.ensures.counted doc k q (printed h) h s st told v start small
+    (c.in_ok-begin.ensures doc k q (printed h) h s st told v start small).1

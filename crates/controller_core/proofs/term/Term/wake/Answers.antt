@@ -1,15 +1,11 @@
-use Rattle.std.proofs.Common.{◌≡◌, ◌∙◌, inl, inr, ◌+◌, ◌*◌, ◌<◌, ◌≤◌, ◌⊎◌, Some, ap, sym, subst, arith}
+use Rattle.std.proofs.Common.{◌≡◌, ◌∙◌, inl, inr, ◌+◌, ◌*◌, ◌<◌, ◌≤◌, Some, ap, sym, subst, arith}
 use Rattle.kube_base.specs.Bounds.{most_local}
 use Rattle.kube_objects.specs.Clocks.{local}
-use Rattle.term_pass.specs.Passing.{LastStands}
+use Rattle.controller_core.specs.Passing.{LastStands}
 use Rattle.controller_core.specs.Wakes.{pass_reading}
-use Rattle.controller_core.proofs.Readying.{head_reading, reading_head}
-use Rattle.controller_core.proofs.Waking.{by_then, due_from, last_fits, not_none, not_yet, pass_is, period_is, some_number}
+use Rattle.controller_core.proofs.Readying.{either, head_reading, le_true, reading_head}
+use Rattle.controller_core.proofs.Waking.{due_from, last_fits, not_none, not_yet, pass_is, period_is, some_number}
 use Rattle.controller_core.proofs.term.Term.wake.Goals as goal
-
-either : {A B C : Type 0} → A ⊎ B → (A → C) → (B → C) → C
-either (inl a) f g = f a
-either (inr b) f g = g b
 
 pub returns-clause-some : goal.returns-clause-some
 returns-clause-some c doc q h s none = not_none doc q h c.in_ok-last.last (subst (LastStands doc q h) c.in_ok-last.was s.last) none
@@ -35,7 +31,7 @@ returns-clause-there c doc k q h s fits le =
     let stands = subst (LastStands doc q h) c.in_ok-last.was s.last in
     let is = period_is c.args.self.now.settings.monitor_period_millis period doc.settings.monitor_period_millis (sym s.settings.monitor) (ap (λ n. n * 1000000000) c.from-period.ensures) in
     either (c.first_ready.ensures.there doc q h s)
-    (λ given. inl (due_from doc k q h last period stands is ∙ by_then (last.0 + period) (local doc q.process k) (omega (arith, ap (λ at. at.0) given, le, fits, c.saturating_add.ensures))))
+    (λ given. inl (due_from doc k q h last period stands is ∙ le_true (last.0 + period) (local doc q.process k) (omega (arith, ap (λ at. at.0) given, le, fits, c.saturating_add.ensures))))
     (λ head. inr (head.0, reading_head doc k q h head.0 c.first_ready.result.0 head.1 le))
 
 pub returns-clause-reading : goal.returns-clause-reading

@@ -1,0 +1,239 @@
+-- The nodes that a pass looks at, one after the other.
+use Rattle.std.proofs.Common.{◌≡◌, ◌∙◌, ◌+◌, ◌==◌, ◌&&◌, ◌||◌, ℕ, not, nat_lt, Bool, true, false, List, [], ◌∷◌, Option, Some, None, refl, sym, ap, subst, arith, Less}
+use Rattle.std.proofs.lemmas.Bool.Decides.{nat_tests}
+use Rattle.std.specs.Ordering.{nat_cmp}
+use Rattle.kube_base.specs.declared.numbers.Version.{Version}
+use Rattle.kube_base.specs.declared.numbers.Wall.{Wall}
+use Rattle.kube_objects.specs.declared.deed.Deed.{Deed}
+use Rattle.kube_objects.specs.declared.node.Node.{Node}
+use Rattle.kube_objects.specs.Clocks.{local, wall, whole_second}
+use Rattle.kube_objects.specs.Document.{Doc}
+use Rattle.kube_objects.specs.Entry.{Entry, Identity, Mark, Pass}
+use Rattle.kube_objects.specs.Health.{grace_of, is_silent, is_unknown, lease_renewal, mark_of, marked, probe, renewal, with_mark}
+use Rattle.kube_objects.specs.Newest.{has, when}
+use Rattle.kube_objects.specs.Answers.{as_kind, lease_in}
+use Rattle.kube_objects.specs.Seen.{seen, seen_lease, seen_node}
+use Rattle.kube_objects.specs.Stored.{Held, node_lease}
+use Rattle.kube_objects.specs.Tick.{add, for_each, mark_as, mark_seen, mark, marks}
+use Rattle.kube_objects.specs.Tries.{try_node}
+use Rattle.history.specs.Printed.{reason_in}
+use Rattle.history_laws.proofs.Plainly.{false_is, true_is}
+use Rattle.node_health.specs.declared.grace.Grace.{Grace}
+use Rattle.node_health.specs.declared.health.Health.{Health}
+use Rattle.node_health.specs.declared.verdict.Verdict.TheVariants.{Keep, MarkUnknown}
+use Rattle.node_health.specs.Kept.{is_listed, verdict_of}
+use Rattle.node_health.specs.Stands.{HealthStands, IsGraceOf, IsLook, and_looked}
+use Rattle.node_health.proofs.Frames.{pass-same}
+use Rattle.object_store.specs.declared.store.Store.{Store}
+use Rattle.term_state.specs.MidTick.{IsView, MidTick}
+use Rattle.term_state.specs.declared.cluster.Cluster.{Cluster}
+use Rattle.term_state.specs.declared.told.Told.{Told}
+use Rattle.term_state.specs.declared.view.View.{View}
+use Rattle.term_state.specs.declared.writes.NodeWrite.TheVariants as write
+use Rattle.term_state.specs.Writes.{IsWrite}
+use Rattle.term_state.proofs.Widen.{and_not}
+use Rattle.controller_core.specs.Costs.{HaveCost}
+use Rattle.controller_core.specs.Passing.{IsPassing}
+use Rattle.controller_core.proofs.Passing.Listed.{listed_first, listed_later}
+use Rattle.controller_core.proofs.Passing.Marks.{mark_view, mark_write}
+use Rattle.tick_laws.specs.Walks.{Above, Ascends}
+use Rattle.tick_laws.proofs.Frames.{kept_node, pass_change}
+use Rattle.tick_laws.proofs.Marking.{mark_others, marks_of_seen, names_ascend}
+use Rattle.tick_laws.specs.Judged.{shown}
+use Rattle.watch_cache.specs.Kept.{kept, of_kind}
+use Rattle.watch_cache.specs.Told.{AreNamed}
+
+-- ---- the verdict is the mark
+
+module _ (doc : Doc) (k : ℕ) (q : Identity) (name : ℕ) (node : Node) (h now : List Entry) (probes : (name : ℕ) → probe q name now ≡ probe q name (add k q Pass h)) where
+  pub mark_now : mark_of doc q k name node now ≡ mark_of doc q k name node (add k q Pass h)
+  mark_now =
+      ap (λ (at : ℕ). when (not (is_unknown node.ready) && nat_lt (local doc q.process at + grace_of doc node.ready) (local doc q.process k)) (with_mark (whole_second (wall doc q.process k)) node))
+      (probes name)
+
+  pub keep_none : Keep ≡ verdict_of (mark_of doc q k name node (add k q Pass h)) → mark_of doc q k name node now ≡ None
+  keep_none is = mark_now ∙ by_test (not (is_unknown node.ready) && is_silent doc q k name node.ready (add k q Pass h)) is
+    where
+      by_test : (b : Bool) → Keep ≡ verdict_of (when b (with_mark (whole_second (wall doc q.process k)) node)) → when b (with_mark (whole_second (wall doc q.process k)) node) ≡ None
+      by_test true is = absurd (cc)
+      by_test false is = refl
+
+  pub mark_some : (reason : ℕ) → MarkUnknown reason ≡ verdict_of (mark_of doc q k name node (add k q Pass h))
+      → (mark_of doc q k name node now ≡ Some (with_mark (whole_second (wall doc q.process k)) node)) × (reason ≡ (marked (whole_second (wall doc q.process k)) node.ready).reason)
+  mark_some reason is =
+      let found = by_test (not (is_unknown node.ready) && is_silent doc q k name node.ready (add k q Pass h)) is in
+      (mark_now ∙ found.0, found.1)
+    where
+      same_reason : (a b : ℕ) → MarkUnknown a ≡ MarkUnknown b → a ≡ b
+      same_reason a b is = cc
+
+      by_test : (b : Bool) → MarkUnknown reason ≡ verdict_of (when b (with_mark (whole_second (wall doc q.process k)) node))
+          → (when b (with_mark (whole_second (wall doc q.process k)) node) ≡ Some (with_mark (whole_second (wall doc q.process k)) node)) × (reason ≡ (marked (whole_second (wall doc q.process k)) node.ready).reason)
+      by_test true is = (refl, same_reason reason (marked (whole_second (wall doc q.process k)) node.ready).reason is)
+      by_test false is = absurd (cc)
+
+-- the mark of a node that is seen so
+pub mark_is : (doc : Doc) (k : ℕ) (q : Identity) (name : ℕ) (now : List Entry) (x : Version × Node) (o : Option Node) → seen_node q name now ≡ Some x → mark_of doc q k name x.1 now ≡ o
+    → mark doc k q name now ≡ mark_as k q name x.0 o now
+mark_is doc k q name now x o sees is = ap (λ y. mark_seen doc k q name y now) sees ∙ ap (λ y. mark_as k q name x.0 y now) is
+
+-- what a look is handed
+pub look_is : (doc : Doc) (k : ℕ) (q : Identity) (before : List Deed) (h now : List Entry) (looked : ℕ → Bool) (c : Cluster) (x : Health) (s : Store) (t : Told) (name : ℕ) (given : Version) (node : Node)
+    (renewed : Option Wall) (at : ℕ) (grace : Grace) → IsPassing doc k q before h now looked c x s t → Some (given, node) ≡ seen_node q name now → seen_node q name now ≡ seen_node q name h
+    → renewed ≡ renewal q name now → at ≡ local doc q.process k → IsGraceOf doc grace → IsLook doc k q h name node renewed at grace
+look_is doc k q before h now looked c x s t name given node renewed at grace p sees same lease reading graces =
+    record { version = given; shown = sym (sees ∙ same); lease = sym (lease ∙ p.leases name); reading = reading; graces = graces }
+
+-- the entry that a mark adds, and the write that it is
+pub record MarksBy (doc : Doc) (k : ℕ) (q : Identity) (now : List Entry) (name : ℕ) (given : Version) (written : Node) (reason : ℕ) : Type 0 where
+  pub adds : add k q (Mark name given written (try_node q name given now)) now ≡ mark doc k q name now
+  pub is : IsWrite (write.Mark reason) name written (try_node q name given now) (Mark name given written (try_node q name given now))
+
+pub marks_by : (doc : Doc) (k : ℕ) (q : Identity) (before : List Deed) (h now : List Entry) (looked : ℕ → Bool) (c : Cluster) (x : Health) (s : Store) (t : Told) (name : ℕ) (given : Version)
+    (node written : Node) (reason second at : ℕ) → IsPassing doc k q before h now looked c x s t → Some (given, node) ≡ seen_node q name now
+    → MarkUnknown reason ≡ verdict_of (mark_of doc q k name node (add k q Pass h)) → at ≡ wall doc q.process k → second ≡ whole_second at → written ≡ with_mark second node
+    → MarksBy doc k q now name given written reason
+marks_by doc k q before h now looked c x s t name given node written reason second at p sees says time second_is written_is =
+    let found = mark_some doc k q name node h now p.probes reason says in
+    let is : written ≡ with_mark (whole_second (wall doc q.process k)) node = written_is ∙ ap (λ n. with_mark n node) (second_is ∙ ap whole_second time) in
+    record {
+      adds = sym (mark_is doc k q name now (given, node) (Some (with_mark (whole_second (wall doc q.process k)) node)) (sym sees) found.0 ∙ ap (λ w. mark_as k q name given (Some w) now) (sym is));
+      is = mark_write name given written reason (try_node q name given now) (found.1 ∙ ap (λ w. reason_in w.ready) (sym is));
+    }
+
+-- ---- the loop
+
+-- the names in a list that aren't left
+abbrev pub looked_of : List ℕ → List ℕ → ℕ → Bool
+looked_of names rest n = is_listed names n && not (is_listed rest n)
+
+-- now has the marks of the nodes before the rest
+pub record Looking (doc : Doc) (k : ℕ) (q : Identity) (before : List Deed) (h : List Entry) (names rest : List ℕ) (v : View) (c : Cluster) (x : Health) (s : Store) (t : Told) (old new : ℕ) : Type 0 where
+  pub now : List Entry
+  pub passing : IsPassing doc k q before h now (looked_of names rest) c x s t
+  pub view : IsView doc k q now v
+  pub follows : for_each (mark doc k q) rest now ≡ marks doc k q (add k q Pass h)
+  pub ascends : Ascends nat_cmp rest
+  pub within : (n : ℕ) → is_listed rest n ≡ true → is_listed names n ≡ true
+  pub seen : (n : ℕ) → is_listed rest n ≡ true → has (seen_node q n h) ≡ true
+  pub untouched : (n : ℕ) → is_listed rest n ≡ true → seen_node q n now ≡ seen_node q n h
+  pub cost : HaveCost q k (add k q Pass h) now old new
+
+-- ---- its beginning
+
+passed_seen : (q : Identity) (k : ℕ) (h : List Entry) (n : ℕ) → seen_node q n (add k q Pass h) ≡ seen_node q n h
+passed_seen q k h n = kept_node q h (add k q Pass h) None (pass_change q k h) n
+
+lease_shown : (q : Identity) (name : ℕ) (h : List Entry) → of_kind lease_in (shown q (node_lease name) h) ≡ seen_lease q name h
+lease_shown q name h = by_held (seen q (node_lease name) h)
+  where
+    by_held : (o : Option Held) → of_kind lease_in (kept o) ≡ as_kind lease_in o
+    by_held None = refl
+    by_held (Some x) = refl
+
+pub passed_renewal : (q : Identity) (k : ℕ) (h : List Entry) (n : ℕ) → renewal q n (add k q Pass h) ≡ renewal q n h
+passed_renewal q k h n = ap lease_renewal (sym (lease_shown q n (add k q Pass h)) ∙ ap (of_kind lease_in) ((pass_change q k h).shown (node_lease n)) ∙ lease_shown q n h)
+
+pub named_passed : (q : Identity) (k : ℕ) (h : List Entry) (names : List ℕ) → AreNamed (λ n. has (seen_node q n h)) names → AreNamed (λ n. has (seen_node q n (add k q Pass h))) names
+named_passed q k h names s = record { ascend = s.ascend; named = λ n. s.named n ∙ ap has (sym (passed_seen q k h n)) }
+
+pub begin_looking : (doc : Doc) (k : ℕ) (q : Identity) (before : List Deed) (h : List Entry) (names : List ℕ) (v : View) (c : Cluster) (x : Health) (s : Store) (t : Told) (old : ℕ)
+    → MidTick q k before (add k q Pass h) c s t → HealthStands doc q h x → IsView doc k q (add k q Pass h) v → AreNamed (λ n. has (seen_node q n h)) names
+    → Looking doc k q before h names names v c x s t old old
+begin_looking doc k q before h names v c x s t old running health view are =
+    record {
+      now = add k q Pass h;
+      passing = record {
+        running = running;
+        health = pass-same doc k q h (λ n. false) (looked_of names names) x (λ n. sym (and_not (is_listed names n))) health;
+        leases = passed_renewal q k h;
+        probes = λ name. refl;
+      };
+      view = view;
+      follows = sym (marks_of_seen doc k q (add k q Pass h) names (named_passed q k h names are));
+      ascends = names_ascend names are.ascend;
+      within = λ n is. is;
+      seen = λ n is. sym (are.named n) ∙ is;
+      untouched = λ n is. passed_seen q k h n;
+      cost = omega arith;
+    }
+
+-- ---- one node more
+
+pub listed_apart : (n m : ℕ) (xs : List ℕ) → Above nat_cmp n xs → is_listed xs m ≡ true → (n == m) ≡ false
+listed_apart n m [] all there = absurd (false_is there)
+listed_apart n m (x ∷ xs) all there = by_test (x == m) refl there (listed_apart n m xs all.1)
+  where
+    by_test : (b : Bool) → (x == m) ≡ b → (b || is_listed xs m) ≡ true → (is_listed xs m ≡ true → (n == m) ≡ false) → (n == m) ≡ false
+    by_test true same now further = let less : nat_cmp n x ≡ Less = all.0 in grind (arith, nat_tests, same, less)
+    by_test false same now further = further now
+
+-- the first of the rest wasn't looked at yet
+pub first_new : (names : List ℕ) (n : ℕ) (ns : List ℕ) → looked_of names (n ∷ ns) n ≡ false
+first_new names n ns = ap (λ b. is_listed names n && not b) (listed_first n ns) ∙ and_false (is_listed names n)
+  where
+    and_false : (b : Bool) → (b && false) ≡ false
+    and_false true = refl
+    and_false false = refl
+
+looked_next : (names : List ℕ) (n : ℕ) (ns : List ℕ) → Above nat_cmp n ns → ((m : ℕ) → is_listed (n ∷ ns) m ≡ true → is_listed names m ≡ true) → (m : ℕ) → and_looked n (looked_of names (n ∷ ns)) m ≡ looked_of names ns m
+looked_next names n ns above within m = by_name (n == m) refl (is_listed ns m) refl
+  where
+    by_name : (b : Bool) → (n == m) ≡ b → (later : Bool) → is_listed ns m ≡ later → (b || (is_listed names m && not (b || later))) ≡ (is_listed names m && not later)
+    by_name true same true there = absurd (true_is (sym same ∙ listed_apart n m ns above there))
+    by_name true same false there = sym (ap (λ b. b && true) (within m (ap (λ b. b || is_listed ns m) same)))
+    by_name false same later there = refl
+
+pub next_looking : (doc : Doc) (k : ℕ) (q : Identity) (before : List Deed) (h : List Entry) (names all ns : List ℕ) (n : ℕ) (v : View) (c d : Cluster) (x y : Health) (s r : Store) (t u : Told) (old mid new : ℕ)
+    → all ≡ n ∷ ns → (l : Looking doc k q before h names all v c x s t old mid)
+    → IsPassing doc k q before h (mark doc k q n l.now) (and_looked n (looked_of names all)) d y r u → HaveCost q k l.now (mark doc k q n l.now) mid new
+    → Looking doc k q before h names ns v d y r u old new
+next_looking doc k q before h names all ns n v c d x y s r t u old mid new is l passing cost =
+    record {
+      now = mark doc k q n l.now;
+      passing = record {
+        running = passing.running;
+        health = pass-same doc k q h (and_looked n (looked_of names all)) (looked_of names ns) y (λ m. ap (λ xs. and_looked n (looked_of names xs) m) is ∙ looked_next names n ns ascends.0 within m) passing.health;
+        leases = passing.leases;
+        probes = passing.probes;
+      };
+      view = mark_view doc k q n l.now v l.view;
+      follows = ap (λ xs. for_each (mark doc k q) xs l.now) (sym is) ∙ l.follows;
+      ascends = ascends.1;
+      within = λ m there. within m (listed_later n m ns there);
+      seen = λ m there. l.seen m (listed m there);
+      untouched = λ m there. mark_others doc k q n m l.now (listed_apart n m ns ascends.0 there) ∙ l.untouched m (listed m there);
+      cost = omega (arith, l.cost, cost);
+    }
+  where
+    ascends : Ascends nat_cmp (n ∷ ns)
+    ascends = subst (Ascends nat_cmp) is l.ascends
+
+    listed : (m : ℕ) → is_listed ns m ≡ true → is_listed all m ≡ true
+    listed m there = ap (λ xs. is_listed xs m) is ∙ listed_later n m ns there
+
+    within : (m : ℕ) → is_listed (n ∷ ns) m ≡ true → is_listed names m ≡ true
+    within m there = l.within m (ap (λ xs. is_listed xs m) is ∙ there)
+
+-- ---- its end
+
+pub end_looking : (doc : Doc) (k : ℕ) (q : Identity) (before : List Deed) (h : List Entry) (names rest : List ℕ) (v : View) (c : Cluster) (x : Health) (s : Store) (t : Told) (old new : ℕ) → rest ≡ []
+    → Looking doc k q before h names rest v c x s t old new → IsPassing doc k q before h (marks doc k q (add k q Pass h)) (λ n. is_listed names n) c x s t × HaveCost q k (add k q Pass h) (marks doc k q (add k q Pass h)) old new
+end_looking doc k q before h names rest v c x s t old new is l =
+    subst (λ g. IsPassing doc k q before h g (λ n. is_listed names n) c x s t × HaveCost q k (add k q Pass h) g old new) (sym (ap (λ xs. for_each (mark doc k q) xs l.now) is) ∙ l.follows) (
+      record {
+        running = l.passing.running;
+        health = pass-same doc k q h (looked_of names rest) (λ n. is_listed names n) x (λ n. ap (λ xs. looked_of names xs n) is ∙ and_true (is_listed names n)) l.passing.health;
+        leases = l.passing.leases;
+        probes = l.passing.probes;
+      },
+      l.cost,
+    )
+  where
+    and_true : (b : Bool) → (b && true) ≡ b
+    and_true true = refl
+    and_true false = refl
+
+-- a node that was seen isn't missing now
+pub unseen : (q : Identity) (n : ℕ) (h now : List Entry) → has (seen_node q n h) ≡ true → seen_node q n now ≡ seen_node q n h → None ≡ seen_node q n now → ⊥
+unseen q n h now there same none = false_is (ap has (none ∙ same) ∙ there)

@@ -1,0 +1,215 @@
+-- A pass begins, and what it leaves.
+use Rattle.std.proofs.Common.{◌≡◌, ◌∙◌, ◌≤◌, ℕ, nat_lt, Bool, true, false, cond, List, [], ◌∷◌, map, length, Some, None, IfSome, refl, sym, ap, subst, arith}
+use Rattle.std.specs.Prelude.{if◌then◌else◌}
+use Rattle.std.proofs.lemmas.Bool.Decides.{nat_tests}
+use Rattle.kube_objects.specs.declared.node.Node.{Node}
+use Rattle.kube_objects.specs.declared.node.ZoneState.{ZoneState}
+use Rattle.kube_objects.specs.declared.deed.Deed.{Deed}
+use Rattle.kube_objects.specs.Clocks.{local}
+use Rattle.kube_objects.specs.Document.{Doc}
+use Rattle.kube_objects.specs.Entry.{Entry, Identity, Place, Tick, Mark, Pass, Zone, entry, Ticks, Mode}
+use Rattle.kube_objects.specs.Health.{is_found, is_pass_due, last_pass}
+use Rattle.kube_objects.specs.Modes.{all_full, mode, nodes, place_of, places, rate_in, size_in, state_in}
+use Rattle.kube_objects.specs.Newest.{has, when}
+use Rattle.kube_objects.specs.Seen.{is_synced, node_names, seen_node}
+use Rattle.kube_objects.specs.Tick.{add, is_same_mode, mark, marks, pass, set_mode, set_zones, zone, whole_pass}
+use Rattle.kube_objects.specs.Tries.{try_node}
+use Rattle.kube_objects.specs.Tokens.{base, is_rated, is_zone, rated}
+use Rattle.node_health.proofs.Frames.{SaysSame, health-same, says-same, unheard-kind}
+use Rattle.node_health.specs.Kept.{is_listed}
+use Rattle.node_health.specs.Stands.{HealthStands}
+use Rattle.node_health.specs.declared.health.Health.{Health}
+use Rattle.object_store.proofs.Keeps.{store-beside}
+use Rattle.object_store.specs.Stands.{StoreStands}
+use Rattle.object_store.specs.declared.store.Store.{Store}
+use Rattle.taint_zones.specs.Limits.{LimitsStand, limit_at}
+use Rattle.taint_zones.specs.declared.zones.Zones.{Zones}
+use Rattle.controller_core.specs.Zoned.{ArePassed}
+use Rattle.controller_core.proofs.Between.{says_more}
+use Rattle.controller_core.proofs.Passing.Looking.{named_passed}
+use Rattle.controller_core.proofs.Passing.Marks.{mark_either, mark_view}
+use Rattle.term_state.proofs.Aside.{same_aside, refused_moved}
+use Rattle.term_state.proofs.Telling.{told_beside}
+use Rattle.term_state.specs.ClusterStands.{ClusterStands, no_node, no_pod}
+use Rattle.term_state.specs.MidTick.{IsMoved, IsView, MidTick}
+use Rattle.term_state.specs.declared.cluster.Cluster.{Cluster}
+use Rattle.term_state.specs.declared.told.Told.{Told}
+use Rattle.term_state.specs.declared.view.View.{View}
+use Rattle.tick_laws.specs.Steps.{tick_cost}
+use Rattle.tick_laws.proofs.Frames.{pass_change, zone_change}
+use Rattle.tick_laws.proofs.Phases.{every, is_passing, mode_step, pass_rest, zone_step}
+use Rattle.tick_laws.proofs.Steps.{cost_grows}
+use Rattle.tick_laws.proofs.Marking.{KeepsPlaces, marks_keep, seen_too}
+use Rattle.tick_laws.proofs.Zoning.{base_passed, nodes_moded, nodes_passed, nodes_placed, rated_passed, size_kept}
+use Rattle.tick_laws.proofs.Ticked.{own_before}
+use Rattle.watch_cache.proofs.Frames.{upper}
+use Rattle.watch_cache.proofs.Ticks.{same_self}
+use Rattle.watch_cache.specs.Told.{AreNamed}
+
+-- after the pass's own entry
+pub run_pass : (q : Identity) (k : ℕ) (before : List Deed) (h : List Entry) (c : Cluster) (s : Store) (t : Told) → MidTick q k before h c s t → MidTick q k before (add k q Pass h) c s t
+run_pass q k before h c s t r =
+    let change = pass_change q k h in
+    record {
+      cluster = same_aside q h (add k q Pass h) no_node no_pod c change r.cluster;
+      moved = refused_moved q h (add k q Pass h) None change k c c (own_before q k Pass h) (λ n. refl) r.moved;
+      store = store-beside h (entry k 4 q (Ticks Pass)) s r.store refl;
+      told = told_beside q k before h Pass t refl r.told;
+      synced = change.synced ∙ r.synced;
+    }
+
+-- the nodes that are found are those that are named
+pub found_named : (q : Identity) (h : List Entry) (names : List ℕ) → AreNamed (λ n. has (seen_node q n h)) names → (n : ℕ) → is_found q n h ≡ is_listed names n
+found_named q h names are n = sym (are.named n)
+
+-- what a pass adds, where one is due
+pub pass_is : (doc : Doc) (k : ℕ) (q : Identity) (h : List Entry) → is_pass_due doc k q h ≡ true → pass doc k q h ≡ set_zones doc k q (set_mode doc k q (marks doc k q (add k q Pass h)))
+pass_is doc k q h due = ap (λ b. (if b then whole_pass doc k q h else h)) due
+
+-- ---- the limits of zones, once the marks and the mode are done
+
+positive : (n : ℕ) → (n ≡ 0 → ⊥) → nat_lt 0 n ≡ true
+positive n some = grind (arith, nat_tests, some)
+
+module _ (doc : Doc) (k : ℕ) (q : Identity) (h : List Entry) where
+  abbrev pub moded : List Entry
+  moded = set_mode doc k q (marks doc k q (add k q Pass h))
+
+  marks_left : KeepsPlaces q (add k q Pass h) (marks doc k q (add k q Pass h))
+  marks_left = marks_keep doc k q (node_names (add k q Pass h)) (add k q Pass h)
+
+  mode_rated : (on b : Bool) (g : List Entry) (place : Place) → rated q place (if b then g else add k q (Mode on) g) ≡ rated q place g
+  mode_rated on true g place = refl
+  mode_rated on false g place = refl
+
+  mode_base : (on b : Bool) (g : List Entry) (place : Place) → base q place (if b then g else add k q (Mode on) g) ≡ base q place g
+  mode_base on true g place = refl
+  mode_base on false g place = refl
+
+  mode_nodes : (on b : Bool) (g : List Entry) → nodes q (if b then g else add k q (Mode on) g) ≡ nodes q g
+  mode_nodes on true g = refl
+  mode_nodes on false g = nodes_moded q k g on
+
+  pub moded_size : (place : Place) → size_in place (nodes q moded) ≡ size_in place (nodes q h)
+  moded_size place =
+      let g = marks doc k q (add k q Pass h) in
+      let on = all_full doc (nodes q g) in
+      ap (size_in place) (mode_nodes on (is_same_mode on (mode q g)) g) ∙ size_kept q (add k q Pass h) g marks_left place ∙ ap (size_in place) (nodes_passed q k h)
+
+  pub moded_rated : (place : Place) → rated q place moded ≡ cond (is_zone q place h) (rated q place h) None
+  moded_rated place =
+      let g = marks doc k q (add k q Pass h) in
+      let on = all_full doc (nodes q g) in
+      mode_rated on (is_same_mode on (mode q g)) g place ∙ marks_left.rated place ∙ rated_passed q k h place
+
+  pub moded_base : (place : Place) → base q place moded ≡ base q place h
+  moded_base place =
+      let g = marks doc k q (add k q Pass h) in
+      let on = all_full doc (nodes q g) in
+      mode_base on (is_same_mode on (mode q g)) g place ∙ marks_left.base place ∙ base_passed q k h place
+
+  pub are_passed : (zones : Zones) → LimitsStand doc q h zones → ArePassed doc q moded zones
+  are_passed zones s =
+      record {
+        there = λ place some.
+            let zone : is_zone q place h ≡ true = positive (size_in place (nodes q h)) (λ none. some (moded_size place ∙ none)) in
+            record {
+              rated = (s place).rated ∙ sym (moded_rated place ∙ ap (λ b. cond b (rated q place h) None) zone);
+              rate = (s place).rate;
+              base = subst (λ (b : ℕ). IfSome (limit_at zones place) (λ limit. limit.bucket.base ≡ local doc q.process b)) (sym (moded_base place)) (s place).base;
+            };
+        gone = λ place none. moded_rated place ∙ ap (λ (n : ℕ). cond (nat_lt 0 n) (rated q place h) None) (sym (moded_size place) ∙ none);
+      }
+
+-- ---- health through the marks and the zones' entries
+
+pub marks_say : (doc : Doc) (k : ℕ) (q : Identity) (h : List Entry) → SaysSame q h (marks doc k q h)
+marks_say doc k q h =
+    every (mark doc k q) (SaysSame q h)
+    (λ name g s. mark_either doc k q name g (λ f. SaysSame q h f) s (λ given written. says_more q k h g (Mark name given written (try_node q name given g)) refl s))
+    (node_names h) h (says-same q h)
+
+-- the view is that of the marks
+pub marks_view : (doc : Doc) (k : ℕ) (q : Identity) (h : List Entry) (v : View) → IsView doc k q h v → IsView doc k q (marks doc k q h) v
+marks_view doc k q h v s = every (mark doc k q) (λ g. IsView doc k q g v) (λ name g. mark_view doc k q name g v) (node_names h) h s
+
+-- the names are those of the nodes after the marks, and there are as many nodes
+pub marks_named : (doc : Doc) (k : ℕ) (q : Identity) (h : List Entry) (names : List ℕ) → AreNamed (λ n. has (seen_node q n h)) names → AreNamed (λ n. has (seen_node q n (marks doc k q (add k q Pass h)))) names
+marks_named doc k q h names are =
+    let passed = named_passed q k h names are in
+    record { ascend = are.ascend; named = λ n. passed.named n ∙ sym (seen_too q (add k q Pass h) (marks doc k q (add k q Pass h)) (marks_left doc k q h) n) }
+
+as_many : (xs : List Node) → length (map place_of xs) ≡ length xs
+as_many [] = refl
+as_many (x ∷ xs) = omega (arith, as_many xs)
+
+pub marks_many : (doc : Doc) (k : ℕ) (q : Identity) (h : List Entry) → length (nodes q (marks doc k q (add k q Pass h))) ≡ length (nodes q h)
+marks_many doc k q h =
+    let g = marks doc k q (add k q Pass h) in
+    sym (as_many (nodes q g))
+    ∙ ap length (nodes_placed q (add k q Pass h) g (marks_left doc k q h))
+    ∙ as_many (nodes q (add k q Pass h))
+    ∙ ap length (nodes_passed q k h)
+
+pub moded_nodes : (doc : Doc) (k : ℕ) (q : Identity) (h : List Entry) → nodes q (moded doc k q h) ≡ nodes q (marks doc k q (add k q Pass h))
+moded_nodes doc k q h =
+    let g = marks doc k q (add k q Pass h) in
+    let on = all_full doc (nodes q g) in
+    mode_nodes doc k q h on (is_same_mode on (mode q g)) g
+
+-- ---- what the zones' entries leave
+
+pub record Zoned (doc : Doc) (q : Identity) (k : ℕ) (h : List Entry) (c : Cluster) (s : Store) (x : Health) : Type 0 where
+  pub cluster : ClusterStands q h c
+  pub moved : IsMoved q k h c
+  pub store : StoreStands h s
+  pub synced : is_synced q h ≡ true
+  pub health : HealthStands doc q h x
+
+zone_more : (doc : Doc) (q : Identity) (k : ℕ) (h : List Entry) (place : Place) (state : ZoneState) (rate : ℕ) (c : Cluster) (s : Store) (x : Health) → Zoned doc q k h c s x → Zoned doc q k (add k q (Zone place state rate) h) c s x
+zone_more doc q k h place state rate c s x r =
+    let t = Zone place state rate in
+    let change = zone_change q k h place state rate in
+    record {
+      cluster = same_aside q h (add k q t h) no_node no_pod c change r.cluster;
+      moved = refused_moved q h (add k q t h) None change k c c (own_before q k t h) (λ n. refl) r.moved;
+      store = store-beside h (entry k 4 q (Ticks t)) s r.store refl;
+      synced = change.synced ∙ r.synced;
+      health = health-same doc q h (add k q t h) x (unheard-kind q h (entry k 4 q (Ticks t)) refl) r.health;
+    }
+
+pub zones_leave : (doc : Doc) (k : ℕ) (q : Identity) (h : List Entry) (c : Cluster) (s : Store) (x : Health) → Zoned doc q k h c s x → Zoned doc q k (set_zones doc k q h) c s x
+zones_leave doc k q h c s x r = every (zone doc k q (nodes q h)) (λ g. Zoned doc q k g c s x) each (places (nodes q h)) h r
+  where
+    by_test : (place : Place) (g : List Entry) → Zoned doc q k g c s x → (state : ZoneState) (rate : ℕ) (b : Bool) → Zoned doc q k (if b then g else add k q (Zone place state rate) g) c s x
+    by_test place g r state rate true = r
+    by_test place g r state rate false = zone_more doc q k g place state rate c s x r
+
+    each : (place : Place) (g : List Entry) → Zoned doc q k g c s x → Zoned doc q k (zone doc k q (nodes q h) place g) c s x
+    each place g r =
+        let state = state_in doc (nodes q h) place in
+        let rate = rate_in doc (mode q g) (nodes q h) place in
+        by_test place g r state rate (is_rated state rate (rated q place g))
+
+-- ---- the last pass, and the cost
+
+pub pass_last : (doc : Doc) (k : ℕ) (q : Identity) (h : List Entry) → last_pass q (set_zones doc k q (set_mode doc k q (marks doc k q (add k q Pass h)))) ≡ Some k
+pass_last doc k q h = pass_rest doc k q (λ g. last_pass q g ≡ Some k) more (add k q Pass h) (now h)
+  where
+    now : (g : List Entry) → last_pass q (add k q Pass g) ≡ Some k
+    now g = ap (λ b. upper (when b k) (last_pass q g)) (same_self q)
+
+    more : (t : Tick) (g : List Entry) → is_passing t ≡ true → last_pass q g ≡ Some k → last_pass q (add k q t g) ≡ Some k
+    more Pass g is last = now g
+    more t g is last = last
+
+pub rest_cost : (doc : Doc) (k : ℕ) (q : Identity) (g : List Entry) → tick_cost q k g ≤ tick_cost q k (set_zones doc k q (set_mode doc k q g))
+rest_cost doc k q g =
+    every (zone doc k q (nodes q moded_g)) (λ f. tick_cost q k g ≤ tick_cost q k f) (zone_step doc k q (λ f. tick_cost q k g ≤ tick_cost q k f) grows (nodes q moded_g)) (places (nodes q moded_g)) moded_g
+    (mode_step doc k q (λ f. tick_cost q k g ≤ tick_cost q k f) grows g (omega arith))
+  where
+    moded_g : List Entry
+    moded_g = set_mode doc k q g
+
+    grows : (t : Tick) (f : List Entry) → is_passing t ≡ true → tick_cost q k g ≤ tick_cost q k f → tick_cost q k g ≤ tick_cost q k (add k q t f)
+    grows t f is le = omega (arith, le, cost_grows q k f t)

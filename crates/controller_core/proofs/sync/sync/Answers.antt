@@ -1,0 +1,72 @@
+use Rattle.std.proofs.Common.{◌≡◌, ◌∙◌, ◌||◌, ℕ, Bool, List, ◌&&◌, not, false, true, ap, drop, sym, subst, arith}
+use Rattle.std.specs.Prelude.{if◌then◌else◌}
+use Rattle.std.proofs.lemmas.Result.{on_ok_weaker}
+use Rattle.std.specs.BTreeSet.{contains}
+use Rattle.std.specs.Ordering.{nat_cmp}
+use Rattle.kube_objects.specs.Document.{Doc}
+use Rattle.kube_objects.specs.Entry.{Entry, Identity, Sync}
+use Rattle.kube_objects.specs.Feeds.{is_among}
+use Rattle.kube_objects.specs.InForce.{watches}
+use Rattle.kube_objects.specs.Seen.{is_fresh}
+use Rattle.kube_objects.specs.Stored.{node_key}
+use Rattle.object_store.specs.Stands.{changed_in}
+use Rattle.kube_objects.specs.Tick.{add, sync}
+use Rattle.tick_laws.specs.Since.{keys_since}
+use Rattle.tick_laws.specs.Steps.{write_costs}
+use Rattle.tick_laws.specs.ToJudge.{is_to_judge}
+use Rattle.tick_laws.proofs.Steps.{cost_sync, costs_grow}
+use Rattle.tick_laws.proofs.Syncing.{sync_synced}
+use Rattle.term_state.specs.ClusterStands.{ClusterStands}
+use Rattle.term_state.specs.MidTick.{IsMoved}
+use Rattle.term_state.proofs.Writing.{both_ok}
+use Rattle.controller_core.specs.Costs.{HaveCost}
+use Rattle.controller_core.specs.Left.{LeftBut}
+use Rattle.controller_core.proofs.Syncing.Synced.{changed_since, store_synced, sync_moved}
+use Rattle.controller_core.proofs.sync.sync.Goals as goal
+
+-- where there is no sync
+none_is : (doc : Doc) (k : ℕ) (q : Identity) (h : List Entry) (b : Bool) → b ≡ (watches doc q.process h && not (is_fresh q h)) → b ≡ false → sync doc k q h ≡ h
+none_is doc k q h b is off = ap (λ c. (if c then add k q Sync h else h)) (sym is ∙ off)
+
+pub returns-then-not-syncs-clause-stands : goal.returns-then-not-syncs-clause-stands
+returns-then-not-syncs-clause-stands g c doc k q h s st r v =
+    subst (λ f. ClusterStands q f c.args.cluster.now × HaveCost q k h f c.args.steps.now c.args.steps.now) (sym (none_is doc k q h c.syncs.result (c.syncs.ensures doc q h s st v.watch) c.if-not-syncs.true)) (s, omega arith)
+
+pub returns-then-not-syncs-clause-store : goal.returns-then-not-syncs-clause-store
+returns-then-not-syncs-clause-store g c doc k q h st = store_synced k q h c.args.store.now (watches doc q.process h && not (is_fresh q h)) st
+
+pub returns-then-not-syncs-clause-moved : goal.returns-then-not-syncs-clause-moved
+returns-then-not-syncs-clause-moved g c doc k q h s st r v m beneath =
+    subst (λ f. IsMoved q k f c.args.cluster.now) (sym (none_is doc k q h c.syncs.result (c.syncs.ensures doc q h s st v.watch) c.if-not-syncs.true)) m
+
+-- where there is one
+comes : (doc : Doc) (k : ℕ) (q : Identity) (h : List Entry) (b : Bool) → b ≡ (watches doc q.process h && not (is_fresh q h)) → b ≡ true → sync doc k q h ≡ add k q Sync h
+comes doc k q h b is on = ap (λ c. (if c then add k q Sync h else h)) (sym is ∙ on)
+
+pub returns-clause-stands : goal.returns-clause-stands
+returns-clause-stands g c doc k q h s st r v =
+    let after = add k q Sync h in
+    let is = comes doc k q h c.syncs.result (c.syncs.ensures doc q h s st v.watch) c.if-not-syncs.false in
+    let since = changed_since q h c.args.store.now c.position-position.result st (c.position-position.ensures q h s) in
+    let names = contains nat_cmp c.in_ok-to_judge.to_judge in
+    let open_keys = subst (λ keys. LeftBut q after keys c.in_ok-to_judge.to_judge c.take_over.new.self) (sym since) (c.in_ok-to_judge.ensures.stands q k h s st r) in
+    let one = c.in_ok-to_judge.ensures.counted q h s st in
+    let fewer = costs_grow q after names (is_to_judge q h after) (λ n there. (c.in_ok-to_judge.ensures.judged q k h s st n there).1) (keys_since q h) in
+    on_ok_weaker c.judge_changes.result
+    (λ both. subst (λ f. ClusterStands q f c.judge_changes.new.cluster × HaveCost q k h f c.args.steps.now c.judge_changes.new.steps) (sym is) (
+      both.0,
+      omega (arith, one, both.1, cost_sync q k h, ap (write_costs q names after) since, fewer),
+    ))
+    (both_ok c.judge_changes.result _ _ (c.judge_changes.ensures.stands q after open_keys (sync_synced q k h)) (c.judge_changes.ensures.counted q after open_keys (sync_synced q k h)))
+
+pub returns-clause-store : goal.returns-clause-store
+returns-clause-store g c doc k q h st = store_synced k q h c.args.store.now (watches doc q.process h && not (is_fresh q h)) st
+
+pub returns-clause-moved : goal.returns-clause-moved
+returns-clause-moved g c doc k q h s st r v m beneath =
+    let is = comes doc k q h c.syncs.result (c.syncs.ensures doc q h s st v.watch) c.if-not-syncs.false in
+    let since = changed_since q h c.args.store.now c.position-position.result st (c.position-position.ensures q h s) in
+    on_ok_weaker c.judge_changes.result
+    (λ more. sync_moved q k h (sync doc k q h) (drop c.position-position.result (changed_in c.args.store.now)) c.args.cluster.now c.judge_changes.new.cluster since is beneath
+    (λ n. more n ∙ ap (λ b. is_among (drop c.position-position.result (changed_in c.args.store.now)) (node_key n) || b) (c.in_ok-to_judge.ensures.moved n)) m)
+    c.judge_changes.ensures.moved

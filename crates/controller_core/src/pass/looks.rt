@@ -1,0 +1,114 @@
+// Looks at the nodes.
+ghost use Rattle.std.specs.Prelude.{◌≡◌, ℕ, Bool, true, false, List, Some, OnOk};
+ghost use Rattle.kube_objects.specs.Document.{Doc};
+ghost use Rattle.kube_objects.specs.Entry.{Entry, Identity, Pass};
+ghost use Rattle.kube_objects.specs.Health.{renewal};
+ghost use Rattle.kube_objects.specs.Newest.{has};
+ghost use Rattle.kube_objects.specs.Seen.{is_synced, seen_node};
+ghost use Rattle.kube_objects.specs.Stored as stored_words;
+ghost use Rattle.kube_objects.specs.Tick.{add};
+ghost use Rattle.kube_objects.specs.Tick as model;
+ghost use Rattle.kube_objects.specs.declared.deed.Deed.{Deed};
+ghost use Rattle.node_health.specs.Stands.{HealthStands, IsGraceOf, and_looked};
+ghost use Rattle.term_state.specs.ClusterStands.{ClusterStands};
+ghost use Rattle.term_state.specs.MidTick.{IsView, MidTick};
+ghost use Rattle.controller_core.specs.Costs.{HaveCost};
+ghost use Rattle.controller_core.specs.Passing.{IsPassing};
+ghost use Rattle.node_health.specs.Kept as spec;
+ghost use Rattle.watch_cache.specs.Told.{AreNamed};
+
+use crate::pass::marking::with_mark;
+use kube_base::{KUBE_NODE_LEASE, NoMemory, Steps, Wall, whole_second};
+use kube_objects::{Key, Kind, NumberList};
+use node_health::{Grace, Health, Verdict};
+use object_store::Store;
+use term_state::{Cluster, NodeWrite, Told, View, try_write};
+
+fn node_lease(name: u32) -> Key
+    ensures { result ≡ stored_words.node_lease name }
+{
+    Key {
+        kind: Kind::Lease,
+        space: KUBE_NODE_LEASE,
+        name,
+    }
+}
+
+// The renew time of the node's Lease, as it is seen.
+fn renew_time(cluster: &Cluster, name: u32) -> Option<Wall>
+    ensures { (q : Identity) (h : List Entry) → ClusterStands q h cluster.now → is_synced q h ≡ true → result ≡ renewal q name h }
+{
+    match cluster.lease(&node_lease(name)) {
+        None => None,
+        Some((_, lease)) => lease.renewed,
+    }
+}
+
+// Looks at a node that is seen, and marks it where it was silent for longer than its grace.
+fn look<L>(
+    name: u32,
+    cluster: &mut Cluster,
+    health: &mut Health,
+    store: &mut Store,
+    view: &View,
+    grace: &Grace,
+    told: &mut Told,
+    steps: &mut Steps<L>,
+) -> Result<(), NoMemory>
+    ensures { (doc : Doc) (k : ℕ) (q : Identity) (before : List Deed) (h now : List Entry) (looked : ℕ → Bool)
+        → IsPassing doc k q before h now looked cluster.old health.old store.old told.old → IsView doc k q now view.entry.now
+        → IsGraceOf doc grace.now
+        → looked name ≡ false → has (seen_node q name h) ≡ true → seen_node q name now ≡ seen_node q name h
+        → OnOk result (IsPassing doc k q before h (model.mark doc k q name now) (and_looked name looked)
+        cluster.new health.new store.new told.new × HaveCost q k now (model.mark doc k q name now) steps.old steps.new) }
+{
+    let renewed = renew_time(cluster, name);
+    let Some((given, node)) = cluster.node(name) else {
+        return Ok(());
+    };
+    match health.look(name, node, renewed, view.now, grace)? {
+        Verdict::Keep => Ok(()),
+        Verdict::MarkUnknown(reason) => {
+            let written = with_mark(node, whole_second(view.wall))?;
+            try_write(
+                cluster,
+                store,
+                view,
+                told,
+                steps,
+                name,
+                given,
+                written,
+                NodeWrite::Mark(reason),
+            )?;
+            Ok(())
+        }
+    }
+}
+
+/// Looks at each node that is seen, in order, and marks those that were silent for longer than their grace.
+pub(crate) fn look_all<L>(
+    names: &NumberList,
+    cluster: &mut Cluster,
+    health: &mut Health,
+    store: &mut Store,
+    view: &View,
+    grace: &Grace,
+    told: &mut Told,
+    steps: &mut Steps<L>,
+) -> Result<(), NoMemory>
+    ensures { (doc : Doc) (k : ℕ) (q : Identity) (before : List Deed) (h : List Entry)
+        → MidTick q k before (add k q Pass h) cluster.old store.old told.old → HealthStands doc q h health.old
+        → IsView doc k q h view.entry.now
+        → IsGraceOf doc grace.now → AreNamed (λ n. has (seen_node q n h)) names.now
+        → OnOk result (IsPassing doc k q before h (model.marks doc k q (add k q Pass h)) (λ n. spec.is_listed names.now n)
+        cluster.new health.new store.new told.new
+        × HaveCost q k (add k q Pass h) (model.marks doc k q (add k q Pass h)) steps.old steps.new) }
+{
+    let mut rest = names.as_slice();
+    while let Some((name, others)) = rest.split_first() {
+        look(*name, cluster, health, store, view, grace, told, steps)?;
+        rest = others;
+    }
+    Ok(())
+}
