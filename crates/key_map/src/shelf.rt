@@ -97,12 +97,7 @@ impl<V: Drop> Shelf<V> {
     ghost use Rattle.key_map.specs.Held.{held};
 
     /// Puts a value under a namespace and a name, and answers what was there. Where memory is wanting nothing changes, and nothing is there.
-    pub(crate) fn insert(
-        &mut self,
-        space: u32,
-        name: u32,
-        value: V,
-    ) -> Result<Option<V>, NoMemory>
+    pub(crate) fn insert(&mut self, space: u32, name: u32, value: V) -> Result<Option<V>, NoMemory>
         ensures old { IfOk result (λ old. old ≡ held self.old space name) }
         ensures put { OnOk result ((s n : ℕ)
             → held self.new s n ≡ (if (space == s) && (name == n) then Some value else held self.old s n)) }
