@@ -2,7 +2,7 @@
 ghost use Rattle.std.specs.Prelude.{◌≡◌, None, Some, IfOk, OnOk, OnErr, option_copied, if◌then◌else◌};
 ghost use Rattle.kube_objects.specs.declared.key.Key.{Key};
 ghost use Rattle.kube_objects.specs.Keys.{key_eq};
-ghost use Rattle.key_map.specs.Values.{value_at};
+ghost use Rattle.key_map.specs.Values.{shelf_of, value_at};
 
 use crate::shelf::Shelf;
 use kube_base::NoMemory;
@@ -34,10 +34,16 @@ impl<V> KeyMap<V> {
     pub fn get(&self, key: &Key) -> Option<&V>
         ensures { option_copied result ≡ value_at self.now key.now }
     {
-        match key.kind {
-            Kind::Node => self.nodes.get(key.space, key.name),
-            Kind::Lease => self.leases.get(key.space, key.name),
-            Kind::Pod => self.pods.get(key.space, key.name),
+        self.shelf(key.kind).get(key.space, key.name)
+    }
+
+    fn shelf(&self, kind: Kind) -> &Shelf<V>
+        ensures { result.now ≡ shelf_of self.now kind }
+    {
+        match kind {
+            Kind::Node => &self.nodes,
+            Kind::Lease => &self.leases,
+            Kind::Pod => &self.pods,
         }
     }
 }
