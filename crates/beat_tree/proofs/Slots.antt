@@ -56,6 +56,14 @@ one_up xs at v some h is tidy i least within apart = by_place (cases_eq i at)
     by_place (inl e) = subst (IsTidyAt (set xs at v)) (sym e) (written xs at v some h is)
     by_place (inr ne) = still xs at i v ne (λ e. apart (omega (arith, e))) (λ e. apart (omega (arith, e))) (tidy i least (let long = length-set xs at v in omega (arith, within, long)) ne)
 
+-- the one that may be untidy isn't
+pub none_up : (xs : List (Option Beat)) (at : ℕ) → beat_at xs at ≡ earlier (beat_at xs (2 * at)) (beat_at xs (2 * at + 1)) → IsTidyBut xs at → IsTidy xs
+none_up xs at is tidy i least within = by_place (cases_eq i at)
+  where
+    by_place : (i ≡ at) ⊎ (i ≢ at) → IsTidyAt xs i
+    by_place (inl e) = subst (IsTidyAt xs) (sym e) is
+    by_place (inr ne) = tidy i least within ne
+
 -- a leaf was written
 pub leaf_written : (xs : List (Option Beat)) (at : ℕ) (v : Option Beat) → length xs ≤ 2 * at → IsTidy xs → IsTidyBut (set xs at v) (at / 2)
 leaf_written xs at v low tidy i least within apart =

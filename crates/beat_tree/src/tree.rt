@@ -1,5 +1,5 @@
 // A tournament tree of least beats.
-ghost use Rattle.std.specs.Prelude.{◌≡◌, ◌==◌, ◌+◌, ◌*◌, ◌<◌, ◌≤◌, ◌/◌, ℕ, Option, None, true, false, IfOk, IfSome, IfNone, vec_len, length, if◌then◌else◌};
+ghost use Rattle.std.specs.Prelude.{◌≡◌, ◌==◌, ◌+◌, ◌*◌, ◌<◌, ◌≤◌, ◌/◌, ℕ, Option, None, true, false, ◌↔◌, IfOk, IfSome, IfNone, IsTrue, vec_len, length, if◌then◌else◌};
 ghost use Rattle.beat_tree.specs.Tidy.{IsAcross, IsTidy, IsTidyBut, beat_at, comes_before, doubled, earlier};
 
 use kube_base::{Beat, NoMemory};
@@ -9,7 +9,7 @@ use std::alloc::Global;
 ///
 /// Slot 1 is the root, the slots 2 * i and 2 * i + 1 stand below slot i, and the second half of the slots are the leaves, so many steps
 /// below the root as the tree is deep. Each slot above them has the earlier beat of the two below it. So a change and a search cost the
-/// logarithm of the leaves.
+/// logarithm of the leaves, and a change less where slots above keep their beats.
 #[derive(Debug, Drop)]
 pub struct BeatTree {
     slots: Vec<Option<Beat>>,
@@ -40,7 +40,18 @@ fn earlier(one: Option<Beat>, other: Option<Beat>) -> Option<Beat>
     if comes_before(other, one) { other } else { one }
 }
 
-// Finds the earlier beat below each slot above this one anew.
+// Whether two beats are one, or none is there.
+fn are_same(one: Option<Beat>, other: Option<Beat>) -> bool
+    ensures { IsTrue result ↔ (one ≡ other) }
+{
+    match (one, other) {
+        (None, None) => true,
+        (Some(one), Some(other)) => one.0 == other.0,
+        _ => false,
+    }
+}
+
+// Finds the earlier beat below each slot above this one anew, up to one that keeps its beat: so do all above that.
 fn refresh(slots: &mut [Option<Beat>], from: usize)
     requires within { (1 ≤ from) × (from < length slots.old) }
     requires even { (n : ℕ) × (length slots.old ≡ 2 * n) }
@@ -52,7 +63,11 @@ fn refresh(slots: &mut [Option<Beat>], from: usize)
     let mut slot = from;
     while slot > 1 {
         slot /= 2;
-        slots[slot] = earlier(slots[2 * slot], slots[2 * slot + 1]);
+        let beat = earlier(slots[2 * slot], slots[2 * slot + 1]);
+        if are_same(slots[slot], beat) {
+            return;
+        }
+        slots[slot] = beat;
     }
 }
 

@@ -203,3 +203,21 @@ settled_same key due old new others k once set = ap (λ x. changed others x k) s
     by_key : (b : Bool) → (b ≡ true → key ≡ k) → changed others (cond b due old) k ≡ cond b due (changed others old k)
     by_key true f = changes_none others k due (subst (λ q. names_key others q ≡ false) (f refl) once)
     by_key false f = refl
+
+-- ---- a pod is due never from now on
+
+taken_away : (t : Bool) → (not (t && true) && t) ≡ false
+taken_away true = refl
+taken_away false = refl
+
+pub settled_never : (dues new_dues : Dues) (timed new : Timed) (key : Key) → InStep dues timed → ((k : Key) → due_of new_dues k ≡ cond (key_eq key k) Never (due_of dues k))
+    → ((d : ℕ) (k : Key) → has_entry new d k ≡ (not (key_eq key k && (is_time d (due_of dues key) && true)) && has_entry timed d k)) → InStep new_dues new
+settled_never dues new_dues timed new key s set took d k =
+    took d k
+    ∙ ap (λ b. not (key_eq key k && (is_time d (due_of dues key) && true)) && b) (s d k)
+    ∙ by_key (key_eq key k) (λ same. same_key key k same)
+    ∙ ap (is_time d) (sym (set k))
+  where
+    by_key : (b : Bool) → (b ≡ true → key ≡ k) → (not (b && (is_time d (due_of dues key) && true)) && is_time d (due_of dues k)) ≡ is_time d (cond b Never (due_of dues k))
+    by_key false f = refl
+    by_key true f = ap (λ q. not (is_time d (due_of dues q) && true) && is_time d (due_of dues k)) (f refl) ∙ taken_away (is_time d (due_of dues k))

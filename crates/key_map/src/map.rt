@@ -1,29 +1,21 @@
 // A map from keys.
-ghost use Rattle.std.specs.Prelude.{◌≡◌, ◌<◌, None, Some, IfOk, OnOk, OnErr, option_copied, if◌then◌else◌};
+ghost use Rattle.std.specs.Prelude.{◌≡◌, None, Some, IfOk, OnOk, OnErr, option_copied, if◌then◌else◌};
 ghost use Rattle.kube_objects.specs.declared.key.Key.{Key};
 ghost use Rattle.kube_objects.specs.Keys.{key_eq};
-ghost use Rattle.key_map.specs.Values as values;
-ghost use Rattle.key_map.specs.Values.{value_at};
+ghost use Rattle.key_map.specs.Values.{shelf_of, value_at};
 
+use crate::shelf::Shelf;
 use kube_base::NoMemory;
 use kube_objects::{Key, Kind};
 use std::alloc::Global;
-use std::collections::HashMap;
 
-// A namespace and a name in one number, which is hashed faster than a pair.
-fn place_of(key: &Key) -> u64
-    ensures place { result ≡ values.place_of key.now }
-    ensures fits { key.now.name < 4294967296 }
-{
-    u64::from(key.space) * 4_294_967_296 + u64::from(key.name)
-}
-
-/// Values under keys. Each call costs the same however many there are, but that a map that grows is copied now and then.
+/// Values under keys. Each call costs the same however many there are, but that a map that grows is copied now and then, and makes a place
+/// for each number up to that of a name.
 #[derive(Drop)]
 pub struct KeyMap<V> {
-    nodes: HashMap<u64, V>,
-    leases: HashMap<u64, V>,
-    pods: HashMap<u64, V>,
+    nodes: Shelf<V>,
+    leases: Shelf<V>,
+    pods: Shelf<V>,
 }
 
 impl<V> KeyMap<V> {
@@ -32,9 +24,9 @@ impl<V> KeyMap<V> {
         ensures { (k : Key) → value_at result k ≡ None }
     {
         KeyMap {
-            nodes: HashMap::new(alloc),
-            leases: HashMap::new(alloc),
-            pods: HashMap::new(alloc),
+            nodes: Shelf::new(alloc),
+            leases: Shelf::new(alloc),
+            pods: Shelf::new(alloc),
         }
     }
 
@@ -42,11 +34,16 @@ impl<V> KeyMap<V> {
     pub fn get(&self, key: &Key) -> Option<&V>
         ensures { option_copied result ≡ value_at self.now key.now }
     {
-        let place = place_of(key);
-        match key.kind {
-            Kind::Node => self.nodes.get(&place),
-            Kind::Lease => self.leases.get(&place),
-            Kind::Pod => self.pods.get(&place),
+        self.shelf(key.kind).get(key.space, key.name)
+    }
+
+    fn shelf(&self, kind: Kind) -> &Shelf<V>
+        ensures { result.now ≡ shelf_of self.now kind }
+    {
+        match kind {
+            Kind::Node => &self.nodes,
+            Kind::Lease => &self.leases,
+            Kind::Pod => &self.pods,
         }
     }
 }
@@ -59,15 +56,10 @@ impl<V: Drop> KeyMap<V> {
         ensures absent { OnErr result (value_at self.old key ≡ None) }
         ensures same { OnErr result ((k : Key) → value_at self.new k ≡ value_at self.old k) }
     {
-        let place = place_of(&key);
-        let put = match key.kind {
-            Kind::Node => self.nodes.insert(place, value),
-            Kind::Lease => self.leases.insert(place, value),
-            Kind::Pod => self.pods.insert(place, value),
-        };
-        match put {
-            Ok(old) => Ok(old),
-            Err(_) => Err(NoMemory),
+        match key.kind {
+            Kind::Node => self.nodes.insert(key.space, key.name, value),
+            Kind::Lease => self.leases.insert(key.space, key.name, value),
+            Kind::Pod => self.pods.insert(key.space, key.name, value),
         }
     }
 
@@ -76,11 +68,10 @@ impl<V: Drop> KeyMap<V> {
         ensures old { result ≡ value_at self.old key.now }
         ensures taken { (k : Key) → value_at self.new k ≡ (if key_eq key.now k then None else value_at self.old k) }
     {
-        let place = place_of(key);
         match key.kind {
-            Kind::Node => self.nodes.remove(&place),
-            Kind::Lease => self.leases.remove(&place),
-            Kind::Pod => self.pods.remove(&place),
+            Kind::Node => self.nodes.remove(key.space, key.name),
+            Kind::Lease => self.leases.remove(key.space, key.name),
+            Kind::Pod => self.pods.remove(key.space, key.name),
         }
     }
 }

@@ -13,7 +13,7 @@ ghost use Rattle.node_health.specs.Kept.{after_look, at_reading, grace_for, judg
 ghost use Rattle.node_health.specs.Stands.{HealthStands, IsLook, PassStands, and_looked};
 
 use crate::known::{Known, heartbeat_of, is_silent};
-use crate::listed::is_listed;
+use crate::listed::{are_keys, is_listed};
 use crate::verdict::judge;
 use crate::{Grace, Verdict};
 use kube_base::{Local, NoMemory, Wall};
@@ -74,8 +74,8 @@ impl Health {
         Ok(judge(seen.ready, is_silent(probe, grace.of(seen.ready), now)))
     }
 
-    /// Forgets each known node that isn't in the list. Takes no memory. A list that ascends is searched by halves, any other
-    /// is gone through.
+    /// Forgets each known node that isn't in the list. Takes no memory. A list of just the known nodes, in order, is gone through once; else
+    /// one that ascends is searched by halves for each known node, and any other is gone through for each.
     pub fn forget_others(&mut self, nodes: &NumberList)
         ensures kept { (node : ℕ) → kept self.new node ≡ (if spec.is_listed nodes.now node then kept self.old node else None) }
         ensures stands { (doc : Doc) (k : ℕ) (q : Identity) (h : List Entry)
@@ -84,6 +84,9 @@ impl Health {
             → HealthStands doc q (add k q Pass h) self.new }
     {
         let listed = nodes.as_slice();
+        if are_keys(&self.nodes, listed) {
+            return;
+        }
         let ascends = listed.is_sorted();
         self.nodes
             .retain(|node, _| is_listed(listed, ascends, *node));

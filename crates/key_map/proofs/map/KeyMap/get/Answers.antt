@@ -1,13 +1,7 @@
-use Rattle.std.proofs.Common.{◌∙◌}
-use Rattle.kube_objects.specs.declared.key.Kind.TheVariants.{Node, Lease, Pod}
-use Rattle.key_map.proofs.Places.{value_is}
+use Rattle.std.proofs.Common.{◌∙◌, refl, ap}
+use Rattle.key_map.specs.Held.{held}
+use Rattle.key_map.proofs.Keyed.{value_is}
 use Rattle.key_map.proofs.map.KeyMap.get.Goals as goal
 
-pub returns-in-Node : goal.returns-in-Node
-returns-in-Node g c = c.get.ensures.value ∙ value_is c.args.self.now c.args.key.now Node c.place_of-place.result c.in-Node.is c.place_of-place.ensures.fits c.place_of-place.ensures.place
-
-pub returns-in-Lease : goal.returns-in-Lease
-returns-in-Lease g c = c.get-in-Lease.ensures.value ∙ value_is c.args.self.now c.args.key.now Lease c.place_of-place.result c.in-Lease.is c.place_of-place.ensures.fits c.place_of-place.ensures.place
-
-pub returns-in-Pod : goal.returns-in-Pod
-returns-in-Pod g c = c.get-in-Pod.ensures.value ∙ value_is c.args.self.now c.args.key.now Pod c.place_of-place.result c.in-Pod.is c.place_of-place.ensures.fits c.place_of-place.ensures.place
+pub returns : goal.returns
+returns g c = c.get.ensures ∙ ap (λ s. held s c.args.key.now.space c.args.key.now.name) c.shelf.ensures ∙ value_is c.args.self.now c.args.key.now c.args.key.now.kind refl

@@ -1,68 +1,41 @@
-use Rattle.std.proofs.Common.{◌≡◌, ◌∙◌, ◌==◌, None, Some, refl, sym, ap}
-use Rattle.std.specs.HashMap.{get, Updates}
+use Rattle.std.proofs.Common.{◌∙◌, Some, refl, sym}
+use Rattle.std.proofs.lemmas.Result.{IfOk-weaker, on_err_weaker, on_ok_weaker}
 use Rattle.kube_objects.specs.declared.key.Kind.TheVariants.{Node, Lease, Pod}
-use Rattle.key_map.specs.Values.{value_at}
-use Rattle.key_map.proofs.Places.{lease_changed, node_changed, ok_value, on_err, on_ok, pod_changed, same_of, value_is}
+use Rattle.key_map.proofs.Keyed.{lease_changed, node_changed, pod_changed, same_of, value_is}
 use Rattle.key_map.proofs.map.KeyMap.insert.Goals as goal
-use Rattle.key_map.proofs.map.KeyMap.insert.Goals.{in-Node, in-Lease, in-Pod}
 
-pub returns-in-Ok-clause-old : goal.returns-in-Ok-clause-old
-returns-in-Ok-clause-old g c =
-    let old = c.args.self.now in
-    let key = c.args.key in
-    let place = c.place_of-place.result in
-    let at = c.place_of-place.ensures.place in
-    let low = c.place_of-place.ensures.fits in
-    elim c.match-key.branch [
-      | in-Node w ↦ ok_value (λ o. o ≡ get ◌==◌ old.nodes place) c.match-key.put w.insert-put.result c.in-Ok.old w.put-is c.in-Ok.is w.insert-put.ensures.old ∙ value_is old key Node place w.in-Node.is low at
-      | in-Lease w ↦ ok_value (λ o. o ≡ get ◌==◌ old.leases place) c.match-key.put w.insert-put-in-Lease.result c.in-Ok.old w.put-is c.in-Ok.is w.insert-put-in-Lease.ensures.old ∙ value_is old key Lease place w.in-Lease.is low at
-      | in-Pod w ↦ ok_value (λ o. o ≡ get ◌==◌ old.pods place) c.match-key.put w.insert-put-in-Pod.result c.in-Ok.old w.put-is c.in-Ok.is w.insert-put-in-Pod.ensures.old ∙ value_is old key Pod place w.in-Pod.is low at
-    ]
+pub returns-in-Node-clause-old : goal.returns-in-Node-clause-old
+returns-in-Node-clause-old g c = IfOk-weaker c.insert.result _ _ (λ o h. h ∙ value_is c.args.self.now c.args.key Node c.in-Node.is) c.insert.ensures.old
 
-pub returns-in-Ok-clause-put : goal.returns-in-Ok-clause-put
-returns-in-Ok-clause-put g c k =
-    let old = c.args.self.now in
-    let key = c.args.key in
-    let place = c.place_of-place.result in
-    let at = c.place_of-place.ensures.place in
-    let low = c.place_of-place.ensures.fits in
-    let put = Some c.args.value in
-    elim c.match-key.branch [
-      | in-Node w ↦ ap (λ m. value_at m k) w.self-is
-          ∙ node_changed old _ key place put w.in-Node.is low at
-          (on_ok (Updates ◌==◌ old.nodes w.insert-put.new.self place put) c.match-key.put w.insert-put.result c.in-Ok.old w.put-is c.in-Ok.is w.insert-put.ensures.updates) refl refl k
-      | in-Lease w ↦ ap (λ m. value_at m k) w.self-is
-          ∙ lease_changed old _ key place put w.in-Lease.is low at
-          (on_ok (Updates ◌==◌ old.leases w.insert-put-in-Lease.new.self place put) c.match-key.put w.insert-put-in-Lease.result c.in-Ok.old w.put-is c.in-Ok.is w.insert-put-in-Lease.ensures.updates) refl refl k
-      | in-Pod w ↦ ap (λ m. value_at m k) w.self-is
-          ∙ pod_changed old _ key place put w.in-Pod.is low at
-          (on_ok (Updates ◌==◌ old.pods w.insert-put-in-Pod.new.self place put) c.match-key.put w.insert-put-in-Pod.result c.in-Ok.old w.put-is c.in-Ok.is w.insert-put-in-Pod.ensures.updates) refl refl k
-    ]
+pub returns-in-Node-clause-put : goal.returns-in-Node-clause-put
+returns-in-Node-clause-put g c = on_ok_weaker c.insert.result (λ put. node_changed c.args.self.now _ c.args.key (Some c.args.value) c.in-Node.is put refl refl) c.insert.ensures.put
 
-pub returns-clause-absent : goal.returns-clause-absent
-returns-clause-absent g c =
-    let old = c.args.self.now in
-    let key = c.args.key in
-    let place = c.place_of-place.result in
-    let at = c.place_of-place.ensures.place in
-    let low = c.place_of-place.ensures.fits in
-    elim c.match-key.branch [
-      | in-Node w ↦ sym (value_is old key Node place w.in-Node.is low at)
-          ∙ on_err (get ◌==◌ old.nodes place ≡ None) c.match-key.put w.insert-put.result c.in-Err.field-0 w.put-is c.in-Err.is w.insert-put.ensures.absent
-      | in-Lease w ↦ sym (value_is old key Lease place w.in-Lease.is low at)
-          ∙ on_err (get ◌==◌ old.leases place ≡ None) c.match-key.put w.insert-put-in-Lease.result c.in-Err.field-0 w.put-is c.in-Err.is w.insert-put-in-Lease.ensures.absent
-      | in-Pod w ↦ sym (value_is old key Pod place w.in-Pod.is low at)
-          ∙ on_err (get ◌==◌ old.pods place ≡ None) c.match-key.put w.insert-put-in-Pod.result c.in-Err.field-0 w.put-is c.in-Err.is w.insert-put-in-Pod.ensures.absent
-    ]
+pub returns-in-Node-clause-absent : goal.returns-in-Node-clause-absent
+returns-in-Node-clause-absent g c = on_err_weaker c.insert.result (λ none. sym (value_is c.args.self.now c.args.key Node c.in-Node.is) ∙ none) c.insert.ensures.absent
 
-pub returns-clause-same : goal.returns-clause-same
-returns-clause-same g c k =
-    let old = c.args.self.now in
-    elim c.match-key.branch [
-      | in-Node w ↦ ap (λ m. value_at m k) w.self-is
-          ∙ same_of old _ (on_err (w.insert-put.new.self.entries ≡ old.nodes.entries) c.match-key.put w.insert-put.result c.in-Err.field-0 w.put-is c.in-Err.is w.insert-put.ensures.err) refl refl k
-      | in-Lease w ↦ ap (λ m. value_at m k) w.self-is
-          ∙ same_of old _ refl (on_err (w.insert-put-in-Lease.new.self.entries ≡ old.leases.entries) c.match-key.put w.insert-put-in-Lease.result c.in-Err.field-0 w.put-is c.in-Err.is w.insert-put-in-Lease.ensures.err) refl k
-      | in-Pod w ↦ ap (λ m. value_at m k) w.self-is
-          ∙ same_of old _ refl refl (on_err (w.insert-put-in-Pod.new.self.entries ≡ old.pods.entries) c.match-key.put w.insert-put-in-Pod.result c.in-Err.field-0 w.put-is c.in-Err.is w.insert-put-in-Pod.ensures.err) k
-    ]
+pub returns-in-Node-clause-same : goal.returns-in-Node-clause-same
+returns-in-Node-clause-same g c = on_err_weaker c.insert.result (λ put. same_of c.args.self.now _ put (λ s n. refl) (λ s n. refl)) c.insert.ensures.same
+
+pub returns-in-Lease-clause-old : goal.returns-in-Lease-clause-old
+returns-in-Lease-clause-old g c = IfOk-weaker c.insert-in-Lease.result _ _ (λ o h. h ∙ value_is c.args.self.now c.args.key Lease c.in-Lease.is) c.insert-in-Lease.ensures.old
+
+pub returns-in-Lease-clause-put : goal.returns-in-Lease-clause-put
+returns-in-Lease-clause-put g c = on_ok_weaker c.insert-in-Lease.result (λ put. lease_changed c.args.self.now _ c.args.key (Some c.args.value) c.in-Lease.is put refl refl) c.insert-in-Lease.ensures.put
+
+pub returns-in-Lease-clause-absent : goal.returns-in-Lease-clause-absent
+returns-in-Lease-clause-absent g c = on_err_weaker c.insert-in-Lease.result (λ none. sym (value_is c.args.self.now c.args.key Lease c.in-Lease.is) ∙ none) c.insert-in-Lease.ensures.absent
+
+pub returns-in-Lease-clause-same : goal.returns-in-Lease-clause-same
+returns-in-Lease-clause-same g c = on_err_weaker c.insert-in-Lease.result (λ put. same_of c.args.self.now _ (λ s n. refl) put (λ s n. refl)) c.insert-in-Lease.ensures.same
+
+pub returns-in-Pod-clause-old : goal.returns-in-Pod-clause-old
+returns-in-Pod-clause-old g c = IfOk-weaker c.insert-in-Pod.result _ _ (λ o h. h ∙ value_is c.args.self.now c.args.key Pod c.in-Pod.is) c.insert-in-Pod.ensures.old
+
+pub returns-in-Pod-clause-put : goal.returns-in-Pod-clause-put
+returns-in-Pod-clause-put g c = on_ok_weaker c.insert-in-Pod.result (λ put. pod_changed c.args.self.now _ c.args.key (Some c.args.value) c.in-Pod.is put refl refl) c.insert-in-Pod.ensures.put
+
+pub returns-in-Pod-clause-absent : goal.returns-in-Pod-clause-absent
+returns-in-Pod-clause-absent g c = on_err_weaker c.insert-in-Pod.result (λ none. sym (value_is c.args.self.now c.args.key Pod c.in-Pod.is) ∙ none) c.insert-in-Pod.ensures.absent
+
+pub returns-in-Pod-clause-same : goal.returns-in-Pod-clause-same
+returns-in-Pod-clause-same g c = on_err_weaker c.insert-in-Pod.result (λ put. same_of c.args.self.now _ (λ s n. refl) (λ s n. refl) put) c.insert-in-Pod.ensures.same

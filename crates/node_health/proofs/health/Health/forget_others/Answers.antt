@@ -1,10 +1,10 @@
-use Rattle.std.proofs.Common.{◌≡◌, true, rules}
+use Rattle.std.proofs.Common.{◌≡◌, ◌∙◌, true, rules}
 use Rattle.std.proofs.lemmas.List.Sorted.{non_decreasing_from_is_sorted}
 use Rattle.std.specs.List.Sorted.{IsNonDecreasing}
 use Rattle.std.proofs.lemmas.Map.Made.{filter_same_pairs}
 use Rattle.node_health.specs.Kept.{is_listed}
 use Rattle.node_health.proofs.Looks.{pass-forgotten}
-use Rattle.node_health.proofs.Nodes.{kept-forgotten}
+use Rattle.node_health.proofs.Nodes.{kept-forgotten, kept-listed}
 use Rattle.node_health.proofs.Searches.{when_true}
 use Rattle.node_health.proofs.health.Health.forget_others.Goals as goal
 
@@ -19,3 +19,9 @@ returns-clause-kept c =
 
 pub returns-clause-stands : goal.returns-clause-stands
 returns-clause-stands c doc k q h s found = pass-forgotten doc k q h c.args.nodes.now c.args.self.now (record { nodes = c.retain.new.self }) s found (returns-clause-kept c)
+
+pub returns-then-are_keys-clause-kept : goal.returns-then-are_keys-clause-kept
+returns-then-are_keys-clause-kept c = kept-listed c.args.self.now c.args.nodes.now (c.are_keys.ensures c.if-are_keys.true ∙ c.as_slice-listed.ensures)
+
+pub returns-then-are_keys-clause-stands : goal.returns-then-are_keys-clause-stands
+returns-then-are_keys-clause-stands c doc k q h s found = pass-forgotten doc k q h c.args.nodes.now c.args.self.now c.args.self.now s found (returns-then-are_keys-clause-kept c)
