@@ -58,7 +58,7 @@ kube_lens answers what one asks of a document or a trace. It reads standard inpu
 $(tell_command "$called margin < DOCUMENT" 'how much room each lease leaves, the least that would do, how long a leader may stand still')
 $(tell_command "$called margin --json < DOCUMENT" '')
 $(tell_command '' 'the same as one JSON object')
-$(tell_command "$called margin --lease 15s ..." 'the same of flags: --lease --renew --retry --timeout --skew --beat')
+$(tell_command "$called margin --lease 15s ..." 'the same of flags: --lease --renew --retry --timeout --skew --beat --json')
 $(tell_command "$called leaders < TRACE" 'who led from when to when, when nobody did, and whether two did at once')
 $(tell_command "$called leaders --json < TRACE" 'the same as one JSON object')
 $(tell_command "$called summary < TRACE" 'what a trace comes to, as tables: terms, zones, nodes, evictions, totals')
@@ -67,6 +67,8 @@ $(tell_command "$called summary --document DOCUMENT < TRACE" '')
 $(tell_command '' 'the tables, and how late each pod was evicted')
 $(tell_command "$called lines --json < TRACE" 'each line of a trace as a JSON object on a line of its own, for jq')
 $(tell_command "$called explain < DOCUMENT" 'why a document is refused, where, and what may stand there')
+$(tell_command "$called explain --json < DOCUMENT" '')
+$(tell_command '' 'the same as one JSON object')
 $(tell_command "$called --help, --version" 'these lines, and the version')
 
 Exit status: 0 answered, 1 unsafe, two at once, or the input is refused, 2 no such command, 3 the input can't be read,

@@ -178,8 +178,8 @@ def texts(seed, count, files):
     return cases
 
 
-def ran(program, word, text):
-    done = subprocess.run([program, word], input=text, stdout=subprocess.PIPE, check=False)
+def ran(program, words, text):
+    done = subprocess.run([program, *words], input=text, stdout=subprocess.PIPE, check=False)
     return done.returncode, done.stdout
 
 
@@ -246,8 +246,8 @@ def main():
             sys.exit(f'{program} is not built')
     seen, wrong = {}, []
     for text in texts(words.seed, words.count, words.files):
-        checked = ran(os.path.abspath(words.replay), 'check', text)
-        found = fault(text, checked, ran(os.path.abspath(words.program), 'explain', text))
+        checked = ran(os.path.abspath(words.replay), ['check'], text)
+        found = fault(text, checked, ran(os.path.abspath(words.program), ['explain'], text))
         kind = checked[1].split(b' ')[1].decode() if checked[0] == 1 else 'ok'
         seen[kind] = seen.get(kind, 0) + 1
         if found:

@@ -1,21 +1,25 @@
 #!/usr/bin/env python3
-"""Compares the JSON of `kube_lens lines --json`, `leaders --json` and `summary --json` with the lines of traces, and that of `kube_lens margin --json`
-with the numbers of documents, on the examples and on traces and documents made from seeds.
+"""Compares the JSON of `kube_lens lines --json`, `leaders --json` and `summary --json` with the lines of traces, that of `kube_lens margin --json`
+with the numbers of documents and of flags, and that of `kube_lens explain --json` with the places in documents, on the examples and on traces,
+documents and flags made from seeds.
 
     tools/test_lens_json.py [--count 200] [--seed 1] [--program PROGRAM] [--traces FOLDER]
 
 What is wanted of `lines` is made of each line's words as docs/lens.md tells, of `leaders` it is what tools/test_lens_trace.py asks of each
-beat, of `margin` what tools/test_lens.py finds by trying, and of `summary` the tables of tools/test_lens_summary.py, with no look at the program;
-Python's own reader reads the JSON, and names, values and their order are compared. FOLDER may have more traces, one a file. The exit status is 1
-where anything differs. Nothing here is a proof.
+beat, of `margin` what tools/test_lens.py finds by trying, also of the document that flags describe, and of `summary` the tables of
+tools/test_lens_summary.py, with no look at the program; what `explain` tells is judged by tools/test_lens_explain.py, which asks `check` and finds
+the places itself. Python's own reader reads the JSON, and names, values and their order are compared. FOLDER may have more traces, one a file.
+The exit status is 1 where anything differs. Nothing here is a proof.
 """
 import argparse
 import json
 import os
+import random
 import subprocess
 import sys
 
 import test_lens
+import test_lens_explain
 import test_lens_summary
 import test_lens_trace
 
@@ -100,6 +104,80 @@ def margin_wanted(doc, replay):
     return [[('controllers', controllers), ('safe', last == 'safe')]]
 
 
+class Flags:
+    """Settings as flags, with what they come to by the lease premise of the two controllers that they describe, tried."""
+
+    def __init__(self, dice):
+        self.dice, self.timings = dice, test_lens.timings(dice)
+        self.skew = dice.choice((0, 0, 1, 1000, 20000, 499999, 500000, dice.randint(0, 500000)))
+        self.beat = dice.choice((1, 7, 100, 1000, dice.randint(1, 1000)))
+        self.is_given = self.timings['renewDeadlineMillis'] > 600000 or dice.random() < 0.6
+        if not self.is_given:
+            self.timings['callTimeoutMillis'] = self.timings['renewDeadlineMillis']
+
+    def words(self):
+        """The flags in any order, each in one word or two, and `--json` among them."""
+        times = [('lease', 'leader-elect-lease-duration', 'leaseDurationSeconds'), ('renew', 'leader-elect-renew-deadline', 'renewDeadlineMillis'),
+                 ('retry', 'leader-elect-retry-period', 'retryPeriodMillis')] + [('timeout', 'timeout', 'callTimeoutMillis')] * self.is_given
+        flags = [(self.dice.choice((own, other)), f'{self.timings[key]}{"s" if own == "lease" else "ms"}') for own, other, key in times]
+        flags += [('skew', f'{self.skew}ppm'), ('beat', f'{self.beat}ms')]
+        self.dice.shuffle(flags)
+        groups = [[f'--{name}={value}'] if self.dice.random() < 0.5 else [f'--{name}', value] for name, value in flags]
+        groups.insert(self.dice.randint(0, len(groups)), ['--json'])
+        return [word for group in groups for word in group]
+
+    def at(self, skew):
+        """The reference for the document of these settings and a skew: the slowest controller, and the fastest."""
+        return test_lens.Reference({'settings': {'endBeat': 0, 'beatMillis': self.beat, **self.timings},
+                                    'controllers': [{'name': 'slow', 'ratePpm': 1000000 - skew}, {'name': 'fast', 'ratePpm': 1000000 + skew}]})
+
+    def is_safe(self, skew):
+        return skew < 1000000 and self.timings['leaseDurationSeconds'] * 1000 > max(self.at(skew).bound(place, 0) for place in (0, 1))
+
+    def wanted(self):
+        lease, must, slack, least, stall = (number_if(word.split('=')[1]) for word in self.at(self.skew).line(0).split()[1:])
+        greatest = test_lens.Reference.last(self.is_safe) if self.is_safe(0) else None
+        return [[('timeoutMillis', self.timings['callTimeoutMillis']), ('timeoutIsRenewDeadline', not self.is_given), ('skewPpm', self.skew),
+                 ('leaseMillis', lease), ('mustExceedMillis', must), ('slackMillis', slack), ('leastLeaseSeconds', least), ('longestStallMillis', stall),
+                 ('greatestSkewPpm', greatest), ('safe', self.is_safe(self.skew))]]
+
+
+PLACE = ('line', 'column', 'found')
+COUNTS = ('controllers', 'kubelets', 'objects', 'skipped', 'events')
+
+
+def place_line(line, column, found):
+    return f'line {line}, column {column}: {found}\n'
+
+
+def explained(told):
+    """The lines of `explain` that an object stands for, where its members are those that docs/lens.md has, in that order."""
+    names, found = [name for name, _ in told], dict(told)
+    if names == ['wellFormed', 'code', 'path', *PLACE, 'why'] and found['wellFormed'] is False:
+        return f"refused {found['code']} {found['path']}\n{place_line(*(found[name] for name in PLACE))}{found['why']}"
+    if names != ['wellFormed', *COUNTS, 'warnings'] or found['wellFormed'] is not True:
+        return f'no such members: {names}'
+    lines = 'well-formed ' + ' '.join(f'{name}={found[name]}' for name in COUNTS) + '\n'
+    for warning in found['warnings']:
+        if [name for name, _ in warning] != [*PLACE, 'againLine', 'againColumn', 'againFound']:
+            return f'no such members: {warning}'
+        places = [value for _, value in warning]
+        lines += 'warning: a key is here twice, and the last one counts\n' + place_line(*places[:3]) + place_line(*places[3:])
+    return lines
+
+
+def explain_fault(program, replay, text):
+    """What is wrong in the object on a document, if anything."""
+    status, said = test_lens_explain.ran(program, ['explain', '--json'], text)
+    try:
+        objects = [json.loads(line, object_pairs_hook=lambda pairs: pairs) for line in said.decode().splitlines()]
+    except ValueError as fault:
+        return f'no JSON: {fault}: {said}'
+    if len(objects) != 1:
+        return f'{len(objects)} objects'
+    return test_lens_explain.fault(text, test_lens_explain.ran(replay, ['check'], text), (status, explained(objects[0]).encode()))
+
+
 # the tables of `summary` by their members, and whether it is one object
 SUMMARY = (('header', True), ('terms', False), ('spansWithoutLeader', True), ('zones', False), ('nodes', False), ('evictions', False), ('totals', False))
 TEXTS = ('premise', 'leader', 'ended', 'zone', 'state', 'by', 'node', 'change', 'reason', 'pod', 'due', 'kind')
@@ -130,9 +208,9 @@ def summary_wanted(text, replay):
     return [found]
 
 
-def told(program, command, text):
+def told(program, words, text):
     """The exit status and what the program tells: a refusal as it is, and of objects their members."""
-    ran = subprocess.run([program, command, '--json'], input=text, stdout=subprocess.PIPE, text=True, check=False)
+    ran = subprocess.run([program, *words], input=text, stdout=subprocess.PIPE, text=True, check=False)
     if ran.stdout.startswith('refused ') or not ran.stdout.endswith('\n'):
         return ran.returncode, ran.stdout
     return ran.returncode, [json.loads(line, object_pairs_hook=lambda pairs: pairs) for line in ran.stdout[:-1].split('\n')]
@@ -157,13 +235,19 @@ def main():
         if not os.path.exists(program):
             sys.exit(f'{program} is not built')
     program, replay = os.path.abspath(words.program), os.path.abspath(words.replay)
-    cases = [('lines', text, lines_wanted(text, replay)) for text in test_lens_summary.traces(words)]
-    cases += [('leaders', text, leaders_wanted(text, replay)) for text in test_lens_trace.traces(words.seed, words.count)]
-    cases += [('summary', text, summary_wanted(text, replay)) for text in test_lens_summary.traces(words)]
-    cases += [('margin', json.dumps(doc), margin_wanted(doc, replay)) for doc in test_lens.documents(words.seed, words.count)]
+    cases = [(['lines', '--json'], text, lines_wanted(text, replay)) for text in test_lens_summary.traces(words)]
+    cases += [(['leaders', '--json'], text, leaders_wanted(text, replay)) for text in test_lens_trace.traces(words.seed, words.count)]
+    cases += [(['summary', '--json'], text, summary_wanted(text, replay)) for text in test_lens_summary.traces(words)]
+    cases += [(['margin', '--json'], json.dumps(doc), margin_wanted(doc, replay)) for doc in test_lens.documents(words.seed, words.count)]
+    dice = random.Random(words.seed)
+    cases += [(['margin', *flags.words()], '', flags.wanted()) for flags in (Flags(dice) for _ in range(words.count))]
     refused = sum(isinstance(right, str) for _, _, right in cases)
     print(f'{len(cases)} texts, {refused} refused, {sum(len(right) for _, _, right in cases if isinstance(right, list))} objects', flush=True)
-    wrong = [f'{command}: {text}' for command, text, right in cases if told(program, command, text) != (status(command, right), right)]
+    wrong = [f'{said}: {text}' for said, text, right in cases if told(program, said, text) != (status(said[0], right), right)]
+    documents = test_lens_explain.texts(words.seed, words.count, [])
+    print(f'{len(documents)} documents to explain', flush=True)
+    faults = [(explain_fault(program, replay, text), text) for text in documents]
+    wrong += [f'explain: {fault}: {text}' for fault, text in faults if fault]
     print(f'{len(wrong)} differ', *wrong[:3], sep='\n')
     sys.exit(1 if wrong or refused == len(cases) else 0)
 

@@ -1,13 +1,19 @@
 -- What is said of a document, and how a run ends.
-use Rattle.std.specs.Prelude.{◌≡◌, ℕ, Bool, true, false, List, [], ◌∷◌, ◌++◌, length, codes, decimal, Result, Ok, Err}
+use Rattle.std.specs.Prelude.{◌≡◌, ℕ, ◌&&◌, Bool, true, false, List, [], ◌∷◌, ◌++◌, length, codes, decimal, All, Result, Ok, Err, if◌then◌else◌}
+use Rattle.std.specs.List.{flat_map}
 use Rattle.std.specs.Str.{bytes_eq}
-use Rattle.lens_edge.specs.Outcome.{Outcome, Reply, Read, Unread, refusal_text, usage}
+use Rattle.lens_edge.specs.Outcome.{Asked, Outcome, Reply, refusal_text}
 use Rattle.lens_edge.specs.declared.status.Verdict.TheVariants.{Done, Refused}
-use Rattle.lens_why.specs.Places.{IsWhy}
-use Rattle.lens_why.specs.Warnings.{AreWarnings}
+use Rattle.lens_why.specs.declared.place.Shown.{Shown}
+use Rattle.lens_why.specs.declared.twice.Warning.{Warning}
+use Rattle.lens_why.specs.Places.{IsShown, shown_text}
+use Rattle.lens_why.specs.Warnings.{IsWarning, warning_text}
 use Rattle.manifest_json.specs.declared.fault.Refusal.{Refusal}
 use Rattle.script_reader.specs.declared.document.Document.{Document}
 use Rattle.script_reader.specs.Walk.{document_walk}
+use Rattle.lens_explain.specs.Json.{formed_json, refused_json}
+
+-- ---- in lines
 
 -- the counts of a document
 unfoldable pub well_formed_text : Document → List ℕ
@@ -16,37 +22,55 @@ well_formed_text d =
     ++ ((codes " objects=" ++ decimal (length d.objects.items)) ++ ((codes " skipped=" ++ decimal d.objects.skipped)
     ++ ((codes " events=" ++ decimal (length d.events)) ++ codes "\n"))))
 
--- the counts, and warnings, each of two places of the input
-pub record IsFormed (input : List ℕ) (d : Document) (reply : Reply) : Type 0 where
-  pub verdict : reply.verdict ≡ Done
-  pub warnings : List ℕ
-  pub warned : AreWarnings input warnings
-  pub text : reply.text ≡ well_formed_text d ++ warnings
+unfoldable pub formed_text : Document → List Warning → List ℕ
+formed_text d ws = well_formed_text d ++ flat_map warning_text ws
 
--- the line of the refusal, and why: the line of a place of the input, and further lines
-pub record IsRefused (input : List ℕ) (r : Refusal) (reply : Reply) : Type 0 where
-  pub verdict : reply.verdict ≡ Refused
-  pub why : List ℕ
-  pub told : IsWhy input why
-  pub text : reply.text ≡ refusal_text r.code r.path ++ why
+-- the line of the refusal, and why: the line on a place of the input, and further lines
+unfoldable pub refused_text : Refusal → Shown → List ℕ → List ℕ
+refused_text r s more = refusal_text r.code r.path ++ (shown_text s ++ more)
+
+-- ---- in either form
+
+abbrev pub formed : Bool → Document → List Warning → Reply
+formed as_json d ws = record { verdict = Done; text = if as_json then formed_json d ws else formed_text d ws }
+
+abbrev pub refused : Bool → Refusal → Shown → List ℕ → Reply
+refused as_json r s more = record { verdict = Refused; text = if as_json then refused_json r s more else refused_text r s more }
+
+-- the counts, and warnings, each of two places of the input
+pub record IsFormed (as_json : Bool) (input : List ℕ) (d : Document) (reply : Reply) : Type 0 where
+  pub warnings : List Warning
+  pub warned : All (IsWarning input) warnings
+  pub is : reply ≡ formed as_json d warnings
+
+-- the refusal, a place of the input, and further lines
+pub record IsRefused (as_json : Bool) (input : List ℕ) (r : Refusal) (reply : Reply) : Type 0 where
+  pub shown : Shown
+  pub is_shown : IsShown input shown
+  pub more : List ℕ
+  pub is : reply ≡ refused as_json r shown more
 
 -- what is said of the document in these bytes, or of its first refusal
-abbrev pub Explains : List ℕ → Result Document Refusal → Reply → Type 0
-Explains input (Ok d) reply = IsFormed input d reply
-Explains input (Err r) reply = IsRefused input r reply
+abbrev pub Explains : Bool → List ℕ → Result Document Refusal → Reply → Type 0
+Explains as_json input (Ok d) reply = IsFormed as_json input d reply
+Explains as_json input (Err r) reply = IsRefused as_json input r reply
 
-abbrev pub IsExplained : List ℕ → Reply → Type 0
-IsExplained input reply = Explains input (document_walk input) reply
+abbrev pub IsExplained : Bool → List ℕ → Reply → Type 0
+IsExplained as_json input reply = Explains as_json input (document_walk input) reply
 
--- the word `explain` alone
+-- ---- words
+
+-- the word `explain`, alone or with `--json` behind it
 abbrev pub is_explain : List (List ℕ) → Bool
 is_explain (word ∷ []) = bytes_eq word (codes "explain")
+is_explain (word ∷ form ∷ []) = bytes_eq word (codes "explain") && bytes_eq form (codes "--json")
 is_explain _ = false
 
-abbrev pub IsOutcomeOf : Bool → List ℕ → Outcome → Type 0
-IsOutcomeOf true bytes = Read IsExplained bytes
-IsOutcomeOf false bytes = Unread usage bytes
+-- whether there is a word behind the first
+abbrev pub has_form : List (List ℕ) → Bool
+has_form (word ∷ form ∷ more) = true
+has_form _ = false
 
 -- by the words after the program's name and all bytes of the source
 abbrev pub IsOutcome : List (List ℕ) → List ℕ → Outcome → Type 0
-IsOutcome words bytes = IsOutcomeOf (is_explain words) bytes
+IsOutcome words = Asked (is_explain words) (IsExplained (has_form words))

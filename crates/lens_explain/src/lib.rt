@@ -2,6 +2,8 @@
 #![tactic(auto)]
 
 mod explaining;
+mod json;
+mod lines;
 mod running;
 
 pub use running::run;

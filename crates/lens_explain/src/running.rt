@@ -2,16 +2,16 @@
 ghost use Rattle.std.specs.Prelude.{◌≡◌, ◌⊎◌, ℕ, false, List, [], Some, map, string_bytes};
 ghost use Rattle.byte_edge.specs.Bytes.{Rose};
 ghost use Rattle.lens_edge.specs.Outcome.{Ends, EndsAs, Unread, usage};
-ghost use Rattle.lens_explain.specs.Replies.{IsOutcome, IsExplained, is_explain};
+ghost use Rattle.lens_explain.specs.Replies.{IsOutcome, IsExplained, has_form, is_explain};
 
 use crate::explaining::explained;
 use byte_edge::{Sink, Source};
 use kube_base::NoMemory;
-use lens_edge::{Answer, Question, Status, Verdict, ask, tell_usage};
+use lens_edge::{Answer, Question, Status, Verdict, ask_if};
 use std::alloc::Global;
 
-/// With the one word `explain`, reads a document from the source and writes that it is well formed, with its counts, or its refusal and
-/// why. Other words are answered by a line on the usage, for which the source isn't read and no memory is taken.
+/// With the word `explain`, reads a document from the source and writes that it is well formed, with its counts, or its refusal and why; with
+/// `--json` behind it as one JSON object. Other words are answered by a line on the usage, for which the source isn't read and no memory is taken.
 pub fn run<S: Source, K: Sink>(
     alloc: Global,
     words: &Vec<String>,
@@ -30,30 +30,44 @@ pub fn run<S: Source, K: Sink>(
     ensures source_silent { result ≡ Status.SourceFault → K.taken sink.new ≡ K.taken sink.old }
     ensures sink_fault { result ≡ Status.SinkFault → Rose (K.faults sink.old) (K.faults sink.new) }
 {
-    if is_command(words) {
-        ask(alloc, &Why, source, sink)
-    } else {
-        tell_usage(sink)
-    }
+    let asked = Why {
+        as_json: has_form(words),
+    };
+    ask_if(alloc, is_command(words), &asked, source, sink)
 }
 
-/// Whether the words after the program's name are `explain` alone.
+/// Whether the words after the program's name are `explain`, alone or with `--json` behind it.
 fn is_command(words: &Vec<String>) -> bool
     ensures { result ≡ is_explain (map string_bytes words.now.items) }
 {
     match words.as_slice() {
         [word] => word.as_str() == "explain",
+        [word, form] => word.as_str() == "explain" && form.as_str() == "--json",
+        _ => false,
+    }
+}
+
+/// Whether there is a word behind the first.
+fn has_form(words: &Vec<String>) -> bool
+    ensures { result ≡ has_form (map string_bytes words.now.items) }
+{
+    match words.as_slice() {
+        [_, _, ..] => true,
         _ => false,
     }
 }
 
 /// Why a document is refused, if it is.
-struct Why;
+#[derive(Drop)]
+struct Why {
+    /// It is told as one JSON object.
+    as_json: bool,
+}
 
 impl Question for Why {
-    ghost is_reply = { λ asked bytes reply. IsExplained bytes reply };
+    ghost is_reply = { λ asked bytes reply. IsExplained asked.as_json bytes reply };
 
     fn answer(&self, alloc: Global, input: &[u8]) -> Result<Answer, NoMemory> {
-        explained(alloc, input)
+        explained(alloc, input, self.as_json)
     }
 }

@@ -1,3 +1,1 @@
 pub mod PartLaws
-pub mod ReplyLaws
-pub mod TotalLaws

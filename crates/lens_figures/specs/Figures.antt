@@ -1,8 +1,8 @@
 -- What `summary --json` answers: one object of what stands in `summary`'s tables.
-use Rattle.std.specs.Prelude.{ℕ, ◌+◌, ◌-◌, ◌++◌, List, [], ◌∷◌, length, map, codes, filter_map, Option, Some, None}
+use Rattle.std.specs.Prelude.{ℕ, ◌+◌, ◌-◌, ◌++◌, List, [], ◌∷◌, length, map, codes, Option, Some, None}
 use Rattle.serde_json.specs.Data.{Data, null, number, unsigned}
 use Rattle.serde_json.specs.Written.{compact_text}
-use Rattle.lens_edge.specs.Outcome.{Reply, refusal}
+use Rattle.lens_edge.specs.Outcome.{Reply}
 use Rattle.lens_edge.specs.declared.status.Verdict.TheVariants.{Done}
 use Rattle.lens_json.specs.Members.{Named, nat, text, object_of}
 use Rattle.lens_parts.specs.Parts.{list_of}
@@ -10,22 +10,15 @@ use Rattle.lens_summary.specs.Leaders.{ended}
 use Rattle.lens_summary.specs.Spread.{longest, total}
 use Rattle.lens_summary.specs.Summary.{premise_word}
 use Rattle.lens_summary.specs.Together.{beats_of_two}
+use Rattle.lens_summary.specs.declared.subject.Subject.TheVariants.{Zones, Nodes, Pods}
 use Rattle.lens_terms.specs.declared.span.Span.{Span}
 use Rattle.lens_terms.specs.declared.term.Term.{Term}
 use Rattle.lens_terms.specs.Spans.{leaderless}
 use Rattle.lens_terms.specs.Terms.{terms, until}
-use Rattle.lens_trace.specs.declared.judging.Judged.{Judged}
-use Rattle.lens_trace.specs.declared.judging.Judged.TheVariants.{Wrong, Overlaps, OneAtATime}
-use Rattle.lens_trace.specs.Judged.{judged_by}
-use Rattle.lens_trace.specs.Leaders.{wrong_line}
-use Rattle.trace_audit.specs.Entries.{lines_of}
-use Rattle.trace_audit.specs.Verdict.{verdict}
-use Rattle.trace_lines.specs.Forms.{line_of}
-use Rattle.trace_lines.specs.Grammar.{cut}
-use Rattle.trace_lines.specs.Headers.{header_of}
+use Rattle.lens_trace.specs.Traces.{trace_reply}
 use Rattle.trace_lines.specs.declared.header.Header.{Header}
 use Rattle.trace_lines.specs.declared.line.Line.{Line}
-use Rattle.lens_figures.specs.Lines.{zones, nodes, pods}
+use Rattle.lens_figures.specs.Lines.{told}
 use Rattle.lens_figures.specs.Totals.{totals}
 
 -- ---- the trace itself, its terms, and the spans in which nobody leads
@@ -57,8 +50,8 @@ span_members spans = nat (codes "count") (length spans) ∷ nat (codes "longest"
 abbrev pub figure_members : Header → Option ℕ → ℕ → List (Term (List ℕ)) → List (Line (List ℕ)) → List Named
 figure_members header overlap stop ts ls =
     (codes "header", object_of (header_members header (premise_word header.premise) overlap (beats_of_two stop ts))) ∷ (codes "terms", list_of (map (term_members stop) ts))
-    ∷ (codes "spansWithoutLeader", object_of (span_members (leaderless 0 stop ts))) ∷ (codes "zones", list_of (zones ls))
-    ∷ (codes "nodes", list_of (nodes ls)) ∷ (codes "evictions", list_of (pods ls)) ∷ (codes "totals", list_of (totals ls)) ∷ []
+    ∷ (codes "spansWithoutLeader", object_of (span_members (leaderless 0 stop ts))) ∷ (codes "zones", list_of (told Zones ls))
+    ∷ (codes "nodes", list_of (told Nodes ls)) ∷ (codes "evictions", list_of (told Pods ls)) ∷ (codes "totals", list_of (totals ls)) ∷ []
 
 unfoldable pub figures_json : Header → Option ℕ → List (Line (List ℕ)) → List ℕ
 figures_json header overlap ls = compact_text (object_of (figure_members header overlap (header.end + 1) (terms 2 ls) ls))
@@ -66,20 +59,6 @@ figures_json header overlap ls = compact_text (object_of (figure_members header 
 abbrev pub figures : Header → Option ℕ → List (Line (List ℕ)) → Reply
 figures header overlap ls = record { verdict = Done; text = figures_json header overlap ls ++ codes "\n" }
 
--- a wrong line is refused as `audit` does
-abbrev pub answer_by : Judged → Header → List (Line (List ℕ)) → Reply
-answer_by (Wrong line) header ls = wrong_line line
-answer_by (Overlaps line) header ls = figures header (Some line) ls
-answer_by OneAtATime header ls = figures header None ls
-
-abbrev pub answer_behind : Judged → Option Header → List ℕ → Reply
-answer_behind judged None rest = refusal 40 (codes "/1")
-answer_behind judged (Some header) rest = answer_by judged header (filter_map line_of (lines_of rest))
-
-abbrev pub answer_to : Judged → Option (List ℕ × List ℕ) → Reply
-answer_to judged None = refusal 40 (codes "/1")
-answer_to judged (Some parts) = answer_behind judged (header_of parts.0) parts.1
-
 -- what a text is answered
-unfoldable pub figures_reply : List ℕ → Reply
-figures_reply text = answer_to (judged_by (verdict text)) (cut 10 text)
+abbrev pub figures_reply : List ℕ → Reply
+figures_reply = trace_reply figures

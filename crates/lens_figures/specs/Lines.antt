@@ -4,6 +4,8 @@ use Rattle.std.specs.Option.{option_map}
 use Rattle.std.specs.Str.{bytes_eq}
 use Rattle.serde_json.specs.Data.{Data, null, string}
 use Rattle.lens_json.specs.Members.{Named, nat, text}
+use Rattle.lens_summary.specs.declared.subject.Subject.{Subject}
+use Rattle.lens_summary.specs.declared.subject.Subject.TheVariants.{Zones, Nodes, Pods}
 use Rattle.lens_summary.specs.Nodes.{change_in}
 use Rattle.lens_summary.specs.Pods.{eviction_in}
 use Rattle.lens_summary.specs.Zones.{zone_in}
@@ -19,9 +21,6 @@ zone_members l z =
 abbrev pub zone_by : Line (List ℕ) → Option (List Named)
 zone_by l = option_map (zone_members l) (zone_in l.says)
 
-abbrev pub zones : List (Line (List ℕ)) → List (List Named)
-zones ls = filter_map zone_by ls
-
 -- ---- nodes
 
 -- a `-` stands for no reason
@@ -36,9 +35,6 @@ node_members l n =
 abbrev pub node_by : Line (List ℕ) → Option (List Named)
 node_by l = option_map (node_members l) (change_in l.says)
 
-abbrev pub nodes : List (Line (List ℕ)) → List (List Named)
-nodes ls = filter_map node_by ls
-
 -- ---- pods
 
 -- the pod, when it was due, when it was evicted, and who leads
@@ -48,5 +44,13 @@ pod_members l e = text (codes "pod") e.0 ∷ text (codes "due") e.1 ∷ nat (cod
 abbrev pub pod_by : Line (List ℕ) → Option (List Named)
 pod_by l = option_map (pod_members l) (eviction_in l.says)
 
-abbrev pub pods : List (Line (List ℕ)) → List (List Named)
-pods ls = filter_map pod_by ls
+-- ---- all three
+
+-- the object of a line that tells of a subject
+abbrev pub told_by : Subject → Line (List ℕ) → Option (List Named)
+told_by Zones = zone_by
+told_by Nodes = node_by
+told_by Pods = pod_by
+
+abbrev pub told : Subject → List (Line (List ℕ)) → List (List Named)
+told subject ls = filter_map (told_by subject) ls

@@ -4,7 +4,7 @@ use Rattle.std.specs.List.{flat_map}
 use Rattle.lens_json.specs.Members.{Named, nat, text}
 use Rattle.lens_summary.specs.declared.outcome.Outcome.{Outcome}
 use Rattle.lens_summary.specs.declared.outcome.Outcome.TheVariants.{Written, Conflict, Absent, Exists}
-use Rattle.lens_summary.specs.Totals.{is, outcomes}
+use Rattle.lens_summary.specs.Totals.{is, kinds, outcomes}
 use Rattle.trace_lines.specs.declared.line.Line.{Line}
 
 -- how many there are, and how many of them were answered how
@@ -17,13 +17,6 @@ count_members word os =
 -- a kind without lines has no object
 unfoldable pub kind_objects : List (Line (List ℕ)) → List ℕ → List (List Named)
 kind_objects ls word = if length (outcomes (Some word) ls) == 0 then [] else count_members word (outcomes (Some word) ls) ∷ []
-
--- the kinds, in the order in which they are told
-unfoldable pub kinds : List (List ℕ)
-kinds =
-    codes "start" ∷ codes "crash" ∷ codes "stop" ∷ codes "end" ∷ codes "pause" ∷ codes "lead" ∷ codes "create-election" ∷ codes "update-election"
-    ∷ codes "nodelease" ∷ codes "status" ∷ codes "put" ∷ codes "remove" ∷ codes "unknown" ∷ codes "mode" ∷ codes "zone" ∷ codes "taint"
-    ∷ codes "swap" ∷ codes "untaint" ∷ codes "evict" ∷ []
 
 -- an object for each kind, and one for all lines behind the first
 abbrev pub totals : List (Line (List ℕ)) → List (List Named)

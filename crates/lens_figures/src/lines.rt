@@ -9,22 +9,40 @@ use crate::objects::add_object;
 use kube_base::NoMemory;
 use lens_json::{Member, Value};
 use lens_parts::Object;
-use lens_summary::{change_in, eviction_in, zone_in};
+use lens_summary::{Subject, change_in, eviction_in, zone_in};
 use std::alloc::Global;
 use trace_lines::Line;
 
-/// An object for each state that a pass found a zone in, in the order of the lines.
-pub(crate) fn zones_in<'a>(
+/// An object for each line that tells of a subject, in their order.
+pub(crate) fn objects_in<'a>(
     alloc: Global,
+    subject: Subject,
     lines: &[Line<&'a [u8]>],
 ) -> Result<Vec<Object<'a>>, NoMemory>
-    ensures { IfOk result (λ objects. map members_in objects.items ≡ spec.zones (map seen lines.now)) }
+    ensures { IfOk result (λ objects. map members_in objects.items ≡ spec.told subject (map seen lines.now)) }
 {
     let mut objects = Vec::new(alloc);
     for line in lines {
-        add_zone(&mut objects, alloc, line)?;
+        add_line(&mut objects, alloc, subject, line)?;
     }
     Ok(objects)
+}
+
+/// Adds the object of a line, if it tells of the subject.
+fn add_line<'a>(
+    objects: &mut Vec<Object<'a>>,
+    alloc: Global,
+    subject: Subject,
+    line: &Line<&'a [u8]>,
+) -> Result<(), NoMemory>
+    ensures { OnOk result (map members_in objects.new.items
+        ≡ map members_in objects.old.items ++ option_to_list (spec.told_by subject (seen line.now))) }
+{
+    match subject {
+        Subject::Zones => add_zone(objects, alloc, line),
+        Subject::Nodes => add_node(objects, alloc, line),
+        Subject::Pods => add_pod(objects, alloc, line),
+    }
 }
 
 /// Adds the object of the zone that a line tells of, if it does.
@@ -61,20 +79,6 @@ fn zone_members<'a>(
         Member::text(b"by", line.actor),
     ]?;
     Ok(members)
-}
-
-/// An object for each change of a node that the store took, in the order of the lines.
-pub(crate) fn nodes_in<'a>(
-    alloc: Global,
-    lines: &[Line<&'a [u8]>],
-) -> Result<Vec<Object<'a>>, NoMemory>
-    ensures { IfOk result (λ objects. map members_in objects.items ≡ spec.nodes (map seen lines.now)) }
-{
-    let mut objects = Vec::new(alloc);
-    for line in lines {
-        add_node(&mut objects, alloc, line)?;
-    }
-    Ok(objects)
 }
 
 /// Adds the object of the node that a line changes, if it does.
@@ -132,20 +136,6 @@ fn reason_value<'a>(reason: &'a [u8]) -> Value<'a>
     } else {
         Value::Text(reason)
     }
-}
-
-/// An object for each pod that was evicted, in the order in which that was done.
-pub(crate) fn pods_in<'a>(
-    alloc: Global,
-    lines: &[Line<&'a [u8]>],
-) -> Result<Vec<Object<'a>>, NoMemory>
-    ensures { IfOk result (λ objects. map members_in objects.items ≡ spec.pods (map seen lines.now)) }
-{
-    let mut objects = Vec::new(alloc);
-    for line in lines {
-        add_pod(&mut objects, alloc, line)?;
-    }
-    Ok(objects)
 }
 
 /// Adds the object of the pod that a line evicts, if it does.

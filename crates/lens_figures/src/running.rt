@@ -3,13 +3,15 @@ ghost use Rattle.std.specs.Prelude.{◌≡◌, ◌⊎◌, ℕ, false, List, [], 
 ghost use Rattle.byte_edge.specs.Bytes.{Rose};
 ghost use Rattle.lens_edge.specs.Outcome.{Ends, EndsAs, Unread, usage};
 ghost use Rattle.lens_figures.specs.Replies.{IsOutcome, is_figures};
-ghost use Rattle.lens_figures.specs.Figures.{figures_reply};
+ghost use Rattle.lens_figures.specs.Figures as spec;
 
-use crate::answering::figures_in;
+use crate::answering::tell;
 use byte_edge::{Sink, Source};
 use kube_base::NoMemory;
-use lens_edge::{Answer, Question, Status, Verdict, ask, tell_usage};
+use lens_edge::{Answer, Question, Status, Verdict, ask_if};
+use lens_trace::{Telling, answer_on};
 use std::alloc::Global;
+use trace_lines::{Header, Line};
 
 /// With the words `summary --json`, reads a trace from the source and writes what stands in the tables of `summary` as one JSON object. A
 /// text that is no trace is answered by the line of its refusal, and other words by a line on the usage, for which the source isn't read and
@@ -32,11 +34,7 @@ pub fn run<S: Source, K: Sink>(
     ensures source_silent { result ≡ Status.SourceFault → K.taken sink.new ≡ K.taken sink.old }
     ensures sink_fault { result ≡ Status.SinkFault → Rose (K.faults sink.old) (K.faults sink.new) }
 {
-    if is_command(words) {
-        ask(alloc, &Figures, source, sink)
-    } else {
-        tell_usage(sink)
-    }
+    ask_if(alloc, is_command(words), &Figures, source, sink)
 }
 
 /// Whether the words after the program's name are `summary --json` alone.
@@ -52,10 +50,24 @@ fn is_command(words: &Vec<String>) -> bool
 /// What a trace comes to.
 struct Figures;
 
+impl Telling for Figures {
+    ghost told = { λ figures header overlap ls. spec.figures header overlap ls };
+
+    fn tell(
+        &self,
+        alloc: Global,
+        header: Header,
+        overlap: Option<u64>,
+        lines: &[Line<&[u8]>],
+    ) -> Result<Answer, NoMemory> {
+        tell(alloc, header, overlap, lines)
+    }
+}
+
 impl Question for Figures {
-    ghost is_reply = { λ figures bytes reply. reply ≡ figures_reply bytes };
+    ghost is_reply = { λ figures bytes reply. reply ≡ spec.figures_reply bytes };
 
     fn answer(&self, alloc: Global, input: &[u8]) -> Result<Answer, NoMemory> {
-        figures_in(alloc, input)
+        answer_on(alloc, self, input)
     }
 }

@@ -9,7 +9,7 @@ use crate::objects::add_object;
 use kube_base::NoMemory;
 use lens_json::Member;
 use lens_parts::Object;
-use lens_summary::{Outcome, count, outcomes};
+use lens_summary::{Outcome, count, kinds, outcomes};
 use std::alloc::Global;
 use trace_lines::Line;
 
@@ -29,34 +29,6 @@ pub(crate) fn totals_in<'a>(
     let members = count_members(alloc, b"all", &outcomes)?;
     add_object(&mut objects, members)?;
     Ok(objects)
-}
-
-/// The kinds, in the order in which they are told.
-#[tactic(auto, unfolding(crate::specs::Totals::kinds))]
-fn kinds() -> [&'static [u8]; 19]
-    ensures { map (λ word. word.now) result ≡ spec.kinds }
-{
-    [
-        b"start",
-        b"crash",
-        b"stop",
-        b"end",
-        b"pause",
-        b"lead",
-        b"create-election",
-        b"update-election",
-        b"nodelease",
-        b"status",
-        b"put",
-        b"remove",
-        b"unknown",
-        b"mode",
-        b"zone",
-        b"taint",
-        b"swap",
-        b"untaint",
-        b"evict",
-    ]
 }
 
 /// Adds the object of a kind, where there are lines of it.

@@ -1,6 +1,6 @@
 -- What words give: the flags, what each takes, and the settings that they come to. Source: kube-controller-manager's flags of leader
 -- election, with its defaults; and its call timeout, which is the renew deadline.
-use Rattle.std.specs.Prelude.{ℕ, ◌+◌, ◌*◌, ◌/◌, ◌%◌, ◌≤◌, ◌==◌, ◌&&◌, ◌||◌, not, nat_le, nat_lt, Bool, List, [], ◌∷◌, length, codes}
+use Rattle.std.specs.Prelude.{ℕ, ◌+◌, ◌*◌, ◌/◌, ◌%◌, ◌≤◌, ◌==◌, ◌&&◌, ◌||◌, not, nat_le, nat_lt, Bool, true, false, List, [], ◌∷◌, length, codes}
 use Rattle.std.specs.Prelude.{Option, Some, None, unwrap_or, Result, Ok, Err, if◌then◌else◌}
 use Rattle.std.specs.Str.{bytes_eq}
 use Rattle.kube_base.specs.Times.{◌>>=◌}
@@ -68,7 +68,7 @@ IsInRange Beat n = (1 ≤ n) × (n ≤ 1000)
 
 -- ---- settings
 
--- as kube-controller-manager has them where no flag says else, on exact clocks, with a beat of 100 ms
+-- as kube-controller-manager has them where no flag says else, on exact clocks, with a beat of 100 ms, told in lines
 abbrev pub standard : Flags
 standard = record {
   lease_seconds = 15;
@@ -77,6 +77,7 @@ standard = record {
   timeout_millis = None;
   skew_ppm = 0;
   beat_millis = 100;
+  as_json = false;
 }
 
 abbrev pub with_value : Flag → ℕ → Flags → Flags
@@ -91,7 +92,7 @@ with_value Beat n flags = record flags { beat_millis = n }
 abbrev pub timeout_of : Flags → ℕ
 timeout_of flags = unwrap_or flags.timeout_millis flags.renew_millis
 
--- ---- words, each `--flag=value`, or a flag and then its value; the last of a flag counts
+-- ---- words, each `--flag=value`, or a flag and then its value; the last of a flag counts. `--json` stands wherever a flag may
 
 -- a value of a flag, by its number
 abbrev pub numbered : ℕ → Flags → Flag → Option ℕ → Result Given Wrong
@@ -118,8 +119,13 @@ abbrev pub by_parts : ℕ → Flags → List ℕ → Option (List ℕ × List �
 by_parts place flags word None = opened flags (named place (flag_by word))
 by_parts place flags word (Some parts) = joined place flags (named place (flag_by parts.0)) parts.1
 
+abbrev pub begun : ℕ → Flags → List ℕ → Result Given Wrong
+begun place flags word =
+    if is word (codes "--json") then Ok (record { flags = record flags { as_json = true }; waiting = None })
+    else by_parts place flags word (cut 61 word)
+
 abbrev pub by_waiting : ℕ → Flags → Option Flag → List ℕ → Result Given Wrong
-by_waiting place flags None word = by_parts place flags word (cut 61 word)
+by_waiting place flags None word = begun place flags word
 by_waiting place flags (Some flag) word = valued place flags flag word
 
 -- with one more word, which stands at a place

@@ -1,5 +1,5 @@
 -- What words behind `margin` are answered.
-use Rattle.std.specs.Prelude.{ℕ, Bool, true, false, List, [], ◌++◌, codes, decimal, slice_get, Option, Some, None, unwrap_or, Result, Ok, Err}
+use Rattle.std.specs.Prelude.{ℕ, Bool, true, false, List, [], ◌++◌, codes, decimal, slice_get, Option, Some, None, unwrap_or, Result, Ok, Err, if◌then◌else◌}
 use Rattle.lens_edge.specs.Outcome.{Reply}
 use Rattle.lens_edge.specs.declared.status.Verdict.TheVariants.{Usage}
 use Rattle.lens_margin.specs.Lines.{margin_line, verdict_text}
@@ -10,6 +10,7 @@ use Rattle.lens_flags.specs.declared.flags.Flags.{Flags}
 use Rattle.lens_flags.specs.declared.wrong.Wrong.{Wrong}
 use Rattle.lens_flags.specs.declared.wrong.Wrong.TheVariants.{Unknown, Alone, Value, LongRenew, LongRetry, LongTimeout}
 use Rattle.lens_flags.specs.Flags.{timeout_of, flags_of}
+use Rattle.lens_flags.specs.Json.{settings_json}
 use Rattle.lens_flags.specs.Laws.{holds, flags_margin, greatest_skew}
 
 -- ---- settings
@@ -36,8 +37,12 @@ unfoldable pub settings_text : Flags → List ℕ
 settings_text flags =
     margin_line (taken_text flags) (flags_margin flags) ++ skew_text (greatest_skew flags) ++ verdict_text (holds flags)
 
+-- in lines, or as one JSON object
+abbrev pub told_text : Flags → List ℕ
+told_text flags = if flags.as_json then settings_json flags else settings_text flags
+
 abbrev pub told : Flags → Reply
-told flags = record { verdict = verdict_of (holds flags); text = settings_text flags }
+told flags = record { verdict = verdict_of (holds flags); text = told_text flags }
 
 -- ---- words that give none
 
@@ -73,7 +78,7 @@ wrong_text words LongTimeout = codes "a call timeout is at most 10m: give one by
 
 unfoldable pub usage_text : List ℕ → List ℕ
 usage_text wrong =
-    codes "usage: kube_lens margin [--lease 15s] [--renew 10s] [--retry 2s] [--timeout 10s] [--skew 0ppm] [--beat 100ms]\n" ++ wrong ++ codes "\n"
+    codes "usage: kube_lens margin [--lease 15s] [--renew 10s] [--retry 2s] [--timeout 10s] [--skew 0ppm] [--beat 100ms] [--json]\n" ++ wrong ++ codes "\n"
 
 abbrev pub misused : List (List ℕ) → Wrong → Reply
 misused words wrong = record { verdict = Usage; text = usage_text (wrong_text words wrong) }

@@ -7,7 +7,7 @@ ghost use Rattle.lens_flags.specs.Durations as spec;
 const DAY: u64 = 86_400_000;
 
 /// Where the reading of a duration stands.
-#[derive(Clone, Copy, Debug, PartialEq, Eq)]
+#[derive(Clone, Copy)]
 pub enum Stage {
     /// Behind whole amounts, or at the start.
     Whole,
@@ -18,7 +18,7 @@ pub enum Stage {
 }
 
 /// What was read of a duration.
-#[derive(Clone, Copy, Debug, PartialEq, Eq)]
+#[derive(Clone, Copy)]
 pub struct Reading {
     /// The milliseconds of the whole amounts.
     pub millis: u64,

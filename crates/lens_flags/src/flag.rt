@@ -7,7 +7,7 @@ use crate::duration::millis_of;
 use trace_lines::cut;
 
 /// A setting that words can give.
-#[derive(Clone, Copy, Debug, PartialEq, Eq)]
+#[derive(Clone, Copy)]
 pub enum Flag {
     /// How long a lease is held, in whole seconds.
     Lease,
@@ -52,7 +52,7 @@ fn other_flag_by(name: &[u8]) -> Option<Flag>
     }
 }
 
-fn is(text: &[u8], word: &[u8]) -> bool
+pub(crate) fn is(text: &[u8], word: &[u8]) -> bool
     ensures { result ≡ spec.is text.now word.now }
 {
     text == word

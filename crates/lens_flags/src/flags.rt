@@ -4,8 +4,8 @@ ghost use Rattle.lens_flags.specs.Flags as spec;
 
 use crate::flag::Flag;
 
-/// The settings of every controller. What no flag gives is as kube-controller-manager has it.
-#[derive(Clone, Copy, Debug, PartialEq, Eq)]
+/// The settings of every controller, and how they are told. What no flag gives is as kube-controller-manager has it.
+#[derive(Clone, Copy)]
 pub struct Flags {
     pub lease_seconds: u32,
     pub renew_millis: u32,
@@ -15,6 +15,8 @@ pub struct Flags {
     /// How far a clock's rate may be off, in parts per million.
     pub skew_ppm: u32,
     pub beat_millis: u32,
+    /// What they come to is told as one JSON object.
+    pub as_json: bool,
 }
 
 impl Flags {
@@ -29,6 +31,7 @@ impl Flags {
             timeout_millis: None,
             skew_ppm: 0,
             beat_millis: 100,
+            as_json: false,
         }
     }
 

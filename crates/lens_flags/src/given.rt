@@ -3,13 +3,13 @@ ghost use Rattle.std.specs.Prelude.{◌≡◌, Ok, None, IfOk, map, string_bytes
 ghost use Rattle.lens_flags.specs.Flags as spec;
 ghost use Rattle.lens_flags.specs.Ranges.{AreInRange};
 
-use crate::flag::{Flag, flag_by, value_of};
+use crate::flag::{Flag, flag_by, is, value_of};
 use crate::flags::Flags;
 use crate::wrong::Wrong;
 use trace_lines::cut;
 
 /// What words gave up to a place.
-#[derive(Clone, Copy, Debug, PartialEq, Eq)]
+#[derive(Clone, Copy)]
 pub struct Given {
     pub flags: Flags,
     /// The flag whose value is the next word.
@@ -54,13 +54,31 @@ fn with_word(place: usize, given: Given, word: &[u8]) -> Result<Given, Wrong>
     let flags = given.flags;
     match given.waiting {
         Some(flag) => valued(place, flags, flag, word),
-        None => match cut(word, b'=') {
-            Some((name, value)) => valued(place, flags, named(place, name)?, value),
-            None => Ok(Given {
-                flags,
-                waiting: Some(named(place, word)?),
-            }),
-        },
+        None => begun(place, flags, word),
+    }
+}
+
+/// The same with a word for which no flag waits.
+fn begun(place: usize, flags: Flags, word: &[u8]) -> Result<Given, Wrong>
+    requires { AreInRange flags }
+    ensures given { result ≡ spec.begun place flags word.now }
+    ensures ranges { IfOk result (λ given. AreInRange given.flags) }
+{
+    if is(word, b"--json") {
+        return Ok(Given {
+            flags: Flags {
+                as_json: true,
+                ..flags
+            },
+            waiting: None,
+        });
+    }
+    match cut(word, b'=') {
+        Some((name, value)) => valued(place, flags, named(place, name)?, value),
+        None => Ok(Given {
+            flags,
+            waiting: Some(named(place, word)?),
+        }),
     }
 }
 

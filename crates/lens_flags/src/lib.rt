@@ -5,6 +5,7 @@ mod duration;
 mod flag;
 mod flags;
 mod given;
+mod json;
 mod lines;
 mod margin;
 mod running;

@@ -80,7 +80,7 @@ pub(crate) fn add_usage(text: &mut Vec<u8>, words: &[String], wrong: Wrong) -> R
 {
     add(
         text,
-        b"usage: kube_lens margin [--lease 15s] [--renew 10s] [--retry 2s] [--timeout 10s] [--skew 0ppm] [--beat 100ms]\n",
+        b"usage: kube_lens margin [--lease 15s] [--renew 10s] [--retry 2s] [--timeout 10s] [--skew 0ppm] [--beat 100ms] [--json]\n",
     )?;
     add_wrong(text, words, wrong)?;
     add(text, b"\n")

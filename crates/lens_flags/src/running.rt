@@ -1,5 +1,5 @@
 // The command.
-ghost use Rattle.std.specs.Prelude.{◌≡◌, ◌≢◌, ℕ, true, false, List, Some, Ok, IfOk, map, string_bytes};
+ghost use Rattle.std.specs.Prelude.{◌≡◌, ◌≢◌, ◌++◌, ℕ, true, false, List, Some, Ok, IfOk, OnOk, map, string_bytes};
 ghost use Rattle.byte_edge.specs.Bytes.{Rose};
 ghost use Rattle.history.specs.Premise.{lease_premise};
 ghost use Rattle.lens_edge.specs.Outcome.{Ends, Unread, reply_of};
@@ -7,13 +7,14 @@ ghost use Rattle.lens_margin.specs.Replies.{verdict_of};
 ghost use Rattle.lens_flags.specs.declared.flags.Flags.{Flags};
 ghost use Rattle.lens_flags.specs.Described.{described};
 ghost use Rattle.lens_flags.specs.Flags.{behind, flags_of};
-ghost use Rattle.lens_flags.specs.Laws.{NumbersAreOfThePremise};
+ghost use Rattle.lens_flags.specs.Laws.{NumbersAreOfThePremise, holds};
 ghost use Rattle.lens_flags.specs.Replies.{answer_to};
 ghost use Rattle.lens_flags.specs.Replies as spec;
 ghost use Rattle.lens_flags.specs.Ranges.{AreInRange};
 
 use crate::flags::Flags;
 use crate::given::read_flags;
+use crate::json::add_json;
 use crate::lines::{add_settings, add_usage};
 use crate::margin::is_safe;
 use crate::wrong::Wrong;
@@ -23,7 +24,7 @@ use lens_edge::{Answer, Status, Verdict, tell};
 use std::alloc::Global;
 
 /// Writes the margin of the settings that the words behind the first one give, the greatest skew that they bear, and whether they are long
-/// enough; or what is wrong with the words.
+/// enough, in lines or as one JSON object; or what is wrong with the words.
 pub fn run<K: Sink>(alloc: Global, words: &Vec<String>, sink: &mut K) -> Status
     ensures text { (left : List ℕ) → Ends (Unread (answer_to (behind (map string_bytes words.now.items))) left) (Some left) (K.taken sink.old)
         (K.taken sink.new) result }
@@ -70,11 +71,29 @@ fn told(alloc: Global, flags: &Flags) -> Result<Answer, NoMemory>
 {
     let safe = is_safe(flags);
     let mut text = Vec::new(alloc);
-    add_settings(&mut text, alloc, flags, safe)?;
+    add_told(&mut text, alloc, flags, safe)?;
     Ok(Answer {
         verdict: verdict(safe),
         text,
     })
+}
+
+/// Adds what settings come to, in the form that is wanted.
+fn add_told(
+    text: &mut Vec<u8>,
+    alloc: Global,
+    flags: &Flags,
+    safe: bool,
+) -> Result<(), NoMemory>
+    requires ranges { AreInRange flags.now }
+    requires safe { safe ≡ holds flags.now }
+    ensures { OnOk result (text.new.items ≡ text.old.items ++ spec.told_text flags.now) }
+{
+    if flags.as_json {
+        add_json(text, alloc, flags, safe)
+    } else {
+        add_settings(text, alloc, flags, safe)
+    }
 }
 
 fn verdict(safe: bool) -> Verdict

@@ -2,7 +2,7 @@
 use crate::flag::Flag;
 
 /// What is wrong with the words behind the command, of which places count from 0.
-#[derive(Clone, Copy, Debug, PartialEq, Eq)]
+#[derive(Clone, Copy)]
 pub enum Wrong {
     /// The word at this place names no flag.
     Unknown(usize),

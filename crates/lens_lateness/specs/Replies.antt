@@ -1,7 +1,7 @@
 -- The words that are commands, and what they answer.
 use Rattle.std.specs.Prelude.{◌≡◌, ℕ, ◌==◌, ◌++◌, ◌&&◌, nat_le, Bool, true, false, List, [], ◌∷◌, length, codes, Option, Some, None, Result, Ok, Err, if◌then◌else◌}
 use Rattle.std.specs.Str.{bytes_eq}
-use Rattle.lens_edge.specs.Outcome.{Outcome, Reply, Read, Unread, refusal, usage}
+use Rattle.lens_edge.specs.Outcome.{Asked, Outcome, Reply, refusal}
 use Rattle.lens_edge.specs.declared.status.Verdict.{Verdict}
 use Rattle.lens_edge.specs.declared.status.Verdict.TheVariants.{Done}
 use Rattle.lens_summary.specs.Summary.{summary_reply}
@@ -52,10 +52,6 @@ abbrev pub is_lateness : List (List ℕ) → Bool
 is_lateness (first ∷ second ∷ []) = bytes_eq first (codes "summary") && bytes_eq second (codes "--document")
 is_lateness _ = false
 
-abbrev pub IsOutcomeOf : Bool → List ℕ → Outcome → Type 0
-IsOutcomeOf true bytes = Read (λ input reply. reply ≡ lateness_reply input) bytes
-IsOutcomeOf false bytes = Unread usage bytes
-
 -- by the words after the program's name and all bytes of the source
 abbrev pub IsOutcome : List (List ℕ) → List ℕ → Outcome → Type 0
-IsOutcome words bytes = IsOutcomeOf (is_lateness words) bytes
+IsOutcome words = Asked (is_lateness words) (λ input reply. reply ≡ lateness_reply input)

@@ -13,7 +13,7 @@ use crate::trace::trace_in;
 use byte_edge::{Sink, Source};
 use document_laws::documents_are_lawful;
 use kube_base::NoMemory;
-use lens_edge::{Answer, Question, Status, Verdict, ask, refuse, tell_usage};
+use lens_edge::{Answer, Question, Status, Verdict, ask_if, refuse};
 use lens_summary::summary_of;
 use manifest_json::ReadFault;
 use script_reader::{Document, read_document};
@@ -43,11 +43,7 @@ pub fn run<S: Source, K: Sink>(
     ensures source_silent { result ≡ Status.SourceFault → K.taken sink.new ≡ K.taken sink.old }
     ensures sink_fault { result ≡ Status.SinkFault → Rose (K.faults sink.old) (K.faults sink.new) }
 {
-    if is_command(words) {
-        ask(alloc, &Lateness, source, sink)
-    } else {
-        tell_usage(sink)
-    }
+    ask_if(alloc, is_command(words), &Lateness, source, sink)
 }
 
 /// Whether the words after the program's name are `summary --document`.

@@ -1,8 +1,8 @@
 -- What `leaders --json` answers: one object of the terms, the spans and the overlap that `leaders` tells.
-use Rattle.std.specs.Prelude.{ℕ, ◌+◌, ◌++◌, List, [], ◌∷◌, codes, filter_map, map, Option, Some, None}
+use Rattle.std.specs.Prelude.{ℕ, ◌+◌, ◌++◌, List, [], ◌∷◌, codes, map, Option, Some, None}
 use Rattle.serde_json.specs.Data.{Data, null, number, unsigned, string}
 use Rattle.serde_json.specs.Written.{compact_text}
-use Rattle.lens_edge.specs.Outcome.{Reply, refusal}
+use Rattle.lens_edge.specs.Outcome.{Reply}
 use Rattle.lens_edge.specs.declared.status.Verdict.{Verdict}
 use Rattle.lens_edge.specs.declared.status.Verdict.TheVariants.{Safe, Unsafe}
 use Rattle.lens_json.specs.Members.{Named, object_of}
@@ -14,16 +14,9 @@ use Rattle.lens_terms.specs.declared.span.Span.{Span}
 use Rattle.lens_terms.specs.declared.term.Term.{Term}
 use Rattle.lens_terms.specs.Spans.{leaderless}
 use Rattle.lens_terms.specs.Terms.{terms, until, first, begins_at, crosses}
-use Rattle.lens_trace.specs.declared.judging.Judged.{Judged}
-use Rattle.lens_trace.specs.declared.judging.Judged.TheVariants.{Wrong, Overlaps, OneAtATime}
-use Rattle.lens_trace.specs.Judged.{judged_by}
-use Rattle.lens_trace.specs.Leaders.{wrong_line}
-use Rattle.trace_audit.specs.Entries.{lines_of}
-use Rattle.trace_audit.specs.Verdict.{verdict}
-use Rattle.trace_lines.specs.Forms.{line_of}
-use Rattle.trace_lines.specs.Grammar.{cut}
-use Rattle.trace_lines.specs.Headers.{header_of}
+use Rattle.lens_trace.specs.Traces.{trace_reply}
 use Rattle.trace_lines.specs.declared.header.Header.{Header}
+use Rattle.trace_lines.specs.declared.line.Line.{Line}
 
 -- ---- members
 
@@ -84,20 +77,10 @@ verdict_by (Some line) = Unsafe
 abbrev pub told : ℕ → Option ℕ → List (Term (List ℕ)) → Reply
 told stop overlap ts = record { verdict = verdict_by overlap; text = leaders_json stop overlap ts ++ codes "\n" }
 
-abbrev pub answer_by : Judged → ℕ → List (Term (List ℕ)) → Reply
-answer_by (Wrong line) stop ts = wrong_line line
-answer_by (Overlaps line) stop ts = told stop (Some line) ts
-answer_by OneAtATime stop ts = told stop None ts
-
--- a trace of this first line, whose last beat is the one before `end + 1`
-abbrev pub answer_behind : Judged → Option Header → List ℕ → Reply
-answer_behind judged None rest = refusal 40 (codes "/1")
-answer_behind judged (Some header) rest = answer_by judged (header.end + 1) (terms 2 (filter_map line_of (lines_of rest)))
-
-abbrev pub answer_to : Judged → Option (List ℕ × List ℕ) → Reply
-answer_to judged None = refusal 40 (codes "/1")
-answer_to judged (Some parts) = answer_behind judged (header_of parts.0) parts.1
+-- of a trace of this first line, whose last beat is the one before `end + 1`
+abbrev pub leaders : Header → Option ℕ → List (Line (List ℕ)) → Reply
+leaders header overlap ls = told (header.end + 1) overlap (terms 2 ls)
 
 -- what a text is answered
-unfoldable pub leaders_reply : List ℕ → Reply
-leaders_reply text = answer_to (judged_by (verdict text)) (cut 10 text)
+abbrev pub leaders_reply : List ℕ → Reply
+leaders_reply = trace_reply leaders

@@ -1,7 +1,7 @@
 -- The words that are commands, and what they answer.
 use Rattle.std.specs.Prelude.{◌≡◌, ℕ, ◌&&◌, Bool, true, false, List, [], ◌∷◌, codes}
 use Rattle.std.specs.Str.{bytes_eq}
-use Rattle.lens_edge.specs.Outcome.{Outcome, Read, Unread, usage}
+use Rattle.lens_edge.specs.Outcome.{Asked, Outcome}
 use Rattle.lens_leaders.specs.Leaders.{leaders_reply}
 
 -- the words `leaders --json` alone
@@ -9,10 +9,6 @@ abbrev pub is_leaders : List (List ℕ) → Bool
 is_leaders (word ∷ form ∷ []) = bytes_eq word (codes "leaders") && bytes_eq form (codes "--json")
 is_leaders _ = false
 
-abbrev pub IsOutcomeOf : Bool → List ℕ → Outcome → Type 0
-IsOutcomeOf true bytes = Read (λ input reply. reply ≡ leaders_reply input) bytes
-IsOutcomeOf false bytes = Unread usage bytes
-
 -- by the words after the program's name and all bytes of the source
 abbrev pub IsOutcome : List (List ℕ) → List ℕ → Outcome → Type 0
-IsOutcome words bytes = IsOutcomeOf (is_leaders words) bytes
+IsOutcome words = Asked (is_leaders words) (λ input reply. reply ≡ leaders_reply input)

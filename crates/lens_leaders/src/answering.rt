@@ -1,63 +1,33 @@
-// The answer to a trace's text.
-ghost use Rattle.std.specs.Prelude.{◌≡◌, IfOk, map, filter_map};
+// The answer to a trace.
+ghost use Rattle.std.specs.Prelude.{◌≡◌, ◌≤◌, IfOk, map};
 ghost use Rattle.lens_edge.specs.Outcome.{reply_of};
 ghost use Rattle.lens_parts.specs.Parts.{part_of};
-ghost use Rattle.lens_terms.specs.Terms.{shown, terms};
-ghost use Rattle.trace_audit.specs.Entries.{lines_of};
-ghost use Rattle.trace_lines.specs.Forms.{line_of};
+ghost use Rattle.lens_terms.specs.Terms.{shown};
+ghost use Rattle.trace_lines.specs.Reads.{seen};
 ghost use Rattle.lens_leaders.specs.Leaders as spec;
 
 use crate::parts::{overlap_in, spans_in, terms_in};
 use kube_base::NoMemory;
-use lens_edge::{Answer, Verdict, refuse};
+use lens_edge::{Answer, Verdict};
 use lens_parts::{Part, What, add_parts};
 use lens_terms::{Term, leaderless, terms_of};
-use lens_trace::{Judged, judge, read_lines, refuse_line};
 use std::alloc::Global;
-use trace_audit::BAD_TRACE;
-use trace_lines::{cut, read_header};
+use trace_lines::{Header, Line};
 use trace_writer::add;
 
-/// Who leads in the trace that this text is, when nobody does, and whether two ever do at once.
-#[tactic(auto, unfolding(crate::specs::Leaders::leaders_reply))]
-pub(crate) fn leaders_in(alloc: Global, text: &[u8]) -> Result<Answer, NoMemory>
-    ensures { IfOk result (λ answer. reply_of answer ≡ spec.leaders_reply text.now) }
-{
-    let judged = judge(alloc, text)?;
-    let Some((head, rest)) = cut(text, b'\n') else {
-        return refuse(alloc, BAD_TRACE, b"/1");
-    };
-    let Some(header) = read_header(head) else {
-        return refuse(alloc, BAD_TRACE, b"/1");
-    };
-    leaders_behind(alloc, judged, header.end + 1, rest)
-}
-
-/// The answer on the lines behind the first.
-fn leaders_behind(alloc: Global, judged: Judged, stop: u32, rest: &[u8]) -> Result<Answer, NoMemory>
-    ensures { IfOk result (λ answer. reply_of answer
-        ≡ spec.answer_by judged stop (terms 2 (filter_map line_of (lines_of rest.now)))) }
-{
-    let lines = read_lines(alloc, rest)?;
-    let found = terms_of(alloc, &lines)?;
-    match judged {
-        Judged::Wrong(line) => refuse_line(alloc, line),
-        Judged::Overlaps(line) => tell(alloc, stop, Some(line), &found),
-        Judged::OneAtATime => tell(alloc, stop, None, &found),
-    }
-}
-
-/// The object on some terms, of which one may begin while another one goes on.
+/// The object on a trace, in which two may lead at once from a line on.
 #[tactic(auto, unfolding(crate::specs::Leaders::leaders_json))]
-fn tell(
+pub(crate) fn tell(
     alloc: Global,
-    stop: u32,
+    header: Header,
     overlap: Option<u64>,
-    found: &[Term<&[u8]>],
+    lines: &[Line<&[u8]>],
 ) -> Result<Answer, NoMemory>
-    ensures { IfOk result (λ answer. reply_of answer ≡ spec.told stop overlap (map shown found.now)) }
+    requires { header.end ≤ 604800000 }
+    ensures { IfOk result (λ answer. reply_of answer ≡ spec.leaders header overlap (map seen lines.now)) }
 {
-    let parts = parts(alloc, stop, overlap, found)?;
+    let found = terms_of(alloc, lines)?;
+    let parts = parts(alloc, header.end + 1, overlap, &found)?;
     let mut text = Vec::new(alloc);
     add_parts(&mut text, &parts)?;
     add(&mut text, b"\n")?;

@@ -3,13 +3,15 @@ ghost use Rattle.std.specs.Prelude.{◌≡◌, ◌⊎◌, ℕ, false, List, [], 
 ghost use Rattle.byte_edge.specs.Bytes.{Rose};
 ghost use Rattle.lens_edge.specs.Outcome.{Ends, EndsAs, Unread, usage};
 ghost use Rattle.lens_leaders.specs.Replies.{IsOutcome, is_leaders};
-ghost use Rattle.lens_leaders.specs.Leaders.{leaders_reply};
+ghost use Rattle.lens_leaders.specs.Leaders as spec;
 
-use crate::answering::leaders_in;
+use crate::answering::tell;
 use byte_edge::{Sink, Source};
 use kube_base::NoMemory;
-use lens_edge::{Answer, Question, Status, Verdict, ask, tell_usage};
+use lens_edge::{Answer, Question, Status, Verdict, ask_if};
+use lens_trace::{Telling, answer_on};
 use std::alloc::Global;
+use trace_lines::{Header, Line};
 
 /// With the words `leaders --json`, reads a trace from the source and writes its terms, the spans in which nobody leads, and whether two
 /// ever lead at once, as one JSON object. A text that is no trace is answered by the line of its refusal, and other words by a line on the
@@ -32,11 +34,7 @@ pub fn run<S: Source, K: Sink>(
     ensures source_silent { result ≡ Status.SourceFault → K.taken sink.new ≡ K.taken sink.old }
     ensures sink_fault { result ≡ Status.SinkFault → Rose (K.faults sink.old) (K.faults sink.new) }
 {
-    if is_command(words) {
-        ask(alloc, &Leaders, source, sink)
-    } else {
-        tell_usage(sink)
-    }
+    ask_if(alloc, is_command(words), &Leaders, source, sink)
 }
 
 /// Whether the words after the program's name are `leaders --json` alone.
@@ -52,10 +50,24 @@ fn is_command(words: &Vec<String>) -> bool
 /// Who leads in a trace.
 struct Leaders;
 
+impl Telling for Leaders {
+    ghost told = { λ leaders header overlap ls. spec.leaders header overlap ls };
+
+    fn tell(
+        &self,
+        alloc: Global,
+        header: Header,
+        overlap: Option<u64>,
+        lines: &[Line<&[u8]>],
+    ) -> Result<Answer, NoMemory> {
+        tell(alloc, header, overlap, lines)
+    }
+}
+
 impl Question for Leaders {
-    ghost is_reply = { λ leaders bytes reply. reply ≡ leaders_reply bytes };
+    ghost is_reply = { λ leaders bytes reply. reply ≡ spec.leaders_reply bytes };
 
     fn answer(&self, alloc: Global, input: &[u8]) -> Result<Answer, NoMemory> {
-        leaders_in(alloc, input)
+        answer_on(alloc, self, input)
     }
 }

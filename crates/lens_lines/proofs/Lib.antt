@@ -1,5 +1,4 @@
 pub mod MemberLaws
-pub mod ReplyLaws
 pub mod ToldLaws
 pub mod OrderLaws
 pub mod LineLaws

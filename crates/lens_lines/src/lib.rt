@@ -2,11 +2,10 @@
 #![tactic(auto)]
 
 mod answering;
-mod asking;
 mod header;
 mod line;
 mod members;
 mod running;
 mod said;
 
-pub use running::{Lines, run};
+pub use running::run;

@@ -1,18 +1,18 @@
 // The command.
-ghost use Rattle.std.specs.Prelude.{◌≡◌, ◌⊎◌, ℕ, List, [], Some, None, IfOk, map, string_bytes};
+ghost use Rattle.std.specs.Prelude.{◌≡◌, ◌⊎◌, ℕ, false, List, [], Some, IfOk, map, string_bytes};
 ghost use Rattle.byte_edge.specs.Bytes.{Rose};
 ghost use Rattle.lens_edge.specs.Outcome.{Ends, EndsAs, Unread, usage};
 ghost use Rattle.lens_lines.specs.Laws.{OneObjectALine, MembersInOrder};
-ghost use Rattle.lens_lines.specs.Lines.{lines_reply};
-ghost use Rattle.lens_lines.specs.Replies as spec;
-ghost use Rattle.lens_lines.specs.Replies.{IsOutcome};
+ghost use Rattle.lens_lines.specs.Lines as spec;
+ghost use Rattle.lens_lines.specs.Replies.{IsOutcome, is_lines};
 
-use crate::answering::lines_in;
-use crate::asking::ask_if;
+use crate::answering::tell;
 use byte_edge::{Sink, Source};
 use kube_base::NoMemory;
-use lens_edge::{Answer, Question, Status, Verdict};
+use lens_edge::{Answer, Question, Status, Verdict, ask_if};
+use lens_trace::{Telling, answer_on};
 use std::alloc::Global;
+use trace_lines::{Header, Line};
 
 /// With the words `lines --json`, reads a trace from the source and writes each of its lines as a JSON object on a line of its own. A text
 /// that is no trace is answered by the line of its refusal, and other words by a line on the usage, for which the source isn't read and no
@@ -27,7 +27,7 @@ pub fn run<S: Source, K: Sink>(
         (K.taken sink.new) result }
 
     // Words that are no command are answered whether or not the source tells its bytes, with no want of memory.
-    ensures usage { spec.asked (map string_bytes words.now.items) ≡ None
+    ensures usage { is_lines (map string_bytes words.now.items) ≡ false
         → (S.left source.new ≡ S.left source.old) × ((result ≡ Status.Answered Verdict.Usage) ⊎ (result ≡ Status.SinkFault))
         × Ends (Unread usage []) (Some []) (K.taken sink.old) (K.taken sink.new) result }
 
@@ -39,34 +39,40 @@ pub fn run<S: Source, K: Sink>(
     ensures source_silent { result ≡ Status.SourceFault → K.taken sink.new ≡ K.taken sink.old }
     ensures sink_fault { result ≡ Status.SinkFault → Rose (K.faults sink.old) (K.faults sink.new) }
 {
-    ask_if(alloc, asked(words), source, sink)
+    ask_if(alloc, is_command(words), &Lines, source, sink)
 }
 
-/// What the words after the program's name ask, if they are `lines --json`.
-fn asked(words: &Vec<String>) -> Option<Lines>
-    ensures { result ≡ spec.asked (map string_bytes words.now.items) }
+/// Whether the words after the program's name are `lines --json` alone.
+fn is_command(words: &Vec<String>) -> bool
+    ensures { result ≡ is_lines (map string_bytes words.now.items) }
 {
     match words.as_slice() {
-        [word, form] => if word.as_str() == "lines" && form.as_str() == "--json" {
-            Some(Lines::Json)
-        } else {
-            None
-        },
-        _ => None,
+        [word, form] => word.as_str() == "lines" && form.as_str() == "--json",
+        _ => false,
     }
 }
 
-/// In which form the lines of a trace are wanted.
-#[derive(Clone, Copy, Debug, PartialEq, Eq)]
-pub enum Lines {
-    /// A JSON object each.
-    Json,
+/// The lines of a trace.
+struct Lines;
+
+impl Telling for Lines {
+    ghost told = { λ lines header overlap ls. spec.objects header ls };
+
+    fn tell(
+        &self,
+        alloc: Global,
+        header: Header,
+        _overlap: Option<u64>,
+        lines: &[Line<&[u8]>],
+    ) -> Result<Answer, NoMemory> {
+        tell(alloc, header, lines)
+    }
 }
 
 impl Question for Lines {
-    ghost is_reply = { λ lines bytes reply. reply ≡ lines_reply bytes };
+    ghost is_reply = { λ lines bytes reply. reply ≡ spec.lines_reply bytes };
 
     fn answer(&self, alloc: Global, input: &[u8]) -> Result<Answer, NoMemory> {
-        lines_in(alloc, input)
+        answer_on(alloc, self, input)
     }
 }

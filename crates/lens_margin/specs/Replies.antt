@@ -2,7 +2,7 @@
 use Rattle.std.specs.Prelude.{◌≡◌, ℕ, Bool, true, false, List, [], ◌∷◌, codes, Result, Ok, Err}
 use Rattle.std.specs.Str.{bytes_eq}
 use Rattle.history.specs.Premise.{lease_premise}
-use Rattle.lens_edge.specs.Outcome.{Outcome, Reply, Read, Unread, refusal, usage}
+use Rattle.lens_edge.specs.Outcome.{Asked, Outcome, Reply, refusal}
 use Rattle.lens_edge.specs.declared.status.Verdict.{Verdict}
 use Rattle.lens_edge.specs.declared.status.Verdict.TheVariants.{Safe, Unsafe}
 use Rattle.manifest_json.specs.declared.fault.Refusal.{Refusal}
@@ -28,10 +28,6 @@ abbrev pub is_margin : List (List ℕ) → Bool
 is_margin (word ∷ []) = bytes_eq word (codes "margin")
 is_margin _ = false
 
-abbrev pub IsOutcomeOf : Bool → List ℕ → Outcome → Type 0
-IsOutcomeOf true = Read (λ bytes reply. reply ≡ found (document_walk bytes))
-IsOutcomeOf false = Unread usage
-
 -- by the words after the program's name and all bytes of the source
 abbrev pub IsOutcome : List (List ℕ) → List ℕ → Outcome → Type 0
-IsOutcome words = IsOutcomeOf (is_margin words)
+IsOutcome words = Asked (is_margin words) (λ bytes reply. reply ≡ found (document_walk bytes))

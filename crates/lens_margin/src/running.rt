@@ -14,7 +14,7 @@ use crate::lines::add_lines;
 use byte_edge::{Sink, Source};
 use document_laws::documents_are_lawful;
 use kube_base::NoMemory;
-use lens_edge::{Answer, Question, Status, Verdict, ask, refuse, tell_usage};
+use lens_edge::{Answer, Question, Status, Verdict, ask_if, refuse};
 use manifest_json::ReadFault;
 use script_reader::{Document, lease_premise, read_document};
 use std::alloc::Global;
@@ -50,11 +50,7 @@ pub fn run<S: Source, K: Sink>(
     ensures margins { (bytes : List ℕ) (d : Document) → document_walk bytes ≡ Ok d → AreMargins (doc_of d) }
 {
     documents_are_lawful();
-    if is_command(words) {
-        ask(alloc, &Margins, source, sink)
-    } else {
-        tell_usage(sink)
-    }
+    ask_if(alloc, is_command(words), &Margins, source, sink)
 }
 
 /// Whether the words after the program's name are `margin` alone.

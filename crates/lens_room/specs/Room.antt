@@ -30,12 +30,15 @@ slack lease must = if nat_le must lease then whole (lease - must) else number (n
 
 -- ---- controllers
 
+-- the numbers of a margin
+abbrev pub number_members : Margin → List Named
+number_members m =
+    (codes "leaseMillis", whole m.lease) ∷ (codes "mustExceedMillis", whole m.must_exceed) ∷ (codes "slackMillis", slack m.lease m.must_exceed)
+    ∷ (codes "leastLeaseSeconds", number_if m.least_seconds) ∷ (codes "longestStallMillis", number_if m.longest_stall) ∷ []
+
 -- a controller's name and its numbers
 abbrev pub margin_members : List ℕ → Margin → List Named
-margin_members name m =
-    text (codes "name") name ∷ (codes "leaseMillis", whole m.lease) ∷ (codes "mustExceedMillis", whole m.must_exceed)
-    ∷ (codes "slackMillis", slack m.lease m.must_exceed) ∷ (codes "leastLeaseSeconds", number_if m.least_seconds)
-    ∷ (codes "longestStallMillis", number_if m.longest_stall) ∷ []
+margin_members name m = text (codes "name") name ∷ number_members m
 
 -- of the controller at a place
 abbrev pub members_at : Document → ℕ → List Named

@@ -5,4 +5,5 @@ mod answering;
 mod parts;
 mod running;
 
+pub use parts::{member, seconds, slack, stall};
 pub use running::run;

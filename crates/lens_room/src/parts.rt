@@ -78,14 +78,15 @@ fn margin_members<'a>(
     Ok(members)
 }
 
-fn member<'a>(name: &'a [u8], value: Value<'a>) -> Member<'a>
+/// A member of this name and value.
+pub fn member<'a>(name: &'a [u8], value: Value<'a>) -> Member<'a>
     ensures { named result ≡ (name.now, data_of value.entry) }
 {
     Member { name, value }
 }
 
 /// The lease less what it must exceed.
-fn slack<'a>(lease: u128, must_exceed: u128) -> Value<'a>
+pub fn slack<'a>(lease: u128, must_exceed: u128) -> Value<'a>
     ensures { data_of result ≡ spec.slack lease must_exceed }
 {
     if must_exceed <= lease {
@@ -95,7 +96,8 @@ fn slack<'a>(lease: u128, must_exceed: u128) -> Value<'a>
     }
 }
 
-fn seconds<'a>(seconds: Option<u32>) -> Value<'a>
+/// A number of seconds, if there is one.
+pub fn seconds<'a>(seconds: Option<u32>) -> Value<'a>
     ensures { data_of result ≡ spec.number_if seconds }
 {
     match seconds {
@@ -104,7 +106,8 @@ fn seconds<'a>(seconds: Option<u32>) -> Value<'a>
     }
 }
 
-fn stall<'a>(millis: Option<u128>) -> Value<'a>
+/// A number of milliseconds, if there is one.
+pub fn stall<'a>(millis: Option<u128>) -> Value<'a>
     ensures { data_of result ≡ spec.number_if millis }
 {
     match millis {

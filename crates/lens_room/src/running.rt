@@ -9,7 +9,7 @@ ghost use Rattle.lens_room.specs.Room.{found};
 use crate::answering::room_in;
 use byte_edge::{Sink, Source};
 use kube_base::NoMemory;
-use lens_edge::{Answer, Question, Status, Verdict, ask, tell_usage};
+use lens_edge::{Answer, Question, Status, Verdict, ask_if};
 use std::alloc::Global;
 
 /// With the words `margin --json`, reads a document from the source and writes the margin of each controller's lease, and whether all are
@@ -33,11 +33,7 @@ pub fn run<S: Source, K: Sink>(
     ensures source_silent { result ≡ Status.SourceFault → K.taken sink.new ≡ K.taken sink.old }
     ensures sink_fault { result ≡ Status.SinkFault → Rose (K.faults sink.old) (K.faults sink.new) }
 {
-    if is_command(words) {
-        ask(alloc, &Room, source, sink)
-    } else {
-        tell_usage(sink)
-    }
+    ask_if(alloc, is_command(words), &Room, source, sink)
 }
 
 /// Whether the words after the program's name are `margin --json` alone.

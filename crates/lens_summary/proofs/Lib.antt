@@ -1,4 +1,3 @@
-pub mod ReplyLaws
 pub mod StepLaws
 pub mod ToldLaws
 pub mod TogetherLaws

@@ -5,6 +5,7 @@ pub mod Part
 pub mod Pods
 pub mod Replies
 pub mod Spread
+pub mod Subjects
 pub mod Summary
 pub mod Together
 pub mod Totals

@@ -1,5 +1,5 @@
 -- What became of nodes: each accepted `unknown`, `taint`, `swap` and `untaint` line.
-use Rattle.std.specs.Prelude.{ℕ, List, [], ◌∷◌, codes, filter_map, Option, Some, None}
+use Rattle.std.specs.Prelude.{ℕ, List, [], ◌∷◌, codes, Option, Some, None}
 use Rattle.std.specs.Option.{option_map}
 use Rattle.trace_lines.specs.declared.line.Answer.TheVariants as answer
 use Rattle.trace_lines.specs.declared.line.Line.{Line}
@@ -18,9 +18,3 @@ change_in _ = None
 
 abbrev pub changed_by : ℕ → Line (List ℕ) → Option Texts
 changed_by millis l = option_map (λ n. n.0 ∷ beat_text l.beat millis ∷ n.1 ∷ n.2 ∷ l.actor ∷ []) (change_in l.says)
-
-abbrev pub changed : ℕ → List (Line (List ℕ)) → List Texts
-changed millis ls = filter_map (changed_by millis) ls
-
-unfoldable pub node_rows : ℕ → List (Line (List ℕ)) → List Texts
-node_rows millis ls = (codes "NODE" ∷ codes "SINCE" ∷ codes "CHANGE" ∷ codes "REASON" ∷ codes "BY" ∷ []) ∷ changed millis ls

@@ -1,5 +1,5 @@
 -- The pods that were evicted: each accepted `evict` line, with when the pod was due and when it was done.
-use Rattle.std.specs.Prelude.{ℕ, List, [], ◌∷◌, codes, filter_map, Option, Some, None}
+use Rattle.std.specs.Prelude.{ℕ, List, [], ◌∷◌, Option, Some, None}
 use Rattle.std.specs.Option.{option_map}
 use Rattle.trace_lines.specs.declared.line.Answer.TheVariants as answer
 use Rattle.trace_lines.specs.declared.line.Line.{Line}
@@ -15,9 +15,3 @@ eviction_in _ = None
 
 abbrev pub evicted_by : ℕ → Line (List ℕ) → Option Texts
 evicted_by millis l = option_map (λ e. e.0 ∷ e.1 ∷ beat_text l.beat millis ∷ l.actor ∷ []) (eviction_in l.says)
-
-abbrev pub evicted : ℕ → List (Line (List ℕ)) → List Texts
-evicted millis ls = filter_map (evicted_by millis) ls
-
-unfoldable pub pod_rows : ℕ → List (Line (List ℕ)) → List Texts
-pod_rows millis ls = (codes "POD" ∷ codes "DUE" ∷ codes "EVICTED" ∷ codes "BY" ∷ []) ∷ evicted millis ls

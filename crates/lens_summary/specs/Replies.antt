@@ -1,7 +1,7 @@
 -- The words that are commands, and what they answer.
 use Rattle.std.specs.Prelude.{◌≡◌, ℕ, Bool, true, false, List, [], ◌∷◌, codes}
 use Rattle.std.specs.Str.{bytes_eq}
-use Rattle.lens_edge.specs.Outcome.{Outcome, Read, Unread, usage}
+use Rattle.lens_edge.specs.Outcome.{Asked, Outcome}
 use Rattle.lens_summary.specs.Summary.{summary_reply}
 
 -- the word `summary` alone
@@ -9,10 +9,6 @@ abbrev pub is_summary : List (List ℕ) → Bool
 is_summary (word ∷ []) = bytes_eq word (codes "summary")
 is_summary _ = false
 
-abbrev pub IsOutcomeOf : Bool → List ℕ → Outcome → Type 0
-IsOutcomeOf true bytes = Read (λ input reply. reply ≡ summary_reply input) bytes
-IsOutcomeOf false bytes = Unread usage bytes
-
 -- by the words after the program's name and all bytes of the source
 abbrev pub IsOutcome : List (List ℕ) → List ℕ → Outcome → Type 0
-IsOutcome words bytes = IsOutcomeOf (is_summary words) bytes
+IsOutcome words = Asked (is_summary words) (λ input reply. reply ≡ summary_reply input)

@@ -1,5 +1,6 @@
 -- How many lines of each kind there are, and how what they write was answered.
 use Rattle.std.specs.Prelude.{ℕ, ◌++◌, ◌==◌, Bool, true, false, List, [], ◌∷◌, length, codes, decimal, count_by, filter_map, Option, Some, None, if◌then◌else◌}
+use Rattle.std.specs.List.{flat_map}
 use Rattle.std.specs.Str.{bytes_eq}
 use Rattle.trace_lines.specs.declared.line.Line.{Line}
 use Rattle.lens_table.specs.Tables.{Texts}
@@ -29,23 +30,15 @@ count_rows word os =
     ∷ decimal (count_by (is Exists) os) ∷ []) ∷ []
 
 -- a kind without lines has no row
-unfoldable pub kind_rows : List ℕ → List (Line (List ℕ)) → List Texts
-kind_rows word ls = if length (outcomes (Some word) ls) == 0 then [] else count_rows word (outcomes (Some word) ls)
+unfoldable pub kind_rows : List (Line (List ℕ)) → List ℕ → List Texts
+kind_rows ls word = if length (outcomes (Some word) ls) == 0 then [] else count_rows word (outcomes (Some word) ls)
 
-unfoldable pub process_rows : List (Line (List ℕ)) → List Texts
-process_rows ls =
-    kind_rows (codes "start") ls ++ kind_rows (codes "crash") ls ++ kind_rows (codes "stop") ls ++ kind_rows (codes "end") ls
-    ++ kind_rows (codes "pause") ls ++ kind_rows (codes "lead") ls
-
-unfoldable pub write_rows : List (Line (List ℕ)) → List Texts
-write_rows ls =
-    kind_rows (codes "create-election") ls ++ kind_rows (codes "update-election") ls ++ kind_rows (codes "nodelease") ls
-    ++ kind_rows (codes "status") ls ++ kind_rows (codes "put") ls ++ kind_rows (codes "remove") ls
-
-unfoldable pub act_rows : List (Line (List ℕ)) → List Texts
-act_rows ls =
-    kind_rows (codes "unknown") ls ++ kind_rows (codes "mode") ls ++ kind_rows (codes "zone") ls ++ kind_rows (codes "taint") ls
-    ++ kind_rows (codes "swap") ls ++ kind_rows (codes "untaint") ls ++ kind_rows (codes "evict") ls
+-- the kinds, in the order in which they are told
+unfoldable pub kinds : List (List ℕ)
+kinds =
+    codes "start" ∷ codes "crash" ∷ codes "stop" ∷ codes "end" ∷ codes "pause" ∷ codes "lead" ∷ codes "create-election" ∷ codes "update-election"
+    ∷ codes "nodelease" ∷ codes "status" ∷ codes "put" ∷ codes "remove" ∷ codes "unknown" ∷ codes "mode" ∷ codes "zone" ∷ codes "taint"
+    ∷ codes "swap" ∷ codes "untaint" ∷ codes "evict" ∷ []
 
 unfoldable pub all_rows : List (Line (List ℕ)) → List Texts
 all_rows ls = count_rows (codes "all") (outcomes None ls)
@@ -55,4 +48,4 @@ total_heading = codes "KIND" ∷ codes "LINES" ∷ codes "WRITTEN" ∷ codes "CO
 
 -- a row for each kind, and one for all lines behind the first
 unfoldable pub total_rows : List (Line (List ℕ)) → List Texts
-total_rows ls = total_heading ∷ (process_rows ls ++ write_rows ls ++ act_rows ls ++ all_rows ls)
+total_rows ls = total_heading ∷ (flat_map (kind_rows ls) kinds ++ all_rows ls)

@@ -1,5 +1,5 @@
 -- The states of zones: each `zone` line, with the rate of its taints in 1,000 s.
-use Rattle.std.specs.Prelude.{ℕ, List, [], ◌∷◌, codes, decimal, filter_map, Option, Some, None}
+use Rattle.std.specs.Prelude.{ℕ, List, [], ◌∷◌, decimal, Option, Some, None}
 use Rattle.std.specs.Option.{option_map}
 use Rattle.trace_lines.specs.declared.line.Line.{Line}
 use Rattle.trace_lines.specs.declared.line.Says.{Says}
@@ -14,9 +14,3 @@ zone_in _ = None
 
 abbrev pub found_by : ℕ → Line (List ℕ) → Option Texts
 found_by millis l = option_map (λ z. z.0 ∷ beat_text l.beat millis ∷ z.1 ∷ decimal z.2 ∷ l.actor ∷ []) (zone_in l.says)
-
-abbrev pub found : ℕ → List (Line (List ℕ)) → List Texts
-found millis ls = filter_map (found_by millis) ls
-
-unfoldable pub zone_rows : ℕ → List (Line (List ℕ)) → List Texts
-zone_rows millis ls = (codes "ZONE" ∷ codes "SINCE" ∷ codes "STATE" ∷ codes "RATE" ∷ codes "BY" ∷ []) ∷ found millis ls

@@ -1,67 +1,17 @@
 // The pods that were evicted.
-ghost use Rattle.std.specs.Prelude.{◌≡◌, ◌++◌, IfOk, OnOk, Some, None, MatchOption, map, option_to_list};
+ghost use Rattle.std.specs.Prelude.{◌≡◌, ◌++◌, OnOk, Some, None, MatchOption, option_to_list};
 ghost use Rattle.lens_table.specs.Tables.{shown};
 ghost use Rattle.trace_lines.specs.Reads.{said, seen};
 ghost use Rattle.lens_summary.specs.Pods as spec;
-ghost use Rattle.lens_summary.specs.Part.{part};
 
-use crate::part::add_part;
 use crate::rows::add_row;
 use kube_base::NoMemory;
 use lens_table::{Cell, Row};
 use std::alloc::Global;
 use trace_lines::{Answer, Line, Says};
 
-/// Adds the table of pods.
-pub(crate) fn tell_pods(
-    text: &mut Vec<u8>,
-    alloc: Global,
-    millis: u32,
-    lines: &[Line<&[u8]>],
-) -> Result<(), NoMemory>
-    ensures { OnOk result (text.new.items ≡ text.old.items ++ part (spec.pod_rows millis (map seen lines.now))) }
-{
-    let rows = pod_rows(alloc, millis, lines)?;
-    add_part(text, alloc, &rows)
-}
-
-/// The table of the pods that were evicted, in the order in which that was done.
-#[tactic(auto, unfolding(crate::specs::Pods::pod_rows))]
-fn pod_rows<'a>(
-    alloc: Global,
-    millis: u32,
-    lines: &[Line<&'a [u8]>],
-) -> Result<Vec<Row<'a>>, NoMemory>
-    ensures { IfOk result (λ rows. shown rows.items ≡ spec.pod_rows millis (map seen lines.now)) }
-{
-    let mut rows = Vec::new(alloc);
-    let heading = vec![in alloc;
-        Cell::Text(b"POD"),
-        Cell::Text(b"DUE"),
-        Cell::Text(b"EVICTED"),
-        Cell::Text(b"BY"),
-    ]?;
-    add_row(&mut rows, heading)?;
-    add_pods(&mut rows, alloc, millis, lines)?;
-    Ok(rows)
-}
-
-fn add_pods<'a>(
-    rows: &mut Vec<Row<'a>>,
-    alloc: Global,
-    millis: u32,
-    lines: &[Line<&'a [u8]>],
-) -> Result<(), NoMemory>
-    ensures { OnOk result (shown rows.new.items ≡ shown rows.old.items ++ spec.evicted millis (map seen lines.now)) }
-{
-    for line in lines {
-        add_pod(rows, alloc, millis, line)?;
-    }
-    Ok(())
-}
-
 /// Adds the row of the pod that a line evicts, if it does.
-fn add_pod<'a>(
+pub(crate) fn add_pod<'a>(
     rows: &mut Vec<Row<'a>>,
     alloc: Global,
     millis: u32,

@@ -1,16 +1,18 @@
 // The command.
 ghost use Rattle.std.specs.Prelude.{◌≡◌, ◌⊎◌, ℕ, false, List, [], Some, IfOk, map, string_bytes};
 ghost use Rattle.byte_edge.specs.Bytes.{Rose};
-ghost use Rattle.lens_edge.specs.Outcome.{Ends, EndsAs, Unread, usage};
+ghost use Rattle.lens_edge.specs.Outcome.{Ends, EndsAs, Unread, reply_of, usage};
 ghost use Rattle.lens_summary.specs.Replies.{IsOutcome, is_summary};
-ghost use Rattle.lens_summary.specs.Summary.{summary_reply};
+ghost use Rattle.lens_summary.specs.Summary as spec;
 ghost use Rattle.lens_summary.specs.Together.{BeatsOfTwoAreCounted};
 
-use crate::summary::summary_of;
+use crate::summary::tell;
 use byte_edge::{Sink, Source};
 use kube_base::NoMemory;
-use lens_edge::{Answer, Question, Status, Verdict, ask, tell_usage};
+use lens_edge::{Answer, Question, Status, Verdict, ask_if};
+use lens_trace::{Telling, answer_on};
 use std::alloc::Global;
+use trace_lines::{Header, Line};
 
 /// With the one word `summary`, reads a trace from the source and writes its tables. A text that is no trace is answered by the line of its
 /// refusal, and other words by a line on the usage, for which the source isn't read and no memory is taken.
@@ -35,11 +37,14 @@ pub fn run<S: Source, K: Sink>(
     ensures source_silent { result ≡ Status.SourceFault → K.taken sink.new ≡ K.taken sink.old }
     ensures sink_fault { result ≡ Status.SinkFault → Rose (K.faults sink.old) (K.faults sink.new) }
 {
-    if is_command(words) {
-        ask(alloc, &Summary, source, sink)
-    } else {
-        tell_usage(sink)
-    }
+    ask_if(alloc, is_command(words), &Summary, source, sink)
+}
+
+/// What the trace that this text is comes to.
+pub fn summary_of(alloc: Global, text: &[u8]) -> Result<Answer, NoMemory>
+    ensures { IfOk result (λ answer. reply_of answer ≡ spec.summary_reply text.now) }
+{
+    answer_on(alloc, &Summary, text)
 }
 
 /// Whether the words after the program's name are `summary` alone.
@@ -55,8 +60,22 @@ fn is_command(words: &Vec<String>) -> bool
 /// What a trace comes to.
 struct Summary;
 
+impl Telling for Summary {
+    ghost told = { λ asked header overlap ls. spec.summary header overlap ls };
+
+    fn tell(
+        &self,
+        alloc: Global,
+        header: Header,
+        overlap: Option<u64>,
+        lines: &[Line<&[u8]>],
+    ) -> Result<Answer, NoMemory> {
+        tell(alloc, header, overlap, lines)
+    }
+}
+
 impl Question for Summary {
-    ghost is_reply = { λ summary bytes reply. reply ≡ summary_reply bytes };
+    ghost is_reply = { λ asked bytes reply. reply ≡ spec.summary_reply bytes };
 
     fn answer(&self, alloc: Global, input: &[u8]) -> Result<Answer, NoMemory> {
         summary_of(alloc, input)

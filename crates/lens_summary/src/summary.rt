@@ -1,66 +1,27 @@
 // What a trace comes to.
-ghost use Rattle.std.specs.Prelude.{◌≡◌, ◌++◌, ◌≤◌, IfOk, OnOk, map, filter_map};
+ghost use Rattle.std.specs.Prelude.{◌≡◌, ◌++◌, ◌≤◌, IfOk, OnOk, map};
 ghost use Rattle.lens_edge.specs.Outcome.{reply_of};
 ghost use Rattle.lens_table.specs.Cells.{cell_text};
 ghost use Rattle.lens_table.specs.Tables.{shown};
-ghost use Rattle.trace_audit.specs.Entries.{lines_of};
-ghost use Rattle.trace_lines.specs.Forms.{line_of};
 ghost use Rattle.trace_lines.specs.Reads.{seen};
 ghost use Rattle.lens_summary.specs.Part.{part};
 ghost use Rattle.lens_summary.specs.Summary as spec;
 
 use crate::leaders::{tell_spans, tell_terms};
-use crate::nodes::tell_nodes;
 use crate::part::add_part;
-use crate::pods::tell_pods;
 use crate::rows::add_row;
+use crate::subject::{Subject, tell_subject};
 use crate::together::beats_of_two;
 use crate::totals::tell_totals;
-use crate::zones::tell_zones;
 use kube_base::NoMemory;
-use lens_edge::{Answer, Verdict, refuse};
+use lens_edge::{Answer, Verdict};
 use lens_table::{Cell, Row};
 use lens_terms::terms_of;
-use lens_trace::{Judged, judge, read_lines, refuse_line};
 use std::alloc::Global;
-use trace_audit::BAD_TRACE;
-use trace_lines::{Header, Line, cut, read_header};
-
-/// What the trace that this text is comes to.
-#[tactic(auto, unfolding(crate::specs::Summary::summary_reply))]
-pub fn summary_of(alloc: Global, text: &[u8]) -> Result<Answer, NoMemory>
-    ensures { IfOk result (λ answer. reply_of answer ≡ spec.summary_reply text.now) }
-{
-    let judged = judge(alloc, text)?;
-    let Some((head, rest)) = cut(text, b'\n') else {
-        return refuse(alloc, BAD_TRACE, b"/1");
-    };
-    let Some(header) = read_header(head) else {
-        return refuse(alloc, BAD_TRACE, b"/1");
-    };
-    summary_behind(alloc, judged, header, rest)
-}
-
-/// The answer on the lines behind the first.
-fn summary_behind(
-    alloc: Global,
-    judged: Judged,
-    header: Header,
-    rest: &[u8],
-) -> Result<Answer, NoMemory>
-    requires { header.end ≤ 604800000 }
-    ensures { IfOk result (λ answer. reply_of answer ≡ spec.answer_by judged header (filter_map line_of (lines_of rest.now))) }
-{
-    let lines = read_lines(alloc, rest)?;
-    match judged {
-        Judged::Wrong(line) => refuse_line(alloc, line),
-        Judged::Overlaps(line) => tell(alloc, header, Some(line), &lines),
-        Judged::OneAtATime => tell(alloc, header, None, &lines),
-    }
-}
+use trace_lines::{Header, Line};
 
 /// All tables on some lines, of which one may be the first `lead` of an identity while another one leads.
-fn tell(
+pub(crate) fn tell(
     alloc: Global,
     header: Header,
     overlap: Option<u64>,
@@ -82,9 +43,9 @@ fn tell(
     )?;
     tell_terms(&mut text, alloc, millis, stop, &found)?;
     tell_spans(&mut text, alloc, millis, stop, &found)?;
-    tell_zones(&mut text, alloc, millis, lines)?;
-    tell_nodes(&mut text, alloc, millis, lines)?;
-    tell_pods(&mut text, alloc, millis, lines)?;
+    tell_subject(&mut text, alloc, millis, Subject::Zones, lines)?;
+    tell_subject(&mut text, alloc, millis, Subject::Nodes, lines)?;
+    tell_subject(&mut text, alloc, millis, Subject::Pods, lines)?;
     tell_totals(&mut text, alloc, lines)?;
     Ok(Answer {
         verdict: Verdict::Done,

@@ -1,5 +1,6 @@
 // How many lines of each kind there are, and how what they write was answered.
 ghost use Rattle.std.specs.Prelude.{◌≡◌, ◌++◌, IfOk, OnOk, count_by, map, option_to_list};
+ghost use Rattle.std.specs.List.{flat_map};
 ghost use Rattle.std.specs.Option.{option_map};
 ghost use Rattle.lens_table.specs.Tables.{shown, table_text};
 ghost use Rattle.trace_lines.specs.Reads.{seen};
@@ -38,57 +39,52 @@ fn total_rows<'a>(alloc: Global, lines: &[Line<&[u8]>]) -> Result<Vec<Row<'a>>, 
         Cell::Text(b"EXISTS"),
     ]?;
     add_row(&mut rows, heading)?;
-    add_processes(&mut rows, alloc, lines)?;
-    add_writes(&mut rows, alloc, lines)?;
-    add_acts(&mut rows, alloc, lines)?;
+    add_kinds(&mut rows, alloc, lines)?;
     add_total(&mut rows, alloc, lines)?;
     Ok(rows)
 }
 
-fn add_processes<'a>(
+fn add_kinds<'a>(
     rows: &mut Vec<Row<'a>>,
     alloc: Global,
     lines: &[Line<&[u8]>],
 ) -> Result<(), NoMemory>
-    ensures { OnOk result (shown rows.new.items ≡ shown rows.old.items ++ spec.process_rows (map seen lines.now)) }
+    ensures { OnOk result (shown rows.new.items
+        ≡ shown rows.old.items ++ flat_map (spec.kind_rows (map seen lines.now)) spec.kinds) }
 {
-    add_kind(rows, alloc, b"start", lines)?;
-    add_kind(rows, alloc, b"crash", lines)?;
-    add_kind(rows, alloc, b"stop", lines)?;
-    add_kind(rows, alloc, b"end", lines)?;
-    add_kind(rows, alloc, b"pause", lines)?;
-    add_kind(rows, alloc, b"lead", lines)
+    let kinds = kinds();
+    for word in &kinds {
+        add_kind(rows, alloc, *word, lines)?;
+    }
+    Ok(())
 }
 
-fn add_writes<'a>(
-    rows: &mut Vec<Row<'a>>,
-    alloc: Global,
-    lines: &[Line<&[u8]>],
-) -> Result<(), NoMemory>
-    ensures { OnOk result (shown rows.new.items ≡ shown rows.old.items ++ spec.write_rows (map seen lines.now)) }
+/// The kinds, in the order in which they are told.
+#[tactic(auto, unfolding(crate::specs::Totals::kinds))]
+pub fn kinds() -> [&'static [u8]; 19]
+    ensures { map (λ word. word.now) result ≡ spec.kinds }
 {
-    add_kind(rows, alloc, b"create-election", lines)?;
-    add_kind(rows, alloc, b"update-election", lines)?;
-    add_kind(rows, alloc, b"nodelease", lines)?;
-    add_kind(rows, alloc, b"status", lines)?;
-    add_kind(rows, alloc, b"put", lines)?;
-    add_kind(rows, alloc, b"remove", lines)
-}
-
-fn add_acts<'a>(
-    rows: &mut Vec<Row<'a>>,
-    alloc: Global,
-    lines: &[Line<&[u8]>],
-) -> Result<(), NoMemory>
-    ensures { OnOk result (shown rows.new.items ≡ shown rows.old.items ++ spec.act_rows (map seen lines.now)) }
-{
-    add_kind(rows, alloc, b"unknown", lines)?;
-    add_kind(rows, alloc, b"mode", lines)?;
-    add_kind(rows, alloc, b"zone", lines)?;
-    add_kind(rows, alloc, b"taint", lines)?;
-    add_kind(rows, alloc, b"swap", lines)?;
-    add_kind(rows, alloc, b"untaint", lines)?;
-    add_kind(rows, alloc, b"evict", lines)
+    [
+        b"start",
+        b"crash",
+        b"stop",
+        b"end",
+        b"pause",
+        b"lead",
+        b"create-election",
+        b"update-election",
+        b"nodelease",
+        b"status",
+        b"put",
+        b"remove",
+        b"unknown",
+        b"mode",
+        b"zone",
+        b"taint",
+        b"swap",
+        b"untaint",
+        b"evict",
+    ]
 }
 
 /// Adds the row of a kind, where there are lines of it.
@@ -99,7 +95,7 @@ fn add_kind<'a>(
     word: &'a [u8],
     lines: &[Line<&[u8]>],
 ) -> Result<(), NoMemory>
-    ensures { OnOk result (shown rows.new.items ≡ shown rows.old.items ++ spec.kind_rows word.now (map seen lines.now)) }
+    ensures { OnOk result (shown rows.new.items ≡ shown rows.old.items ++ spec.kind_rows (map seen lines.now) word.now) }
 {
     let outcomes = outcomes(alloc, Some(word), lines)?;
     if outcomes.is_empty() {

@@ -1,68 +1,17 @@
 // The states of zones.
-ghost use Rattle.std.specs.Prelude.{◌≡◌, ◌++◌, IfOk, OnOk, Some, None, MatchOption, map, option_to_list};
+ghost use Rattle.std.specs.Prelude.{◌≡◌, ◌++◌, OnOk, Some, None, MatchOption, option_to_list};
 ghost use Rattle.lens_table.specs.Tables.{shown};
 ghost use Rattle.trace_lines.specs.Reads.{said, seen};
 ghost use Rattle.lens_summary.specs.Zones as spec;
-ghost use Rattle.lens_summary.specs.Part.{part};
 
-use crate::part::add_part;
 use crate::rows::add_row;
 use kube_base::NoMemory;
 use lens_table::{Cell, Row};
 use std::alloc::Global;
 use trace_lines::{Line, Says};
 
-/// Adds the table of zones.
-pub(crate) fn tell_zones(
-    text: &mut Vec<u8>,
-    alloc: Global,
-    millis: u32,
-    lines: &[Line<&[u8]>],
-) -> Result<(), NoMemory>
-    ensures { OnOk result (text.new.items ≡ text.old.items ++ part (spec.zone_rows millis (map seen lines.now))) }
-{
-    let rows = zone_rows(alloc, millis, lines)?;
-    add_part(text, alloc, &rows)
-}
-
-/// The table of the states that passes found zones in, in the order of the lines.
-#[tactic(auto, unfolding(crate::specs::Zones::zone_rows))]
-fn zone_rows<'a>(
-    alloc: Global,
-    millis: u32,
-    lines: &[Line<&'a [u8]>],
-) -> Result<Vec<Row<'a>>, NoMemory>
-    ensures { IfOk result (λ rows. shown rows.items ≡ spec.zone_rows millis (map seen lines.now)) }
-{
-    let mut rows = Vec::new(alloc);
-    let heading = vec![in alloc;
-        Cell::Text(b"ZONE"),
-        Cell::Text(b"SINCE"),
-        Cell::Text(b"STATE"),
-        Cell::Text(b"RATE"),
-        Cell::Text(b"BY"),
-    ]?;
-    add_row(&mut rows, heading)?;
-    add_zones(&mut rows, alloc, millis, lines)?;
-    Ok(rows)
-}
-
-fn add_zones<'a>(
-    rows: &mut Vec<Row<'a>>,
-    alloc: Global,
-    millis: u32,
-    lines: &[Line<&'a [u8]>],
-) -> Result<(), NoMemory>
-    ensures { OnOk result (shown rows.new.items ≡ shown rows.old.items ++ spec.found millis (map seen lines.now)) }
-{
-    for line in lines {
-        add_zone(rows, alloc, millis, line)?;
-    }
-    Ok(())
-}
-
 /// Adds the row of the zone that a line tells of, if it does.
-fn add_zone<'a>(
+pub(crate) fn add_zone<'a>(
     rows: &mut Vec<Row<'a>>,
     alloc: Global,
     millis: u32,

@@ -14,8 +14,8 @@ command_by word =
     else if bytes_eq word (codes "lines") then Some Lines
     else None
 
--- words behind `margin` ask for its JSON or are flags, those behind `leaders` ask for its JSON, and `summary` may be asked for its JSON or
--- have a document beside its trace
+-- one word behind `margin` asks for the JSON of a document or is a flag, that behind `leaders` asks for its JSON, and `summary` may be asked for
+-- its JSON or have a document beside its trace
 abbrev pub with_flags : Option Command → List ℕ → Option Command
 with_flags (Some Margin) second = if bytes_eq second (codes "--json") then Some MarginJson else Some Flags
 with_flags (Some Leaders) second = Some LeadersJson
@@ -23,8 +23,14 @@ with_flags (Some Summary) second =
     if bytes_eq second (codes "--json") then Some SummaryJson else if bytes_eq second (codes "--document") then Some Lateness else Some Summary
 with_flags other second = other
 
+-- more words behind `margin` are flags
+abbrev pub with_more : Option Command → List ℕ → Option Command
+with_more (Some Margin) second = Some Flags
+with_more other second = with_flags other second
+
 -- the command that the first word names
 abbrev pub command_of : List (List ℕ) → Option Command
 command_of [] = None
 command_of (word ∷ []) = command_by word
-command_of (word ∷ second ∷ more) = with_flags (command_by word) second
+command_of (word ∷ second ∷ []) = with_flags (command_by word) second
+command_of (word ∷ second ∷ third ∷ more) = with_more (command_by word) second

@@ -1,6 +1,6 @@
 // The words that are commands.
 ghost use Rattle.std.specs.Prelude.{◌≡◌, map, string_bytes};
-ghost use Rattle.lens_top.specs.Commands.{command_of, command_by, with_flags};
+ghost use Rattle.lens_top.specs.Commands.{command_of, command_by, with_flags, with_more};
 
 /// What is asked, by the first word.
 #[derive(Clone, Copy, Debug, PartialEq, Eq)]
@@ -11,7 +11,7 @@ pub enum Command {
     Margin,
     /// The same as one JSON object.
     MarginJson,
-    /// The margin of the lease that flags describe.
+    /// The margin of the lease that flags describe, in lines or as one JSON object.
     Flags,
     /// Who led in a trace, and when nobody did.
     Leaders,
@@ -36,12 +36,23 @@ pub(crate) fn command_in(words: &Vec<String>) -> Option<Command>
     match words.as_slice() {
         [] => None,
         [word] => by_word(word.as_str()),
-        [word, second, ..] => with_flags(by_word(word.as_str()), second.as_str()),
+        [word, second] => with_flags(by_word(word.as_str()), second.as_str()),
+        [word, second, ..] => with_more(by_word(word.as_str()), second.as_str()),
     }
 }
 
-/// The command where further words stand behind the first: those of `margin` ask for its JSON or are flags, those of `leaders` ask for its
-/// JSON, and `summary` may be asked for its JSON or have a document beside its trace.
+/// The command where more than one word stands behind the first: those of `margin` are flags.
+fn with_more(command: Option<Command>, second: &str) -> Option<Command>
+    ensures { result ≡ with_more command second.now }
+{
+    match command {
+        Some(Command::Margin) => Some(Command::Flags),
+        other => with_flags(other, second),
+    }
+}
+
+/// The command where one word stands behind the first: that of `margin` asks for the JSON of a document or is a flag, that of `leaders` asks
+/// for its JSON, and `summary` may be asked for its JSON or have a document beside its trace.
 fn with_flags(command: Option<Command>, second: &str) -> Option<Command>
     ensures { result ≡ with_flags command second.now }
 {

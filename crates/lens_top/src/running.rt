@@ -78,17 +78,18 @@ fn help() -> &'static [u8]
 {
     b"kube_lens: answers on leader elections, in a person's words\n\
 \n\
-kube_lens margin < document        for each controller what its lease has to outlast, and what is left\n\
-kube_lens margin --json < document the same as one JSON object\n\
-kube_lens margin --lease 15s ..    the same of flags: --lease --renew --retry --timeout --skew --beat\n\
-kube_lens leaders < trace          who led from when to when, when nobody did, and whether two did at once\n\
-kube_lens leaders --json < trace   the same as one JSON object\n\
-kube_lens summary < trace          what a trace comes to, as tables: terms, zones, nodes, evictions, totals\n\
-kube_lens summary --json < trace   the same as one JSON object\n\
-kube_lens summary --document       the tables of a document and, behind it, its trace, and how late pods were evicted\n\
-kube_lens lines --json < trace     each line of a trace as a JSON object on a line of its own, for jq\n\
-kube_lens explain < document       why a document is refused, where, and what may stand there\n\
-kube_lens --help                   these lines\n\
+kube_lens margin < document         for each controller what its lease has to outlast, and what is left\n\
+kube_lens margin --json < document  the same as one JSON object\n\
+kube_lens margin --lease 15s ..     the same of flags: --lease --renew --retry --timeout --skew --beat --json\n\
+kube_lens leaders < trace           who led from when to when, when nobody did, and whether two did at once\n\
+kube_lens leaders --json < trace    the same as one JSON object\n\
+kube_lens summary < trace           what a trace comes to, as tables: terms, zones, nodes, evictions, totals\n\
+kube_lens summary --json < trace    the same as one JSON object\n\
+kube_lens summary --document        the tables of a document and, behind it, its trace, and how late pods were evicted\n\
+kube_lens lines --json < trace      each line of a trace as a JSON object on a line of its own, for jq\n\
+kube_lens explain < document        why a document is refused, where, and what may stand there\n\
+kube_lens explain --json < document the same as one JSON object\n\
+kube_lens --help                    these lines\n\
 \n\
 Exit status: 0 safe or told, 1 unsafe or refused, 2 no such command, 3 the input can't be read,\n\
 4 the output can't be written, 5 memory ran out, 6 a word isn't UTF-8.\n"

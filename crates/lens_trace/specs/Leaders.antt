@@ -1,7 +1,7 @@
 -- What `leaders` answers: the terms of a trace, the spans in which nobody leads, and whether two ever lead at once.
-use Rattle.std.specs.Prelude.{ℕ, ◌+◌, ◌++◌, List, codes, decimal, filter_map, Option, Some, None}
+use Rattle.std.specs.Prelude.{ℕ, ◌+◌, ◌++◌, List, codes, decimal, Option, Some, None}
 use Rattle.std.specs.List.{flat_map}
-use Rattle.lens_edge.specs.Outcome.{Reply, refusal}
+use Rattle.lens_edge.specs.Outcome.{Reply}
 use Rattle.lens_edge.specs.declared.status.Verdict.TheVariants.{Safe, Unsafe}
 use Rattle.lens_terms.specs.declared.closing.Closing.{Closing}
 use Rattle.lens_terms.specs.declared.closing.Ending.{Ending}
@@ -10,15 +10,9 @@ use Rattle.lens_terms.specs.declared.span.Span.{Span}
 use Rattle.lens_terms.specs.declared.term.Term.{Term}
 use Rattle.lens_terms.specs.Spans.{leaderless}
 use Rattle.lens_terms.specs.Terms.{terms, until, first, begins_at, crosses}
-use Rattle.lens_trace.specs.declared.judging.Judged.{Judged}
-use Rattle.lens_trace.specs.declared.judging.Judged.TheVariants.{Wrong, Overlaps, OneAtATime}
-use Rattle.lens_trace.specs.Judged.{judged_by}
-use Rattle.trace_audit.specs.Entries.{lines_of}
-use Rattle.trace_audit.specs.Verdict.{verdict}
-use Rattle.trace_lines.specs.Forms.{line_of}
-use Rattle.trace_lines.specs.Grammar.{cut}
-use Rattle.trace_lines.specs.Headers.{header_of}
+use Rattle.lens_trace.specs.Traces.{trace_reply}
 use Rattle.trace_lines.specs.declared.header.Header.{Header}
+use Rattle.trace_lines.specs.declared.line.Line.{Line}
 
 -- ---- lines
 
@@ -57,30 +51,17 @@ overlap_line stop ts line = codes "overlap line=" ++ decimal line ++ who_text st
 unfoldable pub told_terms : ℕ → List (Term (List ℕ)) → List ℕ
 told_terms stop ts = flat_map (term_line stop) ts ++ flat_map span_line (leaderless 0 stop ts)
 
--- a wrong line is refused as `audit` does
-abbrev pub wrong_line : ℕ → Reply
-wrong_line line = refusal 40 (codes "/" ++ decimal line)
-
 abbrev pub overlapping : ℕ → List (Term (List ℕ)) → ℕ → Reply
 overlapping stop ts line = record { verdict = Unsafe; text = told_terms stop ts ++ overlap_line stop ts line }
 
 abbrev pub one_at_a_time : ℕ → List (Term (List ℕ)) → Reply
 one_at_a_time stop ts = record { verdict = Safe; text = told_terms stop ts ++ codes "one at a time\n" }
 
-abbrev pub answer_by : Judged → ℕ → List (Term (List ℕ)) → Reply
-answer_by (Wrong line) stop ts = wrong_line line
-answer_by (Overlaps line) stop ts = overlapping stop ts line
-answer_by OneAtATime stop ts = one_at_a_time stop ts
-
--- a trace of this first line, whose last beat is the one before `end + 1`
-abbrev pub answer_behind : Judged → Option Header → List ℕ → Reply
-answer_behind judged None rest = refusal 40 (codes "/1")
-answer_behind judged (Some header) rest = answer_by judged (header.end + 1) (terms 2 (filter_map line_of (lines_of rest)))
-
-abbrev pub answer_to : Judged → Option (List ℕ × List ℕ) → Reply
-answer_to judged None = refusal 40 (codes "/1")
-answer_to judged (Some parts) = answer_behind judged (header_of parts.0) parts.1
+-- of a trace of this first line, whose last beat is the one before `end + 1`
+abbrev pub leaders : Header → Option ℕ → List (Line (List ℕ)) → Reply
+leaders header (Some line) ls = overlapping (header.end + 1) (terms 2 ls) line
+leaders header None ls = one_at_a_time (header.end + 1) (terms 2 ls)
 
 -- what a text is answered
-unfoldable pub leaders_reply : List ℕ → Reply
-leaders_reply text = answer_to (judged_by (verdict text)) (cut 10 text)
+abbrev pub leaders_reply : List ℕ → Reply
+leaders_reply = trace_reply leaders

@@ -1,58 +1,33 @@
 // Who leads, and when nobody does.
-ghost use Rattle.std.specs.Prelude.{◌≡◌, ◌++◌, ◌+◌, ◌≤◌, IfOk, OnOk, Some, map, filter_map, decimal, codes};
+ghost use Rattle.std.specs.Prelude.{◌≡◌, ◌++◌, ◌≤◌, IfOk, OnOk, Some, map, decimal};
 ghost use Rattle.std.specs.List.{flat_map};
 ghost use Rattle.lens_edge.specs.Outcome.{reply_of};
-ghost use Rattle.lens_terms.specs.Terms.{first, crosses, shown, terms};
-ghost use Rattle.trace_audit.specs.Entries.{lines_of};
-ghost use Rattle.trace_lines.specs.Forms.{line_of};
+ghost use Rattle.lens_terms.specs.Terms.{shown};
+ghost use Rattle.trace_lines.specs.Reads.{seen};
 ghost use Rattle.lens_trace.specs.Leaders as spec;
 
-use crate::judging::{Judged, judge};
-use crate::reading::read_lines;
 use kube_base::NoMemory;
-use lens_edge::{Answer, Verdict, refuse};
+use lens_edge::{Answer, Verdict};
 use lens_terms::{Closing, Ending, Span, Term, crossing, leaderless, term_at, terms_of};
 use std::alloc::Global;
-use trace_audit::BAD_TRACE;
-use trace_lines::{cut, read_header};
+use trace_lines::{Header, Line};
 use trace_writer::{add, add_number};
 
-/// Who leads in the trace that this text is, when nobody does, and whether two ever do at once.
-#[tactic(auto, unfolding(crate::specs::Leaders::leaders_reply))]
-pub(crate) fn leaders_in(alloc: Global, text: &[u8]) -> Result<Answer, NoMemory>
-    ensures { IfOk result (λ answer. reply_of answer ≡ spec.leaders_reply text.now) }
+/// Who leads in a trace, when nobody does, and whether two ever do at once.
+pub(crate) fn tell(
+    alloc: Global,
+    header: Header,
+    overlap: Option<u64>,
+    lines: &[Line<&[u8]>],
+) -> Result<Answer, NoMemory>
+    requires { header.end ≤ 604800000 }
+    ensures { IfOk result (λ answer. reply_of answer ≡ spec.leaders header overlap (map seen lines.now)) }
 {
-    let judged = judge(alloc, text)?;
-    let Some((head, rest)) = cut(text, b'\n') else {
-        return refuse(alloc, BAD_TRACE, b"/1");
-    };
-    let Some(header) = read_header(head) else {
-        return refuse(alloc, BAD_TRACE, b"/1");
-    };
-    leaders_behind(alloc, judged, header.end + 1, rest)
-}
-
-/// The answer on the lines behind the first.
-fn leaders_behind(alloc: Global, judged: Judged, stop: u32, rest: &[u8]) -> Result<Answer, NoMemory>
-    ensures { IfOk result (λ answer. reply_of answer
-        ≡ spec.answer_by judged stop (terms 2 (filter_map line_of (lines_of rest.now)))) }
-{
-    let lines = read_lines(alloc, rest)?;
-    let found = terms_of(alloc, &lines)?;
-    match judged {
-        Judged::Wrong(line) => refuse_line(alloc, line),
-        Judged::Overlaps(line) => overlapping(alloc, stop, &found, line),
-        Judged::OneAtATime => one_at_a_time(alloc, stop, &found),
+    let found = terms_of(alloc, lines)?;
+    match overlap {
+        Some(line) => overlapping(alloc, header.end + 1, &found, line),
+        None => one_at_a_time(alloc, header.end + 1, &found),
     }
-}
-
-/// The answer that this line of a trace is wrong or missing.
-pub fn refuse_line(alloc: Global, line: u64) -> Result<Answer, NoMemory>
-    ensures { IfOk result (λ answer. reply_of answer ≡ spec.wrong_line line) }
-{
-    let mut path = Vec::new(alloc);
-    add_count(&mut path, b"/", line)?;
-    refuse(alloc, BAD_TRACE, &path)
 }
 
 fn overlapping(

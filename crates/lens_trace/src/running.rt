@@ -4,14 +4,16 @@ ghost use Rattle.byte_edge.specs.Bytes.{Rose};
 ghost use Rattle.lens_edge.specs.Outcome.{Ends, EndsAs, Unread, usage};
 ghost use Rattle.lens_trace.specs.Agree.{TermsAreAudited};
 ghost use Rattle.lens_trace.specs.Beats.{SpansAreLeaderless};
-ghost use Rattle.lens_trace.specs.Leaders.{leaders_reply};
+ghost use Rattle.lens_trace.specs.Leaders as spec;
 ghost use Rattle.lens_trace.specs.Replies.{IsOutcome, is_leaders};
 
-use crate::leaders::leaders_in;
+use crate::answering::{Telling, answer_on};
+use crate::leaders::tell;
 use byte_edge::{Sink, Source};
 use kube_base::NoMemory;
-use lens_edge::{Answer, Question, Status, Verdict, ask, tell_usage};
+use lens_edge::{Answer, Question, Status, Verdict, ask_if};
 use std::alloc::Global;
+use trace_lines::{Header, Line};
 
 /// With the one word `leaders`, reads a trace from the source and writes its terms, the spans in which nobody leads, and whether two ever
 /// lead at once. A text that is no trace is answered by the line of its refusal, and other words by a line on the usage, for which the
@@ -38,11 +40,7 @@ pub fn run<S: Source, K: Sink>(
     ensures source_silent { result ≡ Status.SourceFault → K.taken sink.new ≡ K.taken sink.old }
     ensures sink_fault { result ≡ Status.SinkFault → Rose (K.faults sink.old) (K.faults sink.new) }
 {
-    if is_command(words) {
-        ask(alloc, &Leaders, source, sink)
-    } else {
-        tell_usage(sink)
-    }
+    ask_if(alloc, is_command(words), &Leaders, source, sink)
 }
 
 /// Whether the words after the program's name are `leaders` alone.
@@ -58,10 +56,24 @@ fn is_command(words: &Vec<String>) -> bool
 /// Who leads in a trace.
 struct Leaders;
 
+impl Telling for Leaders {
+    ghost told = { λ leaders header overlap ls. spec.leaders header overlap ls };
+
+    fn tell(
+        &self,
+        alloc: Global,
+        header: Header,
+        overlap: Option<u64>,
+        lines: &[Line<&[u8]>],
+    ) -> Result<Answer, NoMemory> {
+        tell(alloc, header, overlap, lines)
+    }
+}
+
 impl Question for Leaders {
-    ghost is_reply = { λ leaders bytes reply. reply ≡ leaders_reply bytes };
+    ghost is_reply = { λ leaders bytes reply. reply ≡ spec.leaders_reply bytes };
 
     fn answer(&self, alloc: Global, input: &[u8]) -> Result<Answer, NoMemory> {
-        leaders_in(alloc, input)
+        answer_on(alloc, self, input)
     }
 }

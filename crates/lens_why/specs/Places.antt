@@ -1,6 +1,7 @@
 -- Places in a text, as a person counts them.
-use Rattle.std.specs.Prelude.{◌≡◌, ℕ, ◌+◌, ◌==◌, ◌≤◌, List, ◌++◌, length, take, drop, reverse, position, count_by, codes, decimal}
+use Rattle.std.specs.Prelude.{◌≡◌, ℕ, ◌+◌, ◌==◌, List, ◌++◌, length, reverse, position, count_by, codes, decimal}
 use Rattle.std.specs.Option.{unwrap_or}
+use Rattle.lens_why.specs.declared.place.Shown.{Shown}
 
 -- the line in which these bytes end: how many line feeds they have, and one more
 abbrev pub line_of : List ℕ → ℕ
@@ -10,9 +11,9 @@ line_of front = count_by (λ byte. byte == 10) front + 1
 abbrev pub column_of : List ℕ → ℕ
 column_of front = unwrap_or (position (λ byte. byte == 10) (reverse front)) (length front) + 1
 
--- the place behind a front of a text, and what is shown there
-unfoldable pub place_line : List ℕ → List ℕ → List ℕ
-place_line front shown = codes "line " ++ decimal (line_of front) ++ codes ", column " ++ decimal (column_of front) ++ codes ": " ++ shown ++ codes "\n"
+-- the line on a place: its line and column, and what is shown there
+unfoldable pub shown_text : Shown → List ℕ
+shown_text s = codes "line " ++ decimal s.line ++ codes ", column " ++ decimal s.column ++ codes ": " ++ s.text.now ++ codes "\n"
 
 -- a place of the input, with a beginning of what stands there
 pub record Place (input : List ℕ) : Type 0 where
@@ -21,10 +22,6 @@ pub record Place (input : List ℕ) : Type 0 where
   pub rest : List ℕ
   pub is_there : front ++ (shown ++ rest) ≡ input
 
--- the line of a place of the input is added
-abbrev pub TellsPlace : List ℕ → List ℕ → List ℕ → Type 0
-TellsPlace input before after = (p : Place input) × (after ≡ before ++ place_line p.front p.shown)
-
--- what is said of a refusal: the line of a place of the input, and further lines
-abbrev pub IsWhy : List ℕ → List ℕ → Type 0
-IsWhy input why = (p : Place input) × (more : List ℕ) × (why ≡ place_line p.front p.shown ++ more)
+-- this is shown of a place of the input
+abbrev pub IsShown : List ℕ → Shown → Type 0
+IsShown input s = (p : Place input) × (s.line ≡ line_of p.front) × (s.column ≡ column_of p.front) × (s.text.now ≡ p.shown)

@@ -40,24 +40,28 @@ pub(crate) fn hint(input: &[u8], place: usize) -> &'static str {
         (None, _) => "The input is empty: give a document on standard input.\n",
         (Some(b'{'), None) | (Some(b'['), None) =>
             "The input ends before the value does: a bracket or a quote isn't closed.\n",
-        (Some(b'{'), Some(here)) | (Some(b'['), Some(here)) => hint_in(before.last(), *here),
+        (Some(b'{'), Some(here)) | (Some(b'['), Some(here)) => hint_in(before.ends_with(b","), *here),
         (Some(_), _) =>
             "A document begins with {. This may be YAML: yq -o=json . makes JSON of it.\n",
     }
 }
 
-/// The same in a text that begins as JSON, by the bytes at the place and before it.
-fn hint_in(before: Option<&u8>, here: u8) -> &'static str {
+/// The same in a text that begins as JSON, by the byte at the place, which may stand behind a comma.
+fn hint_in(is_behind_comma: bool, here: u8) -> &'static str {
     match here {
-        b'}' | b']' if before == Some(&b',') =>
-            "A comma stands before a closing bracket: leave it out.\n",
-        b'}' | b']' => {
-            "A bracket that closes nothing, or another one than is open, or a value is missing before it.\n"
-        }
+        b'}' | b']' => closing_hint(is_behind_comma),
         b'\'' => "JSON's quotes are \", not '.\n",
         b'/' | b'#' => "JSON has no comments.\n",
         b'"' => "A comma may be missing before this text.\n",
         b',' => "A comma too many, or a value is missing before it.\n",
         _ => "",
+    }
+}
+
+fn closing_hint(is_behind_comma: bool) -> &'static str {
+    if is_behind_comma {
+        "A comma stands before a closing bracket: leave it out.\n"
+    } else {
+        "A bracket that closes nothing, or another one than is open, or a value is missing before it.\n"
     }
 }

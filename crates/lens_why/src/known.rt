@@ -1,14 +1,14 @@
 // The keys of a document and what each may be. The source is docs/document.md.
 
 /// A key, and what may stand at it.
-#[derive(Clone, Copy, Debug)]
+#[derive(Clone, Copy)]
 struct Rule {
     key: &'static str,
     allowed: &'static str,
 }
 
 /// The keys of a sort of objects, those of version 1 first.
-#[derive(Clone, Copy, Debug)]
+#[derive(Clone, Copy)]
 struct Table {
     /// The first key of the object's path.
     part: &'static str,

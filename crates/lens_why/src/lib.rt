@@ -14,5 +14,6 @@ mod sentence;
 mod twice;
 mod walk;
 
-pub use saying::why;
-pub use twice::warnings;
+pub use place::{Shown, add_shown};
+pub use saying::{Reason, why};
+pub use twice::{Warning, add_warning, warnings};

@@ -1,37 +1,64 @@
 // Places in a text, as a person counts them.
-ghost use Rattle.std.specs.Prelude.{◌≡◌, ◌==◌, ◌++◌, ◌≤◌, ◌<◌, IfSome, OnOk, length, count_by, position, reverse};
+ghost use Rattle.std.specs.Prelude.{◌≡◌, ◌==◌, ◌++◌, ◌≤◌, ◌<◌, ℕ, List, IfSome, OnOk, length, count_by, position, reverse};
 ghost use Rattle.std.specs.Option.{unwrap_or};
-ghost use Rattle.lens_why.specs.Places.{TellsPlace, column_of, line_of, place_line};
+ghost use Rattle.lens_why.specs.Places.{IsShown, column_of, line_of, shown_text};
 
 use crate::keys::depth_behind;
 use crate::scan::{Mark, Scan};
 use kube_base::NoMemory;
+use std::str::from_utf8;
 use trace_writer::{add, add_number};
 
 /// The most bytes that are shown of what stands at a place.
 const MOST: usize = 60;
 
-/// Adds the line of a place of the input: its line, its column, and what stands there.
-pub(crate) fn add_place(text: &mut Vec<u8>, input: &[u8], place: usize) -> Result<(), NoMemory>
-    requires { place ≤ length input.now }
-    ensures { OnOk result (TellsPlace input.now text.old.items text.new.items) }
-{
-    let (front, rest) = input.split_at(place);
-    let (shown, _) = rest.split_at(shown_of(rest));
-    add_line(text, front, shown)
+/// What is shown of a place of a text: its line and column, both counted from 1, columns in bytes, and a beginning of what stands there.
+#[derive(Clone, Copy)]
+pub struct Shown<'t> {
+    pub line: u64,
+    pub column: u64,
+    pub text: &'t [u8],
 }
 
-/// Adds the line of the place behind a front of the input.
-#[tactic(auto, unfolding(crate::specs::Places::place_line))]
-fn add_line(text: &mut Vec<u8>, front: &[u8], shown: &[u8]) -> Result<(), NoMemory>
-    ensures { OnOk result (text.new.items ≡ text.old.items ++ place_line front.now shown.now) }
+impl<'t> Shown<'t> {
+    /// With no byte more than is UTF-8.
+    pub fn in_utf8(self) -> Shown<'t>
+        ensures { (input : List ℕ) → IsShown input self.entry → IsShown input result }
+    {
+        let whole = match from_utf8(self.text) {
+            Ok(_) => self.text.len(),
+            Err(error) => error.valid_up_to().min(self.text.len()),
+        };
+        let (text, _) = self.text.split_at(whole);
+        Shown { text, ..self }
+    }
+}
+
+/// What is shown of a place of the input.
+pub(crate) fn shown_at(input: &[u8], place: usize) -> Shown<'_>
+    requires { place ≤ length input.now }
+    ensures { IsShown input.now result }
+{
+    let (front, rest) = input.split_at(place);
+    let (text, _) = rest.split_at(shown_of(rest));
+    Shown {
+        line: line_in(front),
+        column: column_in(front),
+        text,
+    }
+}
+
+/// Adds the line on a place.
+#[tactic(auto, unfolding(crate::specs::Places::shown_text))]
+pub fn add_shown(text: &mut Vec<u8>, shown: Shown<'_>) -> Result<(), NoMemory>
+    ensures { OnOk result (text.new.items ≡ text.old.items ++ shown_text shown.entry) }
 {
     add(text, b"line ")?;
-    add_number(text, line_in(front))?;
+    add_number(text, shown.line)?;
     add(text, b", column ")?;
-    add_number(text, column_in(front))?;
+    add_number(text, shown.column)?;
     add(text, b": ")?;
-    add(text, shown)?;
+    add(text, shown.text)?;
     add(text, b"\n")
 }
 

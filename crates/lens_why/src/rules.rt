@@ -7,7 +7,7 @@ use std::alloc::Global;
 use trace_writer::{add, add_number};
 
 /// The timings of an election, in the units of the document.
-#[derive(Clone, Copy, Debug)]
+#[derive(Clone, Copy)]
 struct Timings {
     lease_seconds: u64,
     renew_millis: u64,

@@ -1,12 +1,12 @@
 // What is said about a refusal.
 ghost use Rattle.std.specs.Prelude.{◌≤◌, IfOk, length};
-ghost use Rattle.lens_why.specs.Places.{IsWhy};
+ghost use Rattle.lens_why.specs.Places.{IsShown};
 
 use crate::broken::{hint, stop_of};
 use crate::keys::key_beside;
 use crate::known::{allowed_at, first_keys_in, keys_in};
 use crate::nearest::nearest;
-use crate::place::add_place;
+use crate::place::{Shown, shown_at};
 use crate::rules::{add_order, add_rule};
 use crate::scan::Span;
 use crate::sentence::sentence;
@@ -21,10 +21,18 @@ const BAD_JSON: u32 = 1;
 /// A key that isn't known.
 const UNKNOWN_KEY: u32 = 3;
 
-/// What is said about the refusal of an input by this code and path: the line of a place of the input, with its line and column, both
-/// counted from 1, columns in bytes; and further lines, a sentence on the code at least.
-pub fn why(alloc: Global, input: &[u8], code: u32, path: &[u8]) -> Result<Vec<u8>, NoMemory>
-    ensures { IfOk result (λ why. IsWhy input.now why.items) }
+/// What is said about a refusal.
+#[derive(Drop)]
+pub struct Reason<'t> {
+    /// What is shown of a place of the input.
+    pub shown: Shown<'t>,
+    /// Further lines, a sentence on the code at least.
+    pub more: Vec<u8>,
+}
+
+/// What is said about the refusal of an input by this code and path.
+pub fn why<'t>(alloc: Global, input: &'t [u8], code: u32, path: &[u8]) -> Result<Reason<'t>, NoMemory>
+    ensures { IfOk result (λ why. IsShown input.now why.shown) }
 {
     let odd = if code == UNKNOWN_KEY {
         odd_key(alloc, input, path)?
@@ -33,10 +41,10 @@ pub fn why(alloc: Global, input: &[u8], code: u32, path: &[u8]) -> Result<Vec<u8
     };
     let place = place_of(alloc, input, code, path, odd)?;
     let more = said(alloc, input, code, path, odd, place)?;
-    let mut text = Vec::new(alloc);
-    add_place(&mut text, input, place)?;
-    add(&mut text, &more)?;
-    Ok(text)
+    Ok(Reason {
+        shown: shown_at(input, place),
+        more,
+    })
 }
 
 /// The place that is shown: that of the key that isn't known, of the byte at which the text stops to be JSON, or of the last value on the

@@ -1,7 +1,7 @@
 // The marks of a JSON text, byte by byte.
 
 /// What a byte of a JSON text is.
-#[derive(Clone, Copy, Debug, PartialEq, Eq)]
+#[derive(Clone, Copy, PartialEq, Eq)]
 pub(crate) enum Mark {
     /// A blank, or a byte within a text.
     Within,
@@ -18,7 +18,7 @@ pub(crate) enum Mark {
 }
 
 /// Where the next byte stands.
-#[derive(Clone, Copy, Debug, PartialEq, Eq)]
+#[derive(Clone, Copy, PartialEq, Eq)]
 enum Side {
     Outside,
     Text,
@@ -27,14 +27,14 @@ enum Side {
 }
 
 /// Where a text stands, without its quotes.
-#[derive(Clone, Copy, Debug)]
+#[derive(Clone, Copy)]
 pub(crate) struct Span {
     pub(crate) from: usize,
     pub(crate) until: usize,
 }
 
 /// What is known behind some bytes of a JSON text.
-#[derive(Clone, Copy, Debug)]
+#[derive(Clone, Copy)]
 pub(crate) struct Scan {
     side: Side,
     last: Span,

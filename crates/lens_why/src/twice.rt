@@ -1,8 +1,8 @@
 // Keys that are there twice in one object.
-ghost use Rattle.std.specs.Prelude.{IfOk, OnOk};
-ghost use Rattle.lens_why.specs.Warnings.{AreWarnings};
+ghost use Rattle.std.specs.Prelude.{◌≡◌, ◌++◌, All, IfOk, OnOk};
+ghost use Rattle.lens_why.specs.Warnings.{IsWarning, warning_text};
 
-use crate::place::add_place;
+use crate::place::{Shown, add_shown, shown_at};
 use crate::scan::{Mark, Scan};
 use kube_base::NoMemory;
 use std::alloc::Global;
@@ -13,7 +13,7 @@ use trace_writer::add;
 const MOST: usize = 20;
 
 /// Where a key stands that is there twice: both times behind its first quote.
-#[derive(Clone, Copy, Debug)]
+#[derive(Clone, Copy)]
 struct Twice {
     first: usize,
     again: usize,
@@ -22,29 +22,39 @@ struct Twice {
 /// The keys of each object that is open, with where they stand.
 type Keys<'t> = BTreeMap<&'t [u8], usize>;
 
-/// A warning of each key that is there twice in one object of a JSON text, with both its places; of the first twenty of them.
-pub fn warnings(alloc: Global, input: &[u8]) -> Result<Vec<u8>, NoMemory>
-    ensures { IfOk result (λ text. AreWarnings input.now text.items) }
-{
-    let found = twice_in(alloc, input)?;
-    let mut text = Vec::new(alloc);
-    for twice in &found {
-        add_warning(&mut text, input, *twice)?;
-    }
-    Ok(text)
+/// A warning of a key that is there twice in one object: both its places.
+#[derive(Drop)]
+pub struct Warning<'t> {
+    pub first: Shown<'t>,
+    pub again: Shown<'t>,
 }
 
-/// Adds the warning of a key.
-fn add_warning(text: &mut Vec<u8>, input: &[u8], twice: Twice) -> Result<(), NoMemory>
-    requires { AreWarnings input.now text.old.items }
-    ensures { OnOk result (AreWarnings input.now text.new.items) }
+/// A warning of each key that is there twice in one object of a JSON text; of the first twenty of them.
+pub fn warnings(alloc: Global, input: &[u8]) -> Result<Vec<Warning<'_>>, NoMemory>
+    ensures { IfOk result (λ warnings. All (IsWarning input.now) warnings.items) }
+{
+    let found = twice_in(alloc, input)?;
+    let mut warnings = Vec::new(alloc);
+    for twice in &found {
+        warnings.push(Warning {
+            first: shown_at(input, twice.first.saturating_sub(1).min(input.len())),
+            again: shown_at(input, twice.again.saturating_sub(1).min(input.len())),
+        })?;
+    }
+    Ok(warnings)
+}
+
+/// Adds a warning.
+#[tactic(auto, unfolding(crate::specs::Warnings::warning_text))]
+pub fn add_warning(text: &mut Vec<u8>, warning: &Warning<'_>) -> Result<(), NoMemory>
+    ensures { OnOk result (text.new.items ≡ text.old.items ++ warning_text warning.now) }
 {
     add(
         text,
         b"warning: a key is here twice, and the last one counts\n",
     )?;
-    add_place(text, input, twice.first.saturating_sub(1).min(input.len()))?;
-    add_place(text, input, twice.again.saturating_sub(1).min(input.len()))
+    add_shown(text, warning.first)?;
+    add_shown(text, warning.again)
 }
 
 /// The first keys that are there twice.

@@ -4,7 +4,7 @@ use crate::digits::digits_of;
 use crate::scan::{Mark, Scan, Span};
 
 /// How far a path leads.
-#[derive(Clone, Copy, Debug)]
+#[derive(Clone, Copy)]
 pub(crate) struct Found {
     /// Where the last value on the way begins.
     pub(crate) place: usize,
@@ -13,7 +13,7 @@ pub(crate) struct Found {
 }
 
 /// Where a walk stands.
-#[derive(Clone, Copy, Debug)]
+#[derive(Clone, Copy)]
 struct Walk {
     /// How many objects and arrays are open.
     depth: usize,

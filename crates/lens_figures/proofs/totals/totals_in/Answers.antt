@@ -2,7 +2,7 @@ use Rattle.std.proofs.Common.{◌≡◌, ℕ, List, length, map, Bor, arith}
 use Rattle.lens_parts.specs.Parts.{members_in}
 use Rattle.trace_lines.specs.Reads.{seen}
 use Rattle.lens_figures.specs.Totals.{kind_objects}
-use Rattle.lens_figures.proofs.TotalLaws.{flat-step, kinds-told}
+use Rattle.lens_summary.proofs.TotalLaws.{flat-step, kinds-told}
 use Rattle.lens_figures.proofs.totals.totals_in.Goals as goal
 
 pub loop-word-preserved : goal.loop-word-preserved

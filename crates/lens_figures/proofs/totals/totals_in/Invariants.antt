@@ -2,7 +2,8 @@ use Rattle.std.proofs.Common.{◌≡◌, ℕ, List, ◌++◌, map, drop, Bor}
 use Rattle.std.specs.List.{flat_map}
 use Rattle.lens_parts.specs.Parts.{members_in}
 use Rattle.trace_lines.specs.Reads.{seen}
-use Rattle.lens_figures.specs.Totals.{kind_objects, kinds}
+use Rattle.lens_summary.specs.Totals.{kinds}
+use Rattle.lens_figures.specs.Totals.{kind_objects}
 use Rattle.lens_figures.proofs.totals.totals_in.Given as goal
 
 -- the objects so far and those of the rest

@@ -1,35 +1,5 @@
-use Rattle.std.proofs.Common.{◌≡◌, true, false, List, ℕ, [], Some, map, string_bytes, refl, sym, subst, ◌∙◌}
-use Rattle.lens_edge.specs.Outcome.{Outcome, Read, Unread, usage}
-use Rattle.lens_edge.proofs.Endings.{ends-wider}
-use Rattle.lens_summary.specs.Summary.{summary_reply}
-use Rattle.lens_summary.specs.Replies.{IsOutcome, IsOutcomeOf, is_summary}
 use Rattle.lens_summary.proofs.TogetherLaws.{beats-of-two-counted}
 use Rattle.lens_summary.proofs.running.run.Goals as goal
 
-outcome-summary : (words : List (List ℕ)) (bytes : List ℕ) → is_summary words ≡ true → (o : Outcome) → Read (λ input reply. reply ≡ summary_reply input) bytes o → IsOutcome words bytes o
-outcome-summary words bytes is o read = subst (λ b. IsOutcomeOf b bytes o) (sym is) read
-
-outcome-usage : (words : List (List ℕ)) (bytes : List ℕ) → is_summary words ≡ false → (o : Outcome) → Unread usage bytes o → IsOutcome words bytes o
-outcome-usage words bytes other o is = subst (λ b. IsOutcomeOf b bytes o) (sym other) is
-
-pub returns-then-is_command-clause-text : goal.returns-then-is_command-clause-text
-returns-then-is_command-clause-text g c bytes told =
-    let words : List (List ℕ) = map string_bytes c.args.words.now.items in
-    ends-wider (Read (λ input reply. reply ≡ summary_reply input) bytes) (IsOutcome words bytes) (g.S.Source.left c.ask.new.source) (g.S.Source.left c.ask.new.source)
-    (g.K.Sink.taken c.args.sink.now) (g.K.Sink.taken c.ask.new.sink) c.ask.result
-    (outcome-summary words bytes (sym c.is_command.ensures ∙ c.if-is_command.true)) refl (c.ask.ensures.text bytes told)
-
-pub returns-else-is_command-clause-text : goal.returns-else-is_command-clause-text
-returns-else-is_command-clause-text g c bytes told =
-    let words : List (List ℕ) = map string_bytes c.args.words.now.items in
-    ends-wider (Unread usage bytes) (IsOutcome words bytes) (Some bytes) (g.S.Source.left c.args.source.now) (g.K.Sink.taken c.args.sink.now) (g.K.Sink.taken c.tell_usage.new.sink) c.tell_usage.result
-    (outcome-usage words bytes (sym c.is_command.ensures ∙ c.if-is_command.false)) told (c.tell_usage.ensures.text bytes)
-
-pub returns-else-is_command-clause-usage : goal.returns-else-is_command-clause-usage
-returns-else-is_command-clause-usage g c other = (refl, c.tell_usage.ensures.status, c.tell_usage.ensures.text [])
-
-pub returns-then-is_command-clause-together : goal.returns-then-is_command-clause-together
-returns-then-is_command-clause-together g c end texts right = beats-of-two-counted end texts right
-
-pub returns-else-is_command-clause-together : goal.returns-else-is_command-clause-together
-returns-else-is_command-clause-together g c end texts right = beats-of-two-counted end texts right
+pub returns-clause-together : goal.returns-clause-together
+returns-clause-together g c end texts right = beats-of-two-counted end texts right

@@ -1,6 +1,7 @@
-use Rattle.lens_why.specs.Warnings.{AreWarnings}
+use Rattle.std.proofs.Common.{All}
+use Rattle.lens_why.specs.Warnings.{IsWarning}
 use Rattle.lens_why.proofs.twice.warnings.Given as goal
 
--- the warnings so far
+-- each so far is of two places of the input
 abbrev pub invariant-loop-twice : goal.invariant-loop-twice
-invariant-loop-twice l = AreWarnings l.input l.text.items
+invariant-loop-twice l = All (IsWarning l.input) l.warnings.items

@@ -1,0 +1,132 @@
+// The JSON on a document.
+ghost use Rattle.std.specs.Prelude.{◌≡◌, ◌++◌, List, IfOk, OnOk, map};
+ghost use Rattle.lens_json.specs.Members.{data_of, named, nat};
+ghost use Rattle.lens_parts.specs.Parts.{members_in, part_of};
+ghost use Rattle.lens_why.specs.declared.twice.Warning.{Warning};
+ghost use Rattle.lens_explain.specs.Json as spec;
+
+use kube_base::NoMemory;
+use lens_json::{Member, Value, add_object};
+use lens_parts::{Object, Part, What, add_parts};
+use lens_why::{Shown, Warning};
+use manifest_json::Refusal;
+use script_reader::Document;
+use std::alloc::Global;
+use trace_writer::add;
+
+/// Adds the object of a refusal.
+#[tactic(auto, unfolding(crate::specs::Json::refused_json))]
+pub(crate) fn add_refused(
+    text: &mut Vec<u8>,
+    alloc: Global,
+    refusal: &Refusal,
+    shown: Shown<'_>,
+    more: &[u8],
+) -> Result<(), NoMemory>
+    ensures { OnOk result (text.new.items ≡ text.old.items ++ spec.refused_json refusal.now shown.entry more.now) }
+{
+    let members = refused_members(alloc, refusal, shown, more)?;
+    add_object(text, &members)?;
+    add(text, b"\n")
+}
+
+fn refused_members<'a>(
+    alloc: Global,
+    refusal: &'a Refusal,
+    shown: Shown<'a>,
+    more: &'a [u8],
+) -> Result<Vec<Member<'a>>, NoMemory>
+    ensures { IfOk result (λ members. map named members.items ≡ spec.refused_members refusal.now shown.entry more.now) }
+{
+    let members = vec![in alloc;
+        Member {
+            name: b"wellFormed",
+            value: Value::Truth(false),
+        },
+        Member::number(b"code", u64::from(refusal.code)),
+        Member::text(b"path", refusal.path.as_slice()),
+        Member::number(b"line", shown.line),
+        Member::number(b"column", shown.column),
+        Member::text(b"found", shown.text),
+        Member::text(b"why", more),
+    ]?;
+    Ok(members)
+}
+
+/// Adds the object of a document that is well formed.
+#[tactic(auto, unfolding(crate::specs::Json::formed_json))]
+pub(crate) fn add_formed(
+    text: &mut Vec<u8>,
+    alloc: Global,
+    document: &Document,
+    found: &[Warning<'_>],
+) -> Result<(), NoMemory>
+    ensures { OnOk result (text.new.items ≡ text.old.items ++ spec.formed_json document.now found.now) }
+{
+    let warnings = warnings_in(alloc, found)?;
+    add_parts(text, &parts(document, warnings))?;
+    add(text, b"\n")
+}
+
+/// The members of that object.
+fn parts<'a>(document: &Document, warnings: Vec<Object<'a>>) -> [Part<'a>; 7]
+    ensures { (ws : List Warning) → map members_in warnings.entry.items ≡ map spec.warning_members ws
+        → map part_of result ≡ spec.formed_members document.now ws }
+{
+    [
+        part(b"wellFormed", Value::Truth(true)),
+        count(b"controllers", document.controllers.as_slice().len() as u64),
+        count(b"kubelets", document.kubelets.as_slice().len() as u64),
+        count(b"objects", document.objects.items.as_slice().len() as u64),
+        count(b"skipped", document.objects.skipped),
+        count(b"events", document.events.as_slice().len() as u64),
+        Part {
+            name: b"warnings",
+            what: What::List(warnings),
+        },
+    ]
+}
+
+fn part<'a>(name: &'a [u8], value: Value<'a>) -> Part<'a>
+    ensures { part_of result ≡ (name.now, data_of value.entry) }
+{
+    Part {
+        name,
+        what: What::Value(value),
+    }
+}
+
+fn count(name: &[u8], count: u64) -> Part<'_>
+    ensures { part_of result ≡ nat name.now count }
+{
+    part(name, Value::Number(count))
+}
+
+/// The objects of some warnings.
+fn warnings_in<'a>(alloc: Global, found: &[Warning<'a>]) -> Result<Vec<Object<'a>>, NoMemory>
+    ensures { IfOk result (λ objects. map members_in objects.items ≡ map spec.warning_members found.now) }
+{
+    let mut objects = Vec::new(alloc);
+    for warning in found {
+        let members = warning_members(alloc, warning)?;
+        objects.push(Object { members })?;
+    }
+    Ok(objects)
+}
+
+fn warning_members<'a>(
+    alloc: Global,
+    warning: &Warning<'a>,
+) -> Result<Vec<Member<'a>>, NoMemory>
+    ensures { IfOk result (λ members. map named members.items ≡ spec.warning_members warning.now) }
+{
+    let members = vec![in alloc;
+        Member::number(b"line", warning.first.line),
+        Member::number(b"column", warning.first.column),
+        Member::text(b"found", warning.first.text),
+        Member::number(b"againLine", warning.again.line),
+        Member::number(b"againColumn", warning.again.column),
+        Member::text(b"againFound", warning.again.text),
+    ]?;
+    Ok(members)
+}
