@@ -1,5 +1,5 @@
 // Values of one kind under namespaces and names.
-ghost use Rattle.std.specs.Prelude.{◌≡◌, ◌<◌, ◌==◌, ◌&&◌, ℕ, None, Some, length, IfSome, IfOk, OnOk, OnErr, option_copied, vec_len, if◌then◌else◌};
+ghost use Rattle.std.specs.Prelude.{◌≡◌, ◌<◌, ◌≤◌, ◌==◌, ◌&&◌, ◌+◌, ◌*◌, ℕ, false, None, Some, length, IfSome, IfOk, OnOk, OnErr, option_copied, vec_len, if◌then◌else◌};
 ghost use Rattle.key_map.specs.Rows.{own_row, place_in, place_of};
 
 use kube_base::NoMemory;
@@ -17,7 +17,8 @@ struct Row<V> {
 /// Values under namespaces and names.
 ///
 /// Names are numbers from 0 on, so the number of a name is the place in a list that tells its row. A name has one row, for the namespace under
-/// which it came first, and keeps it. What it has in other namespaces is found by hash.
+/// which it came first, and keeps it. What it has in other namespaces is found by hash, and so is what came while its number was far beyond
+/// that of the values: the places take no more memory than some values do.
 #[derive(Drop)]
 pub(crate) struct Shelf<V> {
     places: Vec<Option<u32>>,
@@ -55,6 +56,21 @@ fn own_row<V>(places: &[Option<u32>], rows: &[Row<V>], space: u32, name: u32) ->
     } else {
         None
     }
+}
+
+// How many places there are before there are values, and how many more each value allows.
+const FIRST_PLACES: usize = 4096;
+
+const PLACES_A_VALUE: usize = 16;
+
+// Whether the places up to that of a name are too many beside so many values.
+fn is_far(name: u32, values: usize) -> bool
+    ensures { result ≡ false → name ≤ 4096 + values * 16 }
+{
+    name as usize
+        > values
+            .saturating_mul(PLACES_A_VALUE)
+            .saturating_add(FIRST_PLACES)
 }
 
 // Makes places up to that of a name.
@@ -131,7 +147,11 @@ impl<V: Drop> Shelf<V> {
         ensures same { OnErr result ((s n : ℕ) → held self.new s n ≡ held self.old s n) }
     {
         let place = place_of(space, name);
-        if place_in(&self.places, name).is_some() || self.others.contains_key(&place) {
+        let values = self.rows.len().saturating_add(self.others.len());
+        if place_in(&self.places, name).is_some()
+            || self.others.contains_key(&place)
+            || is_far(name, values)
+        {
             return Ok(self.others.insert(place, value)?);
         }
         self.give_row(space, name, value)?;
