@@ -17,7 +17,8 @@ SAYS_LITTLE = 'only a proof file names what the edit took away, so this says lit
 
 
 def functions(path, text, old):
-    """The functions of a source file that have a text, each by its path below the crate as a check prints it."""
+    """The functions of a source file that have a text, each by a text that its path has, as a check prints it: a function by its module, a method by its
+    type, which may stand in another module."""
     module = path.removeprefix('src/').removesuffix('.rt').removesuffix('/mod').replace('/', '::')
     outer = [] if module == 'lib' else [module]
     lines, owner, name, found = text.splitlines(), None, None, []
@@ -27,7 +28,7 @@ def functions(path, text, old):
         owner = OWNER.match(line)[1] if OWNER.match(line) else owner
         name = FUNCTION.match(line)[1] if FUNCTION.match(line) else name
         if old in line and name is not None:
-            found.append('::'.join([*outer, *([owner] if owner else []), name]))
+            found.append('::'.join([*([owner] if owner else outer), name]))
     return found
 
 

@@ -300,7 +300,7 @@ class OfBodies(unittest.TestCase):
     TEXT = '''// Each thing\nimpl Thing {\n    pub fn take(&self) -> u32\n        ensures { result ≡ 1 }\n    {\n        one()\n    }\n}\n\nfn one() -> u32 {\n    1\n}\n'''
 
     def test_functions_have_their_paths(self):
-        self.assertEqual(bodies.functions('src/thing.rt', self.TEXT, '        one()'), ['thing::Thing::take'])
+        self.assertEqual(bodies.functions('src/thing.rt', self.TEXT, '        one()'), ['Thing::take'])
         self.assertEqual(bodies.functions('src/lib.rt', self.TEXT, '    1'), ['one'])
         self.assertEqual(bodies.functions('src/deep/mod.rt', self.TEXT, '// Each thing'), [])
 
@@ -310,9 +310,9 @@ class OfBodies(unittest.TestCase):
             write('file: src/thing.rt\nold:         one()\nnew:         2\n', room, 'inside.edit')
             write('file: src/thing.rt\nold: // Each thing\nnew: // Some\n', room, 'beside.edit')
             texts, names = bodies.changed(os.path.join(room, 'inside.edit'), room)
-            self.assertEqual(names, ['thing::Thing::take'])
+            self.assertEqual(names, ['Thing::take'])
             self.assertEqual(texts['src/thing.rt'], self.TEXT.replace('        one()', '        2'))
-            self.assertEqual(bodies.checks(names), [['--only', 'thing::Thing::take'], ['--empty-contracts']])
+            self.assertEqual(bodies.checks(names), [['--only', 'Thing::take'], ['--empty-contracts']])
             self.assertIsNone(bodies.changed(os.path.join(room, 'beside.edit'), room)[1])
             self.assertEqual(bodies.checks(None), [['--empty-contracts']])
 
