@@ -114,10 +114,7 @@ fn warnings_in<'a>(alloc: Global, found: &[Warning<'a>]) -> Result<Vec<Object<'a
     Ok(objects)
 }
 
-fn warning_members<'a>(
-    alloc: Global,
-    warning: &Warning<'a>,
-) -> Result<Vec<Member<'a>>, NoMemory>
+fn warning_members<'a>(alloc: Global, warning: &Warning<'a>) -> Result<Vec<Member<'a>>, NoMemory>
     ensures { IfOk result (λ members. map named members.items ≡ spec.warning_members warning.now) }
 {
     let members = vec![in alloc;

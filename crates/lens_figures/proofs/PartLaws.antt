@@ -1,28 +1,14 @@
 -- The members of the answer, and its text.
-use Rattle.std.proofs.Common.{◌≡◌, ℕ, ◌+◌, List, [], ◌∷◌, ◌++◌, codes, map, Option, ap, ◌∙◌}
+use Rattle.std.proofs.Common.{◌≡◌, ℕ, ◌+◌, List, [], ◌++◌, codes, Option, ap, ◌∙◌}
 use Rattle.serde_json.specs.Written.{compact_text}
 use Rattle.lens_edge.specs.Outcome.{Reply}
 use Rattle.lens_edge.specs.declared.status.Verdict.TheVariants.{Done}
 use Rattle.lens_json.specs.Members.{Named, object_of}
-use Rattle.lens_parts.specs.Parts.{part_of}
-use Rattle.lens_parts.specs.declared.part.Part.{Part}
 use Rattle.lens_terms.specs.declared.term.Term.{Term}
 use Rattle.lens_terms.specs.Terms.{terms}
 use Rattle.lens_figures.specs.Figures.{figure_members, figures_json, figures}
 use Rattle.trace_lines.specs.declared.header.Header.{Header}
 use Rattle.trace_lines.specs.declared.line.Line.{Line}
-
--- parts that are added one behind the other
-pub seven-added : (none one two three four five six seven : List Part) (a b c d e f g : Part)
-    → none ≡ [] → one ≡ none ++ a ∷ [] → two ≡ one ++ b ∷ [] → three ≡ two ++ c ∷ [] → four ≡ three ++ d ∷ [] → five ≡ four ++ e ∷ [] → six ≡ five ++ f ∷ []
-    → seven ≡ six ++ g ∷ []
-    → map part_of seven ≡ part_of a ∷ part_of b ∷ part_of c ∷ part_of d ∷ part_of e ∷ part_of f ∷ part_of g ∷ []
-seven-added none one two three four five six seven a b c d e f g empty p q r s t u v =
-    let after_three : three ≡ a ∷ b ∷ c ∷ []
-    = r ∙ ap (λ x. x ++ c ∷ []) (q ∙ ap (λ x. x ++ b ∷ []) (p ∙ ap (λ x. x ++ a ∷ []) empty)) in
-    let after_six : six ≡ a ∷ b ∷ c ∷ d ∷ e ∷ f ∷ []
-    = u ∙ ap (λ x. x ++ f ∷ []) (t ∙ ap (λ x. x ++ e ∷ []) (s ∙ ap (λ x. x ++ d ∷ []) after_three)) in
-    ap (map part_of) (v ∙ ap (λ x. x ++ g ∷ []) after_six)
 
 -- the text of the object of these members, and a line feed
 pub told-is : (header : Header) (overlap : Option ℕ) (ls : List (Line (List ℕ))) (ts : List (Term (List ℕ))) (ms : List Named) (none one two : List ℕ)

@@ -47,9 +47,9 @@ fn parts<'a>(
     overlap: Option<u64>,
     found: &[Term<&'a [u8]>],
     lines: &[Line<&'a [u8]>],
-) -> Result<Vec<Part<'a>>, NoMemory>
+) -> Result<[Part<'a>; 7], NoMemory>
     requires { header.end ≤ 604800000 }
-    ensures { IfOk result (λ parts. map part_of parts.items
+    ensures { IfOk result (λ parts. map part_of parts
         ≡ spec.figure_members header overlap (header.end + 1) (map shown found.now) (map seen lines.now)) }
 {
     let stop = header.end + 1;
@@ -63,18 +63,18 @@ fn parts<'a>(
     let nodes = objects_in(alloc, Subject::Nodes, lines)?;
     let pods = objects_in(alloc, Subject::Pods, lines)?;
     let totals = totals_in(alloc, lines)?;
-    let mut parts = Vec::new(alloc);
-    parts.push(part(b"header", What::Object(Object { members: trace })))?;
-    parts.push(part(b"terms", What::List(terms)))?;
-    parts.push(part(
-        b"spansWithoutLeader",
-        What::Object(Object { members: spread }),
-    ))?;
-    parts.push(part(b"zones", What::List(zones)))?;
-    parts.push(part(b"nodes", What::List(nodes)))?;
-    parts.push(part(b"evictions", What::List(pods)))?;
-    parts.push(part(b"totals", What::List(totals)))?;
-    Ok(parts)
+    Ok([
+        part(b"header", What::Object(Object { members: trace })),
+        part(b"terms", What::List(terms)),
+        part(
+            b"spansWithoutLeader",
+            What::Object(Object { members: spread }),
+        ),
+        part(b"zones", What::List(zones)),
+        part(b"nodes", What::List(nodes)),
+        part(b"evictions", What::List(pods)),
+        part(b"totals", What::List(totals)),
+    ])
 }
 
 fn part<'a>(name: &'a [u8], what: What<'a>) -> Part<'a>

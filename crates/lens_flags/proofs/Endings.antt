@@ -1,5 +1,5 @@
 -- How a run ends, by the words behind the first one.
-use Rattle.std.proofs.Common.{◌≡◌, ℕ, Bool, true, false, List, Option, Some, Ok, refl, ap, ◌∙◌, subst}
+use Rattle.std.proofs.Common.{◌≡◌, ℕ, Bool, true, false, List, Some, Ok, refl, ap, ◌∙◌, subst}
 use Rattle.byte_edge.specs.Bytes.{Taken}
 use Rattle.history.specs.Premise.{lease_premise}
 use Rattle.lens_edge.specs.Outcome.{Ends, Reply, Unread, reply_of}

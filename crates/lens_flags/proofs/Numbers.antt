@@ -1,20 +1,19 @@
 -- The numbers of settings are those of the lease premise of the document that they describe.
-use Rattle.std.proofs.Common.{◌≡◌, ◌⊎◌, ℕ, ◌+◌, ◌-◌, ◌*◌, ◌<◌, ◌≤◌, ◌&&◌, nat_lt, Bool, true, false, cond, Option, Some, None, refl, sym, ap, ◌∙◌, subst, inl, inr, arith}
+use Rattle.std.proofs.Common.{◌≡◌, ◌⊎◌, ℕ, ◌+◌, ◌-◌, ◌*◌, ◌<◌, ◌≤◌, ◌&&◌, nat_lt, Bool, true, false, cond, Option, Some, None, refl, sym, ap, ◌∙◌, inl, inr, arith}
 use Rattle.std.proofs.Math.Nat.{mul-le-mul_right}
 use Rattle.std.proofs.lemmas.Bool.{cases_lt, lt-ltb, le-ltb, ltb-true}
 use Rattle.std.proofs.lemmas.Bool.Decides.{nat_tests}
 use Rattle.kube_objects.specs.Document.{Doc, of_seconds, of_millis}
 use Rattle.history.specs.Premise.{more, is_long}
-use Rattle.lens_margin.specs.Laws.{IsLeast, IsGreatest, is_long_with}
+use Rattle.lens_margin.specs.Laws.{IsGreatest, is_long_with}
 use Rattle.lens_margin.specs.Laws as margin
-use Rattle.lens_margin.specs.Margins.{fastest, numbers, margin_of}
-use Rattle.lens_margin.specs.Margins as margins
+use Rattle.lens_margin.specs.Margins.{fastest, numbers}
 use Rattle.lens_margin.proofs.Leased.{leased-is}
 use Rattle.lens_margin.proofs.Numbers.{margin-law-of}
 use Rattle.lens_flags.specs.declared.flags.Flags.{Flags}
 use Rattle.lens_flags.specs.Described.{slow, fast, described}
 use Rattle.lens_flags.specs.Flags.{timeout_of}
-use Rattle.lens_flags.specs.Laws.{holds, with_lease, with_skew, flags_margin, acting, skew_within, greatest_skew, IsLeastLease, IsGreatestSkew, AreNumbers}
+use Rattle.lens_flags.specs.Laws.{holds, with_lease, with_skew, flags_margin, acting, greatest_skew, IsLeastLease, IsGreatestSkew, AreNumbers}
 use Rattle.lens_flags.specs.Ranges.{AreInRange}
 use Rattle.lens_flags.proofs.Skews.{Bears, room, room-bears, room-most, bears-none}
 

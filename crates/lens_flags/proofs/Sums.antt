@@ -1,11 +1,10 @@
 -- Amounts that are written are read as their sum.
-use Rattle.std.proofs.Common.{◌≡◌, ℕ, ◌+◌, ◌-◌, ◌*◌, ◌/◌, ◌%◌, ◌<◌, ◌≤◌, ◌&&◌, nat_le, Bool, true, cond, List, [], ◌∷◌, ◌++◌, decimal, Option, Some, None, refl, ap, ◌∙◌, arith, append_assoc}
+use Rattle.std.proofs.Common.{◌≡◌, ℕ, ◌+◌, ◌-◌, ◌*◌, ◌/◌, ◌%◌, ◌<◌, ◌≤◌, ◌&&◌, nat_le, true, cond, List, [], ◌∷◌, ◌++◌, decimal, Some, None, refl, ap, ◌∙◌, arith, append_assoc}
 use Rattle.std.specs.Char.{is_ascii_digit}
 use Rattle.std.proofs.lemmas.Bool.{le-leb}
 use Rattle.std.proofs.lemmas.Bool.Decides.{nat_tests}
 use Rattle.std.proofs.lemmas.Fmt.{decimal_by_steps}
 use Rattle.lens_flags.specs.declared.duration.Reading.{Reading}
-use Rattle.lens_flags.specs.declared.duration.Stage.{Stage}
 use Rattle.lens_flags.specs.declared.duration.Stage.TheVariants.{Whole, Digits, Minutes}
 use Rattle.lens_flags.specs.Amounts.{Measure, hours, minutes, seconds, millis, text_of, millis_of, written, total_of}
 use Rattle.lens_flags.specs.Durations.{up_to_a_day, with_amount, behind, in_digits, with_digit, with_first_digit, step, total, read_from, duration}

@@ -1,8 +1,6 @@
 -- The document that settings describe: two controllers of the same timings, one with a clock as slow and one as fast as the skew lets it be,
 -- with no event. What a lease premise doesn't read is as in a document that doesn't say it.
-use Rattle.std.specs.Prelude.{ℕ, pos, ◌+◌, ◌-◌, true, List, [], ◌∷◌}
-use Rattle.kube_base.specs.declared.numbers.Beat.{Beat}
-use Rattle.kube_base.specs.declared.numbers.Wall.{Wall}
+use Rattle.std.specs.Prelude.{ℕ, pos, ◌+◌, ◌-◌, true, [], ◌∷◌}
 use Rattle.kube_objects.specs.declared.node.ReadyStatus.TheVariants.{True}
 use Rattle.kube_objects.specs.declared.script.Proc.{Proc}
 use Rattle.kube_objects.specs.declared.settings.RatePolicy.TheVariants.{Standard}

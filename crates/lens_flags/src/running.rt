@@ -79,12 +79,7 @@ fn told(alloc: Global, flags: &Flags) -> Result<Answer, NoMemory>
 }
 
 /// Adds what settings come to, in the form that is wanted.
-fn add_told(
-    text: &mut Vec<u8>,
-    alloc: Global,
-    flags: &Flags,
-    safe: bool,
-) -> Result<(), NoMemory>
+fn add_told(text: &mut Vec<u8>, alloc: Global, flags: &Flags, safe: bool) -> Result<(), NoMemory>
     requires ranges { AreInRange flags.now }
     requires safe { safe ≡ holds flags.now }
     ensures { OnOk result (text.new.items ≡ text.old.items ++ spec.told_text flags.now) }

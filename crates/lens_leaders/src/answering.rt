@@ -44,27 +44,27 @@ fn parts<'a>(
     stop: u32,
     overlap: Option<u64>,
     found: &[Term<&'a [u8]>],
-) -> Result<Vec<Part<'a>>, NoMemory>
-    ensures { IfOk result (λ parts. map part_of parts.items ≡ spec.leaders_members stop overlap (map shown found.now)) }
+) -> Result<[Part<'a>; 3], NoMemory>
+    ensures { IfOk result (λ parts. map part_of parts ≡ spec.leaders_members stop overlap (map shown found.now)) }
 {
     let spans = leaderless(alloc, stop, found)?;
     let terms = terms_in(alloc, stop, found)?;
     let nobody = spans_in(alloc, &spans)?;
     let what = overlap_in(alloc, stop, found, overlap)?;
-    let mut parts = Vec::new(alloc);
-    parts.push(Part {
-        name: b"terms",
-        what: What::List(terms),
-    })?;
-    parts.push(Part {
-        name: b"nobody",
-        what: What::List(nobody),
-    })?;
-    parts.push(Part {
-        name: b"overlap",
-        what,
-    })?;
-    Ok(parts)
+    Ok([
+        Part {
+            name: b"terms",
+            what: What::List(terms),
+        },
+        Part {
+            name: b"nobody",
+            what: What::List(nobody),
+        },
+        Part {
+            name: b"overlap",
+            what,
+        },
+    ])
 }
 
 fn verdict(overlap: Option<u64>) -> Verdict

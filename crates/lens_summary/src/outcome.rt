@@ -6,7 +6,7 @@ ghost use Rattle.lens_summary.specs.Outcomes as spec;
 use trace_lines::{Answer, Says, Verb};
 
 /// How what a line writes was answered.
-#[derive(Clone, Copy, Debug, PartialEq, Eq)]
+#[derive(Clone, Copy)]
 pub enum Outcome {
     /// It writes nothing.
     Unasked,

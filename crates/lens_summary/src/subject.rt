@@ -17,7 +17,7 @@ use std::alloc::Global;
 use trace_lines::Line;
 
 /// What lines tell of, with a table of its own.
-#[derive(Clone, Copy, PartialEq, Eq)]
+#[derive(Clone, Copy)]
 pub enum Subject {
     /// The states that passes found zones in.
     Zones,

@@ -36,11 +36,7 @@ pub trait Telling {
 
 /// What is told of the trace that this text is, or its refusal.
 #[tactic(auto, unfolding(crate::specs::Traces::trace_reply))]
-pub fn answer_on<T: Telling>(
-    alloc: Global,
-    telling: &T,
-    text: &[u8],
-) -> Result<Answer, NoMemory>
+pub fn answer_on<T: Telling>(alloc: Global, telling: &T, text: &[u8]) -> Result<Answer, NoMemory>
     ensures { IfOk result (λ answer. reply_of answer ≡ spec.trace_reply (T.told telling.now) text.now) }
 {
     let judged = judge(alloc, text)?;

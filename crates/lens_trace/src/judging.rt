@@ -8,7 +8,7 @@ use std::alloc::Global;
 use trace_audit::{AuditFault, BAD_TRACE, OVERLAP, audit};
 
 /// What `audit` says of a text's form and of its leaders.
-#[derive(Clone, Copy, Debug, PartialEq, Eq)]
+#[derive(Clone, Copy)]
 pub enum Judged {
     /// This line is wrong or missing.
     Wrong(u64),

@@ -1,5 +1,5 @@
 -- A text in three parts.
-use Rattle.std.proofs.Common.{◌≡◌, ℕ, List, ◌++◌, take, drop, refl, sym, ap, ◌∙◌, append_assoc, take-append-drop}
+use Rattle.std.proofs.Common.{◌≡◌, ℕ, List, ◌++◌, take, drop, sym, ap, ◌∙◌, append_assoc, take-append-drop}
 use Rattle.lens_why.specs.declared.place.Shown.{Shown}
 use Rattle.lens_why.specs.Places.{IsShown, Place}
 

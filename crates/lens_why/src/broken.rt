@@ -40,7 +40,10 @@ pub(crate) fn hint(input: &[u8], place: usize) -> &'static str {
         (None, _) => "The input is empty: give a document on standard input.\n",
         (Some(b'{'), None) | (Some(b'['), None) =>
             "The input ends before the value does: a bracket or a quote isn't closed.\n",
-        (Some(b'{'), Some(here)) | (Some(b'['), Some(here)) => hint_in(before.ends_with(b","), *here),
+        (Some(b'{'), Some(here)) | (Some(b'['), Some(here)) => hint_in(
+            before.ends_with(b","),
+            *here,
+        ),
         (Some(_), _) =>
             "A document begins with {. This may be YAML: yq -o=json . makes JSON of it.\n",
     }

@@ -31,7 +31,12 @@ pub struct Reason<'t> {
 }
 
 /// What is said about the refusal of an input by this code and path.
-pub fn why<'t>(alloc: Global, input: &'t [u8], code: u32, path: &[u8]) -> Result<Reason<'t>, NoMemory>
+pub fn why<'t>(
+    alloc: Global,
+    input: &'t [u8],
+    code: u32,
+    path: &[u8],
+) -> Result<Reason<'t>, NoMemory>
     ensures { IfOk result (λ why. IsShown input.now why.shown) }
 {
     let odd = if code == UNKNOWN_KEY {
