@@ -4,8 +4,8 @@ ghost use Rattle.lens_edge.specs.Outcome.{reply_of};
 ghost use Rattle.lens_explain.specs.Replies as spec;
 ghost use Rattle.lens_explain.specs.Replies.{IsExplained, IsFormed, IsRefused};
 
-use crate::json::{add_formed, add_refused};
 use crate::lines::{add_counts, add_warnings, add_why};
+use crate::object::{add_formed, add_refused};
 use kube_base::NoMemory;
 use lens_edge::{Answer, Verdict, refuse};
 use lens_why::{Shown, Warning, warnings, why};

@@ -2,8 +2,8 @@
 #![tactic(auto)]
 
 mod explaining;
-mod json;
 mod lines;
+mod object;
 mod running;
 
 pub use running::run;

@@ -5,9 +5,9 @@ mod duration;
 mod flag;
 mod flags;
 mod given;
-mod json;
 mod lines;
 mod margin;
+mod object;
 mod running;
 mod wrong;
 

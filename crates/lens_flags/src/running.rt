@@ -14,9 +14,9 @@ ghost use Rattle.lens_flags.specs.Ranges.{AreInRange};
 
 use crate::flags::Flags;
 use crate::given::read_flags;
-use crate::json::add_json;
 use crate::lines::{add_settings, add_usage};
 use crate::margin::is_safe;
+use crate::object::add_json;
 use crate::wrong::Wrong;
 use byte_edge::Sink;
 use kube_base::NoMemory;

@@ -1,7 +1,7 @@
 use Rattle.std.proofs.Common.{◌≡◌, ◌++◌, map, drop}
 use Rattle.lens_parts.specs.Parts.{members_in}
 use Rattle.lens_explain.specs.Json.{warning_members}
-use Rattle.lens_explain.proofs.json.warnings_in.Given as goal
+use Rattle.lens_explain.proofs.object.warnings_in.Given as goal
 
 -- the objects so far and those of the rest
 abbrev pub invariant-loop-warning : goal.invariant-loop-warning
