@@ -9,5 +9,5 @@ mod queues;
 mod tests;
 mod wire;
 
-pub use message::{Sent, Back, Fate};
+pub use message::{Back, Fate, Sent};
 pub use wire::Wire;
