@@ -381,6 +381,17 @@ class OfMaps(unittest.TestCase):
         self.assertEqual(len(list(self.check.differences([('Other', ['a', 'b'])], groups))), 1)
 
 
+class OfLayout(unittest.TestCase):
+    def test_a_file_that_is_not_laid_out_is_told(self):
+        check = script('check-layout')
+        with tempfile.TemporaryDirectory() as room:
+            path = os.path.join(room, 'src', 'lib.rt')
+            write('pub fn one() -> u32 {\n    1\n}\n', path)
+            self.assertEqual(check.strays([path]), [])
+            write('pub fn one() -> u32 { 1 }\n', path)
+            self.assertIn(path, ' '.join(check.strays([path])))
+
+
 class OfProofs(unittest.TestCase):
     """What needs the prover, where --prove names a crate."""
 
