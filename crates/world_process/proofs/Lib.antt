@@ -22,6 +22,7 @@ pub mod Terms
 pub mod Timers
 pub mod Answering
 pub mod Acting
+pub mod Forgetting
 -- ---- a kubelet
 pub mod Kubelets
 pub mod Rounds

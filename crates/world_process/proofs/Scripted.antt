@@ -13,7 +13,7 @@ use Rattle.kube_objects.specs.declared.script.What.TheVariants as what
 use Rattle.kube_objects.specs.Clocks.{store_wall, whole_second}
 use Rattle.kube_objects.specs.Document.{Doc}
 use Rattle.kube_objects.specs.Elector.{release}
-use Rattle.kube_objects.specs.Entry.{Entry, Identity, Fact, First, Event, Stops, Sends, Release, entry, script_entry, actor_of}
+use Rattle.kube_objects.specs.Entry.{Entry, Identity, Fact, First, Event, Crashes, Stops, Sends, Release, entry, script_entry, actor_of}
 use Rattle.kube_objects.specs.Identities.{identity, is_by}
 use Rattle.kube_objects.specs.Newest.{added, newest, when, only_if, join}
 use Rattle.kube_objects.specs.Pauses.{is_paused}
@@ -22,14 +22,14 @@ use Rattle.kube_objects.specs.Stamps.{stamped}
 use Rattle.kube_objects.specs.Wire.{next_call, send}
 use Rattle.history.specs.History.{put_all}
 use Rattle.history.specs.Printed.{printed, deeds_of}
-use Rattle.history.specs.Steps.{happens, released, start, start_if_down, stop}
+use Rattle.history.specs.Steps.{crash, happens, released, start, start_if_down, stop}
 use Rattle.history_laws.proofs.Plainly.{false_is}
 use Rattle.leader_elector.proofs.Frames.{candidate-foreign, leading-foreign}
 use Rattle.leader_elector.specs.Moves.{Releases}
 use Rattle.world_process.specs.declared.controller.Controller.{Controller}
 use Rattle.world_process.specs.declared.controller.Role.{Role}
 use Rattle.world_process.specs.declared.controller.Role.TheVariants as role
-use Rattle.world_process.specs.Controllers.{AsksOn, Begun, ControllerStands, RoleStands, StoppedAs, is_up_as, restart_reading}
+use Rattle.world_process.specs.Controllers.{AsksOn, Begun, ControllerStands, Crashed, RoleStands, StoppedAs, is_up_as, restart_reading}
 use Rattle.world_process.specs.Moves as moves
 use Rattle.world_process.specs.Moves.{stop_in, stopped}
 use Rattle.world_process.specs.Plain.{IsFew, IsPlain}
@@ -124,6 +124,48 @@ begun-up doc k id h c up s =
       stands = subst (λ g. ControllerStands doc id.0 g c) (sym is) (stands-role doc id.0 h (e ∷ h) c c.role s refl (keeps-beside doc id.0 e h refl) r.1);
       told = ap printed is;
     }
+
+-- ---- it crashes
+
+alive-crash : (k step : ℕ) (q : Identity) (h : List Entry) → alive q.process (entry k step q Crashes ∷ h) ≡ None
+alive-crash k step q h = ap (λ o. join (elim (gone o) as (λ x. Option (Option ℕ)) [ None ↦ life q.process h | Some y ↦ Some y ])) (of_process-own q)
+
+pub controller-crashed : (doc : Doc) (k : ℕ) (id : ProcId) (h : List Entry) (c : Controller) → ControllerStands doc id.0 h c → Crashed doc k id h (record c { role = role.Down None }) (is_up_as c.role)
+controller-crashed doc k id h c s = by_role c.role s.role
+  where
+    p : ℕ
+    p = id.0
+
+    q : Identity
+    q = identity p c.incarnation
+
+    c' : Controller
+    c' = record c { role = role.Down None }
+
+    e : Entry
+    e = script_entry k 1 (Event (what.Crash id) None)
+
+    rests : alive p h ≡ None → Crashed doc k id h c' false
+    rests down =
+        let next : happens doc k (what.Crash id) h ≡ e ∷ h = ap (λ o. crash k p o (e ∷ h)) down in
+        record {
+          stands = subst (λ g. ControllerStands doc p g c') (sym next) (stands-role doc p h (e ∷ h) c (role.Down None) s refl (keeps-beside doc p e h refl) (down, ap (restart_reading doc p) (sym (cancelled doc p k 1 (what.Crash id) None h (eq-self p)))));
+          told = ap printed next;
+        }
+
+    falls : alive p h ≡ Some c.incarnation → Crashed doc k id h c' true
+    falls up =
+        let f = entry k 1 q Crashes in
+        let next : happens doc k (what.Crash id) h ≡ f ∷ e ∷ h = ap (λ o. crash k p o (e ∷ h)) up in
+        record {
+          stands = subst (λ g. ControllerStands doc p g c') (sym next) (stands-role doc p h (f ∷ e ∷ h) c (role.Down None) s refl (keeps-both doc p f e h refl refl) (alive-crash k 1 q (e ∷ h), ap (restart_reading doc p) (sym (cancelled doc p k 1 (what.Crash id) None h (eq-self p)))));
+          told = ap printed next ∙ ap (λ ds. ds ++ deeds_of k (actor_of q) (Some act.Crash)) (append-nil (printed h));
+        }
+
+    by_role : (r : Role) → RoleStands doc p c.incarnation h r → Crashed doc k id h c' (is_up_as r)
+    by_role (role.Down at) down = rests down.0
+    by_role (role.Candidate x) up = falls up.0
+    by_role (role.Leading x) up = falls up.0
 
 -- ---- a leader is stopped
 

@@ -133,7 +133,8 @@ impl Controller {
         self.term.renew();
     }
 
-    /// Goes down where it is up, and its call is forgotten; a restart that waits is cancelled. Tells whether it was up.
+    /// Goes down where it is up, and its call is forgotten, with what its term had seen; a restart that waits is cancelled. Tells
+    /// whether it was up.
     pub fn crash(&mut self) -> bool
         ensures same { SameController self.old self.new }
         ensures incarnation { self.new.incarnation ≡ self.old.incarnation }
@@ -142,6 +143,7 @@ impl Controller {
     {
         let up = self.is_up();
         self.role = Role::Down(None);
+        self.forget_term();
         up
     }
 
@@ -179,6 +181,7 @@ impl Controller {
             Role::Leading(leading) => {
                 let now = self.clock.local(beat);
                 let wall = self.clock.wall_at(now);
+                self.forget_term();
                 stop_with(true, leading.release(now, wall).ask)
             }
         }
@@ -294,6 +297,7 @@ impl Controller {
             }
             LeadingNext::End(_) => {
                 self.role = Role::Down(Some(Local(now.0 + delay)));
+                self.forget_term();
                 final_turn()
             }
         }

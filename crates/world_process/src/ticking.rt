@@ -1,5 +1,5 @@
 // A controller's tick, and what its term waits for.
-ghost use Rattle.std.specs.Prelude.{◌≡◌, ◌≤◌, not, ℕ, List, OnOk};
+ghost use Rattle.std.specs.Prelude.{◌≡◌, ◌≤◌, not, ℕ, false, List, OnOk};
 ghost use Rattle.kube_base.specs.Bounds.{most_local};
 ghost use Rattle.kube_objects.specs.Clocks.{local};
 ghost use Rattle.kube_objects.specs.Document.{Doc};
@@ -10,7 +10,7 @@ ghost use Rattle.agenda_laws.specs.Ticking.{is_due_at_once, term_reading, term_t
 ghost use Rattle.agenda_laws.specs.Times.{is_early};
 ghost use Rattle.object_store.specs.Stands.{StoreStands};
 ghost use Rattle.world_process.specs.Beats.{reading_of};
-ghost use Rattle.world_process.specs.Controllers.{ControllerStands, SameController, Ticked};
+ghost use Rattle.world_process.specs.Controllers.{ControllerStands, SameController, Ticked, is_up_as};
 ghost use Rattle.world_process.specs.OwnTerm.{CanTick, IsUpAs};
 
 use crate::controller::Controller;
@@ -57,6 +57,17 @@ impl Controller {
         let mut steps = Steps::new(Blank::new(1));
         let printed = self.term.tick(&acting, store, &view, policies, &mut steps)?;
         deeds.append(&printed)
+    }
+
+    // Forgets what its term had seen, where it has gone down: nobody asks for it any more, and it would take memory until the next
+    // start. What it was stays.
+    pub(crate) fn forget_term(&mut self)
+        requires { is_up_as self.old.role ≡ false }
+        ensures same { SameController self.old self.new }
+        ensures incarnation { self.new.incarnation ≡ self.old.incarnation }
+        ensures stands { (doc : Doc) (p : ℕ) (h : List Entry) → ControllerStands doc p h self.old → ControllerStands doc p h self.new }
+    {
+        self.term.renew();
     }
 
     /// Whether a tick of its term would have a sync, an untaint or a swap now, whatever the time.

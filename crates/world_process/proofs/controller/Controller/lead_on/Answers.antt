@@ -4,6 +4,7 @@ use Rattle.kube_objects.specs.Clocks.{local}
 use Rattle.kube_objects.specs.Identities.{identity}
 use Rattle.world_process.specs.declared.controller.Role.TheVariants as role
 use Rattle.world_process.specs.Controllers.{Timed}
+use Rattle.world_process.proofs.Forgetting.{timed-forgets}
 use Rattle.world_process.proofs.Standing.{role-at}
 use Rattle.world_process.proofs.Timers.{leading-stays, leading-asks, leading-ends}
 use Rattle.world_process.proofs.controller.Controller.lead_on.Goals as goal
@@ -31,4 +32,5 @@ returns-in-End-clause-stands c doc k p h l s leads now wall delay few =
     let was = role-at doc p h self (role.Leading c.in-Leading.leading) s (sym c.replace.ensures.value ∙ c.in-Leading.is) in
     let t = c.in-End.ensures.turns doc q h k was.1 now wall (few.calls q) in
     let back : Local = record { 0 = c.args.now.0 + c.args.delay } in
-    subst (λ r. Timed doc k p h (record self { role = role.Down (Some back) }) r.ended r.ask) (sym c.final_turn.ensures) (leading-ends doc k p h self back s was.0 t.0 (ap (λ n. n + c.args.delay) now ∙ ap (λ n. local doc p k + n) delay))
+    let over = subst (λ r. Timed doc k p h (record self { role = role.Down (Some back) }) r.ended r.ask) (sym c.final_turn.ensures) (leading-ends doc k p h self back s was.0 t.0 (ap (λ n. n + c.args.delay) now ∙ ap (λ n. local doc p k + n) delay)) in
+    timed-forgets doc k p h (record self { role = role.Down (Some back) }) c.forget_term.new.self c.final_turn.result.ended c.final_turn.result.ask c.forget_term.ensures.incarnation (λ g. c.forget_term.ensures.stands doc p g) over
