@@ -74,7 +74,6 @@ impl Term {
         ensures some { (doc : Doc) (q : Identity) (h : List Entry) → TermStands doc q h self.now
             → IfSome result (λ at. ¬ (last_pass q h ≡ None)) }
         ensures reading { (doc : Doc) (q : Identity) (h : List Entry) → TermStands doc q h self.now
-            → ((k : ℕ) → last_pass q h ≡ Some k → local doc q.process k ≤ most_local)
             → IfSome result (λ at. IsLeastAwaited doc q h at.0) }
         ensures early { (doc : Doc) (k : ℕ) (q : Identity) (h : List Entry) → TermStands doc q h self.now
             → local doc q.process k ≤ most_local → IfSome result (λ at. local doc q.process k < at.0

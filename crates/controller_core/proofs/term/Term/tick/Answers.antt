@@ -22,6 +22,7 @@ returns-clause-stands g c doc k q h s st v acts start small =
         limits = w.term.limits;
         queues = w.term.queues;
         last = w.term.last;
+        range = w.term.range;
         settings = w.term.settings;
       };
       store = w.store;
