@@ -1,5 +1,5 @@
 -- For what a term's tick is wanted, as the agenda reads it from the history.
-use Rattle.std.proofs.Common.{◌≡◌, ◌∙◌, ◌⊎◌, inl, inr, ℕ, ◌<◌, ◌≤◌, ◌&&◌, ◌||◌, not, nat_lt, Bool, true, false, List, [], ◌∷◌, length, Option, Some, None, IfSome, IfNone, refl, sym, ap, arith}
+use Rattle.std.proofs.Common.{◌≡◌, ◌↔◌, ◌∙◌, ◌⊎◌, inl, inr, ℕ, ◌+◌, ◌≤◌, ◌&&◌, ◌||◌, not, nat_lt, Bool, true, false, List, [], ◌∷◌, Option, Some, None, IfSome, IfNone, option_map, refl, sym, ap, arith}
 use Rattle.std.proofs.lemmas.Bool.Decides.{nat_tests}
 use Rattle.std.specs.List.{list_any}
 use Rattle.kube_base.specs.declared.numbers.Local.{Local}
@@ -10,34 +10,34 @@ use Rattle.kube_objects.specs.declared.pod.Due.{Due}
 use Rattle.kube_objects.specs.declared.pod.Due.TheVariants.{Never, At}
 use Rattle.kube_objects.specs.declared.pod.Pod.{Pod}
 use Rattle.kube_objects.specs.Clocks.{local}
-use Rattle.kube_objects.specs.Document.{Doc}
+use Rattle.kube_objects.specs.Document.{Doc, of_millis}
 use Rattle.kube_objects.specs.Entry.{Entry, Identity, Place}
-use Rattle.kube_objects.specs.Health.{is_pass_due, last_pass}
+use Rattle.kube_objects.specs.Health.{last_pass}
 use Rattle.kube_objects.specs.InForce.{watches}
 use Rattle.kube_objects.specs.Modes.{mode, nodes, places}
 use Rattle.kube_objects.specs.Newest.{has, only_if}
 use Rattle.kube_objects.specs.Seen.{is_fresh, is_pod, is_stale, is_synced, node_names, pod_keys, seen_node, seen_pod}
 use Rattle.kube_objects.specs.Stored.{node_key}
-use Rattle.kube_objects.specs.Tainting.{Wants, Nothing, Wanted, Whatever, waits, wants}
-use Rattle.kube_objects.specs.Tick.{for_each, pass, taint, tainted}
+use Rattle.kube_objects.specs.Tainting.{Queued, Wants, Nothing, Wanted, Whatever, head_of, waits, wants}
+use Rattle.kube_objects.specs.Tokens.{base, rated}
 use Rattle.kube_objects.specs.Tolerations.{due}
-use Rattle.history_laws.proofs.Plainly.{false_is}
+use Rattle.history_laws.proofs.Plainly.{false_is, none_is}
 use Rattle.history_laws.proofs.Ticks.{Each, IsPodKey, pods_only}
 use Rattle.agenda_laws.specs.Ticking as agenda
-use Rattle.agenda_laws.specs.Ticking.{due_at, due_seen, dues_at, heads_at, is_clean_due, is_due_at_once, is_sync_due, is_unclean, is_unclean_seen, pass_at, term_reading, term_time, time_of}
+use Rattle.agenda_laws.specs.Ticking.{due_at, due_seen, dues_at, heads_at, is_clean_due, is_due_at_once, is_sync_due, is_unclean, is_unclean_seen, pass_at, term_reading, term_time, time_of, token_at}
 use Rattle.agenda_laws.specs.Times.{is_early, sooner}
-use Rattle.agenda_laws.proofs.Between.{both_sooner, sooner_both}
-use Rattle.agenda_laws.proofs.Ticking.{heads_wake, passes_wake}
+use Rattle.agenda_laws.proofs.Between.{both_sooner, early_same, sooner_both}
+use Rattle.agenda_laws.proofs.Ticking.{early_heads, grown_waits, heads_early}
 use Rattle.controller_core.proofs.Starting.{no_pass}
-use Rattle.controller_core.specs.Wakes.{IsHeadDue}
+use Rattle.controller_core.specs.Wakes.{IsAwaited, IsLeastAwaited, IsTokenReading, is_token_at, pass_reading}
 use Rattle.tick_laws.specs.Judged.{cleans, dirty_as, due_as, due_on, is_dirty, seen_due}
 use Rattle.tick_laws.specs.Walks.{Among}
 use Rattle.tick_laws.proofs.Cleaning.{dirty_seen}
 use Rattle.tick_laws.proofs.Evicting.{due_seen as seen_as_due}
 use Rattle.tick_laws.proofs.Named.{node_is_named, pod_is_named}
-use Rattle.tick_laws.proofs.Quiet.{pass_grows, pass_none, tainted_grows}
+use Rattle.tick_laws.proofs.Quiet.{head_some}
 use Rattle.tick_laws.proofs.Heads.{head_waits}
-use Rattle.tick_laws.proofs.Tainting.{since_waits, taint_either}
+use Rattle.tick_laws.proofs.Tainting.{since_waits, waiting, waiting_place}
 use Rattle.world_process.specs.Beats.{reading_of}
 use Rattle.world_process.specs.OwnTerm.{HasBegun}
 use Rattle.world_process.proofs.Begun.{unticked_clean, unticked_never}
