@@ -85,3 +85,18 @@ pub both_sooner : (now : ℕ) (a b : Option ℕ) → is_early now a ≡ true →
 both_sooner now None b one two = two
 both_sooner now (Some a) None one two = one
 both_sooner now (Some a) (Some b) one two = grind (arith, nat_tests)
+
+-- what is before the same numbers is the same
+never_before : (now : ℕ) → nat_lt now now ≡ true → ⊥
+never_before now is = grind (arith, nat_tests)
+
+pub early_same : (a b : Option ℕ) → ((now : ℕ) → is_early now a ≡ is_early now b) → a ≡ b
+early_same None None each = refl
+early_same None (Some b) each = absurd (never_before b (sym (each b)))
+early_same (Some a) None each = absurd (never_before a (each a))
+early_same (Some a) (Some b) each = ap Some (by_tests (nat_lt a b) (nat_lt b a) refl refl)
+  where
+    by_tests : (x y : Bool) → nat_lt a b ≡ x → nat_lt b a ≡ y → a ≡ b
+    by_tests true y one other = absurd (never_before a (each a ∙ one))
+    by_tests false true one other = absurd (never_before b (sym (each b) ∙ other))
+    by_tests false false one other = grind (arith, nat_tests)

@@ -112,9 +112,22 @@ module _ (size reads from rate : ℕ) (some : 0 < size) where
       let runs : 0 < rate = grind (arith, nat_tests) in
       (grown_early runs, early_grown runs)
 
-grown_waits : (reads from : ℕ) (o : Option Rated) → is_grown (reads - from) o ≡ false ↔ is_early reads (token_after from o) ≡ true
+pub grown_waits : (reads from : ℕ) (o : Option Rated) → is_grown (reads - from) o ≡ false ↔ is_early reads (token_after from o) ≡ true
 grown_waits reads from None = (λ is. refl, λ is. refl)
 grown_waits reads from (Some x) = grown_by token_size reads from x.1 token_some (x.1 == 0) refl
+
+-- ---- the heads of all zones
+
+-- before the soonest is before each
+module _ (doc : Doc) (q : Identity) where
+  pub heads_early : (reads : ℕ) (xs : List Place) (h : List Entry) → is_early reads (heads_at doc q xs h) ≡ true → (place : Place) → Among place xs → is_early reads (head_at doc q place h) ≡ true
+  heads_early reads [] h is place at = absurd at
+  heads_early reads (x ∷ xs) h is place (inl same) = subst (λ z. is_early reads (head_at doc q z h) ≡ true) (sym same) (sooner_both reads (head_at doc q x h) (heads_at doc q xs h) is).0
+  heads_early reads (x ∷ xs) h is place (inr at) = heads_early reads xs h (sooner_both reads (head_at doc q x h) (heads_at doc q xs h) is).1 place at
+
+  pub early_heads : (reads : ℕ) (xs : List Place) (h : List Entry) → ((place : Place) → Among place xs → is_early reads (head_at doc q place h) ≡ true) → is_early reads (heads_at doc q xs h) ≡ true
+  early_heads reads [] h each = refl
+  early_heads reads (x ∷ xs) h each = both_sooner reads (head_at doc q x h) (heads_at doc q xs h) (each x (inl refl)) (early_heads reads xs h (λ place at. each place (inr at)))
 
 -- ---- the parts
 
@@ -350,15 +363,6 @@ module _ (doc : Doc) (k : ℕ) (q : Identity) where
   -- ---- the tick
 
   -- before the soonest is before each
-  heads_early : (reads : ℕ) (xs : List Place) (h : List Entry) → is_early reads (heads_at doc q xs h) ≡ true → (place : Place) → Among place xs → is_early reads (head_at doc q place h) ≡ true
-  heads_early reads [] h is place at = absurd at
-  heads_early reads (x ∷ xs) h is place (inl same) = subst (λ z. is_early reads (head_at doc q z h) ≡ true) (sym same) (sooner_both reads (head_at doc q x h) (heads_at doc q xs h) is).0
-  heads_early reads (x ∷ xs) h is place (inr at) = heads_early reads xs h (sooner_both reads (head_at doc q x h) (heads_at doc q xs h) is).1 place at
-
-  early_heads : (reads : ℕ) (xs : List Place) (h : List Entry) → ((place : Place) → Among place xs → is_early reads (head_at doc q place h) ≡ true) → is_early reads (heads_at doc q xs h) ≡ true
-  early_heads reads [] h each = refl
-  early_heads reads (x ∷ xs) h each = both_sooner reads (head_at doc q x h) (heads_at doc q xs h) (each x (inl refl)) (early_heads reads xs h (λ place at. each place (inr at)))
-
   dues_early : (reads : ℕ) (xs : List Key) (h : List Entry) → is_early reads (dues_at q xs h) ≡ true → (pod : Key) → Among pod xs → is_early reads (due_at q pod h) ≡ true
   dues_early reads [] h is pod at = absurd at
   dues_early reads (x ∷ xs) h is pod (inl same) = subst (λ z. is_early reads (due_at q z h) ≡ true) (sym same) (sooner_both reads (due_at q x h) (dues_at q xs h) is).0
@@ -379,7 +383,7 @@ module _ (doc : Doc) (k : ℕ) (q : Identity) where
       record {
         clean = none_any (is_clean_due q h) (node_names h) (λ name at. (clean_needs name h).0 (each_still (clean doc k q) clean_adds (node_names h) h s.cleans name at));
         reading = both_sooner (local doc q.process k) (pass_at doc q h) (heads_at doc q (places (nodes q h)) h) ((pass_waits h).0 s.passes)
-            (early_heads (local doc q.process k) (places (nodes q h)) h (λ place at. (taint_waits place h).0 (each_still (taint doc k q) taint_adds (places (nodes q h)) h s.taints place at)));
+            (early_heads doc q (local doc q.process k) (places (nodes q h)) h (λ place at. (taint_waits place h).0 (each_still (taint doc k q) taint_adds (places (nodes q h)) h s.taints place at)));
         time = early_dues (wall doc q.process k) (pod_keys h) h (λ pod at. (evict_waits pod h).0 (each_still (evict doc k q) evict_adds (pod_keys h) h s.evicts pod at));
       }
 
@@ -389,7 +393,7 @@ module _ (doc : Doc) (k : ℕ) (q : Identity) where
       record {
         passes = (pass_waits h).1 both.0;
         cleans = still_each (clean doc k q) (node_names h) h (λ name at. (clean_needs name h).1 (any_none (is_clean_due q h) (node_names h) s.clean name at));
-        taints = still_each (taint doc k q) (places (nodes q h)) h (λ place at. (taint_waits place h).1 (heads_early (local doc q.process k) (places (nodes q h)) h both.1 place at));
+        taints = still_each (taint doc k q) (places (nodes q h)) h (λ place at. (taint_waits place h).1 (heads_early doc q (local doc q.process k) (places (nodes q h)) h both.1 place at));
         evicts = still_each (evict doc k q) (pod_keys h) h (λ pod at. (evict_waits pod h).1 (dues_early (wall doc q.process k) (pod_keys h) h s.time pod at));
       }
 

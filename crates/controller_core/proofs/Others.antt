@@ -30,5 +30,6 @@ others_kept doc q h e t other s = record {
   limits = limits_stand doc q h (e ∷ h) t.zones (foreign_limits q h e other) s.limits;
   queues = λ place n. s.queues place n ∙ sym (foreign_since q h e other place n);
   last = last_stands doc q h (e ∷ h) t.last (foreign_limits q h e other).passed s.last;
+  range = s.range;
   settings = s.settings;
 }

@@ -1,7 +1,6 @@
 -- When a pass is due.
-use Rattle.std.proofs.Common.{◌≡◌, ◌∙◌, ℕ, ◌+◌, ◌*◌, ◌<◌, ◌≤◌, nat_le, false, List, Option, Some, None, option_map, refl, sym, ap, subst, arith}
+use Rattle.std.proofs.Common.{◌≡◌, ◌∙◌, ℕ, ◌+◌, ◌*◌, ◌<◌, nat_le, false, List, Option, Some, None, option_map, refl, sym, ap, arith}
 use Rattle.std.proofs.lemmas.Bool.Decides.{nat_tests}
-use Rattle.kube_base.specs.Bounds.{most_local}
 use Rattle.kube_base.specs.declared.numbers.Local.{Local}
 use Rattle.kube_objects.specs.Clocks.{local}
 use Rattle.kube_objects.specs.Document.{Doc, of_millis}
@@ -38,13 +37,6 @@ pass_is doc q h last period s is = by_pass (last_pass q h) s
     by_pass (Some at) stands =
         ap (λ n. Some (n + of_millis doc.settings.monitor_period_millis)) (sym (some_number last.0 (local doc q.process at) stands))
         ∙ ap (λ p. Some (last.0 + p)) (sym is)
-
-pub last_fits : (doc : Doc) (q : Identity) (h : List Entry) (last : Local) → LastStands doc q h (Some last) → ((k : ℕ) → last_pass q h ≡ Some k → local doc q.process k ≤ most_local) → last.0 ≤ most_local
-last_fits doc q h last s fits = by_pass (last_pass q h) refl s
-  where
-    by_pass : (o : Option ℕ) → last_pass q h ≡ o → Some last.0 ≡ option_map (local doc q.process) o → last.0 ≤ most_local
-    by_pass None same stands = absurd (some_none last.0 stands)
-    by_pass (Some at) same stands = subst (λ n. n ≤ most_local) (sym (some_number last.0 (local doc q.process at) stands)) (fits at same)
 
 pub not_none : (doc : Doc) (q : Identity) (h : List Entry) (last : Local) → LastStands doc q h (Some last) → last_pass q h ≡ None → ⊥
 not_none doc q h last s none = some_none last.0 (s ∙ ap (option_map (local doc q.process)) none)

@@ -1,5 +1,6 @@
 -- Within a pass.
-use Rattle.std.specs.Prelude.{◌≡◌, ℕ, Bool, List, Option, Some, None, option_map}
+use Rattle.std.specs.Prelude.{◌≡◌, ◌≤◌, ℕ, Bool, List, Option, Some, None, IfSome, option_map}
+use Rattle.kube_base.specs.Bounds.{most_local}
 use Rattle.kube_base.specs.declared.numbers.Local.{Local}
 use Rattle.kube_objects.specs.declared.deed.Deed.{Deed}
 use Rattle.kube_objects.specs.Clocks.{local}
@@ -21,6 +22,10 @@ reading_of (Some at) = Some at.0
 -- the reading of the last pass
 abbrev pub LastStands : Doc → Identity → List Entry → Option Local → Type 0
 LastStands doc q h last = reading_of last ≡ option_map (local doc q.process) (last_pass q h)
+
+-- it is in the range of readings, so a period more is a number that can be kept
+abbrev pub IsLastInRange : Option Local → Type 0
+IsLastInRange last = IfSome last (λ at. at.0 ≤ most_local)
 
 -- h is the history before the pass, and now has the marks so far; some nodes were looked at. Leases, and when nodes were last heard
 -- of, are as they were after the entry of the pass

@@ -10,7 +10,7 @@ use Rattle.node_health.specs.Stands.{HealthStands}
 use Rattle.object_store.specs.Stands.{StoreStands}
 use Rattle.object_store.specs.declared.store.Store.{Store}
 use Rattle.taint_zones.specs.Limits.{LimitsStand}
-use Rattle.controller_core.specs.Passing.{LastStands}
+use Rattle.controller_core.specs.Passing.{IsLastInRange, LastStands}
 use Rattle.term_state.specs.declared.told.Told.{Told}
 use Rattle.term_state.specs.ClusterStands.{ClusterStands}
 use Rattle.term_state.specs.MidTick.{IsTold, MidTick}
@@ -28,6 +28,7 @@ pub record TermStands (doc : Doc) (q : Identity) (h : List Entry) (t : Term) : T
   pub limits : LimitsStand doc q h t.zones
   pub queues : QueuesStand q h t.zones.queues
   pub last : LastStands doc q h t.last
+  pub range : IsLastInRange t.last
   pub settings : AreSettings doc t.settings
 
 -- after a tick: the term and the store stand for the history with the tick, and the deeds are those that are printed for it
@@ -46,6 +47,7 @@ pub record Begun (doc : Doc) (k : ℕ) (q : Identity) (before : List Deed) (h : 
   pub queues : QueuesStand q (before_tick q k h) t.zones.queues
   pub heads : no_heads q k h ≡ true
   pub last : LastStands doc q h t.last
+  pub range : IsLastInRange t.last
   pub settings : AreSettings doc t.settings
 
 -- after the evictions
@@ -55,6 +57,7 @@ pub record Acted (doc : Doc) (k : ℕ) (q : Identity) (before : List Deed) (h : 
   pub limits : LimitsStand doc q h t.zones
   pub queues : QueuesStand q h t.zones.queues
   pub last : LastStands doc q h t.last
+  pub range : IsLastInRange t.last
   pub settings : AreSettings doc t.settings
 
 -- at the end

@@ -12,7 +12,7 @@ ghost use Rattle.taint_zones.specs.Waiting.{since};
 ghost use Rattle.taint_zones.specs.declared.place.Place.{Place};
 ghost use Rattle.term_state.specs.MidTick.{IsView, MidTick};
 ghost use Rattle.controller_core.specs.Costs.{HaveCost};
-ghost use Rattle.controller_core.specs.Passing.{LastStands};
+ghost use Rattle.controller_core.specs.Passing.{IsLastInRange, LastStands};
 ghost use Rattle.zone_counts.specs.Settings.{AreSettings};
 
 mod counting;
@@ -61,6 +61,7 @@ pub(crate) fn pass<L>(
         × HealthStands doc q (model.pass doc k q h) health.new
         × LimitsStand doc q (model.pass doc k q h) zones.new × LastStands doc q (model.pass doc k q h) last.new
         × HaveCost q k h (model.pass doc k q h) steps.old steps.new) }
+    ensures range { IsLastInRange last.old → IsLastInRange last.new }
     ensures queues { (zone : Place) (node : ℕ) → since zones.new.queues zone node ≡ since zones.old.queues zone node }
 {
     if !is_due(*last, of_millis(settings.monitor_period_millis), view.now) {

@@ -67,14 +67,13 @@ impl Term {
     }
 
     /// The least reading at which a tick has a pass, or a queued taint of those who wait now: a period after the last pass, or
-    /// where the token of a zone is there in which somebody waits. None exactly where there was no pass. Readings are at most
-    /// `most_local`.
+    /// where the token of a zone is there in which somebody waits. None exactly where there was no pass. At which beats it has come
+    /// is told for readings of at most `most_local`.
     pub fn wake(&self) -> Option<Local>
         ensures none { (doc : Doc) (q : Identity) (h : List Entry) → TermStands doc q h self.now → IfNone result (last_pass q h ≡ None) }
         ensures some { (doc : Doc) (q : Identity) (h : List Entry) → TermStands doc q h self.now
             → IfSome result (λ at. ¬ (last_pass q h ≡ None)) }
         ensures reading { (doc : Doc) (q : Identity) (h : List Entry) → TermStands doc q h self.now
-            → ((k : ℕ) → last_pass q h ≡ Some k → local doc q.process k ≤ most_local)
             → IfSome result (λ at. IsLeastAwaited doc q h at.0) }
         ensures early { (doc : Doc) (k : ℕ) (q : Identity) (h : List Entry) → TermStands doc q h self.now
             → local doc q.process k ≤ most_local → IfSome result (λ at. local doc q.process k < at.0

@@ -1,5 +1,5 @@
 // A term of a leader.
-ghost use Rattle.std.specs.Prelude.{◌≡◌, ◌≤◌, ◌<◌, ◌+◌, ℕ, List, length, IfOk, OnOk};
+ghost use Rattle.std.specs.Prelude.{◌≡◌, ◌≤◌, ◌<◌, ◌+◌, ℕ, List, length, IfOk};
 ghost use Rattle.kube_base.specs.Bounds.{most_local};
 ghost use Rattle.history.specs.Printed.{printed};
 ghost use Rattle.kube_objects.specs.Document.{Doc};
@@ -75,14 +75,11 @@ impl Term {
         steps: &mut Steps<L>,
     ) -> Result<Deeds, NoMemory>
         requires { view.now.now.0 ≤ most_local }
-        ensures stands { (doc : Doc) (k : ℕ) (q : Identity) (h : List Entry) → TermStands doc q h self.old → StoreStands h store.old
+        ensures { (doc : Doc) (k : ℕ) (q : Identity) (h : List Entry) → TermStands doc q h self.old → StoreStands h store.old
             → IsView doc k q h view.entry.now → acting_identity acting.now ≡ q → before_tick q k h ≡ h
             → length (nodes q (model.sync doc k q h)) < 4294967296
-            → IfOk result (λ deeds. Ticked doc k q h deeds self.new store.new) }
-        ensures counted { (doc : Doc) (k : ℕ) (q : Identity) (h : List Entry) → TermStands doc q h self.old → StoreStands h store.old
-            → IsView doc k q h view.entry.now → acting_identity acting.now ≡ q → before_tick q k h ≡ h
-            → length (nodes q (model.sync doc k q h)) < 4294967296
-            → OnOk result (steps.new ≤ steps.old + (1 + tick_cost q k (model.tick doc k q h))) }
+            → IfOk result (λ deeds. Ticked doc k q h deeds self.new store.new
+            × (steps.new ≤ steps.old + (1 + tick_cost q k (model.tick doc k q h)))) }
     {
         let (process, incarnation) = acting.identity();
         let mut told = Told::new(self.alloc, Actor::Proc(process, incarnation), view.beat);

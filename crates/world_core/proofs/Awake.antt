@@ -64,12 +64,9 @@ early-sooner now None b = refl
 early-sooner now (Some a) None = sym (and-true (nat_lt now a))
 early-sooner now (Some a) (Some b) = lt-min now a b
 
-early-both : (now : ℕ) (a b c d : Option ℕ) → is_early now a ≡ is_early now c → is_early now b ≡ is_early now d → is_early now (sooner a b) ≡ is_early now (sooner c d)
-early-both now a b c d one other =
-    early-sooner now a b ∙ ap (λ x. x && is_early now b) one ∙ ap (λ x. is_early now c && x) other ∙ sym (early-sooner now c d)
-
-early-alone : (now : ℕ) (a : Option ℕ) → is_early now (sooner a None) ≡ is_early now a
-early-alone now a = early-sooner now a None ∙ and-true (is_early now a)
+sooner-alone : (a : Option ℕ) → sooner a None ≡ a
+sooner-alone None = refl
+sooner-alone (Some a) = refl
 
 pub sooner-within : (most : ℕ) (a b : Option ℕ) → ((n : ℕ) → a ≡ Some n → n ≤ most) → ((n : ℕ) → b ≡ Some n → n ≤ most) → (n : ℕ) → sooner a b ≡ Some n → n ≤ most
 sooner-within most None b one other n is = other n is
@@ -186,8 +183,8 @@ module _ (doc : Doc) (k j p : ℕ) (h : List Entry) (later : local doc p k ≤ l
   sort-same : (b : Bool) → IsAsleep doc j p (waits_as b) ↔ IsAsleep doc j p (wakes_as doc p b h)
   sort-same true = life-same (alive p h) refl
   sort-same false = (
-    λ s. record { at_once = refl; local = sym (early-alone (local doc p j) (kubelet_reading doc p h)) ∙ s.local; wall = refl },
-    λ s. record { at_once = refl; local = early-alone (local doc p j) (kubelet_reading doc p h) ∙ s.local; wall = refl },
+    λ s. record { at_once = refl; local = sym (ap (is_early (local doc p j)) (sooner-alone (kubelet_reading doc p h))) ∙ s.local; wall = refl },
+    λ s. record { at_once = refl; local = ap (is_early (local doc p j)) (sooner-alone (kubelet_reading doc p h)) ∙ s.local; wall = refl },
   )
 
   pub waits-same : IsAsleep doc j p (waits_as (is_controller doc p)) ↔ IsAsleep doc j p (wakes_of doc p h)
@@ -209,15 +206,15 @@ starting-stands doc k p h w starts at_once =
     }
 
 pub waiting-stands : (doc : Doc) (k p : ℕ) (h : List Entry) (w : Wakes) (c : Clocking) → ClockStands doc p c → starts_now doc k p ≡ false → w.at_once ≡ waking.acts_as doc k p (is_controller doc p) h
-    → ((j : ℕ) → j ≤ end_beat doc → is_early (local doc p j) (reading_of w) ≡ is_early (local doc p j) (reading_at doc k p h)) → ((now : ℕ) → is_early now w.wall ≡ is_early now (time_at doc k p h)) → WakesStand doc k p h w
+    → reading_of w ≡ reading_at doc k p h → ((now : ℕ) → is_early now w.wall ≡ is_early now (time_at doc k p h)) → WakesStand doc k p h w
 waiting-stands doc k p h w c clock starts at_once reading time =
     record {
       at_once = at_once ∙ sym (ap (λ b. b || waking.acts_as doc k p (is_controller doc p) h) starts);
       reading = λ none. reading;
       time = λ none. time;
       asleep = λ none j from within. (let same = waits-same doc k j p h (local-later doc p k j c clock from) in (
-        λ s. same.0 (record { at_once = sym at_once ∙ s.at_once; local = sym (reading j within) ∙ s.local; wall = sym (time (wall doc p j)) ∙ s.wall }),
-        λ s. (let t = same.1 s in record { at_once = at_once ∙ t.at_once; local = reading j within ∙ t.local; wall = time (wall doc p j) ∙ t.wall }),
+        λ s. same.0 (record { at_once = sym at_once ∙ s.at_once; local = ap (is_early (local doc p j)) (sym reading) ∙ s.local; wall = sym (time (wall doc p j)) ∙ s.wall }),
+        λ s. (let t = same.1 s in record { at_once = at_once ∙ t.at_once; local = ap (is_early (local doc p j)) reading ∙ t.local; wall = time (wall doc p j) ∙ t.wall }),
       ));
     }
 
@@ -255,15 +252,15 @@ no-term doc k p h none = record { at_once = at-once (is_controller doc p) none; 
         by_life None is = refl
         by_life (Some i) is = ap (λ b. only_if b (term_time (identity p i) h)) is
 
-own-alone : (doc : Doc) (k p : ℕ) (h : List Entry) (now : ℕ) → NoTerm doc k p h → is_early now (reading_at doc k p h) ≡ is_early now (own_reading doc p h)
-own-alone doc k p h now none = ap (λ o. is_early now (sooner (own_reading doc p h) o)) none.reading ∙ early-alone now (own_reading doc p h)
+own-alone : (doc : Doc) (k p : ℕ) (h : List Entry) → NoTerm doc k p h → reading_at doc k p h ≡ own_reading doc p h
+own-alone doc k p h none = ap (sooner (own_reading doc p h)) none.reading ∙ sooner-alone (own_reading doc p h)
 
 pub idle-stands : (doc : Doc) (k p : ℕ) (h : List Entry) (c : Clocking) (wake : Option Local) → ClockStands doc p c → starts_now doc k p ≡ false → in_term_now doc k p h ≡ false → beats.reading_of wake ≡ own_reading doc p h
     → WakesStand doc k p h (record { at_once = false; local = wake; wall = None })
 idle-stands doc k p h c wake clock starts none own =
     let nothing = no-term doc k p h none in
     waiting-stands doc k p h (record { at_once = false; local = wake; wall = None }) c clock starts (sym nothing.at_once)
-    (λ j within. ap (is_early (local doc p j)) (readings-alike wake ∙ own) ∙ sym (own-alone doc k p h (local doc p j) nothing))
+    (readings-alike wake ∙ own ∙ sym (own-alone doc k p h nothing))
     (λ now. sym (ap (is_early now) nothing.time))
 
 -- ---- who acts waits for its term too
@@ -281,19 +278,12 @@ its-term doc k p i h up s =
       time = ap (λ b. acting_time doc k p b h) s.sort ∙ ap (if_up p (λ q. only_if (in_term doc q k h) (term_time q h))) up ∙ ap (λ b. only_if b (term_time (identity p i) h)) s.term;
     }
 
--- of two readings, one is that of the process's own turn, and the other that of its term
-both-is : (doc : Doc) (k p i j : ℕ) (h : List Entry) (own term : Option ℕ) → ItsTerm doc k p i h → is_early (local doc p j) own ≡ is_early (local doc p j) (own_reading doc p h)
-    → is_early (local doc p j) term ≡ is_early (local doc p j) (term_reading doc (identity p i) h) → is_early (local doc p j) (sooner own term) ≡ is_early (local doc p j) (reading_at doc k p h)
-both-is doc k p i j h own term t one other =
-    early-both (local doc p j) own term (own_reading doc p h) (acting_reading doc k p (is_controller doc p) h) one (other ∙ sym (ap (is_early (local doc p j)) t.reading))
-
 pub acting-stands : (doc : Doc) (k p i : ℕ) (h : List Entry) (c : Clocking) (wake term : Option Local) (w : Wakes) → ClockStands doc p c → starts_now doc k p ≡ false → ItsTerm doc k p i h → beats.reading_of wake ≡ own_reading doc p h
     → w.at_once ≡ is_due_at_once doc (identity p i) h → reading_of w ≡ sooner (local_of wake) (local_of term)
-    → ((j : ℕ) → j ≤ end_beat doc → is_early (local doc p j) (local_of term) ≡ is_early (local doc p j) (term_reading doc (identity p i) h)) → ((now : ℕ) → is_early now w.wall ≡ is_early now (term_time (identity p i) h))
-    → WakesStand doc k p h w
+    → beats.reading_of term ≡ term_reading doc (identity p i) h → ((now : ℕ) → is_early now w.wall ≡ is_early now (term_time (identity p i) h)) → WakesStand doc k p h w
 acting-stands doc k p i h c wake term w clock starts t own at_once local_is term_is time =
     waiting-stands doc k p h w c clock starts (at_once ∙ sym t.at_once)
-    (λ j within. ap (is_early (local doc p j)) local_is ∙ both-is doc k p i j h (local_of wake) (local_of term) t (ap (is_early (local doc p j)) (readings-alike wake ∙ own)) (term_is j within))
+    (local_is ∙ ap (λ o. sooner o (local_of term)) (readings-alike wake ∙ own) ∙ ap (sooner (own_reading doc p h)) (readings-alike term ∙ term_is ∙ sym t.reading))
     (λ now. time now ∙ sym (ap (is_early now) t.time))
 
 -- ---- the beat of a turn

@@ -6,7 +6,7 @@ use Rattle.kube_base.specs.declared.numbers.ProcId.{ProcId}
 use Rattle.kube_objects.specs.Clocks.{local, wall}
 use Rattle.kube_objects.specs.Document.{Doc, end_beat, is_controller, is_up_first, processes}
 use Rattle.kube_objects.specs.Elector.{in_term}
-use Rattle.kube_objects.specs.Entry.{Entry, Identity}
+use Rattle.kube_objects.specs.Entry.{Entry}
 use Rattle.kube_objects.specs.Newest.{only_if}
 use Rattle.kube_objects.specs.Pauses.{is_paused}
 use Rattle.kube_objects.specs.Process.{alive}
@@ -66,8 +66,7 @@ time_at doc k p h = acting_time doc k p (is_controller doc p) h
 -- waits for these readings and times of day, and sleeps at the beats from k on exactly as the history says
 pub record WakesStand (doc : Doc) (k p : ℕ) (h : List Entry) (w : Wakes) : Type 0 where
   pub at_once : w.at_once ≡ (starts_now doc k p || acts_as doc k p (is_controller doc p) h)
-  pub reading : starts_now doc k p ≡ false → (j : ℕ) → j ≤ end_beat doc
-      → is_early (local doc p j) (reading_of w) ≡ is_early (local doc p j) (reading_at doc k p h)
+  pub reading : starts_now doc k p ≡ false → reading_of w ≡ reading_at doc k p h
   pub time : starts_now doc k p ≡ false → (now : ℕ) → is_early now w.wall ≡ is_early now (time_at doc k p h)
   pub asleep : starts_now doc k p ≡ false → (j : ℕ) → k ≤ j → j ≤ end_beat doc → IsAsleepBy doc j p w ↔ IsAsleep doc j p (wakes_of doc p h)
 
@@ -75,11 +74,6 @@ pub record WakesStand (doc : Doc) (k p : ℕ) (h : List Entry) (w : Wakes) : Typ
 pub record IsTurnBeat (doc : Doc) (p : ℕ) (w : Wakes) (b : Option Beat) : Type 0 where
   pub reached : (j : ℕ) → j ≤ end_beat doc → is_early j (beat_of b) ≡ is_early (local doc p j) (reading_of w)
   pub within : (n : ℕ) → beat_of b ≡ Some n → n ≤ end_beat doc
-
--- the reading tells at each beat up to the end what that does for which the term of an identity waits
-abbrev pub IsTermReading : Doc → ℕ → Identity → List Entry → Option Local → Type 0
-IsTermReading doc p q h at =
-    (j : ℕ) → j ≤ end_beat doc → is_early (local doc p j) (local_of at) ≡ is_early (local doc p j) (term_reading doc q h)
 
 -- ---- whose turn comes first, pauses and ticks aside
 

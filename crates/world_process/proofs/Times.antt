@@ -1,5 +1,5 @@
 -- For what a term's tick is wanted, as the agenda reads it from the history.
-use Rattle.std.proofs.Common.{◌≡◌, ◌∙◌, ◌⊎◌, inl, inr, ℕ, ◌<◌, ◌≤◌, ◌&&◌, ◌||◌, not, nat_lt, Bool, true, false, List, [], ◌∷◌, length, Option, Some, None, IfSome, IfNone, refl, sym, ap, arith}
+use Rattle.std.proofs.Common.{◌≡◌, ◌↔◌, ◌∙◌, ◌⊎◌, inl, inr, ℕ, ◌+◌, ◌≤◌, ◌&&◌, ◌||◌, not, nat_lt, Bool, true, false, List, [], ◌∷◌, Option, Some, None, IfSome, IfNone, option_map, refl, sym, ap, arith}
 use Rattle.std.proofs.lemmas.Bool.Decides.{nat_tests}
 use Rattle.std.specs.List.{list_any}
 use Rattle.kube_base.specs.declared.numbers.Local.{Local}
@@ -10,34 +10,34 @@ use Rattle.kube_objects.specs.declared.pod.Due.{Due}
 use Rattle.kube_objects.specs.declared.pod.Due.TheVariants.{Never, At}
 use Rattle.kube_objects.specs.declared.pod.Pod.{Pod}
 use Rattle.kube_objects.specs.Clocks.{local}
-use Rattle.kube_objects.specs.Document.{Doc}
+use Rattle.kube_objects.specs.Document.{Doc, of_millis}
 use Rattle.kube_objects.specs.Entry.{Entry, Identity, Place}
-use Rattle.kube_objects.specs.Health.{is_pass_due, last_pass}
+use Rattle.kube_objects.specs.Health.{last_pass}
 use Rattle.kube_objects.specs.InForce.{watches}
 use Rattle.kube_objects.specs.Modes.{mode, nodes, places}
 use Rattle.kube_objects.specs.Newest.{has, only_if}
 use Rattle.kube_objects.specs.Seen.{is_fresh, is_pod, is_stale, is_synced, node_names, pod_keys, seen_node, seen_pod}
 use Rattle.kube_objects.specs.Stored.{node_key}
-use Rattle.kube_objects.specs.Tainting.{Wants, Nothing, Wanted, Whatever, waits, wants}
-use Rattle.kube_objects.specs.Tick.{for_each, pass, taint, tainted}
+use Rattle.kube_objects.specs.Tainting.{Queued, Wants, Nothing, Wanted, Whatever, head_of, waits, wants}
+use Rattle.kube_objects.specs.Tokens.{base, rated}
 use Rattle.kube_objects.specs.Tolerations.{due}
-use Rattle.history_laws.proofs.Plainly.{false_is}
+use Rattle.history_laws.proofs.Plainly.{false_is, none_is}
 use Rattle.history_laws.proofs.Ticks.{Each, IsPodKey, pods_only}
 use Rattle.agenda_laws.specs.Ticking as agenda
-use Rattle.agenda_laws.specs.Ticking.{due_at, due_seen, dues_at, heads_at, is_clean_due, is_due_at_once, is_sync_due, is_unclean, is_unclean_seen, pass_at, term_reading, term_time, time_of}
+use Rattle.agenda_laws.specs.Ticking.{due_at, due_seen, dues_at, heads_at, is_clean_due, is_due_at_once, is_sync_due, is_unclean, is_unclean_seen, pass_at, term_reading, term_time, time_of, token_at}
 use Rattle.agenda_laws.specs.Times.{is_early, sooner}
-use Rattle.agenda_laws.proofs.Between.{both_sooner, sooner_both}
-use Rattle.agenda_laws.proofs.Ticking.{heads_wake, passes_wake}
+use Rattle.agenda_laws.proofs.Between.{both_sooner, early_same, sooner_both}
+use Rattle.agenda_laws.proofs.Ticking.{early_heads, grown_waits, heads_early}
 use Rattle.controller_core.proofs.Starting.{no_pass}
-use Rattle.controller_core.specs.Wakes.{IsHeadDue}
+use Rattle.controller_core.specs.Wakes.{IsAwaited, IsLeastAwaited, IsTokenReading, is_token_at, pass_reading}
 use Rattle.tick_laws.specs.Judged.{cleans, dirty_as, due_as, due_on, is_dirty, seen_due}
 use Rattle.tick_laws.specs.Walks.{Among}
 use Rattle.tick_laws.proofs.Cleaning.{dirty_seen}
 use Rattle.tick_laws.proofs.Evicting.{due_seen as seen_as_due}
 use Rattle.tick_laws.proofs.Named.{node_is_named, pod_is_named}
-use Rattle.tick_laws.proofs.Quiet.{pass_grows, pass_none, tainted_grows}
+use Rattle.tick_laws.proofs.Quiet.{head_some}
 use Rattle.tick_laws.proofs.Heads.{head_waits}
-use Rattle.tick_laws.proofs.Tainting.{since_waits, taint_either}
+use Rattle.tick_laws.proofs.Tainting.{since_waits, waiting, waiting_place}
 use Rattle.world_process.specs.Beats.{reading_of}
 use Rattle.world_process.specs.OwnTerm.{HasBegun}
 use Rattle.world_process.proofs.Begun.{unticked_clean, unticked_never}
@@ -119,78 +119,105 @@ early-always : (now : ℕ) (b : Bool) (o : Option ℕ) → (b ≡ true → is_ea
 early-always now true o is = is refl
 early-always now false o is = refl
 
-no-longer : (h g : List Entry) → g ≡ h → length h < length g → ⊥
-no-longer h g same less = omega (arith, ap length same, less)
+not-early : (at : ℕ) → is_early at (Some at) ≡ true → ⊥
+not-early at is = grind (arith, nat_tests)
 
-module _ (doc : Doc) (k : ℕ) (q : Identity) (h : List Entry) where
-  abbrev now : ℕ
-  now = local doc q.process k
+module _ (doc : Doc) (q : Identity) (h : List Entry) where
+  -- before the reading of a token it isn't there, and so at no reading before
+  tells : (zone : Place) (at : ℕ) → is_token_at doc q zone h at ≡ false ↔ is_early at (token_at doc q zone h) ≡ true
+  tells zone at = grown_waits at (local doc q.process (base q zone h)) (rated q zone h)
+
+  token-first : (zone : Place) (at : ℕ) → token_at doc q zone h ≡ Some at → (is_token_at doc q zone h at ≡ true) × ((earlier : ℕ) → is_token_at doc q zone h earlier ≡ true → at ≤ earlier)
+  token-first zone at is = (by_test (is_token_at doc q zone h at) refl, λ earlier there. by_order earlier there (nat_lt earlier at) refl)
+    where
+      by_test : (b : Bool) → is_token_at doc q zone h at ≡ b → b ≡ true
+      by_test true there = refl
+      by_test false none = absurd (not-early at (sym (ap (is_early at) is) ∙ (tells zone at).0 none))
+
+      by_order : (earlier : ℕ) → is_token_at doc q zone h earlier ≡ true → (b : Bool) → nat_lt earlier at ≡ b → at ≤ earlier
+      by_order earlier there true before = absurd (false_is (sym ((tells zone earlier).1 (ap (is_early earlier) is ∙ before)) ∙ there))
+      by_order earlier there false after = grind (arith, nat_tests)
+
+  token-is : (zone : Place) (at : ℕ) → is_token_at doc q zone h at ≡ true → ((earlier : ℕ) → is_token_at doc q zone h earlier ≡ true → at ≤ earlier) → token_at doc q zone h ≡ Some at
+  token-is zone at there least = by_token (token_at doc q zone h) refl
+    where
+      by_token : (o : Option ℕ) → token_at doc q zone h ≡ o → o ≡ Some at
+      by_token None is = absurd (false_is (sym ((tells zone at).1 (ap (is_early at) is)) ∙ there))
+      by_token (Some first) is =
+          let found = token-first zone first is in
+          let one = least first found.0 in
+          let two = found.1 at there in
+          let same : first ≡ at = omega (arith, one, two) in
+          ap Some same
+
+  -- the zone's reading in the history is the one at which its token is there and somebody waits
+  head-reading : (zone : Place) (at : ℕ) → agenda.head_at doc q zone h ≡ Some at → IsTokenReading doc q h zone at
+  head-reading zone at = by_head (head_of q zone (node_names h) h) refl
+    where
+      by_head : (o : Option Queued) → head_of q zone (node_names h) h ≡ o → only_if (has o) (token_at doc q zone h) ≡ Some at → IsTokenReading doc q h zone at
+      by_head None head is = absurd (none_is at is)
+      by_head (Some y) head is =
+          let first = token-first zone at is in
+          let found = since_waits q zone y.1 y.0 h (head_waits q zone (node_names h) h y head) in
+          record { there = first.0; least = first.1; name = y.1; waiting = ap has found.1 }
+
+  reading-head : (zone : Place) (at : ℕ) → IsTokenReading doc q h zone at → (agenda.head_at doc q zone h ≡ Some at) × Among zone (places (nodes q h))
+  reading-head zone at r =
+      let w = some-waits (waits q zone r.name h) r.waiting in
+      let x = waiting q zone r.name w.0 h w.1 in
+      let head = head_some q zone h r.name w.0 w.1 (node_names h) (node_is_named q r.name h x.x x.sees) in (
+        ap (λ (o : Option Queued). only_if (has o) (token_at doc q zone h)) head.1 ∙ token-is zone at r.there r.least,
+        waiting_place q zone r.name w.0 h w.1,
+      )
 
   abbrev synced_reading : Option ℕ
   synced_reading = sooner (pass_at doc q h) (heads_at doc q (places (nodes q h)) h)
 
-  -- where no zone's queued taint is there, none is made
-  heads-end : (zones : List Place) → is_early now (heads_at doc q zones h) ≡ true → for_each (taint doc k q) zones h ≡ h
-  heads-end [] early = refl
-  heads-end (zone ∷ zones) early =
-      let both = sooner_both now (agenda.head_at doc q zone h) (heads_at doc q zones h) early in
-      ap (for_each (taint doc k q) zones) ((heads_wake doc k q zone h).1 both.0) ∙ heads-end zones both.1
-
-  -- nor where nobody waits whose zone's token is there
-  idle : (zone : Place) → (IsHeadDue doc k q h zone → ⊥) → taint doc k q zone h ≡ h
-  idle zone none =
-      taint_either doc k q zone h (λ g. g ≡ h) refl
-      (λ at n wanted w token head.
-      let found = since_waits q zone n at h (head_waits q zone (node_names h) h (at, n) head) in
-      absurd (none (record { token = token; name = n; waiting = ap has found.1 })))
-
-  heads-begin : ((zone : Place) → IsHeadDue doc k q h zone → ⊥) → (zones : List Place) → is_early now (heads_at doc q zones h) ≡ true
-  heads-begin none [] = refl
-  heads-begin none (zone ∷ zones) =
-      both_sooner now (agenda.head_at doc q zone h) (heads_at doc q zones h)
-      ((heads_wake doc k q zone h).0 (idle zone (none zone)))
-      (heads-begin none zones)
-
-  early-reading : (is_pass_due doc k q h ≡ false) × ((zone : Place) → ¬ IsHeadDue doc k q h zone) → is_early now synced_reading ≡ true
-  early-reading s = both_sooner now (pass_at doc q h) (heads_at doc q (places (nodes q h)) h) ((passes_wake doc k q h).0 (pass_none doc k q h s.0)) (heads-begin s.1 (places (nodes q h)))
-
-  due-reading : (is_pass_due doc k q h ≡ true) ⊎ ((zone : Place) × IsHeadDue doc k q h zone) → is_early now synced_reading ≡ true → ⊥
-  due-reading cause early = by_cause cause (sooner_both now (pass_at doc q h) (heads_at doc q (places (nodes q h)) h) early)
+  same-pass : ¬ (last_pass q h ≡ None) → pass_reading doc q h ≡ pass_at doc q h
+  same-pass some = by_pass (last_pass q h) refl
     where
-      by_cause : (is_pass_due doc k q h ≡ true) ⊎ ((zone : Place) × IsHeadDue doc k q h zone) → (is_early now (pass_at doc q h) ≡ true) × (is_early now (heads_at doc q (places (nodes q h)) h) ≡ true) → ⊥
-      by_cause (inl due) s = no-longer h (pass doc k q h) ((passes_wake doc k q h).1 s.0) (pass_grows doc k q h due)
-      by_cause (inr head) s =
-          let d = head.1 in
-          let w = some-waits (waits q head.0 d.name h) d.waiting in
-          no-longer h (tainted doc k q h) (heads-end (places (nodes q h)) s.1) (tainted_grows doc k q h head.0 d.name w.0 d.token w.1)
+      by_pass : (o : Option ℕ) → last_pass q h ≡ o → option_map (λ k. local doc q.process k + of_millis doc.settings.monitor_period_millis) o ≡ Some (agenda.pass_after doc q o)
+      by_pass None is = absurd (some is)
+      by_pass (Some last) is = refl
+
+  module _ (some : ¬ (last_pass q h ≡ None)) (at : ℕ) (s : IsLeastAwaited doc q h at) where
+    early-zone : (now : ℕ) → nat_lt now at ≡ true → (zone : Place) → is_early now (agenda.head_at doc q zone h) ≡ true
+    early-zone now before zone = by_head (agenda.head_at doc q zone h) refl
+      where
+        by_head : (o : Option ℕ) → agenda.head_at doc q zone h ≡ o → is_early now o ≡ true
+        by_head None is = refl
+        by_head (Some other) is = let le = s.least other (inr (zone, head-reading zone other is)) in grind (arith, nat_tests)
+
+    before-all : (now : ℕ) → nat_lt now at ≡ true → is_early now synced_reading ≡ true
+    before-all now before =
+        let le = s.least (agenda.pass_after doc q (last_pass q h)) (inl (same-pass some)) in
+        let pass : is_early now (pass_at doc q h) ≡ true = grind (arith, nat_tests) in
+        both_sooner now (pass_at doc q h) (heads_at doc q (places (nodes q h)) h) pass (early_heads doc q now (places (nodes q h)) h (λ zone among. early-zone now before zone))
+
+    all-before : (now : ℕ) → is_early now synced_reading ≡ true → nat_lt now at ≡ true
+    all-before now early = by_cause s.there (sooner_both now (pass_at doc q h) (heads_at doc q (places (nodes q h)) h) early)
+      where
+        by_cause : IsAwaited doc q h at → (is_early now (pass_at doc q h) ≡ true) × (is_early now (heads_at doc q (places (nodes q h)) h) ≡ true) → nat_lt now at ≡ true
+        by_cause (inl pass) e = ap (is_early now) (sym pass ∙ same-pass some) ∙ e.0
+        by_cause (inr head) e =
+            let r = reading-head head.0 at head.1 in
+            ap (is_early now) (sym r.0) ∙ heads_early doc q now (places (nodes q h)) h e.1 head.0 r.1
+
+    synced-is : Some at ≡ synced_reading
+    synced-is = early_same (Some at) synced_reading (λ now. same-tests (nat_lt now at) (is_early now synced_reading) (before-all now) (all-before now))
 
   module _ (begun : HasBegun q h) where
-    unpassed : last_pass q h ≡ None → (b : Bool) → is_synced q h ≡ b → b ≡ true → ⊥
-    unpassed none true is synced = false_is (ap has (sym none) ∙ begun.passed is)
-    unpassed none false is synced = false_is synced
+    not-synced : last_pass q h ≡ None → (b : Bool) → is_synced q h ≡ b → b ≡ false
+    not-synced none true is = absurd (false_is (ap has (sym none) ∙ begun.passed is))
+    not-synced none false is = refl
 
     synced-once : ¬ (last_pass q h ≡ None) → (b : Bool) → is_synced q h ≡ b → b ≡ true
     synced-once some true is = refl
     synced-once some false is = absurd (some (no_pass q h (begun.unsynced is)))
 
-    pub reading-is : (o : Option Local) → IfNone o (last_pass q h ≡ None) → IfSome o (λ at. ¬ (last_pass q h ≡ None))
-        → IfSome o (λ at. now < at.0 → (is_pass_due doc k q h ≡ false) × ((zone : Place) → ¬ IsHeadDue doc k q h zone))
-        → IfSome o (λ at. at.0 ≤ now → (is_pass_due doc k q h ≡ true) ⊎ ((zone : Place) × IsHeadDue doc k q h zone))
-        → is_early now (reading_of o) ≡ is_early now (term_reading doc q h)
-    reading-is None none some early there = sym (early-always now (is_synced q h) synced_reading (λ is. absurd (unpassed none (is_synced q h) refl is)))
-    reading-is (Some at) none some early there =
-        same-tests (nat_lt now at.0) (is_early now synced_reading) (λ is. early-reading (early (before is))) back
-        ∙ ap (λ b. is_early now (only_if b synced_reading)) (sym (synced-once some (is_synced q h) refl))
-      where
-        before : nat_lt now at.0 ≡ true → now < at.0
-        before is = grind (arith, nat_tests)
-
-        by_test : (b : Bool) → nat_lt now at.0 ≡ b → is_early now synced_reading ≡ true → b ≡ true
-        by_test true is soon = refl
-        by_test false is soon = absurd (due-reading (there (let after : at.0 ≤ now = grind (arith, nat_tests) in after)) soon)
-
-        back : is_early now synced_reading ≡ true → nat_lt now at.0 ≡ true
-        back soon = by_test (nat_lt now at.0) refl soon
+    pub reading-is : (o : Option Local) → IfNone o (last_pass q h ≡ None) → IfSome o (λ at. ¬ (last_pass q h ≡ None)) → IfSome o (λ at. IsLeastAwaited doc q h at.0) → reading_of o ≡ term_reading doc q h
+    reading-is None none some least = sym (ap (λ b. only_if b synced_reading) (not-synced none (is_synced q h) refl))
+    reading-is (Some at) none some least = synced-is some at.0 least ∙ ap (λ b. only_if b synced_reading) (sym (synced-once some (is_synced q h) refl))
 
 -- ---- from a time of day
 

@@ -1,11 +1,9 @@
 // A process of the world, and what the world asks of each.
 ghost use Rattle.std.specs.Prelude.{◌≡◌, ◌↔◌, ◌+◌, ◌<◌, ◌≤◌, ◌^◌, not, ℕ, true, false, List, Option, Some, IfSome, OnOk, is_some};
-ghost use Rattle.kube_base.specs.Bounds.{most_local};
 ghost use Rattle.kube_base.specs.declared.numbers.Local.{Local};
 ghost use Rattle.kube_base.specs.declared.numbers.ProcId.{ProcId};
 ghost use Rattle.kube_objects.specs.declared.deed.Actor.TheVariants as actor;
 ghost use Rattle.kube_objects.specs.declared.script.What.TheVariants as what;
-ghost use Rattle.kube_objects.specs.Clocks.{local};
 ghost use Rattle.kube_objects.specs.Document.{Doc, is_controller, restart_delay};
 ghost use Rattle.kube_objects.specs.Entry.{Entry, Identity};
 ghost use Rattle.kube_objects.specs.Identities.{identity};
@@ -231,11 +229,10 @@ impl Process {
     }
 
     /// The least reading at which a tick of a controller's term has a pass, or a queued taint of those who wait now. None where there
-    /// is none. Readings are at most `most_local`.
+    /// is none.
     pub fn term_wake(&self) -> Option<Local>
-        ensures { (doc : Doc) (k : ℕ) (q : Identity) (h : List Entry) → ProcessStands doc q.process h self.now → IsUpAs doc q h
-            → local doc q.process k ≤ most_local
-            → is_early (local doc q.process k) (reading_of result) ≡ is_early (local doc q.process k) (term_reading doc q h) }
+        ensures { (doc : Doc) (q : Identity) (h : List Entry) → ProcessStands doc q.process h self.now → IsUpAs doc q h
+            → reading_of result ≡ term_reading doc q h }
     {
         match self {
             Process::Controller(controller) => controller.term_wake(),

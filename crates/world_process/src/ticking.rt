@@ -1,7 +1,5 @@
 // A controller's tick, and what its term waits for.
 ghost use Rattle.std.specs.Prelude.{◌≡◌, ◌≤◌, not, ℕ, false, List, OnOk};
-ghost use Rattle.kube_base.specs.Bounds.{most_local};
-ghost use Rattle.kube_objects.specs.Clocks.{local};
 ghost use Rattle.kube_objects.specs.Document.{Doc};
 ghost use Rattle.kube_objects.specs.Entry.{Entry, Identity};
 ghost use Rattle.kube_objects.specs.InForce.{watches};
@@ -79,11 +77,9 @@ impl Controller {
     }
 
     /// The least reading at which a tick of its term has a pass, or a queued taint of those who wait now. None where there is none.
-    /// Readings are at most `most_local`.
     pub fn term_wake(&self) -> Option<Local>
-        ensures { (doc : Doc) (k : ℕ) (q : Identity) (h : List Entry) → ControllerStands doc q.process h self.now → IsUpAs doc q h
-            → local doc q.process k ≤ most_local
-            → is_early (local doc q.process k) (reading_of result) ≡ is_early (local doc q.process k) (term_reading doc q h) }
+        ensures { (doc : Doc) (q : Identity) (h : List Entry) → ControllerStands doc q.process h self.now → IsUpAs doc q h
+            → reading_of result ≡ term_reading doc q h }
     {
         self.term.wake()
     }

@@ -74,12 +74,11 @@ pub(crate) fn judge_changes<L>(
     steps: &mut Steps<L>,
 ) -> Result<(), NoMemory>
     ensures stands { (q : Identity) (g : List Entry) → let keys = drop position (changed_in store.now) in
-        LeftBut q g keys to_judge.now cluster.old → is_synced q g ≡ true → OnOk result (ClusterStands q g cluster.new) }
+        LeftBut q g keys to_judge.now cluster.old → is_synced q g ≡ true
+        → OnOk result (ClusterStands q g cluster.new
+        × (steps.new ≤ steps.old + 2 * write_costs q (contains nat_cmp to_judge.now) g keys)) }
     ensures moved { OnOk result ((n : ℕ)
         → has_moved cluster.new n ≡ (is_among (drop position (changed_in store.now)) (node_key n) || has_moved cluster.old n)) }
-    ensures counted { (q : Identity) (g : List Entry) → let keys = drop position (changed_in store.now) in
-        LeftBut q g keys to_judge.now cluster.old → is_synced q g ≡ true
-        → OnOk result (steps.new ≤ steps.old + 2 * write_costs q (contains nat_cmp to_judge.now) g keys) }
 {
     let count = store.changes();
     let mut place = position;

@@ -1,13 +1,12 @@
 // What is waited for: the next event, the next message, and the next turn of each process.
 ghost use Rattle.std.specs.Prelude.{◌≡◌, ◌+◌, ◌<◌, ◌≤◌, ℕ, List, min, IfSome};
 ghost use Rattle.kube_objects.specs.Document.{Doc, end_beat};
-ghost use Rattle.kube_objects.specs.Entry.{Entry, Identity};
+ghost use Rattle.kube_objects.specs.Entry.{Entry};
 ghost use Rattle.kube_objects.specs.Pauses.{resume as resume_of};
 ghost use Rattle.script_reader.specs.Lawful.{AreLawfulFrom};
 ghost use Rattle.agenda_laws.specs.Ahead.{IsNextEvent, IsNextMessage};
 ghost use Rattle.agenda_laws.specs.Times.{sooner as soonest};
-ghost use Rattle.world_process.specs.OwnTerm.{IsUpAs};
-ghost use Rattle.world_core.specs.Waits.{IsFirstTurn, IsLeastTurn, IsTermReading, IsTurnBeat, WakesStand, beat_of, local_of};
+ghost use Rattle.world_core.specs.Waits.{IsFirstTurn, IsLeastTurn, IsTurnBeat, WakesStand, beat_of, local_of};
 ghost use Rattle.world_core.specs.Worlds.{at_of, count_of, end_of, IsReady, WorldStands};
 
 use crate::wakes::Wakes;
@@ -58,22 +57,9 @@ impl World {
         let watch = self.in_force.watch(who);
         Wakes::with(
             process.at_once(&self.store, watch),
-            sooner(wake, self.term_wake(who)),
+            sooner(wake, process.term_wake()),
             process.least_due(),
         )
-    }
-
-    // The reading that a controller's term waits for.
-    fn term_wake(&self, who: ProcId) -> Option<Local>
-        requires ready { IsReady self.now }
-        requires process { who.0 < count_of self.now }
-        ensures { (doc : Doc) (k : ℕ) (h : List Entry) (q : Identity) → WorldStands doc k h self.now → end_of self.now ≡ end_beat doc
-            → q.process ≡ who.0 → IsUpAs doc q h → IsTermReading doc who.0 q h result }
-    {
-        // No reading up to the last one is out of a term's range.
-        let process = &self.processes[who.0 as usize];
-        let _last = process.clock().local(self.end);
-        process.term_wake()
     }
 
     /// The first beat up to the end at which a process's clock has the reading that is waited for; None where there is none.

@@ -57,7 +57,7 @@ returns-clause-stands g c doc k q h s st r v =
       both.0,
       omega (arith, one, both.1, cost_sync q k h, ap (write_costs q names after) since, fewer),
     ))
-    (both_ok c.judge_changes.result _ _ (c.judge_changes.ensures.stands q after open_keys (sync_synced q k h)) (c.judge_changes.ensures.counted q after open_keys (sync_synced q k h)))
+    (c.judge_changes.ensures.stands q after open_keys (sync_synced q k h))
 
 pub returns-clause-store : goal.returns-clause-store
 returns-clause-store g c doc k q h st = store_synced k q h c.args.store.now (watches doc q.process h && not (is_fresh q h)) st

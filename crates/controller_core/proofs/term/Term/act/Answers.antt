@@ -43,6 +43,7 @@ returns g c doc k q before h b v small =
         limits = limits_stand doc q h3 (evicted doc k q h3) c.taint.new.zones (evicted_limits doc k q h3) four.0.limits;
         queues = λ place n. four.0.queues place n ∙ sym (evicted_since doc k q h3 four.0.fresh place n).0;
         last = last_stands doc q h1 (evicted doc k q h3) c.pass.new.last ((evicted_limits doc k q h3).passed ∙ tainted_passed doc k q h2 ∙ (cleaned_limits doc k q h1).passed) one.3;
+        range = c.in_ok-pass.ensures.range b.range;
         settings = b.settings;
       },
       omega (arith, one.4, two.1, four.1, five.1),

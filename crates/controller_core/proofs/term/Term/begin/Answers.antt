@@ -43,6 +43,7 @@ returns-then-not-is_synced g c doc k q before h s st told v start small =
               limits = s.limits;
               queues = s.queues;
               last = s.last;
+              range = s.range;
               settings = s.settings;
             };
             store = st;
@@ -69,6 +70,7 @@ returns g c doc k q before h s st told v start small =
           limits = two.0.limits;
           queues = two.0.queues;
           last = two.0.last;
+          range = two.0.range;
           settings = two.0.settings;
         };
         store = two.0.running.store;
@@ -89,5 +91,6 @@ returns g c doc k q before h s st told v start small =
       queues = λ place n. s.queues place n ∙ ap (waits_since q place n) (sym (beneath ∙ start));
       heads = sync_heads doc k q h (no_heads_start q k h start);
       last = last_stands doc q h f c.args.self.now.last (sync_limits doc k q h).passed s.last;
+      range = s.range;
       settings = s.settings;
     }) (view_ticked doc k q h f c.args.view.now (sync_ticked doc k q h) v) small)

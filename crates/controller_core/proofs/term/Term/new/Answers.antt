@@ -18,5 +18,6 @@ returns c doc q h none s = record {
   };
   queues = λ place n. c.new-3.ensures.queues (of_place place) n ∙ sym (no_since q place n h none);
   last = sym (ap (option_map (local doc q.process)) (no_pass q h none));
+  range = tt;
   settings = s;
 }

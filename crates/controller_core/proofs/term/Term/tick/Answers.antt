@@ -8,13 +8,14 @@ use Rattle.term_state.specs.ClusterStands.{no_node, no_pod}
 use Rattle.term_state.specs.MidTick.{IsTold}
 use Rattle.controller_core.proofs.term.Term.tick.Goals as goal
 
-pub returns-clause-stands : goal.returns-clause-stands
-returns-clause-stands g c doc k q h s st v acts start small =
+pub returns-clause : goal.returns-clause
+returns-clause g c doc k q h s st v acts start small =
     let names = subst (λ x. Names x c.identity-incarnation.result) acts c.identity-incarnation.ensures in
     let who : actor.Proc c.identity-incarnation.result.0 c.identity-incarnation.result.1 ≡ actor_of q = λ i. actor.Proc (record { 0 = names.0 i }) (names.1 i) in
     let told = subst (λ n. IsTold q n (printed h) h c.new-told.result) v.beat (c.new-told.ensures.stands q h who) in
-    let w = (c.in_ok-begin.ensures doc k q (printed h) h s st told v start small).0 in
-    record {
+    let both = c.in_ok-begin.ensures doc k q (printed h) h s st told v start small in
+    let w = both.0 in
+    (record {
       term = record {
         cluster = c.forget_moved.ensures.stands q (tick doc k q h) no_node no_pod w.term.cluster;
         reached = w.term.reached;
@@ -22,15 +23,9 @@ returns-clause-stands g c doc k q h s st v acts start small =
         limits = w.term.limits;
         queues = w.term.queues;
         last = w.term.last;
+        range = w.term.range;
         settings = w.term.settings;
       };
       store = w.store;
       told = ap (λ xs. printed h ++ xs) c.into_deeds.ensures ∙ w.told.told;
-    }
-
-pub returns-clause-counted : goal.returns-clause-counted
-returns-clause-counted g c doc k q h s st v acts start small =
-    let names = subst (λ x. Names x c.identity-incarnation.result) acts c.identity-incarnation.ensures in
-    let who : actor.Proc c.identity-incarnation.result.0 c.identity-incarnation.result.1 ≡ actor_of q = λ i. actor.Proc (record { 0 = names.0 i }) (names.1 i) in
-    let told = subst (λ n. IsTold q n (printed h) h c.new-told.result) v.beat (c.new-told.ensures.stands q h who) in
-    (c.in_ok-begin.ensures doc k q (printed h) h s st told v start small).1
+    }, both.1)

@@ -1,10 +1,10 @@
 use Rattle.std.proofs.Common.{◌≡◌, ◌∙◌, inl, inr, ◌+◌, ◌*◌, ◌<◌, ◌≤◌, Some, ap, sym, subst, arith}
 use Rattle.kube_base.specs.Bounds.{most_local}
 use Rattle.kube_objects.specs.Clocks.{local}
-use Rattle.controller_core.specs.Passing.{LastStands}
+use Rattle.controller_core.specs.Passing.{IsLastInRange, LastStands}
 use Rattle.controller_core.specs.Wakes.{pass_reading}
 use Rattle.controller_core.proofs.Readying.{either, head_reading, le_true, reading_head}
-use Rattle.controller_core.proofs.Waking.{due_from, last_fits, not_none, not_yet, pass_is, period_is, some_number}
+use Rattle.controller_core.proofs.Waking.{due_from, not_none, not_yet, pass_is, period_is, some_number}
 use Rattle.controller_core.proofs.term.Term.wake.Goals as goal
 
 pub returns-clause-some : goal.returns-clause-some
@@ -35,13 +35,13 @@ returns-clause-there c doc k q h s fits le =
     (λ head. inr (head.0, reading_head doc k q h head.0 c.first_ready.result.0 head.1 le))
 
 pub returns-clause-reading : goal.returns-clause-reading
-returns-clause-reading c doc q h s fits =
+returns-clause-reading c doc q h s =
     let last = c.in_ok-last.last in
     let period = c.from-period.result * 1000000000 in
     let stands = subst (LastStands doc q h) c.in_ok-last.was s.last in
     let is = period_is c.args.self.now.settings.monitor_period_millis period doc.settings.monitor_period_millis (sym s.settings.monitor) (ap (λ n. n * 1000000000) c.from-period.ensures) in
     let pass : pass_reading doc q h ≡ Some (last.0 + period) = pass_is doc q h last period stands is in
-    let within : last.0 ≤ most_local = last_fits doc q h last stands fits in
+    let within : last.0 ≤ most_local = subst IsLastInRange c.in_ok-last.was s.range in
     let given : c.saturating_add.result ≡ last.0 + period = omega (arith, within, c.saturating_add.ensures) in
     record {
       there = either (c.first_ready.ensures.there doc q h s) (λ same. inl (pass ∙ ap (λ n. Some n) (sym (ap (λ at. at.0) same ∙ given)))) (λ head. inr head);

@@ -1,4 +1,4 @@
-use Rattle.std.proofs.Common.{◌≡◌, not, false, refl, sym, ap, ◌∙◌, subst}
+use Rattle.std.proofs.Common.{◌≡◌, not, false, sym, ap, ◌∙◌, subst}
 use Rattle.kube_objects.specs.Identities.{identity}
 use Rattle.world_process.specs.OwnTerm.{IsUpAs}
 use Rattle.world_process.specs.Processes.{in_term_now, clock_of, incarnation_of}
@@ -58,4 +58,4 @@ returns c doc k h s end =
     subst (WakesStand doc k p h) (sym c.with-2.ensures)
     (acting-stands doc k p i h (clock_of x) c.wake-wake.result c.term_wake.result (record { at_once = c.at_once-2.result; local = c.sooner.result; wall = c.least_due.result }) (its-clock doc p h x stands) starts (its-term doc k p i h up acts)
     (c.wake-wake.ensures doc p h stands) (c.at_once-2.ensures doc q h stands s.within.rest.store watch it) c.sooner.ensures
-    (λ j within. c.term_wake.ensures doc k h q s end refl it j within) (λ now. c.least_due.ensures doc q h now stands it))
+    (c.term_wake.ensures doc q h stands it) (λ now. c.least_due.ensures doc q h now stands it))

@@ -5,10 +5,10 @@ use Rattle.world_process.specs.Processes.{ProcessStands}
 use Rattle.world_process.proofs.process.Process.term_wake.Goals as goal
 
 pub returns-in-Controller : goal.returns-in-Controller
-returns-in-Controller c doc k q h s is fits = c.term_wake.ensures doc k q h (subst (ProcessStands doc q.process h) c.in-Controller.is s) is fits
+returns-in-Controller c doc q h s is = c.term_wake.ensures doc q h (subst (ProcessStands doc q.process h) c.in-Controller.is s) is
 
 -- no controller is a kubelet
 pub returns-in-Kubelet : goal.returns-in-Kubelet
-returns-in-Kubelet c doc k q h s is fits =
+returns-in-Kubelet c doc q h s is =
     let own : KubeletStands doc q.process h c.in-Kubelet.field-0 = subst (ProcessStands doc q.process h) c.in-Kubelet.is s in
     absurd (false_is (sym own.sort ∙ is.sort))
