@@ -8,8 +8,8 @@ use Rattle.term_state.specs.ClusterStands.{no_node, no_pod}
 use Rattle.term_state.specs.MidTick.{IsTold}
 use Rattle.controller_core.proofs.term.Term.tick.Goals as goal
 
-pub returns-clause : goal.returns-clause
-returns-clause g c doc k q h s st v acts start small =
+pub returns : goal.returns
+returns g c doc k q h s st v acts start small =
     let names = subst (λ x. Names x c.identity-incarnation.result) acts c.identity-incarnation.ensures in
     let who : actor.Proc c.identity-incarnation.result.0 c.identity-incarnation.result.1 ≡ actor_of q = λ i. actor.Proc (record { 0 = names.0 i }) (names.1 i) in
     let told = subst (λ n. IsTold q n (printed h) h c.new-told.result) v.beat (c.new-told.ensures.stands q h who) in
