@@ -16,7 +16,7 @@ use Rattle.agenda_laws.specs.Ticking.{is_due_at_once, term_reading, term_time}
 use Rattle.agenda_laws.specs.Times.{is_early, sooner, if_up, elector_reading, kubelet_reading}
 use Rattle.agenda_laws.specs.Waking as waking
 use Rattle.agenda_laws.specs.Waking.{IsAsleep, acts_at_once, leads_at_once, wakes_as, wakes_of}
-use Rattle.agenda_laws.proofs.Between.{sooner_both}
+use Rattle.agenda_laws.proofs.Between.{early_same, sooner_both}
 use Rattle.agenda_laws.proofs.Times.{before_deadline}
 use Rattle.skew_clock.specs.Clocking.{Clocking, reading}
 use Rattle.skew_clock.proofs.Readings.{reading-monotone}
@@ -206,15 +206,15 @@ starting-stands doc k p h w starts at_once =
     }
 
 pub waiting-stands : (doc : Doc) (k p : ℕ) (h : List Entry) (w : Wakes) (c : Clocking) → ClockStands doc p c → starts_now doc k p ≡ false → w.at_once ≡ waking.acts_as doc k p (is_controller doc p) h
-    → reading_of w ≡ reading_at doc k p h → ((now : ℕ) → is_early now w.wall ≡ is_early now (time_at doc k p h)) → WakesStand doc k p h w
+    → reading_of w ≡ reading_at doc k p h → w.wall ≡ time_at doc k p h → WakesStand doc k p h w
 waiting-stands doc k p h w c clock starts at_once reading time =
     record {
       at_once = at_once ∙ sym (ap (λ b. b || waking.acts_as doc k p (is_controller doc p) h) starts);
       reading = λ none. reading;
       time = λ none. time;
       asleep = λ none j from within. (let same = waits-same doc k j p h (local-later doc p k j c clock from) in (
-        λ s. same.0 (record { at_once = sym at_once ∙ s.at_once; local = ap (is_early (local doc p j)) (sym reading) ∙ s.local; wall = sym (time (wall doc p j)) ∙ s.wall }),
-        λ s. (let t = same.1 s in record { at_once = at_once ∙ t.at_once; local = ap (is_early (local doc p j)) reading ∙ t.local; wall = time (wall doc p j) ∙ t.wall }),
+        λ s. same.0 (record { at_once = sym at_once ∙ s.at_once; local = ap (is_early (local doc p j)) (sym reading) ∙ s.local; wall = ap (is_early (wall doc p j)) (sym time) ∙ s.wall }),
+        λ s. (let t = same.1 s in record { at_once = at_once ∙ t.at_once; local = ap (is_early (local doc p j)) reading ∙ t.local; wall = ap (is_early (wall doc p j)) time ∙ t.wall }),
       ));
     }
 
@@ -261,7 +261,7 @@ idle-stands doc k p h c wake clock starts none own =
     let nothing = no-term doc k p h none in
     waiting-stands doc k p h (record { at_once = false; local = wake; wall = None }) c clock starts (sym nothing.at_once)
     (readings-alike wake ∙ own ∙ sym (own-alone doc k p h nothing))
-    (λ now. sym (ap (is_early now) nothing.time))
+    (sym nothing.time)
 
 -- ---- who acts waits for its term too
 
@@ -284,7 +284,7 @@ pub acting-stands : (doc : Doc) (k p i : ℕ) (h : List Entry) (c : Clocking) (w
 acting-stands doc k p i h c wake term w clock starts t own at_once local_is term_is time =
     waiting-stands doc k p h w c clock starts (at_once ∙ sym t.at_once)
     (local_is ∙ ap (λ o. sooner o (local_of term)) (readings-alike wake ∙ own) ∙ ap (sooner (own_reading doc p h)) (readings-alike term ∙ term_is ∙ sym t.reading))
-    (λ now. time now ∙ sym (ap (is_early now) t.time))
+    (early_same w.wall (term_time (identity p i) h) time ∙ sym t.time)
 
 -- ---- the beat of a turn
 

@@ -63,11 +63,11 @@ abbrev pub time_at : Doc → ℕ → ℕ → List Entry → Option ℕ
 time_at doc k p h = acting_time doc k p (is_controller doc p) h
 
 -- There at once: a start in beat 0, or a sync, an untaint or a swap of a controller that acts at the next beat. Who doesn't start
--- waits for these readings and times of day, and sleeps at the beats from k on exactly as the history says
+-- waits for this reading and this time of day, and sleeps at the beats from k on exactly as the history says
 pub record WakesStand (doc : Doc) (k p : ℕ) (h : List Entry) (w : Wakes) : Type 0 where
   pub at_once : w.at_once ≡ (starts_now doc k p || acts_as doc k p (is_controller doc p) h)
   pub reading : starts_now doc k p ≡ false → reading_of w ≡ reading_at doc k p h
-  pub time : starts_now doc k p ≡ false → (now : ℕ) → is_early now w.wall ≡ is_early now (time_at doc k p h)
+  pub time : starts_now doc k p ≡ false → w.wall ≡ time_at doc k p h
   pub asleep : starts_now doc k p ≡ false → (j : ℕ) → k ≤ j → j ≤ end_beat doc → IsAsleepBy doc j p w ↔ IsAsleep doc j p (wakes_of doc p h)
 
 -- the beat is the first up to the end at which a process's clock has the reading that is waited for
