@@ -5,7 +5,7 @@ use Rattle.serde_json.specs.Written.{compact_text}
 use Rattle.lens_edge.specs.Outcome.{Reply}
 use Rattle.lens_edge.specs.declared.status.Verdict.TheVariants.{Done}
 use Rattle.lens_json.specs.Members.{Named, nat, text, object_of}
-use Rattle.lens_parts.specs.Parts.{list_of}
+use Rattle.lens_json.specs.Parts.{list_of}
 use Rattle.lens_summary.specs.Leaders.{ended}
 use Rattle.lens_summary.specs.Spread.{longest, total}
 use Rattle.lens_summary.specs.Summary.{premise_word}

@@ -1,7 +1,7 @@
 // The answer to a trace.
 ghost use Rattle.std.specs.Prelude.{◌≡◌, ◌+◌, ◌≤◌, IfOk, map};
 ghost use Rattle.lens_edge.specs.Outcome.{reply_of};
-ghost use Rattle.lens_parts.specs.Parts.{part_of, what_of};
+ghost use Rattle.lens_json.specs.Parts.{part_of, what_of};
 ghost use Rattle.lens_terms.specs.Terms.{shown};
 ghost use Rattle.trace_lines.specs.Reads.{seen};
 ghost use Rattle.lens_figures.specs.Figures as spec;
@@ -11,7 +11,7 @@ use crate::lines::objects_in;
 use crate::totals::totals_in;
 use kube_base::NoMemory;
 use lens_edge::{Answer, Verdict};
-use lens_parts::{Object, Part, What, add_parts};
+use lens_json::{Object, Part, What, add_parts};
 use lens_summary::{Subject, beats_of_two, premise_word};
 use lens_terms::{Term, leaderless, terms_of};
 use std::alloc::Global;

@@ -1,13 +1,12 @@
 // The trace itself, its terms, and the spans in which nobody leads.
 ghost use Rattle.std.specs.Prelude.{◌≡◌, IfOk, map};
 ghost use Rattle.lens_json.specs.Members.{data_of, named};
-ghost use Rattle.lens_parts.specs.Parts.{members_in};
+ghost use Rattle.lens_json.specs.Parts.{members_in};
 ghost use Rattle.lens_terms.specs.Terms.{shown};
 ghost use Rattle.lens_figures.specs.Figures as spec;
 
 use kube_base::NoMemory;
-use lens_json::{Member, Value};
-use lens_parts::Object;
+use lens_json::{Member, Object, Value};
 use lens_summary::{ended, longest, total};
 use lens_terms::{Span, Term};
 use std::alloc::Global;

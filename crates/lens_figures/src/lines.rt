@@ -1,14 +1,13 @@
 // The objects of lines: what became of zones and nodes, and the pods that were evicted.
 ghost use Rattle.std.specs.Prelude.{◌≡◌, ◌++◌, IfOk, OnOk, codes, map, option_to_list};
 ghost use Rattle.lens_json.specs.Members.{data_of, named};
-ghost use Rattle.lens_parts.specs.Parts.{members_in};
+ghost use Rattle.lens_json.specs.Parts.{members_in};
 ghost use Rattle.trace_lines.specs.Reads.{seen};
 ghost use Rattle.lens_figures.specs.Lines as spec;
 
 use crate::objects::add_object;
 use kube_base::NoMemory;
-use lens_json::{Member, Value};
-use lens_parts::Object;
+use lens_json::{Member, Object, Value};
 use lens_summary::{Subject, change_in, eviction_in, zone_in};
 use std::alloc::Global;
 use trace_lines::Line;

@@ -1,11 +1,10 @@
 // Objects one behind the other.
 ghost use Rattle.std.specs.Prelude.{◌≡◌, ◌++◌, ◌∷◌, [], OnOk, map};
 ghost use Rattle.lens_json.specs.Members.{named};
-ghost use Rattle.lens_parts.specs.Parts.{members_in};
+ghost use Rattle.lens_json.specs.Parts.{members_in};
 
 use kube_base::NoMemory;
-use lens_json::Member;
-use lens_parts::Object;
+use lens_json::{Member, Object};
 
 /// Adds the object of these members.
 pub(crate) fn add_object<'a>(

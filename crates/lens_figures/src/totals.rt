@@ -1,14 +1,13 @@
 // How many lines of each kind there are, and how what they write was answered.
 ghost use Rattle.std.specs.Prelude.{◌≡◌, ◌++◌, IfOk, OnOk, map};
 ghost use Rattle.lens_json.specs.Members.{named};
-ghost use Rattle.lens_parts.specs.Parts.{members_in};
+ghost use Rattle.lens_json.specs.Parts.{members_in};
 ghost use Rattle.trace_lines.specs.Reads.{seen};
 ghost use Rattle.lens_figures.specs.Totals as spec;
 
 use crate::objects::add_object;
 use kube_base::NoMemory;
-use lens_json::Member;
-use lens_parts::Object;
+use lens_json::{Member, Object};
 use lens_summary::{Outcome, count, kinds, outcomes};
 use std::alloc::Global;
 use trace_lines::Line;

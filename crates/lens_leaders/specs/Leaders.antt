@@ -6,7 +6,7 @@ use Rattle.lens_edge.specs.Outcome.{Reply}
 use Rattle.lens_edge.specs.declared.status.Verdict.{Verdict}
 use Rattle.lens_edge.specs.declared.status.Verdict.TheVariants.{Safe, Unsafe}
 use Rattle.lens_json.specs.Members.{Named, object_of}
-use Rattle.lens_parts.specs.Parts.{list_of}
+use Rattle.lens_json.specs.Parts.{list_of}
 use Rattle.lens_terms.specs.declared.closing.Closing.{Closing}
 use Rattle.lens_terms.specs.declared.closing.Ending.{Ending}
 use Rattle.lens_terms.specs.declared.closing.Ending.TheVariants.{End, Stop, Crash}

@@ -1,7 +1,7 @@
 // The answer to a trace.
 ghost use Rattle.std.specs.Prelude.{◌≡◌, ◌≤◌, IfOk, map};
 ghost use Rattle.lens_edge.specs.Outcome.{reply_of};
-ghost use Rattle.lens_parts.specs.Parts.{part_of};
+ghost use Rattle.lens_json.specs.Parts.{part_of};
 ghost use Rattle.lens_terms.specs.Terms.{shown};
 ghost use Rattle.trace_lines.specs.Reads.{seen};
 ghost use Rattle.lens_leaders.specs.Leaders as spec;
@@ -9,7 +9,7 @@ ghost use Rattle.lens_leaders.specs.Leaders as spec;
 use crate::parts::{overlap_in, spans_in, terms_in};
 use kube_base::NoMemory;
 use lens_edge::{Answer, Verdict};
-use lens_parts::{Part, What, add_parts};
+use lens_json::{Part, What, add_parts};
 use lens_terms::{Term, leaderless, terms_of};
 use std::alloc::Global;
 use trace_lines::{Header, Line};

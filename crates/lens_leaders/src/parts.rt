@@ -1,13 +1,12 @@
 // The members of the answer.
 ghost use Rattle.std.specs.Prelude.{◌≡◌, ◌++◌, ◌∷◌, [], IfOk, OnOk, Some, map};
 ghost use Rattle.lens_json.specs.Members.{named};
-ghost use Rattle.lens_parts.specs.Parts.{members_in, what_of};
+ghost use Rattle.lens_json.specs.Parts.{members_in, what_of};
 ghost use Rattle.lens_terms.specs.Terms.{shown};
 ghost use Rattle.lens_leaders.specs.Leaders as spec;
 
 use kube_base::NoMemory;
-use lens_json::{Member, Value};
-use lens_parts::{Object, What};
+use lens_json::{Member, Object, Value, What};
 use lens_terms::{Closing, Ending, Span, Term, crossing, term_at};
 use std::alloc::Global;
 

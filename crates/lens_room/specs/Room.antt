@@ -9,7 +9,7 @@ use Rattle.lens_json.specs.Members.{Named, text, object_of}
 use Rattle.lens_margin.specs.declared.margin.Margin.{Margin}
 use Rattle.lens_margin.specs.Margins.{margin_of}
 use Rattle.lens_margin.specs.Replies.{verdict_of}
-use Rattle.lens_parts.specs.Parts.{list_of}
+use Rattle.lens_json.specs.Parts.{list_of}
 use Rattle.manifest_json.specs.declared.fault.Refusal.{Refusal}
 use Rattle.script_reader.specs.declared.document.Document.{Document}
 use Rattle.script_reader.specs.Documents.{doc_of}

@@ -2,7 +2,7 @@
 ghost use Rattle.std.specs.Prelude.{◌≡◌, IfOk, map};
 ghost use Rattle.lens_edge.specs.Outcome.{reply_of};
 ghost use Rattle.lens_margin.specs.Replies.{verdict_of};
-ghost use Rattle.lens_parts.specs.Parts.{part_of};
+ghost use Rattle.lens_json.specs.Parts.{part_of};
 ghost use Rattle.script_reader.specs.Documents.{doc_of};
 ghost use Rattle.script_reader.specs.Lawful.{IsLawfulDoc, IsWellNamed};
 ghost use Rattle.script_reader.specs.Walk.{document_walk};
@@ -12,8 +12,7 @@ use crate::parts::controllers_in;
 use document_laws::documents_are_lawful;
 use kube_base::NoMemory;
 use lens_edge::{Answer, Verdict, refuse};
-use lens_json::Value;
-use lens_parts::{Part, What, add_parts};
+use lens_json::{Part, Value, What, add_parts};
 use manifest_json::ReadFault;
 use script_reader::{Document, lease_premise, read_document};
 use std::alloc::Global;

@@ -1,15 +1,14 @@
 // The members of the answer.
 ghost use Rattle.std.specs.Prelude.{◌≡◌, ◌<◌, ◌++◌, ◌∷◌, [], IfOk, OnOk, length, map};
 ghost use Rattle.lens_json.specs.Members.{data_of, named};
-ghost use Rattle.lens_parts.specs.Parts.{members_in};
+ghost use Rattle.lens_json.specs.Parts.{members_in};
 ghost use Rattle.script_reader.specs.Documents.{doc_of};
 ghost use Rattle.script_reader.specs.Lawful.{IsLawfulDoc, IsWellNamed};
 ghost use Rattle.lens_room.specs.Room as spec;
 
 use kube_base::NoMemory;
-use lens_json::{Member, Value};
+use lens_json::{Member, Object, Value};
 use lens_margin::{Margin, controller_margin};
-use lens_parts::Object;
 use script_reader::Document;
 use std::alloc::Global;
 use trace_writer::name_of;

@@ -1,5 +1,5 @@
 use Rattle.std.proofs.Common.{◌≡◌, ◌++◌, map, drop}
-use Rattle.lens_parts.specs.Parts.{members_in}
+use Rattle.lens_json.specs.Parts.{members_in}
 use Rattle.lens_terms.specs.Terms.{shown}
 use Rattle.lens_figures.specs.Figures.{term_members}
 use Rattle.lens_figures.proofs.leaders.terms_in.Given as goal

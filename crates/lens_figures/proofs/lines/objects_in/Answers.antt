@@ -1,5 +1,5 @@
 use Rattle.std.proofs.Common.{map}
-use Rattle.lens_parts.specs.Parts.{members_in}
+use Rattle.lens_json.specs.Parts.{members_in}
 use Rattle.trace_lines.specs.Reads.{seen}
 use Rattle.lens_figures.specs.Lines.{told_by}
 use Rattle.lens_summary.proofs.StepLaws.{filter-step}

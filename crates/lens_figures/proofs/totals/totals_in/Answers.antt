@@ -1,5 +1,5 @@
 use Rattle.std.proofs.Common.{◌≡◌, ℕ, List, length, map, Bor, arith}
-use Rattle.lens_parts.specs.Parts.{members_in}
+use Rattle.lens_json.specs.Parts.{members_in}
 use Rattle.trace_lines.specs.Reads.{seen}
 use Rattle.lens_figures.specs.Totals.{kind_objects}
 use Rattle.lens_summary.proofs.TotalLaws.{flat-step, kinds-told}

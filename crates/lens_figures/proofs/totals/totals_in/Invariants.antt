@@ -1,6 +1,6 @@
 use Rattle.std.proofs.Common.{◌≡◌, ℕ, List, ◌++◌, map, drop, Bor}
 use Rattle.std.specs.List.{flat_map}
-use Rattle.lens_parts.specs.Parts.{members_in}
+use Rattle.lens_json.specs.Parts.{members_in}
 use Rattle.trace_lines.specs.Reads.{seen}
 use Rattle.lens_summary.specs.Totals.{kinds}
 use Rattle.lens_figures.specs.Totals.{kind_objects}

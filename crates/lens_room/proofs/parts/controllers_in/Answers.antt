@@ -1,5 +1,5 @@
 use Rattle.std.proofs.Common.{[], ◌∷◌, ◌++◌, map, ap, ◌∙◌, add-one}
-use Rattle.lens_parts.specs.Parts.{members_in}
+use Rattle.lens_json.specs.Parts.{members_in}
 use Rattle.lens_room.specs.Room.{members_at}
 use Rattle.lens_room.proofs.parts.controllers_in.Goals as goal
 

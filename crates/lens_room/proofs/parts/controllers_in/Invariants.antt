@@ -1,5 +1,5 @@
 use Rattle.std.proofs.Common.{◌≡◌, map}
-use Rattle.lens_parts.specs.Parts.{members_in}
+use Rattle.lens_json.specs.Parts.{members_in}
 use Rattle.lens_room.specs.Room.{controllers_below}
 use Rattle.lens_room.proofs.parts.controllers_in.Given as goal
 

@@ -2,10 +2,10 @@
 use Rattle.std.specs.Prelude.{List, [], ◌∷◌, map}
 use Rattle.serde_json.specs.Data.{Data, array, Items, no_items, item}
 use Rattle.lens_json.specs.Members.{Named, named, data_of, object_of}
-use Rattle.lens_parts.specs.declared.part.Object.{Object}
-use Rattle.lens_parts.specs.declared.part.Part.{Part}
-use Rattle.lens_parts.specs.declared.part.What.{What}
-use Rattle.lens_parts.specs.declared.part.What.TheVariants as what
+use Rattle.lens_json.specs.declared.part.Object.{Object}
+use Rattle.lens_json.specs.declared.part.Part.{Part}
+use Rattle.lens_json.specs.declared.part.What.{What}
+use Rattle.lens_json.specs.declared.part.What.TheVariants as what
 
 abbrev pub members_in : Object → List Named
 members_in o = map named o.members.items

@@ -1,8 +1,8 @@
 use Rattle.std.proofs.Common.{◌≡◌, false, [], ◌∷◌, ◌++◌, drop, map}
 use Rattle.serde_json.specs.Written.{members_text}
 use Rattle.lens_json.specs.Members.{members_of}
-use Rattle.lens_parts.specs.Parts.{part_of}
-use Rattle.lens_parts.proofs.parts.add_parts.Given as goal
+use Rattle.lens_json.specs.Parts.{part_of}
+use Rattle.lens_json.proofs.parts.add_parts.Given as goal
 
 -- the members so far and those of the rest
 abbrev pub invariant-loop-part : goal.invariant-loop-part

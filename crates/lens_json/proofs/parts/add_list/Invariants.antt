@@ -1,7 +1,7 @@
 use Rattle.std.proofs.Common.{◌≡◌, false, [], ◌∷◌, ◌++◌, drop, map}
 use Rattle.serde_json.specs.Written.{items_text}
-use Rattle.lens_parts.specs.Parts.{items_of, members_in}
-use Rattle.lens_parts.proofs.parts.add_list.Given as goal
+use Rattle.lens_json.specs.Parts.{items_of, members_in}
+use Rattle.lens_json.proofs.parts.add_list.Given as goal
 
 -- the objects so far and those of the rest
 abbrev pub invariant-loop-object : goal.invariant-loop-object

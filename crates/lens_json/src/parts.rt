@@ -1,13 +1,15 @@
 // The text of a whole answer.
 ghost use Rattle.std.specs.Prelude.{◌≡◌, ◌++◌, ◌∷◌, OnOk, map};
 ghost use Rattle.json.specs.Print.{quoted};
-ghost use Rattle.serde_json.specs.Written.{compact_text, comma_if};
+ghost use Rattle.serde_json.specs.Written.{compact_text};
 ghost use Rattle.lens_json.specs.Members.{object_of};
-ghost use Rattle.lens_parts.specs.Parts.{list_of, members_in, part_of, what_of};
+ghost use Rattle.lens_json.specs.Parts.{list_of, members_in, part_of, what_of};
 
 use crate::part::{Object, Part, What};
 use kube_base::NoMemory;
-use lens_json::{add_object, add_quoted, add_value};
+use crate::object::{add_comma, add_object};
+use crate::quoting::add_quoted;
+use crate::value::add_value;
 use trace_writer::add;
 
 /// Adds the object of these members, in their order, on one line and without spaces.
@@ -22,13 +24,6 @@ pub fn add_parts(text: &mut Vec<u8>, parts: &[Part<'_>]) -> Result<(), NoMemory>
         later = true;
     }
     add(text, b"}")
-}
-
-/// Adds a comma where something stands before.
-fn add_comma(text: &mut Vec<u8>, later: bool) -> Result<(), NoMemory>
-    ensures { OnOk result (text.new.items ≡ text.old.items ++ comma_if later) }
-{
-    if later { add(text, b",") } else { Ok(()) }
 }
 
 fn add_part(text: &mut Vec<u8>, part: &Part<'_>) -> Result<(), NoMemory>

@@ -1,5 +1,5 @@
 // A member of a whole answer.
-use lens_json::{Member, Value};
+use crate::member::{Member, Value};
 
 /// An object: its members in order.
 #[derive(Drop)]
