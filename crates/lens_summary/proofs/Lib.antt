@@ -2,3 +2,4 @@ pub mod StepLaws
 pub mod ToldLaws
 pub mod TogetherLaws
 pub mod TotalLaws
+pub mod TableLaws

@@ -2,7 +2,7 @@
 use Rattle.std.proofs.Common.{◌≡◌, ℕ, ◌+◌, List, [], ◌++◌, Option, ap, ◌∙◌}
 use Rattle.lens_edge.specs.Outcome.{Reply}
 use Rattle.lens_edge.specs.declared.status.Verdict.TheVariants.{Done}
-use Rattle.lens_table.specs.Tables.{table_text}
+use Rattle.lens_summary.specs.Tables.{table_text}
 use Rattle.lens_terms.specs.declared.term.Term.{Term}
 use Rattle.lens_terms.specs.Terms.{terms}
 use Rattle.lens_trace.proofs.ShownLaws.{added}

@@ -10,3 +10,5 @@ pub mod Summary
 pub mod Together
 pub mod Totals
 pub mod Zones
+pub mod Cells
+pub mod Tables

@@ -2,14 +2,15 @@
 ghost use Rattle.std.specs.Prelude.{◌≡◌, ◌++◌, IfOk, OnOk, count_by, map, option_to_list};
 ghost use Rattle.std.specs.List.{flat_map};
 ghost use Rattle.std.specs.Option.{option_map};
-ghost use Rattle.lens_table.specs.Tables.{shown, table_text};
+ghost use Rattle.lens_summary.specs.Tables.{shown, table_text};
 ghost use Rattle.trace_lines.specs.Reads.{seen};
 ghost use Rattle.lens_summary.specs.Totals as spec;
 
+use crate::cell::Cell;
 use crate::outcome::{Outcome, is_same, outcome_of, word_of};
-use crate::rows::add_row;
+use crate::row::{Row, add_row};
+use crate::table::add_table;
 use kube_base::NoMemory;
-use lens_table::{Cell, Row, add_table};
 use std::alloc::Global;
 use trace_lines::Line;
 

@@ -1,8 +1,8 @@
 // The text of a table.
 ghost use Rattle.std.specs.Prelude.{◌≡◌, ◌++◌, length, map, replicate, get_or, [], IfOk, OnOk};
 ghost use Rattle.std.specs.List.{flat_map};
-ghost use Rattle.lens_table.specs.Cells.{cell_text};
-ghost use Rattle.lens_table.specs.Tables as spec;
+ghost use Rattle.lens_summary.specs.Cells.{cell_text};
+ghost use Rattle.lens_summary.specs.Tables as spec;
 
 use crate::cell::{Cell, add_cell};
 use crate::row::Row;

@@ -1,10 +1,16 @@
 // Rows of a table.
 ghost use Rattle.std.specs.Prelude.{◌≡◌, ◌++◌, ◌∷◌, [], OnOk, map};
-ghost use Rattle.lens_table.specs.Cells.{cell_text};
-ghost use Rattle.lens_table.specs.Tables.{shown};
+ghost use Rattle.lens_summary.specs.Cells.{cell_text};
+ghost use Rattle.lens_summary.specs.Tables.{shown};
 
+use crate::cell::Cell;
 use kube_base::NoMemory;
-use lens_table::{Cell, Row};
+
+/// A row of a table: its cells from left to right.
+#[derive(Drop)]
+pub struct Row<'a> {
+    pub cells: Vec<Cell<'a>>,
+}
 
 /// Adds a row of these cells.
 pub fn add_row<'a>(rows: &mut Vec<Row<'a>>, cells: Vec<Cell<'a>>) -> Result<(), NoMemory>

@@ -1,7 +1,7 @@
 use Rattle.std.proofs.Common.{◌≡◌, ◌≤◌, ◌-◌, ◌++◌, length, map, drop}
-use Rattle.lens_table.specs.Cells.{cell_text}
-use Rattle.lens_table.specs.Tables.{row_text}
-use Rattle.lens_table.proofs.table.add_row.Given as goal
+use Rattle.lens_summary.specs.Cells.{cell_text}
+use Rattle.lens_summary.specs.Tables.{row_text}
+use Rattle.lens_summary.proofs.table.add_row.Given as goal
 
 -- the cells so far and those from the column on
 abbrev pub invariant-cells : goal.invariant-cells

@@ -3,9 +3,9 @@ use Rattle.std.proofs.Common.{◌≡◌, ℕ, suc, ◌+◌, ◌-◌, ◌<◌, �
 use Rattle.std.proofs.Math.Seq.{drop-cons, drop-length}
 use Rattle.std.proofs.lemmas.List.{length-map}
 use Rattle.std.proofs.lemmas.Bool.Decides.{nat_tests}
-use Rattle.lens_table.specs.declared.cell.Cell.{Cell}
-use Rattle.lens_table.specs.Cells.{cell_text}
-use Rattle.lens_table.specs.Tables.{Texts, width, widths_from, filled, row_text}
+use Rattle.lens_summary.specs.declared.cell.Cell.{Cell}
+use Rattle.lens_summary.specs.Cells.{cell_text}
+use Rattle.lens_summary.specs.Tables.{Texts, width, widths_from, filled, row_text}
 
 drop-more : {A : Type 0} (xs : List A) (n : ℕ) (d : A) → n < length xs → drop n xs ≡ get_or xs n d ∷ drop (n + 1) xs
 drop-more xs n d within = drop-cons xs n d within ∙ ap (λ k. get_or xs n d ∷ drop k xs) (sym (add-one n))

@@ -1,5 +1,5 @@
 use Rattle.std.proofs.Common.{◌≡◌, ◌++◌, replicate}
-use Rattle.lens_table.proofs.table.add_spaces.Given as goal
+use Rattle.lens_summary.proofs.table.add_spaces.Given as goal
 
 -- so many spaces so far
 abbrev pub invariant-loop : goal.invariant-loop

@@ -1,7 +1,7 @@
 use Rattle.std.proofs.Common.{◌≡◌, ◌++◌, drop}
 use Rattle.std.specs.List.{flat_map}
-use Rattle.lens_table.specs.Tables.{row_text, shown}
-use Rattle.lens_table.proofs.table.add_rows.Given as goal
+use Rattle.lens_summary.specs.Tables.{row_text, shown}
+use Rattle.lens_summary.proofs.table.add_rows.Given as goal
 
 -- the rows so far and those of the rest
 abbrev pub invariant-loop-row : goal.invariant-loop-row

@@ -1,6 +1,6 @@
 // A cell of a table.
 ghost use Rattle.std.specs.Prelude.{◌≡◌, ◌++◌, ◌<◌, OnOk};
-ghost use Rattle.lens_table.specs.Cells as spec;
+ghost use Rattle.lens_summary.specs.Cells as spec;
 
 use kube_base::NoMemory;
 use trace_writer::{add, add_number};

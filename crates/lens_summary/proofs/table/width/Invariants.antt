@@ -1,6 +1,6 @@
 use Rattle.std.proofs.Common.{◌≡◌, max, drop}
-use Rattle.lens_table.specs.Tables.{shown, width}
-use Rattle.lens_table.proofs.table.width.Given as goal
+use Rattle.lens_summary.specs.Tables.{shown, width}
+use Rattle.lens_summary.proofs.table.width.Given as goal
 
 -- the widest so far and that of the rest
 abbrev pub invariant-loop-row : goal.invariant-loop-row

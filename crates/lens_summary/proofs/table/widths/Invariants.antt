@@ -1,7 +1,7 @@
 use Rattle.std.proofs.Common.{◌≡◌, ◌≤◌, ◌-◌, ◌++◌, length, map, drop}
-use Rattle.lens_table.specs.Cells.{cell_text}
-use Rattle.lens_table.specs.Tables.{shown, widths_from}
-use Rattle.lens_table.proofs.table.widths.Given as goal
+use Rattle.lens_summary.specs.Cells.{cell_text}
+use Rattle.lens_summary.specs.Tables.{shown, widths_from}
+use Rattle.lens_summary.proofs.table.widths.Given as goal
 
 -- the widths so far and those of the columns from one on
 abbrev pub invariant-columns : goal.invariant-columns

@@ -1,7 +1,7 @@
 -- What the cells of a table show.
 use Rattle.std.specs.Prelude.{ℕ, ◌*◌, ◌/◌, ◌%◌, ◌++◌, List, codes, decimal}
-use Rattle.lens_table.specs.declared.cell.Cell.{Cell}
-use Rattle.lens_table.specs.declared.cell.Cell.TheVariants.{Missing, Text, Count, Beat}
+use Rattle.lens_summary.specs.declared.cell.Cell.{Cell}
+use Rattle.lens_summary.specs.declared.cell.Cell.TheVariants.{Missing, Text, Count, Beat}
 
 abbrev pub two_digits : ℕ → List ℕ
 two_digits n = decimal (n / 10) ++ decimal (n % 10)

@@ -1,8 +1,8 @@
 use Rattle.std.proofs.Common.{arith}
-use Rattle.lens_table.proofs.TableLaws.{widths-step}
-use Rattle.lens_table.specs.declared.cell.Cell.TheVariants.{Missing}
-use Rattle.lens_table.specs.Tables.{shown}
-use Rattle.lens_table.proofs.table.widths.Goals as goal
+use Rattle.lens_summary.proofs.TableLaws.{widths-step}
+use Rattle.lens_summary.specs.declared.cell.Cell.TheVariants.{Missing}
+use Rattle.lens_summary.specs.Tables.{shown}
+use Rattle.lens_summary.proofs.table.widths.Goals as goal
 
 pub columns-preserved : goal.columns-preserved
 columns-preserved c = record {
