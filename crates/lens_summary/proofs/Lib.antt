@@ -3,3 +3,4 @@ pub mod ToldLaws
 pub mod TogetherLaws
 pub mod TotalLaws
 pub mod TableLaws
+pub mod FigureLaws

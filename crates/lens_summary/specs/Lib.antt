@@ -12,3 +12,7 @@ pub mod Totals
 pub mod Zones
 pub mod Cells
 pub mod Tables
+pub mod FigureLines
+pub mod FigureTotals
+pub mod Figures
+pub mod FigureReplies

@@ -101,7 +101,7 @@ fn add_term<'a>(
 }
 
 /// The word for how a term ends.
-pub fn ended(closing: Option<Closing>) -> &'static [u8]
+pub(crate) fn ended(closing: Option<Closing>) -> &'static [u8]
     ensures { result.now ≡ spec.ended closing }
 {
     match closing {

@@ -35,7 +35,7 @@ pub(crate) fn add_node<'a>(
 }
 
 /// The node that a line changes, how, and to which taint or for which reason.
-pub fn change_in<'a>(says: &Says<&'a [u8]>) -> Option<(&'a [u8], &'static [u8], &'a [u8])>
+pub(crate) fn change_in<'a>(says: &Says<&'a [u8]>) -> Option<(&'a [u8], &'static [u8], &'a [u8])>
     ensures { MatchOption result (spec.change_in (said says.now) ≡ None) (λ n. spec.change_in (said says.now) ≡ Some (n.0.now, n.1.now, n.2.now)) }
 {
     match says {

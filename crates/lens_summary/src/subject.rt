@@ -18,7 +18,7 @@ use trace_lines::Line;
 
 /// What lines tell of, with a table of its own.
 #[derive(Clone, Copy)]
-pub enum Subject {
+pub(crate) enum Subject {
     /// The states that passes found zones in.
     Zones,
     /// The changes of nodes that the store took.

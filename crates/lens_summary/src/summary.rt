@@ -98,7 +98,7 @@ fn trace_rows(
 }
 
 /// The word for a premise.
-pub fn premise_word(premise: bool) -> &'static [u8]
+pub(crate) fn premise_word(premise: bool) -> &'static [u8]
     ensures { result.now ≡ spec.premise_word premise }
 {
     if premise { b"yes" } else { b"no" }

@@ -62,7 +62,7 @@ fn add_kinds<'a>(
 
 /// The kinds, in the order in which they are told.
 #[tactic(auto, unfolding(crate::specs::Totals::kinds))]
-pub fn kinds() -> [&'static [u8]; 19]
+pub(crate) fn kinds() -> [&'static [u8]; 19]
     ensures { map (λ word. word.now) result ≡ spec.kinds }
 {
     [
@@ -140,7 +140,7 @@ fn add_counts<'a>(
 }
 
 /// How many of some outcomes are this one.
-pub fn count(outcomes: &[Outcome], wanted: Outcome) -> u64
+pub(crate) fn count(outcomes: &[Outcome], wanted: Outcome) -> u64
     ensures { result ≡ count_by (spec.is wanted) outcomes.now }
 {
     let mut number = 0;
@@ -154,7 +154,7 @@ pub fn count(outcomes: &[Outcome], wanted: Outcome) -> u64
 
 /// The outcomes of all lines of a kind, by its word, or of all lines.
 #[tactic(auto, unfolding(crate::specs::Totals::outcomes))]
-pub fn outcomes(
+pub(crate) fn outcomes(
     alloc: Global,
     kind: Option<&[u8]>,
     lines: &[Line<&[u8]>],

@@ -35,7 +35,7 @@ pub(crate) fn add_zone<'a>(
 }
 
 /// The zone that a line tells of, its state and its rate.
-pub fn zone_in<'a>(says: &Says<&'a [u8]>) -> Option<(&'a [u8], &'a [u8], u32)>
+pub(crate) fn zone_in<'a>(says: &Says<&'a [u8]>) -> Option<(&'a [u8], &'a [u8], u32)>
     ensures { MatchOption result (spec.zone_in (said says.now) ≡ None) (λ z. spec.zone_in (said says.now) ≡ Some (z.0.now, z.1.now, z.2)) }
 {
     match says {

@@ -3,7 +3,7 @@ use Rattle.std.specs.Prelude.{ℕ, List, codes, Option, Some, None}
 use Rattle.lens_edge.specs.declared.status.Verdict.TheVariants.{Done}
 use Rattle.lens_edge.specs.Outcome.{Outcome, Reply, Unread, usage}
 use Rattle.lens_explain.specs.Replies as explain
-use Rattle.lens_figures.specs.Replies as figures
+use Rattle.lens_summary.specs.FigureReplies as figures
 use Rattle.lens_flags.specs.Flags.{behind}
 use Rattle.lens_flags.specs.Replies.{answer_to}
 use Rattle.lens_lateness.specs.Replies as lateness

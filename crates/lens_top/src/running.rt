@@ -65,7 +65,7 @@ pub fn run<S: Source, K: Sink>(
         Some(Command::Leaders) => lens_trace::run(alloc, words, source, sink),
         Some(Command::LeadersJson) => lens_leaders::run(alloc, words, source, sink),
         Some(Command::Summary) => lens_summary::run(alloc, words, source, sink),
-        Some(Command::SummaryJson) => lens_figures::run(alloc, words, source, sink),
+        Some(Command::SummaryJson) => lens_summary::figures::run(alloc, words, source, sink),
         Some(Command::Explain) => lens_explain::run(alloc, words, source, sink),
         Some(Command::Lateness) => lens_lateness::run(alloc, words, source, sink),
         Some(Command::Lines) => lens_lines::run(alloc, words, source, sink),

@@ -3,12 +3,15 @@ ghost use Rattle.std.specs.Prelude.{◌≡◌, ◌++◌, IfOk, OnOk, codes, map,
 ghost use Rattle.lens_json.specs.Members.{data_of, named};
 ghost use Rattle.lens_json.specs.Parts.{members_in};
 ghost use Rattle.trace_lines.specs.Reads.{seen};
-ghost use Rattle.lens_figures.specs.Lines as spec;
+ghost use Rattle.lens_summary.specs.FigureLines as spec;
 
-use crate::objects::add_object;
+use crate::figures::objects::add_object;
+use crate::nodes::change_in;
+use crate::pods::eviction_in;
+use crate::subject::Subject;
+use crate::zones::zone_in;
 use kube_base::NoMemory;
 use lens_json::{Member, Object, Value};
-use lens_summary::{Subject, change_in, eviction_in, zone_in};
 use std::alloc::Global;
 use trace_lines::Line;
 

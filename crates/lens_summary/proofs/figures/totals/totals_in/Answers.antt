@@ -1,9 +1,9 @@
 use Rattle.std.proofs.Common.{◌≡◌, ℕ, List, length, map, Bor, arith}
 use Rattle.lens_json.specs.Parts.{members_in}
 use Rattle.trace_lines.specs.Reads.{seen}
-use Rattle.lens_figures.specs.Totals.{kind_objects}
+use Rattle.lens_summary.specs.FigureTotals.{kind_objects}
 use Rattle.lens_summary.proofs.TotalLaws.{flat-step, kinds-told}
-use Rattle.lens_figures.proofs.totals.totals_in.Goals as goal
+use Rattle.lens_summary.proofs.figures.totals.totals_in.Goals as goal
 
 pub loop-word-preserved : goal.loop-word-preserved
 loop-word-preserved c =

@@ -3,11 +3,12 @@ ghost use Rattle.std.specs.Prelude.{◌≡◌, IfOk, map};
 ghost use Rattle.lens_json.specs.Members.{data_of, named};
 ghost use Rattle.lens_json.specs.Parts.{members_in};
 ghost use Rattle.lens_terms.specs.Terms.{shown};
-ghost use Rattle.lens_figures.specs.Figures as spec;
+ghost use Rattle.lens_summary.specs.Figures as spec;
 
+use crate::leaders::ended;
+use crate::spread::{longest, total};
 use kube_base::NoMemory;
 use lens_json::{Member, Object, Value};
-use lens_summary::{ended, longest, total};
 use lens_terms::{Span, Term};
 use std::alloc::Global;
 use trace_lines::Header;

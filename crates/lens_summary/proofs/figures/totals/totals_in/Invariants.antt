@@ -3,8 +3,8 @@ use Rattle.std.specs.List.{flat_map}
 use Rattle.lens_json.specs.Parts.{members_in}
 use Rattle.trace_lines.specs.Reads.{seen}
 use Rattle.lens_summary.specs.Totals.{kinds}
-use Rattle.lens_figures.specs.Totals.{kind_objects}
-use Rattle.lens_figures.proofs.totals.totals_in.Given as goal
+use Rattle.lens_summary.specs.FigureTotals.{kind_objects}
+use Rattle.lens_summary.proofs.figures.totals.totals_in.Given as goal
 
 -- the objects so far and those of the rest
 abbrev pub invariant-loop-word : goal.invariant-loop-word

@@ -6,7 +6,7 @@ use Rattle.lens_edge.specs.declared.status.Verdict.TheVariants.{Done}
 use Rattle.lens_json.specs.Members.{Named, object_of}
 use Rattle.lens_terms.specs.declared.term.Term.{Term}
 use Rattle.lens_terms.specs.Terms.{terms}
-use Rattle.lens_figures.specs.Figures.{figure_members, figures_json, figures}
+use Rattle.lens_summary.specs.Figures.{figure_members, figures_json, figures}
 use Rattle.trace_lines.specs.declared.header.Header.{Header}
 use Rattle.trace_lines.specs.declared.line.Line.{Line}
 

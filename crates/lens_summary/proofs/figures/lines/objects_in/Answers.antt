@@ -1,9 +1,9 @@
 use Rattle.std.proofs.Common.{map}
 use Rattle.lens_json.specs.Parts.{members_in}
 use Rattle.trace_lines.specs.Reads.{seen}
-use Rattle.lens_figures.specs.Lines.{told_by}
+use Rattle.lens_summary.specs.FigureLines.{told_by}
 use Rattle.lens_summary.proofs.StepLaws.{filter-step}
-use Rattle.lens_figures.proofs.lines.objects_in.Goals as goal
+use Rattle.lens_summary.proofs.figures.lines.objects_in.Goals as goal
 
 pub loop-line-preserved : goal.loop-line-preserved
 loop-line-preserved c =

@@ -2,10 +2,10 @@
 ghost use Rattle.std.specs.Prelude.{◌≡◌, ◌⊎◌, ℕ, false, List, [], Some, IfOk, map, string_bytes};
 ghost use Rattle.byte_edge.specs.Bytes.{Rose};
 ghost use Rattle.lens_edge.specs.Outcome.{Ends, EndsAs, Unread, usage};
-ghost use Rattle.lens_figures.specs.Replies.{IsOutcome, is_figures};
-ghost use Rattle.lens_figures.specs.Figures as spec;
+ghost use Rattle.lens_summary.specs.FigureReplies.{IsOutcome, is_figures};
+ghost use Rattle.lens_summary.specs.Figures as spec;
 
-use crate::answering::tell;
+use crate::figures::answering::tell;
 use byte_edge::{Sink, Source};
 use kube_base::NoMemory;
 use lens_edge::{Answer, Question, Status, Verdict, ask_if};

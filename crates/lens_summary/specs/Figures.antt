@@ -18,8 +18,8 @@ use Rattle.lens_terms.specs.Terms.{terms, until}
 use Rattle.lens_trace.specs.Traces.{trace_reply}
 use Rattle.trace_lines.specs.declared.header.Header.{Header}
 use Rattle.trace_lines.specs.declared.line.Line.{Line}
-use Rattle.lens_figures.specs.Lines.{told}
-use Rattle.lens_figures.specs.Totals.{totals}
+use Rattle.lens_summary.specs.FigureLines.{told}
+use Rattle.lens_summary.specs.FigureTotals.{totals}
 
 -- ---- the trace itself, its terms, and the spans in which nobody leads
 

@@ -1,8 +1,8 @@
 use Rattle.std.proofs.Common.{◌≡◌, map, ap, ◌∙◌}
 use Rattle.trace_lines.specs.Reads.{seen}
 use Rattle.lens_terms.specs.Terms.{shown, terms}
-use Rattle.lens_figures.proofs.PartLaws.{told-is}
-use Rattle.lens_figures.proofs.answering.tell.Goals as goal
+use Rattle.lens_summary.proofs.FigureLaws.{told-is}
+use Rattle.lens_summary.proofs.figures.answering.tell.Goals as goal
 
 pub returns : goal.returns
 returns c =

@@ -2,7 +2,7 @@
 use Rattle.std.specs.Prelude.{◌≡◌, ℕ, ◌&&◌, Bool, false, List, [], ◌∷◌, codes}
 use Rattle.std.specs.Str.{bytes_eq}
 use Rattle.lens_edge.specs.Outcome.{Asked, Outcome}
-use Rattle.lens_figures.specs.Figures.{figures_reply}
+use Rattle.lens_summary.specs.Figures.{figures_reply}
 
 -- the words `summary --json` alone
 abbrev pub is_figures : List (List ℕ) → Bool

@@ -4,15 +4,17 @@ ghost use Rattle.lens_edge.specs.Outcome.{reply_of};
 ghost use Rattle.lens_json.specs.Parts.{part_of, what_of};
 ghost use Rattle.lens_terms.specs.Terms.{shown};
 ghost use Rattle.trace_lines.specs.Reads.{seen};
-ghost use Rattle.lens_figures.specs.Figures as spec;
+ghost use Rattle.lens_summary.specs.Figures as spec;
 
-use crate::leaders::{header_members, span_members, terms_in};
-use crate::lines::objects_in;
-use crate::totals::totals_in;
+use crate::figures::leaders::{header_members, span_members, terms_in};
+use crate::figures::lines::objects_in;
+use crate::figures::totals::totals_in;
+use crate::subject::Subject;
+use crate::summary::premise_word;
+use crate::together::beats_of_two;
 use kube_base::NoMemory;
 use lens_edge::{Answer, Verdict};
 use lens_json::{Object, Part, What, add_parts};
-use lens_summary::{Subject, beats_of_two, premise_word};
 use lens_terms::{Term, leaderless, terms_of};
 use std::alloc::Global;
 use trace_lines::{Header, Line};
@@ -40,7 +42,7 @@ pub(crate) fn tell(
 }
 
 /// The members of that object.
-#[tactic(auto, using(lens_summary::proofs::StepLaws::leaderless_shown))]
+#[tactic(auto, using(crate::proofs::StepLaws::leaderless_shown))]
 fn parts<'a>(
     alloc: Global,
     header: Header,

@@ -3,12 +3,13 @@ ghost use Rattle.std.specs.Prelude.{◌≡◌, ◌++◌, IfOk, OnOk, map};
 ghost use Rattle.lens_json.specs.Members.{named};
 ghost use Rattle.lens_json.specs.Parts.{members_in};
 ghost use Rattle.trace_lines.specs.Reads.{seen};
-ghost use Rattle.lens_figures.specs.Totals as spec;
+ghost use Rattle.lens_summary.specs.FigureTotals as spec;
 
-use crate::objects::add_object;
+use crate::figures::objects::add_object;
+use crate::outcome::Outcome;
+use crate::totals::{count, kinds, outcomes};
 use kube_base::NoMemory;
 use lens_json::{Member, Object};
-use lens_summary::{Outcome, count, kinds, outcomes};
 use std::alloc::Global;
 use trace_lines::Line;
 
@@ -31,7 +32,7 @@ pub(crate) fn totals_in<'a>(
 }
 
 /// Adds the object of a kind, where there are lines of it.
-#[tactic(auto, unfolding(crate::specs::Totals::kind_objects))]
+#[tactic(auto, unfolding(crate::specs::FigureTotals::kind_objects))]
 fn add_kind<'a>(
     objects: &mut Vec<Object<'a>>,
     alloc: Global,
