@@ -63,7 +63,7 @@ pub fn run<S: Source, K: Sink>(
         Some(Command::MarginJson) => lens_room::run(alloc, words, source, sink),
         Some(Command::Flags) => lens_flags::run(alloc, words, sink),
         Some(Command::Leaders) => lens_trace::run(alloc, words, source, sink),
-        Some(Command::LeadersJson) => lens_leaders::run(alloc, words, source, sink),
+        Some(Command::LeadersJson) => lens_trace::leaders_json::run(alloc, words, source, sink),
         Some(Command::Summary) => lens_summary::run(alloc, words, source, sink),
         Some(Command::SummaryJson) => lens_summary::figures::run(alloc, words, source, sink),
         Some(Command::Explain) => lens_explain::run(alloc, words, source, sink),

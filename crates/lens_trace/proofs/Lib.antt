@@ -5,3 +5,4 @@ pub mod ReplyLaws
 pub mod AuditTerms
 pub mod AgreeLaws
 pub mod SpanLaws
+pub mod OverlapLaws

@@ -5,3 +5,5 @@ pub mod Read
 pub mod Traces
 pub mod Leaders
 pub mod Replies
+pub mod LeadersJson
+pub mod LeadersJsonReplies

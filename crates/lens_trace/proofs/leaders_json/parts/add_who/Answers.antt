@@ -1,9 +1,9 @@
 use Rattle.std.proofs.Common.{[], ◌∷◌, ◌++◌, codes, map, Some, None, sym, ap, ◌∙◌, append-nil}
 use Rattle.std.proofs.lemmas.Result.{on_ok_weaker}
 use Rattle.lens_json.specs.Members.{named}
-use Rattle.lens_leaders.specs.Leaders.{nat}
-use Rattle.lens_leaders.proofs.ShownLaws.{who-told}
-use Rattle.lens_leaders.proofs.parts.add_who.Goals as goal
+use Rattle.lens_trace.specs.LeadersJson.{nat}
+use Rattle.lens_trace.proofs.OverlapLaws.{who-told}
+use Rattle.lens_trace.proofs.leaders_json.parts.add_who.Goals as goal
 
 pub returns-in-Some : goal.returns-in-Some
 returns-in-Some c =

@@ -2,14 +2,14 @@
 ghost use Rattle.std.specs.Prelude.{◌≡◌, ◌⊎◌, ℕ, false, List, [], Some, IfOk, map, string_bytes};
 ghost use Rattle.byte_edge.specs.Bytes.{Rose};
 ghost use Rattle.lens_edge.specs.Outcome.{Ends, EndsAs, Unread, usage};
-ghost use Rattle.lens_leaders.specs.Replies.{IsOutcome, is_leaders};
-ghost use Rattle.lens_leaders.specs.Leaders as spec;
+ghost use Rattle.lens_trace.specs.LeadersJsonReplies.{IsOutcome, is_leaders};
+ghost use Rattle.lens_trace.specs.LeadersJson as spec;
 
-use crate::answering::tell;
+use crate::leaders_json::answering::tell;
 use byte_edge::{Sink, Source};
 use kube_base::NoMemory;
 use lens_edge::{Answer, Question, Status, Verdict, ask_if};
-use lens_trace::{Telling, answer_on};
+use crate::{Telling, answer_on};
 use std::alloc::Global;
 use trace_lines::{Header, Line};
 

@@ -1,7 +1,7 @@
 use Rattle.std.proofs.Common.{◌≡◌, ◌++◌, map, drop}
 use Rattle.lens_json.specs.Parts.{members_in}
-use Rattle.lens_leaders.specs.Leaders.{span_members}
-use Rattle.lens_leaders.proofs.parts.spans_in.Given as goal
+use Rattle.lens_trace.specs.LeadersJson.{span_members}
+use Rattle.lens_trace.proofs.leaders_json.parts.spans_in.Given as goal
 
 -- the objects so far and those of the rest
 abbrev pub invariant-loop-span : goal.invariant-loop-span

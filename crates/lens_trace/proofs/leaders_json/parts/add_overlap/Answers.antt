@@ -1,8 +1,8 @@
 use Rattle.std.proofs.Common.{[], ◌∷◌, ◌++◌, map, Some, None, sym, ap, ◌∙◌, append-nil}
 use Rattle.std.proofs.lemmas.Result.{on_ok_weaker}
 use Rattle.lens_json.specs.Members.{named}
-use Rattle.lens_leaders.proofs.ShownLaws.{overlap-told}
-use Rattle.lens_leaders.proofs.parts.add_overlap.Goals as goal
+use Rattle.lens_trace.proofs.OverlapLaws.{overlap-told}
+use Rattle.lens_trace.proofs.leaders_json.parts.add_overlap.Goals as goal
 
 pub returns-in-Some : goal.returns-in-Some
 returns-in-Some c =

@@ -4,9 +4,9 @@ ghost use Rattle.lens_edge.specs.Outcome.{reply_of};
 ghost use Rattle.lens_json.specs.Parts.{part_of};
 ghost use Rattle.lens_terms.specs.Terms.{shown};
 ghost use Rattle.trace_lines.specs.Reads.{seen};
-ghost use Rattle.lens_leaders.specs.Leaders as spec;
+ghost use Rattle.lens_trace.specs.LeadersJson as spec;
 
-use crate::parts::{overlap_in, spans_in, terms_in};
+use crate::leaders_json::parts::{overlap_in, spans_in, terms_in};
 use kube_base::NoMemory;
 use lens_edge::{Answer, Verdict};
 use lens_json::{Part, What, add_parts};
@@ -16,7 +16,7 @@ use trace_lines::{Header, Line};
 use trace_writer::add;
 
 /// The object on a trace, in which two may lead at once from a line on.
-#[tactic(auto, unfolding(crate::specs::Leaders::leaders_json))]
+#[tactic(auto, unfolding(crate::specs::LeadersJson::leaders_json))]
 pub(crate) fn tell(
     alloc: Global,
     header: Header,
@@ -38,7 +38,7 @@ pub(crate) fn tell(
 }
 
 /// The members of that object.
-#[tactic(auto, using(crate::proofs::ShownLaws::leaderless_shown))]
+#[tactic(auto, using(crate::proofs::OverlapLaws::leaderless_shown))]
 fn parts<'a>(
     alloc: Global,
     stop: u32,

@@ -2,7 +2,7 @@
 use Rattle.std.specs.Prelude.{◌≡◌, ℕ, ◌&&◌, Bool, false, List, [], ◌∷◌, codes}
 use Rattle.std.specs.Str.{bytes_eq}
 use Rattle.lens_edge.specs.Outcome.{Asked, Outcome}
-use Rattle.lens_leaders.specs.Leaders.{leaders_reply}
+use Rattle.lens_trace.specs.LeadersJson.{leaders_reply}
 
 -- the words `leaders --json` alone
 abbrev pub is_leaders : List (List ℕ) → Bool

@@ -3,7 +3,7 @@ ghost use Rattle.std.specs.Prelude.{◌≡◌, ◌++◌, ◌∷◌, [], IfOk, On
 ghost use Rattle.lens_json.specs.Members.{named};
 ghost use Rattle.lens_json.specs.Parts.{members_in, what_of};
 ghost use Rattle.lens_terms.specs.Terms.{shown};
-ghost use Rattle.lens_leaders.specs.Leaders as spec;
+ghost use Rattle.lens_trace.specs.LeadersJson as spec;
 
 use kube_base::NoMemory;
 use lens_json::{Member, Object, Value, What};
