@@ -8,7 +8,7 @@ use Rattle.lens_flags.specs.Flags.{behind}
 use Rattle.lens_flags.specs.Replies.{answer_to}
 use Rattle.lens_lateness.specs.Replies as lateness
 use Rattle.lens_trace.specs.LeadersJsonReplies as leaders
-use Rattle.lens_lines.specs.Replies as lines
+use Rattle.lens_trace.specs.LineReplies as lines
 use Rattle.lens_margin.specs.Replies as margin
 use Rattle.lens_room.specs.Replies as room
 use Rattle.lens_summary.specs.Replies as summary

@@ -68,7 +68,7 @@ pub fn run<S: Source, K: Sink>(
         Some(Command::SummaryJson) => lens_summary::figures::run(alloc, words, source, sink),
         Some(Command::Explain) => lens_explain::run(alloc, words, source, sink),
         Some(Command::Lateness) => lens_lateness::run(alloc, words, source, sink),
-        Some(Command::Lines) => lens_lines::run(alloc, words, source, sink),
+        Some(Command::Lines) => lens_trace::lines::run(alloc, words, source, sink),
         None => tell_usage(sink),
     }
 }

@@ -6,3 +6,7 @@ pub mod AuditTerms
 pub mod AgreeLaws
 pub mod SpanLaws
 pub mod OverlapLaws
+pub mod MemberLaws
+pub mod ToldLaws
+pub mod OrderLaws
+pub mod LineLaws

@@ -7,3 +7,7 @@ pub mod Leaders
 pub mod Replies
 pub mod LeadersJson
 pub mod LeadersJsonReplies
+pub mod LineMembers
+pub mod Lines
+pub mod LineLaws
+pub mod LineReplies

@@ -5,11 +5,11 @@ ghost use Rattle.lens_edge.specs.Outcome.{Ends, EndsAs, Unread, usage};
 ghost use Rattle.lens_trace.specs.LeadersJsonReplies.{IsOutcome, is_leaders};
 ghost use Rattle.lens_trace.specs.LeadersJson as spec;
 
+use crate::answering::{Telling, answer_on};
 use crate::leaders_json::answering::tell;
 use byte_edge::{Sink, Source};
 use kube_base::NoMemory;
 use lens_edge::{Answer, Question, Status, Verdict, ask_if};
-use crate::{Telling, answer_on};
 use std::alloc::Global;
 use trace_lines::{Header, Line};
 
