@@ -6,9 +6,11 @@ ghost use Rattle.lens_explain.specs.Replies.{IsExplained, IsFormed, IsRefused};
 
 use crate::lines::{add_counts, add_warnings, add_why};
 use crate::object::{add_formed, add_refused};
+use crate::place::Shown;
+use crate::saying::why;
+use crate::twice::{Warning, warnings};
 use kube_base::NoMemory;
 use lens_edge::{Answer, Verdict, refuse};
-use lens_why::{Shown, Warning, warnings, why};
 use manifest_json::{ReadFault, Refusal};
 use script_reader::{Document, read_document};
 use std::alloc::Global;

@@ -2,12 +2,13 @@
 ghost use Rattle.std.specs.Prelude.{◌≡◌, ◌++◌, List, IfOk, OnOk, map};
 ghost use Rattle.lens_json.specs.Members.{data_of, named, nat};
 ghost use Rattle.lens_json.specs.Parts.{members_in, part_of};
-ghost use Rattle.lens_why.specs.declared.twice.Warning.{Warning};
+ghost use Rattle.lens_explain.specs.declared.twice.Warning.{Warning};
 ghost use Rattle.lens_explain.specs.Json as spec;
 
+use crate::place::Shown;
+use crate::twice::Warning;
 use kube_base::NoMemory;
 use lens_json::{Member, Object, Part, Value, What, add_object, add_parts};
-use lens_why::{Shown, Warning};
 use manifest_json::Refusal;
 use script_reader::Document;
 use std::alloc::Global;

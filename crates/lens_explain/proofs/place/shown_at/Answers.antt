@@ -1,7 +1,7 @@
 use Rattle.std.proofs.Common.{refl}
-use Rattle.lens_why.specs.Places.{Place}
-use Rattle.lens_why.proofs.Parts.{parts}
-use Rattle.lens_why.proofs.place.shown_at.Goals as goal
+use Rattle.lens_explain.specs.Places.{Place}
+use Rattle.lens_explain.proofs.Parts.{parts}
+use Rattle.lens_explain.proofs.place.shown_at.Goals as goal
 
 pub returns : goal.returns
 returns c =

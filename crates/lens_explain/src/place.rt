@@ -1,7 +1,7 @@
 // Places in a text, as a person counts them.
 ghost use Rattle.std.specs.Prelude.{◌≡◌, ◌==◌, ◌++◌, ◌≤◌, ◌<◌, ℕ, List, IfSome, OnOk, length, count_by, position, reverse};
 ghost use Rattle.std.specs.Option.{unwrap_or};
-ghost use Rattle.lens_why.specs.Places.{IsShown, column_of, line_of, shown_text};
+ghost use Rattle.lens_explain.specs.Places.{IsShown, column_of, line_of, shown_text};
 
 use crate::keys::depth_behind;
 use crate::scan::{Mark, Scan};
@@ -14,7 +14,7 @@ const MOST: usize = 60;
 
 /// What is shown of a place of a text: its line and column, both counted from 1, columns in bytes, and a beginning of what stands there.
 #[derive(Clone, Copy)]
-pub struct Shown<'t> {
+pub(crate) struct Shown<'t> {
     pub line: u64,
     pub column: u64,
     pub text: &'t [u8],
@@ -50,7 +50,7 @@ pub(crate) fn shown_at(input: &[u8], place: usize) -> Shown<'_>
 
 /// Adds the line on a place.
 #[tactic(auto, unfolding(crate::specs::Places::shown_text))]
-pub fn add_shown(text: &mut Vec<u8>, shown: Shown<'_>) -> Result<(), NoMemory>
+pub(crate) fn add_shown(text: &mut Vec<u8>, shown: Shown<'_>) -> Result<(), NoMemory>
     ensures { OnOk result (text.new.items ≡ text.old.items ++ shown_text shown.entry) }
 {
     add(text, b"line ")?;

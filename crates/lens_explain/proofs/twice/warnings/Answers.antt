@@ -1,8 +1,8 @@
 use Rattle.std.proofs.Common.{All, sym, subst}
 use Rattle.std.proofs.lemmas.List.Elements.{All-push}
-use Rattle.lens_why.specs.declared.twice.Warning.{Warning}
-use Rattle.lens_why.specs.Warnings.{IsWarning}
-use Rattle.lens_why.proofs.twice.warnings.Goals as goal
+use Rattle.lens_explain.specs.declared.twice.Warning.{Warning}
+use Rattle.lens_explain.specs.Warnings.{IsWarning}
+use Rattle.lens_explain.proofs.twice.warnings.Goals as goal
 
 pub loop-twice-preserved : goal.loop-twice-preserved
 loop-twice-preserved c =

@@ -1,6 +1,6 @@
 // What is said about a refusal.
 ghost use Rattle.std.specs.Prelude.{◌≤◌, IfOk, length};
-ghost use Rattle.lens_why.specs.Places.{IsShown};
+ghost use Rattle.lens_explain.specs.Places.{IsShown};
 
 use crate::broken::{hint, stop_of};
 use crate::keys::key_beside;
@@ -23,7 +23,7 @@ const UNKNOWN_KEY: u32 = 3;
 
 /// What is said about a refusal.
 #[derive(Drop)]
-pub struct Reason<'t> {
+pub(crate) struct Reason<'t> {
     /// What is shown of a place of the input.
     pub shown: Shown<'t>,
     /// Further lines, a sentence on the code at least.
@@ -31,7 +31,7 @@ pub struct Reason<'t> {
 }
 
 /// What is said about the refusal of an input by this code and path.
-pub fn why<'t>(
+pub(crate) fn why<'t>(
     alloc: Global,
     input: &'t [u8],
     code: u32,

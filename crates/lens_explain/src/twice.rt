@@ -1,6 +1,6 @@
 // Keys that are there twice in one object.
 ghost use Rattle.std.specs.Prelude.{◌≡◌, ◌++◌, All, IfOk, OnOk};
-ghost use Rattle.lens_why.specs.Warnings.{IsWarning, warning_text};
+ghost use Rattle.lens_explain.specs.Warnings.{IsWarning, warning_text};
 
 use crate::place::{Shown, add_shown, shown_at};
 use crate::scan::{Mark, Scan};
@@ -24,13 +24,13 @@ type Keys<'t> = BTreeMap<&'t [u8], usize>;
 
 /// A warning of a key that is there twice in one object: both its places.
 #[derive(Drop)]
-pub struct Warning<'t> {
+pub(crate) struct Warning<'t> {
     pub first: Shown<'t>,
     pub again: Shown<'t>,
 }
 
 /// A warning of each key that is there twice in one object of a JSON text; of the first twenty of them.
-pub fn warnings(alloc: Global, input: &[u8]) -> Result<Vec<Warning<'_>>, NoMemory>
+pub(crate) fn warnings(alloc: Global, input: &[u8]) -> Result<Vec<Warning<'_>>, NoMemory>
     ensures { IfOk result (λ warnings. All (IsWarning input.now) warnings.items) }
 {
     let found = twice_in(alloc, input)?;
@@ -46,7 +46,7 @@ pub fn warnings(alloc: Global, input: &[u8]) -> Result<Vec<Warning<'_>>, NoMemor
 
 /// Adds a warning.
 #[tactic(auto, unfolding(crate::specs::Warnings::warning_text))]
-pub fn add_warning(text: &mut Vec<u8>, warning: &Warning<'_>) -> Result<(), NoMemory>
+pub(crate) fn add_warning(text: &mut Vec<u8>, warning: &Warning<'_>) -> Result<(), NoMemory>
     ensures { OnOk result (text.new.items ≡ text.old.items ++ warning_text warning.now) }
 {
     add(

@@ -1,7 +1,7 @@
 -- A text in three parts.
 use Rattle.std.proofs.Common.{◌≡◌, ℕ, List, ◌++◌, take, drop, sym, ap, ◌∙◌, append_assoc, take-append-drop}
-use Rattle.lens_why.specs.declared.place.Shown.{Shown}
-use Rattle.lens_why.specs.Places.{IsShown, Place}
+use Rattle.lens_explain.specs.declared.place.Shown.{Shown}
+use Rattle.lens_explain.specs.Places.{IsShown, Place}
 
 pub parts : (input back front shown rest : List ℕ) (n m : ℕ) → front ≡ take n input → back ≡ drop n input → shown ≡ take m back → rest ≡ drop m back → front ++ (shown ++ rest) ≡ input
 parts input back front shown rest n m f b s r = (λ i. f i ++ (s i ++ r i)) ∙ ap (λ l. take n input ++ l) (take-append-drop m back ∙ b) ∙ take-append-drop n input

@@ -1,7 +1,7 @@
 use Rattle.std.proofs.Common.{refl}
-use Rattle.lens_why.specs.declared.place.Shown.{Shown}
-use Rattle.lens_why.proofs.Parts.{shortened}
-use Rattle.lens_why.proofs.place.Shown.in_utf8.Goals as goal
+use Rattle.lens_explain.specs.declared.place.Shown.{Shown}
+use Rattle.lens_explain.proofs.Parts.{shortened}
+use Rattle.lens_explain.proofs.place.Shown.in_utf8.Goals as goal
 
 pub returns : goal.returns
 returns c input there =

@@ -1,7 +1,7 @@
 -- Warnings of keys that are there twice.
 use Rattle.std.specs.Prelude.{ℕ, List, ◌++◌, codes}
-use Rattle.lens_why.specs.declared.twice.Warning.{Warning}
-use Rattle.lens_why.specs.Places.{IsShown, shown_text}
+use Rattle.lens_explain.specs.declared.twice.Warning.{Warning}
+use Rattle.lens_explain.specs.Places.{IsShown, shown_text}
 
 -- both places of a key are places of the input
 abbrev pub IsWarning : List ℕ → Warning → Type 0

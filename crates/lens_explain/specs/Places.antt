@@ -1,7 +1,7 @@
 -- Places in a text, as a person counts them.
 use Rattle.std.specs.Prelude.{◌≡◌, ℕ, ◌+◌, ◌==◌, List, ◌++◌, length, reverse, position, count_by, codes, decimal}
 use Rattle.std.specs.Option.{unwrap_or}
-use Rattle.lens_why.specs.declared.place.Shown.{Shown}
+use Rattle.lens_explain.specs.declared.place.Shown.{Shown}
 
 -- the line in which these bytes end: how many line feeds they have, and one more
 abbrev pub line_of : List ℕ → ℕ
