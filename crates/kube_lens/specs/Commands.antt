@@ -1,8 +1,8 @@
 -- The words that are commands.
 use Rattle.std.specs.Prelude.{ℕ, List, [], ◌∷◌, codes, Option, Some, None, if◌then◌else◌}
 use Rattle.std.specs.Str.{bytes_eq}
-use Rattle.lens_top.specs.declared.command.Command.{Command}
-use Rattle.lens_top.specs.declared.command.Command.TheVariants.{Help, Margin, MarginJson, Flags, Leaders, LeadersJson, Summary, SummaryJson, Lateness, Lines, Explain}
+use Rattle.kube_lens.specs.declared.command.Command.{Command}
+use Rattle.kube_lens.specs.declared.command.Command.TheVariants.{Help, Margin, MarginJson, Flags, Leaders, LeadersJson, Summary, SummaryJson, Lateness, Lines, Explain}
 
 abbrev pub command_by : List ℕ → Option Command
 command_by word =

@@ -3,11 +3,11 @@ use Rattle.lens_edge.specs.Outcome.{Ends, Reply, Unread, usage}
 use Rattle.lens_edge.specs.declared.status.Verdict.TheVariants.{Done}
 use Rattle.lens_flags.specs.Flags.{behind}
 use Rattle.lens_flags.specs.Replies.{answer_to}
-use Rattle.lens_top.specs.Commands.{command_of}
-use Rattle.lens_top.specs.Outcome.{help}
-use Rattle.lens_top.specs.declared.command.Command.TheVariants.{Help, Margin, Flags}
-use Rattle.lens_top.proofs.Commanded.{ends-commanded, ends-unread}
-use Rattle.lens_top.proofs.running.run.Goals as goal
+use Rattle.kube_lens.specs.Commands.{command_of}
+use Rattle.kube_lens.specs.Outcome.{help}
+use Rattle.kube_lens.specs.declared.command.Command.TheVariants.{Help, Margin, Flags}
+use Rattle.kube_lens.proofs.Commanded.{ends-commanded, ends-unread}
+use Rattle.kube_lens.proofs.running.run.Goals as goal
 
 pub returns-in-Some-Help-clause-text : goal.returns-in-Some-Help-clause-text
 returns-in-Some-Help-clause-text g c bytes told =

@@ -13,9 +13,9 @@ use Rattle.lens_margin.specs.Replies as margin
 use Rattle.lens_room.specs.Replies as room
 use Rattle.lens_summary.specs.Replies as summary
 use Rattle.lens_trace.specs.Replies as trace
-use Rattle.lens_top.specs.declared.command.Command.{Command}
-use Rattle.lens_top.specs.declared.command.Command.TheVariants.{Help, Margin, MarginJson, Flags, Leaders, LeadersJson, Summary, SummaryJson, Lateness, Lines, Explain}
-use Rattle.lens_top.specs.Commands.{command_of}
+use Rattle.kube_lens.specs.declared.command.Command.{Command}
+use Rattle.kube_lens.specs.declared.command.Command.TheVariants.{Help, Margin, MarginJson, Flags, Leaders, LeadersJson, Summary, SummaryJson, Lateness, Lines, Explain}
+use Rattle.kube_lens.specs.Commands.{command_of}
 
 -- what `--help` tells
 abbrev pub help : Reply

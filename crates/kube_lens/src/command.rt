@@ -1,6 +1,6 @@
 // The words that are commands.
 ghost use Rattle.std.specs.Prelude.{◌≡◌, map, string_bytes};
-ghost use Rattle.lens_top.specs.Commands.{command_of, command_by, with_flags, with_more};
+ghost use Rattle.kube_lens.specs.Commands.{command_of, command_by, with_flags, with_more};
 
 /// What is asked, by the first word.
 #[derive(Clone, Copy, Debug, PartialEq, Eq)]

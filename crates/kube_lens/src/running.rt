@@ -9,8 +9,8 @@ ghost use Rattle.script_reader.specs.Walk.{document_walk};
 ghost use Rattle.lens_flags.specs.declared.flags.Flags.{Flags};
 ghost use Rattle.lens_flags.specs.Described.{described};
 ghost use Rattle.lens_flags.specs.Flags.{behind, flags_of};
-ghost use Rattle.lens_top.specs.Commands.{command_of};
-ghost use Rattle.lens_top.specs.Outcome.{IsOutcome, help};
+ghost use Rattle.kube_lens.specs.Commands.{command_of};
+ghost use Rattle.kube_lens.specs.Outcome.{IsOutcome, help};
 
 use crate::command::{Command, command_in};
 use byte_edge::{Sink, Source};

@@ -3,9 +3,9 @@ use Rattle.std.proofs.Common.{◌≡◌, ℕ, List, Option, Some, sym, subst}
 use Rattle.byte_edge.specs.Bytes.{Taken}
 use Rattle.lens_edge.specs.declared.status.Status.{Status}
 use Rattle.lens_edge.specs.Outcome.{Ends, Reply, Unread}
-use Rattle.lens_top.specs.declared.command.Command.{Command}
-use Rattle.lens_top.specs.Commands.{command_of}
-use Rattle.lens_top.specs.Outcome.{IsOutcome, IsOutcomeOf}
+use Rattle.kube_lens.specs.declared.command.Command.{Command}
+use Rattle.kube_lens.specs.Commands.{command_of}
+use Rattle.kube_lens.specs.Outcome.{IsOutcome, IsOutcomeOf}
 
 -- a run that ends as this command ends as by its words
 pub ends-commanded : (words : List (List ℕ)) (bytes : List ℕ) (command : Option Command) (left : Option (List ℕ)) (before after : Taken) (s : Status) → command ≡ command_of words
