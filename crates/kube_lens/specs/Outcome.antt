@@ -4,13 +4,13 @@ use Rattle.lens_edge.specs.declared.status.Verdict.TheVariants.{Done}
 use Rattle.lens_edge.specs.Outcome.{Outcome, Reply, Unread, usage}
 use Rattle.lens_explain.specs.Replies as explain
 use Rattle.lens_summary.specs.FigureReplies as figures
-use Rattle.lens_flags.specs.Flags.{behind}
-use Rattle.lens_flags.specs.Replies.{answer_to}
+use Rattle.lens_room.specs.Flags.{behind}
+use Rattle.lens_room.specs.FlagReplies.{answer_to}
 use Rattle.lens_lateness.specs.Replies as lateness
 use Rattle.lens_trace.specs.LeadersJsonReplies as leaders
 use Rattle.lens_trace.specs.LineReplies as lines
-use Rattle.lens_margin.specs.Replies as margin
-use Rattle.lens_room.specs.Replies as room
+use Rattle.lens_room.specs.Replies as margin
+use Rattle.lens_room.specs.MarginJsonReplies as room
 use Rattle.lens_summary.specs.Replies as summary
 use Rattle.lens_trace.specs.Replies as trace
 use Rattle.kube_lens.specs.declared.command.Command.{Command}

@@ -6,9 +6,9 @@ ghost use Rattle.lens_edge.specs.Outcome.{Ends, EndsAs, IsDone, Unread, usage};
 ghost use Rattle.script_reader.specs.declared.document.Document.{Document};
 ghost use Rattle.script_reader.specs.Documents.{doc_of};
 ghost use Rattle.script_reader.specs.Walk.{document_walk};
-ghost use Rattle.lens_flags.specs.declared.flags.Flags.{Flags};
-ghost use Rattle.lens_flags.specs.Described.{described};
-ghost use Rattle.lens_flags.specs.Flags.{behind, flags_of};
+ghost use Rattle.lens_room.specs.declared.by_flags.flags.Flags.{Flags};
+ghost use Rattle.lens_room.specs.Described.{described};
+ghost use Rattle.lens_room.specs.Flags.{behind, flags_of};
 ghost use Rattle.kube_lens.specs.Commands.{command_of};
 ghost use Rattle.kube_lens.specs.Outcome.{IsOutcome, help};
 
@@ -60,8 +60,8 @@ pub fn run<S: Source, K: Sink>(
     match command_in(words) {
         Some(Command::Help) => tell(sink, Verdict::Done, help()),
         Some(Command::Margin) => lens_margin::run(alloc, words, source, sink),
-        Some(Command::MarginJson) => lens_room::run(alloc, words, source, sink),
-        Some(Command::Flags) => lens_flags::run(alloc, words, sink),
+        Some(Command::MarginJson) => lens_room::margin_json::run(alloc, words, source, sink),
+        Some(Command::Flags) => lens_room::by_flags::run(alloc, words, sink),
         Some(Command::Leaders) => lens_trace::run(alloc, words, source, sink),
         Some(Command::LeadersJson) => lens_trace::leaders_json::run(alloc, words, source, sink),
         Some(Command::Summary) => lens_summary::run(alloc, words, source, sink),
