@@ -3,7 +3,7 @@ ghost use Rattle.std.specs.Prelude.{◌≡◌, map, string_bytes};
 ghost use Rattle.kube_lens.specs.Commands.{command_of, command_by, with_flags, with_more};
 
 /// What is asked, by the first word.
-#[derive(Clone, Copy, Debug, PartialEq, Eq)]
+#[derive(Clone, Copy)]
 pub enum Command {
     /// The commands are told.
     Help,

@@ -18,7 +18,7 @@ pub(crate) enum Mark {
 }
 
 /// Where the next byte stands.
-#[derive(Clone, Copy, PartialEq, Eq)]
+#[derive(Clone, Copy)]
 enum Side {
     Outside,
     Text,

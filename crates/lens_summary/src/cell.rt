@@ -6,7 +6,7 @@ use kube_base::NoMemory;
 use trace_writer::{add, add_number};
 
 /// What stands in a cell.
-#[derive(Clone, Copy, Debug)]
+#[derive(Clone, Copy)]
 pub enum Cell<'a> {
     /// `-`: there is nothing.
     Missing,
