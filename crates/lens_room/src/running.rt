@@ -14,7 +14,7 @@ use crate::lines::add_lines;
 use byte_edge::{Sink, Source};
 use document_laws::documents_are_lawful;
 use kube_base::NoMemory;
-use lens_edge::{Answer, Question, Status, Verdict, ask_if, refuse};
+use lens_edge::{Answer, Question, Status, Verdict, ask_if, refuse_as};
 use manifest_json::ReadFault;
 use script_reader::{Document, lease_premise, read_document};
 use std::alloc::Global;
@@ -81,7 +81,7 @@ fn answer_to(alloc: Global, input: &[u8]) -> Result<Answer, NoMemory>
     documents_are_lawful();
     match read_document(alloc, input) {
         Ok(document) => margins_of(alloc, &document),
-        Err(ReadFault::Refused(refusal)) => refuse(alloc, refusal.code, refusal.path.as_slice()),
+        Err(ReadFault::Refused(refusal)) => refuse_as(alloc, &refusal),
         Err(ReadFault::NoMemory) => Err(NoMemory),
     }
 }

@@ -11,7 +11,7 @@ ghost use Rattle.lens_room.specs.MarginJson.{found, room, room_members};
 use crate::margin_json::parts::controllers_in;
 use document_laws::documents_are_lawful;
 use kube_base::NoMemory;
-use lens_edge::{Answer, Verdict, refuse};
+use lens_edge::{Answer, Verdict, refuse_as};
 use lens_json::{Part, Value, What, add_parts};
 use manifest_json::ReadFault;
 use script_reader::{Document, lease_premise, read_document};
@@ -25,7 +25,7 @@ pub(crate) fn room_in(alloc: Global, input: &[u8]) -> Result<Answer, NoMemory>
     documents_are_lawful();
     match read_document(alloc, input) {
         Ok(document) => tell(alloc, &document),
-        Err(ReadFault::Refused(refusal)) => refuse(alloc, refusal.code, refusal.path.as_slice()),
+        Err(ReadFault::Refused(refusal)) => refuse_as(alloc, &refusal),
         Err(ReadFault::NoMemory) => Err(NoMemory),
     }
 }

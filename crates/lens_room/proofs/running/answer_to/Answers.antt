@@ -1,5 +1,5 @@
-use Rattle.std.proofs.Common.{◌≡◌, IfOk, sym, ap, ◌∙◌, subst}
-use Rattle.lens_edge.specs.Outcome.{reply_of, refusal}
+use Rattle.std.proofs.Common.{◌≡◌, IfOk, sym, ap, subst}
+use Rattle.lens_edge.specs.Outcome.{reply_of}
 use Rattle.lens_room.specs.Replies.{found}
 use Rattle.lens_room.proofs.running.answer_to.Goals as goal
 
@@ -15,5 +15,4 @@ returns-in-Ok c = subst (λ w. IfOk c.margins_of.result (λ a. reply_of a ≡ fo
 pub returns-in-Err-Refused : goal.returns-in-Err-Refused
 returns-in-Err-Refused c =
     let told = rw c.in-Err-Refused.field-0-is at c.in-Err-Refused.ensures in
-    let is = ap (refusal c.in-Err-Refused.refusal.code) c.as_slice.ensures ∙ sym (ap found told) in
-    subst (λ r. IfOk c.refuse.result (λ a. reply_of a ≡ r)) is c.refuse.ensures
+    subst (λ r. IfOk c.refuse_as.result (λ a. reply_of a ≡ r)) (sym (ap found told)) c.refuse_as.ensures
