@@ -30,5 +30,10 @@ pub(crate) fn depth_behind(depth: usize, mark: Mark) -> usize {
 }
 
 fn is_among(text: &[u8], known: &[&str]) -> bool {
-    known.iter().any(|key| key.as_bytes() == text)
+    for key in known {
+        if key.as_bytes() == text {
+            return true;
+        }
+    }
+    false
 }

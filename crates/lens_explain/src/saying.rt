@@ -10,7 +10,7 @@ use crate::place::{Shown, shown_at};
 use crate::rules::{add_order, add_rule};
 use crate::scan::Span;
 use crate::sentence::sentence;
-use crate::walk::{follow, last_step, text_at};
+use crate::walk::{follow, last_step, step_at, text_at};
 use kube_base::NoMemory;
 use std::alloc::Global;
 use trace_writer::add;
@@ -102,10 +102,7 @@ fn kind_at<'t>(alloc: Global, input: &'t [u8], path: &[u8]) -> Result<&'t [u8], 
 
 /// The first key of a path.
 fn part_of(path: &[u8]) -> &[u8] {
-    match path.split(|byte| *byte == b'/').nth(1) {
-        Some(part) => part,
-        None => b"",
-    }
+    step_at(path, 1)
 }
 
 /// The lines behind that of the place.

@@ -77,7 +77,13 @@ fn steps_of(path: &[u8]) -> usize {
 }
 
 fn slashes_in(text: &[u8]) -> usize {
-    text.iter().filter(|byte| **byte == b'/').count()
+    let mut slashes = 0_usize;
+    for byte in text {
+        if *byte == b'/' {
+            slashes = slashes.saturating_add(1);
+        }
+    }
+    slashes
 }
 
 /// Whether a key that has slashes itself, as that of a label, is the last one of a path, and leads out of this level.
@@ -87,7 +93,7 @@ fn ends_path(path: &[u8], level: usize, key: &[u8]) -> bool {
 }
 
 /// The key or place of a path that leads out of this level, counted from 1; nothing where there is none.
-fn step_at(path: &[u8], level: usize) -> &[u8] {
+pub(crate) fn step_at(path: &[u8], level: usize) -> &[u8] {
     match path.split(|byte| *byte == b'/').nth(level) {
         Some(step) => step,
         None => b"",

@@ -5,11 +5,11 @@ ghost use Rattle.serde_json.specs.Written.{compact_text};
 ghost use Rattle.lens_json.specs.Members.{object_of};
 ghost use Rattle.lens_json.specs.Parts.{list_of, members_in, part_of, what_of};
 
-use crate::part::{Object, Part, What};
-use kube_base::NoMemory;
 use crate::object::{add_comma, add_object};
+use crate::part::{Object, Part, What};
 use crate::quoting::add_quoted;
 use crate::value::add_value;
+use kube_base::NoMemory;
 use trace_writer::add;
 
 /// Adds the object of these members, in their order, on one line and without spaces.

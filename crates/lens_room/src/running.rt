@@ -96,12 +96,13 @@ fn margins_of(alloc: Global, document: &Document) -> Result<Answer, NoMemory>
     let mut text = Vec::new(alloc);
     add_lines(&mut text, document, safe)?;
     Ok(Answer {
-        verdict: verdict(safe),
+        verdict: verdict_by(safe),
         text,
     })
 }
 
-fn verdict(safe: bool) -> Verdict
+/// What a run comes to where all leases are long enough, or some aren't.
+pub(crate) fn verdict_by(safe: bool) -> Verdict
     ensures { result ≡ verdict_of safe }
 {
     if safe { Verdict::Safe } else { Verdict::Unsafe }

@@ -1,14 +1,12 @@
 -- The text of a table, one cell more.
 use Rattle.std.proofs.Common.{◌≡◌, ℕ, suc, ◌+◌, ◌-◌, ◌<◌, ◌≤◌, ◌==◌, Bool, List, [], ◌∷◌, ◌++◌, length, map, drop, get_or, codes, refl, sym, ap, ◌∙◌, arith, add-one, length-drop, append_assoc}
-use Rattle.std.proofs.Math.Seq.{drop-cons, drop-length}
+use Rattle.std.proofs.Math.Seq.{drop-length}
 use Rattle.std.proofs.lemmas.List.{length-map}
 use Rattle.std.proofs.lemmas.Bool.Decides.{nat_tests}
 use Rattle.lens_summary.specs.declared.cell.Cell.{Cell}
 use Rattle.lens_summary.specs.Cells.{cell_text}
 use Rattle.lens_summary.specs.Tables.{Texts, width, widths_from, filled, row_text}
-
-drop-more : {A : Type 0} (xs : List A) (n : ℕ) (d : A) → n < length xs → drop n xs ≡ get_or xs n d ∷ drop (n + 1) xs
-drop-more xs n d within = drop-cons xs n d within ∙ ap (λ k. get_or xs n d ∷ drop k xs) (sym (add-one n))
+use Rattle.lens_summary.proofs.StepLaws.{drop-more}
 
 row-cons : (widths : List ℕ) (column : ℕ) (cell : List ℕ) (more : Texts)
     → row_text widths column (cell ∷ more) ≡ filled (get_or widths column 0) (length more == 0) cell ++ row_text widths (column + 1) more

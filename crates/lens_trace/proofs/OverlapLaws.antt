@@ -4,8 +4,8 @@ use Rattle.std.specs.Option.{option_map}
 use Rattle.lens_terms.specs.declared.term.Term.{Term}
 use Rattle.lens_terms.specs.Spans.{leaderless}
 use Rattle.lens_terms.specs.Terms.{first, begins_at, crosses, shown}
-use Rattle.lens_json.specs.Members.{Named}
-use Rattle.lens_trace.specs.LeadersJson.{nat, text, beside, who, overlap_members}
+use Rattle.lens_json.specs.Members.{Named, nat, text}
+use Rattle.lens_trace.specs.LeadersJson.{beside, who, overlap_members}
 use Rattle.lens_trace.proofs.ShownLaws.{leaderless-shown, first-shown}
 
 pub leaderless_shown : (stop : ℕ) (ts : List (Term (Bor (List ℕ)))) → leaderless 0 stop (map shown ts) ≡ leaderless 0 stop ts

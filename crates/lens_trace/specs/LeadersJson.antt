@@ -1,11 +1,11 @@
 -- What `leaders --json` answers: one object of the terms, the spans and the overlap that `leaders` tells.
 use Rattle.std.specs.Prelude.{ℕ, ◌+◌, ◌++◌, List, [], ◌∷◌, codes, map, Option, Some, None}
-use Rattle.serde_json.specs.Data.{Data, null, number, unsigned, string}
+use Rattle.serde_json.specs.Data.{Data, null}
 use Rattle.serde_json.specs.Written.{compact_text}
 use Rattle.lens_edge.specs.Outcome.{Reply}
 use Rattle.lens_edge.specs.declared.status.Verdict.{Verdict}
 use Rattle.lens_edge.specs.declared.status.Verdict.TheVariants.{Safe, Unsafe}
-use Rattle.lens_json.specs.Members.{Named, object_of}
+use Rattle.lens_json.specs.Members.{Named, nat, text, object_of}
 use Rattle.lens_json.specs.Parts.{list_of}
 use Rattle.lens_terms.specs.declared.closing.Closing.{Closing}
 use Rattle.lens_terms.specs.declared.closing.Ending.{Ending}
@@ -19,12 +19,6 @@ use Rattle.trace_lines.specs.declared.header.Header.{Header}
 use Rattle.trace_lines.specs.declared.line.Line.{Line}
 
 -- ---- members
-
-abbrev pub nat : List ℕ → ℕ → Named
-nat name n = (name, number (unsigned n))
-
-abbrev pub text : List ℕ → List ℕ → Named
-text name t = (name, string t)
 
 abbrev pub ending_word : Ending → List ℕ
 ending_word End = codes "end"

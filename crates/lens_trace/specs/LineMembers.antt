@@ -1,7 +1,6 @@
 -- The members of a line's object, in the order of the line's words. docs/trace.md has the forms of lines.
 use Rattle.std.specs.Prelude.{ℕ, Bool, List, [], ◌∷◌, codes, if◌then◌else◌}
-use Rattle.serde_json.specs.Data.{number, unsigned, string}
-use Rattle.lens_json.specs.Members.{Named}
+use Rattle.lens_json.specs.Members.{Named, nat, text}
 use Rattle.trace_lines.specs.declared.header.Header.{Header}
 use Rattle.trace_lines.specs.declared.line.Answer.{Answer}
 use Rattle.trace_lines.specs.declared.line.Answer.TheVariants.{Done, Conflict, Absent, Exists}
@@ -12,12 +11,6 @@ use Rattle.trace_lines.specs.declared.line.Verb.{Verb}
 use Rattle.trace_lines.specs.declared.line.Verb.TheVariants.{Create, Update}
 
 -- ---- members
-
-abbrev pub nat : List ℕ → ℕ → Named
-nat name n = (name, number (unsigned n))
-
-abbrev pub text : List ℕ → List ℕ → Named
-text name t = (name, string t)
 
 -- `v=N`, `conflict v=N`, `absent` or `exists`
 abbrev pub answer_members : Answer → List Named

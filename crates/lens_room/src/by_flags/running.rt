@@ -3,7 +3,6 @@ ghost use Rattle.std.specs.Prelude.{◌≡◌, ◌≢◌, ◌++◌, ℕ, true, f
 ghost use Rattle.byte_edge.specs.Bytes.{Rose};
 ghost use Rattle.history.specs.Premise.{lease_premise};
 ghost use Rattle.lens_edge.specs.Outcome.{Ends, Unread, reply_of};
-ghost use Rattle.lens_room.specs.Replies.{verdict_of};
 ghost use Rattle.lens_room.specs.declared.by_flags.flags.Flags.{Flags};
 ghost use Rattle.lens_room.specs.Described.{described};
 ghost use Rattle.lens_room.specs.Flags.{behind, flags_of};
@@ -18,6 +17,7 @@ use crate::by_flags::lines::{add_settings, add_usage};
 use crate::by_flags::margin::is_safe;
 use crate::by_flags::object::add_json;
 use crate::by_flags::wrong::Wrong;
+use crate::running::verdict_by;
 use byte_edge::Sink;
 use kube_base::NoMemory;
 use lens_edge::{Answer, Status, Verdict, tell};
@@ -73,7 +73,7 @@ fn told(alloc: Global, flags: &Flags) -> Result<Answer, NoMemory>
     let mut text = Vec::new(alloc);
     add_told(&mut text, alloc, flags, safe)?;
     Ok(Answer {
-        verdict: verdict(safe),
+        verdict: verdict_by(safe),
         text,
     })
 }
@@ -89,12 +89,6 @@ fn add_told(text: &mut Vec<u8>, alloc: Global, flags: &Flags, safe: bool) -> Res
     } else {
         add_settings(text, alloc, flags, safe)
     }
-}
-
-fn verdict(safe: bool) -> Verdict
-    ensures { result ≡ verdict_of safe }
-{
-    if safe { Verdict::Safe } else { Verdict::Unsafe }
 }
 
 fn misused(alloc: Global, words: &[String], wrong: Wrong) -> Result<Answer, NoMemory>

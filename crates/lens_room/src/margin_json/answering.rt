@@ -1,7 +1,6 @@
 // The answer to a document.
 ghost use Rattle.std.specs.Prelude.{◌≡◌, IfOk, map};
 ghost use Rattle.lens_edge.specs.Outcome.{reply_of};
-ghost use Rattle.lens_room.specs.Replies.{verdict_of};
 ghost use Rattle.lens_json.specs.Parts.{part_of};
 ghost use Rattle.script_reader.specs.Documents.{doc_of};
 ghost use Rattle.script_reader.specs.Lawful.{IsLawfulDoc, IsWellNamed};
@@ -9,9 +8,10 @@ ghost use Rattle.script_reader.specs.Walk.{document_walk};
 ghost use Rattle.lens_room.specs.MarginJson.{found, room, room_members};
 
 use crate::margin_json::parts::controllers_in;
+use crate::running::verdict_by;
 use document_laws::documents_are_lawful;
 use kube_base::NoMemory;
-use lens_edge::{Answer, Verdict, refuse_as};
+use lens_edge::{Answer, refuse_as};
 use lens_json::{Part, Value, What, add_parts};
 use manifest_json::ReadFault;
 use script_reader::{Document, lease_premise, read_document};
@@ -43,7 +43,7 @@ fn tell(alloc: Global, document: &Document) -> Result<Answer, NoMemory>
     add_parts(&mut text, &parts)?;
     add(&mut text, b"\n")?;
     Ok(Answer {
-        verdict: verdict(safe),
+        verdict: verdict_by(safe),
         text,
     })
 }
@@ -65,10 +65,4 @@ fn parts<'a>(alloc: Global, document: &'a Document, safe: bool) -> Result<Vec<Pa
         what: What::Value(Value::Truth(safe)),
     })?;
     Ok(parts)
-}
-
-fn verdict(safe: bool) -> Verdict
-    ensures { result ≡ verdict_of safe }
-{
-    if safe { Verdict::Safe } else { Verdict::Unsafe }
 }

@@ -10,24 +10,6 @@ use lens_json::{Member, Object, Value, What};
 use lens_terms::{Closing, Ending, Span, Term, crossing, term_at};
 use std::alloc::Global;
 
-fn number(name: &[u8], number: u64) -> Member<'_>
-    ensures { named result ≡ spec.nat name.now number }
-{
-    Member {
-        name,
-        value: Value::Number(number),
-    }
-}
-
-fn text<'a>(name: &'a [u8], text: &'a [u8]) -> Member<'a>
-    ensures { named result ≡ spec.text name.now text.now }
-{
-    Member {
-        name,
-        value: Value::Text(text),
-    }
-}
-
 /// An object for each term.
 pub(crate) fn terms_in<'a>(
     alloc: Global,
@@ -52,10 +34,10 @@ fn term_members<'a>(
     ensures { IfOk result (λ members. map named members.items ≡ spec.term_members stop (shown term.now)) }
 {
     let members = vec![in alloc;
-        text(b"leader", term.actor),
-        number(b"from", u64::from(term.from)),
-        number(b"until", u64::from(term.until(stop))),
-        text(b"ended", ended(term.closing)),
+        Member::text(b"leader", term.actor),
+        Member::number(b"from", u64::from(term.from)),
+        Member::number(b"until", u64::from(term.until(stop))),
+        Member::text(b"ended", ended(term.closing)),
     ]?;
     Ok(members)
 }
@@ -95,8 +77,8 @@ fn span_members<'a>(alloc: Global, span: Span) -> Result<Vec<Member<'a>>, NoMemo
     ensures { IfOk result (λ members. map named members.items ≡ spec.span_members span) }
 {
     let members = vec![in alloc;
-        number(b"from", u64::from(span.from)),
-        number(b"until", u64::from(span.until)),
+        Member::number(b"from", u64::from(span.from)),
+        Member::number(b"until", u64::from(span.until)),
     ]?;
     Ok(members)
 }
@@ -129,7 +111,7 @@ fn add_overlap<'a>(
     ensures { OnOk result (map named members.new.items
         ≡ map named members.old.items ++ spec.overlap_members stop (map shown found.now) line) }
 {
-    add(members, number(b"line", line))?;
+    add(members, Member::number(b"line", line))?;
     match term_at(found, line) {
         Some(term) => add_who(members, stop, found, term),
         None => Ok(()),
@@ -145,10 +127,10 @@ fn add_who<'a>(
     ensures { OnOk result (map named members.new.items
         ≡ map named members.old.items ++ spec.who stop (map shown found.now) (Some (shown term.now))) }
 {
-    add(members, number(b"from", u64::from(term.from)))?;
-    add(members, text(b"who", term.actor))?;
+    add(members, Member::number(b"from", u64::from(term.from)))?;
+    add(members, Member::text(b"who", term.actor))?;
     match crossing(stop, found, term) {
-        Some(other) => add(members, text(b"beside", other.actor)),
+        Some(other) => add(members, Member::text(b"beside", other.actor)),
         None => Ok(()),
     }
 }

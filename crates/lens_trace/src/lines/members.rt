@@ -1,10 +1,11 @@
 // Members of an object that is being gathered.
 ghost use Rattle.std.specs.Prelude.{◌≡◌, ◌++◌, ◌∷◌, [], OnOk, map};
+ghost use Rattle.lens_json.specs.Members as member;
 ghost use Rattle.lens_json.specs.Members.{named};
 ghost use Rattle.lens_trace.specs.LineMembers as spec;
 
 use kube_base::NoMemory;
-use lens_json::{Member, Value};
+use lens_json::Member;
 use trace_lines::Answer;
 
 /// Adds a member that is a number.
@@ -13,12 +14,9 @@ pub(crate) fn number<'a>(
     name: &'a [u8],
     number: u64,
 ) -> Result<(), NoMemory>
-    ensures { OnOk result (map named members.new.items ≡ map named members.old.items ++ spec.nat name.now number ∷ []) }
+    ensures { OnOk result (map named members.new.items ≡ map named members.old.items ++ member.nat name.now number ∷ []) }
 {
-    members.push(Member {
-        name,
-        value: Value::Number(number),
-    })?;
+    members.push(Member::number(name, number))?;
     Ok(())
 }
 
@@ -28,12 +26,9 @@ pub(crate) fn text<'a>(
     name: &'a [u8],
     text: &'a [u8],
 ) -> Result<(), NoMemory>
-    ensures { OnOk result (map named members.new.items ≡ map named members.old.items ++ spec.text name.now text.now ∷ []) }
+    ensures { OnOk result (map named members.new.items ≡ map named members.old.items ++ member.text name.now text.now ∷ []) }
 {
-    members.push(Member {
-        name,
-        value: Value::Text(text),
-    })?;
+    members.push(Member::text(name, text))?;
     Ok(())
 }
 

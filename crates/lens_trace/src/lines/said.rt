@@ -1,6 +1,7 @@
 // The members of what a line says.
 ghost use Rattle.std.specs.Prelude.{◌≡◌, ◌++◌, ◌∷◌, [], OnOk, codes, map};
 ghost use Rattle.trace_lines.specs.Reads.{said};
+ghost use Rattle.lens_json.specs.Members as member;
 ghost use Rattle.lens_json.specs.Members.{named};
 ghost use Rattle.lens_trace.specs.LineMembers as spec;
 
@@ -101,7 +102,7 @@ fn election<'a>(
     transitions: u32,
 ) -> Result<(), NoMemory>
     ensures { OnOk result (map named members.new.items
-        ≡ map named members.old.items ++ spec.text (codes "object") (codes "election") ∷ spec.election_members how transitions) }
+        ≡ map named members.old.items ++ member.text (codes "object") (codes "election") ∷ spec.election_members how transitions) }
 {
     text(members, b"object", b"election")?;
     match how {
@@ -122,7 +123,7 @@ fn node_lease<'a>(
     how: Answer,
 ) -> Result<(), NoMemory>
     ensures { OnOk result (map named members.new.items
-        ≡ map named members.old.items ++ spec.text (codes "object") (codes "nodelease") ∷ spec.text (codes "node") node.now ∷ spec.answer_members how) }
+        ≡ map named members.old.items ++ member.text (codes "object") (codes "nodelease") ∷ member.text (codes "node") node.now ∷ spec.answer_members how) }
 {
     text(members, b"object", b"nodelease")?;
     text(members, b"node", node)?;
@@ -138,7 +139,7 @@ fn node_word<'a>(
     how: Answer,
 ) -> Result<(), NoMemory>
     ensures { OnOk result (map named members.new.items
-        ≡ map named members.old.items ++ spec.text (codes "node") node.now ∷ spec.text name.now word.now ∷ spec.answer_members how) }
+        ≡ map named members.old.items ++ member.text (codes "node") node.now ∷ member.text name.now word.now ∷ spec.answer_members how) }
 {
     text(members, b"node", node)?;
     text(members, name, word)?;
@@ -148,7 +149,7 @@ fn node_word<'a>(
 /// `KEY v=N`
 fn write<'a>(members: &mut Vec<Member<'a>>, key: &'a [u8], version: u64) -> Result<(), NoMemory>
     ensures { OnOk result (map named members.new.items
-        ≡ map named members.old.items ++ spec.text (codes "key") key.now ∷ spec.nat (codes "v") version ∷ []) }
+        ≡ map named members.old.items ++ member.text (codes "key") key.now ∷ member.nat (codes "v") version ∷ []) }
 {
     text(members, b"key", key)?;
     number(members, b"v", version)
@@ -163,7 +164,7 @@ fn zone<'a>(
 ) -> Result<(), NoMemory>
     ensures { OnOk result (map named members.new.items
         ≡ map named members.old.items
-        ++ spec.text (codes "zone") place.now ∷ spec.text (codes "state") state.now ∷ spec.nat (codes "rate") rate ∷ []) }
+        ++ member.text (codes "zone") place.now ∷ member.text (codes "state") state.now ∷ member.nat (codes "rate") rate ∷ []) }
 {
     text(members, b"zone", place)?;
     text(members, b"state", state)?;
@@ -178,7 +179,7 @@ fn evict<'a>(
     how: Answer,
 ) -> Result<(), NoMemory>
     ensures { OnOk result (map named members.new.items
-        ≡ map named members.old.items ++ spec.text (codes "pod") pod.now ∷ spec.text (codes "due") due.now ∷ spec.answer_members how) }
+        ≡ map named members.old.items ++ member.text (codes "pod") pod.now ∷ member.text (codes "due") due.now ∷ spec.answer_members how) }
 {
     text(members, b"pod", pod)?;
     text(members, b"due", due)?;

@@ -1,7 +1,6 @@
 use Rattle.std.proofs.Common.{[], ◌∷◌, ◌++◌, codes, map, Some, None, sym, ap, ◌∙◌, append-nil}
 use Rattle.std.proofs.lemmas.Result.{on_ok_weaker}
-use Rattle.lens_json.specs.Members.{named}
-use Rattle.lens_trace.specs.LeadersJson.{nat}
+use Rattle.lens_json.specs.Members.{named, nat}
 use Rattle.lens_trace.proofs.OverlapLaws.{who-told}
 use Rattle.lens_trace.proofs.leaders_json.parts.add_who.Goals as goal
 

@@ -1,7 +1,7 @@
 use Rattle.std.proofs.Common.{◌≡◌, [], ◌∷◌, ◌++◌, codes, map, ap, ◌∙◌}
 use Rattle.std.proofs.lemmas.Result.{on_ok_weaker}
-use Rattle.lens_json.specs.Members.{Named, named}
-use Rattle.lens_trace.specs.LineMembers.{nat, text, premise_word}
+use Rattle.lens_json.specs.Members.{Named, named, nat, text}
+use Rattle.lens_trace.specs.LineMembers.{premise_word}
 use Rattle.lens_trace.proofs.MemberLaws.{gathered}
 use Rattle.lens_trace.proofs.lines.header.gather.Goals as goal
 
