@@ -59,7 +59,7 @@ pub fn run<S: Source, K: Sink>(
 {
     match command_in(words) {
         Some(Command::Help) => tell(sink, Verdict::Done, help()),
-        Some(Command::Margin) => lens_margin::run(alloc, words, source, sink),
+        Some(Command::Margin) => lens_room::run(alloc, words, source, sink),
         Some(Command::MarginJson) => lens_room::margin_json::run(alloc, words, source, sink),
         Some(Command::Flags) => lens_room::by_flags::run(alloc, words, sink),
         Some(Command::Leaders) => lens_trace::run(alloc, words, source, sink),
