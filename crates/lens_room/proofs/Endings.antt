@@ -12,11 +12,11 @@ use Rattle.script_reader.specs.Documents.{doc_of}
 use Rattle.script_reader.specs.Walk.{document_walk}
 use Rattle.lens_room.specs.Replies.{found, verdict_of}
 
-verdict-safe : (b : Bool) → Safe ≡ verdict_of b → b ≡ true
+pub verdict-safe : (b : Bool) → Safe ≡ verdict_of b → b ≡ true
 verdict-safe true is = refl
 verdict-safe false is = absurd (let never : Safe ≡ Unsafe = is in cc)
 
-verdict-unsafe : (b : Bool) → Unsafe ≡ verdict_of b → b ≡ false
+pub verdict-unsafe : (b : Bool) → Unsafe ≡ verdict_of b → b ≡ false
 verdict-unsafe true is = absurd (let never : Unsafe ≡ Safe = is in cc)
 verdict-unsafe false is = refl
 

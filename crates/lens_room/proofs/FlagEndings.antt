@@ -1,5 +1,5 @@
 -- How a run ends, by the words behind the first one.
-use Rattle.std.proofs.Common.{◌≡◌, ℕ, Bool, true, false, List, Some, Ok, refl, ap, ◌∙◌, subst}
+use Rattle.std.proofs.Common.{◌≡◌, ℕ, true, false, List, Some, Ok, ap, ◌∙◌, subst}
 use Rattle.byte_edge.specs.Bytes.{Taken}
 use Rattle.history.specs.Premise.{lease_premise}
 use Rattle.lens_edge.specs.Outcome.{Ends, Reply, Unread, reply_of}
@@ -14,14 +14,7 @@ use Rattle.lens_room.specs.Described.{described}
 use Rattle.lens_room.specs.Flags.{flags_of}
 use Rattle.lens_room.specs.FlagLaws.{holds}
 use Rattle.lens_room.specs.FlagReplies.{answer_to, answered}
-
-verdict-safe : (b : Bool) → Safe ≡ verdict_of b → b ≡ true
-verdict-safe true is = refl
-verdict-safe false is = absurd (let never : Safe ≡ Unsafe = is in cc)
-
-verdict-unsafe : (b : Bool) → Unsafe ≡ verdict_of b → b ≡ false
-verdict-unsafe true is = absurd (let never : Unsafe ≡ Safe = is in cc)
-verdict-unsafe false is = refl
+use Rattle.lens_room.proofs.Endings.{verdict-safe, verdict-unsafe}
 
 -- an answer to these words, of which a slice shows the text
 pub ends-answered : (shown words : List (List ℕ)) (a : Answer) (text left : List ℕ) (before after : Taken) (s : Status) → shown ≡ words → reply_of a ≡ answer_to shown

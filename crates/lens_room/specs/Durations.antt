@@ -2,7 +2,6 @@
 -- has a sign or a fraction, and none, nor a number in it, is more than the milliseconds of a day. Source: Go's `time.ParseDuration`.
 use Rattle.std.specs.Prelude.{ℕ, ◌+◌, ◌-◌, ◌*◌, ◌==◌, nat_le, List, [], ◌∷◌, Option, Some, None, if◌then◌else◌}
 use Rattle.std.specs.Char.{is_ascii_digit}
-use Rattle.kube_base.specs.Times.{◌>>=◌}
 use Rattle.lens_room.specs.declared.by_flags.duration.Reading.{Reading}
 use Rattle.lens_room.specs.declared.by_flags.duration.Stage.{Stage}
 use Rattle.lens_room.specs.declared.by_flags.duration.Stage.TheVariants.{Whole, Digits, Minutes}

@@ -1,5 +1,5 @@
 -- The words that are commands, and what they answer.
-use Rattle.std.specs.Prelude.{◌≡◌, ℕ, ◌&&◌, Bool, true, false, List, [], ◌∷◌, codes}
+use Rattle.std.specs.Prelude.{◌≡◌, ℕ, ◌&&◌, Bool, false, List, [], ◌∷◌, codes}
 use Rattle.std.specs.Str.{bytes_eq}
 use Rattle.lens_edge.specs.Outcome.{Asked, Outcome}
 use Rattle.script_reader.specs.Walk.{document_walk}

@@ -1,7 +1,6 @@
 -- The text of a table. A row is its cells' texts, and the first row of a table is its heading.
 use Rattle.std.specs.Prelude.{ℕ, ◌+◌, ◌-◌, ◌++◌, ◌==◌, nat_le, Bool, max, List, [], ◌∷◌, length, map, replicate, get_or, codes, if◌then◌else◌}
 use Rattle.std.specs.List.{flat_map}
-use Rattle.lens_summary.specs.declared.cell.Cell.{Cell}
 use Rattle.lens_summary.specs.declared.row.Row.{Row}
 use Rattle.lens_summary.specs.Cells.{cell_text}
 

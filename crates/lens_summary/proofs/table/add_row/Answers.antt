@@ -1,6 +1,5 @@
 use Rattle.std.proofs.Common.{arith}
 use Rattle.std.proofs.lemmas.Result.{on_ok_weaker}
-use Rattle.lens_summary.specs.Cells.{cell_text}
 use Rattle.lens_summary.proofs.TableLaws.{row-step, row-end}
 use Rattle.lens_summary.proofs.table.add_row.Goals as goal
 

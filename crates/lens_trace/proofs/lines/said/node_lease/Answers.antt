@@ -1,6 +1,6 @@
 use Rattle.std.proofs.Common.{◌≡◌, [], ◌∷◌, ◌++◌, codes, map}
 use Rattle.std.proofs.lemmas.Result.{on_ok_weaker}
-use Rattle.lens_json.specs.Members.{Named, named, nat, text}
+use Rattle.lens_json.specs.Members.{Named, named, text}
 use Rattle.lens_trace.specs.LineMembers.{answer_members}
 use Rattle.lens_trace.proofs.MemberLaws.{gathered}
 use Rattle.lens_trace.proofs.lines.said.node_lease.Goals as goal
