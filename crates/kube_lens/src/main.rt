@@ -4,9 +4,12 @@
 ghost use Rattle.std.specs.Prelude.{◌≡◌};
 ghost use Rattle.kube_lens.specs.Exits.{exit_status_of};
 
+mod command;
+mod running;
+
+use crate::running::run;
 use byte_edge::{StdSink, StdSource};
 use lens_edge::{Status, Verdict};
-use lens_top::run;
 use std::io::ErrorKind;
 use std::process::ExitCode;
 use std::{env, io};

@@ -7,7 +7,7 @@ use kube_base::NoMemory;
 use std::alloc::Global;
 
 /// A finished answer.
-#[derive(Debug, Drop)]
+#[derive(Drop)]
 pub struct Answer {
     pub verdict: Verdict,
     pub text: Vec<u8>,

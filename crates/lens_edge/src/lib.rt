@@ -1,4 +1,4 @@
-//! What the commands of `kube_lens` share: how a run ends, what is asked of an input, and the writing of a finished text.
+//! What the commands of `kube_lens` share: how a run ends, what is asked of an input, refusals, and the writing of a finished text.
 #![tactic(auto)]
 
 mod answer;
@@ -9,6 +9,6 @@ mod telling;
 
 pub use answer::{Answer, Question};
 pub use asking::ask_if;
-pub use refusing::refuse;
+pub use refusing::{refuse, refuse_as};
 pub use status::{Status, Verdict};
 pub use telling::{tell, tell_usage};

@@ -1,7 +1,7 @@
 // How a run ends.
 
 /// What a finished answer comes to.
-#[derive(Clone, Copy, Debug, PartialEq, Eq)]
+#[derive(Clone, Copy)]
 pub enum Verdict {
     /// What was asked is told, and it is neither good nor bad.
     Done,
@@ -16,7 +16,7 @@ pub enum Verdict {
 }
 
 /// How a run ends.
-#[derive(Clone, Copy, Debug, PartialEq, Eq)]
+#[derive(Clone, Copy)]
 pub enum Status {
     /// The whole text of an answer was written.
     Answered(Verdict),

@@ -4,8 +4,8 @@ use Rattle.kube_base.specs.declared.memory.NoMemory.{NoMemory}
 use Rattle.lens_edge.specs.declared.answer.Answer.{Answer}
 use Rattle.lens_edge.specs.Outcome.{reply_of}
 use Rattle.lens_explain.specs.Replies.{IsRefused, refused}
-use Rattle.lens_why.specs.declared.place.Shown.{Shown}
-use Rattle.lens_why.specs.Places.{IsShown}
+use Rattle.lens_explain.specs.declared.place.Shown.{Shown}
+use Rattle.lens_explain.specs.Places.{IsShown}
 use Rattle.manifest_json.specs.declared.fault.Refusal.{Refusal}
 
 -- a refusal with what is said about it

@@ -3,9 +3,9 @@ use Rattle.std.specs.Prelude.{ℕ, true, false, List, [], ◌∷◌, ◌++◌, l
 use Rattle.serde_json.specs.Data.{boolean}
 use Rattle.serde_json.specs.Written.{compact_text}
 use Rattle.lens_json.specs.Members.{Named, nat, text, object_of}
-use Rattle.lens_parts.specs.Parts.{list_of}
-use Rattle.lens_why.specs.declared.place.Shown.{Shown}
-use Rattle.lens_why.specs.declared.twice.Warning.{Warning}
+use Rattle.lens_json.specs.Parts.{list_of}
+use Rattle.lens_explain.specs.declared.place.Shown.{Shown}
+use Rattle.lens_explain.specs.declared.twice.Warning.{Warning}
 use Rattle.manifest_json.specs.declared.fault.Refusal.{Refusal}
 use Rattle.script_reader.specs.declared.document.Document.{Document}
 

@@ -1,2 +1,4 @@
 pub mod Json
 pub mod Replies
+pub mod Places
+pub mod Warnings

@@ -4,10 +4,10 @@ use Rattle.std.specs.List.{flat_map}
 use Rattle.std.specs.Str.{bytes_eq}
 use Rattle.lens_edge.specs.Outcome.{Asked, Outcome, Reply, refusal_text}
 use Rattle.lens_edge.specs.declared.status.Verdict.TheVariants.{Done, Refused}
-use Rattle.lens_why.specs.declared.place.Shown.{Shown}
-use Rattle.lens_why.specs.declared.twice.Warning.{Warning}
-use Rattle.lens_why.specs.Places.{IsShown, shown_text}
-use Rattle.lens_why.specs.Warnings.{IsWarning, warning_text}
+use Rattle.lens_explain.specs.declared.place.Shown.{Shown}
+use Rattle.lens_explain.specs.declared.twice.Warning.{Warning}
+use Rattle.lens_explain.specs.Places.{IsShown, shown_text}
+use Rattle.lens_explain.specs.Warnings.{IsWarning, warning_text}
 use Rattle.manifest_json.specs.declared.fault.Refusal.{Refusal}
 use Rattle.script_reader.specs.declared.document.Document.{Document}
 use Rattle.script_reader.specs.Walk.{document_walk}

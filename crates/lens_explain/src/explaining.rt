@@ -6,9 +6,11 @@ ghost use Rattle.lens_explain.specs.Replies.{IsExplained, IsFormed, IsRefused};
 
 use crate::lines::{add_counts, add_warnings, add_why};
 use crate::object::{add_formed, add_refused};
+use crate::place::Shown;
+use crate::saying::why;
+use crate::twice::{Warning, warnings};
 use kube_base::NoMemory;
-use lens_edge::{Answer, Verdict, refuse};
-use lens_why::{Shown, Warning, warnings, why};
+use lens_edge::{Answer, Verdict, refuse_as};
 use manifest_json::{ReadFault, Refusal};
 use script_reader::{Document, read_document};
 use std::alloc::Global;
@@ -51,7 +53,7 @@ fn refused_lines(
 ) -> Result<Answer, NoMemory>
     ensures { IfOk result (λ answer. reply_of answer ≡ spec.refused false refusal.now shown.entry more.now) }
 {
-    let head = refuse(alloc, refusal.code, refusal.path.as_slice())?;
+    let head = refuse_as(alloc, refusal)?;
     let Answer { verdict, mut text } = head;
     add_why(&mut text, shown, more)?;
     Ok(Answer { verdict, text })

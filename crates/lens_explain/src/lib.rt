@@ -1,9 +1,22 @@
-//! Why a document is refused, in a sentence, or that it is well formed: the command `explain`, from bytes to text and status.
+//! Why a document is refused: the place in the text, what stands there, and a sentence; or that it is well formed. The command `explain`, in
+//! lines or as JSON, from bytes to text and status.
 #![tactic(auto)]
 
+mod broken;
+mod digits;
 mod explaining;
+mod keys;
+mod known;
 mod lines;
+mod nearest;
 mod object;
+mod place;
+mod rules;
 mod running;
+mod saying;
+mod scan;
+mod sentence;
+mod twice;
+mod walk;
 
 pub use running::run;

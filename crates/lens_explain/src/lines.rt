@@ -1,12 +1,13 @@
 // The lines on a document.
 ghost use Rattle.std.specs.Prelude.{◌≡◌, ◌++◌, OnOk, decimal};
 ghost use Rattle.std.specs.List.{flat_map};
-ghost use Rattle.lens_why.specs.Places.{shown_text};
-ghost use Rattle.lens_why.specs.Warnings.{warning_text};
+ghost use Rattle.lens_explain.specs.Places.{shown_text};
+ghost use Rattle.lens_explain.specs.Warnings.{warning_text};
 ghost use Rattle.lens_explain.specs.Replies.{well_formed_text};
 
+use crate::place::{Shown, add_shown};
+use crate::twice::{Warning, add_warning};
 use kube_base::NoMemory;
-use lens_why::{Shown, Warning, add_shown, add_warning};
 use script_reader::Document;
 use trace_writer::{add, add_number};
 

@@ -1,14 +1,14 @@
 // The JSON on a document.
 ghost use Rattle.std.specs.Prelude.{◌≡◌, ◌++◌, List, IfOk, OnOk, map};
 ghost use Rattle.lens_json.specs.Members.{data_of, named, nat};
-ghost use Rattle.lens_parts.specs.Parts.{members_in, part_of};
-ghost use Rattle.lens_why.specs.declared.twice.Warning.{Warning};
+ghost use Rattle.lens_json.specs.Parts.{members_in, part_of};
+ghost use Rattle.lens_explain.specs.declared.twice.Warning.{Warning};
 ghost use Rattle.lens_explain.specs.Json as spec;
 
+use crate::place::Shown;
+use crate::twice::Warning;
 use kube_base::NoMemory;
-use lens_json::{Member, Value, add_object};
-use lens_parts::{Object, Part, What, add_parts};
-use lens_why::{Shown, Warning};
+use lens_json::{Member, Object, Part, Value, What, add_object, add_parts};
 use manifest_json::Refusal;
 use script_reader::Document;
 use std::alloc::Global;

@@ -1,2 +1,3 @@
 pub mod Members
 pub mod Clean
+pub mod Parts

@@ -3,7 +3,7 @@ ghost use Rattle.std.specs.Prelude.{◌≡◌};
 ghost use Rattle.lens_json.specs.Members as spec;
 
 /// What a member has.
-#[derive(Clone, Copy, Debug)]
+#[derive(Clone, Copy)]
 pub enum Value<'a> {
     Nothing,
     Truth(bool),
@@ -16,7 +16,7 @@ pub enum Value<'a> {
 }
 
 /// A member of an object: its name, and what it has.
-#[derive(Clone, Copy, Debug)]
+#[derive(Clone, Copy)]
 pub struct Member<'a> {
     pub name: &'a [u8],
     pub value: Value<'a>,

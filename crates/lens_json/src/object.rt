@@ -25,7 +25,7 @@ pub fn add_object(text: &mut Vec<u8>, members: &[Member<'_>]) -> Result<(), NoMe
 }
 
 /// Adds a comma where something stands before.
-fn add_comma(text: &mut Vec<u8>, later: bool) -> Result<(), NoMemory>
+pub(crate) fn add_comma(text: &mut Vec<u8>, later: bool) -> Result<(), NoMemory>
     ensures { OnOk result (text.new.items ≡ text.old.items ++ comma_if later) }
 {
     if later { add(text, b",") } else { Ok(()) }

@@ -8,8 +8,8 @@ use Rattle.kube_objects.specs.Clocks.{store_wall}
 use Rattle.script_reader.specs.declared.document.Document.{Document}
 use Rattle.script_reader.specs.Documents.{doc_of}
 use Rattle.trace_lines.specs.declared.line.Line.{Line}
-use Rattle.lens_table.specs.Cells.{beat_text}
-use Rattle.lens_table.specs.Tables.{Texts}
+use Rattle.lens_summary.specs.Cells.{beat_text}
+use Rattle.lens_summary.specs.Tables.{Texts}
 use Rattle.lens_summary.specs.Pods.{eviction_in}
 use Rattle.lens_lateness.specs.Clocks.{own_time}
 

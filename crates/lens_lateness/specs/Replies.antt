@@ -1,11 +1,11 @@
 -- The words that are commands, and what they answer.
-use Rattle.std.specs.Prelude.{◌≡◌, ℕ, ◌==◌, ◌++◌, ◌&&◌, nat_le, Bool, true, false, List, [], ◌∷◌, length, codes, Option, Some, None, Result, Ok, Err, if◌then◌else◌}
+use Rattle.std.specs.Prelude.{◌≡◌, ℕ, ◌==◌, ◌++◌, ◌&&◌, nat_le, Bool, false, List, [], ◌∷◌, length, codes, Option, Some, None, Result, Ok, Err, if◌then◌else◌}
 use Rattle.std.specs.Str.{bytes_eq}
 use Rattle.lens_edge.specs.Outcome.{Asked, Outcome, Reply, refusal}
 use Rattle.lens_edge.specs.declared.status.Verdict.{Verdict}
 use Rattle.lens_edge.specs.declared.status.Verdict.TheVariants.{Done}
 use Rattle.lens_summary.specs.Summary.{summary_reply}
-use Rattle.lens_table.specs.Tables.{Texts, table_text}
+use Rattle.lens_summary.specs.Tables.{Texts, table_text}
 use Rattle.manifest_json.specs.declared.fault.Refusal.{Refusal}
 use Rattle.script_reader.specs.declared.document.Document.{Document}
 use Rattle.script_reader.specs.Walk.{document_walk}

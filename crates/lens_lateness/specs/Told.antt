@@ -1,7 +1,7 @@
 -- What an eviction shows that was found.
 use Rattle.std.specs.Prelude.{ℕ, [], ◌∷◌}
-use Rattle.lens_table.specs.Cells.{beat_text}
-use Rattle.lens_table.specs.Tables.{Texts}
+use Rattle.lens_summary.specs.Cells.{beat_text}
+use Rattle.lens_summary.specs.Tables.{Texts}
 use Rattle.lens_lateness.specs.declared.late.Late.{Late}
 
 abbrev pub texts_of : ℕ → Late → Texts

@@ -13,7 +13,7 @@ use crate::trace::trace_in;
 use byte_edge::{Sink, Source};
 use document_laws::documents_are_lawful;
 use kube_base::NoMemory;
-use lens_edge::{Answer, Question, Status, Verdict, ask_if, refuse};
+use lens_edge::{Answer, Question, Status, Verdict, ask_if, refuse, refuse_as};
 use lens_summary::summary_of;
 use manifest_json::ReadFault;
 use script_reader::{Document, read_document};
@@ -76,7 +76,7 @@ fn answer_to(alloc: Global, input: &[u8]) -> Result<Answer, NoMemory>
     let (document, trace) = input.split_at(document_end(input));
     match read_document(alloc, document) {
         Ok(document) => answer_on(alloc, &document, trace),
-        Err(ReadFault::Refused(refusal)) => refuse(alloc, refusal.code, refusal.path.as_slice()),
+        Err(ReadFault::Refused(refusal)) => refuse_as(alloc, &refusal),
         Err(ReadFault::NoMemory) => Err(NoMemory),
     }
 }

@@ -2,7 +2,7 @@
 ghost use Rattle.std.specs.Prelude.{◌≡◌, ◌++◌, ◌∷◌, [], IfOk, OnOk, map};
 ghost use Rattle.script_reader.specs.Documents.{doc_of};
 ghost use Rattle.script_reader.specs.Lawful.{IsLawfulDoc};
-ghost use Rattle.lens_table.specs.Tables.{shown};
+ghost use Rattle.lens_summary.specs.Tables.{shown};
 ghost use Rattle.trace_lines.specs.Reads.{seen};
 ghost use Rattle.lens_lateness.specs.Late as spec;
 ghost use Rattle.lens_lateness.specs.Replies.{table_behind};
@@ -11,8 +11,7 @@ ghost use Rattle.lens_lateness.specs.Told.{texts_of};
 use crate::clocks::clocks_of;
 use crate::late::{Late, late_evictions};
 use kube_base::NoMemory;
-use lens_summary::add_row;
-use lens_table::{Cell, Row, add_table};
+use lens_summary::{Cell, Row, add_row, add_table};
 use script_reader::Document;
 use std::alloc::Global;
 use trace_lines::Line;

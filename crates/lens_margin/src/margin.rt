@@ -13,7 +13,7 @@ use script_reader::{Document, longest_pause, rates_of};
 const LONGEST_LEASE: u128 = 86_400;
 
 /// The numbers of a controller. Times are in milliseconds but where a name says else.
-#[derive(Clone, Copy, Debug, PartialEq, Eq)]
+#[derive(Clone, Copy)]
 pub struct Margin {
     /// The lease duration.
     pub lease: u128,

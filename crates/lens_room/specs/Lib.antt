@@ -1,2 +1,12 @@
+pub mod Lines
 pub mod Replies
-pub mod Room
+pub mod MarginJsonReplies
+pub mod MarginJson
+pub mod Amounts
+pub mod Described
+pub mod Durations
+pub mod Flags
+pub mod FlagJson
+pub mod FlagLaws
+pub mod Ranges
+pub mod FlagReplies

@@ -1,9 +1,10 @@
-//! How much room each lease leaves as JSON: the command `margin --json`, from words and bytes to text and status.
+//! How much room each lease leaves: the command `margin`, of a document or by flags, in lines or as JSON, from words and bytes to text and
+//! status.
 #![tactic(auto)]
 
-mod answering;
-mod parts;
+pub mod by_flags;
+mod lines;
+pub mod margin_json;
 mod running;
 
-pub use parts::{member, seconds, slack, stall};
 pub use running::run;

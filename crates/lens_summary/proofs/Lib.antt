@@ -1,4 +1,8 @@
+-- ---- loops over lines, terms and cells
 pub mod StepLaws
+pub mod TableLaws
+-- ---- what is told
 pub mod ToldLaws
 pub mod TogetherLaws
 pub mod TotalLaws
+pub mod FigureLaws

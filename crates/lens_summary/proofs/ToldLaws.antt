@@ -2,7 +2,7 @@
 use Rattle.std.proofs.Common.{◌≡◌, ℕ, ◌+◌, List, [], ◌++◌, Option, ap, ◌∙◌}
 use Rattle.lens_edge.specs.Outcome.{Reply}
 use Rattle.lens_edge.specs.declared.status.Verdict.TheVariants.{Done}
-use Rattle.lens_table.specs.Tables.{table_text}
+use Rattle.lens_summary.specs.Tables.{table_text}
 use Rattle.lens_terms.specs.declared.term.Term.{Term}
 use Rattle.lens_terms.specs.Terms.{terms}
 use Rattle.lens_trace.proofs.ShownLaws.{added}
@@ -16,6 +16,17 @@ use Rattle.lens_summary.specs.Totals.{total_rows}
 use Rattle.lens_summary.specs.Subjects.{subject_rows}
 use Rattle.lens_summary.specs.declared.subject.Subject.TheVariants.{Zones, Nodes, Pods}
 
+-- seven texts
+all-added : (t t1 t2 t3 t4 t5 t6 t7 a b c d e f g : List ℕ) → t1 ≡ t ++ a → t2 ≡ t1 ++ b → t3 ≡ t2 ++ c → t4 ≡ t3 ++ d → t5 ≡ t4 ++ e → t6 ≡ t5 ++ f → t7 ≡ t6 ++ g
+    → t7 ≡ t ++ (a ++ b ++ c ++ d ++ e ++ f ++ g)
+all-added t t1 t2 t3 t4 t5 t6 t7 a b c d e f g pa pb pc pd pe pf pg =
+    let two : t2 ≡ t ++ (a ++ b) = added t t1 t2 a b pa pb in
+    let three : t3 ≡ t ++ (a ++ b ++ c) = added t t2 t3 (a ++ b) c two pc in
+    let four : t4 ≡ t ++ (a ++ b ++ c ++ d) = added t t3 t4 (a ++ b ++ c) d three pd in
+    let five : t5 ≡ t ++ (a ++ b ++ c ++ d ++ e) = added t t4 t5 (a ++ b ++ c ++ d) e four pe in
+    let six : t6 ≡ t ++ (a ++ b ++ c ++ d ++ e ++ f) = added t t5 t6 (a ++ b ++ c ++ d ++ e) f five pf in
+    added t t6 t7 (a ++ b ++ c ++ d ++ e ++ f) g six pg
+
 pub told-is : (header : Header) (overlap : Option ℕ) (ls : List (Line (List ℕ))) (beats : ℕ) (first_ts ts also : List (Term (List ℕ))) (none one two three four five six seven : List ℕ)
     → first_ts ≡ terms 2 ls → ts ≡ terms 2 ls → also ≡ terms 2 ls → none ≡ [] → beats ≡ beats_of_two (header.end + 1) first_ts
     → one ≡ none ++ part (trace_rows header overlap beats)
@@ -28,20 +39,14 @@ pub told-is : (header : Header) (overlap : Option ℕ) (ls : List (Line (List �
     → (let r : Reply = record { verdict = Done; text = seven } in r) ≡ summary header overlap ls
 unfolding told
 told-is header overlap ls beats first_ts ts also none one two three four five six seven were are too empty counted begun second third fourth fifth sixth last =
-    let a = part (trace_rows header overlap (beats_of_two (header.end + 1) (terms 2 ls))) in
-    let first : one ≡ none ++ a
-    = begun ∙ ap (λ n. none ++ part (trace_rows header overlap n)) (counted ∙ ap (beats_of_two (header.end + 1)) were) in
-    let b = part (term_rows header.beat_millis (header.end + 1) (terms 2 ls)) in
-    let c = part (span_rows header.beat_millis (header.end + 1) (terms 2 ls)) in
-    let d = part (subject_rows Zones header.beat_millis ls) in
-    let e = part (subject_rows Nodes header.beat_millis ls) in
-    let f = part (subject_rows Pods header.beat_millis ls) in
-    let g = table_text (total_rows ls) in
-    let after_two : two ≡ none ++ (a ++ b) = added none one two a b first (second ∙ ap (λ x. one ++ part (term_rows header.beat_millis (header.end + 1) x)) are) in
-    let after_three : three ≡ none ++ (a ++ b ++ c) =
-    added none two three (a ++ b) c after_two (third ∙ ap (λ x. two ++ part (span_rows header.beat_millis (header.end + 1) x)) too) in
-    let after_four : four ≡ none ++ (a ++ b ++ c ++ d) = added none three four (a ++ b ++ c) d after_three fourth in
-    let after_five : five ≡ none ++ (a ++ b ++ c ++ d ++ e) = added none four five (a ++ b ++ c ++ d) e after_four fifth in
-    let after_six : six ≡ none ++ (a ++ b ++ c ++ d ++ e ++ f) = added none five six (a ++ b ++ c ++ d ++ e) f after_five sixth in
-    ap (λ t. let r : Reply = record { verdict = Done; text = t } in r)
-    (added none six seven (a ++ b ++ c ++ d ++ e ++ f) g after_six last ∙ ap (λ t. t ++ (a ++ b ++ c ++ d ++ e ++ f ++ g)) empty)
+    let stop = header.end + 1 in
+    let millis = header.beat_millis in
+    let whole : seven ≡ none ++ told header overlap ls
+    = all-added none one two three four five six seven
+    (part (trace_rows header overlap (beats_of_two stop (terms 2 ls)))) (part (term_rows millis stop (terms 2 ls))) (part (span_rows millis stop (terms 2 ls)))
+    (part (subject_rows Zones millis ls)) (part (subject_rows Nodes millis ls)) (part (subject_rows Pods millis ls)) (table_text (total_rows ls))
+    (begun ∙ ap (λ n. none ++ part (trace_rows header overlap n)) (counted ∙ ap (beats_of_two stop) were))
+    (second ∙ ap (λ x. one ++ part (term_rows millis stop x)) are)
+    (third ∙ ap (λ x. two ++ part (span_rows millis stop x)) too)
+    fourth fifth sixth last in
+    ap (λ t. let r : Reply = record { verdict = Done; text = t } in r) (whole ∙ ap (λ t. t ++ told header overlap ls) empty)

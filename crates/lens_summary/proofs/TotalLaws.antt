@@ -4,7 +4,7 @@ use Rattle.std.proofs.lemmas.List.{length-map}
 use Rattle.std.proofs.lemmas.List.Concat.{flat_map-cons}
 use Rattle.std.specs.List.{flat_map}
 use Rattle.trace_lines.specs.declared.line.Line.{Line}
-use Rattle.lens_table.specs.Tables.{Texts}
+use Rattle.lens_summary.specs.Tables.{Texts}
 use Rattle.lens_summary.specs.Totals.{kind_rows, kinds, all_rows, total_heading, total_rows}
 use Rattle.lens_summary.proofs.StepLaws.{drop-more}
 

@@ -1,7 +1,7 @@
 -- Who leads, and when nobody does.
 use Rattle.std.specs.Prelude.{ℕ, ◌-◌, List, [], ◌∷◌, length, map, codes, decimal, Option, Some, None}
-use Rattle.lens_table.specs.Cells.{beat_text}
-use Rattle.lens_table.specs.Tables.{Texts}
+use Rattle.lens_summary.specs.Cells.{beat_text}
+use Rattle.lens_summary.specs.Tables.{Texts}
 use Rattle.lens_terms.specs.declared.closing.Closing.{Closing}
 use Rattle.lens_terms.specs.declared.closing.Ending.{Ending}
 use Rattle.lens_terms.specs.declared.closing.Ending.TheVariants.{End, Stop, Crash}

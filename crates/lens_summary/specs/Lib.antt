@@ -10,3 +10,9 @@ pub mod Summary
 pub mod Together
 pub mod Totals
 pub mod Zones
+pub mod Cells
+pub mod Tables
+pub mod FigureLines
+pub mod FigureTotals
+pub mod Figures
+pub mod FigureReplies

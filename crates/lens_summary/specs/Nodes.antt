@@ -5,8 +5,8 @@ use Rattle.trace_lines.specs.declared.line.Answer.TheVariants as answer
 use Rattle.trace_lines.specs.declared.line.Line.{Line}
 use Rattle.trace_lines.specs.declared.line.Says.{Says}
 use Rattle.trace_lines.specs.declared.line.Says.TheVariants as says
-use Rattle.lens_table.specs.Cells.{beat_text}
-use Rattle.lens_table.specs.Tables.{Texts}
+use Rattle.lens_summary.specs.Cells.{beat_text}
+use Rattle.lens_summary.specs.Tables.{Texts}
 
 -- the node, how it is changed, and to which taint or for which reason
 abbrev pub change_in : Says (List ℕ) → Option (List ℕ × List ℕ × List ℕ)

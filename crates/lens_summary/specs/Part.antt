@@ -1,6 +1,6 @@
 -- A table that is told.
 use Rattle.std.specs.Prelude.{ℕ, ◌++◌, nat_le, List, [], length, codes, if◌then◌else◌}
-use Rattle.lens_table.specs.Tables.{Texts, table_text}
+use Rattle.lens_summary.specs.Tables.{Texts, table_text}
 
 -- a table and an empty line, where it has a row beside its heading
 unfoldable pub part : List Texts → List ℕ

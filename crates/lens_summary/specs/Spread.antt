@@ -1,6 +1,6 @@
 -- How long spans are.
 use Rattle.std.specs.Prelude.{ℕ, ◌-◌, List, map, min, sum_by}
-use Rattle.lens_table.specs.Tables.{greatest}
+use Rattle.lens_summary.specs.Tables.{greatest}
 use Rattle.lens_terms.specs.declared.span.Span.{Span}
 
 abbrev pub beats : Span → ℕ

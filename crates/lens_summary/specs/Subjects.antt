@@ -1,6 +1,6 @@
 -- What lines tell of: the states of zones, what became of nodes, and the pods that were evicted.
 use Rattle.std.specs.Prelude.{ℕ, List, [], ◌∷◌, codes, filter_map, Option}
-use Rattle.lens_table.specs.Tables.{Texts}
+use Rattle.lens_summary.specs.Tables.{Texts}
 use Rattle.trace_lines.specs.declared.line.Line.{Line}
 use Rattle.lens_summary.specs.declared.subject.Subject.{Subject}
 use Rattle.lens_summary.specs.declared.subject.Subject.TheVariants.{Zones, Nodes, Pods}

@@ -2,8 +2,8 @@
 use Rattle.std.specs.Prelude.{ℕ, ◌+◌, ◌++◌, Bool, List, [], ◌∷◌, codes, decimal, Option, Some, None, if◌then◌else◌}
 use Rattle.lens_edge.specs.Outcome.{Reply}
 use Rattle.lens_edge.specs.declared.status.Verdict.TheVariants.{Done}
-use Rattle.lens_table.specs.Cells.{beat_text}
-use Rattle.lens_table.specs.Tables.{Texts, table_text}
+use Rattle.lens_summary.specs.Cells.{beat_text}
+use Rattle.lens_summary.specs.Tables.{Texts, table_text}
 use Rattle.lens_terms.specs.Terms.{terms}
 use Rattle.lens_trace.specs.Traces.{trace_reply}
 use Rattle.trace_lines.specs.declared.header.Header.{Header}

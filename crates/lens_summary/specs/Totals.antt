@@ -3,7 +3,7 @@ use Rattle.std.specs.Prelude.{ℕ, ◌++◌, ◌==◌, Bool, true, List, [], ◌
 use Rattle.std.specs.List.{flat_map}
 use Rattle.std.specs.Str.{bytes_eq}
 use Rattle.trace_lines.specs.declared.line.Line.{Line}
-use Rattle.lens_table.specs.Tables.{Texts}
+use Rattle.lens_summary.specs.Tables.{Texts}
 use Rattle.lens_summary.specs.declared.outcome.Outcome.{Outcome}
 use Rattle.lens_summary.specs.declared.outcome.Outcome.TheVariants.{Written, Conflict, Absent, Exists}
 use Rattle.lens_summary.specs.Outcomes.{outcome_of, word_of, same}

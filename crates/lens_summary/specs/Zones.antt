@@ -4,8 +4,8 @@ use Rattle.std.specs.Option.{option_map}
 use Rattle.trace_lines.specs.declared.line.Line.{Line}
 use Rattle.trace_lines.specs.declared.line.Says.{Says}
 use Rattle.trace_lines.specs.declared.line.Says.TheVariants as says
-use Rattle.lens_table.specs.Cells.{beat_text}
-use Rattle.lens_table.specs.Tables.{Texts}
+use Rattle.lens_summary.specs.Cells.{beat_text}
+use Rattle.lens_summary.specs.Tables.{Texts}
 
 -- the zone, its state and its rate
 abbrev pub zone_in : Says (List ℕ) → Option (List ℕ × List ℕ × ℕ)

@@ -1,15 +1,15 @@
 // Who leads, and when nobody does.
 ghost use Rattle.std.specs.Prelude.{◌≡◌, ◌++◌, ◌∷◌, [], IfOk, OnOk, map};
-ghost use Rattle.lens_table.specs.Tables.{shown};
+ghost use Rattle.lens_summary.specs.Tables.{shown};
 ghost use Rattle.lens_terms.specs.Terms as terms;
 ghost use Rattle.lens_summary.specs.Leaders as spec;
 ghost use Rattle.lens_summary.specs.Part.{part};
 
+use crate::cell::Cell;
 use crate::part::add_part;
-use crate::rows::add_row;
+use crate::row::{Row, add_row};
 use crate::spread::{longest, total};
 use kube_base::NoMemory;
-use lens_table::{Cell, Row};
 use lens_terms::{Closing, Ending, Term, leaderless};
 use std::alloc::Global;
 
@@ -101,7 +101,7 @@ fn add_term<'a>(
 }
 
 /// The word for how a term ends.
-pub fn ended(closing: Option<Closing>) -> &'static [u8]
+pub(crate) fn ended(closing: Option<Closing>) -> &'static [u8]
     ensures { result.now ≡ spec.ended closing }
 {
     match closing {

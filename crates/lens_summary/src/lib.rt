@@ -1,29 +1,26 @@
-//! What a trace comes to, as tables: the command `summary`, from words and bytes to text and status.
+//! What a trace comes to, as tables with columns as `kubectl get` prints them, or as JSON: the command `summary`, from words and bytes to text
+//! and status.
 #![tactic(auto)]
 
+mod cell;
+pub mod figures;
 mod leaders;
 mod nodes;
 mod outcome;
 mod part;
 mod pods;
-mod rows;
+mod row;
 mod running;
 mod spread;
 mod subject;
 mod summary;
+mod table;
 mod together;
 mod totals;
 mod zones;
 
-pub use leaders::ended;
-pub use nodes::change_in;
-pub use outcome::Outcome;
+pub use cell::Cell;
 pub use pods::eviction_in;
-pub use rows::add_row;
+pub use row::{Row, add_row};
 pub use running::{run, summary_of};
-pub use spread::{longest, total};
-pub use subject::Subject;
-pub use summary::premise_word;
-pub use together::beats_of_two;
-pub use totals::{count, kinds, outcomes};
-pub use zones::zone_in;
+pub use table::add_table;

@@ -1,12 +1,12 @@
 // What became of nodes.
 ghost use Rattle.std.specs.Prelude.{◌≡◌, ◌++◌, OnOk, Some, None, MatchOption, option_to_list};
-ghost use Rattle.lens_table.specs.Tables.{shown};
+ghost use Rattle.lens_summary.specs.Tables.{shown};
 ghost use Rattle.trace_lines.specs.Reads.{said, seen};
 ghost use Rattle.lens_summary.specs.Nodes as spec;
 
-use crate::rows::add_row;
+use crate::cell::Cell;
+use crate::row::{Row, add_row};
 use kube_base::NoMemory;
-use lens_table::{Cell, Row};
 use std::alloc::Global;
 use trace_lines::{Answer, Line, Says};
 
@@ -35,7 +35,7 @@ pub(crate) fn add_node<'a>(
 }
 
 /// The node that a line changes, how, and to which taint or for which reason.
-pub fn change_in<'a>(says: &Says<&'a [u8]>) -> Option<(&'a [u8], &'static [u8], &'a [u8])>
+pub(crate) fn change_in<'a>(says: &Says<&'a [u8]>) -> Option<(&'a [u8], &'static [u8], &'a [u8])>
     ensures { MatchOption result (spec.change_in (said says.now) ≡ None) (λ n. spec.change_in (said says.now) ≡ Some (n.0.now, n.1.now, n.2.now)) }
 {
     match says {

@@ -7,7 +7,7 @@ use trace_lines::{Answer, Says, Verb};
 
 /// How what a line writes was answered.
 #[derive(Clone, Copy)]
-pub enum Outcome {
+pub(crate) enum Outcome {
     /// It writes nothing.
     Unasked,
     /// It was taken.

@@ -1,10 +1,11 @@
 // A table that is told.
 ghost use Rattle.std.specs.Prelude.{◌≡◌, ◌++◌, OnOk};
-ghost use Rattle.lens_table.specs.Tables.{shown};
+ghost use Rattle.lens_summary.specs.Tables.{shown};
 ghost use Rattle.lens_summary.specs.Part as spec;
 
+use crate::row::Row;
+use crate::table::add_table;
 use kube_base::NoMemory;
-use lens_table::{Row, add_table};
 use std::alloc::Global;
 use trace_writer::add;
 

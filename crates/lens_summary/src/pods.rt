@@ -1,12 +1,12 @@
 // The pods that were evicted.
 ghost use Rattle.std.specs.Prelude.{◌≡◌, ◌++◌, OnOk, Some, None, MatchOption, option_to_list};
-ghost use Rattle.lens_table.specs.Tables.{shown};
+ghost use Rattle.lens_summary.specs.Tables.{shown};
 ghost use Rattle.trace_lines.specs.Reads.{said, seen};
 ghost use Rattle.lens_summary.specs.Pods as spec;
 
-use crate::rows::add_row;
+use crate::cell::Cell;
+use crate::row::{Row, add_row};
 use kube_base::NoMemory;
-use lens_table::{Cell, Row};
 use std::alloc::Global;
 use trace_lines::{Answer, Line, Says};
 

@@ -12,7 +12,7 @@ fn beats(span: Span) -> u32
 }
 
 /// How many beats the longest span has, 0 where there is none.
-pub fn longest(spans: &[Span]) -> u32
+pub(crate) fn longest(spans: &[Span]) -> u32
     ensures { result ≡ spec.longest spans.now }
 {
     let mut most = 0;
@@ -23,7 +23,7 @@ pub fn longest(spans: &[Span]) -> u32
 }
 
 /// How many beats all spans have together.
-pub fn total(spans: &[Span]) -> u32
+pub(crate) fn total(spans: &[Span]) -> u32
     ensures { result ≡ spec.total spans.now }
 {
     let mut sum: u32 = 0;

@@ -1,24 +1,24 @@
 // What lines tell of: zones, nodes and pods.
 ghost use Rattle.std.specs.Prelude.{◌≡◌, ◌++◌, IfOk, OnOk, map, option_to_list};
-ghost use Rattle.lens_table.specs.Cells.{cell_text};
-ghost use Rattle.lens_table.specs.Tables.{shown};
+ghost use Rattle.lens_summary.specs.Cells.{cell_text};
+ghost use Rattle.lens_summary.specs.Tables.{shown};
 ghost use Rattle.trace_lines.specs.Reads.{seen};
 ghost use Rattle.lens_summary.specs.Part.{part};
 ghost use Rattle.lens_summary.specs.Subjects as spec;
 
+use crate::cell::Cell;
 use crate::nodes::add_node;
 use crate::part::add_part;
 use crate::pods::add_pod;
-use crate::rows::add_row;
+use crate::row::{Row, add_row};
 use crate::zones::add_zone;
 use kube_base::NoMemory;
-use lens_table::{Cell, Row};
 use std::alloc::Global;
 use trace_lines::Line;
 
 /// What lines tell of, with a table of its own.
 #[derive(Clone, Copy)]
-pub enum Subject {
+pub(crate) enum Subject {
     /// The states that passes found zones in.
     Zones,
     /// The changes of nodes that the store took.

@@ -1,21 +1,21 @@
 // What a trace comes to.
 ghost use Rattle.std.specs.Prelude.{◌≡◌, ◌++◌, ◌≤◌, IfOk, OnOk, map};
 ghost use Rattle.lens_edge.specs.Outcome.{reply_of};
-ghost use Rattle.lens_table.specs.Cells.{cell_text};
-ghost use Rattle.lens_table.specs.Tables.{shown};
+ghost use Rattle.lens_summary.specs.Cells.{cell_text};
+ghost use Rattle.lens_summary.specs.Tables.{shown};
 ghost use Rattle.trace_lines.specs.Reads.{seen};
 ghost use Rattle.lens_summary.specs.Part.{part};
 ghost use Rattle.lens_summary.specs.Summary as spec;
 
+use crate::cell::Cell;
 use crate::leaders::{tell_spans, tell_terms};
 use crate::part::add_part;
-use crate::rows::add_row;
+use crate::row::{Row, add_row};
 use crate::subject::{Subject, tell_subject};
 use crate::together::beats_of_two;
 use crate::totals::tell_totals;
 use kube_base::NoMemory;
 use lens_edge::{Answer, Verdict};
-use lens_table::{Cell, Row};
 use lens_terms::terms_of;
 use std::alloc::Global;
 use trace_lines::{Header, Line};
@@ -98,7 +98,7 @@ fn trace_rows(
 }
 
 /// The word for a premise.
-pub fn premise_word(premise: bool) -> &'static [u8]
+pub(crate) fn premise_word(premise: bool) -> &'static [u8]
     ensures { result.now ≡ spec.premise_word premise }
 {
     if premise { b"yes" } else { b"no" }

@@ -55,7 +55,7 @@ impl<'a> Latest<&'a [u8]> {
 /// At how many beats two identities lead, in a trace that ends before the beat `stop`. One pass over the terms, which stand in the order in
 /// which they begin.
 #[tactic(auto, unfolding(crate::specs::Together::beats_of_two))]
-pub fn beats_of_two(stop: u32, found: &[Term<&[u8]>]) -> u32
+pub(crate) fn beats_of_two(stop: u32, found: &[Term<&[u8]>]) -> u32
     ensures { result ≡ spec.beats_of_two stop (map shown found.now) }
 {
     let nobody: &[u8] = b"";

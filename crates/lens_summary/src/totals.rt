@@ -2,14 +2,15 @@
 ghost use Rattle.std.specs.Prelude.{◌≡◌, ◌++◌, IfOk, OnOk, count_by, map, option_to_list};
 ghost use Rattle.std.specs.List.{flat_map};
 ghost use Rattle.std.specs.Option.{option_map};
-ghost use Rattle.lens_table.specs.Tables.{shown, table_text};
+ghost use Rattle.lens_summary.specs.Tables.{shown, table_text};
 ghost use Rattle.trace_lines.specs.Reads.{seen};
 ghost use Rattle.lens_summary.specs.Totals as spec;
 
+use crate::cell::Cell;
 use crate::outcome::{Outcome, is_same, outcome_of, word_of};
-use crate::rows::add_row;
+use crate::row::{Row, add_row};
+use crate::table::add_table;
 use kube_base::NoMemory;
-use lens_table::{Cell, Row, add_table};
 use std::alloc::Global;
 use trace_lines::Line;
 
@@ -61,7 +62,7 @@ fn add_kinds<'a>(
 
 /// The kinds, in the order in which they are told.
 #[tactic(auto, unfolding(crate::specs::Totals::kinds))]
-pub fn kinds() -> [&'static [u8]; 19]
+pub(crate) fn kinds() -> [&'static [u8]; 19]
     ensures { map (λ word. word.now) result ≡ spec.kinds }
 {
     [
@@ -139,7 +140,7 @@ fn add_counts<'a>(
 }
 
 /// How many of some outcomes are this one.
-pub fn count(outcomes: &[Outcome], wanted: Outcome) -> u64
+pub(crate) fn count(outcomes: &[Outcome], wanted: Outcome) -> u64
     ensures { result ≡ count_by (spec.is wanted) outcomes.now }
 {
     let mut number = 0;
@@ -153,7 +154,7 @@ pub fn count(outcomes: &[Outcome], wanted: Outcome) -> u64
 
 /// The outcomes of all lines of a kind, by its word, or of all lines.
 #[tactic(auto, unfolding(crate::specs::Totals::outcomes))]
-pub fn outcomes(
+pub(crate) fn outcomes(
     alloc: Global,
     kind: Option<&[u8]>,
     lines: &[Line<&[u8]>],

@@ -1,12 +1,12 @@
 // The states of zones.
 ghost use Rattle.std.specs.Prelude.{◌≡◌, ◌++◌, OnOk, Some, None, MatchOption, option_to_list};
-ghost use Rattle.lens_table.specs.Tables.{shown};
+ghost use Rattle.lens_summary.specs.Tables.{shown};
 ghost use Rattle.trace_lines.specs.Reads.{said, seen};
 ghost use Rattle.lens_summary.specs.Zones as spec;
 
-use crate::rows::add_row;
+use crate::cell::Cell;
+use crate::row::{Row, add_row};
 use kube_base::NoMemory;
-use lens_table::{Cell, Row};
 use std::alloc::Global;
 use trace_lines::{Line, Says};
 
@@ -35,7 +35,7 @@ pub(crate) fn add_zone<'a>(
 }
 
 /// The zone that a line tells of, its state and its rate.
-pub fn zone_in<'a>(says: &Says<&'a [u8]>) -> Option<(&'a [u8], &'a [u8], u32)>
+pub(crate) fn zone_in<'a>(says: &Says<&'a [u8]>) -> Option<(&'a [u8], &'a [u8], u32)>
     ensures { MatchOption result (spec.zone_in (said says.now) ≡ None) (λ z. spec.zone_in (said says.now) ≡ Some (z.0.now, z.1.now, z.2)) }
 {
     match says {

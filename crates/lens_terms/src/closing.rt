@@ -1,7 +1,7 @@
 // How a term ends.
 
 /// How a term ends before the trace does.
-#[derive(Clone, Copy, Debug, PartialEq, Eq)]
+#[derive(Clone, Copy)]
 pub enum Ending {
     /// An `end` line: a leader gives up.
     End,
@@ -12,7 +12,7 @@ pub enum Ending {
 }
 
 /// The line that ends a term: its beat, and how.
-#[derive(Clone, Copy, Debug, PartialEq, Eq)]
+#[derive(Clone, Copy)]
 pub struct Closing {
     pub beat: u32,
     pub how: Ending,

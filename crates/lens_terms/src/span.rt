@@ -7,7 +7,7 @@ use kube_base::NoMemory;
 use std::alloc::Global;
 
 /// The beats from one on up to before another.
-#[derive(Clone, Copy, Debug, PartialEq, Eq)]
+#[derive(Clone, Copy)]
 pub struct Span {
     pub from: u32,
     pub until: u32,

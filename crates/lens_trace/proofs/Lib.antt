@@ -5,3 +5,8 @@ pub mod ReplyLaws
 pub mod AuditTerms
 pub mod AgreeLaws
 pub mod SpanLaws
+pub mod OverlapLaws
+pub mod MemberLaws
+pub mod ToldLaws
+pub mod OrderLaws
+pub mod LineLaws

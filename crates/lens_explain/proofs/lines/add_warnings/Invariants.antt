@@ -1,6 +1,6 @@
 use Rattle.std.proofs.Common.{◌≡◌, ◌++◌, drop}
 use Rattle.std.specs.List.{flat_map}
-use Rattle.lens_why.specs.Warnings.{warning_text}
+use Rattle.lens_explain.specs.Warnings.{warning_text}
 use Rattle.lens_explain.proofs.lines.add_warnings.Given as goal
 
 -- the lines so far and those of the rest

@@ -1,5 +1,5 @@
 use Rattle.std.proofs.Common.{◌≡◌, ◌++◌, map, drop}
-use Rattle.lens_parts.specs.Parts.{members_in}
+use Rattle.lens_json.specs.Parts.{members_in}
 use Rattle.lens_explain.specs.Json.{warning_members}
 use Rattle.lens_explain.proofs.object.warnings_in.Given as goal
 

@@ -1,5 +1,5 @@
 use Rattle.std.proofs.Common.{◌≡◌, ◌++◌, map, drop}
-use Rattle.lens_table.specs.Tables.{shown}
+use Rattle.lens_summary.specs.Tables.{shown}
 use Rattle.lens_lateness.specs.Told.{texts_of}
 use Rattle.lens_lateness.proofs.table.add_found.Given as goal
 

@@ -1,5 +1,5 @@
 use Rattle.std.proofs.Common.{◌≡◌, ◌++◌, map, drop}
-use Rattle.lens_table.specs.Tables.{shown}
+use Rattle.lens_summary.specs.Tables.{shown}
 use Rattle.lens_terms.specs.Terms as terms
 use Rattle.lens_summary.specs.Leaders.{term_row}
 use Rattle.lens_summary.proofs.leaders.add_terms.Given as goal

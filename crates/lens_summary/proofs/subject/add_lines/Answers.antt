@@ -1,5 +1,5 @@
 use Rattle.trace_lines.specs.Reads.{seen}
-use Rattle.lens_table.specs.Tables.{shown}
+use Rattle.lens_summary.specs.Tables.{shown}
 use Rattle.lens_summary.specs.Subjects.{told_by}
 use Rattle.lens_summary.proofs.StepLaws.{filter-step}
 use Rattle.lens_summary.proofs.subject.add_lines.Goals as goal

@@ -1,5 +1,5 @@
 use Rattle.std.proofs.Common.{◌≡◌, ◌++◌, map, drop}
-use Rattle.lens_table.specs.Tables.{shown}
+use Rattle.lens_summary.specs.Tables.{shown}
 use Rattle.trace_lines.specs.Reads.{seen}
 use Rattle.lens_summary.specs.Subjects.{told}
 use Rattle.lens_summary.proofs.subject.add_lines.Given as goal

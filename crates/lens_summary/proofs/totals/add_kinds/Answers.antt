@@ -1,5 +1,5 @@
 use Rattle.std.proofs.Common.{◌≡◌, ℕ, List, length, map, Bor, arith}
-use Rattle.lens_table.specs.Tables.{shown}
+use Rattle.lens_summary.specs.Tables.{shown}
 use Rattle.trace_lines.specs.Reads.{seen}
 use Rattle.lens_summary.specs.Totals.{kind_rows}
 use Rattle.lens_summary.proofs.TotalLaws.{flat-step, kinds-told}

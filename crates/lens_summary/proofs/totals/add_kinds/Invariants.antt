@@ -1,6 +1,6 @@
 use Rattle.std.proofs.Common.{◌≡◌, ℕ, List, ◌++◌, map, drop, Bor}
 use Rattle.std.specs.List.{flat_map}
-use Rattle.lens_table.specs.Tables.{shown}
+use Rattle.lens_summary.specs.Tables.{shown}
 use Rattle.trace_lines.specs.Reads.{seen}
 use Rattle.lens_summary.specs.Totals.{kind_rows, kinds}
 use Rattle.lens_summary.proofs.totals.add_kinds.Given as goal

@@ -1,7 +1,7 @@
 use Rattle.std.proofs.Common.{[], ◌∷◌, ◌++◌, map, ap, ◌∙◌}
 use Rattle.trace_lines.specs.Reads.{seen}
-use Rattle.lens_table.specs.Cells.{cell_text}
-use Rattle.lens_table.specs.Tables.{shown}
+use Rattle.lens_summary.specs.Cells.{cell_text}
+use Rattle.lens_summary.specs.Tables.{shown}
 use Rattle.lens_summary.proofs.TotalLaws.{totals-added}
 use Rattle.lens_summary.proofs.totals.total_rows.Goals as goal
 

@@ -1,0 +1,54 @@
+use Rattle.std.proofs.Common.{List, ℕ, [], Some, None, map, string_bytes, refl, sym, ap, subst, ◌∙◌, ◌≡◌}
+use Rattle.lens_edge.specs.Outcome.{Ends, Reply, Unread, usage}
+use Rattle.lens_edge.specs.declared.status.Verdict.TheVariants.{Done}
+use Rattle.lens_room.specs.Flags.{behind}
+use Rattle.lens_room.specs.FlagReplies.{answer_to}
+use Rattle.kube_lens.specs.Commands.{command_of}
+use Rattle.kube_lens.specs.Outcome.{help}
+use Rattle.kube_lens.specs.declared.command.Command.TheVariants.{Help, Margin, Flags}
+use Rattle.kube_lens.proofs.Commanded.{ends-commanded, ends-unread}
+use Rattle.kube_lens.proofs.running.run.Goals as goal
+
+pub returns-in-Some-Help-clause-text : goal.returns-in-Some-Help-clause-text
+returns-in-Some-Help-clause-text g c bytes told =
+    let words : List (List ℕ) = map string_bytes c.args.words.now.items in
+    let left = g.S.Source.left c.args.source.now in
+    let before = g.K.Sink.taken c.args.sink.now in
+    let after = g.K.Sink.taken c.tell.new.sink in
+    let found : Some Help ≡ command_of words = ap Some (sym c.in-Some-Help.field-0-is) ∙ sym c.in-Some-Help.is ∙ c.command_in.ensures in
+    let told_help : Ends (Unread help bytes) (Some bytes) before after c.tell.result
+    = subst (λ text. Ends (Unread (let r : Reply = record { verdict = Done; text = text } in r) bytes) (Some bytes) before after c.tell.result) c.help.ensures (c.tell.ensures.text bytes) in
+    ends-commanded words bytes (Some Help) left before after c.tell.result found (ends-unread help bytes left before after c.tell.result told told_help)
+
+pub returns-in-Some-Margin-clause-text : goal.returns-in-Some-Margin-clause-text
+returns-in-Some-Margin-clause-text g c bytes told =
+    let words : List (List ℕ) = map string_bytes c.args.words.now.items in
+    let found : Some Margin ≡ command_of words = ap Some (sym c.in-Some-Margin.field-0-is) ∙ sym c.in-Some-Margin.is ∙ c.command_in.ensures in
+    ends-commanded words bytes (Some Margin) (g.S.Source.left c.run.new.source) (g.K.Sink.taken c.args.sink.now) (g.K.Sink.taken c.run.new.sink) c.run.result found (c.run.ensures.text bytes told)
+
+pub returns-in-Some-Flags-clause-text : goal.returns-in-Some-Flags-clause-text
+returns-in-Some-Flags-clause-text g c bytes told =
+    let words : List (List ℕ) = map string_bytes c.args.words.now.items in
+    let left = g.S.Source.left c.args.source.now in
+    let before = g.K.Sink.taken c.args.sink.now in
+    let after = g.K.Sink.taken c.run-in-Some-Flags.new.sink in
+    let found : Some Flags ≡ command_of words = ap Some (sym c.in-Some-Flags.field-0-is) ∙ sym c.in-Some-Flags.is ∙ c.command_in.ensures in
+    ends-commanded words bytes (Some Flags) left before after c.run-in-Some-Flags.result found (ends-unread (answer_to (behind words)) bytes left before after c.run-in-Some-Flags.result told (c.run-in-Some-Flags.ensures.text bytes))
+
+pub returns-in-Some-Flags-clause-flags_safe : goal.returns-in-Some-Flags-clause-flags_safe
+returns-in-Some-Flags-clause-flags_safe g c flags command read is = c.run-in-Some-Flags.ensures.safe flags read is
+
+pub returns-in-Some-Flags-clause-flags_not_safe : goal.returns-in-Some-Flags-clause-flags_not_safe
+returns-in-Some-Flags-clause-flags_not_safe g c flags command read is = c.run-in-Some-Flags.ensures.not_safe flags read is
+
+pub returns-in-None-clause-text : goal.returns-in-None-clause-text
+returns-in-None-clause-text g c bytes told =
+    let words : List (List ℕ) = map string_bytes c.args.words.now.items in
+    let left = g.S.Source.left c.args.source.now in
+    let before = g.K.Sink.taken c.args.sink.now in
+    let after = g.K.Sink.taken c.tell_usage.new.sink in
+    let found : None ≡ command_of words = sym c.in-None.is ∙ c.command_in.ensures in
+    ends-commanded words bytes None left before after c.tell_usage.result found (ends-unread usage bytes left before after c.tell_usage.result told (c.tell_usage.ensures.text bytes))
+
+pub returns-in-None-clause-usage : goal.returns-in-None-clause-usage
+returns-in-None-clause-usage g c other = (refl, c.tell_usage.ensures.status, c.tell_usage.ensures.text [])

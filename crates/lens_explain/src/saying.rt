@@ -1,0 +1,181 @@
+// What is said about a refusal.
+ghost use Rattle.std.specs.Prelude.{◌≤◌, IfOk, length};
+ghost use Rattle.lens_explain.specs.Places.{IsShown};
+
+use crate::broken::{hint, stop_of};
+use crate::keys::key_beside;
+use crate::known::{allowed_at, first_keys_in, keys_in};
+use crate::nearest::nearest;
+use crate::place::{Shown, shown_at};
+use crate::rules::{add_order, add_rule};
+use crate::scan::Span;
+use crate::sentence::sentence;
+use crate::walk::{follow, last_step, step_at, text_at};
+use kube_base::NoMemory;
+use std::alloc::Global;
+use trace_writer::add;
+
+/// An input that isn't JSON.
+const BAD_JSON: u32 = 1;
+
+/// A key that isn't known.
+const UNKNOWN_KEY: u32 = 3;
+
+/// What is said about a refusal.
+#[derive(Drop)]
+pub(crate) struct Reason<'t> {
+    /// What is shown of a place of the input.
+    pub shown: Shown<'t>,
+    /// Further lines, a sentence on the code at least.
+    pub more: Vec<u8>,
+}
+
+/// What is said about the refusal of an input by this code and path.
+pub(crate) fn why<'t>(
+    alloc: Global,
+    input: &'t [u8],
+    code: u32,
+    path: &[u8],
+) -> Result<Reason<'t>, NoMemory>
+    ensures { IfOk result (λ why. IsShown input.now why.shown) }
+{
+    let odd = if code == UNKNOWN_KEY {
+        odd_key(alloc, input, path)?
+    } else {
+        None
+    };
+    let place = place_of(alloc, input, code, path, odd)?;
+    let more = said(alloc, input, code, path, odd, place)?;
+    Ok(Reason {
+        shown: shown_at(input, place),
+        more,
+    })
+}
+
+/// The place that is shown: that of the key that isn't known, of the byte at which the text stops to be JSON, or of the last value on the
+/// path that is there.
+fn place_of(
+    alloc: Global,
+    input: &[u8],
+    code: u32,
+    path: &[u8],
+    odd: Option<Span>,
+) -> Result<usize, NoMemory>
+    ensures { IfOk result (λ place. place ≤ length input.now) }
+{
+    let place = match odd {
+        Some(span) => span.from.saturating_sub(1),
+        None => {
+            if code == BAD_JSON {
+                stop_of(alloc, input)?
+            } else {
+                follow(input, path).place
+            }
+        }
+    };
+    Ok(place.min(input.len()))
+}
+
+/// The first key of the object at a path that no version knows there, or else that version 1 doesn't.
+fn odd_key(alloc: Global, input: &[u8], path: &[u8]) -> Result<Option<Span>, NoMemory> {
+    let found = follow(input, path);
+    if !found.whole {
+        return Ok(None);
+    }
+    let kind = kind_at(alloc, input, path)?;
+    let part = part_of(path);
+    match key_beside(input, found.place, keys_in(part, kind)) {
+        Some(span) => Ok(Some(span)),
+        None => Ok(key_beside(input, found.place, first_keys_in(part, kind))),
+    }
+}
+
+/// The type of the event at a path.
+fn kind_at<'t>(alloc: Global, input: &'t [u8], path: &[u8]) -> Result<&'t [u8], NoMemory> {
+    let mut below = Vec::from_slice(alloc, path)?;
+    below.extend_from_slice(b"/type")?;
+    match text_at(input, &below) {
+        Some(kind) => Ok(kind),
+        None => Ok(b""),
+    }
+}
+
+/// The first key of a path.
+fn part_of(path: &[u8]) -> &[u8] {
+    step_at(path, 1)
+}
+
+/// The lines behind that of the place.
+fn said(
+    alloc: Global,
+    input: &[u8],
+    code: u32,
+    path: &[u8],
+    odd: Option<Span>,
+    place: usize,
+) -> Result<Vec<u8>, NoMemory> {
+    let mut text = Vec::new(alloc);
+    add(&mut text, sentence(code).as_bytes())?;
+    add(&mut text, b"\n")?;
+    match code {
+        1 => add(&mut text, hint(input, place).as_bytes())?,
+        3 => add_key(alloc, &mut text, input, path, odd)?,
+        4..=6 => add_allowed(&mut text, path)?,
+        7 => add_rule(alloc, &mut text, input, path)?,
+        9 => add_order(alloc, &mut text, input, path)?,
+        _ => {}
+    }
+    Ok(text)
+}
+
+/// Adds which key isn't known, and the nearest one that is.
+fn add_key(
+    alloc: Global,
+    text: &mut Vec<u8>,
+    input: &[u8],
+    path: &[u8],
+    odd: Option<Span>,
+) -> Result<(), NoMemory> {
+    let Some(span) = odd else {
+        return Ok(());
+    };
+    let key = span.of(input);
+    let known = keys_in(part_of(path), kind_at(alloc, input, path)?);
+    match nearest(alloc, key, known)? {
+        Some(near) if near.as_bytes() == key => {
+            add(
+                text,
+                b"It is one of version 2 and later: write \"version\": 2.\n",
+            )
+        }
+        Some(near) => {
+            add(text, b"The nearest one that is: ")?;
+            add(text, near.as_bytes())?;
+            add(text, b".\n")
+        }
+        None => add_known(text, known),
+    }
+}
+
+/// Adds which keys are known.
+fn add_known(text: &mut Vec<u8>, known: &[&str]) -> Result<(), NoMemory> {
+    add(text, b"These are:")?;
+    for key in known {
+        add(text, b" ")?;
+        add(text, key.as_bytes())?;
+    }
+    add(text, b".\n")
+}
+
+/// Adds what may stand at the key at a path's end.
+fn add_allowed(text: &mut Vec<u8>, path: &[u8]) -> Result<(), NoMemory> {
+    match allowed_at(last_step(path)) {
+        Some(allowed) if !path.starts_with(b"/objects/") => {
+            add(text, last_step(path))?;
+            add(text, b" takes ")?;
+            add(text, allowed.as_bytes())?;
+            add(text, b".\n")
+        }
+        _ => Ok(()),
+    }
+}

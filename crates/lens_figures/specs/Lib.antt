@@ -1,4 +1,0 @@
-pub mod Lines
-pub mod Totals
-pub mod Figures
-pub mod Replies

@@ -1,8 +1,0 @@
-//! Who leads in a trace as JSON: the command `leaders --json`, from words and bytes to text and status.
-#![tactic(auto)]
-
-mod answering;
-mod parts;
-mod running;
-
-pub use running::run;

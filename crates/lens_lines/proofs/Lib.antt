@@ -1,4 +1,0 @@
-pub mod MemberLaws
-pub mod ToldLaws
-pub mod OrderLaws
-pub mod LineLaws

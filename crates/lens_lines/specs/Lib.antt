@@ -1,4 +1,0 @@
-pub mod Members
-pub mod Lines
-pub mod Laws
-pub mod Replies

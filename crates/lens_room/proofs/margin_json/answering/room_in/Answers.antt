@@ -1,0 +1,18 @@
+use Rattle.std.proofs.Common.{◌≡◌, IfOk, sym, ap, subst}
+use Rattle.lens_edge.specs.Outcome.{reply_of}
+use Rattle.lens_room.specs.MarginJson.{found}
+use Rattle.lens_room.proofs.margin_json.answering.room_in.Goals as goal
+
+pub tell-requires-clause-lawful : goal.tell-requires-clause-lawful
+tell-requires-clause-lawful c = c.documents_are_lawful.ensures.lawful c.args.input.now c.in-Ok.document c.in-Ok.ensures
+
+pub tell-requires-clause-named : goal.tell-requires-clause-named
+tell-requires-clause-named c = c.documents_are_lawful.ensures.named c.args.input.now c.in-Ok.document c.in-Ok.ensures
+
+pub returns-in-Ok : goal.returns-in-Ok
+returns-in-Ok c = subst (λ w. IfOk c.tell.result (λ a. reply_of a ≡ found w)) (sym c.in-Ok.ensures) c.tell.ensures
+
+pub returns-in-Err-Refused : goal.returns-in-Err-Refused
+returns-in-Err-Refused c =
+    let told = rw c.in-Err-Refused.field-0-is at c.in-Err-Refused.ensures in
+    subst (λ r. IfOk c.refuse_as.result (λ a. reply_of a ≡ r)) (sym (ap found told)) c.refuse_as.ensures

@@ -1,0 +1,58 @@
+-- What the numbers of settings are: those of the lease premise of the document that they describe.
+use Rattle.std.specs.Prelude.{◌≡◌, ℕ, ◌+◌, ◌-◌, ◌*◌, ◌/◌, ◌<◌, ◌≤◌, nat_lt, Bool, true, Option, Some, None, if◌then◌else◌}
+use Rattle.history.specs.Premise.{lease_premise}
+use Rattle.lens_margin.specs.declared.margin.Margin.{Margin}
+use Rattle.lens_margin.specs.Laws.{IsLeast, IsGreatest, IsMargin}
+use Rattle.lens_margin.specs.Margins.{margin_of}
+use Rattle.lens_room.specs.declared.by_flags.flags.Flags.{Flags}
+use Rattle.lens_room.specs.Described.{described}
+use Rattle.lens_room.specs.Flags.{timeout_of}
+use Rattle.lens_room.specs.Ranges.{AreInRange}
+
+-- whether two leaders are ruled out
+abbrev pub holds : Flags → Bool
+holds flags = lease_premise (described flags)
+
+abbrev pub with_lease : Flags → ℕ → Flags
+with_lease flags seconds = record flags { lease_seconds = seconds }
+
+abbrev pub with_skew : Flags → ℕ → Flags
+with_skew flags ppm = record flags { skew_ppm = ppm }
+
+-- ---- the numbers
+
+-- those of the slower of the two controllers
+abbrev pub flags_margin : Flags → Margin
+flags_margin flags = margin_of (described flags) 0
+
+-- what a leader may act on after its last sent success, in milliseconds of exact clocks
+abbrev pub acting : Flags → ℕ
+acting flags = timeout_of flags + flags.retry_millis + flags.renew_millis
+
+-- by how much more than this the lease is, over both together
+abbrev pub skew_within : ℕ → ℕ → Option ℕ
+skew_within lease acts = if nat_lt acts lease then Some (((lease - acts) * 1000000 - 1) / (lease + acts)) else None
+
+abbrev pub greatest_skew : Flags → Option ℕ
+greatest_skew flags = skew_within (flags.lease_seconds * 1000) (acting flags)
+
+-- ---- their laws
+
+-- the least lease of at most a day with which the premise holds, or none where it holds with none
+abbrev pub IsLeastLease : Flags → Option ℕ → Type 0
+IsLeastLease flags (Some seconds) = (seconds ≤ 86400) × IsLeast (λ s. holds (with_lease flags s) ≡ true) seconds
+IsLeastLease flags None = (s : ℕ) → holds (with_lease flags s) ≡ true → 86400 < s
+
+-- the greatest skew with which the premise holds, or none where it holds with none
+abbrev pub IsGreatestSkew : Flags → Option ℕ → Type 0
+IsGreatestSkew flags (Some ppm) = IsGreatest (λ s. holds (with_skew flags s) ≡ true) ppm
+IsGreatestSkew flags None = (s : ℕ) → ¬ (holds (with_skew flags s) ≡ true)
+
+pub record AreNumbers (flags : Flags) : Type 0 where
+  pub margin : IsMargin (described flags) 0 (flags_margin flags)
+  pub least_lease : IsLeastLease flags (flags_margin flags).least_seconds
+  pub greatest_skew : IsGreatestSkew flags (greatest_skew flags)
+
+-- of all settings in their ranges
+abbrev pub NumbersAreOfThePremise : Type 0
+NumbersAreOfThePremise = (flags : Flags) → AreInRange flags → AreNumbers flags

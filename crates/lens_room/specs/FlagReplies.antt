@@ -1,0 +1,92 @@
+-- What words behind `margin` are answered.
+use Rattle.std.specs.Prelude.{ℕ, List, [], ◌++◌, codes, decimal, slice_get, Option, Some, None, unwrap_or, Result, Ok, Err, if◌then◌else◌}
+use Rattle.lens_edge.specs.Outcome.{Reply}
+use Rattle.lens_edge.specs.declared.status.Verdict.TheVariants.{Usage}
+use Rattle.lens_room.specs.Lines.{margin_line, verdict_text}
+use Rattle.lens_room.specs.Replies.{verdict_of}
+use Rattle.lens_room.specs.declared.by_flags.flag.Flag.{Flag}
+use Rattle.lens_room.specs.declared.by_flags.flag.Flag.TheVariants.{Lease, Renew, Retry, Timeout, Skew, Beat}
+use Rattle.lens_room.specs.declared.by_flags.flags.Flags.{Flags}
+use Rattle.lens_room.specs.declared.by_flags.wrong.Wrong.{Wrong}
+use Rattle.lens_room.specs.declared.by_flags.wrong.Wrong.TheVariants.{Unknown, Alone, Value, LongRenew, LongRetry, LongTimeout}
+use Rattle.lens_room.specs.Flags.{timeout_of, flags_of}
+use Rattle.lens_room.specs.FlagJson.{settings_json}
+use Rattle.lens_room.specs.FlagLaws.{holds, flags_margin, greatest_skew}
+
+-- ---- settings
+
+-- whether a timeout is the renew deadline, as none is given
+abbrev pub origin_text : Option ℕ → List ℕ
+origin_text None = codes "(renew-deadline)"
+origin_text (Some millis) = []
+
+unfoldable pub taken_text : Flags → List ℕ
+taken_text flags =
+    codes "timeout=" ++ decimal (timeout_of flags) ++ codes "ms" ++ origin_text flags.timeout_millis
+    ++ codes " skew=" ++ decimal flags.skew_ppm ++ codes "ppm"
+
+unfoldable pub ppm_text : ℕ → List ℕ
+ppm_text ppm = codes "greatest-skew=" ++ decimal ppm ++ codes "ppm\n"
+
+abbrev pub skew_text : Option ℕ → List ℕ
+skew_text None = codes "greatest-skew=none\n"
+skew_text (Some ppm) = ppm_text ppm
+
+-- what was taken for the call timeout and the skew, the numbers, the greatest skew, and the verdict
+unfoldable pub settings_text : Flags → List ℕ
+settings_text flags =
+    margin_line (taken_text flags) (flags_margin flags) ++ skew_text (greatest_skew flags) ++ verdict_text (holds flags)
+
+-- in lines, or as one JSON object
+abbrev pub told_text : Flags → List ℕ
+told_text flags = if flags.as_json then settings_json flags else settings_text flags
+
+abbrev pub told : Flags → Reply
+told flags = record { verdict = verdict_of (holds flags); text = told_text flags }
+
+-- ---- words that give none
+
+abbrev pub name_text : Flag → List ℕ
+name_text Lease = codes "--lease"
+name_text Renew = codes "--renew"
+name_text Retry = codes "--retry"
+name_text Timeout = codes "--timeout"
+name_text Skew = codes "--skew"
+name_text Beat = codes "--beat"
+
+abbrev pub values_text : Flag → List ℕ
+values_text Lease = codes " takes whole seconds from 1s to 24h, as 15s or 1m30s, not "
+values_text Renew = codes " takes a duration from 1ms to 24h, as 10s, 1m30s or 500ms, not "
+values_text Retry = codes " takes a duration from 1ms to 24h, as 2s or 500ms, not "
+values_text Timeout = codes " takes a duration from 1ms to 10m, as 5s or 500ms, not "
+values_text Skew = codes " takes parts per million up to 500000ppm, as 20000ppm, not "
+values_text Beat = codes " takes a duration from 1ms to 1s, as 100ms, not "
+
+abbrev pub word_at : List (List ℕ) → ℕ → List ℕ
+word_at words place = unwrap_or (slice_get words place) []
+
+unfoldable pub unknown_text : List ℕ → List ℕ
+unknown_text word = codes "no such flag: " ++ word
+
+abbrev pub wrong_text : List (List ℕ) → Wrong → List ℕ
+wrong_text words (Unknown place) = unknown_text (word_at words place)
+wrong_text words (Alone flag) = name_text flag ++ codes " stands without a value"
+wrong_text words (Value flag place) = name_text flag ++ values_text flag ++ word_at words place
+wrong_text words LongRenew = codes "the renew deadline must be shorter than the lease"
+wrong_text words LongRetry = codes "the retry period must be shorter than five sixths of the renew deadline"
+wrong_text words LongTimeout = codes "a call timeout is at most 10m: give one by --timeout, or a shorter renew deadline"
+
+unfoldable pub usage_text : List ℕ → List ℕ
+usage_text wrong =
+    codes "usage: kube_lens margin [--lease 15s] [--renew 10s] [--retry 2s] [--timeout 10s] [--skew 0ppm] [--beat 100ms] [--json]\n" ++ wrong ++ codes "\n"
+
+abbrev pub misused : List (List ℕ) → Wrong → Reply
+misused words wrong = record { verdict = Usage; text = usage_text (wrong_text words wrong) }
+
+abbrev pub answered : List (List ℕ) → Result Flags Wrong → Reply
+answered words (Ok flags) = told flags
+answered words (Err wrong) = misused words wrong
+
+-- what the words behind the command are answered
+abbrev pub answer_to : List (List ℕ) → Reply
+answer_to words = answered words (flags_of words)

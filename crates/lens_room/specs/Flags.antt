@@ -1,0 +1,165 @@
+-- What words give: the flags, what each takes, and the settings that they come to. Source: kube-controller-manager's flags of leader
+-- election, with its defaults; and its call timeout, which is the renew deadline.
+use Rattle.std.specs.Prelude.{ℕ, ◌+◌, ◌*◌, ◌/◌, ◌%◌, ◌≤◌, ◌==◌, ◌&&◌, ◌||◌, not, nat_le, nat_lt, Bool, true, false, List, [], ◌∷◌, length, codes}
+use Rattle.std.specs.Prelude.{Option, Some, None, unwrap_or, Result, Ok, Err, if◌then◌else◌}
+use Rattle.std.specs.Str.{bytes_eq}
+use Rattle.kube_base.specs.Times.{◌>>=◌}
+use Rattle.trace_lines.specs.Grammar.{cut, number_onto}
+use Rattle.lens_room.specs.declared.by_flags.flag.Flag.{Flag}
+use Rattle.lens_room.specs.declared.by_flags.flag.Flag.TheVariants.{Lease, Renew, Retry, Timeout, Skew, Beat}
+use Rattle.lens_room.specs.declared.by_flags.flags.Flags.{Flags}
+use Rattle.lens_room.specs.declared.by_flags.given.Given.{Given}
+use Rattle.lens_room.specs.declared.by_flags.wrong.Wrong.{Wrong}
+use Rattle.lens_room.specs.declared.by_flags.wrong.Wrong.TheVariants.{Unknown, Alone, Value, LongRenew, LongRetry, LongTimeout}
+use Rattle.lens_room.specs.Durations.{duration}
+
+-- ---- names
+
+abbrev pub is : List ℕ → List ℕ → Bool
+is text word = bytes_eq text word
+
+abbrev pub other_flag_by : List ℕ → Option Flag
+other_flag_by name =
+    if is name (codes "--timeout") then Some Timeout
+    else if is name (codes "--skew") then Some Skew
+    else if is name (codes "--beat") then Some Beat
+    else None
+
+-- a flag's own name, or kube-controller-manager's
+abbrev pub flag_by : List ℕ → Option Flag
+flag_by name =
+    if is name (codes "--lease") || is name (codes "--leader-elect-lease-duration") then Some Lease
+    else if is name (codes "--renew") || is name (codes "--leader-elect-renew-deadline") then Some Renew
+    else if is name (codes "--retry") || is name (codes "--leader-elect-retry-period") then Some Retry
+    else other_flag_by name
+
+-- ---- values
+
+abbrev pub within : ℕ → ℕ → Option ℕ
+within most number = if nat_le 1 number && nat_le number most then Some number else None
+
+abbrev pub whole_seconds : ℕ → Option ℕ
+whole_seconds millis = if (millis % 1000) == 0 then Some (millis / 1000) else None
+
+-- digits and `ppm`, of at most 500,000
+abbrev pub before_ppm : Option (List ℕ × List ℕ) → Option ℕ
+before_ppm None = None
+before_ppm (Some parts) = if is parts.1 (codes "pm") && not (length parts.0 == 0) then number_onto 500000 0 parts.0 else None
+
+unfoldable pub parts_per_million : List ℕ → Option ℕ
+parts_per_million text = before_ppm (cut 112 text)
+
+-- the seconds of a lease, the parts per million of a skew, and else milliseconds; in the ranges of a document's settings
+abbrev pub value_of : Flag → List ℕ → Option ℕ
+value_of Lease text = duration text >>= whole_seconds >>= within 86400
+value_of Renew text = duration text >>= within 86400000
+value_of Retry text = duration text >>= within 86400000
+value_of Timeout text = duration text >>= within 600000
+value_of Skew text = parts_per_million text
+value_of Beat text = duration text >>= within 1000
+
+abbrev pub IsInRange : Flag → ℕ → Type 0
+IsInRange Lease n = (1 ≤ n) × (n ≤ 86400)
+IsInRange Renew n = (1 ≤ n) × (n ≤ 86400000)
+IsInRange Retry n = (1 ≤ n) × (n ≤ 86400000)
+IsInRange Timeout n = (1 ≤ n) × (n ≤ 600000)
+IsInRange Skew n = n ≤ 500000
+IsInRange Beat n = (1 ≤ n) × (n ≤ 1000)
+
+-- ---- settings
+
+-- as kube-controller-manager has them where no flag says else, on exact clocks, with a beat of 100 ms, told in lines
+abbrev pub standard : Flags
+standard = record {
+  lease_seconds = 15;
+  renew_millis = 10000;
+  retry_millis = 2000;
+  timeout_millis = None;
+  skew_ppm = 0;
+  beat_millis = 100;
+  as_json = false;
+}
+
+abbrev pub with_value : Flag → ℕ → Flags → Flags
+with_value Lease n flags = record flags { lease_seconds = n }
+with_value Renew n flags = record flags { renew_millis = n }
+with_value Retry n flags = record flags { retry_millis = n }
+with_value Timeout n flags = record flags { timeout_millis = Some n }
+with_value Skew n flags = record flags { skew_ppm = n }
+with_value Beat n flags = record flags { beat_millis = n }
+
+-- the call timeout; where none is given, it is the renew deadline
+abbrev pub timeout_of : Flags → ℕ
+timeout_of flags = unwrap_or flags.timeout_millis flags.renew_millis
+
+-- ---- words, each `--flag=value`, or a flag and then its value; the last of a flag counts. `--json` stands wherever a flag may
+
+-- a value of a flag, by its number
+abbrev pub numbered : ℕ → Flags → Flag → Option ℕ → Result Given Wrong
+numbered place flags flag None = Err (Value flag place)
+numbered place flags flag (Some n) = Ok (record { flags = with_value flag n flags; waiting = None })
+
+abbrev pub valued : ℕ → Flags → Flag → List ℕ → Result Given Wrong
+valued place flags flag text = numbered place flags flag (value_of flag text)
+
+abbrev pub named : ℕ → Option Flag → Result Flag Wrong
+named place None = Err (Unknown place)
+named place (Some flag) = Ok flag
+
+-- a flag whose value is the next word
+abbrev pub opened : Flags → Result Flag Wrong → Result Given Wrong
+opened flags (Err wrong) = Err wrong
+opened flags (Ok flag) = Ok (record { flags = flags; waiting = Some flag })
+
+abbrev pub joined : ℕ → Flags → Result Flag Wrong → List ℕ → Result Given Wrong
+joined place flags (Err wrong) text = Err wrong
+joined place flags (Ok flag) text = valued place flags flag text
+
+abbrev pub by_parts : ℕ → Flags → List ℕ → Option (List ℕ × List ℕ) → Result Given Wrong
+by_parts place flags word None = opened flags (named place (flag_by word))
+by_parts place flags word (Some parts) = joined place flags (named place (flag_by parts.0)) parts.1
+
+abbrev pub begun : ℕ → Flags → List ℕ → Result Given Wrong
+begun place flags word =
+    if is word (codes "--json") then Ok (record { flags = record flags { as_json = true }; waiting = None })
+    else by_parts place flags word (cut 61 word)
+
+abbrev pub by_waiting : ℕ → Flags → Option Flag → List ℕ → Result Given Wrong
+by_waiting place flags None word = begun place flags word
+by_waiting place flags (Some flag) word = valued place flags flag word
+
+-- with one more word, which stands at a place
+unfoldable pub with_word : ℕ → Given → List ℕ → Result Given Wrong
+with_word place given word = by_waiting place given.flags given.waiting word
+
+-- with the words from a place on
+abbrev pub given_from : ℕ → Result Given Wrong → List (List ℕ) → Result Given Wrong
+given_from place (Err wrong) words = Err wrong
+given_from place (Ok given) [] = Ok given
+given_from place (Ok given) (word ∷ words) = given_from (place + 1) (with_word place given word) words
+
+-- ---- the rules of a document's timings: the lease outlasts the renew deadline, that the retry period by more than a fifth of it, and a
+-- call timeout is at most ten minutes
+abbrev pub ruled : Flags → Result Flags Wrong
+ruled flags =
+    if nat_le (flags.lease_seconds * 1000) flags.renew_millis then Err LongRenew
+    else if nat_le (5 * flags.renew_millis) (6 * flags.retry_millis) then Err LongRetry
+    else if nat_lt 600000 (timeout_of flags) then Err LongTimeout
+    else Ok flags
+
+abbrev pub closed : Flags → Option Flag → Result Flags Wrong
+closed flags None = ruled flags
+closed flags (Some flag) = Err (Alone flag)
+
+abbrev pub settled : Result Given Wrong → Result Flags Wrong
+settled (Err wrong) = Err wrong
+settled (Ok given) = closed given.flags given.waiting
+
+-- the settings that words behind the command give, or what is wrong with them
+unfoldable pub flags_of : List (List ℕ) → Result Flags Wrong
+flags_of words = settled (given_from 0 (Ok (record { flags = standard; waiting = None })) words)
+
+-- the words behind the first one
+abbrev pub behind : List (List ℕ) → List (List ℕ)
+behind [] = []
+behind (word ∷ words) = words

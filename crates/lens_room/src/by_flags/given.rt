@@ -1,0 +1,123 @@
+// The words behind the command.
+ghost use Rattle.std.specs.Prelude.{◌≡◌, Ok, None, IfOk, map, string_bytes};
+ghost use Rattle.lens_room.specs.Flags as spec;
+ghost use Rattle.lens_room.specs.Ranges.{AreInRange};
+
+use crate::by_flags::flag::{Flag, flag_by, is, value_of};
+use crate::by_flags::flags::Flags;
+use crate::by_flags::wrong::Wrong;
+use trace_lines::cut;
+
+/// What words gave up to a place.
+#[derive(Clone, Copy)]
+pub struct Given {
+    pub flags: Flags,
+    /// The flag whose value is the next word.
+    pub waiting: Option<Flag>,
+}
+
+/// The settings that the words behind the command give. Takes no memory.
+#[tactic(auto, unfolding(crate::specs::Flags::flags_of))]
+pub fn read_flags(words: &[String]) -> Result<Flags, Wrong>
+    ensures flags { result ≡ spec.flags_of (map string_bytes words.now) }
+    ensures ranges { IfOk result (λ flags. AreInRange flags) }
+{
+    let given = read_words(words)?;
+    match given.waiting {
+        None => rule(given.flags),
+        Some(flag) => Err(Wrong::Alone(flag)),
+    }
+}
+
+fn read_words(words: &[String]) -> Result<Given, Wrong>
+    ensures given { result ≡ spec.given_from 0 (Ok (record { flags = spec.standard; waiting = None })) (map string_bytes words.now) }
+    ensures ranges { IfOk result (λ given. AreInRange given.flags) }
+{
+    let mut given = Given {
+        flags: Flags::standard(),
+        waiting: None,
+    };
+    let mut place: usize = 0;
+    for word in words {
+        given = with_word(place, given, word.as_str().as_bytes())?;
+        place += 1;
+    }
+    Ok(given)
+}
+
+#[tactic(auto, unfolding(crate::specs::Flags::with_word))]
+fn with_word(place: usize, given: Given, word: &[u8]) -> Result<Given, Wrong>
+    requires { AreInRange given.flags }
+    ensures given { result ≡ spec.with_word place given word.now }
+    ensures ranges { IfOk result (λ given. AreInRange given.flags) }
+{
+    let flags = given.flags;
+    match given.waiting {
+        Some(flag) => valued(place, flags, flag, word),
+        None => begun(place, flags, word),
+    }
+}
+
+/// The same with a word for which no flag waits.
+fn begun(place: usize, flags: Flags, word: &[u8]) -> Result<Given, Wrong>
+    requires { AreInRange flags }
+    ensures given { result ≡ spec.begun place flags word.now }
+    ensures ranges { IfOk result (λ given. AreInRange given.flags) }
+{
+    if is(word, b"--json") {
+        return Ok(Given {
+            flags: Flags {
+                as_json: true,
+                ..flags
+            },
+            waiting: None,
+        });
+    }
+    match cut(word, b'=') {
+        Some((name, value)) => valued(place, flags, named(place, name)?, value),
+        None => Ok(Given {
+            flags,
+            waiting: Some(named(place, word)?),
+        }),
+    }
+}
+
+fn named(place: usize, name: &[u8]) -> Result<Flag, Wrong>
+    ensures { result ≡ spec.named place (spec.flag_by name.now) }
+{
+    match flag_by(name) {
+        Some(flag) => Ok(flag),
+        None => Err(Wrong::Unknown(place)),
+    }
+}
+
+fn valued(place: usize, flags: Flags, flag: Flag, text: &[u8]) -> Result<Given, Wrong>
+    requires { AreInRange flags }
+    ensures given { result ≡ spec.valued place flags flag text.now }
+    ensures ranges { IfOk result (λ given. AreInRange given.flags) }
+{
+    match value_of(flag, text) {
+        Some(value) => Ok(Given {
+            flags: flags.with(flag, value),
+            waiting: None,
+        }),
+        None => Err(Wrong::Value(flag, place)),
+    }
+}
+
+/// The settings, where they fit each other.
+fn rule(flags: Flags) -> Result<Flags, Wrong>
+    requires { AreInRange flags }
+    ensures flags { result ≡ spec.ruled flags }
+    ensures ranges { IfOk result (λ flags. AreInRange flags) }
+{
+    if u64::from(flags.lease_seconds) * 1000 <= u64::from(flags.renew_millis) {
+        Err(Wrong::LongRenew)
+    } else if 5 * u64::from(flags.renew_millis) <= 6 * u64::from(flags.retry_millis) {
+        Err(Wrong::LongRetry)
+    } else if flags.timeout() > 600_000 {
+        Err(Wrong::LongTimeout)
+    } else {
+        Ok(flags)
+    }
+}

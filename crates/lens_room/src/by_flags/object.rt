@@ -1,0 +1,80 @@
+// The JSON of settings.
+ghost use Rattle.std.specs.Prelude.{◌≡◌, ◌++◌, IfOk, OnOk, map};
+ghost use Rattle.lens_json.specs.Members.{data_of, named};
+ghost use Rattle.lens_room.specs.MarginJson.{number_if};
+ghost use Rattle.lens_room.specs.FlagJson as spec;
+ghost use Rattle.lens_room.specs.FlagLaws.{holds};
+ghost use Rattle.lens_room.specs.Ranges.{AreInRange};
+
+use crate::by_flags::flags::Flags;
+use crate::by_flags::margin::{flags_margin, greatest_skew};
+use crate::margin_json::{member, seconds, slack, stall};
+use kube_base::NoMemory;
+use lens_json::{Member, Value, add_object};
+use lens_margin::Margin;
+use std::alloc::Global;
+use trace_writer::add;
+
+/// Adds what settings come to as one JSON object.
+#[tactic(auto, unfolding(crate::specs::FlagJson::settings_json))]
+pub(crate) fn add_json(
+    text: &mut Vec<u8>,
+    alloc: Global,
+    flags: &Flags,
+    safe: bool,
+) -> Result<(), NoMemory>
+    requires ranges { AreInRange flags.now }
+    requires safe { safe ≡ holds flags.now }
+    ensures { OnOk result (text.new.items ≡ text.old.items ++ spec.settings_json flags.now) }
+{
+    let margin = flags_margin(flags);
+    let skew = greatest_skew(flags);
+    let members = members(alloc, flags, margin, skew, safe)?;
+    add_object(text, &members)?;
+    add(text, b"\n")
+}
+
+/// The members of that object.
+fn members(
+    alloc: Global,
+    flags: &Flags,
+    margin: Margin,
+    skew: Option<u64>,
+    safe: bool,
+) -> Result<Vec<Member<'static>>, NoMemory>
+    ensures { IfOk result (λ members. map named members.items ≡ spec.members_with flags.now margin skew safe) }
+{
+    let is_renew_deadline = is_renew_deadline(flags.timeout_millis);
+    let members = vec![in alloc;
+        Member::number(b"timeoutMillis", u64::from(flags.timeout())),
+        member(b"timeoutIsRenewDeadline", Value::Truth(is_renew_deadline)),
+        Member::number(b"skewPpm", u64::from(flags.skew_ppm)),
+        member(b"leaseMillis", Value::Large(margin.lease)),
+        member(b"mustExceedMillis", Value::Large(margin.must_exceed)),
+        member(b"slackMillis", slack(margin.lease, margin.must_exceed)),
+        member(b"leastLeaseSeconds", seconds(margin.least_seconds)),
+        member(b"longestStallMillis", stall(margin.longest_stall)),
+        member(b"greatestSkewPpm", ppm(skew)),
+        member(b"safe", Value::Truth(safe)),
+    ]?;
+    Ok(members)
+}
+
+/// Whether a timeout is the renew deadline, as none is given.
+fn is_renew_deadline(timeout: Option<u32>) -> bool
+    ensures { result ≡ spec.is_renew_deadline timeout }
+{
+    match timeout {
+        None => true,
+        Some(_) => false,
+    }
+}
+
+fn ppm(skew: Option<u64>) -> Value<'static>
+    ensures { data_of result ≡ number_if skew }
+{
+    match skew {
+        Some(ppm) => Value::Number(ppm),
+        None => Value::Nothing,
+    }
+}

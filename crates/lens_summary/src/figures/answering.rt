@@ -1,0 +1,86 @@
+// The answer to a trace.
+ghost use Rattle.std.specs.Prelude.{◌≡◌, ◌+◌, ◌≤◌, IfOk, map};
+ghost use Rattle.lens_edge.specs.Outcome.{reply_of};
+ghost use Rattle.lens_json.specs.Parts.{part_of, what_of};
+ghost use Rattle.lens_terms.specs.Terms.{shown};
+ghost use Rattle.trace_lines.specs.Reads.{seen};
+ghost use Rattle.lens_summary.specs.Figures as spec;
+
+use crate::figures::leaders::{header_members, span_members, terms_in};
+use crate::figures::lines::objects_in;
+use crate::figures::totals::totals_in;
+use crate::subject::Subject;
+use crate::summary::premise_word;
+use crate::together::beats_of_two;
+use kube_base::NoMemory;
+use lens_edge::{Answer, Verdict};
+use lens_json::{Object, Part, What, add_parts};
+use lens_terms::{Term, leaderless, terms_of};
+use std::alloc::Global;
+use trace_lines::{Header, Line};
+use trace_writer::add;
+
+/// The object on some lines, of which one may be the first `lead` of an identity while another one leads.
+pub(crate) fn tell(
+    alloc: Global,
+    header: Header,
+    overlap: Option<u64>,
+    lines: &[Line<&[u8]>],
+) -> Result<Answer, NoMemory>
+    requires { header.end ≤ 604800000 }
+    ensures { IfOk result (λ answer. reply_of answer ≡ spec.figures header overlap (map seen lines.now)) }
+{
+    let found = terms_of(alloc, lines)?;
+    let parts = parts(alloc, header, overlap, &found, lines)?;
+    let mut text = Vec::new(alloc);
+    add_parts(&mut text, &parts)?;
+    add(&mut text, b"\n")?;
+    Ok(Answer {
+        verdict: Verdict::Done,
+        text,
+    })
+}
+
+/// The members of that object.
+#[tactic(auto, using(crate::proofs::StepLaws::leaderless_shown))]
+fn parts<'a>(
+    alloc: Global,
+    header: Header,
+    overlap: Option<u64>,
+    found: &[Term<&'a [u8]>],
+    lines: &[Line<&'a [u8]>],
+) -> Result<[Part<'a>; 7], NoMemory>
+    requires { header.end ≤ 604800000 }
+    ensures { IfOk result (λ parts. map part_of parts
+        ≡ spec.figure_members header overlap (header.end + 1) (map shown found.now) (map seen lines.now)) }
+{
+    let stop = header.end + 1;
+    let spans = leaderless(alloc, stop, found)?;
+    let beats = beats_of_two(stop, found);
+    let premise = premise_word(header.premise);
+    let trace = header_members(alloc, header, premise, overlap, beats)?;
+    let terms = terms_in(alloc, stop, found)?;
+    let spread = span_members(alloc, &spans)?;
+    let zones = objects_in(alloc, Subject::Zones, lines)?;
+    let nodes = objects_in(alloc, Subject::Nodes, lines)?;
+    let pods = objects_in(alloc, Subject::Pods, lines)?;
+    let totals = totals_in(alloc, lines)?;
+    Ok([
+        part(b"header", What::Object(Object { members: trace })),
+        part(b"terms", What::List(terms)),
+        part(
+            b"spansWithoutLeader",
+            What::Object(Object { members: spread }),
+        ),
+        part(b"zones", What::List(zones)),
+        part(b"nodes", What::List(nodes)),
+        part(b"evictions", What::List(pods)),
+        part(b"totals", What::List(totals)),
+    ])
+}
+
+fn part<'a>(name: &'a [u8], what: What<'a>) -> Part<'a>
+    ensures { part_of result ≡ (name.now, what_of what.entry) }
+{
+    Part { name, what }
+}

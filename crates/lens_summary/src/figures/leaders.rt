@@ -1,0 +1,99 @@
+// The trace itself, its terms, and the spans in which nobody leads.
+ghost use Rattle.std.specs.Prelude.{◌≡◌, IfOk, map};
+ghost use Rattle.lens_json.specs.Members.{data_of, named};
+ghost use Rattle.lens_json.specs.Parts.{members_in};
+ghost use Rattle.lens_terms.specs.Terms.{shown};
+ghost use Rattle.lens_summary.specs.Figures as spec;
+
+use crate::leaders::ended;
+use crate::spread::{longest, total};
+use kube_base::NoMemory;
+use lens_json::{Member, Object, Value};
+use lens_terms::{Span, Term};
+use std::alloc::Global;
+use trace_lines::Header;
+
+/// The members on the trace itself, by its header and the word for its premise.
+pub(crate) fn header_members<'a>(
+    alloc: Global,
+    header: Header,
+    premise: &'a [u8],
+    overlap: Option<u64>,
+    beats: u32,
+) -> Result<Vec<Member<'a>>, NoMemory>
+    ensures { IfOk result (λ members. map named members.items ≡ spec.header_members header premise.now overlap beats) }
+{
+    let members = vec![in alloc;
+        Member::number(b"beatMillis", u64::from(header.beat_millis)),
+        Member::number(b"lastBeat", u64::from(header.end)),
+        Member::text(b"premise", premise),
+        line_member(b"twoLeadFromLine", overlap),
+        Member::number(b"twoLeadBeats", u64::from(beats)),
+    ]?;
+    Ok(members)
+}
+
+fn line_member<'a>(name: &'a [u8], line: Option<u64>) -> Member<'a>
+    ensures { named result ≡ (name.now, spec.number_if line) }
+{
+    Member {
+        name,
+        value: line_value(line),
+    }
+}
+
+fn line_value<'a>(line: Option<u64>) -> Value<'a>
+    ensures { data_of result ≡ spec.number_if line }
+{
+    match line {
+        Some(line) => Value::Number(line),
+        None => Value::Nothing,
+    }
+}
+
+/// An object for each term.
+pub(crate) fn terms_in<'a>(
+    alloc: Global,
+    stop: u32,
+    found: &[Term<&'a [u8]>],
+) -> Result<Vec<Object<'a>>, NoMemory>
+    ensures { IfOk result (λ objects. map members_in objects.items ≡ map (spec.term_members stop) (map shown found.now)) }
+{
+    let mut objects = Vec::new(alloc);
+    for term in found {
+        let members = term_members(alloc, stop, term)?;
+        objects.push(Object { members })?;
+    }
+    Ok(objects)
+}
+
+fn term_members<'a>(
+    alloc: Global,
+    stop: u32,
+    term: &Term<&'a [u8]>,
+) -> Result<Vec<Member<'a>>, NoMemory>
+    ensures { IfOk result (λ members. map named members.items ≡ spec.term_members stop (shown term.now)) }
+{
+    let until = term.until(stop);
+    let lasted = until.saturating_sub(term.from);
+    let members = vec![in alloc;
+        Member::text(b"leader", term.actor),
+        Member::number(b"from", u64::from(term.from)),
+        Member::number(b"until", u64::from(until)),
+        Member::number(b"lasted", u64::from(lasted)),
+        Member::text(b"ended", ended(term.closing)),
+    ]?;
+    Ok(members)
+}
+
+/// The members on the spans in which nobody leads: how many, the longest, and all together.
+pub(crate) fn span_members<'a>(alloc: Global, spans: &[Span]) -> Result<Vec<Member<'a>>, NoMemory>
+    ensures { IfOk result (λ members. map named members.items ≡ spec.span_members spans.now) }
+{
+    let members = vec![in alloc;
+        Member::number(b"count", spans.len() as u64),
+        Member::number(b"longest", u64::from(longest(spans))),
+        Member::number(b"sum", u64::from(total(spans))),
+    ]?;
+    Ok(members)
+}

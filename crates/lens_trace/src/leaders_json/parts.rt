@@ -1,0 +1,143 @@
+// The members of the answer.
+ghost use Rattle.std.specs.Prelude.{◌≡◌, ◌++◌, ◌∷◌, [], IfOk, OnOk, Some, map};
+ghost use Rattle.lens_json.specs.Members.{named};
+ghost use Rattle.lens_json.specs.Parts.{members_in, what_of};
+ghost use Rattle.lens_terms.specs.Terms.{shown};
+ghost use Rattle.lens_trace.specs.LeadersJson as spec;
+
+use kube_base::NoMemory;
+use lens_json::{Member, Object, Value, What};
+use lens_terms::{Closing, Ending, Span, Term, crossing, term_at};
+use std::alloc::Global;
+
+/// An object for each term.
+pub(crate) fn terms_in<'a>(
+    alloc: Global,
+    stop: u32,
+    found: &[Term<&'a [u8]>],
+) -> Result<Vec<Object<'a>>, NoMemory>
+    ensures { IfOk result (λ objects. map members_in objects.items ≡ map (spec.term_members stop) (map shown found.now)) }
+{
+    let mut objects = Vec::new(alloc);
+    for term in found {
+        let members = term_members(alloc, stop, term)?;
+        objects.push(Object { members })?;
+    }
+    Ok(objects)
+}
+
+fn term_members<'a>(
+    alloc: Global,
+    stop: u32,
+    term: &Term<&'a [u8]>,
+) -> Result<Vec<Member<'a>>, NoMemory>
+    ensures { IfOk result (λ members. map named members.items ≡ spec.term_members stop (shown term.now)) }
+{
+    let members = vec![in alloc;
+        Member::text(b"leader", term.actor),
+        Member::number(b"from", u64::from(term.from)),
+        Member::number(b"until", u64::from(term.until(stop))),
+        Member::text(b"ended", ended(term.closing)),
+    ]?;
+    Ok(members)
+}
+
+fn ended(closing: Option<Closing>) -> &'static [u8]
+    ensures { result.now ≡ spec.ended closing }
+{
+    match closing {
+        None => b"trace-end",
+        Some(closing) => ending_word(closing.how),
+    }
+}
+
+fn ending_word(ending: Ending) -> &'static [u8]
+    ensures { result.now ≡ spec.ending_word ending }
+{
+    match ending {
+        Ending::End => b"end",
+        Ending::Stop => b"stop",
+        Ending::Crash => b"crash",
+    }
+}
+
+/// An object for each span in which nobody leads.
+pub(crate) fn spans_in<'a>(alloc: Global, spans: &[Span]) -> Result<Vec<Object<'a>>, NoMemory>
+    ensures { IfOk result (λ objects. map members_in objects.items ≡ map spec.span_members spans.now) }
+{
+    let mut objects = Vec::new(alloc);
+    for span in spans {
+        let members = span_members(alloc, *span)?;
+        objects.push(Object { members })?;
+    }
+    Ok(objects)
+}
+
+fn span_members<'a>(alloc: Global, span: Span) -> Result<Vec<Member<'a>>, NoMemory>
+    ensures { IfOk result (λ members. map named members.items ≡ spec.span_members span) }
+{
+    let members = vec![in alloc;
+        Member::number(b"from", u64::from(span.from)),
+        Member::number(b"until", u64::from(span.until)),
+    ]?;
+    Ok(members)
+}
+
+/// The first `lead` of an identity while another one leads, if there is one.
+pub(crate) fn overlap_in<'a>(
+    alloc: Global,
+    stop: u32,
+    found: &[Term<&'a [u8]>],
+    overlap: Option<u64>,
+) -> Result<What<'a>, NoMemory>
+    ensures { IfOk result (λ what. what_of what ≡ spec.overlap_data stop (map shown found.now) overlap) }
+{
+    match overlap {
+        Some(line) => {
+            let mut members = Vec::new(alloc);
+            add_overlap(&mut members, stop, found, line)?;
+            Ok(What::Object(Object { members }))
+        }
+        None => Ok(What::Value(Value::Nothing)),
+    }
+}
+
+fn add_overlap<'a>(
+    members: &mut Vec<Member<'a>>,
+    stop: u32,
+    found: &[Term<&'a [u8]>],
+    line: u64,
+) -> Result<(), NoMemory>
+    ensures { OnOk result (map named members.new.items
+        ≡ map named members.old.items ++ spec.overlap_members stop (map shown found.now) line) }
+{
+    add(members, Member::number(b"line", line))?;
+    match term_at(found, line) {
+        Some(term) => add_who(members, stop, found, term),
+        None => Ok(()),
+    }
+}
+
+fn add_who<'a>(
+    members: &mut Vec<Member<'a>>,
+    stop: u32,
+    found: &[Term<&'a [u8]>],
+    term: &Term<&'a [u8]>,
+) -> Result<(), NoMemory>
+    ensures { OnOk result (map named members.new.items
+        ≡ map named members.old.items ++ spec.who stop (map shown found.now) (Some (shown term.now))) }
+{
+    add(members, Member::number(b"from", u64::from(term.from)))?;
+    add(members, Member::text(b"who", term.actor))?;
+    match crossing(stop, found, term) {
+        Some(other) => add(members, Member::text(b"beside", other.actor)),
+        None => Ok(()),
+    }
+}
+
+fn add<'a>(members: &mut Vec<Member<'a>>, member: Member<'a>) -> Result<(), NoMemory>
+    ensures { OnOk result (map named members.new.items ≡ map named members.old.items ++ named member.entry ∷ []) }
+{
+    members.push(member)?;
+    Ok(())
+}
