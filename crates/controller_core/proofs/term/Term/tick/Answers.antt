@@ -14,18 +14,20 @@ returns g c doc k q h s st v acts start small =
     let who : actor.Proc c.identity-incarnation.result.0 c.identity-incarnation.result.1 ≡ actor_of q = λ i. actor.Proc (record { 0 = names.0 i }) (names.1 i) in
     let told = subst (λ n. IsTold q n (printed h) h c.new-told.result) v.beat (c.new-told.ensures.stands q h who) in
     let both = c.in_ok-begin.ensures doc k q (printed h) h s st told v start small in
-    let w = both.0 in
-    (record {
-      term = record {
-        cluster = c.forget_moved.ensures.stands q (tick doc k q h) no_node no_pod w.term.cluster;
-        reached = w.term.reached;
-        health = w.term.health;
-        limits = w.term.limits;
-        queues = w.term.queues;
-        last = w.term.last;
-        range = w.term.range;
-        settings = w.term.settings;
-      };
-      store = w.store;
-      told = ap (λ xs. printed h ++ xs) c.into_deeds.ensures ∙ w.told.told;
-    }, both.1)
+    let w = both.0 in (
+      record {
+        term = record {
+          cluster = c.forget_moved.ensures.stands q (tick doc k q h) no_node no_pod w.term.cluster;
+          reached = w.term.reached;
+          health = w.term.health;
+          limits = w.term.limits;
+          queues = w.term.queues;
+          last = w.term.last;
+          range = w.term.range;
+          settings = w.term.settings;
+        };
+        store = w.store;
+        told = ap (λ xs. printed h ++ xs) c.into_deeds.ensures ∙ w.told.told;
+      },
+      both.1,
+    )
