@@ -6,7 +6,6 @@ use Rattle.std.specs.Prelude.{if◌then◌else◌}
 use Rattle.std.specs.Ordering.{nat_cmp}
 use Rattle.std.specs.declared.cmp.Ordering.{Ordering}
 use Rattle.std.specs.declared.cmp.Ordering.TheVariants.{Less, Equal, Greater}
-use Rattle.kube_base.specs.declared.numbers.Version.{Version}
 use Rattle.kube_objects.specs.declared.call.Reply.{Reply}
 use Rattle.kube_objects.specs.declared.call.Request.{Request}
 use Rattle.kube_objects.specs.declared.script.Event as script
@@ -14,7 +13,7 @@ use Rattle.kube_objects.specs.declared.script.What.{What}
 use Rattle.kube_objects.specs.declared.script.What.TheVariants as what
 use Rattle.kube_objects.specs.Document.{Doc, is_controller, is_up_first, processes}
 use Rattle.kube_objects.specs.Elector.{Follow, Fails, Asks, Succeeds, deadline, release, acts, leads, follow_on}
-use Rattle.kube_objects.specs.Entry.{Entry, Identity, Call, Stops, Event, Delivers, entry, script_entry, Expires, Ends, Leads}
+use Rattle.kube_objects.specs.Entry.{Entry, Identity, Call, Stops, Event, Delivers, entry, script_entry}
 use Rattle.kube_objects.specs.Identities.{identity, is_by}
 use Rattle.kube_objects.specs.Kubelet.{next_request, send_next, round_if, round}
 use Rattle.kube_objects.specs.Newest.{only_if}
@@ -25,7 +24,7 @@ use Rattle.kube_objects.specs.Stored.{write_of}
 use Rattle.kube_objects.specs.Tick.{add, tick}
 use Rattle.kube_objects.specs.Turns.{react, expire_call, end_term, attempt_if, try}
 use Rattle.kube_objects.specs.Wire.{Sent, Back, sent_of, back_of}
-use Rattle.history.specs.Steps.{start_if_down, crash, stall, released, stop, effect, stamp, event_version, happens, happen_all, start_first, starts_below, first_starts, step_two, react_as, deliver_as, delivered, step_three, if_up, restart_if, restart, expire, finish, attempts, ticks, elector_turn, controller_turn, kubelet_turn, turn, turns, answered, start, unpaused_turn}
+use Rattle.history.specs.Steps.{start_if_down, crash, stall, released, stop, effect, stamp, event_version, happens, happen_all, start_first, starts_below, first_starts, step_two, react_as, deliver_as, delivered, step_three, if_up, restart_if, restart, expire, finish, attempts, ticks, elector_turn, controller_turn, kubelet_turn, turn, turns}
 use Rattle.history_laws.proofs.Ticks.{walk_tick}
 use Rattle.world_process.specs.Plain.{IsFew}
 use Rattle.world_process.proofs.Plainly.{added-more, starts-more}

@@ -1,6 +1,6 @@
 use Rattle.std.proofs.Common.{w64, pos, ◌*ℤ◌, ap, ◌∙◌}
 use Rattle.std.proofs.Math.Facts.{to_z-of_z}
-use Rattle.world_process.proofs.Firsts.{clock-first, end-fits, offset-fits, pauses-first}
+use Rattle.world_process.proofs.Firsts.{clock-first, offset-fits, pauses-first}
 use Rattle.world_process.proofs.clocks.times_for.Goals as goal
 
 pub returns-clause-clock : goal.returns-clause-clock

@@ -1,4 +1,4 @@
-use Rattle.std.proofs.Common.{◌≡◌, sym, subst}
+use Rattle.std.proofs.Common.{sym, subst}
 use Rattle.zone_counts.specs.Settings.{AreSettings}
 use Rattle.world_process.proofs.Forgetting.{stands-forgets}
 use Rattle.world_process.proofs.controller.Controller.forget_term.Goals as goal
