@@ -20,7 +20,7 @@ use Rattle.tick_laws.specs.Since.{AreReached}
 use Rattle.zone_counts.specs.Settings.{AreSettings}
 use Rattle.controller_core.specs.declared.term.Term.{Term}
 
--- one clause for each field, and that stale keys were written since the last sync
+-- one clause for each field, that the last pass was at a reading in range, and that stale keys were written since the last sync
 pub record TermStands (doc : Doc) (q : Identity) (h : List Entry) (t : Term) : Type 0 where
   pub cluster : ClusterStands q h t.cluster
   pub reached : AreReached q h
