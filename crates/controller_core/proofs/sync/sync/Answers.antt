@@ -18,7 +18,6 @@ use Rattle.tick_laws.proofs.Steps.{cost_sync, costs_grow}
 use Rattle.tick_laws.proofs.Syncing.{sync_synced}
 use Rattle.term_state.specs.ClusterStands.{ClusterStands}
 use Rattle.term_state.specs.MidTick.{IsMoved}
-use Rattle.term_state.proofs.Writing.{both_ok}
 use Rattle.controller_core.specs.Costs.{HaveCost}
 use Rattle.controller_core.specs.Left.{LeftBut}
 use Rattle.controller_core.proofs.Syncing.Synced.{changed_since, store_synced, sync_moved}
