@@ -68,8 +68,9 @@ def folded(state, factor):
 
 
 def names_that_collide(count):
-    """Names of six letters whose hashes lie in an eighth of the table: names are kept by a hash of a fixed seed, in groups that are probed one
-    after the other, so most of the groups are full and each new name is looked for in nearly all of them."""
+    """Names of six letters whose hashes lie in an eighth of the table where they are hashed with the fixed seed of std's FoldHasher: a table is
+    probed in groups, one after the other, so most of the groups are full and each new name is looked for in nearly all of them. Now that names
+    are hashed by a key of the whole input they have to cost what other names cost."""
     groups = 1
     while 9 * groups < count:
         groups *= 2

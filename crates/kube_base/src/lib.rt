@@ -5,6 +5,7 @@ mod fixed;
 mod list_of;
 mod memory;
 mod name;
+mod name_hash;
 mod names;
 mod numbers;
 mod steps;
@@ -17,6 +18,7 @@ pub use fixed::{
 pub use list_of::ListOf;
 pub use memory::NoMemory;
 pub use name::Name;
+pub use name_hash::NameHash;
 pub use names::Names;
 pub use numbers::{Beat, Local, NodeId, ProcId, Version, Wall};
 pub use steps::Steps;

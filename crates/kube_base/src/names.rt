@@ -3,7 +3,7 @@ ghost use Rattle.std.specs.Prelude.{◌≡◌, ◌<◌, ◌-◌, ◌^◌, length
 ghost use Rattle.std.specs.Str.{IsUtf8};
 ghost use Rattle.kube_base.specs.Names.{fixed_names, number_of, number_in, with_name, AreNames, EachOnce};
 
-use crate::NoMemory;
+use crate::{NameHash, NoMemory};
 use indexmap::IndexSet;
 use std::alloc::{AllocFailed, Global};
 use std::marker::Model;
@@ -14,7 +14,7 @@ use std::marker::Model;
 #[derive(Drop)]
 pub struct Names {
     alloc: Global,
-    texts: IndexSet<Vec<u8>>,
+    texts: IndexSet<Vec<u8>, NameHash>,
 }
 
 impl Model for Names {
@@ -29,11 +29,18 @@ impl Model for Names {
 }
 
 impl Names {
-    /// The ten fixed names.
+    /// The ten fixed names, for names that no stranger chooses.
     pub fn new(alloc: Global) -> Result<Names, NoMemory>
         ensures { IfOk result (λ names. names ≡ fixed_names) }
     {
-        let mut texts = IndexSet::new(alloc);
+        Names::keyed(alloc, NameHash::plain())
+    }
+
+    /// The ten fixed names, in a table that is hashed by the key of the input whose names it gets.
+    pub fn keyed(alloc: Global, hash: NameHash) -> Result<Names, NoMemory>
+        ensures { IfOk result (λ names. names ≡ fixed_names) }
+    {
+        let mut texts = IndexSet::with_hasher(alloc, hash);
         add(alloc, &mut texts, b"")?;
         add(alloc, &mut texts, b"KubeletReady")?;
         add(alloc, &mut texts, b"KubeletNotReady")?;
@@ -94,7 +101,11 @@ impl Names {
 }
 
 /// Adds a text, and tells its place.
-fn add(alloc: Global, texts: &mut IndexSet<Vec<u8>>, text: &[u8]) -> Result<usize, NoMemory>
+fn add(
+    alloc: Global,
+    texts: &mut IndexSet<Vec<u8>, NameHash>,
+    text: &[u8],
+) -> Result<usize, NoMemory>
     ensures place { IfOk result (λ place. place ≡ number_in (map (λ t. t.items) texts.old.keys) text.now) }
     ensures held { OnOk result (map (λ t. t.items) texts.new.keys ≡ with_name (map (λ t. t.items) texts.old.keys) text.now) }
     ensures err { OnErr result (map (λ t. t.items) texts.new.keys ≡ map (λ t. t.items) texts.old.keys) }
@@ -111,7 +122,9 @@ mod tests {
 
     #[test]
     fn numbers_names(rt: HostRuntime) -> Result<(), Fail> {
-        let mut names = Names::new(rt.alloc()).ok().ok_or("memory")?;
+        let mut names = Names::keyed(rt.alloc(), NameHash::of(b"n1"))
+            .ok()
+            .ok_or("memory")?;
         assert_eq!(rt; names.len(), 10);
         for (text, wanted) in [("n1", 10), ("n1", 10), ("", 0), ("kube-system", 7)] {
             assert!(rt; names.len() < 12);

@@ -16,7 +16,7 @@ use crate::laws::inputs_are_few;
 use crate::missing::missing_in;
 use crate::row::{Rows, rows_in};
 use crate::table::{Table, object_in};
-use kube_base::{Names, Wall};
+use kube_base::{NameHash, Names, Wall};
 use manifest_json::codes::{MISSING_KEY, TOP_SHAPE};
 use manifest_json::{Path, ReadFault};
 use pod_tools::{CollectInput, MissingRows, PlaceInput};
@@ -33,7 +33,7 @@ pub fn read_collect(alloc: Global, bytes: &[u8]) -> Result<CollectInput, ReadFau
 {
     inputs_are_few();
     let value = read_value(alloc, bytes)?;
-    let input = collect_of(alloc, &value)?;
+    let input = collect_of(alloc, NameHash::of(bytes), &value)?;
     Ok(input)
 }
 
@@ -45,18 +45,18 @@ pub fn read_place(alloc: Global, bytes: &[u8]) -> Result<PlaceInput, ReadFault>
 {
     inputs_are_few();
     let value = read_value(alloc, bytes)?;
-    let input = place_of(alloc, &value)?;
+    let input = place_of(alloc, NameHash::of(bytes), &value)?;
     Ok(input)
 }
 
 #[tactic(auto, unfolding(crate::specs::Walk::collect_at))]
-fn collect_of(alloc: Global, value: &Value) -> Result<CollectInput, ReadFault>
+fn collect_of(alloc: Global, hash: NameHash, value: &Value) -> Result<CollectInput, ReadFault>
     ensures { Gives (λ input. input) result (walk.collect_at (view value.now)) }
 {
     top_in(alloc, Table::Collect, value)?;
     let now = now(alloc, value)?;
     let threshold = threshold(alloc, value)?;
-    let mut names = Names::new(alloc)?;
+    let mut names = Names::keyed(alloc, hash)?;
     let missing = missing_rows(alloc, &mut names, value)?;
     let rows = rows(alloc, &mut names, value)?;
     Ok(CollectInput {
@@ -70,11 +70,11 @@ fn collect_of(alloc: Global, value: &Value) -> Result<CollectInput, ReadFault>
 }
 
 #[tactic(auto, unfolding(crate::specs::Walk::place_at))]
-fn place_of(alloc: Global, value: &Value) -> Result<PlaceInput, ReadFault>
+fn place_of(alloc: Global, hash: NameHash, value: &Value) -> Result<PlaceInput, ReadFault>
     ensures { Gives (λ input. input) result (walk.place_at (view value.now)) }
 {
     top_in(alloc, Table::Place, value)?;
-    let mut names = Names::new(alloc)?;
+    let mut names = Names::keyed(alloc, hash)?;
     let rows = rows(alloc, &mut names, value)?;
     Ok(PlaceInput {
         names,

@@ -9,6 +9,7 @@ ghost use Rattle.replay_top.specs.Readings.{Reads, IsLawfulReading};
 
 use byte_edge::{Source, TakeFault, take_all};
 use document_laws::documents_are_lawful;
+use kube_base::NameHash;
 use manifest_json::{ReadFault, Refusal};
 use script_reader::{Document, document_of, read_value};
 use serde_json::Value;
@@ -58,6 +59,6 @@ pub(crate) fn read_bytes(alloc: Global, bytes: &[u8]) -> Result<(Document, Value
 {
     documents_are_lawful();
     let value = read_value(alloc, bytes)?;
-    let document = document_of(alloc, &value)?;
+    let document = document_of(alloc, NameHash::of(bytes), &value)?;
     Ok((document, value))
 }

@@ -16,7 +16,7 @@ use crate::parts::Scope;
 use crate::process::{controllers_in, kubelets_in};
 use crate::settings::settings_at;
 use crate::table::{Table, Version, known_in};
-use kube_base::Names;
+use kube_base::{NameHash, Names};
 use kube_objects::{Events, Items, Settings};
 use manifest_json::codes::{BAD_JSON, MISSING_KEY, TOP_SHAPE, WRONG_TYPE};
 use manifest_json::{Objects, ReadFault, read_list};
@@ -29,7 +29,7 @@ pub fn read_document(alloc: Global, bytes: &[u8]) -> Result<Document, ReadFault>
     ensures { Gives (λ document. document) result (document_walk bytes.now) }
 {
     let value = read_value(alloc, bytes)?;
-    document_of(alloc, &value)
+    document_of(alloc, NameHash::of(bytes), &value)
 }
 
 /// The JSON value of these bytes, of which `document_of` makes the document.
@@ -47,15 +47,16 @@ pub fn read_value(alloc: Global, bytes: &[u8]) -> Result<Value, ReadFault>
     }
 }
 
-/// The document of a JSON value with its defaults, or the first refusal of the walk.
+/// The document of a JSON value with its defaults, or the first refusal of the walk. Its names are hashed by the key of the bytes of which
+/// the value was read.
 #[tactic(auto, unfolding(crate::specs::Walk::document_at))]
-pub fn document_of(alloc: Global, value: &Value) -> Result<Document, ReadFault>
+pub fn document_of(alloc: Global, hash: NameHash, value: &Value) -> Result<Document, ReadFault>
     ensures { Gives (λ document. document) result (walk.document_at (view value.now)) }
 {
     top_in(alloc, value)?;
     let version = version(alloc, value)?;
     let settings = settings(alloc, version, value)?;
-    let mut names = Names::new(alloc)?;
+    let mut names = Names::keyed(alloc, hash)?;
     let controllers = controllers(alloc, version, &settings, &mut names, value)?;
     let kubelets = kubelets(alloc, &settings, &mut names, value)?;
     let objects = objects(alloc, &mut names, controllers.known(), value)?;

@@ -8,7 +8,7 @@ ghost use Rattle.trace_audit.specs.Passes.{Tells, PassStands};
 
 use crate::fault::AuditFault;
 use crate::pass::Pass;
-use kube_base::NoMemory;
+use kube_base::{NameHash, NoMemory};
 use std::alloc::Global;
 use trace_lines::{Header, cut, read_header};
 
@@ -72,7 +72,7 @@ fn pass_over(alloc: Global, header: Header, lines: u64, text: &[u8]) -> Result<P
 {
     let (mut rest, last) = last_line(text);
     let mut number = lines + 1;
-    let mut pass = Pass::new(alloc, header, number, last);
+    let mut pass = Pass::new(alloc, NameHash::of(text), header, number, last);
     'lines: while let Some(text) = rest {
         let (before, line) = last_line(text);
         number -= 1;

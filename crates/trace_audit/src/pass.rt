@@ -6,7 +6,7 @@ ghost use Rattle.trace_lines.specs.Reads.{seen};
 ghost use Rattle.trace_audit.specs.Passes.{PassStands, IsReady, is_below, wrong_with};
 
 use crate::role::role_of;
-use kube_base::NoMemory;
+use kube_base::{NameHash, NoMemory};
 use std::alloc::Global;
 use trace_lines::{Header, Line, read_line};
 use trace_terms::Review;
@@ -24,7 +24,14 @@ pub(crate) struct Pass {
 
 impl Pass {
     /// What stands behind the last line feed, which has to be empty. The number is the one that it would have as a line.
-    pub(crate) fn new(alloc: Global, header: Header, number: u64, unended: &[u8]) -> Pass
+    /// Identities and zones are hashed by the key of the trace.
+    pub(crate) fn new(
+        alloc: Global,
+        hash: NameHash,
+        header: Header,
+        number: u64,
+        unended: &[u8],
+    ) -> Pass
         requires { header.end ≤ 604800000 }
         ensures stands { PassStands header number (unended.now ∷ []) result }
         ensures ready { IsReady result }
@@ -40,7 +47,7 @@ impl Pass {
             header,
             wrong,
             next: None,
-            review: Review::new(alloc, header.beat_millis, header.end),
+            review: Review::new(alloc, hash, header.beat_millis, header.end),
         }
     }
 

@@ -12,7 +12,7 @@ use crate::nearest::{Nearest, Span};
 use crate::role::Role;
 use crate::roll::Roll;
 use crate::seat::Seat;
-use kube_base::NoMemory;
+use kube_base::{NameHash, NoMemory};
 use std::alloc::Global;
 
 /// The first line at fault so far, for each of three faults.
@@ -30,6 +30,7 @@ pub struct Findings {
 #[derive(Drop)]
 pub struct Review {
     alloc: Global,
+    hash: NameHash,
     pub millis: u32,
     pub end: u32,
     pub actors: Roll,
@@ -41,15 +42,16 @@ pub struct Review {
 }
 
 impl Review {
-    /// No lines so far.
-    pub fn new(alloc: Global, millis: u32, end: u32) -> Review
+    /// No lines so far. Identities and zones are hashed by the key of the trace.
+    pub fn new(alloc: Global, hash: NameHash, millis: u32, end: u32) -> Review
         ensures { ReviewStands millis end [] result }
     {
         Review {
             alloc,
+            hash,
             millis,
             end,
-            actors: Roll::new(alloc),
+            actors: Roll::new(alloc, hash),
             seats: Vec::new(alloc),
             nearest: Nearest {
                 first: None,
@@ -143,7 +145,8 @@ impl Review {
     {
         let place = self.actors.place(actor)?;
         if self.seats.len() < self.actors.len() {
-            self.seats.push(Seat::new(self.alloc, self.end + 1))?;
+            self.seats
+                .push(Seat::new(self.alloc, self.hash, self.end + 1))?;
         }
         Ok(place)
     }
@@ -160,7 +163,7 @@ impl Review {
         let nearest = self.nearest_at(place, beat, line);
         self.findings = findings;
         self.nearest = nearest;
-        self.seats[place] = Seat::new(self.alloc, to);
+        self.seats[place] = Seat::new(self.alloc, self.hash, to);
         self.leads += 1;
     }
 

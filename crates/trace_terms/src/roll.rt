@@ -4,7 +4,7 @@ ghost use Rattle.kube_base.specs.Names.{number_in, with_name};
 ghost use Rattle.trace_terms.specs.Seats.{Once};
 
 use indexmap::IndexSet;
-use kube_base::NoMemory;
+use kube_base::{NameHash, NoMemory};
 use std::alloc::Global;
 use std::marker::Model;
 
@@ -12,7 +12,7 @@ use std::marker::Model;
 #[derive(Drop)]
 pub struct Roll {
     alloc: Global,
-    texts: IndexSet<Vec<u8>>,
+    texts: IndexSet<Vec<u8>, NameHash>,
 }
 
 impl Model for Roll {
@@ -24,13 +24,13 @@ impl Model for Roll {
 }
 
 impl Roll {
-    /// No texts.
-    pub fn new(alloc: Global) -> Roll
+    /// No texts. They are hashed by the key of the trace in which they stand.
+    pub fn new(alloc: Global, hash: NameHash) -> Roll
         ensures { result ≡ [] }
     {
         Roll {
             alloc,
-            texts: IndexSet::new(alloc),
+            texts: IndexSet::with_hasher(alloc, hash),
         }
     }
 
@@ -55,7 +55,11 @@ impl Roll {
     }
 }
 
-fn add(alloc: Global, texts: &mut IndexSet<Vec<u8>>, text: &[u8]) -> Result<usize, NoMemory>
+fn add(
+    alloc: Global,
+    texts: &mut IndexSet<Vec<u8>, NameHash>,
+    text: &[u8],
+) -> Result<usize, NoMemory>
     ensures place { IfOk result (λ place. place ≡ number_in (map (λ t. t.items) texts.old.keys) text.now) }
     ensures held { OnOk result (map (λ t. t.items) texts.new.keys ≡ with_name (map (λ t. t.items) texts.old.keys) text.now) }
     ensures err { OnErr result (map (λ t. t.items) texts.new.keys ≡ map (λ t. t.items) texts.old.keys) }

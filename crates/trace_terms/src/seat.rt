@@ -9,7 +9,7 @@ use crate::mark::Mark;
 use crate::role::Role;
 use crate::roll::Roll;
 use crate::spacing::first_breaking;
-use kube_base::{ListOf, NoMemory};
+use kube_base::{ListOf, NameHash, NoMemory};
 use std::alloc::Global;
 
 /// What follows a place of the trace, for one identity: where its span ends, and its acting lines up to its next lead.
@@ -33,14 +33,14 @@ pub struct Seat {
 
 impl Seat {
     /// Nothing follows up to before this beat.
-    pub fn new(alloc: Global, to: u32) -> Seat
+    pub fn new(alloc: Global, hash: NameHash, to: u32) -> Seat
         ensures { result ≡ spec.blank to }
     {
         Seat {
             to,
             first: None,
             late: None,
-            zones: Roll::new(alloc),
+            zones: Roll::new(alloc, hash),
             rate: 0,
             start: None,
             taints: ListOf::new(alloc),
