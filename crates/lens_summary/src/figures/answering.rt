@@ -43,7 +43,7 @@ pub(crate) fn tell(
 
 /// The members of that object.
 #[tactic(auto, using(crate::proofs::StepLaws::leaderless_shown))]
-fn parts<'a>(
+pub fn parts<'a>(
     alloc: Global,
     header: Header,
     overlap: Option<u64>,
