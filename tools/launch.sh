@@ -64,7 +64,7 @@ $(tell_command "$called leaders --json < TRACE" 'the same as one JSON object')
 $(tell_command "$called summary < TRACE" 'what a trace comes to, as tables: terms, zones, nodes, evictions, totals')
 $(tell_command "$called summary --json < TRACE" 'the same as one JSON object')
 $(tell_command "$called summary --document DOCUMENT < TRACE" '')
-$(tell_command '' 'the tables, and how late each pod was evicted')
+$(tell_command '' 'the tables, and how late each pod was evicted; with --json as one JSON object')
 $(tell_command "$called lines --json < TRACE" 'each line of a trace as a JSON object on a line of its own, for jq')
 $(tell_command "$called explain < DOCUMENT" 'why a document is refused, where, and what may stand there')
 $(tell_command "$called explain --json < DOCUMENT" '')
@@ -209,14 +209,21 @@ answer_lens_words() {
     exit 0
 }
 
-# Of `summary --document FILE` puts the document in FILE before the trace on standard input, which then has both. Of an input with more bytes than
-# these, the bytes behind make no difference.
+# Of `summary --document FILE`, with `--json` before or behind the two, puts the document in FILE before the trace on standard input, which then has
+# both, and sets `form` to `--json` or nothing. Of an input with more bytes than these, the bytes behind make no difference.
 join_document() {
-    case "$#:$1:$2" in 3:summary:--document) ;; *) return 1 ;; esac
-    if [ -d "$3" ] || [ ! -r "$3" ]; then say "$3 can't be read"; exit 3; fi
+    form=''
+    case "$#:$1:$2:$3:$4" in
+        3:summary:--document:--json:) return 1 ;;
+        3:summary:--document:*) document=$3 ;;
+        4:summary:--document:*:--json) document=$3 form=--json ;;
+        4:summary:--json:--document:*) document=$4 form=--json ;;
+        *) return 1 ;;
+    esac
+    if [ -d "$document" ] || [ ! -r "$document" ]; then say "$document can't be read"; exit 3; fi
     room=$(mktemp -d 2>/dev/null) || { say "no temporary folder can be made under ${TMPDIR:-/tmp}"; exit 5; }
-    attend head -c 16777217 <"$3" >"$room/both" 2>/dev/null
-    [ "$status" -eq 0 ] || { say "$3 can't be read"; exit 3; }
+    attend head -c 16777217 <"$document" >"$room/both" 2>/dev/null
+    [ "$status" -eq 0 ] || { say "$document can't be read"; exit 3; }
     echo >>"$room/both"
     attend head -c 16777217 >>"$room/both" 2>/dev/null
     [ "$status" -eq 0 ] || end_with 3

@@ -1,14 +1,15 @@
 #!/usr/bin/env python3
-"""Compares the JSON of `kube_lens lines --json`, `leaders --json` and `summary --json` with the lines of traces, that of `kube_lens margin --json`
-with the numbers of documents and of flags, and that of `kube_lens explain --json` with the places in documents, on the examples and on traces,
-documents and flags made from seeds.
+"""Compares the JSON of `kube_lens lines --json`, `leaders --json` and `summary --json` with the lines of traces, that of `summary --document --json`
+with documents and their traces, that of `kube_lens margin --json` with the numbers of documents and of flags, and that of `kube_lens explain --json`
+with the places in documents, on the examples and on traces, documents and flags made from seeds.
 
     tools/test_lens_json.py [--count 200] [--seed 1] [--program PROGRAM] [--traces FOLDER]
 
 What is wanted of `lines` is made of each line's words as docs/lens.md tells, of `leaders` it is what tools/test_lens_trace.py asks of each
-beat, of `margin` what tools/test_lens.py finds by trying, also of the document that flags describe, and of `summary` the tables of
-tools/test_lens_summary.py, with no look at the program; what `explain` tells is judged by tools/test_lens_explain.py, which asks `check` and finds
-the places itself. Python's own reader reads the JSON, and names, values and their order are compared. FOLDER may have more traces, one a file.
+beat, of `margin` what tools/test_lens.py finds by trying, also of the document that flags describe, of `summary` the tables of
+tools/test_lens_summary.py, and beside a document the evictions of tools/test_lens_lateness.py, with no look at the program; what `explain` tells is
+judged by tools/test_lens_explain.py, which asks `check` and finds the places itself. Python's own reader reads the JSON, and names, values and their
+order are compared. FOLDER may have more traces, one a file.
 The exit status is 1 where anything differs. Nothing here is a proof.
 """
 import argparse
@@ -20,6 +21,7 @@ import sys
 
 import test_lens
 import test_lens_explain
+import test_lens_lateness
 import test_lens_summary
 import test_lens_trace
 
@@ -208,6 +210,30 @@ def summary_wanted(text, replay):
     return [found]
 
 
+LATE = ('pod', 'due', 'evicted', 'by', 'lateByItsClockMicros', 'lateInTrueTimeMicros')
+
+
+def late_wanted(text, trace, replay):
+    """The refusal of `check` or `audit` or of a trace with other beats, or the object of the trace, whose evictions also tell how late they were."""
+    said = subprocess.run([replay, 'check'], input=text, stdout=subprocess.PIPE, text=True, check=False).stdout
+    right = said if said.startswith('refused ') else summary_wanted(trace, replay)
+    if isinstance(right, str):
+        return right
+    document = json.loads(text)
+    if dict(dict(right[0])['header'])['beatMillis'] != document['settings'].get('beatMillis', 100):
+        return 'refused 44 /1\n'
+    evictions = [list(zip(LATE, eviction)) for eviction in test_lens_lateness.evictions(document, trace)]
+    return [[(name, evictions if name == 'evictions' else has) for name, has in right[0]]]
+
+
+def late_cases(words, program, replay):
+    """Documents and their traces, with the flags in both orders."""
+    found = test_lens_lateness.cases(words, test_lens_lateness.Programs(program, replay))
+    for number, (text, trace) in enumerate(found):
+        flags = ['--document', '--json'] if number % 2 else ['--json', '--document']
+        yield ['summary', *flags], text + '\n' + trace, late_wanted(text, trace, replay)
+
+
 def told(program, words, text):
     """The exit status and what the program tells: a refusal as it is, and of objects their members."""
     ran = subprocess.run([program, *words], input=text, stdout=subprocess.PIPE, text=True, check=False)
@@ -238,6 +264,7 @@ def main():
     cases = [(['lines', '--json'], text, lines_wanted(text, replay)) for text in test_lens_summary.traces(words)]
     cases += [(['leaders', '--json'], text, leaders_wanted(text, replay)) for text in test_lens_trace.traces(words.seed, words.count)]
     cases += [(['summary', '--json'], text, summary_wanted(text, replay)) for text in test_lens_summary.traces(words)]
+    cases += late_cases(words, program, replay)
     cases += [(['margin', '--json'], json.dumps(doc), margin_wanted(doc, replay)) for doc in test_lens.documents(words.seed, words.count)]
     dice = random.Random(words.seed)
     cases += [(['margin', *flags.words()], '', flags.wanted()) for flags in (Flags(dice) for _ in range(words.count))]

@@ -64,23 +64,30 @@ class Clocks:
         return self.epoch + ran // 1_000_000 + controller.get('offsetMillis', 0) * 1000
 
 
-def late(now, due):
-    if now is None:
+def late(after):
+    if after is None:
         return '-'
-    tenths = abs(now - due) // 100_000
-    return f'{"-" if now < due else ""}{tenths // 10}.{tenths % 10}s'
+    tenths = abs(after) // 100_000
+    return f'{"-" if after < 0 else ""}{tenths // 10}.{tenths % 10}s'
 
 
-def table(document, trace):
-    """The rows on the evictions that the store took."""
+def evictions(document, trace):
+    """The evictions that the store took: pod, due, beat and who, and how late by its clock and in true time, in microseconds."""
     clocks = Clocks(document)
     for line in trace.splitlines()[1:]:
         beat, who, *says = line.split()
         if says[0] == 'evict' and says[3].startswith('v='):
             beat, due = int(beat), micros(says[2][4:])
-            tenths = beat * clocks.beat_micros // 100_000
-            at = f'{beat} ({tenths // 36000}:{tenths // 600 % 60:02}:{tenths // 10 % 60:02}.{tenths % 10})'
-            yield [says[1], says[2][4:], at, who, late(clocks.own(who.rsplit('_', 1)[0], beat), due), late(clocks.true(beat), due)]
+            own = clocks.own(who.rsplit('_', 1)[0], beat)
+            yield says[1], says[2][4:], beat, who, None if own is None else own - due, clocks.true(beat) - due
+
+
+def table(document, trace):
+    """The rows on the evictions that the store took."""
+    for pod, due, beat, who, by_clock, in_true_time in evictions(document, trace):
+        tenths = beat * document['settings'].get('beatMillis', 100) // 100
+        at = f'{beat} ({tenths // 36000}:{tenths // 600 % 60:02}:{tenths // 10 % 60:02}.{tenths % 10})'
+        yield [pod, due, at, who, late(by_clock), late(in_true_time)]
 
 
 class Programs:

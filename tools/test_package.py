@@ -175,6 +175,8 @@ def try_lens(tried, system):
     tried.same('kube_lens summary', (status, told.split()[:2], told.splitlines()[-1].split()[:1]), (0, ['BEAT-MILLIS', 'LAST-BEAT'], ['all']))
     status, told, _ = system.run('kube_lens summary --document %sexamples/fast-clock/document.json < %sexamples/fast-clock/trace.txt' % (DOC, DOC))
     tried.same('kube_lens summary --document', (status, told.split()[-1:]), (0, ['-17.0s']))
+    status, told, _ = system.run('kube_lens summary --document %sexamples/fast-clock/document.json --json < %sexamples/fast-clock/trace.txt' % (DOC, DOC))
+    tried.same('kube_lens summary --document --json', (status, '"lateInTrueTimeMicros":-17000000}' in told), (0, True))
     tried.same("a word that isn't a command of kube_lens", system.run('kube_lens leaderz')[0], 2)
     refused = '{"version":1,"settings":{"endBeat":60,"beatMillis":0},"controllers":[{"name":"cp-east-1"}]}'
     knows = system.run('kube_lens explain', refused)[0] == 1

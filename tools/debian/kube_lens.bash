@@ -8,7 +8,10 @@ _kube_lens() {
                 -- "${COMP_WORDS[COMP_CWORD]}") ;;
         2:margin:* | 2:leaders:* | 2:lines:* | 2:explain:*) mapfile -t COMPREPLY < <(compgen -W --json -- "${COMP_WORDS[COMP_CWORD]}") ;;
         2:summary:*) mapfile -t COMPREPLY < <(compgen -W '--json --document' -- "${COMP_WORDS[COMP_CWORD]}") ;;
-        3:summary:--document) mapfile -t COMPREPLY < <(compgen -f -- "${COMP_WORDS[COMP_CWORD]}") ;;
+        3:summary:--document) mapfile -t COMPREPLY < <(compgen -f -W --json -- "${COMP_WORDS[COMP_CWORD]}") ;;
+        3:summary:--json) mapfile -t COMPREPLY < <(compgen -W --document -- "${COMP_WORDS[COMP_CWORD]}") ;;
+        4:summary:--document) mapfile -t COMPREPLY < <(compgen -W --json -- "${COMP_WORDS[COMP_CWORD]}") ;;
+        4:summary:--json) mapfile -t COMPREPLY < <(compgen -f -- "${COMP_WORDS[COMP_CWORD]}") ;;
     esac
 }
 

@@ -2,7 +2,7 @@
 use Rattle.std.specs.Prelude.{ℕ, List, [], ◌∷◌, codes, Option, Some, None, if◌then◌else◌}
 use Rattle.std.specs.Str.{bytes_eq}
 use Rattle.kube_lens.specs.declared.command.Command.{Command}
-use Rattle.kube_lens.specs.declared.command.Command.TheVariants.{Help, Margin, MarginJson, Flags, Leaders, LeadersJson, Summary, SummaryJson, Lateness, Lines, Explain}
+use Rattle.kube_lens.specs.declared.command.Command.TheVariants.{Help, Margin, MarginJson, Flags, Leaders, LeadersJson, Summary, SummaryJson, Lateness, LatenessJson, Lines, Explain}
 
 abbrev pub command_by : List ℕ → Option Command
 command_by word =
@@ -23,9 +23,10 @@ with_flags (Some Summary) second =
     if bytes_eq second (codes "--json") then Some SummaryJson else if bytes_eq second (codes "--document") then Some Lateness else Some Summary
 with_flags other second = other
 
--- more words behind `margin` are flags
+-- more words behind `margin` are flags, and those behind `summary` ask for the JSON of a document's trace
 abbrev pub with_more : Option Command → List ℕ → Option Command
 with_more (Some Margin) second = Some Flags
+with_more (Some Summary) second = Some LatenessJson
 with_more other second = with_flags other second
 
 -- the command that the first word names

@@ -6,6 +6,7 @@ use Rattle.lens_explain.specs.Replies as explain
 use Rattle.lens_summary.specs.FigureReplies as figures
 use Rattle.lens_room.specs.Flags.{behind}
 use Rattle.lens_room.specs.FlagReplies.{answer_to}
+use Rattle.lens_lateness.specs.FigureReplies as late
 use Rattle.lens_lateness.specs.Replies as lateness
 use Rattle.lens_trace.specs.LeadersJsonReplies as leaders
 use Rattle.lens_trace.specs.LineReplies as lines
@@ -14,14 +15,14 @@ use Rattle.lens_room.specs.MarginJsonReplies as room
 use Rattle.lens_summary.specs.Replies as summary
 use Rattle.lens_trace.specs.Replies as trace
 use Rattle.kube_lens.specs.declared.command.Command.{Command}
-use Rattle.kube_lens.specs.declared.command.Command.TheVariants.{Help, Margin, MarginJson, Flags, Leaders, LeadersJson, Summary, SummaryJson, Lateness, Lines, Explain}
+use Rattle.kube_lens.specs.declared.command.Command.TheVariants.{Help, Margin, MarginJson, Flags, Leaders, LeadersJson, Summary, SummaryJson, Lateness, LatenessJson, Lines, Explain}
 use Rattle.kube_lens.specs.Commands.{command_of}
 
 -- what `--help` tells
 abbrev pub help : Reply
 help = record {
   verdict = Done;
-  text = codes "kube_lens: answers on leader elections, in a person's words\n\nkube_lens margin < document         for each controller what its lease has to outlast, and what is left\nkube_lens margin --json < document  the same as one JSON object\nkube_lens margin --lease 15s ..     the same of flags: --lease --renew --retry --timeout --skew --beat --json\nkube_lens leaders < trace           who led from when to when, when nobody did, and whether two did at once\nkube_lens leaders --json < trace    the same as one JSON object\nkube_lens summary < trace           what a trace comes to, as tables: terms, zones, nodes, evictions, totals\nkube_lens summary --json < trace    the same as one JSON object\nkube_lens summary --document        the tables of a document and, behind it, its trace, and how late pods were evicted\nkube_lens lines --json < trace      each line of a trace as a JSON object on a line of its own, for jq\nkube_lens explain < document        why a document is refused, where, and what may stand there\nkube_lens explain --json < document the same as one JSON object\nkube_lens --help                    these lines\n\nExit status: 0 safe or told, 1 unsafe or refused, 2 no such command, 3 the input can't be read,\n4 the output can't be written, 5 memory ran out, 6 a word isn't UTF-8.\n";
+  text = codes "kube_lens: answers on leader elections, in a person's words\n\nkube_lens margin < document         for each controller what its lease has to outlast, and what is left\nkube_lens margin --json < document  the same as one JSON object\nkube_lens margin --lease 15s ..     the same of flags: --lease --renew --retry --timeout --skew --beat --json\nkube_lens leaders < trace           who led from when to when, when nobody did, and whether two did at once\nkube_lens leaders --json < trace    the same as one JSON object\nkube_lens summary < trace           what a trace comes to, as tables: terms, zones, nodes, evictions, totals\nkube_lens summary --json < trace    the same as one JSON object\nkube_lens summary --document        the tables of a document and, behind it, its trace, and how late pods were evicted\nkube_lens summary --document --json the same as one JSON object\nkube_lens lines --json < trace      each line of a trace as a JSON object on a line of its own, for jq\nkube_lens explain < document        why a document is refused, where, and what may stand there\nkube_lens explain --json < document the same as one JSON object\nkube_lens --help                    these lines\n\nExit status: 0 safe or told, 1 unsafe or refused, 2 no such command, 3 the input can't be read,\n4 the output can't be written, 5 memory ran out, 6 a word isn't UTF-8.\n";
 }
 
 -- the crate of the first word answers; what is no command is told so, and the source isn't read
@@ -36,6 +37,7 @@ IsOutcomeOf (Some Summary) words = summary.IsOutcome words
 IsOutcomeOf (Some SummaryJson) words = figures.IsOutcome words
 IsOutcomeOf (Some Explain) words = explain.IsOutcome words
 IsOutcomeOf (Some Lateness) words = lateness.IsOutcome words
+IsOutcomeOf (Some LatenessJson) words = late.IsOutcome words
 IsOutcomeOf (Some Lines) words = lines.IsOutcome words
 IsOutcomeOf None words = Unread usage
 

@@ -25,6 +25,8 @@ pub enum Command {
     Explain,
     /// The tables of a document's trace, and how late its evictions were.
     Lateness,
+    /// The same as one JSON object.
+    LatenessJson,
     /// The lines of a trace, as JSON objects.
     Lines,
 }
@@ -41,12 +43,14 @@ pub(crate) fn command_in(words: &Vec<String>) -> Option<Command>
     }
 }
 
-/// The command where more than one word stands behind the first: those of `margin` are flags.
+/// The command where more than one word stands behind the first: those of `margin` are flags, and those of `summary` ask for the JSON of a
+/// document's trace.
 fn with_more(command: Option<Command>, second: &str) -> Option<Command>
     ensures { result ≡ with_more command second.now }
 {
     match command {
         Some(Command::Margin) => Some(Command::Flags),
+        Some(Command::Summary) => Some(Command::LatenessJson),
         other => with_flags(other, second),
     }
 }

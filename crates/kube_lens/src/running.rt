@@ -68,6 +68,7 @@ pub fn run<S: Source, K: Sink>(
         Some(Command::SummaryJson) => lens_summary::figures::run(alloc, words, source, sink),
         Some(Command::Explain) => lens_explain::run(alloc, words, source, sink),
         Some(Command::Lateness) => lens_lateness::run(alloc, words, source, sink),
+        Some(Command::LatenessJson) => lens_lateness::figures::run(alloc, words, source, sink),
         Some(Command::Lines) => lens_trace::lines::run(alloc, words, source, sink),
         None => tell_usage(sink),
     }
@@ -86,6 +87,7 @@ kube_lens leaders --json < trace    the same as one JSON object\n\
 kube_lens summary < trace           what a trace comes to, as tables: terms, zones, nodes, evictions, totals\n\
 kube_lens summary --json < trace    the same as one JSON object\n\
 kube_lens summary --document        the tables of a document and, behind it, its trace, and how late pods were evicted\n\
+kube_lens summary --document --json the same as one JSON object\n\
 kube_lens lines --json < trace      each line of a trace as a JSON object on a line of its own, for jq\n\
 kube_lens explain < document        why a document is refused, where, and what may stand there\n\
 kube_lens explain --json < document the same as one JSON object\n\

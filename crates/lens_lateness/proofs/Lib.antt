@@ -1,1 +1,3 @@
 pub mod ClockLaws
+pub mod FigureLaws
+pub mod RefusalLaws

@@ -4,3 +4,6 @@ pub mod Late
 pub mod Replies
 pub mod Told
 pub mod Traces
+pub mod Figures
+pub mod FigureReplies
+pub mod Refusals

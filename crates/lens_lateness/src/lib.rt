@@ -1,7 +1,9 @@
-//! How late each pod was evicted, of a document and its trace: the command `summary --document`, from words and bytes to text and status.
+//! How late each pod was evicted, of a document and its trace: the command `summary --document`, as tables and as JSON, from words and bytes to
+//! text and status.
 #![tactic(auto)]
 
 mod clocks;
+pub mod figures;
 mod input;
 mod late;
 mod running;

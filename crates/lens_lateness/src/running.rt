@@ -20,7 +20,7 @@ use script_reader::{Document, read_document};
 use std::alloc::Global;
 
 /// The code of a trace that isn't of the document beside it.
-const OTHER_DOCUMENT: u32 = 44;
+pub(crate) const OTHER_DOCUMENT: u32 = 44;
 
 /// With the words `summary --document`, reads a document and its trace from the source, and writes the tables of the trace and how late its
 /// evictions were. A refused document or trace is answered by the line of its refusal, and other words by a line on the usage, for which the

@@ -7,4 +7,5 @@ mod objects;
 mod running;
 mod totals;
 
+pub use answering::parts;
 pub use running::run;

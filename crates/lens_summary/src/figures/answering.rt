@@ -41,9 +41,9 @@ pub(crate) fn tell(
     })
 }
 
-/// The members of that object.
+/// The members of the object that `summary --json` answers on some lines, by the terms that were found in them. Times are in beats.
 #[tactic(auto, using(crate::proofs::StepLaws::leaderless_shown))]
-fn parts<'a>(
+pub fn parts<'a>(
     alloc: Global,
     header: Header,
     overlap: Option<u64>,

@@ -1,0 +1,23 @@
+-- The members of the answer, and its text.
+use Rattle.std.proofs.Common.{◌≡◌, ℕ, ◌+◌, List, [], ◌++◌, codes, Option, ap, ◌∙◌}
+use Rattle.serde_json.specs.Written.{compact_text}
+use Rattle.lens_edge.specs.Outcome.{Reply}
+use Rattle.lens_edge.specs.declared.status.Verdict.TheVariants.{Done}
+use Rattle.lens_json.specs.Members.{Named, object_of}
+use Rattle.lens_terms.specs.declared.term.Term.{Term}
+use Rattle.lens_terms.specs.Terms.{terms}
+use Rattle.script_reader.specs.declared.document.Document.{Document}
+use Rattle.trace_lines.specs.declared.header.Header.{Header}
+use Rattle.trace_lines.specs.declared.line.Line.{Line}
+use Rattle.lens_lateness.specs.Figures.{late_figures, figures_json, told}
+
+-- the text of the object of these members, and a line feed
+pub told-is : (d : Document) (header : Header) (overlap : Option ℕ) (ls : List (Line (List ℕ))) (ts : List (Term (List ℕ))) (ms : List Named) (none one two : List ℕ)
+    → ts ≡ terms 2 ls → ms ≡ late_figures d header overlap (header.end + 1) ts ls → none ≡ [] → one ≡ none ++ compact_text (object_of ms) → two ≡ one ++ codes "\n"
+    → (let r : Reply = record { verdict = Done; text = two } in r) ≡ told d header overlap ls
+unfolding figures_json
+told-is d header overlap ls ts ms none one two are members empty first last =
+    let all : ms ≡ late_figures d header overlap (header.end + 1) (terms 2 ls) ls = members ∙ ap (λ x. late_figures d header overlap (header.end + 1) x ls) are in
+    let text : one ≡ compact_text (object_of (late_figures d header overlap (header.end + 1) (terms 2 ls) ls))
+    = first ∙ ap (λ t. t ++ compact_text (object_of ms)) empty ∙ ap (λ x. compact_text (object_of x)) all in
+    ap (λ t. let r : Reply = record { verdict = Done; text = t } in r) (last ∙ ap (λ t. t ++ codes "\n") text)

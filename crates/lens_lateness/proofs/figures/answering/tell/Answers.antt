@@ -1,0 +1,12 @@
+use Rattle.std.proofs.Common.{◌≡◌, map, ap, ◌∙◌}
+use Rattle.trace_lines.specs.Reads.{seen}
+use Rattle.lens_terms.specs.Terms.{shown, terms}
+use Rattle.lens_lateness.proofs.FigureLaws.{told-is}
+use Rattle.lens_lateness.proofs.figures.answering.tell.Goals as goal
+
+pub returns : goal.returns
+returns c =
+    let ls = map seen c.args.lines.now in
+    let are : map shown c.deref.result.now ≡ terms 2 ls = ap (map shown) c.deref.ensures.value ∙ c.in_ok-found.ensures in
+    told-is c.args.figures.now.document.now c.args.header c.args.overlap ls _ _ _ _ _ are c.in_ok-parts.ensures c.new-text.ensures.items
+    c.in_ok-add_parts.ensures c.in_ok-add.ensures

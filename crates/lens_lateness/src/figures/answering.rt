@@ -1,0 +1,98 @@
+// The answer to a trace beside its document.
+ghost use Rattle.std.specs.Prelude.{◌≡◌, ◌+◌, ◌≤◌, IfOk, map};
+ghost use Rattle.lens_edge.specs.Outcome.{reply_of};
+ghost use Rattle.lens_json.specs.Parts.{part_of};
+ghost use Rattle.lens_terms.specs.Terms.{shown};
+ghost use Rattle.script_reader.specs.Documents.{doc_of};
+ghost use Rattle.script_reader.specs.Lawful.{AreLawful};
+ghost use Rattle.trace_lines.specs.Reads.{seen};
+ghost use Rattle.lens_lateness.specs.Clocks.{AreClocks};
+ghost use Rattle.lens_lateness.specs.Figures as spec;
+
+use crate::figures::objects::late_objects;
+use crate::running::OTHER_DOCUMENT;
+use kube_base::NoMemory;
+use lens_edge::{Answer, Verdict, refuse};
+use lens_json::{Part, What, add_parts};
+use lens_summary::figures::parts;
+use lens_terms::{Term, terms_of};
+use lens_trace::Telling;
+use script_reader::Document;
+use skew_clock::Clock;
+use std::alloc::Global;
+use trace_lines::{Header, Line};
+use trace_writer::add;
+
+/// The place of the evictions among the members of `summary --json`.
+const EVICTIONS: usize = 5;
+
+/// What the trace of a document comes to, by the clocks of the document's controllers.
+#[derive(Drop)]
+pub(crate) struct Figures<'a> {
+    pub document: &'a Document,
+    pub clocks: &'a [Clock],
+    ghost settings: { AreLawful document.now.settings },
+    ghost of_controllers: { AreClocks (doc_of document.now) clocks.now },
+}
+
+impl Telling for Figures<'_> {
+    ghost told = { λ figures header overlap ls. spec.figures figures.document.now header overlap ls };
+
+    fn tell(
+        &self,
+        alloc: Global,
+        header: Header,
+        overlap: Option<u64>,
+        lines: &[Line<&[u8]>],
+    ) -> Result<Answer, NoMemory> {
+        if header.beat_millis == self.document.settings.beat_millis {
+            tell(alloc, self, header, overlap, lines)
+        } else {
+            refuse(alloc, OTHER_DOCUMENT, b"/1")
+        }
+    }
+}
+
+/// The object on some lines, of which one may be the first `lead` of an identity while another one leads.
+fn tell(
+    alloc: Global,
+    figures: &Figures<'_>,
+    header: Header,
+    overlap: Option<u64>,
+    lines: &[Line<&[u8]>],
+) -> Result<Answer, NoMemory>
+    requires { header.end ≤ 604800000 }
+    ensures { IfOk result (λ answer. reply_of answer ≡ spec.told figures.now.document.now header overlap (map seen lines.now)) }
+{
+    let found = terms_of(alloc, lines)?;
+    let parts = late_parts(alloc, figures, header, overlap, &found, lines)?;
+    let mut text = Vec::new(alloc);
+    add_parts(&mut text, &parts)?;
+    add(&mut text, b"\n")?;
+    Ok(Answer {
+        verdict: Verdict::Done,
+        text,
+    })
+}
+
+/// The members of that object: those of `summary --json`, with how late they were in the evictions.
+fn late_parts<'a>(
+    alloc: Global,
+    figures: &Figures<'_>,
+    header: Header,
+    overlap: Option<u64>,
+    found: &[Term<&'a [u8]>],
+    lines: &[Line<&'a [u8]>],
+) -> Result<[Part<'a>; 7], NoMemory>
+    requires { header.end ≤ 604800000 }
+    ensures { IfOk result (λ parts. map part_of parts
+        ≡ spec.late_figures figures.now.document.now header overlap (header.end + 1) (map shown found.now) (map seen lines.now)) }
+{
+    let evictions = late_objects(alloc, figures.document, figures.clocks, lines)?;
+    let mut members = parts(alloc, header, overlap, found, lines)?;
+    members[EVICTIONS] = Part {
+        name: b"evictions",
+        what: What::List(evictions),
+    };
+    Ok(members)
+}
