@@ -1,37 +1,59 @@
 -- The words that are commands.
-use Rattle.std.specs.Prelude.{ℕ, List, [], ◌∷◌, codes, Option, Some, None, if◌then◌else◌}
+use Rattle.std.specs.Prelude.{ℕ, ◌&&◌, ◌||◌, Bool, List, [], ◌∷◌, codes, Option, Some, None, if◌then◌else◌}
 use Rattle.std.specs.Str.{bytes_eq}
+use Rattle.kube_lens.specs.declared.asked.Asked.TheVariants.{Margin, MarginJson, Leaders, LeadersJson, Summary, SummaryJson, Lateness, LatenessJson, Lines, Explain, ExplainJson}
 use Rattle.kube_lens.specs.declared.command.Command.{Command}
-use Rattle.kube_lens.specs.declared.command.Command.TheVariants.{Help, Margin, MarginJson, Flags, Leaders, LeadersJson, Summary, SummaryJson, Lateness, LatenessJson, Lines, Explain}
+use Rattle.kube_lens.specs.declared.command.Command.TheVariants.{Help, Flags, Asks}
 
-abbrev pub command_by : List ℕ → Option Command
-command_by word =
-    if bytes_eq word (codes "--help") then Some Help
-    else if bytes_eq word (codes "margin") then Some Margin
-    else if bytes_eq word (codes "leaders") then Some Leaders
-    else if bytes_eq word (codes "summary") then Some Summary
-    else if bytes_eq word (codes "explain") then Some Explain
-    else if bytes_eq word (codes "lines") then Some Lines
+-- one word
+abbrev pub by_word : List ℕ → Option Command
+by_word word =
+    if bytes_eq word (codes "margin") then Some (Asks Margin)
+    else if bytes_eq word (codes "leaders") then Some (Asks Leaders)
+    else if bytes_eq word (codes "summary") then Some (Asks Summary)
+    else if bytes_eq word (codes "explain") then Some (Asks Explain)
+    else if bytes_eq word (codes "--help") then Some Help
     else None
 
--- one word behind `margin` asks for the JSON of a document or is a flag, that behind `leaders` asks for its JSON, and `summary` may be asked for
--- its JSON or have a document beside its trace
-abbrev pub with_flags : Option Command → List ℕ → Option Command
-with_flags (Some Margin) second = if bytes_eq second (codes "--json") then Some MarginJson else Some Flags
-with_flags (Some Leaders) second = Some LeadersJson
-with_flags (Some Summary) second =
-    if bytes_eq second (codes "--json") then Some SummaryJson else if bytes_eq second (codes "--document") then Some Lateness else Some Summary
-with_flags other second = other
+-- whatever stands behind the word: behind `margin` flags
+abbrev pub by_flags : List ℕ → Option Command
+by_flags word =
+    if bytes_eq word (codes "margin") then Some Flags
+    else if bytes_eq word (codes "--help") then Some Help
+    else None
 
--- more words behind `margin` are flags, and those behind `summary` ask for the JSON of a document's trace
-abbrev pub with_more : Option Command → List ℕ → Option Command
-with_more (Some Margin) second = Some Flags
-with_more (Some Summary) second = Some LatenessJson
-with_more other second = with_flags other second
+-- `--json` behind the word
+abbrev pub as_json : List ℕ → Option Command
+as_json word =
+    if bytes_eq word (codes "margin") then Some (Asks MarginJson)
+    else if bytes_eq word (codes "leaders") then Some (Asks LeadersJson)
+    else if bytes_eq word (codes "summary") then Some (Asks SummaryJson)
+    else if bytes_eq word (codes "explain") then Some (Asks ExplainJson)
+    else if bytes_eq word (codes "lines") then Some (Asks Lines)
+    else by_flags word
 
--- the command that the first word names
+-- one word behind it: `summary` may have a document beside its trace
+abbrev pub by_form : List ℕ → List ℕ → Option Command
+by_form word form =
+    if bytes_eq form (codes "--json") then as_json word
+    else if bytes_eq word (codes "summary") && bytes_eq form (codes "--document") then Some (Asks Lateness)
+    else by_flags word
+
+-- the flags `--document` and `--json`, in either order
+abbrev pub are_both : List ℕ → List ℕ → Bool
+are_both one other =
+    (bytes_eq one (codes "--document") && bytes_eq other (codes "--json")) || (bytes_eq one (codes "--json") && bytes_eq other (codes "--document"))
+
+-- two words behind it: `summary` may have both flags
+abbrev pub by_forms : List ℕ → List ℕ → List ℕ → Option Command
+by_forms word one other =
+    if bytes_eq word (codes "summary") && are_both one other then Some (Asks LatenessJson)
+    else by_flags word
+
+-- the command that the words after the program's name are
 abbrev pub command_of : List (List ℕ) → Option Command
 command_of [] = None
-command_of (word ∷ []) = command_by word
-command_of (word ∷ second ∷ []) = with_flags (command_by word) second
-command_of (word ∷ second ∷ third ∷ more) = with_more (command_by word) second
+command_of (word ∷ []) = by_word word
+command_of (word ∷ form ∷ []) = by_form word form
+command_of (word ∷ one ∷ other ∷ []) = by_forms word one other
+command_of (word ∷ one ∷ other ∷ another ∷ more) = by_flags word

@@ -1,90 +1,114 @@
 // The words that are commands.
 ghost use Rattle.std.specs.Prelude.{◌≡◌, map, string_bytes};
-ghost use Rattle.kube_lens.specs.Commands.{command_of, command_by, with_flags, with_more};
+ghost use Rattle.kube_lens.specs.Commands.{are_both, as_json, by_flags, by_form, by_forms, by_word, command_of};
 
-/// What is asked, by the first word.
+use crate::asked::Asked;
+
+/// What the words after the program's name ask for.
 #[derive(Clone, Copy)]
 pub enum Command {
     /// The commands are told.
     Help,
-    /// The margins of a document's leases.
-    Margin,
-    /// The same as one JSON object.
-    MarginJson,
     /// The margin of the lease that flags describe, in lines or as one JSON object.
     Flags,
-    /// Who led in a trace, and when nobody did.
-    Leaders,
-    /// The same as one JSON object.
-    LeadersJson,
-    /// What a trace comes to, as tables.
-    Summary,
-    /// The same as one JSON object.
-    SummaryJson,
-    /// Why a document is refused.
-    Explain,
-    /// The tables of a document's trace, and how late its evictions were.
-    Lateness,
-    /// The same as one JSON object.
-    LatenessJson,
-    /// The lines of a trace, as JSON objects.
-    Lines,
+    /// The input is answered.
+    Asks(Asked),
 }
 
-/// The command that the first word names, if any.
+/// The command that the words are, if any.
 pub(crate) fn command_in(words: &Vec<String>) -> Option<Command>
     ensures { result ≡ command_of (map string_bytes words.now.items) }
 {
     match words.as_slice() {
         [] => None,
         [word] => by_word(word.as_str()),
-        [word, second] => with_flags(by_word(word.as_str()), second.as_str()),
-        [word, second, ..] => with_more(by_word(word.as_str()), second.as_str()),
+        [word, form] => by_form(word.as_str(), form.as_str()),
+        [word, one, other] => by_forms(word.as_str(), one.as_str(), other.as_str()),
+        [word, ..] => by_flags(word.as_str()),
     }
 }
 
-/// The command where more than one word stands behind the first: those of `margin` are flags, and those of `summary` ask for the JSON of a
-/// document's trace.
-fn with_more(command: Option<Command>, second: &str) -> Option<Command>
-    ensures { result ≡ with_more command second.now }
-{
-    match command {
-        Some(Command::Margin) => Some(Command::Flags),
-        Some(Command::Summary) => Some(Command::LatenessJson),
-        other => with_flags(other, second),
-    }
-}
-
-/// The command where one word stands behind the first: that of `margin` asks for the JSON of a document or is a flag, that of `leaders` asks
-/// for its JSON, and `summary` may be asked for its JSON or have a document beside its trace.
-fn with_flags(command: Option<Command>, second: &str) -> Option<Command>
-    ensures { result ≡ with_flags command second.now }
-{
-    match command {
-        Some(Command::Margin) if second == "--json" => Some(Command::MarginJson),
-        Some(Command::Margin) => Some(Command::Flags),
-        Some(Command::Leaders) => Some(Command::LeadersJson),
-        Some(Command::Summary) if second == "--json" => Some(Command::SummaryJson),
-        Some(Command::Summary) if second == "--document" => Some(Command::Lateness),
-        other => other,
-    }
-}
-
+/// The command that is one word.
 fn by_word(word: &str) -> Option<Command>
-    ensures { result ≡ command_by word.now }
+    ensures { result ≡ by_word word.now }
 {
-    if word == "--help" {
-        Some(Command::Help)
-    } else if word == "margin" {
-        Some(Command::Margin)
+    if word == "margin" {
+        Some(Command::Asks(Asked::Margin))
     } else if word == "leaders" {
-        Some(Command::Leaders)
+        Some(Command::Asks(Asked::Leaders))
     } else if word == "summary" {
-        Some(Command::Summary)
+        Some(Command::Asks(Asked::Summary))
     } else if word == "explain" {
-        Some(Command::Explain)
+        Some(Command::Asks(Asked::Explain))
+    } else if word == "--help" {
+        Some(Command::Help)
+    } else {
+        None
+    }
+}
+
+/// The command with one word behind it.
+fn by_form(word: &str, form: &str) -> Option<Command>
+    ensures { result ≡ by_form word.now form.now }
+{
+    if form == "--json" {
+        as_json(word)
+    } else if word == "summary" && form == "--document" {
+        Some(Command::Asks(Asked::Lateness))
+    } else {
+        by_flags(word)
+    }
+}
+
+/// The command with `--json` behind it.
+fn as_json(word: &str) -> Option<Command>
+    ensures { result ≡ as_json word.now }
+{
+    if word == "margin" {
+        Some(Command::Asks(Asked::MarginJson))
+    } else if word == "leaders" {
+        Some(Command::Asks(Asked::LeadersJson))
+    } else if word == "summary" {
+        Some(Command::Asks(Asked::SummaryJson))
+    } else if word == "explain" {
+        Some(Command::Asks(Asked::ExplainJson))
     } else if word == "lines" {
-        Some(Command::Lines)
+        Some(Command::Asks(Asked::Lines))
+    } else {
+        by_flags(word)
+    }
+}
+
+/// The command with two words behind it: `summary` may have both of its flags.
+fn by_forms(word: &str, one: &str, other: &str) -> Option<Command>
+    ensures { result ≡ by_forms word.now one.now other.now }
+{
+    if word == "summary" && are_both(one, other) {
+        Some(Command::Asks(Asked::LatenessJson))
+    } else {
+        by_flags(word)
+    }
+}
+
+/// Whether the words are `--document` and `--json`, in either order.
+fn are_both(one: &str, other: &str) -> bool
+    ensures { result ≡ are_both one.now other.now }
+{
+    if one == "--document" {
+        other == "--json"
+    } else {
+        one == "--json" && other == "--document"
+    }
+}
+
+/// The command that takes whatever stands behind it: that of `margin` are flags.
+fn by_flags(word: &str) -> Option<Command>
+    ensures { result ≡ by_flags word.now }
+{
+    if word == "margin" {
+        Some(Command::Flags)
+    } else if word == "--help" {
+        Some(Command::Help)
     } else {
         None
     }

@@ -4,6 +4,7 @@
 ghost use Rattle.std.specs.Prelude.{◌≡◌};
 ghost use Rattle.kube_lens.specs.Exits.{exit_status_of};
 
+mod asked;
 mod command;
 mod running;
 

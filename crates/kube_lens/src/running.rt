@@ -1,4 +1,4 @@
-// The commands.
+// The program, from words and bytes to text and status.
 ghost use Rattle.std.specs.Prelude.{◌≡◌, ◌≢◌, ◌⊎◌, ℕ, true, false, List, [], Some, None, Ok, map, string_bytes};
 ghost use Rattle.byte_edge.specs.Bytes.{Rose};
 ghost use Rattle.history.specs.Premise.{lease_premise};
@@ -12,13 +12,14 @@ ghost use Rattle.lens_room.specs.Flags.{behind, flags_of};
 ghost use Rattle.kube_lens.specs.Commands.{command_of};
 ghost use Rattle.kube_lens.specs.Outcome.{IsOutcome, help};
 
+use crate::asked::Asked;
 use crate::command::{Command, command_in};
 use byte_edge::{Sink, Source};
-use lens_edge::{Status, Verdict, tell, tell_usage};
+use lens_edge::{Status, Verdict, ask, tell, tell_usage};
 use std::alloc::Global;
 
-/// Does what the words after the program's name say, each command in the crate of its name. Words that are no command are answered by a
-/// line on the usage, for which the source isn't read and no memory is taken.
+/// Does what the words after the program's name say. Words that are no command are answered by a line on the usage, for which the source
+/// isn't read and no memory is taken.
 pub fn run<S: Source, K: Sink>(
     alloc: Global,
     words: &Vec<String>,
@@ -43,10 +44,10 @@ pub fn run<S: Source, K: Sink>(
 
     // `margin` ends safe only where the lease premise of the document holds, and unsafe only where it doesn't.
     ensures safe { (bytes : List ℕ) (d : Document) → S.left source.old ≡ Some bytes → document_walk bytes ≡ Ok d
-        → command_of (map string_bytes words.now.items) ≡ Some Command.Margin
+        → command_of (map string_bytes words.now.items) ≡ Some (Command.Asks Asked.Margin)
         → result ≡ Status.Answered Verdict.Safe → lease_premise (doc_of d) ≡ true }
     ensures not_safe { (bytes : List ℕ) (d : Document) → S.left source.old ≡ Some bytes → document_walk bytes ≡ Ok d
-        → command_of (map string_bytes words.now.items) ≡ Some Command.Margin
+        → command_of (map string_bytes words.now.items) ≡ Some (Command.Asks Asked.Margin)
         → result ≡ Status.Answered Verdict.Unsafe → lease_premise (doc_of d) ≡ false }
 
     // With flags in the place of a document, the same of the document that they describe.
@@ -59,17 +60,8 @@ pub fn run<S: Source, K: Sink>(
 {
     match command_in(words) {
         Some(Command::Help) => tell(sink, Verdict::Done, help()),
-        Some(Command::Margin) => lens_room::run(alloc, words, source, sink),
-        Some(Command::MarginJson) => lens_room::margin_json::run(alloc, words, source, sink),
         Some(Command::Flags) => lens_room::by_flags::run(alloc, words, sink),
-        Some(Command::Leaders) => lens_trace::run(alloc, words, source, sink),
-        Some(Command::LeadersJson) => lens_trace::leaders_json::run(alloc, words, source, sink),
-        Some(Command::Summary) => lens_summary::run(alloc, words, source, sink),
-        Some(Command::SummaryJson) => lens_summary::figures::run(alloc, words, source, sink),
-        Some(Command::Explain) => lens_explain::run(alloc, words, source, sink),
-        Some(Command::Lateness) => lens_lateness::run(alloc, words, source, sink),
-        Some(Command::LatenessJson) => lens_lateness::figures::run(alloc, words, source, sink),
-        Some(Command::Lines) => lens_trace::lines::run(alloc, words, source, sink),
+        Some(Command::Asks(asked)) => ask(alloc, &asked, source, sink),
         None => tell_usage(sink),
     }
 }

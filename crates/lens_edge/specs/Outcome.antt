@@ -46,11 +46,6 @@ ReadBy false IsReply bytes o = o ≡ record { reply = refusal 33 (codes "/"); le
 unfoldable pub Read : (List ℕ → Reply → Type 0) → List ℕ → Outcome → Type 0
 Read IsReply bytes o = ReadBy (nat_le (length bytes) 16777216) (IsReply bytes) bytes o
 
--- words that are the command are answered of all bytes; others are no command
-abbrev pub Asked : Bool → (List ℕ → Reply → Type 0) → List ℕ → Outcome → Type 0
-Asked true IsReply bytes = Read IsReply bytes
-Asked false IsReply bytes = Unread usage bytes
-
 -- ---- how a run ends
 
 -- this was the verdict, all the text was taken, and this is left of the source

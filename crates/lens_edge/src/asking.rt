@@ -1,12 +1,12 @@
 // A question that is asked of all that a source has.
-ghost use Rattle.std.specs.Prelude.{◌≡◌, ◌≢◌, ◌⊎◌, ℕ, false, List, [], Some, IfOk, IsErr};
+ghost use Rattle.std.specs.Prelude.{◌≡◌, ◌≢◌, ℕ, List, Some, IfOk, IsErr};
 ghost use Rattle.byte_edge.specs.Bytes.{Rose};
-ghost use Rattle.lens_edge.specs.Outcome.{Asked, Ends, EndsAs, Read, Unread, reply_of, usage};
+ghost use Rattle.lens_edge.specs.Outcome.{Ends, EndsAs, Read, Unread, reply_of};
 
 use crate::answer::{Answer, Question};
 use crate::refusing::refuse;
-use crate::status::{Status, Verdict};
-use crate::telling::{tell, tell_usage};
+use crate::status::Status;
+use crate::telling::tell;
 use byte_edge::{Sink, Source, TakeFault, take_all};
 use kube_base::NoMemory;
 use std::alloc::Global;
@@ -17,36 +17,8 @@ const TOO_LARGE: u32 = 33;
 /// The most bytes that an input may have.
 const LARGEST: usize = 16_777_216;
 
-/// Where the words are the command of a question, takes all that the source has and writes the answer to it. Else writes the line on the usage,
-/// for which the source isn't read and no memory is taken.
-pub fn ask_if<Q: Question, S: Source, K: Sink>(
-    alloc: Global,
-    is_command: bool,
-    question: &Q,
-    source: &mut S,
-    sink: &mut K,
-) -> Status
-    ensures text { EndsAs (Asked is_command (Q.is_reply question.now)) (S.left source.old) (S.left source.new) (K.taken sink.old)
-        (K.taken sink.new) result }
-
-    // Words that are no command are answered whether or not the source tells its bytes, with no want of memory.
-    ensures usage { is_command ≡ false
-        → (S.left source.new ≡ S.left source.old) × ((result ≡ Status.Answered Verdict.Usage) ⊎ (result ≡ Status.SinkFault))
-        × Ends (Unread usage []) (Some []) (K.taken sink.old) (K.taken sink.new) result }
-
-    ensures source_fault { result ≡ Status.SourceFault → Rose (S.faults source.old) (S.faults source.new) }
-    ensures source_silent { result ≡ Status.SourceFault → K.taken sink.new ≡ K.taken sink.old }
-    ensures sink_fault { result ≡ Status.SinkFault → Rose (K.faults sink.old) (K.faults sink.new) }
-{
-    if is_command {
-        ask(alloc, question, source, sink)
-    } else {
-        tell_usage(sink)
-    }
-}
-
-/// Takes all that the source has and writes the answer to it.
-fn ask<Q: Question, S: Source, K: Sink>(
+/// Takes all that the source has and writes the answer to it. An input of more bytes than it may have is refused.
+pub fn ask<Q: Question, S: Source, K: Sink>(
     alloc: Global,
     question: &Q,
     source: &mut S,

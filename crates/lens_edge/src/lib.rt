@@ -8,7 +8,7 @@ mod status;
 mod telling;
 
 pub use answer::{Answer, Question};
-pub use asking::ask_if;
+pub use asking::ask;
 pub use refusing::{refuse, refuse_as};
 pub use status::{Status, Verdict};
 pub use telling::{tell, tell_usage};

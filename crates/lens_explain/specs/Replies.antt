@@ -1,8 +1,7 @@
--- What is said of a document, and how a run ends.
-use Rattle.std.specs.Prelude.{◌≡◌, ℕ, ◌&&◌, Bool, true, false, List, [], ◌∷◌, ◌++◌, length, codes, decimal, All, Result, Ok, Err, if◌then◌else◌}
+-- What is said of a document.
+use Rattle.std.specs.Prelude.{◌≡◌, ℕ, Bool, List, ◌++◌, length, codes, decimal, All, Result, Ok, Err, if◌then◌else◌}
 use Rattle.std.specs.List.{flat_map}
-use Rattle.std.specs.Str.{bytes_eq}
-use Rattle.lens_edge.specs.Outcome.{Asked, Outcome, Reply, refusal_text}
+use Rattle.lens_edge.specs.Outcome.{Reply, refusal_text}
 use Rattle.lens_edge.specs.declared.status.Verdict.TheVariants.{Done, Refused}
 use Rattle.lens_explain.specs.declared.place.Shown.{Shown}
 use Rattle.lens_explain.specs.declared.twice.Warning.{Warning}
@@ -57,20 +56,3 @@ Explains as_json input (Err r) reply = IsRefused as_json input r reply
 
 abbrev pub IsExplained : Bool → List ℕ → Reply → Type 0
 IsExplained as_json input reply = Explains as_json input (document_walk input) reply
-
--- ---- words
-
--- the word `explain`, alone or with `--json` behind it
-abbrev pub is_explain : List (List ℕ) → Bool
-is_explain (word ∷ []) = bytes_eq word (codes "explain")
-is_explain (word ∷ form ∷ []) = bytes_eq word (codes "explain") && bytes_eq form (codes "--json")
-is_explain _ = false
-
--- whether there is a word behind the first
-abbrev pub has_form : List (List ℕ) → Bool
-has_form (word ∷ form ∷ more) = true
-has_form _ = false
-
--- by the words after the program's name and all bytes of the source
-abbrev pub IsOutcome : List (List ℕ) → List ℕ → Outcome → Type 0
-IsOutcome words = Asked (is_explain words) (IsExplained (has_form words))

@@ -15,8 +15,8 @@ use manifest_json::{ReadFault, Refusal};
 use script_reader::{Document, read_document};
 use std::alloc::Global;
 
-/// That the document in these bytes is well formed, or its refusal and why.
-pub(crate) fn explained(alloc: Global, input: &[u8], as_json: bool) -> Result<Answer, NoMemory>
+/// That the document in these bytes is well formed, with its counts, or its refusal and why: in lines, or as one JSON object.
+pub fn explained(alloc: Global, input: &[u8], as_json: bool) -> Result<Answer, NoMemory>
     ensures { IfOk result (λ answer. IsExplained as_json input.now (reply_of answer)) }
 {
     match read_document(alloc, input) {

@@ -1,5 +1,5 @@
 //! Why a document is refused: the place in the text, what stands there, and a sentence; or that it is well formed. The command `explain`, in
-//! lines or as JSON, from bytes to text and status.
+//! lines or as JSON, from bytes to text.
 #![tactic(auto)]
 
 mod broken;
@@ -12,11 +12,10 @@ mod nearest;
 mod object;
 mod place;
 mod rules;
-mod running;
 mod saying;
 mod scan;
 mod sentence;
 mod twice;
 mod walk;
 
-pub use running::run;
+pub use explaining::explained;

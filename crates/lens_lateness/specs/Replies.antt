@@ -1,7 +1,6 @@
--- The words that are commands, and what they answer.
-use Rattle.std.specs.Prelude.{◌≡◌, ℕ, ◌==◌, ◌++◌, ◌&&◌, nat_le, Bool, false, List, [], ◌∷◌, length, codes, Option, Some, None, Result, Ok, Err, if◌then◌else◌}
-use Rattle.std.specs.Str.{bytes_eq}
-use Rattle.lens_edge.specs.Outcome.{Asked, Outcome, Reply, refusal}
+-- What a document and its trace are answered.
+use Rattle.std.specs.Prelude.{ℕ, ◌==◌, ◌++◌, nat_le, List, [], length, codes, Option, Some, None, Result, Ok, Err, if◌then◌else◌}
+use Rattle.lens_edge.specs.Outcome.{Reply, refusal}
 use Rattle.lens_edge.specs.declared.status.Verdict.{Verdict}
 use Rattle.lens_edge.specs.declared.status.Verdict.TheVariants.{Done}
 use Rattle.lens_summary.specs.Summary.{summary_reply}
@@ -44,14 +43,3 @@ found (Err r) trace = refusal r.code r.path
 -- what an input is answered: a document and its trace
 unfoldable pub lateness_reply : List ℕ → Reply
 lateness_reply input = found (document_walk (document_part input)) (trace_part input)
-
--- ---- words
-
--- the words `summary --document`
-abbrev pub is_lateness : List (List ℕ) → Bool
-is_lateness (first ∷ second ∷ []) = bytes_eq first (codes "summary") && bytes_eq second (codes "--document")
-is_lateness _ = false
-
--- by the words after the program's name and all bytes of the source
-abbrev pub IsOutcome : List (List ℕ) → List ℕ → Outcome → Type 0
-IsOutcome words = Asked (is_lateness words) (λ input reply. reply ≡ lateness_reply input)

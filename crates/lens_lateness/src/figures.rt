@@ -1,7 +1,6 @@
-// The same as JSON: the command `summary --document --json`, from words and bytes to text and status.
+// The same as JSON: the command `summary --document --json`, from bytes to text.
 
 mod answering;
 mod objects;
-mod running;
 
-pub use running::run;
+pub use answering::figures_of;

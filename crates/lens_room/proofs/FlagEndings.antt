@@ -14,7 +14,7 @@ use Rattle.lens_room.specs.Described.{described}
 use Rattle.lens_room.specs.Flags.{flags_of}
 use Rattle.lens_room.specs.FlagLaws.{holds}
 use Rattle.lens_room.specs.FlagReplies.{answer_to, answered}
-use Rattle.lens_room.proofs.Endings.{verdict-safe, verdict-unsafe}
+use Rattle.lens_room.proofs.VerdictLaws.{verdict-safe, verdict-unsafe}
 
 -- an answer to these words, of which a slice shows the text
 pub ends-answered : (shown words : List (List ℕ)) (a : Answer) (text left : List ℕ) (before after : Taken) (s : Status) → shown ≡ words → reply_of a ≡ answer_to shown

@@ -1,6 +1,6 @@
--- ---- texts, and how a run ends
+-- ---- texts and verdicts
 pub mod Added
-pub mod Endings
+pub mod VerdictLaws
 -- ---- durations
 pub mod Sums
 -- ---- numbers of flags

@@ -1,6 +1,5 @@
 pub mod Lines
 pub mod Replies
-pub mod MarginJsonReplies
 pub mod MarginJson
 pub mod Amounts
 pub mod Described

@@ -1,8 +1,7 @@
-// How much room each lease leaves as JSON: the command `margin --json`, from words and bytes to text and status.
+// How much room each lease leaves as JSON: the command `margin --json`, from bytes to text.
 
 mod answering;
 mod parts;
-mod running;
 
+pub use answering::room_in;
 pub use parts::{member, seconds, slack, stall};
-pub use running::run;

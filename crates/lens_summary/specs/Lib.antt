@@ -3,7 +3,6 @@ pub mod Nodes
 pub mod Outcomes
 pub mod Part
 pub mod Pods
-pub mod Replies
 pub mod Spread
 pub mod Subjects
 pub mod Summary
@@ -15,4 +14,3 @@ pub mod Tables
 pub mod FigureLines
 pub mod FigureTotals
 pub mod Figures
-pub mod FigureReplies

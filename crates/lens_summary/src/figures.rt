@@ -1,11 +1,9 @@
-// What a trace comes to as JSON: the command `summary --json`, from words and bytes to text and status.
+// What a trace comes to as JSON: the command `summary --json`, from bytes to text.
 
 mod answering;
 mod leaders;
 mod lines;
 mod objects;
-mod running;
 mod totals;
 
-pub use answering::parts;
-pub use running::run;
+pub use answering::{figures_of, parts};

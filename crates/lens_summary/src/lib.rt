@@ -1,5 +1,4 @@
-//! What a trace comes to, as tables with columns as `kubectl get` prints them, or as JSON: the command `summary`, from words and bytes to text
-//! and status.
+//! What a trace comes to, as tables with columns as `kubectl get` prints them, or as JSON: the command `summary`, from bytes to text.
 #![tactic(auto)]
 
 mod cell;
@@ -10,7 +9,6 @@ mod outcome;
 mod part;
 mod pods;
 mod row;
-mod running;
 mod spread;
 mod subject;
 mod summary;
@@ -22,5 +20,5 @@ mod zones;
 pub use cell::Cell;
 pub use pods::eviction_in;
 pub use row::{Row, add_row};
-pub use running::{run, summary_of};
+pub use summary::summary_of;
 pub use table::add_table;

@@ -6,6 +6,7 @@ ghost use Rattle.lens_summary.specs.Tables.{shown};
 ghost use Rattle.trace_lines.specs.Reads.{seen};
 ghost use Rattle.lens_summary.specs.Part.{part};
 ghost use Rattle.lens_summary.specs.Summary as spec;
+ghost use Rattle.lens_summary.specs.Together.{BeatsOfTwoAreCounted};
 
 use crate::cell::Cell;
 use crate::leaders::{tell_spans, tell_terms};
@@ -17,11 +18,39 @@ use crate::totals::tell_totals;
 use kube_base::NoMemory;
 use lens_edge::{Answer, Verdict};
 use lens_terms::terms_of;
+use lens_trace::{Telling, answer_on};
 use std::alloc::Global;
 use trace_lines::{Header, Line};
 
+/// The tables on the trace that these bytes are; or its refusal.
+pub fn summary_of(alloc: Global, input: &[u8]) -> Result<Answer, NoMemory>
+    ensures reply { IfOk result (λ answer. reply_of answer ≡ spec.summary_reply input.now) }
+
+    // The number told of beats at which two lead is that of the beats at which two identities of the trace lead.
+    ensures together { BeatsOfTwoAreCounted }
+{
+    answer_on(alloc, &Summary, input)
+}
+
+/// What a trace comes to.
+struct Summary;
+
+impl Telling for Summary {
+    ghost told = { λ asked header overlap ls. spec.summary header overlap ls };
+
+    fn tell(
+        &self,
+        alloc: Global,
+        header: Header,
+        overlap: Option<u64>,
+        lines: &[Line<&[u8]>],
+    ) -> Result<Answer, NoMemory> {
+        tell(alloc, header, overlap, lines)
+    }
+}
+
 /// All tables on some lines, of which one may be the first `lead` of an identity while another one leads.
-pub(crate) fn tell(
+fn tell(
     alloc: Global,
     header: Header,
     overlap: Option<u64>,

@@ -4,10 +4,7 @@ pub mod Judged
 pub mod Read
 pub mod Traces
 pub mod Leaders
-pub mod Replies
 pub mod LeadersJson
-pub mod LeadersJsonReplies
 pub mod LineMembers
 pub mod Lines
 pub mod LineLaws
-pub mod LineReplies

@@ -4,8 +4,11 @@ ghost use Rattle.std.specs.List.{flat_map};
 ghost use Rattle.lens_edge.specs.Outcome.{reply_of};
 ghost use Rattle.lens_terms.specs.Terms.{shown};
 ghost use Rattle.trace_lines.specs.Reads.{seen};
+ghost use Rattle.lens_trace.specs.Agree.{TermsAreAudited};
+ghost use Rattle.lens_trace.specs.Beats.{SpansAreLeaderless};
 ghost use Rattle.lens_trace.specs.Leaders as spec;
 
+use crate::answering::{Telling, answer_on};
 use kube_base::NoMemory;
 use lens_edge::{Answer, Verdict};
 use lens_terms::{Closing, Ending, Span, Term, crossing, leaderless, term_at, terms_of};
@@ -13,8 +16,36 @@ use std::alloc::Global;
 use trace_lines::{Header, Line};
 use trace_writer::{add, add_number};
 
+/// The terms of the trace that these bytes are, the spans in which nobody leads, and whether two ever lead at once; or its refusal.
+pub fn leaders_in(alloc: Global, input: &[u8]) -> Result<Answer, NoMemory>
+    ensures reply { IfOk result (λ answer. reply_of answer ≡ spec.leaders_reply input.now) }
+
+    // The terms told of a trace are those by which `audit` judges it, and a beat lies in one of the spans exactly where nobody leads.
+    ensures terms { TermsAreAudited }
+    ensures spans { SpansAreLeaderless }
+{
+    answer_on(alloc, &Leaders, input)
+}
+
+/// Who leads in a trace.
+struct Leaders;
+
+impl Telling for Leaders {
+    ghost told = { λ leaders header overlap ls. spec.leaders header overlap ls };
+
+    fn tell(
+        &self,
+        alloc: Global,
+        header: Header,
+        overlap: Option<u64>,
+        lines: &[Line<&[u8]>],
+    ) -> Result<Answer, NoMemory> {
+        tell(alloc, header, overlap, lines)
+    }
+}
+
 /// Who leads in a trace, when nobody does, and whether two ever do at once.
-pub(crate) fn tell(
+fn tell(
     alloc: Global,
     header: Header,
     overlap: Option<u64>,

@@ -1,7 +1,6 @@
-// Who leads in a trace as JSON: the command `leaders --json`, from words and bytes to text and status.
+// Who leads in a trace as JSON: the command `leaders --json`, from bytes to text.
 
 mod answering;
 mod parts;
-mod running;
 
-pub use running::run;
+pub use answering::leaders_in;

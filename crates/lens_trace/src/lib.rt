@@ -1,4 +1,4 @@
-//! Answers on the text of a trace: the commands `leaders`, in lines or as JSON, and `lines --json`, from words and bytes to text and status.
+//! Answers on the text of a trace: the commands `leaders`, in lines or as JSON, and `lines --json`, from bytes to text.
 #![tactic(auto)]
 
 mod answering;
@@ -7,9 +7,8 @@ mod leaders;
 pub mod leaders_json;
 pub mod lines;
 mod reading;
-mod running;
 
 pub use answering::{Telling, answer_on};
 pub use judging::{Judged, judge};
+pub use leaders::leaders_in;
 pub use reading::read_lines;
-pub use running::run;

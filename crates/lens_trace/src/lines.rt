@@ -1,10 +1,9 @@
-// The lines of a trace as JSON objects: the command `lines --json`, from words and bytes to text and status.
+// The lines of a trace as JSON objects: the command `lines --json`, from bytes to text.
 
 mod answering;
 mod header;
 mod line;
 mod members;
-mod running;
 mod said;
 
-pub use running::run;
+pub use answering::lines_in;

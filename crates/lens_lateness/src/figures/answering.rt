@@ -3,21 +3,28 @@ ghost use Rattle.std.specs.Prelude.{◌≡◌, ◌+◌, ◌≤◌, IfOk, map};
 ghost use Rattle.lens_edge.specs.Outcome.{reply_of};
 ghost use Rattle.lens_json.specs.Parts.{part_of};
 ghost use Rattle.lens_terms.specs.Terms.{shown};
+ghost use Rattle.lens_trace.specs.Traces.{trace_reply};
 ghost use Rattle.script_reader.specs.Documents.{doc_of};
-ghost use Rattle.script_reader.specs.Lawful.{AreLawful};
+ghost use Rattle.script_reader.specs.Lawful.{AreLawful, IsLawfulDoc};
 ghost use Rattle.trace_lines.specs.Reads.{seen};
 ghost use Rattle.lens_lateness.specs.Clocks.{AreClocks};
+ghost use Rattle.lens_lateness.specs.FigureReplies.{figures_reply};
 ghost use Rattle.lens_lateness.specs.Figures as spec;
+ghost use Rattle.lens_lateness.specs.Refusals.{RefusalsAreTheSame};
 
+use crate::answering::OTHER_DOCUMENT;
+use crate::clocks::clocks_of;
 use crate::figures::objects::late_objects;
-use crate::running::OTHER_DOCUMENT;
+use crate::input::document_end;
+use document_laws::documents_are_lawful;
 use kube_base::NoMemory;
-use lens_edge::{Answer, Verdict, refuse};
+use lens_edge::{Answer, Verdict, refuse, refuse_as};
 use lens_json::{Part, What, add_parts};
 use lens_summary::figures::parts;
 use lens_terms::{Term, terms_of};
-use lens_trace::Telling;
-use script_reader::Document;
+use lens_trace::{Telling, answer_on};
+use manifest_json::ReadFault;
+use script_reader::{Document, read_document};
 use skew_clock::Clock;
 use std::alloc::Global;
 use trace_lines::{Header, Line};
@@ -25,6 +32,36 @@ use trace_writer::add;
 
 /// The place of the evictions among the members of `summary --json`.
 const EVICTIONS: usize = 5;
+
+/// What stands in the tables of `summary --document` on these bytes, as one JSON object; or the refusal of the document or the trace.
+#[tactic(auto, unfolding(crate::specs::FigureReplies::figures_reply))]
+pub fn figures_of(alloc: Global, input: &[u8]) -> Result<Answer, NoMemory>
+    ensures reply { IfOk result (λ answer. reply_of answer ≡ figures_reply input.now) }
+
+    // The verdict on every input is that of `summary --document`, and so is the line of each refusal.
+    ensures refusals { RefusalsAreTheSame }
+{
+    documents_are_lawful();
+    let (document, trace) = input.split_at(document_end(input));
+    match read_document(alloc, document) {
+        Ok(document) => answer_beside(alloc, &document, trace),
+        Err(ReadFault::Refused(refusal)) => refuse_as(alloc, &refusal),
+        Err(ReadFault::NoMemory) => Err(NoMemory),
+    }
+}
+
+/// The answer to a trace beside its document.
+fn answer_beside(alloc: Global, document: &Document, trace: &[u8]) -> Result<Answer, NoMemory>
+    requires { IsLawfulDoc (doc_of document.now) }
+    ensures { IfOk result (λ answer. reply_of answer ≡ trace_reply (spec.figures document.now) trace.now) }
+{
+    let clocks = clocks_of(alloc, document)?;
+    let figures = Figures {
+        document,
+        clocks: &clocks,
+    };
+    answer_on(alloc, &figures, trace)
+}
 
 /// What the trace of a document comes to, by the clocks of the document's controllers.
 #[derive(Drop)]

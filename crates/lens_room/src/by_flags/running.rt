@@ -17,7 +17,7 @@ use crate::by_flags::lines::{add_settings, add_usage};
 use crate::by_flags::margin::is_safe;
 use crate::by_flags::object::add_json;
 use crate::by_flags::wrong::Wrong;
-use crate::running::verdict_by;
+use crate::margins::verdict_by;
 use byte_edge::Sink;
 use kube_base::NoMemory;
 use lens_edge::{Answer, Status, Verdict, tell};

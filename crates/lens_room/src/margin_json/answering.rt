@@ -8,7 +8,7 @@ ghost use Rattle.script_reader.specs.Walk.{document_walk};
 ghost use Rattle.lens_room.specs.MarginJson.{found, room, room_members};
 
 use crate::margin_json::parts::controllers_in;
-use crate::running::verdict_by;
+use crate::margins::verdict_by;
 use document_laws::documents_are_lawful;
 use kube_base::NoMemory;
 use lens_edge::{Answer, refuse_as};
@@ -18,8 +18,9 @@ use script_reader::{Document, lease_premise, read_document};
 use std::alloc::Global;
 use trace_writer::add;
 
-/// The room that the leases of the document in these bytes leave, or its refusal.
-pub(crate) fn room_in(alloc: Global, input: &[u8]) -> Result<Answer, NoMemory>
+/// The margin of each controller's lease in the document that these bytes are, and whether all are long enough, as one JSON object; or its
+/// refusal.
+pub fn room_in(alloc: Global, input: &[u8]) -> Result<Answer, NoMemory>
     ensures { IfOk result (λ answer. reply_of answer ≡ found (document_walk input.now)) }
 {
     documents_are_lawful();

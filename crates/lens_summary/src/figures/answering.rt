@@ -16,12 +16,37 @@ use kube_base::NoMemory;
 use lens_edge::{Answer, Verdict};
 use lens_json::{Object, Part, What, add_parts};
 use lens_terms::{Term, leaderless, terms_of};
+use lens_trace::{Telling, answer_on};
 use std::alloc::Global;
 use trace_lines::{Header, Line};
 use trace_writer::add;
 
+/// What stands in the tables of `summary` on the trace that these bytes are, as one JSON object; or its refusal.
+pub fn figures_of(alloc: Global, input: &[u8]) -> Result<Answer, NoMemory>
+    ensures { IfOk result (λ answer. reply_of answer ≡ spec.figures_reply input.now) }
+{
+    answer_on(alloc, &Figures, input)
+}
+
+/// What a trace comes to.
+struct Figures;
+
+impl Telling for Figures {
+    ghost told = { λ figures header overlap ls. spec.figures header overlap ls };
+
+    fn tell(
+        &self,
+        alloc: Global,
+        header: Header,
+        overlap: Option<u64>,
+        lines: &[Line<&[u8]>],
+    ) -> Result<Answer, NoMemory> {
+        tell(alloc, header, overlap, lines)
+    }
+}
+
 /// The object on some lines, of which one may be the first `lead` of an identity while another one leads.
-pub(crate) fn tell(
+fn tell(
     alloc: Global,
     header: Header,
     overlap: Option<u64>,

@@ -6,6 +6,7 @@ ghost use Rattle.lens_terms.specs.Terms.{shown};
 ghost use Rattle.trace_lines.specs.Reads.{seen};
 ghost use Rattle.lens_trace.specs.LeadersJson as spec;
 
+use crate::answering::{Telling, answer_on};
 use crate::leaders_json::parts::{overlap_in, spans_in, terms_in};
 use kube_base::NoMemory;
 use lens_edge::{Answer, Verdict};
@@ -15,9 +16,34 @@ use std::alloc::Global;
 use trace_lines::{Header, Line};
 use trace_writer::add;
 
+/// The terms of the trace that these bytes are, the spans in which nobody leads, and whether two ever lead at once, as one JSON object; or its
+/// refusal.
+pub fn leaders_in(alloc: Global, input: &[u8]) -> Result<Answer, NoMemory>
+    ensures { IfOk result (λ answer. reply_of answer ≡ spec.leaders_reply input.now) }
+{
+    answer_on(alloc, &Leaders, input)
+}
+
+/// Who leads in a trace.
+struct Leaders;
+
+impl Telling for Leaders {
+    ghost told = { λ leaders header overlap ls. spec.leaders header overlap ls };
+
+    fn tell(
+        &self,
+        alloc: Global,
+        header: Header,
+        overlap: Option<u64>,
+        lines: &[Line<&[u8]>],
+    ) -> Result<Answer, NoMemory> {
+        tell(alloc, header, overlap, lines)
+    }
+}
+
 /// The object on a trace, in which two may lead at once from a line on.
 #[tactic(auto, unfolding(crate::specs::LeadersJson::leaders_json))]
-pub(crate) fn tell(
+fn tell(
     alloc: Global,
     header: Header,
     overlap: Option<u64>,

@@ -2,8 +2,10 @@
 ghost use Rattle.std.specs.Prelude.{◌≡◌, IfOk, map};
 ghost use Rattle.lens_edge.specs.Outcome.{reply_of};
 ghost use Rattle.trace_lines.specs.Reads.{seen};
+ghost use Rattle.lens_trace.specs.LineLaws.{OneObjectALine, MembersInOrder};
 ghost use Rattle.lens_trace.specs.Lines as spec;
 
+use crate::answering::{Telling, answer_on};
 use crate::lines::header::add_header;
 use crate::lines::line::add_lines;
 use kube_base::NoMemory;
@@ -11,9 +13,37 @@ use lens_edge::{Answer, Verdict};
 use std::alloc::Global;
 use trace_lines::{Header, Line};
 
+/// Each line of the trace that these bytes are as a JSON object on a line of its own; or its refusal.
+pub fn lines_in(alloc: Global, input: &[u8]) -> Result<Answer, NoMemory>
+    ensures reply { IfOk result (λ answer. reply_of answer ≡ spec.lines_reply input.now) }
+
+    // Cut at its line feeds the text is the objects, one for each line, and each has its members in one order.
+    ensures lines { OneObjectALine }
+    ensures order { MembersInOrder }
+{
+    answer_on(alloc, &Lines, input)
+}
+
+/// The lines of a trace.
+struct Lines;
+
+impl Telling for Lines {
+    ghost told = { λ lines header overlap ls. spec.objects header ls };
+
+    fn tell(
+        &self,
+        alloc: Global,
+        header: Header,
+        _overlap: Option<u64>,
+        lines: &[Line<&[u8]>],
+    ) -> Result<Answer, NoMemory> {
+        tell(alloc, header, lines)
+    }
+}
+
 /// The objects of a trace.
 #[tactic(auto, unfolding(crate::specs::Lines::told))]
-pub(crate) fn tell(alloc: Global, header: Header, lines: &[Line<&[u8]>]) -> Result<Answer, NoMemory>
+fn tell(alloc: Global, header: Header, lines: &[Line<&[u8]>]) -> Result<Answer, NoMemory>
     ensures { IfOk result (λ answer. reply_of answer ≡ spec.objects header (map seen lines.now)) }
 {
     let mut text = Vec::new(alloc);

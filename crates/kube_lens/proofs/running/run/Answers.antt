@@ -5,8 +5,11 @@ use Rattle.lens_room.specs.Flags.{behind}
 use Rattle.lens_room.specs.FlagReplies.{answer_to}
 use Rattle.kube_lens.specs.Commands.{command_of}
 use Rattle.kube_lens.specs.Outcome.{help}
-use Rattle.kube_lens.specs.declared.command.Command.TheVariants.{Help, Margin, Flags}
+use Rattle.kube_lens.specs.declared.asked.Asked.{Asked}
+use Rattle.kube_lens.specs.declared.asked.Asked.TheVariants.{Margin}
+use Rattle.kube_lens.specs.declared.command.Command.TheVariants.{Help, Flags, Asks}
 use Rattle.kube_lens.proofs.Commanded.{ends-commanded, ends-unread}
+use Rattle.kube_lens.proofs.PremiseLaws.{safe-premise, unsafe-premise}
 use Rattle.kube_lens.proofs.running.run.Goals as goal
 
 pub returns-in-Some-Help-clause-text : goal.returns-in-Some-Help-clause-text
@@ -20,26 +23,41 @@ returns-in-Some-Help-clause-text g c bytes told =
     = subst (λ text. Ends (Unread (let r : Reply = record { verdict = Done; text = text } in r) bytes) (Some bytes) before after c.tell.result) c.help.ensures (c.tell.ensures.text bytes) in
     ends-commanded words bytes (Some Help) left before after c.tell.result found (ends-unread help bytes left before after c.tell.result told told_help)
 
-pub returns-in-Some-Margin-clause-text : goal.returns-in-Some-Margin-clause-text
-returns-in-Some-Margin-clause-text g c bytes told =
-    let words : List (List ℕ) = map string_bytes c.args.words.now.items in
-    let found : Some Margin ≡ command_of words = ap Some (sym c.in-Some-Margin.field-0-is) ∙ sym c.in-Some-Margin.is ∙ c.command_in.ensures in
-    ends-commanded words bytes (Some Margin) (g.S.Source.left c.run.new.source) (g.K.Sink.taken c.args.sink.now) (g.K.Sink.taken c.run.new.sink) c.run.result found (c.run.ensures.text bytes told)
-
 pub returns-in-Some-Flags-clause-text : goal.returns-in-Some-Flags-clause-text
 returns-in-Some-Flags-clause-text g c bytes told =
     let words : List (List ℕ) = map string_bytes c.args.words.now.items in
     let left = g.S.Source.left c.args.source.now in
     let before = g.K.Sink.taken c.args.sink.now in
-    let after = g.K.Sink.taken c.run-in-Some-Flags.new.sink in
+    let after = g.K.Sink.taken c.run.new.sink in
     let found : Some Flags ≡ command_of words = ap Some (sym c.in-Some-Flags.field-0-is) ∙ sym c.in-Some-Flags.is ∙ c.command_in.ensures in
-    ends-commanded words bytes (Some Flags) left before after c.run-in-Some-Flags.result found (ends-unread (answer_to (behind words)) bytes left before after c.run-in-Some-Flags.result told (c.run-in-Some-Flags.ensures.text bytes))
+    ends-commanded words bytes (Some Flags) left before after c.run.result found (ends-unread (answer_to (behind words)) bytes left before after c.run.result told (c.run.ensures.text bytes))
 
 pub returns-in-Some-Flags-clause-flags_safe : goal.returns-in-Some-Flags-clause-flags_safe
-returns-in-Some-Flags-clause-flags_safe g c flags command read is = c.run-in-Some-Flags.ensures.safe flags read is
+returns-in-Some-Flags-clause-flags_safe g c flags command read is = c.run.ensures.safe flags read is
 
 pub returns-in-Some-Flags-clause-flags_not_safe : goal.returns-in-Some-Flags-clause-flags_not_safe
-returns-in-Some-Flags-clause-flags_not_safe g c flags command read is = c.run-in-Some-Flags.ensures.not_safe flags read is
+returns-in-Some-Flags-clause-flags_not_safe g c flags command read is = c.run.ensures.not_safe flags read is
+
+pub returns-in-Some-Asks-clause-text : goal.returns-in-Some-Asks-clause-text
+returns-in-Some-Asks-clause-text g c bytes told =
+    let words : List (List ℕ) = map string_bytes c.args.words.now.items in
+    let asked = c.in-Some-Asks.asked in
+    let found : Some (Asks asked) ≡ command_of words = ap Some (sym c.in-Some-Asks.field-0-is) ∙ sym c.in-Some-Asks.is ∙ c.command_in.ensures in
+    ends-commanded words bytes (Some (Asks asked)) (g.S.Source.left c.ask.new.source) (g.K.Sink.taken c.args.sink.now) (g.K.Sink.taken c.ask.new.sink) c.ask.result found (c.ask.ensures.text bytes told)
+
+pub returns-in-Some-Asks-clause-safe : goal.returns-in-Some-Asks-clause-safe
+returns-in-Some-Asks-clause-safe g c bytes d told read command is =
+    let words : List (List ℕ) = map string_bytes c.args.words.now.items in
+    let found : Some (Asks c.in-Some-Asks.asked) ≡ Some (Asks Margin) = ap Some (sym c.in-Some-Asks.field-0-is) ∙ sym c.in-Some-Asks.is ∙ c.command_in.ensures ∙ command in
+    let margin : c.in-Some-Asks.asked ≡ Margin = cc in
+    safe-premise bytes d read c.in-Some-Asks.asked _ _ _ c.ask.result margin (c.ask.ensures.text bytes told) is
+
+pub returns-in-Some-Asks-clause-not_safe : goal.returns-in-Some-Asks-clause-not_safe
+returns-in-Some-Asks-clause-not_safe g c bytes d told read command is =
+    let words : List (List ℕ) = map string_bytes c.args.words.now.items in
+    let found : Some (Asks c.in-Some-Asks.asked) ≡ Some (Asks Margin) = ap Some (sym c.in-Some-Asks.field-0-is) ∙ sym c.in-Some-Asks.is ∙ c.command_in.ensures ∙ command in
+    let margin : c.in-Some-Asks.asked ≡ Margin = cc in
+    unsafe-premise bytes d read c.in-Some-Asks.asked _ _ _ c.ask.result margin (c.ask.ensures.text bytes told) is
 
 pub returns-in-None-clause-text : goal.returns-in-None-clause-text
 returns-in-None-clause-text g c bytes told =

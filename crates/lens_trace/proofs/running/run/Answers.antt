@@ -1,9 +1,0 @@
-use Rattle.lens_trace.proofs.AgreeLaws.{terms-agree}
-use Rattle.lens_trace.proofs.SpanLaws.{nobody-leads}
-use Rattle.lens_trace.proofs.running.run.Goals as goal
-
-pub returns-clause-terms : goal.returns-clause-terms
-returns-clause-terms g c end texts right = terms-agree end texts right
-
-pub returns-clause-spans : goal.returns-clause-spans
-returns-clause-spans g c end texts right beat within = nobody-leads end texts right beat within
