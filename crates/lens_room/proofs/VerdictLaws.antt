@@ -1,6 +1,5 @@
 -- What a verdict says of a premise.
 use Rattle.std.proofs.Common.{◌≡◌, Bool, true, false, refl}
-use Rattle.lens_edge.specs.declared.status.Verdict.{Verdict}
 use Rattle.lens_edge.specs.declared.status.Verdict.TheVariants.{Safe, Unsafe}
 use Rattle.lens_room.specs.Replies.{verdict_of}
 
