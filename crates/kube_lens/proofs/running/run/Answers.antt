@@ -5,7 +5,6 @@ use Rattle.lens_room.specs.Flags.{behind}
 use Rattle.lens_room.specs.FlagReplies.{answer_to}
 use Rattle.kube_lens.specs.Commands.{command_of}
 use Rattle.kube_lens.specs.Outcome.{help}
-use Rattle.kube_lens.specs.declared.asked.Asked.{Asked}
 use Rattle.kube_lens.specs.declared.asked.Asked.TheVariants.{Margin}
 use Rattle.kube_lens.specs.declared.command.Command.TheVariants.{Help, Flags, Asks}
 use Rattle.kube_lens.proofs.Commanded.{ends-commanded, ends-unread}
