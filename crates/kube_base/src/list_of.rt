@@ -60,11 +60,11 @@ impl<T: Copy + Drop> ListOf<T> {
     pub fn copy(&self) -> Result<ListOf<T>, NoMemory>
         ensures { IfOk result (λ copy. copy ≡ self.now) }
     {
-        let mut copy = ListOf::new(self.alloc);
-        for item in self.items.as_slice() {
-            copy.push(*item)?;
-        }
-        Ok(copy)
+        let items = Vec::from_slice(self.alloc, self.items.as_slice())?;
+        Ok(ListOf {
+            alloc: self.alloc,
+            items,
+        })
     }
 
     /// Adds the other list's items at the end.

@@ -1,23 +1,27 @@
 -- What is kept of the nodes, and what a look makes of it. Source: the monitor of node health of the node lifecycle controller
 -- of Kubernetes; profile.
 use Rattle.std.specs.Prelude.{ℕ, ◌==◌, ◌&&◌, ◌||◌, not, Bool, cond, List, Option, Some, None}
-use Rattle.std.specs.BTreeMap.{get}
 use Rattle.std.specs.List.{list_any}
-use Rattle.std.specs.Ordering.{nat_cmp}
+use Rattle.key_map.specs.Values.{value_at}
 use Rattle.kube_base.specs.declared.fixed.TheConstants.{NODE_STATUS_UNKNOWN, NODE_STATUS_NEVER_UPDATED}
 use Rattle.kube_base.specs.declared.numbers.Wall.{Wall}
 use Rattle.kube_objects.specs.declared.node.Node.{Node}
 use Rattle.kube_objects.specs.declared.node.Ready.{Ready}
 use Rattle.kube_objects.specs.Health.{is_later, is_news, is_unknown}
+use Rattle.kube_objects.specs.Stored.{node_key}
 use Rattle.node_health.specs.declared.grace.Grace.{Grace}
 use Rattle.node_health.specs.declared.health.Health.{Health}
 use Rattle.node_health.specs.declared.known.Known.{Known}
+use Rattle.node_health.specs.declared.known_nodes.KnownNodes.{KnownNodes}
 use Rattle.node_health.specs.declared.verdict.Verdict.{Verdict}
 use Rattle.node_health.specs.declared.verdict.Verdict.TheVariants.{Keep, MarkUnknown}
 
 -- what is kept of a node, where it is known
+abbrev pub known_at : KnownNodes → ℕ → Option Known
+known_at nodes node = value_at nodes.map (node_key node)
+
 abbrev pub kept : Health → ℕ → Option Known
-kept health node = get nat_cmp health.nodes node
+kept health node = known_at health.nodes node
 
 abbrev pub heartbeat_in : Option Known → Option Wall
 heartbeat_in None = None

@@ -13,13 +13,12 @@ ghost use Rattle.node_health.specs.Kept.{after_look, at_reading, grace_for, judg
 ghost use Rattle.node_health.specs.Stands.{HealthStands, IsLook, PassStands, and_looked};
 
 use crate::known::{Known, heartbeat_of, is_silent};
-use crate::listed::{are_keys, is_listed};
+use crate::known_nodes::KnownNodes;
 use crate::verdict::judge;
 use crate::{Grace, Verdict};
 use kube_base::{Local, NoMemory, Wall};
 use kube_objects::{Node, NumberList};
 use std::alloc::Global;
-use std::collections::BTreeMap;
 
 /// The nodes that a leader's last pass found, by the numbers of their names, each with the reading at which it was last
 /// heard of. Source: the monitor of node health of Kubernetes' node lifecycle controller.
@@ -27,10 +26,10 @@ use std::collections::BTreeMap;
 /// Readings are those of the leader's own clock, in units of 10^-12 s. A node tells of itself by the heartbeat of its Ready
 /// condition and by the renew time of its Lease. These are kept to be compared with later ones, and never with a clock.
 ///
-/// A look costs the logarithm of the known nodes.
-#[derive(Debug, Drop)]
+/// A look costs the same however many nodes are known.
+#[derive(Drop)]
 pub struct Health {
-    nodes: BTreeMap<u32, Known>,
+    nodes: KnownNodes,
 }
 
 impl Health {
@@ -40,7 +39,7 @@ impl Health {
         ensures stands { (doc : Doc) (q : Identity) (h : List Entry) → last_pass q h ≡ None → HealthStands doc q h result }
     {
         Health {
-            nodes: BTreeMap::new(alloc),
+            nodes: KnownNodes::new(alloc),
         }
     }
 
@@ -74,8 +73,8 @@ impl Health {
         Ok(judge(seen.ready, is_silent(probe, grace.of(seen.ready), now)))
     }
 
-    /// Forgets each known node that isn't in the list. Takes no memory. A list of just the known nodes, in order, is gone through once; else
-    /// one that ascends is searched by halves for each known node, and any other is gone through for each.
+    /// Forgets each known node that isn't in the list. Takes no memory. A list of just the known nodes, in the order in which they were first
+    /// looked at, is gone through once; else one that ascends is searched by halves for each known node, and any other is gone through for each.
     pub fn forget_others(&mut self, nodes: &NumberList)
         ensures kept { (node : ℕ) → kept self.new node ≡ (if spec.is_listed nodes.now node then kept self.old node else None) }
         ensures stands { (doc : Doc) (k : ℕ) (q : Identity) (h : List Entry)
@@ -83,13 +82,7 @@ impl Health {
             → ((node : ℕ) → is_found q node h ≡ spec.is_listed nodes.now node)
             → HealthStands doc q (add k q Pass h) self.new }
     {
-        let listed = nodes.as_slice();
-        if are_keys(&self.nodes, listed) {
-            return;
-        }
-        let ascends = listed.is_sorted();
-        self.nodes
-            .retain(|node, _| is_listed(listed, ascends, *node));
+        self.nodes.forget_others(nodes.as_slice());
     }
 
     /// Each known node is heard of at this reading: the all-Full mode has ended. Takes no memory.
@@ -99,10 +92,7 @@ impl Health {
             → HealthStands doc q h self.old → now.0 ≡ local doc q.process k
             → HealthStands doc q (add k q (Mode false) h) self.new }
     {
-        self.nodes.retain(|_, known| {
-            known.probe = now;
-            true
-        });
+        self.nodes.reset_probes(now);
     }
 
     /// The reading at which a node was last heard of; none exactly where it isn't known. Takes no memory.
@@ -111,7 +101,7 @@ impl Health {
         ensures reading { (doc : Doc) (q : Identity) (h : List Entry) → HealthStands doc q h self.now
             → option_map (λ (at : Reading). at.0) result ≡ when (is_known q node h) (local doc q.process (probe q node h)) }
     {
-        match self.nodes.get(&node) {
+        match self.nodes.get(node) {
             Some(known) => Some(known.probe),
             None => None,
         }
@@ -131,12 +121,11 @@ impl Health {
         ensures err { OnErr result ((other : ℕ) → kept self.new other ≡ kept self.old other) }
         ensures room { IsSome (kept self.old node) → IsOk result }
     {
-        if let Some(known) = self.nodes.get_mut(&node) {
-            known.hear(heartbeat, renewed, now);
-            return Ok(known.probe);
-        }
-        self.nodes
-            .insert(node, Known::new(heartbeat, renewed, now))?;
-        Ok(now)
+        let known = match self.nodes.get(node) {
+            Some(known) => known.heard(heartbeat, renewed, now),
+            None => Known::new(heartbeat, renewed, now),
+        };
+        self.nodes.keep(node, known)?;
+        Ok(known.probe)
     }
 }

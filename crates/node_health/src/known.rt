@@ -1,7 +1,7 @@
 // What is kept of a node.
 ghost use Rattle.std.specs.Prelude.{◌≡◌, ◌+◌, nat_lt, Some, None};
 ghost use Rattle.kube_objects.specs.Health as model;
-ghost use Rattle.node_health.specs.Kept.{after_look};
+ghost use Rattle.node_health.specs.Kept.{after_look, at_reading};
 
 use kube_base::{Local, Wall};
 use kube_objects::Ready;
@@ -28,14 +28,22 @@ impl Known {
     }
 
     /// A further look. What is missing leaves what was kept.
-    pub(crate) fn hear(&mut self, heartbeat: Option<Wall>, renewed: Option<Wall>, now: Local)
-        ensures { self.new ≡ after_look (Some self.old) heartbeat renewed now.0 }
+    pub(crate) fn heard(self, heartbeat: Option<Wall>, renewed: Option<Wall>, now: Local) -> Known
+        ensures { result ≡ after_look (Some self) heartbeat renewed now.0 }
     {
-        if is_news(heartbeat, self.heartbeat) || is_later(renewed, self.renewal) {
-            self.probe = now;
+        let news = is_news(heartbeat, self.heartbeat) || is_later(renewed, self.renewal);
+        Known {
+            heartbeat: heartbeat.or(self.heartbeat),
+            renewal: renewed.or(self.renewal),
+            probe: if news { now } else { self.probe },
         }
-        self.heartbeat = heartbeat.or(self.heartbeat);
-        self.renewal = renewed.or(self.renewal);
+    }
+
+    /// It is heard of at this reading.
+    pub(crate) fn at(self, now: Local) -> Known
+        ensures { result ≡ at_reading now.0 self }
+    {
+        Known { probe: now, ..self }
     }
 }
 

@@ -4,6 +4,7 @@
 mod grace;
 mod health;
 mod known;
+mod known_nodes;
 mod listed;
 mod verdict;
 

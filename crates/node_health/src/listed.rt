@@ -1,30 +1,14 @@
-// Names in a list.
-ghost use Rattle.std.specs.Prelude.{◌≡◌, true};
-ghost use Rattle.std.specs.BTreeMap.{keys};
+// Names in a list, and changes of what is kept of the listed nodes.
+ghost use Rattle.std.specs.Prelude.{◌≡◌, ◌==◌, ◌&&◌, not, ℕ, true, None, option_map, filter, if◌then◌else◌};
+ghost use Rattle.key_map.specs.Values.{value_at};
+ghost use Rattle.kube_objects.specs.Stored as stored;
 ghost use Rattle.std.specs.List.Sorted.{IsNonDecreasing};
 ghost use Rattle.node_health.specs.Kept as kept;
 
 use crate::known::Known;
-use std::collections::BTreeMap;
-
-/// Whether a list is that of the nodes that are known, in order.
-pub(crate) fn are_keys(known: &BTreeMap<u32, Known>, names: &[u32]) -> bool
-    ensures { result ≡ true → keys known.now ≡ names.now }
-{
-    let mut rest = names;
-    for node in known.keys() {
-        match rest.split_first() {
-            None => return false,
-            Some((name, others)) => {
-                if *name != *node {
-                    return false;
-                }
-                rest = others;
-            }
-        }
-    }
-    rest.is_empty()
-}
+use crate::known_nodes::node_key;
+use key_map::KeyMap;
+use kube_base::Local;
 
 /// Whether a list has a name. A list that is known to ascend is searched by halves.
 pub(crate) fn is_listed(names: &[u32], ascends: bool, name: u32) -> bool
@@ -34,4 +18,65 @@ pub(crate) fn is_listed(names: &[u32], ascends: bool, name: u32) -> bool
         return names.binary_search(&name).is_ok();
     }
     names.contains(&name)
+}
+
+/// Forgets each of these nodes that isn't listed.
+pub(crate) fn forget_unlisted(map: &mut KeyMap<Known>, names: &[u32], listed: &[u32], ascends: bool)
+    requires { ascends ≡ true → IsNonDecreasing listed.now }
+    ensures { (node : ℕ) → value_at map.new (stored.node_key node)
+        ≡ (if kept.is_listed names.now node && not (kept.is_listed listed.now node) then None else value_at map.old (stored.node_key node)) }
+{
+    let mut rest = names;
+    while let Some((name, others)) = rest.split_first() {
+        forget(map, *name, listed, ascends);
+        rest = others;
+    }
+}
+
+/// Forgets a node, unless it is listed.
+fn forget(map: &mut KeyMap<Known>, name: u32, listed: &[u32], ascends: bool)
+    requires { ascends ≡ true → IsNonDecreasing listed.now }
+    ensures { (node : ℕ) → value_at map.new (stored.node_key node)
+        ≡ (if (name == node) && not (kept.is_listed listed.now node) then None else value_at map.old (stored.node_key node)) }
+{
+    if is_listed(listed, ascends, name) {
+        return;
+    }
+    map.remove(&node_key(name));
+}
+
+/// Each of these nodes that is known is heard of at this reading.
+pub(crate) fn reset_listed(map: &mut KeyMap<Known>, names: &[u32], now: Local)
+    ensures { (node : ℕ) → value_at map.new (stored.node_key node)
+        ≡ (if kept.is_listed names.now node then option_map (kept.at_reading now.0) (value_at map.old (stored.node_key node))
+        else value_at map.old (stored.node_key node)) }
+{
+    let mut rest = names;
+    while let Some((name, others)) = rest.split_first() {
+        reset(map, *name, now);
+        rest = others;
+    }
+}
+
+/// A node that is known is heard of at this reading.
+fn reset(map: &mut KeyMap<Known>, name: u32, now: Local)
+    ensures { (node : ℕ) → value_at map.new (stored.node_key node)
+        ≡ (if name == node then option_map (kept.at_reading now.0) (value_at map.old (stored.node_key node))
+        else value_at map.old (stored.node_key node)) }
+{
+    let key = node_key(name);
+    let Some(known) = map.get(&key) else {
+        return;
+    };
+    let heard = known.at(now);
+    // What is there is changed in its place, which takes no memory.
+    let _ = map.insert(key, heard);
+}
+
+/// Takes out each name that isn't listed.
+pub(crate) fn keep_listed(names: &mut Vec<u32>, listed: &[u32], ascends: bool)
+    requires { ascends ≡ true → IsNonDecreasing listed.now }
+    ensures { names.new.items ≡ filter (kept.is_listed listed.now) names.old.items }
+{
+    names.retain(|name| is_listed(listed, ascends, *name));
 }

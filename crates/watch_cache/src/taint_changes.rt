@@ -1,5 +1,5 @@
 // The nodes whose taints change with a sync.
-ghost use Rattle.std.specs.Prelude.{◌≡◌, ℕ, ◌==◌, ◌||◌, true, false, IfOk, OnOk};
+ghost use Rattle.std.specs.Prelude.{◌≡◌, ℕ, ◌==◌, ◌||◌, true, false, Some, slice_get, IfOk, OnOk};
 ghost use Rattle.std.specs.BTreeSet.{contains};
 ghost use Rattle.std.specs.Ordering.{nat_cmp};
 ghost use Rattle.kube_objects.specs.Feeds.{is_among, shown_pair};
@@ -76,6 +76,27 @@ impl Cache {
         Ok(())
     }
 
+    // The same of the key at a place among the changes. What is no node isn't looked up.
+    fn add_change<C: Changed>(
+        &self,
+        names: &mut BTreeSet<u32>,
+        changed: &C,
+        place: u64,
+        key: Key,
+    ) -> Result<(), NoMemory>
+        requires at { slice_get (C.keys changed.now) place ≡ Some key }
+        ensures more { OnOk result ((n : ℕ) → contains nat_cmp names.new n ≡ false → contains nat_cmp names.old n ≡ false) }
+        ensures settled { OnOk result ((n : ℕ) → key_eq key (node_key n) ≡ true → contains nat_cmp names.new n ≡ false
+            → IsSettled self.now n (C.shown changed.now key)) }
+        ensures unsettled { OnOk result ((n : ℕ) → contains nat_cmp names.new n ≡ true → contains nat_cmp names.old n ≡ false
+            → (key_eq key (node_key n) ≡ true) × (IsSettled self.now n (C.shown changed.now key) → ⊥)) }
+    {
+        if key.kind != Kind::Node {
+            return Ok(());
+        }
+        self.add_changed(names, key, changed.object(place))
+    }
+
     /// The names of nodes that changed since the last sync: of those whose taints are others now, and of all of them where a
     /// key is stale. On each other node no pod's due changes but by a change of the pod. The changes are those from
     /// `position` on, and aren't taken over.
@@ -98,7 +119,7 @@ impl Cache {
             let Some(key) = changed.key(place) else {
                 unreachable!()
             };
-            self.add_changed(&mut names, key, changed.object(place))?;
+            self.add_change(&mut names, changed, place, key)?;
             place += 1;
         }
         Ok(names)

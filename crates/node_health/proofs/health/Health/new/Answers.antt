@@ -1,9 +1,7 @@
 use Rattle.std.proofs.Common.{sym, subst}
 use Rattle.node_health.specs.Stands.{NodeStands}
 use Rattle.node_health.proofs.Looks.{node-new}
-use Rattle.node_health.proofs.Nodes.{kept-empty}
 use Rattle.node_health.proofs.health.Health.new.Goals as goal
 
 pub returns-clause-stands : goal.returns-clause-stands
-returns-clause-stands c doc q h none name =
-    subst (NodeStands doc q h name) (sym (kept-empty (record { nodes = c.new.result }) c.new.ensures.empty name)) (node-new doc q h name none)
+returns-clause-stands c doc q h none name = subst (NodeStands doc q h name) (sym (c.new.ensures name)) (node-new doc q h name none)
