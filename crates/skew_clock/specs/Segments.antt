@@ -1,5 +1,5 @@
 -- The segments that a clock keeps: at each set, the reading from which the clock runs on at the new rate.
-use Rattle.std.specs.Prelude.{◌≡◌, ℕ, ◌<◌, ◌≤◌, List, length, map, reverse, All, slice_index_or}
+use Rattle.std.specs.Prelude.{◌≡◌, ℕ, ◌-◌, ◌<◌, ◌≤◌, List, length, map, reverse, All, slice_index_or}
 use Rattle.std.specs.List.Sorted.{IsNonDecreasingBy}
 use Rattle.skew_clock.specs.Clocking.{Clocking, reading, last_set, IsRate, IsEpoch, IsOffset, IsSpan}
 use Rattle.skew_clock.specs.declared.clock.Segment.{Segment}
@@ -27,6 +27,7 @@ pub record IsKept (a : Inside) : Type 0 where
   pub first : (d : Segment) → (slice_index_or a.segments.items 0 d).beat.0 ≡ 0
   pub ordered : IsNonDecreasingBy (λ s. s.beat.0) a.segments.items
   pub each : All (Keeps (clocking_of a)) a.segments.items
+  pub newest : a.last ≡ slice_index_or a.segments.items (length a.segments.items - 1) a.last
   pub last : last_set (sets_of a.segments.items) ≤ a.end.0
   pub epoch : IsEpoch a.epoch.0
   pub offset : IsOffset a.offset_micros

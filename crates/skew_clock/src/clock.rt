@@ -35,6 +35,8 @@ pub struct Clock {
     beat_micros: u32,
     end: Beat,
     segments: Vec<Segment>,
+    // The last of them: most looks want it, and needn't read the list.
+    last: Segment,
 }
 
 impl Model for Clock {
@@ -67,18 +69,20 @@ impl Clock {
         ensures { IfOk result (λ clock. clock
             ≡ record { epoch = epoch.0; offset = offset_micros; beat_micros = beat_micros; end = end.0; sets = (0, ppm) ∷ [] }) }
     {
-        let mut segments = Vec::new(alloc);
-        segments.push(Segment {
+        let last = Segment {
             beat: Beat(0),
             reading: Local(0),
             ppm,
-        })?;
+        };
+        let mut segments = Vec::new(alloc);
+        segments.push(last)?;
         Ok(Clock {
             epoch,
             offset_micros,
             beat_micros,
             end,
             segments,
+            last,
         })
     }
 
@@ -91,7 +95,9 @@ impl Clock {
         ensures err { OnErr result (self.new ≡ self.old) }
     {
         let reading = self.local(beat);
-        self.segments.push(Segment { beat, reading, ppm })?;
+        let last = Segment { beat, reading, ppm };
+        self.segments.push(last)?;
+        self.last = last;
         Ok(())
     }
 
@@ -167,15 +173,14 @@ impl Clock {
         ensures begun { result.beat.0 ≤ beat.0 }
         ensures rate { (j : ℕ) → result.beat.0 ≤ j → j ≤ beat.0 → rate_at self.now.sets j ≡ result.ppm }
     {
-        let last = self.segments[self.segments.len() - 1];
-        if last.beat.0 <= beat.0 {
-            return last;
+        if self.last.beat.0 <= beat.0 {
+            return self.last;
         }
         let begun = self.segments.partition_point(|s| s.beat.0 <= beat.0);
         self.segments[begun - 1]
     }
 
-    // The last segment that begins below a reading.
+    // The last segment that begins below a reading: mostly the last one.
     fn segment_before(&self, at: Local) -> Segment
         requires { 0 < at.0 }
         ensures begins { result.reading.0 ≡ reading self.now result.beat.0 }
@@ -184,6 +189,9 @@ impl Clock {
         ensures runs { 0 < result.ppm }
         ensures rate { (j : ℕ) → result.beat.0 ≤ j → reading self.now j < at.0 → rate_at self.now.sets j ≡ result.ppm }
     {
+        if self.last.reading.0 < at.0 {
+            return self.last;
+        }
         let below = self.segments.partition_point(|s| s.reading.0 < at.0);
         self.segments[below - 1]
     }

@@ -2,7 +2,7 @@
 ghost use Rattle.std.specs.Prelude.{◌≡◌, ◌==◌, ◌<◌, ◌∷◌, ◌++◌, [], ℕ, length, cond, OnOk, OnErr, IsSome, IfSome, Bool, true};
 ghost use Rattle.wire_calls.specs.InFlight.{AllPass, pending, IsLive, IsLeast, first_of, has_any, rest_of};
 
-use crate::queues::{Queues, take_first};
+use crate::queues::{Queues, begin_anew, take_first};
 use kube_base::{Beat, NoMemory};
 use std::alloc::Global;
 use std::collections::VecDeque;
@@ -51,6 +51,7 @@ impl<T: Copy + Drop> Flight<T> {
         ensures live { IsLive self.old → IsLive self.new }
     {
         if self.front.is_empty() {
+            begin_anew(&mut self.front);
             if !self.others.has(beat) {
                 self.beat = beat;
             }

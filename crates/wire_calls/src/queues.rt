@@ -6,6 +6,7 @@ ghost use Rattle.wire_calls.specs.InFlight.{queued, HasNoEmpty, IsLeast, first_o
 use kube_base::{Beat, NoMemory};
 use std::alloc::Global;
 use std::collections::{BTreeMap, VecDeque};
+use std::mem;
 
 /// For each beat at which something arrives, what arrives, the oldest first. The queue that was emptied last is kept, with
 /// its memory, for the next beat.
@@ -52,6 +53,7 @@ impl<T: Copy + Drop> Queues<T> {
         match self.spare.take() {
             Some(mut queue) => {
                 queue.clear();
+                begin_anew(&mut queue);
                 queue
             }
             None => VecDeque::new(self.alloc),
@@ -97,4 +99,14 @@ pub(crate) fn take_first<T: Drop>(queue: &mut VecDeque<T>) -> Option<T>
     ensures rest { deque_items queue.new ≡ rest_of (deque_items queue.old) }
 {
     queue.pop_front()
+}
+
+/// A queue goes on at the start of its memory, so that few messages at a time take the same few places of it. It costs nothing where the
+/// queue is empty.
+pub(crate) fn begin_anew<T: Drop>(queue: &mut VecDeque<T>)
+    ensures { deque_items queue.new ≡ deque_items queue.old }
+{
+    let empty = VecDeque::new(*queue.allocator());
+    let messages = Vec::from(mem::replace(queue, empty));
+    *queue = VecDeque::from(messages);
 }
