@@ -3,10 +3,10 @@
 
     python3 bench/run.py [--program COMMAND] [--reference COMMAND] [--only NAME] [--runs N] [--divide N] [--keep FOLDER]
 
-COMMAND is a program that takes the words `replay` or `check` and the document on standard input; the first one is by
-default crates/kube_replay/out/kube_replay, which `cd crates/kube_replay && rt run` builds. Each is run N times (1), the least
-time counts. --divide makes the beats and the objects fewer by that factor, for a reference that is slow. --keep leaves the
-documents in a folder. The table has wall-clock seconds, the greatest resident memory, and how many times the
+COMMAND is a program that takes the words `replay` or `check` and the document on standard input, and `generate` with its four
+numbers; the first one is by default crates/kube_replay/out/kube_replay, which `cd crates/kube_replay && rt run` builds. Each is
+run N times (1), the least time counts. --divide makes the beats and the objects fewer by that factor, for a reference that is
+slow. --keep leaves the documents in a folder. The table has wall-clock seconds, the greatest resident memory, and how many times the
 reference's time is the program's. The exit status is 1 where the two write different bytes or end differently, or the program
 doesn't end with 0.
 """
@@ -87,21 +87,34 @@ def kubelets(count, beat_millis, skew):
     return document
 
 
+def nothing(_):
+    """`generate` reads no document."""
+    return None
+
+
 CASES = [('one-controller', 'replay', one_controller), ('skewed-clocks', 'replay', skewed_clocks),
          ('large-document', 'check', large_document),
          ('1000-kubelets-10ms', 'replay', kubelets(1_000, 10, False)), ('1000-skewed-kubelets-10ms', 'replay', kubelets(1_000, 10, True)),
-         ('1000-skewed-kubelets-1ms', 'replay', kubelets(1_000, 1, True)), ('100-skewed-kubelets-10ms', 'replay', kubelets(100, 10, True))]
+         ('1000-skewed-kubelets-1ms', 'replay', kubelets(1_000, 1, True)), ('100-skewed-kubelets-10ms', 'replay', kubelets(100, 10, True)),
+         ('generated', 'generate', nothing)]
 
 
 def text_of(value):
-    return json.dumps(value, separators=(',', ':')).encode()
+    return b'' if value is None else json.dumps(value, separators=(',', ':')).encode()
 
 
-def measured(command, word, path):
+def words_of(word, divide):
+    """The program's words: those of `generate` are a seed, and how many nodes, pods and beats there are."""
+    if word != 'generate':
+        return [word]
+    return [word, '7', *(str(many // divide) for many in (1_000, 30_000, 1_200))]
+
+
+def measured(command, path):
     """Runs once: seconds, peak memory in MiB, exit status, and a digest of what was written."""
     with open(path, 'rb') as given, tempfile.TemporaryFile() as written, tempfile.NamedTemporaryFile('r') as peak:
         start = time.monotonic()
-        status = subprocess.run(['/usr/bin/time', '-q', '-f', '%M', '-o', peak.name, *command, word],
+        status = subprocess.run(['/usr/bin/time', '-q', '-f', '%M', '-o', peak.name, *command],
                                 stdin=given, stdout=written).returncode
         seconds = time.monotonic() - start
         mebibytes = int(peak.read().split()[-1]) / 1024
@@ -114,9 +127,9 @@ def measured(command, word, path):
     return seconds, mebibytes, status, (size, digest.hexdigest())
 
 
-def best(command, word, path, runs):
+def best(command, path, runs):
     """Of several runs the one with the least time, and the greatest memory of all."""
-    every = [measured(command, word, path) for _ in range(runs)]
+    every = [measured(command, path) for _ in range(runs)]
     seconds, _, status, digest = min(every)
     return seconds, max(memory for _, memory, _, _ in every), status, digest
 
@@ -149,13 +162,14 @@ def main():
             path = os.path.join(folder, name + '.json')
             with open(path, 'wb') as file:
                 file.write(text)
-            seconds, memory, status, digest = best(program, word, path, given.runs)
+            words = words_of(word, given.divide)
+            seconds, memory, status, digest = best(program + words, path, given.runs)
             cells = [name, word, len(text), digest[0], '%.3f' % seconds, '%.1f' % memory, '', '', '', '']
             if status != 0:
                 cells[-1] = 'status %d' % status
                 wrong = 1
             if reference:
-                theirs = best(reference, word, path, given.runs)
+                theirs = best(reference + words, path, given.runs)
                 cells[6:9] = '%.3f' % theirs[0], '%.1f' % theirs[1], '%.1f' % (theirs[0] / max(seconds, 1e-6))
                 if status == 0:
                     is_same = theirs[2:] == (status, digest)
