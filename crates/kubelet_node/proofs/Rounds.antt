@@ -19,9 +19,11 @@ use Rattle.kube_objects.specs.Turns.{expire_call, expired, with_reply}
 use Rattle.kube_objects.specs.Wire.{next_call}
 use Rattle.kube_objects.proofs.OwnCalls.{call_in-expired, call_in-sent, call_in-with_reply, none_late}
 use Rattle.kubelet_node.specs.declared.kubelet.Kubelet.{Kubelet}
+use Rattle.kubelet_node.specs.declared.waiting.Awaited.{Awaited}
 use Rattle.kubelet_node.specs.declared.waiting.Waiting.{Waiting}
 use Rattle.kubelet_node.specs.Moves.{Asked, Expired}
-use Rattle.kubelet_node.specs.Plain.{is_post_wait}
+use Rattle.kubelet_node.specs.Plain.{is_post_awaited, is_post_wait}
+use Rattle.kubelet_node.specs.Requests.{awaited_in}
 use Rattle.kubelet_node.specs.Stands.{CallStands, KubeletStands, Wait, waiting_in, waiting_of}
 use Rattle.kubelet_node.proofs.Own.{post_expired, round-with_reply, round-expired, round-sent, settled-no_post, settled-own, timer-sent}
 
@@ -32,13 +34,19 @@ counted-accepts doc q k number h call is = by_life _ (answered_call doc q k numb
     by_life true c is = ap has is
     by_life false c is = absurd (cc)
 
-abbrev request_in : Request → Option Wait → Request
-request_in request None = request
-request_in request (Some w) = w.request
+abbrev awaited_or : Awaited → Option Wait → Awaited
+awaited_or other None = other
+awaited_or other (Some w) = w.awaited
 
--- what waits in the kubelet is what the call that waits asked
-pub request-waiting : (doc : Doc) (q : Identity) (w : Waiting) (call : Call) → waiting_of (Some w) ≡ waiting_in doc q (Some call) → w.request ≡ call.request
-request-waiting doc q w call is = ap (request_in call.request) is
+-- what the kubelet awaits is after the request of the call that waits
+pub awaited-waiting : (doc : Doc) (q : Identity) (w : Waiting) (call : Call) → waiting_of (Some w) ≡ waiting_in doc q (Some call) → w.awaited ≡ awaited_in call.request
+awaited-waiting doc q w call is = ap (awaited_or (awaited_in call.request)) is
+
+pub post-awaited : (request : Request) → is_post_awaited (awaited_in request) ≡ is_post request
+post-awaited (PostStatus name status at) = refl
+post-awaited (Get key) = refl
+post-awaited (Create key lease) = refl
+post-awaited (Update key given lease) = refl
 
 -- ---- the expiry of a turn
 
@@ -63,7 +71,7 @@ module _ (doc : Doc) (k : ℕ) (q : Identity) (h : List Entry) where
   expiry_of : (call : Call) (x : Kubelet) (slot : CallSlot) (posted : Bool) → KubeletStands doc q h x → call_in q h ≡ Some call → CallSlotStands doc q (entry k 4 q (Expires call) ∷ h) slot
       → posted ≡ is_post_wait (waiting_of x.waiting) → Expired doc k q (entry k 4 q (Expires call) ∷ h) (record x { slot = slot; waiting = None }) posted
   expiry_of call x slot posted s is free posted_is =
-      let post_is : posted ≡ is_post call.request = posted_is ∙ ap is_post_wait (s.call.waiting ∙ ap (waiting_in doc q) is) in
+      let post_is : posted ≡ is_post call.request = posted_is ∙ ap is_post_wait (s.call.waiting ∙ ap (waiting_in doc q) is) ∙ post-awaited call.request in
       let gone = call_in-expired q h k 4 call in
       record {
         call = record {

@@ -11,11 +11,12 @@ use Rattle.kube_objects.specs.declared.lease.Holder.TheVariants as holder
 use Rattle.kube_objects.specs.declared.lease.Lease.{Lease}
 use Rattle.kube_objects.specs.declared.node.ReadyStatus.{ReadyStatus}
 use Rattle.kube_objects.specs.CallSlots.{calls_of, held_call, is_awaited, is_overdue, next_number}
-use Rattle.kube_objects.specs.Kubelet.{is_post}
 use Rattle.kube_objects.specs.Newest.{has, when}
 use Rattle.kube_objects.specs.Stored.{node_lease}
 use Rattle.kubelet_node.specs.declared.kubelet.Kubelet.{Kubelet}
-use Rattle.kubelet_node.specs.Requests.{period_of}
+use Rattle.kubelet_node.specs.declared.waiting.Awaited.{Awaited}
+use Rattle.kubelet_node.specs.declared.waiting.Awaited.TheVariants as awaited
+use Rattle.kubelet_node.specs.Requests.{awaited_in, period_of}
 use Rattle.kubelet_node.specs.Stands.{Wait, waiting_of}
 
 -- how many calls were begun; number and sending of the call that waits, and what it asked; and the reading from which the
@@ -51,7 +52,7 @@ with_call timeout now k None = k
 with_call timeout now k (Some request) = record k {
   calls = next_number k.calls;
   held = Some (next_number k.calls, now);
-  wait = Some (record { request = request; late = now + timeout + 1 });
+  wait = Some (record { awaited = awaited_in request; late = now + timeout + 1 });
 }
 
 -- this call has begun
@@ -79,9 +80,13 @@ heartbeat_at x wall (Some lease) = record {
 
 -- ---- a turn
 
+abbrev pub is_post_awaited : Awaited → Bool
+is_post_awaited awaited.Post = true
+is_post_awaited _ = false
+
 abbrev pub is_post_wait : Option Wait → Bool
 is_post_wait None = false
-is_post_wait (Some w) = is_post w.request
+is_post_wait (Some w) = is_post_awaited w.awaited
 
 -- whether a post has expired
 abbrev pub has_lost_post : Kubelet → (now : ℕ) → Bool
@@ -127,10 +132,10 @@ found_at x wall key (Found version lease) = Some (Update key version (heartbeat_
 found_at x wall key _ = None
 
 -- what a reply that counts is followed by
-abbrev pub next_at : Kubelet → (wall : ℕ) → Request → Reply → Option Request
-next_at x wall (PostStatus name status at) reply = Some (Get (node_lease x.node))
-next_at x wall (Get key) reply = found_at x wall key reply
-next_at x wall _ reply = None
+abbrev pub next_at : Kubelet → (wall : ℕ) → Awaited → Reply → Option Request
+next_at x wall awaited.Post reply = Some (Get (node_lease x.node))
+next_at x wall (awaited.Get key) reply = found_at x wall key reply
+next_at x wall awaited.Write reply = None
 
 -- no call waits
 abbrev pub finished : KubeletState → KubeletState
@@ -139,5 +144,5 @@ finished k = record k { held = None; wait = None }
 -- a reply counted that answers what waited
 pub record TakesReply (old : Kubelet) (now wall : ℕ) (w : Wait) (reply : Reply) (new : Kubelet) (ask : Option Ask) : Type 0 where
   pub same : IsSame old new
-  pub asks : asked_of ask ≡ numbered (state_of old) (next_at old wall w.request reply)
-  pub kept : state_of new ≡ with_call old.timing.timeout now (finished (state_of old)) (next_at old wall w.request reply)
+  pub asks : asked_of ask ≡ numbered (state_of old) (next_at old wall w.awaited reply)
+  pub kept : state_of new ≡ with_call old.timing.timeout now (finished (state_of old)) (next_at old wall w.awaited reply)

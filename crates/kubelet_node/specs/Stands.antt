@@ -1,6 +1,5 @@
 -- A kubelet stands for an identity in a history: one clause for each of its parts.
 use Rattle.std.specs.Prelude.{◌≡◌, ℕ, ◌+◌, false, List, Option, option_map}
-use Rattle.kube_objects.specs.declared.call.Request.{Request}
 use Rattle.kube_objects.specs.CallSlots.{CallSlotStands}
 use Rattle.kube_objects.specs.Clocks.{local}
 use Rattle.kube_objects.specs.Document.{Doc, call_timeout}
@@ -10,19 +9,21 @@ use Rattle.kube_objects.specs.Newest.{has}
 use Rattle.kube_objects.specs.Process.{call_in}
 use Rattle.kube_objects.specs.Turns.{just_expired}
 use Rattle.kubelet_node.specs.declared.kubelet.Kubelet.{Kubelet}
+use Rattle.kubelet_node.specs.declared.waiting.Awaited.{Awaited}
 use Rattle.kubelet_node.specs.declared.waiting.Waiting.{Waiting}
+use Rattle.kubelet_node.specs.Requests.{awaited_in}
 
--- the request that waits, and the least reading at which it has expired
+-- what is awaited, and the least reading at which it has expired
 pub record Wait : Type 0 where
-  pub request : Request
+  pub awaited : Awaited
   pub late : ℕ
 
 abbrev pub waiting_of : Option Waiting → Option Wait
-waiting_of = option_map (λ w. record { request = w.request; late = w.late.0 })
+waiting_of = option_map (λ w. record { awaited = w.awaited; late = w.late.0 })
 
 abbrev pub waiting_in : Doc → Identity → Option Call → Option Wait
 waiting_in doc q =
-    option_map (λ call. record { request = call.request; late = local doc q.process call.sent + call_timeout doc q.process + 1 })
+    option_map (λ call. record { awaited = awaited_in call.request; late = local doc q.process call.sent + call_timeout doc q.process + 1 })
 
 -- who it is, its timings, and the call that waits
 pub record CallStands (doc : Doc) (q : Identity) (h : List Entry) (x : Kubelet) : Type 0 where

@@ -15,11 +15,12 @@ ghost use Rattle.kubelet_node.specs.Moves.{Asked, Expired, IsLeast, Moved, follo
 ghost use Rattle.kubelet_node.specs.Plain.{BeginsCall, IsSame, TakesReply, after_expiry, after_round, asked_of, counts_in};
 ghost use Rattle.kubelet_node.specs.Plain.{found_at, has_lost_post, heartbeat_at, is_post_wait, state_of, next_at};
 ghost use Rattle.kubelet_node.specs.Plain.{numbered, round_in, wake_in};
-ghost use Rattle.kubelet_node.specs.Requests.{gets_lease};
+ghost use Rattle.kube_objects.specs.declared.call.Request.{Request as Sought};
+ghost use Rattle.kubelet_node.specs.Requests.{awaited_in, finds_lease, gets_lease};
 ghost use Rattle.kubelet_node.specs.Stands.{CallStands, KubeletStands, Wait, waiting_of};
 
 use crate::timing::Timing;
-use crate::waiting::Waiting;
+use crate::waiting::{Awaited, Waiting};
 use kube_base::{KUBE_NODE_LEASE, Local, Wall};
 use kube_objects::{Ask, CallSlot, Holder, Key, Kind, Lease, ReadyStatus, Reply, Request};
 
@@ -112,7 +113,7 @@ impl Kubelet {
         };
         self.slot.finish();
         self.waiting = None;
-        let Some(request) = self.next(&waiting, &reply, wall) else {
+        let Some(request) = self.next(waiting.awaited, &reply, wall) else {
             return None;
         };
         Some(self.ask(request, now))
@@ -196,7 +197,7 @@ impl Kubelet {
     {
         let number = self.slot.begin(now);
         self.waiting = Some(Waiting {
-            request,
+            awaited: Awaited::of(&request),
             late: Local(now.0 + self.timing.timeout + 1),
         });
         Ask { number, request }
@@ -205,18 +206,18 @@ impl Kubelet {
     // ---- requests
 
     /// What a reply that counts is followed by.
-    fn next(&self, waiting: &Waiting, reply: &Reply, wall: Wall) -> Option<Request>
+    fn next(&self, awaited: Awaited, reply: &Reply, wall: Wall) -> Option<Request>
+        requires lease { finds_lease awaited ≡ true }
         ensures kind { IfSome result (λ request. (keeps_kind request ≡ true) × (gets_lease request ≡ true) × (is_post request ≡ false)) }
-        ensures moment { result ≡ next_at self.now wall.0 waiting.now.request reply.now }
-        ensures history { (doc : Doc) (q : Identity) (k : ℕ) → self.now.node ≡ node_of doc q.process
+        ensures moment { result ≡ next_at self.now wall.0 awaited reply.now }
+        ensures history { (doc : Doc) (q : Identity) (k : ℕ) (request : Sought) → self.now.node ≡ node_of doc q.process
             → self.now.timing.lease_seconds ≡ doc.settings.node_lease_duration_seconds → wall.0 ≡ wall_at doc q.process k
-            → result ≡ next_request doc q k waiting.now.request reply.now }
+            → awaited ≡ awaited_in request → result ≡ next_request doc q k request reply.now }
     {
-        match waiting.request {
-            Request::PostStatus(..) => Some(Request::Get(self.lease_key())),
-            Request::Get(key) => self.write(key, reply, wall),
-            Request::Create(..) => None,
-            Request::Update(..) => None,
+        match awaited {
+            Awaited::Post => Some(Request::Get(self.lease_key())),
+            Awaited::Get(key) => self.write(key, reply, wall),
+            Awaited::Write => None,
         }
     }
 
@@ -272,8 +273,8 @@ fn is_post(waiting: &Option<Waiting>) -> bool
     ensures { result ≡ is_post_wait (waiting_of waiting.now) }
 {
     match *waiting {
-        Some(waiting) => match waiting.request {
-            Request::PostStatus(..) => true,
+        Some(waiting) => match waiting.awaited {
+            Awaited::Post => true,
             _ => false,
         },
         None => false,

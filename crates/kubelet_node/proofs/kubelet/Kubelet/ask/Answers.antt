@@ -15,6 +15,6 @@ returns-clause-history c doc q h next k step s now room is =
         lease = s.lease;
         timeout = s.timeout;
         slot = c.begin-number.ensures.stands doc q h k step Plain c.args.request arrives s.slot room now refl;
-        waiting = (λ i. Some (record { request = c.args.request; late = now i + s.timeout i + 1 })) ∙ sym (ap (waiting_in doc q) (call_in-sent q h k step c.args.request arrives Plain refl));
+        waiting = (λ i. Some (record { awaited = c.of.ensures i; late = now i + s.timeout i + 1 })) ∙ sym (ap (waiting_in doc q) (call_in-sent q h k step c.args.request arrives Plain refl));
       };
     }

@@ -4,8 +4,9 @@ use Rattle.kube_objects.specs.Kubelet.{is_post, next_request, round_period, roun
 use Rattle.kube_objects.specs.Turns.{with_reply}
 use Rattle.kube_objects.proofs.OwnCalls.{counted-call}
 use Rattle.kubelet_node.specs.Moves.{followed}
+use Rattle.kubelet_node.specs.Requests.{awaited_in}
 use Rattle.kubelet_node.specs.Stands.{waiting_in, waiting_of}
-use Rattle.kubelet_node.proofs.Rounds.{asked-stands, call-with_reply, counted-accepts, request-waiting, runs-with_reply}
+use Rattle.kubelet_node.proofs.Rounds.{asked-stands, call-with_reply, awaited-waiting, counted-accepts, runs-with_reply}
 use Rattle.kubelet_node.proofs.kubelet.Kubelet.on_reply.Goals as goal
 
 pub returns-then-not-accepts-clause-counts : goal.returns-then-not-accepts-clause-counts
@@ -20,10 +21,10 @@ returns-clause-counts c doc q h k call s now wall room is =
     let reply = c.args.reply in
     let g = with_reply k q call reply h in
     let waits = counted-call doc q k c.args.number h call is in
-    let request : c.in-Some.waiting.request ≡ call.request =
-    request-waiting doc q c.in-Some.waiting call (sym (ap waiting_of c.in-Some.is) ∙ s.call.waiting ∙ ap (waiting_in doc q) waits) in
+    let awaited : c.in-Some.waiting.awaited ≡ awaited_in call.request =
+    awaited-waiting doc q c.in-Some.waiting call (sym (ap waiting_of c.in-Some.is) ∙ s.call.waiting ∙ ap (waiting_in doc q) waits) in
     let some : next_request doc q k call.request reply ≡ Some c.in-Some-next.request =
-    sym (c.next.ensures.history doc q k s.call.node s.call.lease wall ∙ ap (λ r. next_request doc q k r reply) request) ∙ c.in-Some-next.is in
+    sym (c.next.ensures.history doc q k call.request s.call.node s.call.lease wall awaited) ∙ c.in-Some-next.is in
     let free = c.finish.ensures.delivered doc q h k 3 call reply s.call.slot in
     let asked = c.ask.ensures.history doc q g (followed doc k q call reply h) k 3 (call-with_reply doc k q call reply h self c.finish.new.self s.call free) now room (ap (λ o. send_next k q o g) some) in
     let no_post : is_post c.ask.result.request ≡ false = ap is_post c.ask.ensures.asks.request ∙ c.in-Some-next.ensures.kind.2 in
