@@ -50,7 +50,7 @@ just-listed names listed node old same named = by_test (is_listed listed node) (
     by_test true none = refl
     by_test false none = none refl
 
-filter-listed : (keeps : ℕ → Bool) (names : List ℕ) (node : ℕ) → keeps node ≡ true → is_listed (filter keeps names) node ≡ is_listed names node
+pub filter-listed : (keeps : ℕ → Bool) (names : List ℕ) (node : ℕ) → keeps node ≡ true → is_listed (filter keeps names) node ≡ is_listed names node
 filter-listed keeps [] node is = refl
 filter-listed keeps (name ∷ names) node is = by_test (keeps name) refl (filter-listed keeps names node is)
   where
@@ -63,14 +63,15 @@ filter-listed keeps (name ∷ names) node is = by_test (keeps name) refl (filter
     by_test true kept rest = ap (λ b. (name == node) || b) rest
     by_test false kept rest = rest ∙ ap (λ b. b || is_listed names node) (sym (other (name == node) refl kept))
 
--- and the names that stay are those of all that is kept
-pub still-named : (names listed : List ℕ) (node : ℕ) (old new : Option Known) → new ≡ cond (is_listed listed node) old None → (is_listed names node ≡ false → old ≡ None)
-    → is_listed (filter (is_listed listed) names) node ≡ false → new ≡ None
-still-named names listed node old new is named absent = is ∙ by_test (is_listed listed node) refl
+-- and the listed names that stay are those of all that is kept
+pub still-named : (names listed anew : List ℕ) (node : ℕ) (old new : Option Known) → new ≡ cond (is_listed listed node) old None → (is_listed names node ≡ false → old ≡ None)
+    → (is_listed listed node ≡ true → is_listed names node ≡ true → is_listed anew node ≡ true) → is_listed anew node ≡ false → new ≡ None
+still-named names listed anew node old new is named stays absent = is ∙ by_tests (is_listed listed node) (is_listed names node) named stays
   where
-    by_test : (l : Bool) → is_listed listed node ≡ l → cond l old None ≡ None
-    by_test true kept = named (sym (filter-listed (is_listed listed) names node kept) ∙ absent)
-    by_test false kept = refl
+    by_tests : (l n : Bool) → (n ≡ false → old ≡ None) → (l ≡ true → n ≡ true → is_listed anew node ≡ true) → cond l old None ≡ None
+    by_tests true true none kept = absurd (let there = kept refl refl in cc)
+    by_tests true false none kept = none refl
+    by_tests false n none kept = refl
 
 -- ---- all are heard of
 

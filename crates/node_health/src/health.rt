@@ -73,8 +73,8 @@ impl Health {
         Ok(judge(seen.ready, is_silent(probe, grace.of(seen.ready), now)))
     }
 
-    /// Forgets each known node that isn't in the list. Takes no memory. A list of just the known nodes, in the order in which they were first
-    /// looked at, is gone through once; else one that ascends is searched by halves for each known node, and any other is gone through for each.
+    /// Forgets each known node that isn't in the list. Takes no memory. The list of the last call, followed by the nodes that became known since,
+    /// is gone through once; else one that ascends is searched by halves for each known node, and any other is gone through for each.
     pub fn forget_others(&mut self, nodes: &NumberList)
         ensures kept { (node : ℕ) → kept self.new node ≡ (if spec.is_listed nodes.now node then kept self.old node else None) }
         ensures stands { (doc : Doc) (k : ℕ) (q : Identity) (h : List Entry)

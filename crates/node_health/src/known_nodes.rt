@@ -4,7 +4,7 @@ ghost use Rattle.kube_objects.specs.Stored as stored;
 ghost use Rattle.node_health.specs.Named.{AreNamed};
 
 use crate::known::Known;
-use crate::listed::{forget_unlisted, keep_listed, reset_listed};
+use crate::listed::{forget_unlisted, list_anew, reset_listed};
 use key_map::KeyMap;
 use kube_base::{Local, NoMemory};
 use kube_objects::{Key, Kind};
@@ -73,8 +73,8 @@ impl KnownNodes {
         }
     }
 
-    /// Forgets each known node that isn't in the list. Takes no memory. A list of just the known nodes, in the order in which they came, is
-    /// gone through once; else one that ascends is searched by halves for each known node, and any other is gone through for each.
+    /// Forgets each known node that isn't in the list. Takes no memory. The list of the last call, followed by the nodes that became known since,
+    /// is gone through once; else one that ascends is searched by halves for each known node, and any other is gone through for each.
     pub(crate) fn forget_others(&mut self, listed: &[u32])
         ensures { (node : ℕ) → known_at self.new node ≡ (if is_listed listed.now node then known_at self.old node else None) }
     {
@@ -83,7 +83,7 @@ impl KnownNodes {
         }
         let ascends = listed.is_sorted();
         forget_unlisted(&mut self.map, self.names.as_slice(), listed, ascends);
-        keep_listed(&mut self.names, listed, ascends);
+        list_anew(&mut self.names, listed, ascends);
     }
 
     /// Each known node is heard of at this reading. Takes no memory.

@@ -73,8 +73,23 @@ fn reset(map: &mut KeyMap<Known>, name: u32, now: Local)
     let _ = map.insert(key, heard);
 }
 
+/// Each of these names that is listed stays. Takes no memory. Where no more are listed than there are, they are the listed ones, in that order,
+/// afterwards: else each that isn't listed is taken out.
+pub(crate) fn list_anew(names: &mut Vec<u32>, listed: &[u32], ascends: bool)
+    requires { ascends ≡ true → IsNonDecreasing listed.now }
+    ensures { (node : ℕ) → kept.is_listed listed.now node ≡ true → kept.is_listed names.old.items node ≡ true
+        → kept.is_listed names.new.items node ≡ true }
+{
+    if names.len() < listed.len() {
+        keep_listed(names, listed, ascends);
+        return;
+    }
+    names.truncate(listed.len());
+    names.as_mut_slice().copy_from_slice(listed);
+}
+
 /// Takes out each name that isn't listed.
-pub(crate) fn keep_listed(names: &mut Vec<u32>, listed: &[u32], ascends: bool)
+fn keep_listed(names: &mut Vec<u32>, listed: &[u32], ascends: bool)
     requires { ascends ≡ true → IsNonDecreasing listed.now }
     ensures { names.new.items ≡ filter (kept.is_listed listed.now) names.old.items }
 {

@@ -1,8 +1,7 @@
-use Rattle.std.proofs.Common.{◌∙◌, sym, ap}
+use Rattle.std.proofs.Common.{◌∙◌, ap}
 use Rattle.std.proofs.lemmas.List.Sorted.{non_decreasing_from_is_sorted}
 use Rattle.key_map.specs.Values.{value_at}
 use Rattle.kube_objects.specs.Stored.{node_key}
-use Rattle.node_health.specs.Kept.{is_listed}
 use Rattle.node_health.proofs.Nodes.{forgotten, only-listed, still-named}
 use Rattle.node_health.proofs.Searches.{when_true}
 use Rattle.node_health.proofs.known_nodes.KnownNodes.forget_others.Goals as goal
@@ -11,8 +10,8 @@ pub forget_unlisted-requires : goal.forget_unlisted-requires
 forget_unlisted-requires c =
     when_true _ _ c.is_sorted-ascends.result (non_decreasing_from_is_sorted c.args.listed.now c.is_sorted-ascends.result c.is_sorted-ascends.ensures.cases)
 
-pub keep_listed-requires : goal.keep_listed-requires
-keep_listed-requires c =
+pub list_anew-requires : goal.list_anew-requires
+list_anew-requires c =
     when_true _ _ c.is_sorted-ascends.result (non_decreasing_from_is_sorted c.args.listed.now c.is_sorted-ascends.result c.is_sorted-ascends.ensures.cases)
 
 pub invariant_of-self-2 : goal.invariant_of-self-2
@@ -23,8 +22,8 @@ invariant_of-self-2 c =
       named = λ node absent.
           let was = value_at old.map (node_key node) in
           let now = value_at c.forget_unlisted.new.map (node_key node) in
-          still-named old.names.items listed node was now
+          still-named old.names.items listed c.list_anew.new.names.items node was now
           (only-listed old.names.items listed node was now
           (c.forget_unlisted.ensures node ∙ ap (λ l. forgotten l listed node was) c.as_slice-2.ensures.value) (old.named node))
-          (old.named node) (sym (ap (λ l. is_listed l node) c.keep_listed.ensures) ∙ absent);
+          (old.named node) (c.list_anew.ensures node) absent;
     }
