@@ -18,11 +18,11 @@ def condition_taints(node):
     return {WORDS[it["key"]]: it for it in taints if it.get("effect") == "NoExecute" and it.get("key") in WORDS}
 
 
-def as_before(node, second):
-    """What was at this second of a node that is shown later: no taint, and the other Ready where it has changed since."""
+def as_before(node, entry, second):
+    """What was at this second of a node that an entry shows later: no taint, and the other Ready where it has changed since."""
     ready = ready_of(node)
     changed = ready.get("lastTransitionTime")
-    is_younger = bool(changed) and seconds_of(changed) > second
+    is_younger = seconds_of(changed) > second if changed else entry.subresource == "status"
     status = {"True": "Unknown"}.get(ready.get("status"), "True") if is_younger else ready.get("status")
     metadata = {key: node["metadata"][key] for key in ("name", "labels") if key in node["metadata"]}
     return {"metadata": metadata, "status": {"conditions": [{"type": "Ready", "status": status}]}}
@@ -56,7 +56,7 @@ class Cluster:
         self.hidden = sorted(self.renewing - first_shown.keys())
         for name, (entry, node) in first_shown.items():
             if entry.verb != "create":
-                self.nodes[name] = as_before(node, entries[0].received)
+                self.nodes[name] = as_before(node, entry, entries[0].received)
 
     def take_shown(self, entry):
         """What is shown stands, unless a later version is known."""

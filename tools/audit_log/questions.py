@@ -35,19 +35,13 @@ class Questions:
             yield f"nobody leads in this log: no accepted write of the Lease {self.options.lease} names a holder{found}"
 
     def who_acts(self):
-        strangers = Counter(it.agent for it in self.log.entries if self.identities.holder_of(it) and not self.identities.is_controller(it))
-        if strangers and not any(self.identities.is_controller(it) for it in self.log.entries if self.identities.holder_of(it)):
-            yield f"no user agent that writes the Lease matches --controllers '{self.options.controllers}'; there are: {listed(strangers)}"
-        elif self.foreign_programs(strangers):
+        named = [(self.identities.holder_of(it), it) for it in self.log.entries]
+        known = {holder for holder, it in named if holder and self.identities.is_controller(it)}
+        strangers = Counter(it.agent for holder, it in named if holder and holder not in known)
+        if strangers:
             yield f"user agents that write the Lease and don't match --controllers '{self.options.controllers}': {listed(strangers)}"
         for doubt in self.identities.doubts:
             yield f"controllers can't be told apart: {doubt}"
-
-    def foreign_programs(self, strangers):
-        """Whether one of these has a term: an administrator who writes the Lease has none."""
-        holders = {self.identities.holder_of(it) for it in self.log.entries if it.agent in strangers and self.identities.holder_of(it)}
-        known = {self.identities.holder_of(it) for it in self.log.entries if self.identities.is_controller(it)}
-        return bool(holders - known)
 
     def what_they_did(self):
         kept = {it.resource for it in self.log.entries}
@@ -68,7 +62,15 @@ class Questions:
         return any(it.actor == end.term.actor and it.second > end.second and it.text.split()[0] in ACTING for it in self.story.events)
 
     def notes(self):
-        """What isn't in the zones of the trace; no verdict but 43 hangs on it."""
+        """What the lines of the trace leave open; no verdict but 43 hangs on it."""
         hidden = self.story.cluster.hidden
         if hidden:
-            yield f"{len(hidden)} nodes renew a Lease and the log never shows them, so zone lines leave them out: {', '.join(hidden[:SHOWN])}{', ..' if len(hidden) > SHOWN else ''}"
+            more = ", .." if len(hidden) > SHOWN else ""
+            yield f"{len(hidden)} nodes renew a Lease and the log never shows them, so zone lines leave them out: {', '.join(hidden[:SHOWN])}{more}"
+        others = Counter(it.agent for it in self.log.entries if self.is_other_delete(it))
+        if others:
+            yield f"deletes of pods by user agents that don't match --evictors are no evictions: {listed(others)}"
+
+    def is_other_delete(self, entry):
+        return (entry.resource == "pods" and entry.verb == "delete" and entry.is_ok() and self.identities.is_controller(entry)
+                and not self.identities.is_node_controller(entry))
