@@ -228,6 +228,12 @@ class Logs(Case):
         self.assertIn("nobody leads in this log: no accepted write of the Lease kube-system/kube-controller-manager names a holder; "
                       "Leases that are written in it: kube-system/kube-scheduler (3)", self.refused(5, events))
 
+    def test_a_lease_that_is_deleted(self):
+        """The leader makes it anew and goes on leading."""
+        delete = event(6, "delete", "leases", "kube-controller-manager", "admin", namespace="kube-system", agent="kubectl/v1.31.0")
+        lines = self.trace([*self.LED, delete, election(7, "create", "host-a_x", 9, code=201)])
+        self.assertEqual(lines[-2:], ["50 script remove lease/kube-system/kube-controller-manager v=8", "60 kcm-a_1 create election v=9 t=0"])
+
     def test_the_spacing_of_taints_is_told(self):
         taint = event(40, "patch", "nodes", "n1", "kcm-a", 200, {}, node(9, "Unknown", [UNREACHABLE]))
         self.assertIn("refuses the trace with 43", self.run_tool([node_list(0.5, node(1, "Unknown")), *self.LED, taint]).stderr)
@@ -383,11 +389,19 @@ class RecordedManagers(Case):
 
     def test_one_user_and_one_address(self):
         """As behind a load balancer: nothing tells the controllers apart."""
-        self.assertIn("controllers can't be told apart", self.refused(4, recorded("c6", change=lambda it: dict(as_kubeadm(it), sourceIPs=["10.0.0.9"]))))
+        told = self.refused(4, recorded("c6", change=lambda it: dict(as_kubeadm(it), sourceIPs=["10.0.0.9"])))
+        for way in ("user system:kube-controller-manager", "address 10.0.0.9", "agent kube-controller-manager/v0.0.0 (linux/amd64) kubernetes/faecb19"):
+            self.assertIn(f"NO VERDICT: controllers can't be told apart: {way} asks for the Lease while it leads", told)
 
     def test_the_level_metadata(self):
         told = self.refused(5, recorded("c6", is_of_election, bare))
         self.assertIn("53 of 53 writes of the Lease kube-system/kube-controller-manager can't be read: the audit level is Metadata", told)
+
+    def test_the_level_request_of_the_lease(self):
+        """Who holds it is in the request; the stored version is in the answer alone."""
+        lines = self.trace(recorded("c6", change=lambda it: dict(it, responseObject=None) if is_of_election(it) else it))
+        self.assertEqual([it.split(" ", 1)[1] for it in lines if " lead " in it], ["kcm-a_1 lead v=0", "kcm-b_1 lead v=0"])
+        self.assertEqual(verdict(lines), "41 kcm-b_1 lead")
 
     def test_no_term(self):
         self.assertIn("nobody leads in this log", self.refused(5, recorded("c6", lambda it: not is_of_election(it))))

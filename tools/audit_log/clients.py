@@ -20,13 +20,14 @@ def host_of(identity):
 
 
 def choose(log, roles):
-    """The first way by which all controllers can be told apart, else the first one; and what speaks against each way before it."""
-    against = {}
+    """The first way by which all controllers can be told apart, what speaks against those before it, and nothing; else all that speaks against each."""
+    against = []
     for way in WAYS:
-        against[way] = list(doubts(way, log, roles))
-        if not against[way]:
-            return way, against
-    return next(iter(WAYS)), against
+        found = list(doubts(way, log, roles))
+        if not found:
+            return way, against, []
+        against += found
+    return next(iter(WAYS)), [], against
 
 
 def doubts(way, log, roles):

@@ -8,7 +8,7 @@ class Election:
         self.identities, self.telling = identities, telling
         self.terms, self.by_actor = [], {}
         self.stored, self.stored_version = None, 0  # the term of whom the stored Lease names
-        self.emptied = None  # the term of whom it named until somebody else took the name out
+        self.emptied = None  # the term of whom it named until somebody else took the name out, or the Lease away
 
     def take(self, entry):
         """Whether a term has begun."""
@@ -29,7 +29,7 @@ class Election:
         if entry.is_ok():
             self.stored_version += 1
             self.telling.tell(entry, "script", f"remove lease/{self.identities.options.lease} v={self.stored_version}")
-            self.stored = None
+            self.stored, self.emptied = None, self.stored
 
     def take_foreign(self, entry):
         """By somebody who is no controller, as an administrator: nobody renews by it or gives up."""

@@ -14,9 +14,7 @@ class Holder:
 class Identities(Roles):
     def __init__(self, log, options):
         super().__init__(options)
-        self.by, against = (options.by, {options.by: list(doubts(options.by, log, self))}) if options.by else choose(log, self)
-        self.doubts = against.pop(self.by)
-        self.against = [it for found in against.values() for it in found]
+        self.by, self.against, self.doubts = (options.by, [], list(doubts(options.by, log, self))) if options.by else choose(log, self)
         self.by_raw = self.holders(log)
         starts = Counter()
         for holder in self.by_raw.values():
