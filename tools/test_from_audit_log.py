@@ -407,6 +407,13 @@ class RecordedManagers(Case):
         self.assertIn("nobody leads in this log", self.refused(5, recorded("c6", lambda it: not is_of_election(it))))
         self.assertIn("nobody leads in this log", self.refused(5, recorded("c6"), "--lease=default/mine"))
 
+    def test_an_api_server_that_stood_still(self):
+        """Twice for 12 s in n5. The managers' own logs say when they gave up; nobody led for 18.0 and for 25.3 s."""
+        told = [(int(it.split()[0]) / 10, it.split()[2]) for it in self.trace(recorded("n5")) if it.split()[2] in ("lead", *ENDS)]
+        self.assertEqual([word for _, word in told], ["lead", "end", "lead", "end", "lead"])
+        for found, wanted in zip((told[2][0] - told[1][0], told[4][0] - told[3][0]), (18.0, 25.3)):
+            self.assertAlmostEqual(found, wanted, delta=0.2)
+
     def test_taint_eviction_controller(self):
         """Evictions by a controller of its own, each with a write of the pod's status before it: the same lines."""
         for scenario, evictions in (("d", 11), ("c4", 17)):
