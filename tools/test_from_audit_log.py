@@ -243,6 +243,18 @@ class Logs(Case):
         ran = self.run_tool(["{}", "[]", '"x"', "7"])
         self.assertEqual((ran.returncode, ran.stdout), (1, ""))
 
+    def test_what_cannot_be_read(self):
+        ran = self.run_tool(self.LED, "--controllers=(")
+        self.assertEqual((ran.returncode, ran.stdout), (2, ""))
+        self.assertIn("( is no pattern", ran.stderr)
+        with tempfile.TemporaryDirectory() as room:
+            path = os.path.join(room, "cut.gz")
+            with open(path, "wb") as file:
+                file.write(gzip.compress(json.dumps(self.LED[0]).encode())[:-9])
+            ran = subprocess.run([sys.executable, TOOL, path], stdout=subprocess.PIPE, stderr=subprocess.PIPE, text=True)
+        self.assertEqual((ran.returncode, ran.stdout), (1, ""))
+        self.assertTrue(ran.stderr.startswith("from-audit-log: Compressed file ended"), ran.stderr)
+
     def test_a_part_of_the_time_and_events(self):
         begin = 1704067200
         lines = self.trace(self.LED, f"--from={begin + 2}", f"--to={begin + 4}", "--beat=1000", status=3)

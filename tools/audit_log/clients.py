@@ -20,7 +20,8 @@ def host_of(identity):
 
 
 def choose(log, roles):
-    """The first way by which all controllers can be told apart, what speaks against those before it, and nothing; else all that speaks against each."""
+    """The first way by which all controllers can be told apart, what speaks against those before it, and nothing. Else no way's doubts are
+    better than another's: the first way, nothing, and all of them."""
     against = []
     for way in WAYS:
         found = list(doubts(way, log, roles))

@@ -26,7 +26,8 @@ class Questions:
         writes = [it for it in self.log.entries if self.identities.is_election_write(it)]
         unread = sum(not it.is_read for it in writes)
         if unread:
-            yield f"{unread} of {len(writes)} writes of the Lease {self.options.lease} can't be read: the audit level is Metadata, and has to be RequestResponse"
+            yield (f"{unread} of {len(writes)} writes of the Lease {self.options.lease} can't be read: the audit level is Metadata, and has to be "
+                   "RequestResponse")
         elif not self.story.terms:
             others = Counter(f"{it.namespace}/{it.name}" for it in self.log.entries
                              if it.resource == "leases" and it.verb in ("create", "update", "patch") and it.namespace != "kube-node-lease")
@@ -65,8 +66,8 @@ class Questions:
         """What the lines of the trace leave open; no verdict but 43 hangs on it."""
         hidden = self.story.cluster.hidden
         if hidden:
-            more = ", .." if len(hidden) > SHOWN else ""
-            yield f"{len(hidden)} nodes renew a Lease and the log never shows them, so zone lines leave them out: {', '.join(hidden[:SHOWN])}{more}"
+            names = ", ".join(hidden[:SHOWN]) + (", .." if len(hidden) > SHOWN else "")
+            yield f"{len(hidden)} nodes renew a Lease and the log never shows them, so zone lines leave them out: {names}"
         others = Counter(it.agent for it in self.log.entries if self.is_other_delete(it))
         if others:
             yield f"deletes of pods by user agents that don't match --evictors are no evictions: {listed(others)}"

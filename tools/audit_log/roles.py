@@ -37,4 +37,5 @@ class Roles:
 
     def is_act(self, entry):
         """A leader's doing, whether or not a trace has a line for it, and whether or not the store took it."""
-        return self.is_controller(entry) and entry.resource in ("nodes", "pods") and entry.verb in WRITES and (entry.is_ok() or entry.code in (404, 409))
+        is_answered = entry.is_ok() or entry.code in (404, 409)
+        return is_answered and entry.resource in ("nodes", "pods") and entry.verb in WRITES and self.is_controller(entry)

@@ -32,7 +32,8 @@ class End:
         self.is_guessed = options.terms == "death" and self.second < log_end and not life.is_dead and term.released is None
 
     def by(self, way):
-        """`promise`: its own deadline, or its release or death before; `evidence`: the same, but not before its last act; `death`: as long as it was heard of."""
+        """`promise`: its own deadline, or its release or death before; `evidence`: the same, but not before its last act; `death`: its release,
+        else as long as it was heard of."""
         heard = self.heard if self.is_gone else NEVER
         if way == "death":
             return heard if self.term.released is None else max(self.term.released, self.term.acted)
