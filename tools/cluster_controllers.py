@@ -59,13 +59,28 @@ class Controllers:
         told.row('leader at first', self.leader, why, known)
         for name in self.names:
             told.row('node of ' + name, self.node[name] or 'not known', 'the node of this name' if self.node[name] else 'no node of the list has this name', 'guess')
-        told.row('clocks of controllers', 'exact, but for --clock', 'a list does not tell them', 'guess')
+        told.row('clocks of controllers', 'exact', 'but for --clock; a list does not tell how fast they go', 'guess')
         if self.named and self.host:
             told.say('%s leads at first: %s' % (self.leader, why))
         if len(self.all) > MOST:
             told.say('a document has at most %d controllers: %s were left out' % (MOST, few(self.all[MOST:])))
-        if len(self.names) == 1:
-            told.say('there is one controller, %s%s: name the others too, --controller NAME, once for each' % (
-                self.leader, ', and with --kill-leader nobody takes over' if kills_leader else '; nobody would take over from it'))
-        elif not self.host and kills_leader:
+        self.tell_alone(told, kills_leader)
+
+    def tell_alone(self, told, kills_leader):
+        """That nobody takes over from a controller, or that it isn't known who leads."""
+        alone = len(self.names) == 1
+        nobody = ', and with --kill-leader nobody takes over' if kills_leader else ''
+        if alone and self.added:
+            told.say('no node of the control plane is in the list, so the holder of the Lease, %s, is the one controller%s: name the others too, --controller NAME'
+                     % (self.leader, nobody))
+        elif alone and kills_leader:
+            told.say('%s is the one controller%s' % (self.leader, nobody))
+        elif kills_leader and not self.host:
             told.say('nobody holds the Lease of the list; --kill-leader kills %s, which gets it first' % self.leader)
+
+    def tell_renewal(self, told, moment):
+        """That the leader may be dead already, where its Lease wasn't renewed for longer than it lasts."""
+        silent = moment.since_election()
+        if self.host and silent is not None and silent > self.found.election_lease:
+            told.say('the election Lease was last renewed %ds before the list and lasts %ds: %s leads on in the document, and may be dead; --kill-leader @0s says that'
+                     % (silent, self.found.election_lease, self.leader))

@@ -38,8 +38,8 @@ class Found:
         self.nodes = [item for item in items if item.get('kind') == 'Node']
         self.zones = {node['metadata']['name']: zones_of(node) for node in self.nodes}
         self.versions = [part(node, 'status', 'nodeInfo', 'kubeletVersion') for node in self.nodes]
-        holders = [part(item, 'spec', 'holderIdentity') for item in items if is_election(item)]
-        self.holder = holders[0] if holders else None
+        election = next((item for item in items if is_election(item)), None)
+        self.holder, self.election_lease = part(election, 'spec', 'holderIdentity'), part(election, 'spec', 'leaseDurationSeconds') or 0
         self.control_plane = [node['metadata']['name'] for node in self.nodes if any(label in (part(node, 'metadata', 'labels') or {}) for label in CONTROL_PLANE)]
         durations = {part(item, 'spec', 'leaseDurationSeconds') for item in items if is_lease(item, NODE_LEASES)} - {None}
         self.node_lease = durations.pop() if len(durations) == 1 else None

@@ -100,7 +100,7 @@ def tell_flags(flags, told):
 def tell_rest(given, found, settings, told):
     told.row('nodeLeaseDurationSeconds', found.node_lease or 40, "the nodes' Leases" if found.node_lease else "default of a kubelet: the nodes' Leases do not agree",
              'list' if found.node_lease else 'read in 1.32')
-    told.row('restartMillis', 1_000, 'default of a document; a real one comes back when whatever restarts it does', 'guess')
-    told.row('a message', '1 beat', 'from a process to the store, and from it; a list tells no delays', 'guess')
+    told.row('restartMillis', 1_000, 'default of a document: when a controller comes back after an end', 'guess')
+    told.row('a message', '1 beat', 'a list tells no delays', 'guess')
     told.row('beatMillis', settings['beatMillis'], '--beat', 'your words' if given.beat != '100ms' else 'default')
     told.row('endBeat', settings['endBeat'], '--for %s' % given.length, 'your words' if given.length != '15m' else 'default')

@@ -30,27 +30,30 @@ class Moment:
     def __init__(self, items, given, node_lease):
         self.nodes, self.leases = collections.defaultdict(list), {}
         self.apart = datetime.timedelta(seconds=node_lease or NODE_LEASE)
-        silent = set()
+        self.silent, self.listed = set(), set()
         for item in items:
-            self.take(item, silent)
+            self.take(item)
         self.latest = {node: max(times) for node, times in self.nodes.items()}
-        up = [time for node, time in self.latest.items() if node not in silent]
-        self.middle = statistics.median_low(up) if up else None
-        self.voters, self.given = len(up), given
-        self.ahead = {node: time for node, time in self.latest.items() if up and time > self.middle + self.apart}
-        self.behind = [node for node, time in self.latest.items() if up and node not in silent and time < self.middle - self.apart]
-        self.leases_ahead = {name: time for name, time in self.leases.items() if up and time > self.middle + self.apart}
-        self.epoch = given or self.agreed()
+        up = {node: time for node, time in self.latest.items() if node not in self.silent and (node in self.listed or not self.listed)}
+        self.middle, self.voters = statistics.median_low(up.values()) if up else None, len(up)
+        self.ahead = {node: time for node, time in self.latest.items() if self.is_ahead(time)}
+        self.leases_ahead = {name: time for name, time in self.leases.items() if self.is_ahead(time)}
+        self.behind = [node for node, time in up.items() if time < self.middle - self.apart]
+        self.given, self.epoch = given, given or self.agreed()
         try:
             self.start = moment(self.epoch)
         except ValueError:
             raise Wrong('--epoch %s: it is a time such as 2026-11-28T11:00:00Z' % given) from None
 
-    def take(self, item, silent):
+    def is_ahead(self, time):
+        return self.middle is not None and time > self.middle + self.apart
+
+    def take(self, item):
         name = part(item, 'metadata', 'name')
         time = part(item, 'spec', 'renewTime') if is_lease(item) else part(ready_of(item), 'lastHeartbeatTime') if item.get('kind') == 'Node' else None
-        if item.get('kind') == 'Node' and part(ready_of(item), 'status') == 'Unknown':
-            silent.add(name)
+        if item.get('kind') == 'Node':
+            self.listed.add(name)
+            self.silent.update([name] if part(ready_of(item), 'status') == 'Unknown' else [])
         if time and is_lease(item) and not is_lease(item, NODE_LEASES):
             self.leases['%s/%s' % (part(item, 'metadata', 'namespace'), name)] = moment(time)
         elif time:
@@ -58,8 +61,12 @@ class Moment:
 
     def agreed(self):
         times = [*self.latest.values(), *self.leases.values()]
-        counted = [time for time in times if self.middle is None or time <= self.middle + self.apart]
-        return up_to_seconds(max(counted, default=datetime.datetime.now(datetime.timezone.utc)))
+        return up_to_seconds(max((time for time in times if not self.is_ahead(time)), default=datetime.datetime.now(datetime.timezone.utc)))
+
+    def since_election(self):
+        """How many seconds before beat 0 the election Lease was renewed, or nothing where that isn't known."""
+        renewed = self.leases.get('/'.join(ELECTION))
+        return (self.start - renewed).total_seconds() if renewed else None
 
     def offset(self, time):
         """How far a clock is ahead at beat 0, in milliseconds, so that what it writes next is later than what it wrote last."""
@@ -85,11 +92,12 @@ class Moment:
     def tell(self, told):
         told.row('epoch', self.epoch, self.why(), 'your words' if self.given else 'list' if self.nodes or self.leases else 'guess')
         for node, time in sorted(self.ahead.items()):
-            told.row('clock of ' + node, '%d ms ahead' % self.offset(time), 'what most nodes agree on is %ds earlier' % (time - self.middle).total_seconds(), 'list')
-            told.say("the clock of %s is ahead of what most nodes agree on by %ds: it doesn't count for beat 0, and its kubelet's clock is ahead in the document"
-                     % (node, (time - self.middle).total_seconds()))
-        for name in sorted(self.leases_ahead):
-            told.say("the Lease %s was renewed later than most nodes agree it can be: that time doesn't count for beat 0" % name)
-        for node in sorted(self.behind):
-            told.say('%s was last heard of %ds before most nodes: it is silent and not marked yet, or its clock is behind' % (
-                node, (self.middle - self.latest[node]).total_seconds()))
+            told.row('clock of ' + node, '%d ms ahead' % self.offset(time), 'what most nodes agree on is %ds earlier' % self.apart_from_most(time), 'list')
+        told.say_each(["the clock of %s is ahead of what most nodes agree on by %ds: it doesn't count for beat 0, and its kubelet's clock is ahead in the document"
+                       % (node, self.apart_from_most(time)) for node, time in sorted(self.ahead.items())])
+        told.say_each(["the Lease %s was renewed later than most nodes agree it can be: that time doesn't count for beat 0" % name for name in sorted(self.leases_ahead)])
+        told.say_each(['%s was last heard of %ds before most nodes: it is silent and not marked yet, or its clock is behind' % (
+            node, self.apart_from_most(self.latest[node])) for node in sorted(self.behind)])
+
+    def apart_from_most(self, time):
+        return abs(time - self.middle).total_seconds()

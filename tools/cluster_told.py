@@ -13,6 +13,11 @@ class Told:
     def say(self, sentence):
         self.sentences.append(sentence)
 
+    def say_each(self, sentences, most=10):
+        self.sentences += sentences[:most]
+        if len(sentences) > most:
+            self.say('.. and so of %d more' % (len(sentences) - most))
+
     def table(self):
         rows = [self.HEAD, *self.rows]
         widths = [max(len(row[column]) for row in rows) for column in range(len(self.HEAD) - 1)]

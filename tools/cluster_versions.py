@@ -52,7 +52,7 @@ class Version:
     def call_timeout(self, renew):
         """How long a call waits, in milliseconds, for a renew deadline."""
         if self.number >= NEW:
-            known = 'read in client-go 0.36.4; that the manager goes by it: memory' if self.number == NEW else BETWEEN % self.text()
+            known = 'read in client-go 0.36.4; its use: memory' if self.number == NEW else BETWEEN % self.text()
             return Default(max(1_000, (renew + 1) // 2), 'half the renew deadline, at least 1s (NewFromKubeconfig)', known)
         if self.number == OLD:
             return Default(renew, 'the renew deadline', 'run: 1.20.2')
@@ -78,5 +78,4 @@ class Version:
         if self.mixed:
             told.say('the kubelets have several versions, and a list does not tell that of the control plane: the newest was taken')
         if self.number >= NEW:
-            told.row('release at an end', 'not in the document', 'a gate of 1.36 lets the manager give its Lease back; then premise=yes can be wrong',
-                     'changelog of 1.36; its default is not known')
+            told.row('release at an end', 'none', 'a gate of 1.36 can turn it on; then premise=yes can be wrong', 'changelog of 1.36; run')

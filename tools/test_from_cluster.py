@@ -198,7 +198,12 @@ def test_holder():
         for name in ('cp-1', 'cp-2', 'cp-3'):
             del items['Node', '', name]
     said = make('--kill-leader', '@60s', given=changed(elsewhere)).stderr
-    has('one controller alone', said, 'there is one controller, cp-2, and with --kill-leader nobody takes over: name the others too, --controller NAME')
+    has('one controller alone', said, 'the holder of the Lease, cp-2, is the one controller, and with --kill-leader nobody takes over: name the others too, --controller NAME')
+
+    def silent(items):
+        items['Lease', 'kube-system', 'kube-controller-manager']['spec']['renewTime'] = '2026-11-28T10:59:30.000000Z'
+    has('a leader that may be dead', make(given=changed(silent)).stderr, 'last renewed 30s before the list and lasts 15s: cp-2 leads on in the document, and may be dead')
+    same('one that renewed', 'may be dead' in make().stderr, False)
 
     def nobody(items):
         items['Lease', 'kube-system', 'kube-controller-manager']['spec']['holderIdentity'] = ''
