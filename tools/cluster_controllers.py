@@ -38,7 +38,8 @@ class Controllers:
         self.names, self.leader = self.all[:MOST], self.all[0]
         wrong = [name for name in self.names if not NAME.fullmatch(name)]
         if wrong:
-            raise Wrong('%s is no name that a controller of a document can have: it has lower-case letters, digits, - and .; name them: --controller NAME' % wrong[0])
+            raise Wrong('%s is no name that a controller of a document can have, which has lower-case letters, digits, - and .: '
+                        '--controller NAME says another' % wrong[0])
         self.node = {name: same_host(name, list(found.zones)) for name in self.names}
 
     def leads_by(self):
@@ -54,11 +55,12 @@ class Controllers:
 
     def tell(self, told, kills_leader):
         why, known = self.leads_by()
-        told.row('controllers', ', '.join(self.names), '--controller' if self.named else 'nodes with the label of a control plane' + (', and the holder of the Lease' if self.added else ''),
-                 'your words' if self.named else 'list')
+        found = 'nodes with the label of a control plane' + (', and the holder of the Lease' if self.added else '')
+        told.row('controllers', ', '.join(self.names), *(('--controller', 'your words') if self.named else (found, 'list')))
         told.row('leader at first', self.leader, why, known)
         for name in self.names:
-            told.row('node of ' + name, self.node[name] or 'not known', 'the node of this name' if self.node[name] else 'no node of the list has this name', 'guess')
+            known = ('the node of this name', 'guess') if self.node[name] else ('no node of the list has this name', 'list')
+            told.row('node of ' + name, self.node[name] or 'not known', *known)
         told.row('clocks of controllers', 'exact', 'but for --clock; a list does not tell how fast they go', 'guess')
         if self.named and self.host:
             told.say('%s leads at first: %s' % (self.leader, why))
@@ -71,8 +73,8 @@ class Controllers:
         alone = len(self.names) == 1
         nobody = ', and with --kill-leader nobody takes over' if kills_leader else ''
         if alone and self.added:
-            told.say('no node of the control plane is in the list, so the holder of the Lease, %s, is the one controller%s: name the others too, --controller NAME'
-                     % (self.leader, nobody))
+            told.say('no node of the control plane is in the list, so the holder of the Lease, %s, is the one controller%s: '
+                     'name the others too, --controller NAME' % (self.leader, nobody))
         elif alone and kills_leader:
             told.say('%s is the one controller%s' % (self.leader, nobody))
         elif kills_leader and not self.host:
@@ -82,5 +84,5 @@ class Controllers:
         """That the leader may be dead already, where its Lease wasn't renewed for longer than it lasts."""
         silent = moment.since_election()
         if self.host and silent is not None and silent > self.found.election_lease:
-            told.say('the election Lease was last renewed %ds before the list and lasts %ds: %s leads on in the document, and may be dead; --kill-leader @0s says that'
-                     % (silent, self.found.election_lease, self.leader))
+            told.say('the election Lease was last renewed %ds before the list and lasts %ds: %s leads on in the document, and may be dead; '
+                     '--kill-leader @0s says that' % (silent, self.found.election_lease, self.leader))

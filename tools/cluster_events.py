@@ -33,7 +33,8 @@ def zone_crashes(text, found, controllers, told):
     zone, at = split_at(text, '--kill-zone', 'ZONE@60s, as in --kill-zone eu-1b@60s')
     nodes = [node for node, names in found.zones.items() if zone in names]
     if not nodes:
-        raise Wrong('--kill-zone %s: no node is in it; there are %s' % (text, ', '.join(sorted({names[0] or '(none)' for names in found.zones.values()}))))
+        zones = sorted({names[0] or '(none)' for names in found.zones.values()})
+        raise Wrong('--kill-zone %s: no node is in it; there are %s' % (text, ', '.join(zones)))
     dead = [name for name in controllers.names if controllers.node[name] in nodes]
     unknown = [name for name in controllers.names if not controllers.node[name]]
     if dead:
@@ -85,4 +86,5 @@ def stalled_by(name, text, found, controllers):
 def see_end(events, end):
     late = [event for event in events if event['beat'] > end]
     if late:
-        raise Wrong('what is %s at beat %d is after the end; let it run longer: --for' % ({'crash': 'killed', 'pause': 'frozen'}[late[0]['type']], late[0]['beat']))
+        word = {'crash': 'killed', 'pause': 'frozen'}[late[0]['type']]
+        raise Wrong('what is %s at beat %d is after the end; let it run longer: --for' % (word, late[0]['beat']))

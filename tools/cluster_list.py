@@ -40,13 +40,14 @@ class Found:
         self.versions = [part(node, 'status', 'nodeInfo', 'kubeletVersion') for node in self.nodes]
         election = next((item for item in items if is_election(item)), None)
         self.holder, self.election_lease = part(election, 'spec', 'holderIdentity'), part(election, 'spec', 'leaseDurationSeconds') or 0
-        self.control_plane = [node['metadata']['name'] for node in self.nodes if any(label in (part(node, 'metadata', 'labels') or {}) for label in CONTROL_PLANE)]
+        self.control_plane = [node['metadata']['name'] for node in self.nodes if is_control_plane(node)]
         durations = {part(item, 'spec', 'leaseDurationSeconds') for item in items if is_lease(item, NODE_LEASES)} - {None}
         self.node_lease = durations.pop() if len(durations) == 1 else None
 
     def kubelets(self, offsets):
         """A kubelet for each node; of some the clock is so many milliseconds ahead."""
-        return [{**kubelet_of(node), **({'offsetMillis': offsets[name]} if (name := node['metadata']['name']) in offsets else {})} for node in self.nodes]
+        kubelets = [kubelet_of(node) for node in self.nodes]
+        return [{**each, 'offsetMillis': offsets[each['node']]} if each['node'] in offsets else each for each in kubelets]
 
     def kept(self, holder):
         """The Nodes, Pods, Leases of nodes and the election Lease, with the fields that are read. The present leader, a controller, leads on."""
@@ -64,13 +65,18 @@ class Found:
 
     def tell(self, told):
         silent = [kubelet['node'] for kubelet in self.kubelets({}) if kubelet.get('up') is False]
-        told.row('kubelets', '%d, of these %d down' % (len(self.nodes), len(silent)), 'down where Ready is Unknown%s' % (': ' + few(silent) if silent else ''), 'list')
+        why = 'down where Ready is Unknown%s' % (': ' + few(silent) if silent else '')
+        told.row('kubelets', '%d, of these %d down' % (len(self.nodes), len(silent)), why, 'list')
         pods = [item for item in self.items if item.get('kind') == 'Pod']
         left = [len(left_out(pod)) for pod in pods if left_out(pod)]
         if left:
             told.row('tolerations left out', sum(left), 'operators Lt and Gt are not in a document', 'list')
             told.say('%s of %s left out: the operator is Lt or Gt, which a document does not have, so such a pod is judged without it' % (
                 counted(sum(left), 'toleration'), counted(len(left), 'pod')))
+
+
+def is_control_plane(node):
+    return any(label in (part(node, 'metadata', 'labels') or {}) for label in CONTROL_PLANE)
 
 
 def zones_of(node):

@@ -2,7 +2,8 @@
 
 Whatever stands around them, these are read: `--flag=value`; `--flag` with the value as the next word or the next entry of a list; `flag: value`,
 as kubeadm's extraArgs have it up to v1beta3; `name: flag` and `value: value` in either order, as they have it since v1beta4; `flag=value`, as
-in k3s. Comments don't count, and neither do other components. Where one of the flags is named in any other way, that is an error with its line.
+in k3s. Comments don't count. A flag is that of the component that was named last before it in its document of the file, and those of others don't
+count. Where one of the flags is named in any other way, or with two values, that is an error with its line.
 """
 import collections
 import re
@@ -10,8 +11,7 @@ import re
 import cluster_flags
 from cluster_flags import FLAGS, Wrong
 
-# A word of the text; its line; its row, which is a line within the text that a line may quote; and the blanks before the row.
-Word = collections.namedtuple('Word', 'text line row indent')
+Word = collections.namedtuple('Word', 'text line')
 Value = collections.namedtuple('Value', 'text line')
 WORD = re.compile(r'[{}]|(?<=["\']):|:(?=[\s"\'{\[]|$)|(?:[^\s"\'`,\[\]{}\\:]|:(?![\s"\'{\[]|$))+')
 # Any way in which somebody may have written the name of a flag, the longest names first.
@@ -19,7 +19,7 @@ MENTION = re.compile('|'.join(flag[2:].replace('-', '[-_]?') for flag in sorted(
 BY_LETTERS = {flag.replace('-', ''): flag for flag in FLAGS}
 SWITCH = re.compile(r'(?:--)?leader[-_]elect(?:=.*)?')
 MANAGER = re.compile(r'(?<!cloud-)\bkube-controller-manager|controllerManager', re.I)
-OTHERS = re.compile(r'kube-scheduler|cloud-controller-manager|cluster-autoscaler')
+OTHERS = re.compile(r'kube-?scheduler|cloud-controller-manager|cluster-autoscaler|^scheduler$', re.I)
 
 
 def without_comment(row):
@@ -35,12 +35,11 @@ def without_comment(row):
 
 
 def words_of(text):
-    words, row = [], 0
+    """The words of a text with their lines; a line of a text within a text, which ends in \\n there, is a line for its comment."""
+    words = []
     for line, whole in enumerate(text.split('\n'), 1):
-        for part in map(without_comment, whole.split('\\n')):
-            row += 1
-            indent = len(part) - len(part.lstrip())
-            words += [Word(found[0], line, row, indent) for found in WORD.finditer(part)]
+        for row in map(without_comment, whole.split('\\n')):
+            words += [Word(found, line) for found in WORD.findall(row)]
     return words
 
 
@@ -48,35 +47,16 @@ def text_at(words, place):
     return words[place].text if 0 <= place < len(words) else ''
 
 
-def end_of_section(words, place):
-    """The place behind all that stands under a key, by its braces or by how far it is indented."""
-    key, end, depth = words[place], place + 2, 0
-    if text_at(words, end) == '{' and words[end].row == key.row:
-        while end < len(words):
-            depth += {'{': 1, '}': -1}.get(words[end].text, 0)
-            end += 1
-            if depth == 0:
-                break
-        return end
-    while end < len(words) and (words[end].row == key.row or words[end].indent > key.indent):
-        end += 1
-    return end
-
-
 def of_manager(words):
-    """The words without the sections of the scheduler, and without the documents of a file that are of other components alone."""
-    kept, document, place = [], [], 0
-    while place <= len(words):
-        if place == len(words) or words[place].text == '---':
-            names = ' '.join(word.text for word in document)
-            kept += document if MANAGER.search(names) or not OTHERS.search(names) else []
-            document, place = [], place + 1
-        elif words[place].text == 'scheduler' and text_at(words, place + 1) == ':':
-            place = end_of_section(words, place)
-        else:
-            document.append(words[place])
-            place += 1
-    return kept
+    """The places of the words that aren't another component's."""
+    places, other = [], False
+    for place, word in enumerate(words):
+        if word.text == '---' or MANAGER.search(word.text):
+            other = False
+        elif OTHERS.search(word.text):
+            other = True
+        places += [] if other else [place]
+    return places
 
 
 def named_value(words, place):
@@ -113,23 +93,32 @@ def read_value(words, place, path, mention):
 
 
 def flags_in(text, path):
-    """The flags with their values and lines. One that can't be read, or that is there with two values, is an error."""
-    words, found = of_manager(words_of(text)), {}
-    for place, word in enumerate(words):
-        for mention in MENTION.finditer(word.text):
+    """The flags with their values and lines."""
+    words, found = words_of(text), {}
+    for place in of_manager(words):
+        for mention in MENTION.finditer(words[place].text):
             flag, value = read_value(words, place, path, mention)
             other = found.setdefault(flag, value)
             if cluster_flags.value_of(flag, other.text) != cluster_flags.value_of(flag, value.text):
-                raise Wrong('%s: %s is %s in line %d and %s in line %d; which one counts is not known' % (path, flag, other.text, other.line, value.text, value.line))
-    if not found and not MANAGER.search(text):
+                raise Wrong('%s: %s is %s in line %d and %s in line %d; which one counts is not known' % (
+                    path, flag, other.text, other.line, value.text, value.line))
+    if not found and not any(MANAGER.search(word.text) for word in words):
         raise Wrong('%s names neither kube-controller-manager nor one of its flags that count here: is it the right file?' % path)
     return found
 
 
+def of_others(text):
+    """The lines in which another component has such a flag."""
+    words = words_of(text)
+    ours = set(of_manager(words))
+    return sorted({word.line for place, word in enumerate(words) if place not in ours and MENTION.search(word.text)})
+
+
 def election_off(text):
     """The line that turns the election off, if there is one."""
-    words = of_manager(words_of(text))
-    off = [word.line for place, word in enumerate(words) if SWITCH.fullmatch(word.text) and (value_at(words, place) or '').lower() in ('false', 'f', '0')]
+    words = words_of(text)
+    switches = [place for place in of_manager(words) if SWITCH.fullmatch(words[place].text)]
+    off = [words[place].line for place in switches if (value_at(words, place) or '').lower() in ('false', 'f', '0')]
     return off[0] if off else None
 
 
@@ -138,13 +127,23 @@ def text_of(path):
         return file.read()
 
 
+def flags_told(path, told):
+    """The flags of a manifest for a document, which always has an election."""
+    text = text_of(path)
+    if election_off(text):
+        told.say('%s, line %d turns the election off, and the document has one' % (path, election_off(text)))
+    return flags_in(text, path)
+
+
 def election_flags(path, told):
     """The flags of the election, each as one word, as `kube_lens margin` takes them."""
     text = text_of(path)
-    found, off = flags_in(text, path), election_off(text)
+    found, off, others = flags_in(text, path), election_off(text), of_others(text)
     if off:
         raise Wrong('%s, line %d turns the election off: then nothing keeps two from acting at once' % (path, off))
     election = {flag: value for flag, value in found.items() if flag.startswith('--leader-elect-')}
     lines = ', '.join('%s in line %d' % (flag, value.line) for flag, value in election.items())
     told.say('%s has %s; a flag that is not there has its default' % (path, lines or 'no flag of the election'))
+    if others:
+        told.say('%s: left out are the flags of other components, in line %s' % (path, ', '.join(map(str, others))))
     return ['%s=%s' % (flag, value.text) for flag, value in election.items()]

@@ -29,11 +29,10 @@ def known_default(flag, version):
     return Default(FLAGS[flag].default, 'default', 'read in 1.20.2 and 0.36.4' if election else 'read in 1.20.2; later: memory')
 
 
-def flags_of(given, version):
+def flags_of(given, version, told):
     """Each flag's value: of the line, else of the manifest, else by default."""
-    path = given.from_manifest
-    manifest = cluster_manifest.flags_in(cluster_manifest.text_of(path), path) if path else {}
-    flags = {}
+    path, flags = given.from_manifest, {}
+    manifest = cluster_manifest.flags_told(path, told) if path else {}
     for flag in FLAGS:
         text = getattr(given, flag[2:].replace('-', '_'))
         if text is not None:
@@ -69,12 +68,13 @@ def refuse(flags, great, has_to, small, more, less):
     """Says which rule is broken and what would mend it, first by the flag that nobody gave."""
     first, second = (less, more) if flags[small].is_default and not flags[great].is_default else (more, less)
     other = ', as kube-controller-manager refuses to start with them' if great != PRIMARY else ''
-    raise Wrong('%s %s %s: a document of these is refused%s; %s would mend it, or %s' % (shown(great, flags), has_to, shown(small, flags), other, first, second))
+    raise Wrong('%s %s %s: a document of these is refused%s; %s would mend it, or %s' % (
+        shown(great, flags), has_to, shown(small, flags), other, first, second))
 
 
 def settings_of(given, found, moment, version, beat, told):
-    """The settings. Those of flags that nobody gave are left to the program, whose defaults they are, but for the grace."""
-    flags = flags_of(given, version)
+    """The settings. Flags that nobody gave are left to the program, which has the same defaults, but for the grace."""
+    flags = flags_of(given, version, told)
     renew = flags[RENEW].value
     timeout, fast = version.call_timeout(renew), version.fast_renew()
     settings = {'beatMillis': beat, 'epoch': moment.epoch, 'endBeat': millis(given.length, '--for') // beat}
@@ -98,8 +98,8 @@ def tell_flags(flags, told):
 
 
 def tell_rest(given, found, settings, told):
-    told.row('nodeLeaseDurationSeconds', found.node_lease or 40, "the nodes' Leases" if found.node_lease else "default of a kubelet: the nodes' Leases do not agree",
-             'list' if found.node_lease else 'read in 1.32')
+    known = ("the nodes' Leases", 'list') if found.node_lease else ("default of a kubelet: the nodes' Leases do not agree", 'read in 1.32')
+    told.row('nodeLeaseDurationSeconds', found.node_lease or 40, *known)
     told.row('restartMillis', 1_000, 'default of a document: when a controller comes back after an end', 'guess')
     told.row('a message', '1 beat', 'a list tells no delays', 'guess')
     told.row('beatMillis', settings['beatMillis'], '--beat', 'your words' if given.beat != '100ms' else 'default')

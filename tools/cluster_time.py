@@ -87,15 +87,18 @@ class Moment:
             return '--epoch'
         if self.middle is None:
             return 'no node is up: the latest renewal' if self.nodes or self.leases else 'no time is in the list: this moment'
-        return 'the latest time up to %ds after the middle one, %s, of %s' % (self.apart.total_seconds(), self.middle.strftime('%H:%M:%S'), counted(self.voters, 'node'))
+        return 'the latest time up to %ds after the middle one, %s, of %s' % (
+            self.apart.total_seconds(), self.middle.strftime('%H:%M:%S'), counted(self.voters, 'node'))
 
     def tell(self, told):
         told.row('epoch', self.epoch, self.why(), 'your words' if self.given else 'list' if self.nodes or self.leases else 'guess')
         for node, time in sorted(self.ahead.items()):
-            told.row('clock of ' + node, '%d ms ahead' % self.offset(time), 'what most nodes agree on is %ds earlier' % self.apart_from_most(time), 'list')
-        told.say_each(["the clock of %s is ahead of what most nodes agree on by %ds: it doesn't count for beat 0, and its kubelet's clock is ahead in the document"
+            why = 'what most nodes agree on is %ds earlier' % self.apart_from_most(time)
+            told.row('clock of ' + node, '%d ms ahead' % self.offset(time), why, 'list')
+        told.say_each(['the clock of %s is ahead of what most nodes agree on by %ds: that does not count for beat 0, and its kubelet has such a clock'
                        % (node, self.apart_from_most(time)) for node, time in sorted(self.ahead.items())])
-        told.say_each(["the Lease %s was renewed later than most nodes agree it can be: that time doesn't count for beat 0" % name for name in sorted(self.leases_ahead)])
+        told.say_each(['the Lease %s was renewed later than most nodes agree on: that does not count for beat 0' % name
+                       for name in sorted(self.leases_ahead)])
         told.say_each(['%s was last heard of %ds before most nodes: it is silent and not marked yet, or its clock is behind' % (
             node, self.apart_from_most(self.latest[node])) for node in sorted(self.behind)])
 

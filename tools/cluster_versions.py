@@ -47,7 +47,8 @@ class Version:
     def grace(self):
         if self.number >= LONGER_GRACE:
             return Default('50s', 'default from 1.32 on', 'changelog of 1.32' if self.number <= NEW else BETWEEN % self.text())
-        return Default('40s', 'default up to 1.31', 'read in 1.20.2' if self.number == OLD else 'changelog of 1.32' if self.number > OLD else BETWEEN % self.text())
+        known = 'read in 1.20.2' if self.number == OLD else 'changelog of 1.32' if self.number > OLD else BETWEEN % self.text()
+        return Default('40s', 'default up to 1.31', known)
 
     def call_timeout(self, renew):
         """How long a call waits, in milliseconds, for a renew deadline."""

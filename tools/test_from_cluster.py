@@ -21,46 +21,9 @@ BUILT = os.path.join(TOP, 'crates', 'kube_replay', 'out', 'kube_replay')
 LENS = os.path.join(TOP, 'crates', 'kube_lens', 'out', 'kube_lens')
 LIST = os.path.join(HERE, 'data', 'cluster.json')
 MANIFEST = os.path.join(HERE, 'data', 'kube-controller-manager.yaml')
-# A manifest in each form in which the flags are read; the three values are filled in.
-POD = 'kind: Pod\nspec:\n  containers:\n  - name: kube-controller-manager\n    command:\n    - kube-controller-manager\n%s    image: registry.example/manager:v1\n'
-FORMS = {
-    'one word': POD % '    - --leader-elect-lease-duration=LEASE\n    - "--leader-elect-renew-deadline=RENEW"\n    - \'--leader-elect-retry-period=RETRY\'\n',
-    'two lines': POD % ('    - --leader-elect-lease-duration=LEASE\n    - --leader-elect-renew-deadline\n    - RENEW\n'
-                        '    - "--leader-elect-retry-period"\n    # of 2026\n\n    - "RETRY"\n'),
-    'a comment is no flag': POD % ('    - --leader-elect-lease-duration=LEASE # --leader-elect-lease-duration=1h\n    #- --leader-elect-renew-deadline=1s\n'
-                                   '    - --leader-elect-renew-deadline=RENEW\n    - --leader-elect-retry-period=RETRY\n'),
-    'a list in a line': 'command: ["kube-controller-manager", "--leader-elect-lease-duration", "LEASE", --leader-elect-renew-deadline, RENEW, "--leader-elect-retry-period=RETRY"]\n',
-    'a script': 'args:\n- -c\n- |\n  exec kube-controller-manager --leader-elect-lease-duration LEASE \\\n    --leader-elect-renew-deadline=RENEW \\\n    --leader_elect_retry_period RETRY\n',
-    'kubeadm v1beta3': ('apiVersion: kubeadm.k8s.io/v1beta3\nkind: ClusterConfiguration\ncontrollerManager:\n  extraArgs:\n    leader-elect-lease-duration: LEASE\n'
-                        '    "leader-elect-renew-deadline": "RENEW"\n    leader-elect-retry-period:\n      RETRY\n'
-                        'scheduler:\n  extraArgs:\n    leader-elect-lease-duration: 1h\n    leader-elect-renew-deadline: 1s\nnetworking: {}\n'),
-    'kubeadm v1beta3 in a line': 'controllerManager:\n  extraArgs: {leader-elect-lease-duration: LEASE, leader-elect-renew-deadline: "RENEW", leader-elect-retry-period: RETRY}\n',
-    'kubeadm v1beta4': ('apiVersion: kubeadm.k8s.io/v1beta4\nkind: ClusterConfiguration\ncontrollerManager:\n  extraArgs:\n'
-                        '  - name: leader-elect-lease-duration\n    value: LEASE\n  - name: bind-address\n    value: 0.0.0.0\n  - value: "RENEW"\n    name: leader-elect-renew-deadline\n'
-                        '  - {name: leader-elect-retry-period, value: RETRY}\nscheduler:\n  extraArgs:\n  - name: leader-elect-lease-duration\n    value: 1h\n'),
-    'kubeadm in JSON': json.dumps({'scheduler': {'extraArgs': [{'name': 'leader-elect-lease-duration', 'value': '1h'}]}, 'controllerManager': {'extraArgs': [
-        {'name': 'leader-elect-' + name, 'value': value} for name, value in (('lease-duration', 'LEASE'), ('renew-deadline', 'RENEW'), ('retry-period', 'RETRY'))]}}),
-    'a config map': 'data:\n' + '  ClusterConfiguration: "controllerManager:\\n  extraArgs:\\n    leader-elect-lease-duration: LEASE\\n    '
-                    'leader-elect-renew-deadline: RENEW\\n    leader-elect-retry-period: RETRY\\nscheduler:\\n  extraArgs:\\n    leader-elect-lease-duration: 1h\\n"\n',
-    'k3s': 'kube-controller-manager-arg:\n- "leader-elect-lease-duration=LEASE"\n- leader-elect-renew-deadline=RENEW\n- leader-elect-retry-period=RETRY\n',
-    'another component beside it': 'kind: Pod\nmetadata: {name: kube-scheduler}\nspec:\n  command: [kube-scheduler, --leader-elect-lease-duration=1h]\n---\n' +
-                                   POD % '    - --leader-elect-lease-duration=LEASE\n    - --leader-elect-renew-deadline=RENEW\n    - --leader-elect-retry-period=RETRY\n',
-}
-# Flags that are there and can't be read: what is written, and what is said, with the line.
-UNREAD = {
-    POD % '    - --leader-elect-renew-deadline\n    - --leader-elect-retry-period=4s\n': 'line 7: --leader-elect-renew-deadline: --leader-elect-retry-period=4s is no duration',
-    POD % '    - --leader-elect-renew-deadline\n': 'line 7: --leader-elect-renew-deadline: image is no duration',
-    POD % '    - --leader-elect-renew-deadline=$(DEADLINE)\n': 'line 7: --leader-elect-renew-deadline: $(DEADLINE) is no duration',
-    POD % '    - --leader-elect-renew-deadline={{ .Values.deadline }}\n': 'line 7: --leader-elect-renew-deadline: nothing is no duration',
-    POD % '    - --leader-elect-lease-duration=30s\n    - --leader-elect-lease-duration=60s\n': '--leader-elect-lease-duration is 30s in line 7 and 60s in line 8',
-    POD % '    - --leader-elect=false\n': 'line 7 turns the election off',
-    'controllerManager:\n  extraArgs:\n    leader-elect: "false"\n': 'line 3 turns the election off',
-    'controllerManager:\n  extraArgs:\n  - name: leader-elect-renew-deadline\n  - value: 20s\n': 'line 3: --leader-elect-renew-deadline stands there in a form that is not read',
-    'controllerManager:\n  extraArgs:\n  - leader-elect-renew-deadline\n  - 20s\n': 'line 3: --leader-elect-renew-deadline stands there in a form that is not read',
-    'kubeControllerManager:\n  leaderElection:\n    leaderElectRenewDeadline: 20s\n': 'line 3: --leader-elect-renew-deadline stands there in a form that is not read: leaderElectRenewDeadline',
-    'k: --kube-controller-manager-arg=leader-elect-renew-deadline=20s\n': 'line 1: --leader-elect-renew-deadline stands there in a form that is not read',
-    'kind: Pod\nspec:\n  command: [kube-scheduler, --leader-elect-renew-deadline=20s]\n': 'names neither kube-controller-manager nor one of its flags',
-}
+# Manifests in each form in which the flags are read, with words in the place of the three values; and those in which one can't be read, whose first
+# line has what is said.
+READ, UNREAD = os.path.join(HERE, 'data', 'manifests', 'read'), os.path.join(HERE, 'data', 'manifests', 'unread')
 faults = []
 
 
@@ -375,25 +338,44 @@ def test_rules(program):
         same('range %s' % (words,), (done.returncode, done.stdout, wanted in done.stderr), (1, '', True))
 
 
-def filled(form, lease, renew, retry):
-    return form.replace('LEASE', lease).replace('RENEW', renew).replace('RETRY', retry)
+def forms(lease):
+    """The manifests in each form by name, with a lease duration, and a renew deadline of 20 s and a retry period of 4 s."""
+    made = {}
+    for name in sorted(os.listdir(READ)):
+        with open(os.path.join(READ, name)) as file:
+            made[name] = file.read().replace('LEASE', lease).replace('RENEW', '20s').replace('RETRY', '4s')
+    return made
+
+
+def unread():
+    """The manifests in which a flag can't be read, by name: what each has, and what is said."""
+    made = {}
+    for name in sorted(os.listdir(UNREAD)):
+        with open(os.path.join(UNREAD, name)) as file:
+            text = file.read()
+        made[name] = text, text.splitlines()[0].removeprefix('# ')
+    return made
 
 
 def test_manifests(folder):
     """The flags of a manifest in each form; one that can't be read is told with its line, and nothing is written."""
     path = os.path.join(folder, 'manifest')
-    for form, text in FORMS.items():
-        put(path, filled(text, '30s', '20s', '4s'))
+    for name, text in forms('30s').items():
+        put(path, text)
         made = document('--from-manifest', path)['settings']
-        same('form: ' + form, [made.get(key) for key in ('leaseDurationSeconds', 'renewDeadlineMillis', 'retryPeriodMillis')], [30, 20_000, 4_000])
-        same('flags of form: ' + form, sorted(make('--election-flags', path).stdout.split()),
+        same(name, [made.get(key) for key in ('leaseDurationSeconds', 'renewDeadlineMillis', 'retryPeriodMillis')], [30, 20_000, 4_000])
+        same('flags of ' + name, sorted(make('--election-flags', path).stdout.split()),
              ['--leader-elect-lease-duration=30s', '--leader-elect-renew-deadline=20s', '--leader-elect-retry-period=4s'])
-    for text, wanted in UNREAD.items():
+    for name, (text, wanted) in unread().items():
         put(path, text)
         for words in (('--election-flags', path),) + (('--from-manifest', path),) * ('off' not in wanted):
             done = make(*words)
-            same('%s of %r' % (words[0], text), (done.returncode, done.stdout, wanted in done.stderr), (1, '', True))
+            same('%s of %s' % (words[0], name), (done.returncode, done.stdout, wanted in done.stderr), (1, '', True))
     has('lines are told', make('--election-flags', MANIFEST).stderr, '--leader-elect-renew-deadline in line 16')
+    put(path, forms('30s')['pods-in-a-list.yaml'])
+    has('other components', make('--election-flags', path).stderr, 'left out are the flags of other components, in line 10, 11, 29')
+    put(path, unread()['pod-without-election.yaml'][0])
+    has('no election', make('--from-manifest', path).stderr, 'line 8 turns the election off, and the document has one')
 
 
 def put(path, text):
@@ -416,15 +398,16 @@ def test_step(folder, lens):
     os.chmod(os.path.join(folder, 'kube_lens'), 0o755)
     os.symlink(HERE, os.path.join(folder, 'tools'))
     manifest = 'tools/data/kube-controller-manager.yaml'
-    cases = [(form, filled(text, lease, '20s', '4s'), lease == '60s') for form, text in FORMS.items() for lease in ('30s', '60s')]
-    cases += [('unread', text, None) for text in UNREAD]
+    cases = [(name, text, True) for name, text in forms('60s').items()] + [(name, text, False) for name, text in forms('30s').items()]
+    cases += [(name, text, None) for name, (text, _) in unread().items()]
     for way, words in steps_of_page().items():
         same('%s names the manifest' % way, words[-1].count(manifest), 1)
-        for form, text, safe in cases:
+        for name, text, safe in cases:
             put(os.path.join(folder, 'manifest'), text)
-            done = subprocess.run([*words[:-1], words[-1].replace(manifest, 'manifest')], cwd=folder, stdout=subprocess.PIPE, stderr=subprocess.PIPE, text=True)
+            step = [*words[:-1], words[-1].replace(manifest, 'manifest')]
+            done = subprocess.run(step, cwd=folder, stdout=subprocess.PIPE, stderr=subprocess.PIPE, text=True)
             wanted = (True, 'safe') if safe else (False, 'unsafe' if safe is False else '')
-            same('step as %s, %s: %r' % (way, form, text), (done.returncode == 0, ''.join(done.stdout.splitlines()[-1:])), wanted)
+            same('step as %s, %s' % (way, name), (done.returncode == 0, ''.join(done.stdout.splitlines()[-1:])), wanted)
 
 
 def main():
