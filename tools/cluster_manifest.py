@@ -14,6 +14,7 @@ from cluster_flags import FLAGS, Wrong
 Word = collections.namedtuple('Word', 'text line')
 Value = collections.namedtuple('Value', 'text line')
 WORD = re.compile(r'[{}]|(?<=["\']):|:(?=[\s"\'{\[]|$)|(?:[^\s"\'`,\[\]{}\\:]|:(?![\s"\'{\[]|$))+')
+QUOTED = re.compile(r'=(["\'])([^"\']*)\1')
 # Any way in which somebody may have written the name of a flag, the longest names first.
 MENTION = re.compile('|'.join(flag[2:].replace('-', '[-_]?') for flag in sorted(FLAGS, key=len, reverse=True)), re.I)
 BY_LETTERS = {flag.replace('-', ''): flag for flag in FLAGS}
@@ -39,7 +40,7 @@ def words_of(text):
     words = []
     for line, whole in enumerate(text.split('\n'), 1):
         for row in map(without_comment, whole.split('\\n')):
-            words += [Word(found, line) for found in WORD.findall(row)]
+            words += [Word(found, line) for found in WORD.findall(QUOTED.sub(r'=\2', row))]
     return words
 
 
@@ -123,8 +124,11 @@ def election_off(text):
 
 
 def text_of(path):
-    with open(path, encoding='utf-8') as file:
-        return file.read()
+    try:
+        with open(path, encoding='utf-8') as file:
+            return file.read()
+    except UnicodeDecodeError:
+        raise Wrong('%s is no text in UTF-8' % path) from None
 
 
 def flags_told(path, told):
