@@ -1,0 +1,89 @@
+"""The answers: a document of the cluster, its replay, and what kube_lens says of them."""
+import json
+import os
+import sys
+
+import network
+import programs
+from lists import Unread
+from words import cluster_words
+
+MOST_BYTES = 16_777_216
+
+
+class Answers:
+    """The answer to a command, made in a folder for its files."""
+
+    def __init__(self, given, folder, say):
+        self.given, self.folder, self.say = given, folder, say
+
+    def document(self, cluster):
+        """The document of the cluster with what happens to it, as bytes."""
+        text = json.dumps({'kind': 'List', 'items': cluster.items}).encode()
+        done = programs.run([*programs.tool('tools/from-cluster'), *self.manifest(cluster.manager), *cluster_words(self.given)], text, cwd=self.folder)
+        said = done.stderr.decode(errors='replace').replace('from-cluster: ', '')
+        if done.returncode:
+            raise Unread(said.strip() or 'from-cluster ended with %d' % done.returncode)
+        self.say(said)
+        if self.given.command != 'slow-network':
+            return done.stdout
+        made = network.slow(json.loads(done.stdout), self.given.of, self.given.at or '60s')
+        return json.dumps(made, separators=(',', ':')).encode() + b'\n'
+
+    def manifest(self, manager):
+        """--from-manifest with the user's file, or with the words of the leader's pod."""
+        name = os.path.abspath(self.given.from_manifest) if self.given.from_manifest else manager.write(self.folder)
+        return ['--from-manifest=' + name] if name else []
+
+    def write(self, name, data):
+        path = os.path.join(self.folder, name)
+        with open(path, 'wb') as file:
+            file.write(data)
+        return path
+
+    def margin(self, document):
+        return self.answered(programs.run([*programs.program('kube_lens'), 'margin', *['--json'] * self.given.json], document), (0, 1))
+
+    def run(self, document):
+        """The tables of the run, and its page where one is wanted."""
+        done = programs.run([*programs.program('kube_replay'), 'replay'], document)
+        if done.returncode == 1:
+            explained = programs.run([*programs.program('kube_lens'), 'explain'], document).stdout.decode(errors='replace')
+            raise Unread('kube_replay refuses the document of this cluster: %s' % ' / '.join(explained.splitlines()))
+        _, trace = self.answered(done, (0,))
+        if self.given.page:
+            self.draw(document, trace)
+        return self.summary(document, trace)
+
+    def summary(self, document, trace):
+        lens = [*programs.program('kube_lens'), 'summary']
+        if len(document) + len(trace) < MOST_BYTES:
+            return self.answered(programs.run([*lens, '--document', *['--json'] * self.given.json], document + trace), (0,))
+        self.say('document and trace have more than %d bytes: how late each pod goes is not told' % MOST_BYTES)
+        return self.answered(programs.run([*lens, *['--json'] * self.given.json], trace), (0,))
+
+    def draw(self, document, trace):
+        title = ' '.join(['kubectl replay', self.given.command, *[self.given.of] * bool(self.given.of)]).replace('/', '-')
+        paths = [self.write(title + '.json', document), self.write('trace.txt', trace)]
+        _, page = self.answered(programs.run([*programs.tool('view/page.py'), '--document', *paths]), (0,))
+        try:
+            with open(self.given.page, 'wb') as file:
+                file.write(page)
+        except OSError as fault:
+            raise Unread("%s can't be written: %s" % (self.given.page, fault.strerror)) from fault
+        self.say('the page is in %s' % self.given.page)
+
+    def answered(self, done, statuses):
+        """What a program wrote, where it ended as it should."""
+        if done.returncode not in statuses or done.returncode and not done.stdout.rstrip().endswith((b'unsafe', b'"safe":false}')):
+            said = (done.stderr or done.stdout).decode(errors='replace').strip()
+            raise Unread('%s ended with %d: %s' % (os.path.basename(done.args[0]), done.returncode, said))
+        return done.returncode, done.stdout
+
+    def play(self, document):
+        """Opens the playground with the cluster, and ends with it."""
+        found = programs.playground()
+        if not found:
+            raise Unread('there is no playground yet: neither ./playground in this checkout nor kube_replay-playground on PATH')
+        sys.stdout.flush()
+        return os.spawnvp(os.P_WAIT, found[0], [*found, '--open', self.write('cluster.json', document)])
