@@ -20,7 +20,7 @@ class Answers:
     def document(self, cluster):
         """The document of the cluster with what happens to it, as bytes."""
         text = json.dumps({'kind': 'List', 'items': cluster.items}).encode()
-        done = programs.run([*programs.tool('tools/from-cluster'), *self.manifest(cluster.manager), *cluster_words(self.given)], text, cwd=self.folder)
+        done = programs.run([*programs.tool('tools', 'from-cluster'), *self.manifest(cluster.manager), *cluster_words(self.given)], text, cwd=self.folder)
         said = done.stderr.decode(errors='replace').replace('from-cluster: ', '')
         if done.returncode:
             raise Unread(said.strip() or 'from-cluster ended with %d' % done.returncode)
@@ -65,7 +65,7 @@ class Answers:
     def draw(self, document, trace):
         title = ' '.join(['kubectl replay', self.given.command, *[self.given.of] * bool(self.given.of)]).replace('/', '-')
         paths = [self.write(title + '.json', document), self.write('trace.txt', trace)]
-        _, page = self.answered(programs.run([*programs.tool('view/page.py'), '--document', *paths]), (0,))
+        _, page = self.answered(programs.run([*programs.tool('view', 'page.py'), '--document', *paths]), (0,))
         try:
             with open(self.given.page, 'wb') as file:
                 file.write(page)

@@ -24,9 +24,9 @@ def program(name):
     return [found]
 
 
-def tool(path):
+def tool(folder, name):
     """The words that call a script in Python of this checkout or package."""
-    return [sys.executable, '-B', os.path.join(TOP, path)]
+    return [sys.executable, '-B', os.path.join(TOP, folder, name)]
 
 
 def playground():
