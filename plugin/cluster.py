@@ -21,7 +21,6 @@ class Cluster:
         leases = self.listed(LEASES, narrow)
         self.items = nodes + ([] if narrow else pods) + leases
         self.manager = None if given.from_manifest else Manager(self.system_pods(pods), leases)
-        self.told += self.manager.tell() if self.manager else []
 
     def listed(self, resource, namespace=None):
         """A list, or none and a sentence where it may not be read and there is an answer without it."""

@@ -28,6 +28,8 @@ def answer(given, folder):
     for told in cluster.told:
         say(told)
     document = answers.document(cluster)
+    for told in (cluster.manager.tell() if cluster.manager else []):
+        say(told)
     if given.document:
         return 0, document
     if given.command == 'play':

@@ -285,7 +285,7 @@ class Flags(Replay):
 
     def test_unreadable(self):
         self.server.lists['pods'][1] = test_objects.manager('cp-2', [*test_objects.MANAGER, '--leader-elect-renew-deadline=$(DEADLINE)'])
-        self.assertIn('kube-controller-manager-cp-2, line 10: --leader-elect-renew-deadline', self.no_answer('margin'))
+        self.assertIn('kube-controller-manager-cp-2, line %d: --leader-elect-renew-deadline' % (len(test_objects.MANAGER) + 2), self.no_answer('margin'))
 
 
 class Forbidden(Replay):
