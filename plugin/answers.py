@@ -24,11 +24,11 @@ class Answers:
         said = done.stderr.decode(errors='replace').replace('from-cluster: ', '')
         if done.returncode:
             raise Unread(said.strip() or 'from-cluster ended with %d' % done.returncode)
+        made = done.stdout
+        if self.given.command == 'slow-network':
+            made = json.dumps(network.slow(json.loads(made), self.given.of, self.given.at or '60s'), separators=(',', ':')).encode() + b'\n'
         self.say(said)
-        if self.given.command != 'slow-network':
-            return done.stdout
-        made = network.slow(json.loads(done.stdout), self.given.of, self.given.at or '60s')
-        return json.dumps(made, separators=(',', ':')).encode() + b'\n'
+        return made
 
     def manifest(self, manager):
         """--from-manifest with the user's file, or with the words of the leader's pod."""

@@ -7,6 +7,7 @@ It needs kubectl, by default that on PATH, and the programs, by default the buil
 anything differs.
 """
 import argparse
+import hashlib
 import json
 import os
 import re
@@ -203,13 +204,15 @@ class Words(Replay):
 
     def test_wrong_words(self):
         for words, said in ((['kill'], 'invalid choice'), (['kill-node'], 'takes a NODE'), (['kill-leader', 'x'], 'takes no further word: x'), (['margin', '--at', '3s'], 'margin takes no --at'),
-                            (['margin', '--pods'], 'unrecognized'), (['kill-leader', '--chunk-size', 'x'], 'invalid int'), (['kill-leader', '--chunk-size=-1'], '0 or more')):
+                            (['margin', '--pods'], 'unrecognized'), (['kill-leader', '--chunk-size', 'x'], 'invalid int'), (['kill-leader', '--chunk-size=-1'], '0 or more'),
+                            (['freeze-leader', 'long'], 'long is no duration'), (['slow-network', '2'], '2 is no duration'), (['kill-leader', '--at', 'noon'], 'noon is no duration'),
+                            (['margin', '--request-timeout=soon'], 'soon is no duration')):
             status, told, heard = self.call(*words)
             self.assertEqual((status in (1, 2), told), (True, ''), words)
             self.assertIn(said, heard)
         self.assertEqual(self.requests(), [])
-        for words, said in ((['kill-node', 'nobody'], 'there is no node nobody'), (['kill-zone', 'mars'], 'there are eu-1a, eu-1b, eu-1c'), (['freeze-leader', 'long'], 'long is no duration'),
-                            (['slow-network', '2'], '2 is no duration'), (['slow-network', '20m'], 'a message takes 100ms to 10m'), (['slow-network', '2s', '--at', '20m'], 'is after the end'),
+        for words, said in ((['kill-node', 'nobody'], 'there is no node nobody'), (['kill-zone', 'mars'], 'there are eu-1a, eu-1b, eu-1c'), (['freeze-leader', '1ms'], 'shorter than a beat'),
+                            (['slow-network', '20m'], 'a message takes 100ms to 10m'), (['slow-network', '2s', '--at', '20m'], 'is after the end'),
                             (['kill-leader', '--at', '16m'], 'let it run longer: --for'), (['kill-leader', '--leader-elect-lease-duration=5s'], 'has to be longer than')):
             self.assertIn(said, self.no_answer(*words))
 
@@ -346,7 +349,9 @@ class Answers(Replay):
         self.assertEqual((done.returncode, done.stdout, done.stderr), (3, '', "kubectl replay: kubectl can't be run: No such file or directory\n"))
 
     def test_no_program(self):
-        self.assertIn('no_such_program can', self.no_answer('margin', KUBE_LENS_PROGRAM='/nowhere/no_such_program'))
+        status, told, said = self.call('margin', KUBE_LENS_PROGRAM='/nowhere/no_such_program')
+        self.assertEqual((status in (1, 3), told), (True, ''))
+        self.assertIn("kubectl replay: /nowhere/no_such_program can't be run: No such file or directory", said.splitlines())
 
     def test_full(self):
         done = subprocess.run('exec kubectl replay margin > /dev/full', shell=True, env=self.place, stderr=subprocess.PIPE, text=True)
@@ -388,6 +393,32 @@ class Pages(Replay):
         first, document = told.split('\n', 1)
         self.assertEqual((status, first), (0, '--open'), said)
         self.assertEqual(json.loads(document), {**json.loads(self.answer('kill-leader', '--document')), 'events': []})
+
+
+class Krew(Replay):
+    """What plugin/krew makes, put where krew would put it."""
+
+    def test_archive(self):
+        made = run([os.path.join(TOP, 'plugin', 'krew'), '--into', self.folder, '--uri', 'https://example.org/replay.tar.gz', *self.builds()]).decode().split()
+        with open(made[1], encoding='utf-8') as file:
+            manifest = dict(re.findall(r'^ *([a-zA-Z0-9]+): "?([^"\n]+)', file.read(), re.M))
+        with open(made[0], 'rb') as file:
+            self.assertEqual(manifest['sha256'], hashlib.sha256(file.read()).hexdigest())
+        self.assertEqual((manifest['name'], manifest['uri']), ('replay', 'https://example.org/replay.tar.gz'))
+        self.assertRegex(manifest['version'], r'^v\d+\.\d+\.\d+$')
+        store, bin = os.path.join(self.folder, 'store'), os.path.join(self.folder, 'bin')
+        shutil.unpack_archive(made[0], store)
+        os.mkdir(bin)
+        os.symlink(os.path.join(store, manifest['bin']), os.path.join(bin, 'kubectl-replay'))
+        self.assertEqual([name for _, _, names in os.walk(store) for name in names if name.startswith('test_')], [])
+        place = {'PATH': bin + ':' + self.place['PATH'].replace(TOP + ':', ''), 'KUBE_REPLAY_PROGRAM': '', 'KUBE_LENS_PROGRAM': ''}
+        self.assertEqual(self.answer('kill-leader', **place), self.answer('kill-leader'))
+        self.assertEqual(self.call('margin', **place)[1], self.call('margin')[1])
+
+    def builds(self):
+        """The programs that are named, where they are other than the built ones."""
+        named = {'--program': PLACE['KUBE_REPLAY_PROGRAM'], '--lens': PLACE['KUBE_LENS_PROGRAM']}
+        return [word for flag, path in named.items() if path not in PROGRAMS.values() for word in (flag, path)]
 
 
 def main():

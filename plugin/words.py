@@ -94,7 +94,19 @@ def read(words):
             made.error('%s takes no %s' % (given.command, name))
     if given.chunk_size < 0:
         made.error('--chunk-size is 0 or more')
+    see_times(made, given)
     return given
+
+
+def see_times(made, given):
+    """Sees that times are some, before the cluster is asked."""
+    times = [('--at', given.at), ('--for', given.length), (given.command, given.of if COMMANDS[given.command].takes == 'TIME' else None),
+             ('--request-timeout', None if given.request_timeout == '0' else given.request_timeout)]
+    for name, text in [each for each in times if each[1] is not None]:
+        try:
+            cluster_flags.millis(text, name)
+        except cluster_flags.Wrong as fault:
+            made.error(str(fault))
 
 
 def value(given, name):
