@@ -56,6 +56,7 @@ class Lists:
 
     def __init__(self, flags, timeout, piece):
         self.flags, self.timeout, self.piece = [*flags, '--request-timeout=%s' % timeout], timeout, piece
+        self.prefix = None
 
     def read(self, resource, namespace=None):
         """All items of a list; once more, and in one piece, where the API server has forgotten the next one."""
@@ -68,7 +69,7 @@ class Lists:
         token, earlier = None, set()
         while token not in earlier:
             earlier.add(token)
-            items, token = self.part(resource, path_of(resource, namespace, piece, token))
+            items, token = self.part(resource, self.server_path() + path_of(resource, namespace, piece, token))
             for item in items:
                 yield lighter({**item, 'apiVersion': resource.version, 'kind': resource.kind})
             if not token:
@@ -87,11 +88,26 @@ class Lists:
             raise Unread('what the API server sent for %s is no list of them; it begins with %s' % (resource.name, beginning(text)))
         return items, (page.get('metadata') or {}).get('continue')
 
-    def ask(self, resource, path):
+    def server_path(self):
+        """What stands behind the host in the server's address, as behind a proxy of many clusters: `kubectl get --raw` leaves it out."""
+        if self.prefix is None:
+            given = [flag.partition('=')[2] for flag in self.flags if flag.startswith('--server=')]
+            self.prefix = urllib.parse.urlsplit(given[0] if given else self.server()).path.rstrip('/')
+        return self.prefix
+
+    def server(self):
+        """The server's address, by kubectl's own files."""
+        done = self.call('config', 'view', '--minify', '--output=jsonpath={.clusters[0].cluster.server}')
+        return done.stdout.decode(errors='replace').strip()
+
+    def call(self, *words):
         try:
-            done = subprocess.run(['kubectl', 'get', '--raw', path, *self.flags], stdout=subprocess.PIPE, stderr=subprocess.PIPE, check=False)
+            return subprocess.run(['kubectl', *words, *self.flags], stdout=subprocess.PIPE, stderr=subprocess.PIPE, check=False)
         except OSError as fault:
             raise Unread("kubectl can't be run: %s" % fault.strerror) from fault
+
+    def ask(self, resource, path):
+        done = self.call('get', '--raw', path)
         if done.returncode:
             raise self.fault(resource, done.stderr.decode(errors='replace'))
         return done.stdout

@@ -224,7 +224,17 @@ class Words(Replay):
         self.assertEqual(self.answer('--kubeconfig=' + away, '--context', 'here', 'kill-leader', '-A', '--document'), whole)
         self.assertIn('refused', self.no_answer('margin', '--kubeconfig', away, '--context', 'nowhere'))
         self.assertIn('"there" does not exist', self.no_answer('margin', '--kubeconfig', away, '--context', 'there').replace('no context exists with the name: "there"', '"there" does not exist'))
-        self.assertEqual(self.answer('kill-leader', '--document', '--context', 'nowhere', '--kubeconfig', away, '--server', 'http://127.0.0.1:%d' % self.server.server_port), whole)
+        self.assertEqual(self.answer('kill-leader', '--document', '--context', 'nowhere', '--kubeconfig', away, '--server', self.server.address()), whole)
+
+    def test_proxy(self):
+        """A server whose address has a path, as behind a proxy of many clusters."""
+        whole = self.answer('kill-leader', '--document')
+        self.server.prefix = '/k8s/clusters/c-1'
+        self.assertEqual(self.answer('kill-leader', '--document', '--server', self.server.address()), whole)
+        self.server.config(self.config)
+        self.requests()
+        self.assertEqual(self.answer('kill-leader', '--document'), whole)
+        self.assertEqual({path.partition('/api')[0] for _, path in self.requests()}, {self.server.prefix})
 
     def test_namespace(self):
         self.requests()

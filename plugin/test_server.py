@@ -38,7 +38,9 @@ class Handler(BaseHTTPRequestHandler):
 
     def do_GET(self):
         self.server.requests.append((self.command, self.path))
-        path, _, query = self.path.strip('/').partition('?')
+        path, _, query = self.path.removeprefix(self.server.prefix).strip('/').partition('?')
+        if not self.path.startswith(self.server.prefix):
+            return self.send_status(404, 'NotFound', 'the server could not find the requested resource')
         if path in DISCOVERY:
             return self.send(200, DISCOVERY[path])
         wanted = resource_of(path)
@@ -148,7 +150,10 @@ class Server(ThreadingHTTPServer):
 
     def __init__(self, lists):
         super().__init__(('127.0.0.1', 0), Handler)
-        self.lists, self.requests, self.faults, self.over = lists, [], {}, threading.Event()
+        self.lists, self.requests, self.faults, self.over, self.prefix = lists, [], {}, threading.Event(), ''
+
+    def address(self):
+        return 'http://127.0.0.1:%d%s' % (self.server_port, self.prefix)
 
     def handle_error(self, request, address):
         """A client that has gone is no fault."""
@@ -164,7 +169,7 @@ class Server(ThreadingHTTPServer):
 
     def config(self, path):
         """Writes a file for KUBECONFIG with the contexts `here`, this server, and `nowhere`, a port where nobody answers."""
-        clusters = [{'name': 'here', 'cluster': {'server': 'http://127.0.0.1:%d' % self.server_port}}, {'name': 'nowhere', 'cluster': {'server': 'http://127.0.0.1:9'}}]
+        clusters = [{'name': 'here', 'cluster': {'server': self.address()}}, {'name': 'nowhere', 'cluster': {'server': 'http://127.0.0.1:9'}}]
         contexts = [{'name': each['name'], 'context': {'cluster': each['name'], 'user': 'somebody'}} for each in clusters]
         with open(path, 'w', encoding='utf-8') as file:
             json.dump({**CONFIG, 'clusters': clusters, 'contexts': contexts}, file)
