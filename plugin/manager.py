@@ -23,7 +23,8 @@ def words_of(pod):
     found = []
     for each in part(pod, 'spec', 'containers') or []:
         words = [*(each.get('command') or []), *(each.get('args') or [])]
-        found += words if each.get('name') == NAME or any(NAME in word for word in words) else []
+        named = any(NAME in word for word in words)
+        found += words if named else [NAME, *words] if each.get('name') == NAME else []
     return found
 
 

@@ -126,7 +126,9 @@ class Pipeline(Replay):
     def test_pieces(self):
         self.requests()
         whole = self.answer('kill-leader', '--document', '--chunk-size', '0')
-        self.assertEqual([path for _, path in self.requests()], ['/api/v1/nodes', '/api/v1/pods', '/apis/coordination.k8s.io/v1/leases'])
+        found = [path for _, path in self.requests()]
+        self.assertEqual([path.partition('?')[0] for path in found], ['/api/v1/nodes', '/api/v1/pods', '/apis/coordination.k8s.io/v1/leases'])
+        self.assertEqual([path for path in found if 'limit=' in path], [])
         self.assertEqual(self.answer('kill-leader', '--document', '--chunk-size=1700'), whole)
         self.assertEqual(len([path for _, path in self.requests() if '/pods' in path]), 3)
 
@@ -281,6 +283,15 @@ class Flags(Replay):
         self.assertIn('kube-controller-manager-cp-1 has other flags, which do not count here: --leader-elect-retry-period=3s', said)
         self.assertIn('kube-controller-manager-cp-3 has other flags, which do not count here: no --leader-elect-lease-duration, no --leader-elect-renew-deadline', said)
         self.assertIn('must-exceed=42000ms', told)
+
+    def test_arguments(self):
+        """A container whose image has the command, with no flag that counts."""
+        pod = test_objects.manager('cp-2', None)
+        pod['spec']['containers'][0]['args'] = ['--leader-elect=true', '--v=2']
+        self.server.lists['pods'][1] = pod
+        _, told, said = self.call('margin')
+        self.assertIn('kube-controller-manager-cp-2: none that counts here, so the defaults', said)
+        self.assertIn('lease=15000ms', told)
 
     def test_none(self):
         self.server.lists['pods'] = self.server.lists['pods'][3:]
