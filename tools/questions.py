@@ -162,8 +162,8 @@ def pod_delay(trace, told, pod=None):
 
 QUESTIONS = {
     'leaderless': (leaderless, 'seconds without a leader'),
-    'failover': (failover, 'seconds from the loss of the leader to the next lead; the longest, `never` where none follows'),
-    'two-leaders': (two_leaders, 'seconds in which two or more lead'),
+    'failover': (failover, 'seconds from the loss of the leader, also to a pause, until one acts again; the longest, `never` where none follows'),
+    'two-leaders': (two_leaders, 'seconds in which two or more act as the leader'),
     'evictions': (evictions, 'evictions'),
     'taints-a-minute': (taints_a_minute, 'taints in the minute with most of them'),
     'eviction-delay': (eviction_delay, "seconds from the last line of a silent node's kubelet to the last eviction; "

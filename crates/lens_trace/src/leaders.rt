@@ -7,7 +7,7 @@ ghost use Rattle.lens_terms.specs.Terms.{shown};
 ghost use Rattle.lens_terms.specs.Together.{overlap as overlap_in};
 ghost use Rattle.trace_lines.specs.Reads.{seen};
 ghost use Rattle.lens_trace.specs.Agree.{TermsAreAudited};
-ghost use Rattle.lens_trace.specs.Beats.{SpansAreLeaderless};
+ghost use Rattle.lens_trace.specs.Beats.{SpansAreLeaderless, StretchesAreActs};
 ghost use Rattle.lens_trace.specs.Leaders as spec;
 
 use crate::answering::{Telling, answer_on};
@@ -27,6 +27,9 @@ pub fn leaders_in(alloc: Global, input: &[u8]) -> Result<Answer, NoMemory>
     // The terms told of a trace are those by which `audit` judges it, and a beat lies in one of the spans exactly where nobody acts.
     ensures terms { TermsAreAudited }
     ensures spans { SpansAreLeaderless }
+
+    // A beat lies in a stretch of an identity exactly where it leads and no pause of it has it stand still.
+    ensures acts { StretchesAreActs }
 {
     answer_on(alloc, &Leaders, input)
 }
