@@ -387,12 +387,12 @@ module _ (stop end beat : ℕ) (who : List ℕ) (below : beat < stop) (last : st
   all-lines number b known [] h =
       at-rest (known who).leads (nat_le (known who).still beat) (nat_lt beat (known who).still) (nat_lt beat stop) (nat_lt beat stop)
       (from-not (known who).still) (lt-ltb beat stop below) (lt-ltb beat stop below)
-  all-lines number b known (l ∷ ls) h = by (cases_lt beat l.beat)
+  all-lines number b known (l ∷ ls) h = by (cases_lt beat l.beat) (all-lines (number + 1) l.beat (with_line stop l known) ls h.2)
     where
-      by : (beat < l.beat) ⊎ (l.beat ≤ beat) → told number known (l ∷ ls) ≡ wanted number known (l ∷ ls)
-      by (inl early) = quiet number l.beat known (l ∷ ls) (le-leb l.beat l.beat (omega arith), h.1, h.2) early
-      by (inr reached) =
-          told-more number known l ls reached ∙ all-lines (number + 1) l.beat (with_line stop l known) ls h.2 ∙ wanted-more number known l ls reached
+      by : (beat < l.beat) ⊎ (l.beat ≤ beat) → told (number + 1) (with_line stop l known) ls ≡ wanted (number + 1) (with_line stop l known) ls
+          → told number known (l ∷ ls) ≡ wanted number known (l ∷ ls)
+      by (inl early) rest = quiet number l.beat known (l ∷ ls) (le-leb l.beat l.beat (omega arith), h.1, h.2) early
+      by (inr reached) rest = told-more number known l ls reached ∙ rest ∙ wanted-more number known l ls reached
 
 -- of a trace without a wrong line
 pub stretches-are-acts : (end : ℕ) (texts : List (List ℕ)) → first_wrong end 2 0 texts ≡ None → (beat : ℕ) → beat ≤ end → (who : List ℕ)

@@ -61,12 +61,7 @@ overlap-told all s found old one two three four five is line from who actor then
     let to_four : four ≡ old ++ (((label ++ beat) ++ codes " who=") ++ s.actor.now) = added old three four ((label ++ beat) ++ codes " who=") s.actor.now to_three actor in
     let to_five : five ≡ old ++ ((((label ++ beat) ++ codes " who=") ++ s.actor.now) ++ beside_text beside)
     = added old four five (((label ++ beat) ++ codes " who=") ++ s.actor.now) (beside_text beside) to_four last in
-    to_five ∙ ap (λ t. old ++ t)
-    (append_assoc ((label ++ beat) ++ codes " who=") s.actor.now (beside_text beside)
-    ∙ append_assoc (label ++ beat) (codes " who=") (s.actor.now ++ beside_text beside)
-    ∙ append_assoc label beat (codes " who=" ++ s.actor.now ++ beside_text beside)
-    ∙ append_assoc (codes "overlap line=") (decimal s.line) (beat ++ codes " who=" ++ s.actor.now ++ beside_text beside)
-    ∙ ap (λ t. codes "overlap line=" ++ decimal s.line ++ t) (append_assoc (codes " from=") (decimal s.from) (codes " who=" ++ s.actor.now ++ beside_text beside)))
+    to_five ∙ ap (λ t. old ++ (((t ++ codes " who=") ++ s.actor.now) ++ beside_text beside)) (sym (append_assoc label (codes " from=") (decimal s.from)))
 
 -- the line on a span
 pub span-told : (s : Span) (old one two three four five : List ℕ) → one ≡ old ++ codes "nobody from=" → two ≡ one ++ decimal s.from → three ≡ two ++ codes " until="

@@ -22,12 +22,7 @@ pub trait Telling {
     ghost told: { Self → Tells };
 
     /// Tells it of a trace of this first line and the lines behind it.
-    fn tell(
-        &self,
-        alloc: Global,
-        header: Header,
-        lines: &[Line<&[u8]>],
-    ) -> Result<Answer, NoMemory>
+    fn tell(&self, alloc: Global, header: Header, lines: &[Line<&[u8]>]) -> Result<Answer, NoMemory>
         requires { header.end ≤ 604800000 }
         ensures { IfOk result (λ answer. reply_of answer ≡ told self.now header (map seen lines.now)) };
 }

@@ -65,7 +65,7 @@ fn tell(alloc: Global, header: Header, lines: &[Line<&[u8]>]) -> Result<Answer, 
 
 /// These lines and the last one behind them, which tells where two act at once.
 fn judged(lines: Vec<u8>, acting: &[Stretch<&[u8]>]) -> Result<Answer, NoMemory>
-    ensures { IfOk result (λ answer. reply_of answer ≡ spec.judged lines.entry.items (map stretch_shown acting.now) (overlap_in (map stretch_shown acting.now))) }
+    ensures { IfOk result (λ answer. reply_of answer ≡ spec.judged lines.items (map stretch_shown acting.now) (overlap_in (map stretch_shown acting.now))) }
 {
     let mut text = lines;
     match overlap(acting) {
