@@ -14,20 +14,20 @@ use Rattle.kube_objects.specs.declared.object.Object.TheVariants as object
 use Rattle.kube_objects.specs.Answers.{if_done, answer_over, written_over, answer, written}
 use Rattle.kube_objects.specs.Document.{Doc, is_controller}
 use Rattle.kube_objects.specs.Elector.{succeeds, lead_says, deadline}
-use Rattle.kube_objects.specs.Entry.{Entry, Identity, Call, CallKind, Answers, entry}
+use Rattle.kube_objects.specs.Entry.{Entry, Identity, Call, CallKind, Answers, actor_of, entry}
 use Rattle.kube_objects.specs.InFlight.{is_due}
 use Rattle.kube_objects.specs.Keys.{key_eq}
-use Rattle.kube_objects.specs.Newest.{has, when}
+use Rattle.kube_objects.specs.Newest.{join, when}
 use Rattle.kube_objects.specs.Pauses.{held_up}
-use Rattle.kube_objects.specs.Stored.{Held, election, key_of, request_write, at_key, stored, next_version}
+use Rattle.kube_objects.specs.Stored.{Held, election, key_of, request_write, at_key, holds, last_write, stored, next_version}
 use Rattle.kube_objects.specs.Wire.{arrival, reply_delay, loses_replies, reply_arrival, Sent, Back, sent_of, back_of}
 use Rattle.kube_objects.proofs.Pauses.{resume_later}
 use Rattle.history.specs.Steps.{answered}
-use Rattle.history_laws.proofs.Plainly.{for_new, false_is}
+use Rattle.history_laws.proofs.Plainly.{upper, for_new, false_is}
 use Rattle.history_laws.proofs.Walk.{Arriving}
 use Rattle.lease_laws.proofs.EachKind.{top_stays}
-use Rattle.lease_laws.proofs.Invariant.{view, OnTop, Safe, Asked, SentRight, Inv}
-use Rattle.gap_laws.proofs.Waits.{Slow, Late, Arrives, WaitedFor, BaseWaited, SentWell, Took, Answered, Tops, TopsOrPut, LedFrom, Waits, each_position, Moves}
+use Rattle.lease_laws.proofs.Invariant.{view, Fit, OnTop, Safe, Asked, SentRight, Inv}
+use Rattle.gap_laws.proofs.Waits.{Slow, Late, Arrives, WaitedFor, BaseWaited, SentWell, Topped, Took, Answered, Tops, TopsOrPut, LedFrom, Waits, each_position, Moves}
 use Rattle.gap_laws.proofs.Steps.{sends_more, shown_more, term_more, sent_given}
 
 -- the answer to a call of q at beat k
@@ -37,11 +37,30 @@ back_at q c reply at = record { who = q; call = c; reply = reply; comes = at }
 -- what an answer leaves
 record Left (doc : Doc) (w : Slow) (k : ℕ) (h : List Entry) (q : Identity) (c : Call) (reply : Reply) (at : Option ℕ) (wrote : Option Object) : Type 0 where
   tops : Tops doc (entry k 2 q (Answers c reply at wrote)) h
-  took : is_controller doc q.process ≡ true → succeeds c.request reply ≡ true → (has (request_write c.request wrote) ≡ true) × Took doc w (back_at q c reply at) k h
+  took : is_controller doc q.process ≡ true → succeeds c.request reply ≡ true → Topped doc (entry k 2 q (Answers c reply at wrote)) h × Took doc w (back_at q c reply at) k h
 
 -- a new version is written
 abbrev made : ℕ → List Entry → Identity → Lease → Held
 made k h q lease = record { version = next_version h; object = object.Lease lease; beat = k; by = Some q }
+
+topped_by : (doc : Doc) (k : ℕ) (h : List Entry) (q : Identity) (c : Call) (at : Option ℕ) (lease : Lease) → is_controller doc q.process ≡ true → succeeds c.request (Done (next_version h)) ≡ true → key_of c.request ≡ election → Fit doc (view h) q lease
+    → Topped doc (entry k 2 q (Answers c (Done (next_version h)) at (Some (object.Lease lease)))) h
+topped_by doc k h q c at lease role so key fit = record {
+  b = back_at q c (Done (next_version h)) at;
+  is = refl;
+  role = role;
+  so = so;
+  x = made k h q lease;
+  top = ap (λ key. join (upper (holds h k (actor_of q) (at_key election (Some (key, Some (object.Lease lease))))) (last_write election h))) key;
+  version = refl;
+  beat = refl;
+  by = refl;
+  actor = refl;
+  write = ap (λ key. at_key election (Some (key, Some (object.Lease lease)))) key;
+  lease = lease;
+  object = refl;
+  fit = fit;
+}
 
 no_node : kind.Node ≡ kind.Lease → ⊥
 no_node h = cc
@@ -53,8 +72,8 @@ left_by doc w high k h q number d way at role comes t is (Get key) asked base = 
 left_by doc w high k h q number d way at role comes None is (Create key lease) asked base =
     subst (λ key. Left doc w k h q (record { number = number; request = Create key lease; sent = d; kind = way }) (Done (next_version h)) at (Some (object.Lease lease))) (sym asked.key)
     (record {
-      tops = inr (record { b = back_at q (record { number = number; request = Create election lease; sent = d; kind = way }) (Done (next_version h)) at; is = refl; role = role; so = refl; x = made k h q lease; top = refl; version = refl; beat = refl; by = refl; lease = lease; object = refl; fit = asked.fit });
-      took = λ role so. (refl, record { version = refl; after = comes; base = subst (λ t. IfSome t (λ y. (y.beat ≤ d) × WaitedFor doc w q d y)) (sym is) tt });
+      tops = inr (topped_by doc k h q (record { number = number; request = Create election lease; sent = d; kind = way }) at lease role refl refl asked.fit);
+      took = λ role so. (topped_by doc k h q (record { number = number; request = Create election lease; sent = d; kind = way }) at lease role refl refl asked.fit, record { version = refl; after = comes; base = subst (λ t. IfSome t (λ y. (y.beat ≤ d) × WaitedFor doc w q d y)) (sym is) tt });
     })
 left_by doc w high k h q number d way at role comes (Some y) is (Create key lease) asked base = record { tops = inl refl; took = λ role so. absurd (false_is so) }
 left_by doc w high k h q number d way at role comes None is (Update key v lease) asked base = record { tops = inl refl; took = λ role so. absurd (false_is so) }
@@ -66,8 +85,8 @@ left_by doc w high k h q number d way at role comes (Some y) is (Update key v le
         let safe : Safe doc high q d y = subst (λ t. OnTop t v (Safe doc high q d)) is asked.base.1 (eqb-true y.version.0 v.0 same) in
         subst (λ key. Left doc w k h q (record { number = number; request = Update key v lease; sent = d; kind = way }) (Done (next_version h)) at (Some (object.Lease lease))) (sym asked.key)
         (record {
-          tops = inr (record { b = back_at q (record { number = number; request = Update election v lease; sent = d; kind = way }) (Done (next_version h)) at; is = refl; role = role; so = refl; x = made k h q lease; top = refl; version = refl; beat = refl; by = refl; lease = lease; object = refl; fit = asked.fit });
-          took = λ role so. (refl, record { version = refl; after = comes; base = subst (λ t. IfSome t (λ y. (y.beat ≤ d) × WaitedFor doc w q d y)) (sym is) (safe.0, base (eqb-true y.version.0 v.0 same)) });
+          tops = inr (topped_by doc k h q (record { number = number; request = Update election v lease; sent = d; kind = way }) at lease role refl refl asked.fit);
+          took = λ role so. (topped_by doc k h q (record { number = number; request = Update election v lease; sent = d; kind = way }) at lease role refl refl asked.fit, record { version = refl; after = comes; base = subst (λ t. IfSome t (λ y. (y.beat ≤ d) × WaitedFor doc w q d y)) (sym is) (safe.0, base (eqb-true y.version.0 v.0 same)) });
         })
     by_test false same = record { tops = inl refl; took = λ role so. absurd (false_is so) }
 left_by doc w high k h q number d way at role comes t is (PostStatus name status time) asked base = absurd (no_node (ap (λ (x : Key). x.kind) asked.key))

@@ -20,7 +20,7 @@ use Rattle.lease_laws.proofs.Premises.{rates_at_most}
 use Rattle.span_laws.specs.Spans.{RunsAtMost, IsNeeded}
 use Rattle.span_laws.proofs.Spans.{readings_last}
 use Rattle.gap_laws.specs.Gaps.{IsDelayed, IsWriteOf, IsTakenFrom, GapsLast}
-use Rattle.gap_laws.proofs.Waits.{Slow, Late, Waited, WaitedFor, Took, Success, LedFrom, Waits}
+use Rattle.gap_laws.proofs.Waits.{Slow, Late, Waited, WaitedFor, Topped, Took, Success, LedFrom, Waits}
 use Rattle.gap_laws.proofs.Histories.{whole_known}
 
 -- ---- a version is one write's
@@ -77,13 +77,13 @@ module _ (doc : Doc) (sound : IsSound doc) (q : Identity) (role : is_controller 
       success : Success w q e.beat earlier
       success = led.0
 
-      answered : (has (write_of success.e.fact) ≡ true) × Took doc w success.b success.e.beat success.before
-      answered = subst (λ o. IfSome o (λ b. is_controller doc b.who.process ≡ true → succeeds b.call.request b.reply ≡ true → (has (write_of success.e.fact) ≡ true) × Took doc w b success.e.beat success.before)) success.is
+      answered : Topped doc success.e success.before × Took doc w success.b success.e.beat success.before
+      answered = subst (λ o. IfSome o (λ b. is_controller doc b.who.process ≡ true → succeeds b.call.request b.reply ≡ true → Topped doc success.e success.before × Took doc w b success.e.beat success.before)) success.is
           (known.answers success.e success.before (tail_trans (success.e ∷ success.before) earlier (whole_history doc) success.stands (below e earlier (whole_history doc) stands)))
           (subst (λ (q : Identity). is_controller doc q.process ≡ true) (sym success.who) role) success.so
 
       same : success.before ≡ before
-      same = one_write success.e write.x success.before before earlier success.stands write.stands (one_more success.e success.before answered.0)
+      same = one_write success.e write.x success.before before earlier success.stands write.stands (one_more success.e success.before (written (write_of success.e.fact) (Some answered.0.x.object) answered.0.write))
           (one_more write.x before (written (write_of write.x.fact) (Some (object.Lease write.lease)) write.writes))
           (done_is (next_version success.before) version (sym answered.1.version ∙ led.1) ∙ sym write.given)
 

@@ -1,5 +1,5 @@
 -- How long controllers have waited, in every history.
-use Rattle.std.proofs.Common.{◌≡◌, ◌≤◌, ℕ, suc, true, false, List, [], ◌∷◌, Option, Some, None, IfSome, refl, sym, ◌∙◌, subst, inl, inr, arith}
+use Rattle.std.proofs.Common.{◌≡◌, ◌≤◌, ℕ, suc, true, false, List, [], ◌∷◌, Option, Some, None, IfSome, refl, sym, ap, ◌∙◌, subst, inl, inr, arith}
 use Rattle.kube_base.specs.declared.numbers.ProcId.{ProcId}
 use Rattle.kube_objects.specs.declared.call.Request.{Request}
 use Rattle.kube_objects.specs.declared.call.Request.TheVariants.{Get}
@@ -7,20 +7,20 @@ use Rattle.kube_objects.specs.declared.key.Key.{Key}
 use Rattle.kube_objects.specs.declared.object.Object.{Object}
 use Rattle.kube_objects.specs.Clocks.{wall, store_wall, whole_second}
 use Rattle.kube_objects.specs.Document.{Doc, processes, end_beat, is_controller}
-use Rattle.kube_objects.specs.Elector.{leads, release_from, release, shown, observed, deadline, attempt, follow_on, Asks, succeeds, lead_says}
+use Rattle.kube_objects.specs.Elector.{leads, release_from, release, shown, observed, deadline, attempt, follow_on, Asks, succeeds, lead_says, deadline_says}
 use Rattle.kube_objects.specs.Entry.{Entry, Identity, Call, CallKind, Plain, Release, Event as Happens, Ticks, First, entry, script_entry}
 use Rattle.kube_objects.specs.Identities.{identity}
 use Rattle.kube_objects.specs.Kubelet.{node_of, post}
-use Rattle.kube_objects.specs.Newest.{has, or_zero}
+use Rattle.kube_objects.specs.Newest.{newest, or_zero}
 use Rattle.kube_objects.specs.Stamps.{stamped}
-use Rattle.kube_objects.specs.Stored.{election, node_lease, stored, write_of}
+use Rattle.kube_objects.specs.Stored.{election, node_lease, stored}
 use Rattle.kube_objects.specs.Wire.{request_delay, reply_delay, send, Sent, Back, sent_of, back_of}
 use Rattle.history.specs.History.{put_all, history, whole_history, at_turn}
 use Rattle.history.specs.Sound.{IsSound}
 use Rattle.history.specs.Steps.{stamp, event_version, answered}
 use Rattle.history_laws.specs.Tails.{In, IsTail}
 use Rattle.history_laws.proofs.Counting.{counted_is, only_value}
-use Rattle.history_laws.proofs.Plainly.{for_new, false_is}
+use Rattle.history_laws.proofs.Plainly.{upper, for_new, false_is}
 use Rattle.history_laws.proofs.Tailed.{tail_all, tail_trans, in_tail}
 use Rattle.history_laws.proofs.Ticks.{walk_tick}
 use Rattle.history_laws.proofs.Walk.{Arriving, Keeps, stopped_at, after_reply, walk_at_turn}
@@ -30,18 +30,30 @@ use Rattle.lease_laws.proofs.Invariant.{OnTop, Inv}
 use Rattle.lease_laws.proofs.Quiet.{stored_tick, keep_quiet, quiet_tick, deletes_elsewhere}
 use Rattle.lease_laws.proofs.Steps.{AtMost, InvWithin, all_keep, sound_of}
 use Rattle.gap_laws.specs.Gaps.{IsDelayed}
-use Rattle.gap_laws.proofs.Waits.{Slow, Late, is_release, BaseWaited, SentWell, Took, LedFrom, TermFrom, Waits}
+use Rattle.gap_laws.proofs.Waits.{Slow, Late, is_release, BaseWaited, SentWell, Topped, Took, LedFrom, TermFrom, Waits}
 use Rattle.gap_laws.proofs.Steps.{Still, none_for, keep_still, keep_sends, brought, keep_counted, success_is, keep_leads, shown_late, told_late, followed_base, attempt_base, release_base}
 use Rattle.gap_laws.proofs.Answers.{keep_answers}
 
 -- ---- before beat 0
+
+-- what nothing says yet, nothing said before
+pub none_below : {A : Type 0} (f : Entry → List Entry → Option A) (g h : List Entry) → IsTail g h → newest f h ≡ None → newest f g ≡ None
+none_below f g [] at none = ap (newest f) at
+none_below f g (e ∷ h) (inl is) none = ap (newest f) is ∙ none
+none_below {A = A} f g (e ∷ h) (inr at) none = none_below f g h at (by_says (f e h) none)
+  where
+    some_none : (x : A) → Some x ≡ None → ⊥
+    some_none x is = cc
+
+    by_says : (o : Option A) → upper o (newest f h) ≡ None → newest f h ≡ None
+    by_says None is = is
+    by_says (Some x) is = absurd (some_none x is)
 
 -- nothing but puts
 record Bare (doc : Doc) (h : List Entry) : Type 0 where
   sent : (e : Entry) → In e h → sent_of e.actor e.fact ≡ None
   back : (e : Entry) → In e h → back_of e.actor e.fact ≡ None
   lead : (e : Entry) → In e h → (q : Identity) → lead_says q e.actor e.fact ≡ None
-  step : (e : Entry) → In e h → e.step ≡ 0
   shown : (q : Identity) → shown q h ≡ None
   observed : (q : Identity) → observed q h ≡ None
   deadline : (q : Identity) → deadline doc q h ≡ None
@@ -51,7 +63,6 @@ bare_more doc key y h s = record {
   sent = for_new (λ e. sent_of e.actor e.fact ≡ None) (script_entry 0 0 (First key y)) h refl s.sent;
   back = for_new (λ e. back_of e.actor e.fact ≡ None) (script_entry 0 0 (First key y)) h refl s.back;
   lead = for_new (λ e. (q : Identity) → lead_says q e.actor e.fact ≡ None) (script_entry 0 0 (First key y)) h (λ q. refl) s.lead;
-  step = for_new (λ e. e.step ≡ 0) (script_entry 0 0 (First key y)) h refl s.step;
   shown = s.shown;
   observed = s.observed;
   deadline = s.deadline;
@@ -67,8 +78,8 @@ bare_waits doc w h s = record {
   seen = λ q. subst (λ o. or_zero o ≤ 0) (sym (s.observed q)) (omega arith);
   sends = λ e at. none_for (sent_of e.actor e.fact) (SentWell doc w h) (s.sent e at);
   backs = λ e at. none_for (back_of e.actor e.fact) (λ b. IfSome b.comes (Late w b.who.process e.beat)) (s.back e at);
-  answers = λ f T at. none_for (back_of f.actor f.fact) (λ b. is_controller doc b.who.process ≡ true → succeeds b.call.request b.reply ≡ true → (has (write_of f.fact) ≡ true) × Took doc w b f.beat T) (s.back f (here f T at));
-  tops = λ f T at. inl (s.step f (here f T at));
+  answers = λ f T at. none_for (back_of f.actor f.fact) (λ b. is_controller doc b.who.process ≡ true → succeeds b.call.request b.reply ≡ true → Topped doc f T × Took doc w b f.beat T) (s.back f (here f T at));
+  tops = λ f T at. inl (λ q. none_below (λ e T. deadline_says doc q e.beat e.actor (leads q T) e.fact) T h (tail_trans T (f ∷ T) h (inr (tail_all T)) at) (s.deadline q));
   leads = λ f T at q. none_for (lead_says q f.actor f.fact) (LedFrom w q f.beat T) (s.lead f (here f T at) q);
   terms = λ q role. none_for (deadline doc q h) (TermFrom doc w q 0 h) (s.deadline q);
 }
@@ -81,7 +92,6 @@ first_waits doc w = bare_waits doc w (history doc 0) (put_bare doc doc.objects [
   sent = λ e at. absurd at;
   back = λ e at. absurd at;
   lead = λ e at q. absurd at;
-  step = λ e at. absurd at;
   shown = λ q. refl;
   observed = λ q. refl;
   deadline = λ q. refl;

@@ -3,3 +3,4 @@ pub mod Steps
 pub mod Answers
 pub mod Histories
 pub mod Gaps
+pub mod Others

@@ -18,10 +18,10 @@ use Rattle.kube_objects.specs.Elector.{moment, Shown, told, shows, shown, newly,
 use Rattle.kube_objects.specs.Entry.{Entry, Identity, Call, CallKind, Plain, Fast, Release, Fact, Sends, Delivers, Leads, Expires, entry}
 use Rattle.kube_objects.specs.Identities.{identity, is_by, is_same, is_own, is_other}
 use Rattle.kube_objects.specs.InFlight.{is_due}
-use Rattle.kube_objects.specs.Newest.{when, only_if, join, or_zero, has}
+use Rattle.kube_objects.specs.Newest.{when, only_if, join, or_zero}
 use Rattle.kube_objects.specs.Pauses.{can_at}
 use Rattle.kube_objects.specs.Process.{open_as, call_says, last_call, call_in}
-use Rattle.kube_objects.specs.Stored.{Held, election, stored, write_of}
+use Rattle.kube_objects.specs.Stored.{Held, election, stored}
 use Rattle.kube_objects.specs.Wire.{arrival, request_delay, loses_requests, request_arrival, next_call, send, Sent, Back, sent_of, back_of}
 use Rattle.history_laws.specs.Tails.{In, IsTail}
 use Rattle.history_laws.proofs.Counting.{CountedFor, when_test, when_value}
@@ -29,7 +29,7 @@ use Rattle.history_laws.proofs.Plainly.{upper, for_new, if_some, same_is, same_s
 use Rattle.history_laws.proofs.Walk.{Coming, after_reply}
 use Rattle.lease_laws.proofs.Invariant.{view, OnTop, Wrote, Saw, Within, Asked, AnswerRight, SentRight, BackRight, NumberedIn, Inv}
 use Rattle.lease_laws.proofs.Pauses.{within_success}
-use Rattle.gap_laws.proofs.Waits.{Slow, Late, late_early, is_release, Arrives, Waited, WaitedFor, BaseWaited, SentWell, Took, Answered, TopsOrPut, Success, LedFrom, TermFrom, Waits, each_position, position, Moves, moved, more_success}
+use Rattle.gap_laws.proofs.Waits.{Slow, Late, late_early, is_release, Arrives, Waited, WaitedFor, BaseWaited, SentWell, Took, Answered, Topped, TopsOrPut, Success, LedFrom, TermFrom, Waits, each_position, position, Moves, moved, more_success}
 
 -- ---- what any entry leaves
 
@@ -101,7 +101,7 @@ keep_still doc w high k x h still inv s =
       seen = seen_still doc w high k x h moves inv s still.shows;
       sends = for_new (λ e. IfSome (sent_of e.actor e.fact) (SentWell doc w (x ∷ h))) x h (none_for (sent_of x.actor x.fact) (SentWell doc w (x ∷ h)) still.sent) (sends_more doc w high k x h moves inv s);
       backs = for_new (λ e. IfSome (back_of e.actor e.fact) (λ b. IfSome b.comes (Late w b.who.process e.beat))) x h (none_for (back_of x.actor x.fact) (λ b. IfSome b.comes (Late w b.who.process x.beat)) still.back) s.backs;
-      answers = each_position (Answered doc w) x h (none_for (back_of x.actor x.fact) (λ b. is_controller doc b.who.process ≡ true → succeeds b.call.request b.reply ≡ true → (has (write_of x.fact) ≡ true) × Took doc w b x.beat h) still.back) s.answers;
+      answers = each_position (Answered doc w) x h (none_for (back_of x.actor x.fact) (λ b. is_controller doc b.who.process ≡ true → succeeds b.call.request b.reply ≡ true → Topped doc x h × Took doc w b x.beat h) still.back) s.answers;
       tops = each_position (TopsOrPut doc) x h (inr (inl still.top)) s.tops;
       leads = each_position (λ f T. (q : Identity) → IfSome (lead_says q f.actor f.fact) (LedFrom w q f.beat T)) x h (λ q. none_for (lead_says q x.actor x.fact) (LedFrom w q x.beat h) (still.lead q)) s.leads;
       terms = terms_still doc w high k x h moves inv s (still.deadline doc);

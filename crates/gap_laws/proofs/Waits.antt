@@ -1,5 +1,5 @@
 -- What is known of the calls, replies, writes and leads of every controller: since when each has waited for another's record to be over.
-use Rattle.std.proofs.Common.{◌≡◌, ◌⊎◌, ◌<◌, ◌≤◌, ℕ, ◌+◌, Bool, true, false, List, [], ◌∷◌, Option, Some, IfSome, refl, sym, subst, inl, inr, arith}
+use Rattle.std.proofs.Common.{◌≡◌, ◌⊎◌, ◌<◌, ◌≤◌, ℕ, ◌+◌, Bool, true, false, List, [], ◌∷◌, Option, Some, None, IfSome, refl, sym, subst, inl, inr, arith}
 use Rattle.kube_base.specs.declared.numbers.Version.{Version}
 use Rattle.kube_objects.specs.declared.call.Reply.TheVariants.{Done}
 use Rattle.kube_objects.specs.declared.call.Request.{Request}
@@ -10,9 +10,9 @@ use Rattle.kube_objects.specs.Clocks.{local}
 use Rattle.kube_objects.specs.Document.{Doc, of_seconds, is_controller}
 use Rattle.kube_objects.specs.Elector.{shown, observed, succeeds, lead_says, deadline}
 use Rattle.kube_objects.specs.Entry.{Entry, Identity, CallKind, Plain, Fast, Release}
-use Rattle.kube_objects.specs.Identities.{is_other}
-use Rattle.kube_objects.specs.Newest.{has, or_zero}
-use Rattle.kube_objects.specs.Stored.{Held, election, stored, write_of, writes, next_version}
+use Rattle.kube_objects.specs.Identities.{identity_of, is_other}
+use Rattle.kube_objects.specs.Newest.{or_zero}
+use Rattle.kube_objects.specs.Stored.{Held, election, stored, at_key, write_of, writes, next_version}
 use Rattle.kube_objects.specs.Wire.{Sent, Back, sent_of, back_of}
 use Rattle.history_laws.specs.Tails.{In, IsTail}
 use Rattle.history_laws.proofs.Tailed.{same_head, same_rest}
@@ -65,10 +65,6 @@ pub record Took (doc : Doc) (w : Slow) (b : Back) (k : ℕ) (before : List Entry
   pub after : Arrives w b.who.process b.call.sent b.call.kind k
   pub base : IfSome (stored election before) (λ y. (y.beat ≤ b.call.sent) × WaitedFor doc w b.who b.call.sent y)
 
-abbrev pub Answered : Doc → Slow → Entry → List Entry → Type 0
-Answered doc w f before =
-    IfSome (back_of f.actor f.fact) (λ b. is_controller doc b.who.process ≡ true → succeeds b.call.request b.reply ≡ true → (has (write_of f.fact) ≡ true) × Took doc w b f.beat before)
-
 -- the last write of the election Lease is a controller's that succeeds
 pub record Topped (doc : Doc) (f : Entry) (before : List Entry) : Type 0 where
   pub b : Back
@@ -80,16 +76,23 @@ pub record Topped (doc : Doc) (f : Entry) (before : List Entry) : Type 0 where
   pub version : x.version ≡ next_version before
   pub beat : x.beat ≡ f.beat
   pub by : x.by ≡ Some b.who
+  pub actor : identity_of f.actor ≡ Some b.who
+  pub write : at_key election (write_of f.fact) ≡ Some (Some x.object)
   pub lease : Lease
   pub object : x.object ≡ object.Lease lease
   pub fit : Fit doc (view before) b.who lease
 
+-- a call of a controller that succeeds has written
+abbrev pub Answered : Doc → Slow → Entry → List Entry → Type 0
+Answered doc w f before =
+    IfSome (back_of f.actor f.fact) (λ b. is_controller doc b.who.process ≡ true → succeeds b.call.request b.reply ≡ true → Topped doc f before × Took doc w b f.beat before)
+
 abbrev pub Tops : Doc → Entry → List Entry → Type 0
 Tops doc f before = (stored election (f ∷ before) ≡ stored election before) ⊎ Topped doc f before
 
--- or it is put before beat 0
+-- or it is put before anybody has led
 abbrev pub TopsOrPut : Doc → Entry → List Entry → Type 0
-TopsOrPut doc f before = (f.step ≡ 0) ⊎ Tops doc f before
+TopsOrPut doc f before = ((q : Identity) → deadline doc q before ≡ None) ⊎ Tops doc f before
 
 -- the answer of a success of q that came at beat k
 pub record Success (w : Slow) (q : Identity) (k : ℕ) (h : List Entry) : Type 0 where
