@@ -160,7 +160,7 @@ def stalls(stalled):
 
 
 def later(seconds):
-    return f"{seconds * 1000:.0f} ms later"
+    return "" if seconds is None else f"{seconds * 1000:.0f} ms later"
 
 
 def lasts(seconds):

@@ -27,12 +27,16 @@ def premise_of(scenario, program):
     return f"`premise={program.answer('check', ScenarioDocument(scenario, False).made()).rsplit('=', 1)[1]}`"
 
 
+def acted(seconds, acts):
+    return f"{seconds:.2f} s, {len(acts)} {'act' if len(acts) == 1 else 'acts'}"
+
+
 def emptied_leases(scenario_of, names, program):
     """Each release by one that wasn't the holder any more, and what came of it. No such write is foretold."""
     rows = []
     for scenario in (scenario_of(name) for name in names if scenario_of(name).is_releasing()):
         for it in emptied(scenario):
-            beside = "" if it.until is None else f"{it.until - it.leads:.2f} s, {len(it.both)} acts"
+            beside = "" if it.until is None else acted(it.until - it.leads, it.both)
             rows.append((scenario.name, premise_of(scenario, program), at(it.at), it.by, it.holder, f"{it.following} at {at(it.leads)}", beside))
     return table(("Scenario", "First line", "Emptied at", "By", "Whose Lease", "Who holds it next", "The one before acted beside it for"), rows)
 
@@ -49,6 +53,6 @@ def releasing(found, scenario_of, program):
         leads = rival.ended - scenario.base
         beside = acts_beside(scenario, leader, leads)
         rows.append((name, premise_of(scenario, program), at(end.foretold), at(last_act(scenario, leader)), "" if scenario.late_ends() else at(end.observed),
-                     at(leads), f"{beside[-1] - leads:.2f} s, {len(beside)} acts" if beside else "no"))
+                     at(leads), acted(beside[-1] - leads, beside) if beside else "no"))
     head = ("Scenario", "First line", "End of the term, foretold", "Last act", "Exit", "Rival leads (fitted)", "Acted beside it")
     return table(head, rows)

@@ -162,7 +162,7 @@ class ScenarioDocument:
 
 
 def with_late_reply(made, scenario, trace):
-    """One reply to a renewal is held, the one nearest to the real one, and each later call of that controller is lost."""
+    """One reply to a renewal is held, the one nearest to the real one, and no later call of that controller comes through."""
     held = next(it for it in scenario.of("proxy"))
     user, millis = f"kcm-{held['leader']}", scenario.settings["beatMillis"]
     real = next(it for it in scenario.renewals() if it.user == user and it.ended - scenario.base > held["at"])
@@ -170,5 +170,8 @@ def with_late_reply(made, scenario, trace):
     renewed = [beat for beat, actor, deed in trace if actor.startswith(user) and deed[:2] == ["update", "election"]]
     beat = min(renewed, key=lambda it: abs(it * millis / 1000 - second))
     late = {"beat": beat, "type": "delay", "process": user, "requestBeats": 1, "replyBeats": int(held["reply_delay_put"] * 1000 / millis)}
-    lost = {"beat": beat + 1, "type": "loss", "process": user, "requests": True, "replies": False}
-    return dict(made, events=sorted(made["events"] + [late, lost], key=lambda it: it["beat"]))
+    if scenario.is_elector():
+        more = [{"beat": beat + 1, "type": "loss", "process": user, "requests": True, "replies": False}]
+    else:  # the calls that aren't of the election come through there, so they are late here, and not lost
+        late["requestBeats"], more = MOST_DELAY, []
+    return dict(made, events=sorted([*made["events"], late, *more], key=lambda it: it["beat"]))

@@ -3,7 +3,7 @@ from .plane import is_pod_of_wave
 from .plane_tables import at
 from .tables import table
 
-READY, DELETES = "pods set not ready", "pods deleted"
+READY, DELETED = "pods set not ready", "pods deleted"
 
 
 def waves(found, scenario_of):
@@ -11,18 +11,18 @@ def waves(found, scenario_of):
     rows = []
     for name in ("n1", "n3"):
         scenario, pairs = scenario_of(name), found[name]
-        for what, second in (("marked", "unknown n1"), ("tainted", "taint n1")):
-            pair = next(it for it in pairs if it.what == second)
-            rows.append((name, f"n1 {what}", 1, at(pair.observed), "", "", at(pair.foretold)))
+        for what, key in (("n1 marked", "unknown n1"), ("n1 tainted", "taint n1")):
+            pair = next(it for it in pairs if it.what == key)
+            rows.append((name, what, 1, at(pair.observed), "", "", at(pair.foretold)))
+        evicted = [it.foretold for it in pairs if it.what.startswith("evict") and is_pod_of_wave(it.what)]
         for user in sorted({it.user for it in scenario.log.entries if it.user.startswith("kcm-")}):
-            ready, deletes = ready_writes(scenario, user), pod_deletes(scenario, user)
-            rows += [row_of(name, f"{what} by {user}", found) for what, found in ((READY, ready), (DELETES, deletes)) if found]
+            for what, seconds, told in ((READY, ready_writes(scenario, user), ""), (DELETED, pod_deletes(scenario, user), at(min(evicted)))):
+                rows += [(name, f"{what} by {user}", len(seconds), at(seconds[0]), at(seconds[-1]), rate(seconds), told)] if seconds else []
     return table(("Scenario", "What", "Number", "First", "Last", "In a second", "First, foretold"), rows)
 
 
-def row_of(name, what, seconds):
-    rate = f"{(len(seconds) - 1) / (seconds[-1] - seconds[0]):.1f}"
-    return name, what, len(seconds), at(seconds[0]), at(seconds[-1]), rate, ""
+def rate(seconds):
+    return f"{(len(seconds) - 1) / (seconds[-1] - seconds[0]):.1f}"
 
 
 def ready_writes(scenario, user):
