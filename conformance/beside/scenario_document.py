@@ -165,7 +165,7 @@ def with_late_reply(made, scenario, trace):
     """One reply to a renewal is held, the one nearest to the real one, and no later call of that controller comes through."""
     held = next(it for it in scenario.of("proxy"))
     user, millis = f"kcm-{held['leader']}", scenario.settings["beatMillis"]
-    real = next(it for it in scenario.renewals() if it.user == user and it.ended - scenario.base > held["at"])
+    real = next(it for it in scenario.renewals() if it.user == user and it.received - scenario.base > held["at"])
     second = real.ended - scenario.base
     renewed = [beat for beat, actor, deed in trace if actor.startswith(user) and deed[:2] == ["update", "election"]]
     beat = min(renewed, key=lambda it: abs(it * millis / 1000 - second))

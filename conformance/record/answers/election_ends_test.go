@@ -36,8 +36,10 @@ type wire struct {
 	s      *store
 	cached int
 	oneWay time.Duration
-	isCut  bool // requests are lost
-	isDeaf bool // replies are lost
+	isCut  bool                        // requests are lost
+	isDeaf bool                        // replies are lost
+	gate   func(context.Context) error // where there is one, each request has to come through it
+	lateBy func(string) time.Duration  // and what it tells of a call is added to the way back
 	base   time.Time
 	calls  []wireCall
 }
@@ -76,6 +78,11 @@ func (w *wire) call(ctx context.Context, what string, serve func() (string, erro
 	if isLost {
 		return w.expired(ctx, endTimeout)
 	}
+	if w.gate != nil {
+		if err := w.gate(ctx); err != nil {
+			return err
+		}
+	}
 	if err := w.nap(ctx, w.oneWay); err != nil {
 		return err
 	}
@@ -88,7 +95,11 @@ func (w *wire) call(ctx context.Context, what string, serve func() (string, erro
 		c.Reply += " unheard"
 		return w.expired(ctx, endTimeout-w.oneWay)
 	}
-	if err := w.nap(ctx, w.oneWay); err != nil {
+	back := w.oneWay
+	if w.lateBy != nil {
+		back += w.lateBy(what)
+	}
+	if err := w.nap(ctx, back); err != nil {
 		return err
 	}
 	return answer
