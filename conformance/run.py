@@ -90,7 +90,8 @@ def of_plane(found, stalled, scenario_of, program):
 
 def of_answers(counts, program):
     """The tables of the recorded answers."""
-    made = {"evictions": tables.evictions(program), "releases": release_tables.two_leaders(program), "grid": grid.attempts()}
+    made = {"evictions": tables.evictions(program), "releases": release_tables.two_leaders(program), "grid": grid.attempts(),
+            "emptied rounds": release_tables.emptied_rounds(program)}
     for version, folder, more in (("", "", {}), (" 0.36", NEW, SETTINGS)):
         some = tables.of_version(counts, bool(folder))
         made.update({f"answers{version}": tables.answers(some), f"differences{version}": tables.differences(some),

@@ -3,7 +3,7 @@ import gzip
 import json
 import os
 
-from . import elections, ends, evictions, fast_elections, foreign_lease, health, kubelet_lease, queue, releases, stories, tolerations, zones
+from . import elections, emptied_rounds, ends, evictions, fast_elections, foreign_lease, health, kubelet_lease, queue, releases, stories, tolerations, zones
 from .tally import Tally
 
 TOP = os.path.dirname(os.path.dirname(os.path.abspath(__file__)))
@@ -34,6 +34,7 @@ SETS = {
     f"{NEW}election_two_release": (fast_elections.two_release, "settings, whether two ever lead at once, with `ReleaseOnCancel` and without"),
     f"{NEW}election_two_release_long": (fast_elections.two_release, "the same, with longer leases"),
     f"{NEW}election_ends": (fast_elections.election_ends, "ends of terms, and releases"),
+    f"{NEW}election_emptied": (emptied_rounds.election_emptied, "settings, whether a release meets the next leader's Lease"),
     f"{NEW}election_coordinated": (fast_elections.election_coordinated, "runs of coordinated election"),
     f"{NEW}kubelet_lease": (kubelet_lease.kubelet_lease, "waits of a kubelet between two renewals"),
     f"{NEW}tolerates": (tolerations.tolerates, "pairs of a toleration and a taint"),

@@ -1,26 +1,37 @@
 """The tables of docs/upstream.md on releases of the Lease: recorded runs, and electors on a real API server."""
+from . import elections
 from .acts import acts_beside, emptied, last_act
+from .emptied_rounds import CALL_TIMEOUT, rounds_by_lease
+from .fast_elections import SETTINGS
 from .plane_tables import at
-from .recorded import cases_of
+from .recorded import NEW, cases_of
 from .releases import runs_by_settings
 from .scenario_document import ScenarioDocument
 from .tables import seconds, table
 
-SETS = ("election_two_release", "0.36/election_two_release", "0.36/election_two_release_long")
-FAST = {"fastRenew": True}
+SETS = ("election_two_release", f"{NEW}election_two_release", f"{NEW}election_two_release_long")
 
 
 def two_leaders(program):
     """Where `premise=yes` doesn't carry over, by set and settings."""
     rows = []
     for name in SETS:
-        for it in runs_by_settings(cases_of(name), program, FAST if "/" in name else {}):
+        for it in runs_by_settings(cases_of(name), program, SETTINGS if name.startswith(NEW) else {}):
             both = [ms for ms in it.overlaps if ms > 0]
             carries = "" if it.premise == "no" else "**no**" if both else "yes"
             rows.append((f"`{name}`", f"{it.lease // 1000} s", f"{it.timeout // 1000} s", "on" if it.is_releasing else "off", f"`premise={it.premise}`",
                          f"{len(both)} of {len(it.overlaps)}", f"{seconds(max(both))} s" if both else "", carries))
     head = ("Set", "Lease", "Call timeout", "`ReleaseOnCancel`", "First line here", "Runs with two leaders there", "For at most", "`premise=yes` carries over")
     return table(head, rows)
+
+
+def emptied_rounds(program):
+    rows = []
+    for lease, found in rounds_by_lease(cases_of(f"{NEW}election_emptied")).items():
+        premise, both = elections.premise_of(lease, CALL_TIMEOUT, program, SETTINGS), [it["both_ms"] for it in found if it["both_ms"] > 0]
+        rows.append((f"{lease // 1000} s", f"`premise={premise}`", len(found), sum(it["emptied_ms"] >= 0 for it in found), len(both),
+                     f"{seconds(min(both))} to {seconds(max(both))} s" if both else ""))
+    return table(("Lease", "First line here", "Rounds", "The next leader's Lease emptied", "Two led", "For"), rows)
 
 
 def premise_of(scenario, program):

@@ -3,22 +3,28 @@ from .plane import is_pod_of_wave
 from .plane_tables import at
 from .tables import table
 
+SCENARIOS = ("n1", "n3")
 READY, DELETED = "pods set not ready", "pods deleted"
 
 
 def waves(found, scenario_of):
     """How fast a controller manager sets the pods of a dead node not ready, and deletes them: one row for each of its processes."""
-    rows = []
-    for name in ("n1", "n3"):
-        scenario, pairs = scenario_of(name), found[name]
-        for what, key in (("n1 marked", "unknown n1"), ("n1 tainted", "taint n1")):
-            pair = next(it for it in pairs if it.what == key)
-            rows.append((name, what, 1, at(pair.observed), "", "", at(pair.foretold)))
-        evicted = [it.foretold for it in pairs if it.what.startswith("evict") and is_pod_of_wave(it.what)]
-        for user in sorted({it.user for it in scenario.log.entries if it.user.startswith("kcm-")}):
-            for what, seconds, told in ((READY, ready_writes(scenario, user), ""), (DELETED, pod_deletes(scenario, user), at(min(evicted)))):
-                rows += [(name, f"{what} by {user}", len(seconds), at(seconds[0]), at(seconds[-1]), rate(seconds), told)] if seconds else []
+    rows = [row for name in SCENARIOS for row in (*nodes_rows(name, found[name]), *pods_rows(name, found[name], scenario_of(name)))]
     return table(("Scenario", "What", "Number", "First", "Last", "In a second", "First, foretold"), rows)
+
+
+def nodes_rows(name, pairs):
+    for what, key in (("n1 marked", "unknown n1"), ("n1 tainted", "taint n1")):
+        pair = next(it for it in pairs if it.what == key)
+        yield name, what, 1, at(pair.observed), "", "", at(pair.foretold)
+
+
+def pods_rows(name, pairs, scenario):
+    foretold = min(it.foretold for it in pairs if it.what.startswith("evict") and is_pod_of_wave(it.what))
+    for user in sorted({it.user for it in scenario.log.entries if it.user.startswith("kcm-")}):
+        for what, seconds, told in ((READY, ready_writes(scenario, user), ""), (DELETED, pod_deletes(scenario, user), at(foretold))):
+            if seconds:
+                yield name, f"{what} by {user}", len(seconds), at(seconds[0]), at(seconds[-1]), rate(seconds), told
 
 
 def rate(seconds):

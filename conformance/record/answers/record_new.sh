@@ -2,7 +2,8 @@
 # Records the answers of a newer client-go: record_new.sh ROOT FOLDER
 # ROOT is a Debian root with golang-go, golang-k8s-client-go-dev, golang-k8s-component-helpers-dev and golang-k8s-component-base-dev, of
 # which no package needs to be configured. The Go files here are put beside upstream's own for as long as this runs, and its own tests, which
-# need more packages, are set aside; the answers go to FOLDER. It needs no network.
+# need more packages, are set aside; the answers go to FOLDER. It needs no network. RECORD_RUN is a pattern of tests, and RECORD_GOFLAGS are
+# flags for go, such as -overlay=FILE with another version of one of upstream's files.
 set -eu
 root=$(CDPATH= cd -- "${1:?the root}" && pwd -P)
 mkdir -p "${2:?the folder}"
@@ -10,7 +11,7 @@ RECORD_OUT=$(CDPATH= cd -- "$2" && pwd -P)
 here=$(CDPATH= cd -- "$(dirname -- "$0")" && pwd -P)
 GOROOT=$(ls -d "$root"/usr/lib/go-1.* | tail -1)
 GOPATH=$root/usr/share/gocode
-export RECORD_OUT GOROOT GOPATH GO111MODULE=off GOFLAGS= GOPROXY=off CGO_ENABLED=0 GOCACHE="${GOCACHE:-$root/cache}" PATH="$GOROOT/bin:$PATH"
+export RECORD_OUT GOROOT GOPATH GO111MODULE=off GOFLAGS="${RECORD_GOFLAGS:-}" GOPROXY=off CGO_ENABLED=0 GOCACHE="${GOCACHE:-$root/cache}" PATH="$GOROOT/bin:$PATH"
 election=$GOPATH/src/k8s.io/client-go/tools/leaderelection
 kubelet=$GOPATH/src/k8s.io/component-helpers/apimachinery/lease
 own=$GOPATH/src/record.local/tolerations

@@ -116,7 +116,7 @@ func (e *emptiedRun) watch(second, third string, at time.Time) {
 			o.ThirdMs = it.Sub(at).Milliseconds()
 		case it := <-e.stops[second]:
 			o.StopMs = it.Sub(at).Milliseconds()
-		case <-time.After(time.Millisecond):
+		case <-time.After(lookEach):
 		}
 		e.mu.Lock()
 		if spec := e.s.spec(); *spec.HolderIdentity == "" && o.EmptiedMs < 0 {
