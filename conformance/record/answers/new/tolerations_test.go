@@ -172,7 +172,7 @@ func TestRecordLtGt(t *testing.T) {
 			for _, effect := range []string{"NoExecute", ""} {
 				for _, value := range numbers {
 					for _, other := range numbers {
-						isWhole := key == "k" && effect != "" && (operator == "Lt" || operator == "Gt")
+						isWhole := key == "k" && effect != "" && operator != "lt"
 						if isWhole || value == "5" && (other == "0" || other == "9223372036854775807") {
 							add(operator, key, effect, value, other)
 						}
