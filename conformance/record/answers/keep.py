@@ -2,7 +2,7 @@
 """Takes recorded answers into answers/: keep.py FOLDER [--new] [--all]
 
 FOLDER is that of record.sh, or of record_new.sh with --new. Kept is every second case of each set, so that the other half can check what was
-made of this one; all of them with --all. Sets that no comparison reads are left out.
+made of this one, and of failovers 400 at most; all of them with --all. Sets that no comparison reads are left out.
 """
 import gzip
 import json
@@ -15,6 +15,7 @@ from beside.grid import SETS as OF_GRID
 from beside.recorded import NEW, SETS
 
 WHOLE = ("election_two_leaders", "runs", f"{NEW}election_emptied")  # few cases, or no list
+MOST_FAILOVERS = 400
 
 
 def main():
@@ -29,6 +30,8 @@ def main():
         with open(path, encoding="utf-8") as file:
             cases = json.load(file)
         kept = cases if name in WHOLE or isinstance(cases, dict) else cases[::step]
+        if name.endswith("election_failover") and step > 1:
+            kept = kept[:MOST_FAILOVERS]
         with open(f"{TOP}/answers/{name}.json.gz", "wb") as file, gzip.GzipFile("", "wb", 9, file, mtime=0) as packed:
             packed.write(json.dumps(kept, separators=(",", ":"), sort_keys=True).encode())
         print(f"{name}: {len(kept)} of {len(cases)} cases")
