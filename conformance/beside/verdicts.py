@@ -4,6 +4,7 @@ import subprocess
 import sys
 
 from .recorded import TOP
+from .scenarios import CONTROLLERS
 
 TOOL = os.path.join(os.path.dirname(TOP), "tools/from-audit-log")
 WAYS = ("evidence", "death", "promise")
@@ -13,7 +14,7 @@ def verdict(scenario, way, program):
     """The audit's line, and the line of the trace that it names, both in short."""
     timings = [f"--renew-deadline={scenario.settings.get('renewDeadlineMillis', 10_000) / 1000}",
                f"--retry-period={scenario.settings.get('retryPeriodMillis', 2000) / 1000}"]
-    made = subprocess.run([sys.executable, TOOL, f"--terms={way}", *timings, f"{TOP}/logs/{scenario.name}/audit.jsonl.gz"],
+    made = subprocess.run([sys.executable, TOOL, f"--terms={way}", f"--controllers={CONTROLLERS}", *timings, f"{TOP}/logs/{scenario.name}/audit.jsonl.gz"],
                           stdout=subprocess.PIPE, stderr=subprocess.PIPE, check=True, text=True).stdout
     answer = program.answer("audit", made).split()
     if answer[:2] == ["audit", "ok"]:
