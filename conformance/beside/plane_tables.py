@@ -188,8 +188,7 @@ def stall_faults(found):
 def verdicts(scenario_of, names, program):
     asked = [(name, way) for name in names for way in WAYS]
     told = dict(zip(asked, program.each(lambda it: verdict(scenario_of(it[0]), it[1], program), asked)))
-    words = {key: f"{code} at `{line}`" if line else code for key, (code, line) in told.items()}
-    rows = [(name, *(words[name, way] for way in WAYS)) for name in names]
+    rows = [(name, *(told[name, way] for way in WAYS)) for name in names]
     return table(("Scenario", *(f"`--terms {it}`" for it in WAYS)), rows)
 
 
