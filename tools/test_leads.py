@@ -34,7 +34,7 @@ TWO_PAUSES = {'version': 3, 'settings': {'endBeat': 235, 'leaseDurationSeconds':
 def event(dice, name, beat):
     """Something that befalls a controller."""
     kind = dice.choice(('pause', 'pause', 'pause', 'loss', 'delay', 'crash', 'stop', 'start'))
-    more = {'pause': {'beats': dice.choice((1, 5, 40, 58, 180, 300))},
+    more = {'pause': {'beats': dice.choice((1, 5, 58, 180, 180, 300))},
             'loss': {'requests': dice.random() < 0.5, 'replies': dice.random() < 0.5},
             'delay': {'requestBeats': dice.randint(1, 9), 'replyBeats': dice.randint(1, 9)}}
     return {'beat': beat, 'type': kind, 'process': name, **more.get(kind, {})}
@@ -51,7 +51,7 @@ def document(dice):
                 continue
             over[made['process']] = beat + made['beats']
         events.append(made)
-    settings = {'endBeat': end, 'leaseDurationSeconds': dice.choice((15, 20, 30, 60))}
+    settings = {'endBeat': end, 'leaseDurationSeconds': dice.choice((15, 15, 15, 20, 60))}
     return {'version': 3, 'settings': settings, 'events': events,
             'controllers': [{'name': name, 'retryPeriodMillis': dice.choice((1800, 2000, 2500))} for name in names]}
 
