@@ -1,11 +1,11 @@
 #!/usr/bin/env python3
-"""Compares who leads by `kube_lens`, sweeps, the Python package and the page: that all tell the same seconds in which nobody acts as the leader, and in which two do.
+"""Compares who leads by `kube_lens`, sweeps, the Python package and the page: all tell the same seconds in which nobody acts, and in which two do.
 
     tools/test_leads.py [--count 300] [--seed 1] [--without-page] [--program PROGRAM] [--replay PROGRAM]
 
 The documents are those of the examples, one with two pauses in a term, and more with pauses, made from a seed; each is replayed by the built
-kube_replay. `kube_lens leaders` and `summary` tell the same spans in lines, tables and JSON. The page is opened in a headless Chromium. Where a trace says premise=yes, two
-never act. The exit status is 1 where anything differs. Nothing here is a proof.
+kube_replay. `kube_lens leaders` and `summary` tell the same spans in lines, tables and JSON. The page is opened in a headless Chromium. Where
+a trace says premise=yes, two never act. The exit status is 1 where anything differs. Nothing here is a proof.
 """
 import argparse
 import glob
