@@ -15,6 +15,7 @@ SETS = {
     "election_failover": (elections.election_failover, "times without a leader after a crash"),
     "election_two_leaders": (elections.election_two_leaders, "settings, whether two ever lead at once"),
     "election_two_release": (releases.two_leaders, "settings, whether two ever lead at once, with `ReleaseOnCancel` and without"),
+    "election_emptied": (emptied_rounds.election_emptied, "settings, whether a release meets the next leader's Lease"),
     "election_ends": (ends.election_ends, "ends of terms, and releases"),
     "kubelet_lease": (kubelet_lease.kubelet_lease, "waits of a kubelet between two renewals"),
     "tolerates": (tolerations.tolerates, "pairs of a toleration and a taint"),

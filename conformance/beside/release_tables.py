@@ -27,11 +27,12 @@ def two_leaders(program):
 
 def emptied_rounds(program):
     rows = []
-    for lease, found in rounds_by_lease(cases_of(f"{NEW}election_emptied")).items():
+    groups = [(name, *it) for name in ("election_emptied", f"{NEW}election_emptied") for it in rounds_by_lease(cases_of(name)).items()]
+    for name, lease, found in groups:
         premise, both = elections.premise_of(lease, CALL_TIMEOUT, program, SETTINGS), [it["both_ms"] for it in found if it["both_ms"] > 0]
-        rows.append((f"{lease // 1000} s", f"`premise={premise}`", len(found), sum(it["emptied_ms"] >= 0 for it in found), len(both),
+        rows.append((f"`{name}`", f"{lease // 1000} s", f"`premise={premise}`", len(found), sum(it["emptied_ms"] >= 0 for it in found), len(both),
                      f"{seconds(min(both))} to {seconds(max(both))} s" if both else ""))
-    return table(("Lease", "First line here", "Rounds", "The next leader's Lease emptied", "Two led", "For"), rows)
+    return table(("Set", "Lease", "First line here", "Rounds", "The next leader's Lease emptied", "Two led", "For"), rows)
 
 
 def premise_of(scenario, program):

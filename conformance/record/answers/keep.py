@@ -14,7 +14,7 @@ sys.path.insert(0, TOP)
 from beside.grid import SETS as OF_GRID
 from beside.recorded import NEW, SETS
 
-WHOLE = ("election_two_leaders", "runs", f"{NEW}election_emptied")  # few cases, or no list
+WHOLE = ("election_two_leaders", "runs", "election_emptied", f"{NEW}election_emptied")  # few cases, or no list
 MOST_FAILOVERS = 400
 
 

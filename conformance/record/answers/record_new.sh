@@ -28,7 +28,7 @@ trap clean EXIT INT TERM
 mkdir -p "$own" "$aside/election" "$aside/kubelet"
 mv "$election"/*_test.go "$aside/election/" 2>/dev/null || true
 mv "$kubelet"/*_test.go "$aside/kubelet/" 2>/dev/null || true
-for name in election election_more election_two election_ends election_release new/election_coordinated new/election_emptied; do
+for name in election election_more election_two election_ends election_release election_emptied new/election_coordinated; do
     cp "$here/${name}_test.go" "$election/zz_$(basename "$name")_test.go"
 done
 cp "$here/new/kubelet_lease_test.go" "$kubelet/zz_kubelet_lease_test.go"
