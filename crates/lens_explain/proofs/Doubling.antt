@@ -1,6 +1,6 @@
 -- Keys that are there twice, one byte further.
-use Rattle.std.proofs.Common.{◌≡◌, ℕ, zero, suc, ◌+◌, ◌<◌, List, [], ◌∷◌, ◌++◌, length, take, drop, get_or, Option, Some, None, refl, sym, ap, ◌∙◌, append_assoc, ◌≤◌, arith}
-use Rattle.std.proofs.lemmas.List.{append-nil, length-append, take-append-le}
+use Rattle.std.proofs.Common.{◌≡◌, ℕ, zero, suc, ◌+◌, ◌<◌, List, [], ◌∷◌, ◌++◌, length, take, drop, get_or, Option, Some, None, refl, sym, ap, subst, ◌∙◌, append_assoc, ◌≤◌, arith}
+use Rattle.std.proofs.lemmas.List.{drop_all, append-nil, length-append, take-append-le}
 use Rattle.std.specs.List.{AllZip}
 use Rattle.lens_explain.specs.declared.scan.Scan.{Scan}
 use Rattle.lens_explain.specs.declared.twice.Twice.{Twice}
@@ -60,3 +60,17 @@ module _ (input : List ℕ) (place byte : ℕ) (scan scan2 : Scan) (outer outer2
       ∙ take-again 20 (found ++ twice_at key (place_among earlier key)) more
       ∙ ap (take 20) (append_assoc found (twice_at key (place_among earlier key)) more)
       ∙ ap (λ ks. take 20 (found ++ twice_behind earlier ks)) (sym (keys-more input place byte scan scan2 outer outer2 (Some key) within is s o some)) ∙ so_far
+
+take-few : {X : Type 0} (n : ℕ) (xs : List X) → length (take n xs) ≤ n
+take-few zero xs = omega arith
+take-few (suc n) [] = omega arith
+take-few (suc n) (x ∷ xs) = let few : length (take n xs) ≤ n = take-few n xs in omega arith
+
+pub few-of : (found all : List Twice) → found ≡ take 20 all → length found ≤ 20
+few-of found all is = subst (λ f. length f ≤ 20) (sym is) (take-few 20 all)
+
+-- behind the last byte
+pub whole-of : (input : List ℕ) (place : ℕ) (scan : Scan) (outer : List ℕ) (earlier : List KeyAt) (found whole : List Twice) → length input ≤ place → length found ≤ 20
+    → take 20 (found ++ twice_behind earlier (keys_from input place (drop place input) scan outer)) ≡ whole → found ≡ whole
+whole-of input place scan outer earlier found whole past few so_far =
+    none_stays 20 found few ∙ ap (λ l. take 20 (found ++ twice_behind earlier (keys_from input place l scan outer))) (sym (drop_all place input past)) ∙ so_far
