@@ -1,1 +1,4 @@
+pub mod Above
 pub mod Answering
+pub mod Making
+pub mod Placing

@@ -3,9 +3,18 @@
 #![tactic(auto)]
 
 ghost use Rattle.call_laws.specs.Answering.{RequestsAreAnswered, RepliesAreDelivered};
+ghost use Rattle.call_laws.specs.Placing.{EntriesStandInBeats, ForcesStand, MessagesTravel};
 
 /// A request that arrives at a beat is answered in it, and a reply that comes at a beat is delivered in it.
 pub fn messages_arrive()
     ensures answered { RequestsAreAnswered }
     ensures delivered { RepliesAreDelivered }
+{}
+
+/// A request and a reply arrive after the delay in force, or are lost, as what their beat's events left in force says; a reply waits for
+/// the end of its receiver's pause.
+pub fn messages_travel_in_force()
+    ensures beats { EntriesStandInBeats }
+    ensures forces { ForcesStand }
+    ensures travel { MessagesTravel }
 {}
