@@ -2,3 +2,5 @@ pub mod Above
 pub mod Answering
 pub mod Making
 pub mod Placing
+pub mod Waiting
+pub mod Once

@@ -1,6 +1,5 @@
 -- How each entry of a history came about.
-use Rattle.std.proofs.Common.{◌≡◌, ◌⊎◌, ℕ, zero, suc, Bool, true, false, List, [], ◌∷◌, Option, Some, None, refl, sym, ap, ◌∙◌, subst, inl, inr}
-use Rattle.kube_base.specs.declared.numbers.ProcId.{ProcId}
+use Rattle.std.proofs.Common.{◌≡◌, ◌⊎◌, ℕ, true, false, List, [], ◌∷◌, Option, Some, None, refl, sym, ap, ◌∙◌, subst, inl, inr}
 use Rattle.kube_objects.specs.declared.call.Reply.{Reply}
 use Rattle.kube_objects.specs.declared.call.Request.{Request}
 use Rattle.kube_objects.specs.declared.call.Request.TheVariants.{Get}
@@ -11,8 +10,8 @@ use Rattle.kube_objects.specs.declared.script.What.{What}
 use Rattle.kube_objects.specs.Answers.{answer, written}
 use Rattle.kube_objects.specs.Clocks.{store_wall, whole_second}
 use Rattle.kube_objects.specs.Document.{Doc, is_controller}
-use Rattle.kube_objects.specs.Elector.{deadline, attempt}
-use Rattle.kube_objects.specs.Entry.{Entry, Identity, Call, CallKind, Plain, Fast, Release, Fact, First, Event as Happens, Starts, Stops, Sends, Answers, Delivers, Expires, Leads, Ends, Crashes, Stalls, Ticks, actor_of, entry, script_entry}
+use Rattle.kube_objects.specs.Elector.{attempt}
+use Rattle.kube_objects.specs.Entry.{Entry, Identity, Call, CallKind, Plain, Release, Fact, First, Event as Happens, Starts, Stops, Sends, Answers, Delivers, Expires, Leads, Ends, Crashes, Stalls, Ticks, actor_of, entry, script_entry}
 use Rattle.kube_objects.specs.Kubelet.{post, node_of}
 use Rattle.kube_objects.specs.Newest.{when, join}
 use Rattle.kube_objects.specs.Process.{alive, call_in, last_call, counted, is_late}
@@ -26,7 +25,7 @@ use Rattle.history_laws.proofs.Counting.{counted_is}
 use Rattle.history_laws.proofs.Plainly.{upper, same_self}
 use Rattle.history_laws.proofs.Tailed.{tail_of_empty, same_head, same_rest}
 use Rattle.history_laws.proofs.Ticks.{MadeTick, walk_tick}
-use Rattle.history_laws.proofs.Walk.{Scripted, Arriving, Coming, Ticking, stopped_at, after_reply, Keeps, walk_history}
+use Rattle.history_laws.proofs.Walk.{Scripted, Arriving, Coming, stopped_at, after_reply, Keeps, walk_history}
 
 -- a controller has no call as it sends one, but for the release of who was just stopped
 pub record HasStopped (q : Identity) (kind : CallKind) (h : List Entry) : Type 0 where
@@ -47,7 +46,8 @@ pub record MadeSend (doc : Doc) (k : ℕ) (who : Actor) (call : Call) (arrives :
   pub arrives_is : arrives ≡ request_arrival q.process k h
   pub free : IsFreeToSend doc q kind h
 
-pub record MadeAnswer (doc : Doc) (k : ℕ) (who : Actor) (call : Call) (reply : Reply) (comes : Option ℕ) (wrote : Option Object) (h : List Entry) : Type 0 where
+pub record MadeAnswer (doc : Doc) (k step : ℕ) (who : Actor) (call : Call) (reply : Reply) (comes : Option ℕ) (wrote : Option Object) (h : List Entry) : Type 0 where
+  pub step_is : step ≡ 2
   pub s : Sent
   pub by : who ≡ actor_of s.who
   pub arriving : Arriving k h s
@@ -75,7 +75,7 @@ abbrev pub MadeAs : Doc → ℕ → ℕ → Actor → Fact → List Entry → Ty
 MadeAs doc k step who (First key object) h = k ≡ 0
 MadeAs doc k step who (Happens w version) h = (step ≡ 1) × (u : What) × Scripted doc k u × (w ≡ stamp doc k u) × (version ≡ event_version u h)
 MadeAs doc k step who (Sends call arrives) h = MadeSend doc k who call arrives h
-MadeAs doc k step who (Answers call reply comes wrote) h = MadeAnswer doc k who call reply comes wrote h
+MadeAs doc k step who (Answers call reply comes wrote) h = MadeAnswer doc k step who call reply comes wrote h
 MadeAs doc k step who (Delivers call reply true) h = MadeDelivery doc k who call reply h
 MadeAs doc k step who (Delivers call reply false) h = Unit {0}
 MadeAs doc k step who (Expires call) h = MadeExpiry doc k who call h
@@ -127,7 +127,7 @@ made_keeps doc = record {
   stops = λ k id i h scripted up s. made_more doc _ h tt s;
   releases = λ k id i before request scripted up awake is was s.
       sends doc k 1 (record { process = id.0; incarnation = i }) Release request (stopped_at k id i before) (λ role. inl (record { kind_is = refl; beat = k; before = _; is = refl })) s;
-  answers = λ k x h at s. made_more doc _ h (record { s = x; by = refl; arriving = at; call_is = refl; reply_is = refl; comes_is = refl; written_is = refl }) s;
+  answers = λ k x h at s. made_more doc _ h (record { step_is = refl; s = x; by = refl; arriving = at; call_is = refl; reply_is = refl; comes_is = refl; written_is = refl }) s;
   ignores = λ k b h coming is s. made_more doc _ h tt s;
   counts = λ k b waiting h coming is s. made_more doc _ h (record { b = b; by = refl; coming = coming; reply_is = refl; counted_is = is }) s;
   follows = λ k b waiting h request coming is role follows was s.

@@ -1,5 +1,5 @@
 -- In which beat and after which step of it an entry stands, and what is in force there.
-use Rattle.std.proofs.Common.{◌≡◌, ◌⊎◌, ◌<◌, ◌≤◌, ℕ, zero, suc, ◌+◌, ◌-◌, Bool, true, false, List, [], ◌∷◌, Option, Some, None, IfSome, refl, sym, ap, ◌∙◌, subst, inl, inr, ⊎_elim, arith}
+use Rattle.std.proofs.Common.{◌≡◌, ◌⊎◌, ◌<◌, ◌≤◌, ℕ, zero, suc, ◌+◌, ◌-◌, List, [], ◌∷◌, Option, Some, None, IfSome, refl, sym, ap, ◌∙◌, subst, inl, inr, ⊎_elim, arith}
 use Rattle.std.proofs.lemmas.Bool.{cases_lt}
 use Rattle.kube_objects.specs.declared.deed.Actor.{Actor}
 use Rattle.kube_objects.specs.declared.script.What.{What}
@@ -14,13 +14,12 @@ use Rattle.history_laws.specs.Tails.{In, IsTail}
 use Rattle.history_laws.proofs.Order.{entries_are_earlier}
 use Rattle.history_laws.proofs.Plainly.{upper}
 use Rattle.history_laws.proofs.Plainly.{for_new, for_old}
-use Rattle.history_laws.proofs.Tailed.{tail_all, tail_trans, tails_meet, same_head, same_rest, later_tail}
+use Rattle.history_laws.proofs.Tailed.{tail_all, tail_trans, tails_meet, later_tail}
 use Rattle.history_laws.proofs.Walk.{Anyone, Keeps, KeepsTurn, all_kinds, all_turns, walk_one, walk_two, walk_three, walk_steps, walk_any_turns}
 use Rattle.call_laws.specs.Answering.{with_events, with_answers}
 use Rattle.call_laws.specs.Placing.{EntriesStandInBeats, ForcesStand, MessagesTravel}
-use Rattle.call_laws.proofs.Above.{Above, above_all, above_trans, above_meet, in_head}
-use Rattle.call_laws.proofs.Answering.{before_events, events_position}
-use Rattle.call_laws.proofs.Making.{MadeAs, IsMade, are_made}
+use Rattle.call_laws.proofs.Above.{Above, above_all, above_meet, in_head}
+use Rattle.call_laws.proofs.Making.{MadeAs, are_made}
 
 -- ---- from a step of a beat on, to its end
 
@@ -54,6 +53,14 @@ after_events doc k =
     let s2 : Late k 2 one k 2 two = walk_two doc (Late k 2 one) keeps k one (late_all k 2 one) in
     let s3 : Late k 2 one k 3 (step_three doc k two) = walk_three doc (Late k 2 one) keeps k two (keeps.on k 2 two s2) in
     ((walk_any_turns doc (λ j h. Late k 2 one j 4 h) (late_turns doc k 2 one) k (processes doc) (step_three doc k two) (keeps.on k 3 (step_three doc k two) s3)).1 refl).1
+
+-- from the end of step 2 on
+pub after_answers : (doc : Doc) (k : ℕ) → Above (IsLate k 3) (with_answers doc k) (history doc (suc k))
+after_answers doc k =
+    let two = with_answers doc k in
+    let keeps = late_keeps doc k 3 two in
+    let s3 : Late k 3 two k 3 (step_three doc k two) = walk_three doc (Late k 3 two) keeps k two (late_all k 3 two) in
+    ((walk_any_turns doc (λ j h. Late k 3 two j 4 h) (late_turns doc k 3 two) k (processes doc) (step_three doc k two) (keeps.on k 3 (step_three doc k two) s3)).1 refl).1
 
 -- ---- from a beat on
 

@@ -4,6 +4,7 @@
 
 ghost use Rattle.call_laws.specs.Answering.{RequestsAreAnswered, RepliesAreDelivered};
 ghost use Rattle.call_laws.specs.Placing.{EntriesStandInBeats, ForcesStand, MessagesTravel};
+ghost use Rattle.call_laws.specs.Waiting.{AnswersDiffer, CallsWait};
 
 /// A request that arrives at a beat is answered in it, and a reply that comes at a beat is delivered in it.
 pub fn messages_arrive()
@@ -17,4 +18,11 @@ pub fn messages_travel_in_force()
     ensures beats { EntriesStandInBeats }
     ensures forces { ForcesStand }
     ensures travel { MessagesTravel }
+{}
+
+/// A controller's call waits, at each position of the history after its sending, until a reply to it counts, it expires, or its sender
+/// is stopped; and a call is answered once.
+pub fn calls_wait()
+    ensures wait { CallsWait }
+    ensures once { AnswersDiffer }
 {}
