@@ -4,3 +4,5 @@ pub mod Making
 pub mod Placing
 pub mod Waiting
 pub mod Once
+pub mod Turning
+pub mod Starting

@@ -4,6 +4,7 @@
 
 ghost use Rattle.call_laws.specs.Answering.{RequestsAreAnswered, RepliesAreDelivered};
 ghost use Rattle.call_laws.specs.Placing.{EntriesStandInBeats, ForcesStand, MessagesTravel};
+ghost use Rattle.call_laws.specs.Starting.{StartsAreDown};
 ghost use Rattle.call_laws.specs.Waiting.{AnswersDiffer, CallsWait};
 
 /// A request that arrives at a beat is answered in it, and a reply that comes at a beat is delivered in it.
@@ -25,4 +26,9 @@ pub fn messages_travel_in_force()
 pub fn calls_wait()
     ensures wait { CallsWait }
     ensures once { AnswersDiffer }
+{}
+
+/// A process starts only while it is down.
+pub fn processes_start_while_down()
+    ensures { StartsAreDown }
 {}
