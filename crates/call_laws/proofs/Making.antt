@@ -1,5 +1,5 @@
 -- How each entry of a history came about.
-use Rattle.std.proofs.Common.{◌≡◌, ◌⊎◌, ℕ, true, false, List, [], ◌∷◌, Option, Some, None, refl, sym, ap, ◌∙◌, subst, inl, inr}
+use Rattle.std.proofs.Common.{◌≡◌, ◌⊎◌, ℕ, true, false, List, [], ◌∷◌, Option, Some, None, refl, sym, ap, ◌∙◌, subst, inl, inr, arith, ◌≤◌, ◌+◌, nat_lt}
 use Rattle.kube_objects.specs.declared.call.Reply.{Reply}
 use Rattle.kube_objects.specs.declared.call.Request.{Request}
 use Rattle.kube_objects.specs.declared.call.Request.TheVariants.{Get}
@@ -8,13 +8,14 @@ use Rattle.kube_objects.specs.declared.key.Key.{Key}
 use Rattle.kube_objects.specs.declared.object.Object.{Object}
 use Rattle.kube_objects.specs.declared.script.What.{What}
 use Rattle.kube_objects.specs.Answers.{answer, written}
-use Rattle.kube_objects.specs.Clocks.{store_wall, whole_second}
+use Rattle.kube_objects.specs.Clocks.{local, store_wall, whole_second}
 use Rattle.kube_objects.specs.Document.{Doc, is_controller}
-use Rattle.kube_objects.specs.Elector.{attempt}
+use Rattle.kube_objects.specs.Elector.{attempt, deadline}
 use Rattle.kube_objects.specs.Entry.{Entry, Identity, Call, CallKind, Plain, Release, Fact, First, Event as Happens, Starts, Stops, Sends, Answers, Delivers, Expires, Leads, Ends, Crashes, Stalls, Ticks, actor_of, entry, script_entry}
+use Rattle.kube_objects.specs.Identities.{identity}
 use Rattle.kube_objects.specs.Kubelet.{post, node_of}
 use Rattle.kube_objects.specs.Newest.{when, join}
-use Rattle.kube_objects.specs.Process.{alive, call_in, last_call, counted, is_late}
+use Rattle.kube_objects.specs.Process.{alive, starts, call_in, last_call, counted, is_late}
 use Rattle.kube_objects.specs.Stamps.{stamped}
 use Rattle.kube_objects.specs.Stored.{election, node_lease}
 use Rattle.kube_objects.specs.Wire.{Sent, Back, next_call, request_arrival, reply_arrival, send}
@@ -34,17 +35,17 @@ pub record HasStopped (q : Identity) (kind : CallKind) (h : List Entry) : Type 0
   pub before : List Entry
   pub is : h ≡ entry beat 1 q Stops ∷ before
 
-abbrev pub IsFreeToSend : Doc → Identity → CallKind → List Entry → Type 0
-IsFreeToSend doc q kind h = is_controller doc q.process ≡ true → HasStopped q kind h ⊎ ((alive q.process h ≡ Some q.incarnation) × (call_in q h ≡ None))
+abbrev pub IsFreeToSend : Doc → ℕ → Identity → CallKind → List Entry → Type 0
+IsFreeToSend doc step q kind h = is_controller doc q.process ≡ true → HasStopped q kind h ⊎ ((alive q.process h ≡ Some q.incarnation) × (call_in q h ≡ None) × (3 ≤ step))
 
-pub record MadeSend (doc : Doc) (k : ℕ) (who : Actor) (call : Call) (arrives : Option ℕ) (h : List Entry) : Type 0 where
+pub record MadeSend (doc : Doc) (k step : ℕ) (who : Actor) (call : Call) (arrives : Option ℕ) (h : List Entry) : Type 0 where
   pub q : Identity
   pub kind : CallKind
   pub request : Request
   pub by : who ≡ actor_of q
   pub call_is : call ≡ next_call q k kind request h
   pub arrives_is : arrives ≡ request_arrival q.process k h
-  pub free : IsFreeToSend doc q kind h
+  pub free : IsFreeToSend doc step q kind h
 
 pub record MadeAnswer (doc : Doc) (k step : ℕ) (who : Actor) (call : Call) (reply : Reply) (comes : Option ℕ) (wrote : Option Object) (h : List Entry) : Type 0 where
   pub step_is : step ≡ 2
@@ -63,6 +64,14 @@ pub record MadeDelivery (doc : Doc) (k : ℕ) (who : Actor) (call : Call) (reply
   pub reply_is : reply ≡ b.reply
   pub counted_is : counted doc b.who k b.call.number h ≡ Some call
 
+pub record MadeEnd (doc : Doc) (k : ℕ) (who : Actor) (h : List Entry) : Type 0 where
+  pub q : Identity
+  pub by : who ≡ actor_of q
+  pub up : alive q.process h ≡ Some q.incarnation
+  pub at : ℕ
+  pub deadline_is : deadline doc q h ≡ Some at
+  pub late : nat_lt (local doc q.process k) at ≡ false
+
 pub record MadeExpiry (doc : Doc) (k : ℕ) (who : Actor) (call : Call) (h : List Entry) : Type 0 where
   pub q : Identity
   pub by : who ≡ actor_of q
@@ -74,17 +83,17 @@ pub record MadeExpiry (doc : Doc) (k : ℕ) (who : Actor) (call : Call) (h : Lis
 abbrev pub MadeAs : Doc → ℕ → ℕ → Actor → Fact → List Entry → Type 0
 MadeAs doc k step who (First key object) h = k ≡ 0
 MadeAs doc k step who (Happens w version) h = (step ≡ 1) × (u : What) × Scripted doc k u × (w ≡ stamp doc k u) × (version ≡ event_version u h)
-MadeAs doc k step who (Sends call arrives) h = MadeSend doc k who call arrives h
+MadeAs doc k step who (Sends call arrives) h = MadeSend doc k step who call arrives h
 MadeAs doc k step who (Answers call reply comes wrote) h = MadeAnswer doc k step who call reply comes wrote h
 MadeAs doc k step who (Delivers call reply true) h = MadeDelivery doc k who call reply h
 MadeAs doc k step who (Delivers call reply false) h = Unit {0}
 MadeAs doc k step who (Expires call) h = MadeExpiry doc k who call h
 MadeAs doc k step who (Ticks t) h = (q : Identity) × (who ≡ actor_of q) × MadeTick doc k q t h
-MadeAs doc k step who Starts h = Unit {0}
-MadeAs doc k step who Crashes h = Unit {0}
-MadeAs doc k step who Stops h = Unit {0}
+MadeAs doc k step who Starts h = (p : ℕ) × (who ≡ actor_of (identity p (starts p h + 1)))
+MadeAs doc k step who Crashes h = step ≡ 1
+MadeAs doc k step who Stops h = step ≡ 1
 MadeAs doc k step who (Stalls beats) h = Unit {0}
-MadeAs doc k step who Ends h = Unit {0}
+MadeAs doc k step who Ends h = MadeEnd doc k who h
 MadeAs doc k step who (Leads version) h = Unit {0}
 
 abbrev pub IsMade : Doc → Entry → List Entry → Type 0
@@ -101,7 +110,7 @@ made_more doc x h new s e before (inr at) = s e before at
 
 -- ---- requests
 
-sends : (doc : Doc) (k step : ℕ) (q : Identity) (kind : CallKind) (request : Request) (h : List Entry) → IsFreeToSend doc q kind h → AreMade doc h → AreMade doc (send k step q kind request h)
+sends : (doc : Doc) (k step : ℕ) (q : Identity) (kind : CallKind) (request : Request) (h : List Entry) → IsFreeToSend doc step q kind h → AreMade doc h → AreMade doc (send k step q kind request h)
 sends doc k step q kind request h free s =
     made_more doc (entry k step q (Sends (next_call q k kind request h) (request_arrival q.process k h))) h
     (record { q = q; kind = kind; request = request; by = refl; call_is = refl; arrives_is = refl; free = free }) s
@@ -121,28 +130,28 @@ made_keeps doc = record {
   on = λ k step h s. s;
   next = λ k s. s;
   event = λ k w h scripted s. made_more doc _ h (refl, w, scripted, refl, refl) s;
-  starts = λ k step p h s. made_more doc _ h tt s;
-  crashes = λ k p i h up s. made_more doc _ h tt s;
+  starts = λ k step p h s. made_more doc _ h (p, refl) s;
+  crashes = λ k p i h up s. made_more doc _ h refl s;
   stalls = λ k id beats i h scripted up s. made_more doc _ h tt s;
-  stops = λ k id i h scripted up s. made_more doc _ h tt s;
+  stops = λ k id i h scripted up s. made_more doc _ h refl s;
   releases = λ k id i before request scripted up awake is was s.
       sends doc k 1 (record { process = id.0; incarnation = i }) Release request (stopped_at k id i before) (λ role. inl (record { kind_is = refl; beat = k; before = _; is = refl })) s;
   answers = λ k x h at s. made_more doc _ h (record { step_is = refl; s = x; by = refl; arriving = at; call_is = refl; reply_is = refl; comes_is = refl; written_is = refl }) s;
   ignores = λ k b h coming is s. made_more doc _ h tt s;
   counts = λ k b waiting h coming is s. made_more doc _ h (record { b = b; by = refl; coming = coming; reply_is = refl; counted_is = is }) s;
   follows = λ k b waiting h request coming is role follows was s.
-      sends doc k 3 b.who Plain request (after_reply k b waiting h) (λ role. inr ((counted_is doc b.who k b.call.number h waiting is).up, replied k b waiting h)) s;
+      sends doc k 3 b.who Plain request (after_reply k b waiting h) (λ role. inr ((counted_is doc b.who k b.call.number h waiting is).up, replied k b waiting h, omega arith)) s;
   leads = λ k b waiting h version coming is role follows was s. made_more doc _ (after_reply k b waiting h) tt s;
   asks = λ k b waiting h request coming is role asked was s.
-      sends doc k 3 b.who Plain request (after_reply k b waiting h) (λ role. inr ((counted_is doc b.who k b.call.number h waiting is).up, replied k b waiting h)) s;
+      sends doc k 3 b.who Plain request (after_reply k b waiting h) (λ role. inr ((counted_is doc b.who k b.call.number h waiting is).up, replied k b waiting h, omega arith)) s;
   turns = record {
-    restarts = λ k p h s. made_more doc _ h tt s;
+    restarts = λ k p h s. made_more doc _ h (p, refl) s;
     expires = λ k p i call h up waits late s. made_more doc _ h (record { q = record { process = p; incarnation = i }; by = refl; up = up; waits = waits; late = late }) s;
-    ends = λ k p i at h role up is before s. made_more doc _ h tt s;
-    polls = λ k p i h role up awake waits s. sends doc k 4 (record { process = p; incarnation = i }) Plain (Get election) h (λ role. inr (up, waits)) s;
+    ends = λ k p i at h role up is before s. made_more doc _ h (record { q = record { process = p; incarnation = i }; by = refl; up = up; at = at; deadline_is = is; late = before }) s;
+    polls = λ k p i h role up awake waits s. sends doc k 4 (record { process = p; incarnation = i }) Plain (Get election) h (λ role. inr (up, waits, omega arith)) s;
     attempts = λ k p i h role up awake waits s.
         let q : Identity = record { process = p; incarnation = i } in
-        sends doc k 4 q (attempt doc q k h).0 (attempt doc q k h).1 h (λ role. inr (up, waits)) s;
+        sends doc k 4 q (attempt doc q k h).0 (attempt doc q k h).1 h (λ role. inr (up, waits, omega arith)) s;
     seeks = λ k p i call h role up awake expired late s.
         sends doc k 4 (record { process = p; incarnation = i }) Plain (Get (node_lease (node_of doc p))) h (other_role doc p (HasStopped (record { process = p; incarnation = i }) Plain h ⊎ _) role) s;
     posts = λ k p i h role up awake none s.

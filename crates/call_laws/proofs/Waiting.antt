@@ -1,5 +1,5 @@
 -- A call waits until it is closed.
-use Rattle.std.proofs.Common.{◌≡◌, ◌⊎◌, ℕ, Bool, true, false, List, [], ◌∷◌, Option, Some, None, refl, sym, ap, ◌∙◌, subst, inl, inr}
+use Rattle.std.proofs.Common.{◌≡◌, ◌⊎◌, ◌≤◌, ℕ, Bool, true, false, List, [], ◌∷◌, Option, Some, None, refl, sym, ap, ◌∙◌, subst, inl, inr}
 use Rattle.kube_objects.specs.declared.deed.Actor.{Actor}
 use Rattle.kube_objects.specs.Document.{Doc, is_controller}
 use Rattle.kube_objects.specs.Entry.{Entry, Identity, Call, Fact, First, Event as Happens, Starts, Stops, Sends, Answers, Delivers, Expires, Leads, Ends, Crashes, Stalls, Ticks, actor_of, entry}
@@ -31,7 +31,7 @@ still doc k step who (First key object) h q call role made waits = inl waits
 still doc k step who (Happens w version) h q call role made waits = inl waits
 still doc k step who (Sends c arrives) h q call role made waits = by_test (is_same made.q q) refl
   where
-    freed : made.q ≡ q → HasStopped made.q made.kind h ⊎ ((alive made.q.process h ≡ Some made.q.incarnation) × (call_in made.q h ≡ None)) → Still q call who (Sends c arrives) h
+    freed : made.q ≡ q → HasStopped made.q made.kind h ⊎ ((alive made.q.process h ≡ Some made.q.incarnation) × (call_in made.q h ≡ None) × (3 ≤ step)) → Still q call who (Sends c arrives) h
     freed same (inl stopped) = inr (inr (stopped.beat, stopped.before, subst (λ p. h ≡ entry stopped.beat 1 p Stops ∷ stopped.before) same stopped.is))
     freed same (inr none) = absurd (none_is call (sym none.1 ∙ ap (λ p. call_in p h) same ∙ waits))
 
