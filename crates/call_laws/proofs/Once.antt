@@ -18,7 +18,7 @@ use Rattle.history_laws.proofs.Tailed.{tail_all, tail_trans, tails_meet, same_he
 use Rattle.history_laws.proofs.Walk.{CallIsNext}
 use Rattle.call_laws.specs.Answering.{with_events, with_answers}
 use Rattle.call_laws.specs.Waiting.{AnswersDiffer}
-use Rattle.call_laws.proofs.Above.{Above, above_meet}
+use Rattle.call_laws.proofs.Above.{Above, above_meet, low_of, place_of}
 use Rattle.call_laws.proofs.Answering.{events_position}
 use Rattle.call_laws.proofs.Making.{MadeAs, are_made}
 use Rattle.call_laws.proofs.Placing.{IsLate, in_own_beat, above_events, after_answers}
@@ -138,16 +138,7 @@ record Asker (doc : Doc) (k : ℕ) (e : Entry) (g : List Entry) (x : Back) : Typ
   arrives : s.arrives ≡ Some e.beat
   mine : (has_number x.call.number e.fact && is_by x.who e.actor) ≡ true
 
-record Place (e : Entry) (h : List Entry) : Type 0 where
-  before : List Entry
-  position : IsTail (e ∷ before) h
-
-place_of : (e : Entry) (h : List Entry) → In e h → Place e h
-place_of e [] at = absurd at
-place_of e (x ∷ h) (inl is) = record { before = h; position = inl (ap (λ e. e ∷ h) is) }
-place_of e (x ∷ h) (inr at) = let p = place_of e h at in record { before = p.before; position = inr p.position }
-
-due_at : (k : ℕ) (o : Option ℕ) → is_due k o ≡ true → o ≡ Some k
+pub due_at : (k : ℕ) (o : Option ℕ) → is_due k o ≡ true → o ≡ Some k
 due_at k None is = absurd (never is)
   where
     never : false ≡ true → ⊥
@@ -198,11 +189,6 @@ asker doc k e g x at is = asker_as doc k e g x e.actor e.fact refl refl (are_mad
 record Between (doc : Doc) (e : Entry) (g : List Entry) : Type 0 where
   low : IsTail (with_events doc e.beat) g
   high : IsTail (e ∷ g) (with_answers doc e.beat)
-
-low_of : (Q : Entry → Type 0) (f g : List Entry) → Above Q f g → IsTail f g
-low_of Q f [] a = a
-low_of Q f (e ∷ g) (inl is) = inl is
-low_of Q f (e ∷ g) (inr a) = inr (low_of Q f g a.1)
 
 between : (doc : Doc) (k : ℕ) (e : Entry) (g : List Entry) → IsTail (e ∷ g) (history doc k) → e.step ≡ 2 → Between doc e g
 between doc k e g at step = record {

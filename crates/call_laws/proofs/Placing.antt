@@ -109,6 +109,11 @@ within_events doc k = walk_one doc (λ k step h. (e : Entry) → In e h → IsWi
     first e (inl before) = inl before
     first e (inr none) = ⊎_elim (λ lt. inl (omega (arith, lt, none.0))) (λ le. inr (omega (arith, le, none.0), omega (arith, none.1))) (cases_lt 0 k)
 
+pub within_answers : (doc : Doc) (k : ℕ) (e : Entry) → In e (with_answers doc k) → IsWithin k 2 e
+within_answers doc k =
+    let one = with_events doc k in
+    walk_two doc (λ k step h. (e : Entry) → In e h → IsWithin k step e) (within_keeps doc) k one ((within_keeps doc).on k 1 one (within_events doc k))
+
 -- ---- positions by beat and step
 
 -- where an entry comes at a beat or later, the history before the beat is below it

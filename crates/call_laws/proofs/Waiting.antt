@@ -12,7 +12,7 @@ use Rattle.history_laws.proofs.Counting.{counted_is}
 use Rattle.history_laws.proofs.Plainly.{upper, some_is, none_is, same_is, same_self}
 use Rattle.history_laws.proofs.Tailed.{tail_all, tail_trans, tail_of_empty, same_head}
 use Rattle.call_laws.specs.Waiting.{Closes, IsClosed, CallsWait}
-use Rattle.call_laws.proofs.Making.{MadeAs, HasStopped, are_made}
+use Rattle.call_laws.proofs.Making.{MadeAs, HasStopped, are_made, IsOpen}
 
 -- the call still waits after an entry, or the entry closes it, or its sender was just stopped
 abbrev Still : Identity → Call → Actor → Fact → List Entry → Type 0
@@ -31,8 +31,8 @@ still doc k step who (First key object) h q call role made waits = inl waits
 still doc k step who (Happens w version) h q call role made waits = inl waits
 still doc k step who (Sends c arrives) h q call role made waits = by_test (is_same made.q q) refl
   where
-    freed : made.q ≡ q → HasStopped made.q made.kind h ⊎ ((alive made.q.process h ≡ Some made.q.incarnation) × (call_in made.q h ≡ None) × (3 ≤ step)) → Still q call who (Sends c arrives) h
-    freed same (inl stopped) = inr (inr (stopped.beat, stopped.before, subst (λ p. h ≡ entry stopped.beat 1 p Stops ∷ stopped.before) same stopped.is))
+    freed : made.q ≡ q → HasStopped k made.q made.kind h ⊎ ((alive made.q.process h ≡ Some made.q.incarnation) × (call_in made.q h ≡ None) × (3 ≤ step) × IsOpen made.kind) → Still q call who (Sends c arrives) h
+    freed same (inl stopped) = inr (inr (k, stopped.before, subst (λ p. h ≡ entry k 1 p Stops ∷ stopped.before) same stopped.is))
     freed same (inr none) = absurd (none_is call (sym none.1 ∙ ap (λ p. call_in p h) same ∙ waits))
 
     by_test : (b : Bool) → is_same made.q q ≡ b → Still q call who (Sends c arrives) h
