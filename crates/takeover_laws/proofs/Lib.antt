@@ -1,0 +1,4 @@
+pub mod Fresh
+pub mod Standing
+pub mod Rounds
+pub mod Deliveries
