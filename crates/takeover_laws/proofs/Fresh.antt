@@ -33,7 +33,7 @@ use Rattle.call_laws.proofs.Making.{MadeAs, are_made}
 
 -- ---- a deadline is later than now
 
-can_least : (doc : Doc) (p at : ℕ) → at ≤ can_at doc p at
+pub can_least : (doc : Doc) (p at : ℕ) → at ≤ can_at doc p at
 can_least doc p at = by_wait (last_wait doc p at doc.events) refl
   where
     reached : (k : ℕ) → not (is_ahead doc p at k) ≡ true → at ≤ local doc p k

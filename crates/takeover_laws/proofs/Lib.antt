@@ -2,3 +2,4 @@ pub mod Fresh
 pub mod Standing
 pub mod Rounds
 pub mod Deliveries
+pub mod Writers
