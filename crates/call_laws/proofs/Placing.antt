@@ -198,9 +198,11 @@ sent_by who q call arrives by = ap (λ who. sent_as call arrives (identity_of wh
 
 travels : (doc : Doc) (k step : ℕ) (who : Actor) (d : Fact) (h : List Entry) → MadeAs doc k step who d h
     → IfSome (sent_of who d) (λ s. (s.call.sent ≡ k) × (s.arrives ≡ request_arrival s.who.process k h)) × IfSome (back_of who d) (λ b. b.comes ≡ reply_arrival doc b.who.process k h)
-travels doc k step who (Sends call arrives) h made =
-    (subst (λ o. IfSome o (λ s. (s.call.sent ≡ k) × (s.arrives ≡ request_arrival s.who.process k h))) (sym (sent_by who made.q call arrives made.by))
-    (ap (λ (c : Call). c.sent) made.call_is, made.arrives_is), tt)
+travels doc k step who (Sends call arrives) h made = (
+  subst (λ o. IfSome o (λ s. (s.call.sent ≡ k) × (s.arrives ≡ request_arrival s.who.process k h))) (sym (sent_by who made.q call arrives made.by))
+      (ap (λ (c : Call). c.sent) made.call_is, made.arrives_is),
+  tt,
+)
 travels doc k step who (Answers call reply comes wrote) h made =
     (tt, subst (λ who. IfSome (back_as call reply comes (identity_of who)) (λ b. b.comes ≡ reply_arrival doc b.who.process k h)) (sym made.by) made.comes_is)
 travels doc k step who (First key object) h made = (tt, tt)

@@ -3,3 +3,5 @@ pub mod Standing
 pub mod Rounds
 pub mod Deliveries
 pub mod Writers
+pub mod Records
+pub mod Acting

@@ -41,7 +41,6 @@ since_events doc a n le =
 
 module _ (doc : Doc) (near far a e n : ℕ) (q : Identity) (role : is_controller doc q.process ≡ true) (lasts : 1 ≤ renew_deadline doc q.process)
     (steady : IsSteady doc near far a e q.process) (within : n ≤ e) (none : (k : ℕ) → a ≤ k → k ≤ n → Acts doc q k → ⊥) where
-
   -- who is up after a beat and didn't act in it has no term
   pub unled : (k : ℕ) → a ≤ k → k ≤ n → alive q.process (history doc (suc k)) ≡ Some q.incarnation → deadline doc q (history doc (suc k)) ≡ None
   unled k from to up = by_deadline (deadline doc q (history doc (suc k))) refl

@@ -65,7 +65,6 @@ IsWon (Create key lease) reply = (version : Version) × (reply ≡ Done version)
 IsWon (Update key given lease) reply = (version : Version) × (reply ≡ Done version)
 IsWon _ reply = ⊥
 
-
 won_by : (reply : Reply) (key : Key) (lease : Lease) (wraps : Option Object → Bool) → wraps None ≡ false → wraps (if_done reply (object.Lease lease)) ≡ true → (version : Version) × (reply ≡ Done version)
 won_by (Done version) key lease wraps none is = (version, refl)
 won_by Absent key lease wraps none is = absurd (true_is (sym is ∙ none))
@@ -191,7 +190,6 @@ since_low doc a n f S at from step = by_beat (cases_lt a f.beat)
 
 module _ (doc : Doc) (near far a e n : ℕ) (q : Identity) (role : is_controller doc q.process ≡ true) (steady : IsSteady doc near far a e q.process) (time : IsInTime doc far a e q.process)
     (within : n ≤ e) (one : 1 ≤ near) (none : (k : ℕ) → a ≤ k → k ≤ n → Acts doc q k → ⊥) where
-
   -- ---- no call is late before its reply can come
 
   timely : (call : Call) (j y : ℕ) → call.sent ≡ j → a ≤ j → j ≤ y → y ≤ j + 2 * far → y ≤ e → is_late doc q y call ≡ false
@@ -199,8 +197,13 @@ module _ (doc : Doc) (near far a e n : ℕ) (q : Identity) (role : is_controller
     where
       least : local doc q.process y ≤ local doc q.process call.sent + call_timeout doc q.process
       least =
-          omega (arith, ap (local doc q.process) sent, goes_most doc q.process a e time.fast time.runs j y from le to,
-          mul-le-mul_right time.fast the_beats, time.timeout)
+          omega (
+            arith,
+            ap (local doc q.process) sent,
+            goes_most doc q.process a e time.fast time.runs j y from le to,
+            mul-le-mul_right time.fast the_beats,
+            time.timeout,
+          )
         where
           the_beats : y - j ≤ 2 * far
           the_beats = omega (arith, most)
@@ -288,15 +291,18 @@ module _ (doc : Doc) (near far a e n : ℕ) (q : Identity) (role : is_controller
             let mine : made.q ≡ q = same_is made.q q (sym (ap (is_by q) made.by) ∙ closes.0) in
             let late : is_late doc q c.e.beat call ≡ true = subst (λ p. is_late doc p c.e.beat call ≡ true) mine (subst (λ w. is_late doc made.q c.e.beat w ≡ true) closes.1 made.late) in
             let on_time = timely call s.f.beat y s.sent s.from (omega (arith, r.least, r.comes_least)) (omega (arith, r.most, r.comes_most)) (omega (arith, comes, within)) in
-            omega (arith, ltb-true (local doc q.process call.sent + call_timeout doc q.process) (local doc q.process c.e.beat) late,
-            ltb-false (local doc q.process call.sent + call_timeout doc q.process) (local doc q.process y) on_time, local_up doc q.process c.e.beat y upto)
+            omega (
+              arith,
+              ltb-true (local doc q.process call.sent + call_timeout doc q.process) (local doc q.process c.e.beat) late,
+              ltb-false (local doc q.process call.sent + call_timeout doc q.process) (local doc q.process y) on_time,
+              local_up doc q.process c.e.beat y upto,
+            )
         cases who Stops actor fact made closes =
             omega (arith, since, steady.stops c.e (in_tail c.e (history doc (suc n)) (history doc (suc e)) (later_tail doc (suc n) (suc e) (omega (arith, within))) (in_head c.e c.before (history doc (suc n)) position)) fact (ap (λ who. has (of_process q.process who)) actor ∙ by_process who closes))
           where
             by_process : (who : Actor) → is_by q who ≡ true → has (of_process q.process who) ≡ true
             by_process actors.Script is = absurd (false_is is)
             by_process (actors.Proc id i) is = ap (λ b. has (when b i)) (and_left (id.0 == q.process) (i == q.incarnation) is)
-
         cases who (FirstPut key object) actor fact made closes = elim closes [ ]
         cases who (Happens w version) actor fact made closes = elim closes [ ]
         cases who Starts actor fact made closes = elim closes [ ]

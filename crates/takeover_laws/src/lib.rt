@@ -1,9 +1,17 @@
-//! How calls go, and who takes over, in a calm span: laws of every history. Each is the contract of a function with an empty body.
+//! How calls go, who acts, and what stays stored in a calm span: laws of every history. Each is the contract of a function with an empty body.
 #![tactic(auto)]
 
+ghost use Rattle.takeover_laws.specs.Acting.{RecordsStay, WritersAct};
 ghost use Rattle.takeover_laws.specs.Rounds.{RoundsAreShort};
 
 /// Each call of a controller whose messages pass is answered after one way, and its reply is delivered after another.
 pub fn rounds_are_short()
     ensures { RoundsAreShort }
+{}
+
+/// Who writes the election Lease by a call that was sent in a calm acts by the time the reply comes. So while nobody acts, what is stored
+/// one way after the calm began stays stored, but for the last way.
+pub fn writers_act()
+    ensures writers { WritersAct }
+    ensures records { RecordsStay }
 {}
