@@ -10,7 +10,7 @@ use Rattle.kube_objects.specs.declared.script.What.{What}
 use Rattle.kube_objects.specs.Answers.{answer, written}
 use Rattle.kube_objects.specs.Clocks.{local, store_wall, whole_second}
 use Rattle.kube_objects.specs.Document.{Doc, is_controller}
-use Rattle.kube_objects.specs.Elector.{attempt, deadline, attempt_from, Shown, shown, observed_at, moment, renewed, is_valid, leads}
+use Rattle.kube_objects.specs.Elector.{attempt, deadline, attempt_from, Shown, shown, observed_at, moment, renewed, is_valid, leads, follow_on, Asks}
 use Rattle.kube_objects.specs.Entry.{Entry, Identity, Call, CallKind, Plain, Release, Fact, First, Event as Happens, Starts, Stops, Sends, Answers, Delivers, Expires, Leads, Ends, Crashes, Stalls, Ticks, actor_of, entry, script_entry, Fast}
 use Rattle.kube_objects.specs.Identities.{identity, is_own}
 use Rattle.kube_objects.specs.Kubelet.{post, node_of}
@@ -41,7 +41,19 @@ IsOpen kind = (call : Call) → open_as kind call ≡ Some call
 abbrev pub IsFreeToSend : Doc → ℕ → ℕ → Identity → CallKind → List Entry → Type 0
 IsFreeToSend doc k step q kind h = is_controller doc q.process ≡ true → HasStopped k q kind h ⊎ ((alive q.process h ≡ Some q.incarnation) × (call_in q h ≡ None) × (3 ≤ step) × IsOpen kind)
 
+-- a request of step 3 follows a counted reply
+pub record Replied (doc : Doc) (k : ℕ) (q : Identity) (request : Request) (h : List Entry) : Type 0 where
+  pub waiting : Call
+  pub reply : Reply
+  pub before : List Entry
+  pub is : h ≡ entry k 3 q (Delivers waiting reply true) ∷ before
+  pub follows : follow_on doc q k waiting.kind waiting.request reply h ≡ Asks request
+
+abbrev pub IsReplied : Doc → ℕ → ℕ → Identity → Request → List Entry → Type 0
+IsReplied doc k step q request h = is_controller doc q.process ≡ true → step ≡ 3 → Replied doc k q request h
+
 pub record MadeSend (doc : Doc) (k step : ℕ) (who : Actor) (call : Call) (arrives : Option ℕ) (h : List Entry) : Type 0 where
+  pub step_is : (step ≡ 1) ⊎ ((step ≡ 3) ⊎ (step ≡ 4))
   pub q : Identity
   pub kind : CallKind
   pub request : Request
@@ -49,6 +61,7 @@ pub record MadeSend (doc : Doc) (k step : ℕ) (who : Actor) (call : Call) (arri
   pub call_is : call ≡ next_call q k kind request h
   pub arrives_is : arrives ≡ request_arrival q.process k h
   pub free : IsFreeToSend doc k step q kind h
+  pub replied : IsReplied doc k step q request h
 
 pub record MadeAnswer (doc : Doc) (k step : ℕ) (who : Actor) (call : Call) (reply : Reply) (comes : Option ℕ) (wrote : Option Object) (h : List Entry) : Type 0 where
   pub step_is : step ≡ 2
@@ -115,10 +128,10 @@ made_more doc x h new s e before (inr at) = s e before at
 
 -- ---- requests
 
-sends : (doc : Doc) (k step : ℕ) (q : Identity) (kind : CallKind) (request : Request) (h : List Entry) → IsFreeToSend doc k step q kind h → AreMade doc h → AreMade doc (send k step q kind request h)
-sends doc k step q kind request h free s =
+sends : (doc : Doc) (k step : ℕ) (q : Identity) (kind : CallKind) (request : Request) (h : List Entry) → (step ≡ 1) ⊎ ((step ≡ 3) ⊎ (step ≡ 4)) → IsFreeToSend doc k step q kind h → IsReplied doc k step q request h → AreMade doc h → AreMade doc (send k step q kind request h)
+sends doc k step q kind request h at free replied s =
     made_more doc (entry k step q (Sends (next_call q k kind request h) (request_arrival q.process k h))) h
-    (record { q = q; kind = kind; request = request; by = refl; call_is = refl; arrives_is = refl; free = free }) s
+    (record { step_is = at; q = q; kind = kind; request = request; by = refl; call_is = refl; arrives_is = refl; free = free; replied = replied }) s
 
 -- after a counted reply no call waits
 replied : (k : ℕ) (b : Back) (waiting : Call) (h : List Entry) → call_in b.who (after_reply k b waiting h) ≡ None
@@ -156,28 +169,28 @@ made_keeps doc = record {
   stalls = λ k id beats i h scripted up s. made_more doc _ h tt s;
   stops = λ k id i h scripted up s. made_more doc _ h refl s;
   releases = λ k id i before request scripted up awake is was s.
-      sends doc k 1 (record { process = id.0; incarnation = i }) Release request (stopped_at k id i before) (λ role. inl (record { kind_is = refl; before = _; is = refl })) s;
+      sends doc k 1 (record { process = id.0; incarnation = i }) Release request (stopped_at k id i before) (inl refl) (λ role. inl (record { kind_is = refl; before = _; is = refl })) (λ role three. absurd (omega (arith, three))) s;
   answers = λ k x h at s. made_more doc _ h (record { step_is = refl; s = x; by = refl; arriving = at; call_is = refl; reply_is = refl; comes_is = refl; written_is = refl }) s;
   ignores = λ k b h coming is s. made_more doc _ h tt s;
   counts = λ k b waiting h coming is s. made_more doc _ h (record { step_is = refl; b = b; by = refl; coming = coming; reply_is = refl; counted_is = is }) s;
   follows = λ k b waiting h request coming is role follows was s.
-      sends doc k 3 b.who Plain request (after_reply k b waiting h) (λ role. inr ((counted_is doc b.who k b.call.number h waiting is).up, replied k b waiting h, omega arith, λ call. refl)) s;
+      sends doc k 3 b.who Plain request (after_reply k b waiting h) (inr (inl refl)) (λ role. inr ((counted_is doc b.who k b.call.number h waiting is).up, replied k b waiting h, omega arith, λ call. refl)) (λ role three. record { waiting = waiting; reply = b.reply; before = h; is = refl; follows = follows }) s;
   leads = λ k b waiting h version coming is role follows was s. made_more doc _ (after_reply k b waiting h) tt s;
   asks = λ k b waiting h request coming is role asked was s.
-      sends doc k 3 b.who Plain request (after_reply k b waiting h) (λ role. inr ((counted_is doc b.who k b.call.number h waiting is).up, replied k b waiting h, omega arith, λ call. refl)) s;
+      sends doc k 3 b.who Plain request (after_reply k b waiting h) (inr (inl refl)) (λ role. inr ((counted_is doc b.who k b.call.number h waiting is).up, replied k b waiting h, omega arith, λ call. refl)) (other_role doc b.who.process (3 ≡ 3 → Replied doc k b.who request (after_reply k b waiting h)) role) s;
   turns = record {
     restarts = λ k p h s. made_more doc _ h (p, refl) s;
     expires = λ k p i call h up waits late s. made_more doc _ h (record { q = record { process = p; incarnation = i }; by = refl; up = up; waits = waits; late = late }) s;
     ends = λ k p i at h role up is before s. made_more doc _ h (record { step_is = refl; q = record { process = p; incarnation = i }; by = refl; up = up; at = at; deadline_is = is; late = before }) s;
-    polls = λ k p i h role up awake waits s. sends doc k 4 (record { process = p; incarnation = i }) Plain (Get election) h (λ role. inr (up, waits, omega arith, λ call. refl)) s;
+    polls = λ k p i h role up awake waits s. sends doc k 4 (record { process = p; incarnation = i }) Plain (Get election) h (inr (inr refl)) (λ role. inr (up, waits, omega arith, λ call. refl)) (λ role three. absurd (omega (arith, three))) s;
     attempts = λ k p i h role up awake waits s.
         let q : Identity = record { process = p; incarnation = i } in
-        sends doc k 4 q (attempt doc q k h).0 (attempt doc q k h).1 h (λ role. inr (up, waits, omega arith, attempt_opens doc q k h)) s;
+        sends doc k 4 q (attempt doc q k h).0 (attempt doc q k h).1 h (inr (inr refl)) (λ role. inr (up, waits, omega arith, attempt_opens doc q k h)) (λ role three. absurd (omega (arith, three))) s;
     seeks = λ k p i call h role up awake expired late s.
-        sends doc k 4 (record { process = p; incarnation = i }) Plain (Get (node_lease (node_of doc p))) h (other_role doc p (HasStopped k (record { process = p; incarnation = i }) Plain h ⊎ _) role) s;
+        sends doc k 4 (record { process = p; incarnation = i }) Plain (Get (node_lease (node_of doc p))) h (inr (inr refl)) (other_role doc p (HasStopped k (record { process = p; incarnation = i }) Plain h ⊎ _) role) (λ role three. absurd (omega (arith, three))) s;
     posts = λ k p i h role up awake none s.
         let q : Identity = record { process = p; incarnation = i } in
-        sends doc k 4 q Plain (post doc q k h) h (other_role doc p (HasStopped k q Plain h ⊎ _) role) s;
+        sends doc k 4 q Plain (post doc q k h) h (inr (inr refl)) (other_role doc p (HasStopped k q Plain h ⊎ _) role) (λ role three. absurd (omega (arith, three))) s;
     ticks = λ k q h acting s. walk_tick doc k q (AreMade doc) (λ t g made s. made_more doc _ g (q, refl, made) s) h s;
   };
 }
