@@ -184,6 +184,10 @@ set_counted doc q k at is = let s = walk_history doc (λ k step h. LedRight doc 
 pub turn_counted : (doc : Doc) (q : Identity) (p k at : ℕ) → deadline doc q (at_turn doc p k) ≡ Some at → q.incarnation ≤ starts q.process (at_turn doc p k)
 turn_counted doc q p k at is = let s = walk_at_turn doc (λ k step h. LedRight doc h) (led_keeps doc) (first_led doc) p k in s.led q (s.set q (ap has is))
 
+-- who has a deadline at a turn leads
+pub turn_leads : (doc : Doc) (q : Identity) (p k : ℕ) → has (deadline doc q (at_turn doc p k)) ≡ true → leads q (at_turn doc p k) ≡ true
+turn_leads doc q p k = (walk_at_turn doc (λ k step h. LedRight doc h) (led_keeps doc) (first_led doc) p k).set q
+
 -- ---- turns set no deadline, and one past it ends the term
 
 deadline_same : (doc : Doc) (q : Identity) (o : Option ℕ) → KeepsTurn doc Anyone (λ k h. deadline doc q h ≡ o)

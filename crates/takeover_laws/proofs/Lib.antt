@@ -5,3 +5,5 @@ pub mod Deliveries
 pub mod Writers
 pub mod Records
 pub mod Acting
+pub mod Unasked
+pub mod Asking

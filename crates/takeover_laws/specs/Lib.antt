@@ -1,3 +1,4 @@
 pub mod Calm
 pub mod Rounds
 pub mod Acting
+pub mod Asking

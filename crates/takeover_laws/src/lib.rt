@@ -2,6 +2,7 @@
 #![tactic(auto)]
 
 ghost use Rattle.takeover_laws.specs.Acting.{RecordsStay, WritersAct};
+ghost use Rattle.takeover_laws.specs.Asking.{CandidatesAsk};
 ghost use Rattle.takeover_laws.specs.Rounds.{RoundsAreShort};
 
 /// Each call of a controller whose messages pass is answered after one way, and its reply is delivered after another.
@@ -14,4 +15,9 @@ pub fn rounds_are_short()
 pub fn writers_act()
     ensures writers { WritersAct }
     ensures records { RecordsStay }
+{}
+
+/// A candidate whose attempt failed asks again as soon as its clock has gone a retry period since, and no sooner.
+pub fn candidates_ask()
+    ensures { CandidatesAsk }
 {}
