@@ -7,3 +7,4 @@ pub mod Records
 pub mod Acting
 pub mod Unasked
 pub mod Asking
+pub mod Taking

@@ -69,7 +69,7 @@ module _ (doc : Doc) (near far a e n : ℕ) (sound : IsSound doc) (calm : IsCalm
   process_is q x by = ap (λ who. has (of_process q.process who)) by ∙ ap (λ b. has (when b q.incarnation)) (eq-eqb q.process q.process refl)
 
   -- no call that was sent since writes it in time for its reply
-  no_write : (x : Entry) (T : List Entry) (q : Identity) → IsTail (x ∷ T) (history doc (suc n)) → x.actor ≡ actor_of q → is_controller doc q.process ≡ true → WritesElection a x.fact → x.beat + far ≤ n → ⊥
+  pub no_write : (x : Entry) (T : List Entry) (q : Identity) → IsTail (x ∷ T) (history doc (suc n)) → x.actor ≡ actor_of q → is_controller doc q.process ≡ true → WritesElection a x.fact → x.beat + far ≤ n → ⊥
   no_write x T q position by role writes late = ⊎_elim steady quiet (calm.each q.process role)
     where
       steady : IsSteady doc near far a e q.process → ⊥

@@ -2,3 +2,4 @@ pub mod Calm
 pub mod Rounds
 pub mod Acting
 pub mod Asking
+pub mod Taking

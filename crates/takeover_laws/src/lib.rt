@@ -4,6 +4,7 @@
 ghost use Rattle.takeover_laws.specs.Acting.{RecordsStay, WritersAct};
 ghost use Rattle.takeover_laws.specs.Asking.{CandidatesAsk};
 ghost use Rattle.takeover_laws.specs.Rounds.{RoundsAreShort};
+ghost use Rattle.takeover_laws.specs.Taking.{TakeoversEndInActing};
 
 /// Each call of a controller whose messages pass is answered after one way, and its reply is delivered after another.
 pub fn rounds_are_short()
@@ -20,4 +21,10 @@ pub fn writers_act()
 /// A candidate whose attempt failed asks again as soon as its clock has gone a retry period since, and no sooner.
 pub fn candidates_ask()
     ensures { CandidatesAsk }
+{}
+
+/// In a calm, a write on the stored record, or its creation where none is stored, is accepted: it isn't sent while nobody acts up to two
+/// ways later.
+pub fn takeovers_end_in_acting()
+    ensures { TakeoversEndInActing }
 {}
