@@ -51,10 +51,10 @@ use Rattle.call_laws.proofs.Above.{low_of}
 use Rattle.call_laws.proofs.Placing.{IsLate}
 use Rattle.call_laws.proofs.Waiting.{calls_wait}
 use Rattle.takeover_laws.specs.Calm.{IsSteady, WritesElection, IsInTime}
-use Rattle.takeover_laws.specs.Rounds.{IsRound}
+use Rattle.takeover_laws.specs.Rounds.{IsRound, HasCounted, RepliesCount}
 use Rattle.takeover_laws.proofs.Deliveries.{Waits, First, is_for, first_for, delivered_adds, deliveries_add, all_coming, any_coming}
 use Rattle.takeover_laws.proofs.Fresh.{IsAfter, IsFresh, fresh_stays, can_least, acts_before}
-use Rattle.takeover_laws.proofs.Rounds.{rounds_in, in_answers}
+use Rattle.takeover_laws.proofs.Rounds.{sent_is, rounds_in, in_answers}
 use Rattle.takeover_laws.proofs.Standing.{controllers_first, IsSince, since_events, persists}
 
 -- ---- what a write's reply is followed by
@@ -132,6 +132,12 @@ delivers doc q k call b h role mine number timely w =
         ∙ ap (λ t. when (t && not (is_late doc q k call)) call) number
         ∙ ap (λ t. when (not t) call) timely
 
+follow_adds : (k : ℕ) (q : Identity) (led : Bool) (f : Follow) (h : List Entry) → IsTail h (react k q led f h)
+follow_adds k q led Fails h = tail_all h
+follow_adds k q led (Asks request) h = inr (tail_all h)
+follow_adds k q true (Succeeds version) h = tail_all h
+follow_adds k q false (Succeeds version) h = inr (tail_all h)
+
 -- ---- the sending that an answer answers
 
 actor_is : (p q : Identity) → actor_of p ≡ actor_of q → p ≡ q
@@ -189,7 +195,7 @@ since_low doc a n f S at from step = by_beat (cases_lt a f.beat)
         subst (λ a. IsTail (with_events doc a) S) same (low_of (IsLate f.beat 2) (with_events doc f.beat) S (above_events doc (suc n) f S at (omega (arith, step))))
 
 module _ (doc : Doc) (near far a e n : ℕ) (q : Identity) (role : is_controller doc q.process ≡ true) (steady : IsSteady doc near far a e q.process) (time : IsInTime doc far a e q.process)
-    (within : n ≤ e) (one : 1 ≤ near) (none : (k : ℕ) → a ≤ k → k ≤ n → Acts doc q k → ⊥) where
+    (within : n ≤ e) (one : 1 ≤ near) where
   -- ---- no call is late before its reply can come
 
   timely : (call : Call) (j y : ℕ) → call.sent ≡ j → a ≤ j → j ≤ y → y ≤ j + 2 * far → y ≤ e → is_late doc q y call ≡ false
@@ -214,7 +220,8 @@ module _ (doc : Doc) (near far a e n : ℕ) (q : Identity) (role : is_controller
 
   -- ---- a call that is answered with a write, and whose reply comes in time, ends in acting
 
-  module _ (call : Call) (arrives : Option ℕ) (s : Sending doc a n q call arrives) (r : IsRound doc near far q call arrives s.f.beat) (won : IsWon call.request (answer call.request r.before)) (comes : r.comes ≤ n) where
+  module _ (call : Call) (arrives : Option ℕ) (s : Sending doc a n q call arrives) (r : IsRound doc near far q call arrives s.f.beat) (comes : r.comes ≤ n)
+      (up_at : (h : List Entry) → IsTail s.before h → IsTail h (history doc (suc n)) → alive q.process h ≡ Some q.incarnation) where
     abbrev y : ℕ
     y = r.comes
 
@@ -247,9 +254,6 @@ module _ (doc : Doc) (near far a e n : ℕ) (q : Identity) (role : is_controller
 
     from_a : a ≤ n
     from_a = omega (arith, s.from, r.least, r.comes_least, comes)
-
-    up_at : (h : List Entry) → IsTail s.before h → IsTail h (history doc (suc n)) → alive q.process h ≡ Some q.incarnation
-    up_at h below above = persists doc near far a e n q role time.deadline steady within none from_a s.before h low below above s.up
 
     -- a reply to the call is that one
     same_back : (g : List Entry) (x : Entry) (b : Back) → IsTail g (history doc (suc n)) → In x g → back_of x.actor x.fact ≡ Some b → b.who ≡ q → b.call.number ≡ call.number → b ≡ back
@@ -336,56 +340,69 @@ module _ (doc : Doc) (near far a e n : ℕ) (q : Identity) (role : is_controller
     that : first.b ≡ back
     that = same_back two first.right.e first.b at_two first.right.stands first.right.is mine (sym (eqb-true call.number first.b.call.number number))
 
-    reply_won : IsWon call.request first.b.reply
-    reply_won = subst (λ (b : Back). IsWon call.request b.reply) (sym that) won
+    -- it counts
+    counts : IsTail (with_reply y q call first.b.reply first.before) (history doc (suc y))
+    counts =
+        tail_trans (with_reply y q call first.b.reply first.before) (delivered doc y first.b first.before) (history doc (suc y))
+        (subst (IsTail (with_reply y q call first.b.reply first.before))
+        (sym (delivers doc q y call first.b first.before role mine number (timely call s.f.beat y s.sent s.from (omega (arith, r.least, r.comes_least)) (omega (arith, r.most, r.comes_most)) (omega (arith, comes, within))) first.waits))
+        (follow_adds y q (leads q (with_reply y q call first.b.reply first.before)) (follow_on doc q y call.kind call.request first.b.reply (with_reply y q call first.b.reply first.before)) (with_reply y q call first.b.reply first.before)))
+        (tail_trans (delivered doc y first.b first.before) (step_three doc y two) (history doc (suc y)) first.position (deliveries_position doc y))
 
-    success : Wins doc q y call.kind call.request first.b.reply (with_reply y q call first.b.reply first.before)
-    success = wins doc q y call.kind call.request first.b.reply (with_reply y q call first.b.reply first.before) reply_won
+    pub counted_reply : HasCounted doc q call (s.f.beat + 2 * near) (s.f.beat + 2 * far)
+    counted_reply = record { at = y; least = omega (arith, r.least, r.comes_least); most = omega (arith, r.most, r.comes_most); reply = first.b.reply; before = first.before; position = counts }
 
-    abbrev done : List Entry
-    done = delivered doc y first.b first.before
+    module _ (won : IsWon call.request (answer call.request r.before)) where
+      reply_won : IsWon call.request first.b.reply
+      reply_won = subst (λ (b : Back). IsWon call.request b.reply) (sym that) won
 
-    done_is : done ≡ react y q (leads q (with_reply y q call first.b.reply first.before)) (Succeeds success.version) (with_reply y q call first.b.reply first.before)
-    done_is =
-        delivers doc q y call first.b first.before role mine number
-        (timely call s.f.beat y s.sent s.from (omega (arith, r.least, r.comes_least)) (omega (arith, r.most, r.comes_most)) (omega (arith, comes, within))) first.waits
-        ∙ ap (λ f. react y q (leads q (with_reply y q call first.b.reply first.before)) f (with_reply y q call first.b.reply first.before)) success.follows
+      success : Wins doc q y call.kind call.request first.b.reply (with_reply y q call first.b.reply first.before)
+      success = wins doc q y call.kind call.request first.b.reply (with_reply y q call first.b.reply first.before) reply_won
 
-    fresh : IsFresh doc q y done
-    fresh = subst (IsFresh doc q y) (sym done_is) (won_fresh doc q y call first.b.reply success.version first.before time.deadline success.succeeds_is)
+      abbrev done : List Entry
+      done = delivered doc y first.b first.before
 
-    abbrev three : List Entry
-    three = three_steps doc y (history doc y)
+      done_is : done ≡ react y q (leads q (with_reply y q call first.b.reply first.before)) (Succeeds success.version) (with_reply y q call first.b.reply first.before)
+      done_is =
+          delivers doc q y call first.b first.before role mine number
+          (timely call s.f.beat y s.sent s.from (omega (arith, r.least, r.comes_least)) (omega (arith, r.most, r.comes_most)) (omega (arith, comes, within))) first.waits
+          ∙ ap (λ f. react y q (leads q (with_reply y q call first.b.reply first.before)) f (with_reply y q call first.b.reply first.before)) success.follows
 
-    done_low : IsTail (history doc y) done
-    done_low =
-        tail_trans (history doc y) two done (tail_trans (history doc y) (with_events doc y) two (before_events doc y) (two_adds doc y (with_events doc y) (with_events doc y) (tail_all (with_events doc y))))
-        (tail_trans two first.before done first.low (delivered_adds doc y first.b first.before))
+      fresh : IsFresh doc q y done
+      fresh = subst (IsFresh doc q y) (sym done_is) (won_fresh doc q y call first.b.reply success.version first.before time.deadline success.succeeds_is)
 
-    -- so it acts in its turn
-    acts_at : (g : List Entry) → IsTail done g → IsTail g (history doc (suc y)) → acts doc q y g ≡ true
-    acts_at g below above = by_time fresher.at fresher.is fresher.later (nat_lt (local doc q.process y) fresher.at) refl
-      where
-        fresher : IsFresh doc q y g
-        fresher = fresh_stays doc q y done g time.deadline (above_cut (λ x. y ≤ x.beat) (history doc y) (history doc (suc y)) (from_beat doc y (suc y) (omega arith)) done g done_low below above) fresh
+      abbrev three : List Entry
+      three = three_steps doc y (history doc y)
 
-        up : alive q.process g ≡ Some q.incarnation
-        up =
-            up_at g
-            (tail_trans s.before two g (tail_trans s.before (s.f ∷ s.before) two (inr (tail_all s.before)) sent_low) (tail_trans two done g (tail_trans two first.before done first.low (delivered_adds doc y first.b first.before)) below))
-            (tail_trans g (history doc (suc y)) (history doc (suc n)) above (later_tail doc (suc y) (suc n) (omega (arith, comes))))
+      done_low : IsTail (history doc y) done
+      done_low =
+          tail_trans (history doc y) two done (tail_trans (history doc y) (with_events doc y) two (before_events doc y) (two_adds doc y (with_events doc y) (with_events doc y) (tail_all (with_events doc y))))
+          (tail_trans two first.before done first.low (delivered_adds doc y first.b first.before))
 
-        by_time : (at : ℕ) → deadline doc q g ≡ Some at → local doc q.process y < at → (b : Bool) → nat_lt (local doc q.process y) at ≡ b → acts doc q y g ≡ true
-        by_time at is later true before = acts_before doc q y at g (steady.passes y (omega (arith, s.from, r.least, r.comes_least)) (omega (arith, comes, within))).awake up is before
-        by_time at is later false late = absurd (omega (arith, later, ltb-false (local doc q.process y) at late))
+      -- so it acts in its turn
+      acts_at : (g : List Entry) → IsTail done g → IsTail g (history doc (suc y)) → acts doc q y g ≡ true
+      acts_at g below above = by_time fresher.at fresher.is fresher.later (nat_lt (local doc q.process y) fresher.at) refl
+        where
+          fresher : IsFresh doc q y g
+          fresher = fresh_stays doc q y done g time.deadline (above_cut (λ x. y ≤ x.beat) (history doc y) (history doc (suc y)) (from_beat doc y (suc y) (omega arith)) done g done_low below above) fresh
 
-    pub won_acts : ⊥
-    won_acts =
-        none y (omega (arith, s.from, r.least, r.comes_least)) comes (role, acts_at (at_turn doc q.process y) (turns_add doc y q.process done three first.position) (turn_tail doc q.process y (omega (arith, controllers_first doc q.process role))))
+          up : alive q.process g ≡ Some q.incarnation
+          up =
+              up_at g
+              (tail_trans s.before two g (tail_trans s.before (s.f ∷ s.before) two (inr (tail_all s.before)) sent_low) (tail_trans two done g (tail_trans two first.before done first.low (delivered_adds doc y first.b first.before)) below))
+              (tail_trans g (history doc (suc y)) (history doc (suc n)) above (later_tail doc (suc y) (suc n) (omega (arith, comes))))
+
+          by_time : (at : ℕ) → deadline doc q g ≡ Some at → local doc q.process y < at → (b : Bool) → nat_lt (local doc q.process y) at ≡ b → acts doc q y g ≡ true
+          by_time at is later true before = acts_before doc q y at g (steady.passes y (omega (arith, s.from, r.least, r.comes_least)) (omega (arith, comes, within))).awake up is before
+          by_time at is later false late = absurd (omega (arith, later, ltb-false (local doc q.process y) at late))
+
+      pub won_acts : ((k : ℕ) → a ≤ k → k ≤ n → Acts doc q k → ⊥) → ⊥
+      won_acts none =
+          none y (omega (arith, s.from, r.least, r.comes_least)) comes (role, acts_at (at_turn doc q.process y) (turns_add doc y q.process done three first.position) (turn_tail doc q.process y (omega (arith, controllers_first doc q.process role))))
 
   -- ---- an accepted election write
 
-  sending_of : (call : Call) (arrives : Option ℕ) (f : Entry) (S : List Entry) → IsTail (f ∷ S) (history doc (suc n)) → f.actor ≡ actor_of q → f.fact ≡ Sends call arrives → a ≤ call.sent → Sending doc a n q call arrives
+  pub sending_of : (call : Call) (arrives : Option ℕ) (f : Entry) (S : List Entry) → IsTail (f ∷ S) (history doc (suc n)) → f.actor ≡ actor_of q → f.fact ≡ Sends call arrives → a ≤ call.sent → (s : Sending doc a n q call arrives) × (s.f ≡ f) × (s.before ≡ S)
   sending_of call arrives f S position actor fact from = by_free (made.free (ap (λ (p : Identity). is_controller doc p.process) mine ∙ role))
     where
       made : MadeSend doc f.beat f.step f.actor call arrives S
@@ -397,93 +414,128 @@ module _ (doc : Doc) (near far a e n : ℕ) (q : Identity) (role : is_controller
       sent : call.sent ≡ f.beat
       sent = ap (λ (c : Call). c.sent) made.call_is
 
-      by_free : HasStopped f.beat made.q made.kind S ⊎ ((alive made.q.process S ≡ Some made.q.incarnation) × (call_in made.q S ≡ None) × (3 ≤ f.step) × IsOpen made.kind) → Sending doc a n q call arrives
+      by_free : HasStopped f.beat made.q made.kind S ⊎ ((alive made.q.process S ≡ Some made.q.incarnation) × (call_in made.q S ≡ None) × (3 ≤ f.step) × IsOpen made.kind) → (s : Sending doc a n q call arrives) × (s.f ≡ f) × (s.before ≡ S)
       by_free (inl stopped) =
           let stop = entry f.beat 1 made.q Stops in
           let in_s : In stop S = subst (In stop) (sym stopped.is) (inl refl) in
           let there = in_tail stop (history doc (suc n)) (history doc (suc e)) (later_tail doc (suc n) (suc e) (omega (arith, within))) (in_tail stop (f ∷ S) (history doc (suc n)) position (inr in_s)) in
           let before = steady.stops stop there refl (ap (λ b. has (when b made.q.incarnation)) (eq-eqb made.q.process q.process (ap (λ (p : Identity). p.process) mine))) in
           absurd (omega (arith, before, from, sent))
-      by_free (inr free) = record {
-        f = f;
-        before = S;
-        position = position;
-        actor = actor;
-        fact = fact;
-        from = omega (arith, from, sent);
-        step = free.2;
-        sent = sent;
-        up = subst (λ (p : Identity). alive p.process S ≡ Some p.incarnation) mine free.0;
-        opens = ap (λ kind. open_as kind call) (ap (λ (c : Call). c.kind) made.call_is) ∙ free.3 call;
-      }
+      by_free (inr free) = (
+        record {
+          f = f;
+          before = S;
+          position = position;
+          actor = actor;
+          fact = fact;
+          from = omega (arith, from, sent);
+          step = free.2;
+          sent = sent;
+          up = subst (λ (p : Identity). alive p.process S ≡ Some p.incarnation) mine free.0;
+          opens = ap (λ kind. open_as kind call) (ap (λ (c : Call). c.kind) made.call_is) ∙ free.3 call;
+        },
+        refl,
+        refl,
+      )
 
-  writes : (x : Entry) (T : List Entry) (who : Actor) (d : Fact) → x.actor ≡ who → x.fact ≡ d → IsTail (x ∷ T) (history doc (suc n)) → who ≡ actor_of q → WritesElection a d → x.beat + far ≤ n → MadeAs doc x.beat x.step who d T → ⊥
-  writes x T who (Answers call reply comes wrote) actor fact position mine wrote_it late made = won_acts s.call s.arrives s_sending r won (omega (arith, r.comes_most, ap (λ n. n) beat, late))
-    where
-      s : Sent
-      s = made.s
+  module _ (none : (k : ℕ) → a ≤ k → k ≤ n → Acts doc q k → ⊥) where
+    writes : (x : Entry) (T : List Entry) (who : Actor) (d : Fact) → x.actor ≡ who → x.fact ≡ d → IsTail (x ∷ T) (history doc (suc n)) → who ≡ actor_of q → WritesElection a d → x.beat + far ≤ n → MadeAs doc x.beat x.step who d T → ⊥
+    writes x T who (Answers call reply comes wrote) actor fact position mine wrote_it late made =
+        won_acts s.call s.arrives s_sending r (omega (arith, r.comes_most, ap (λ n. n) beat, late)) stands won none
+      where
+        s : Sent
+        s = made.s
 
-      whose : s.who ≡ q
-      whose = actor_is s.who q (sym made.by ∙ mine)
+        whose : s.who ≡ q
+        whose = actor_is s.who q (sym made.by ∙ mine)
 
-      p : List Entry
-      p = (place_of made.arriving.e T made.arriving.stands).before
+        p : List Entry
+        p = (place_of made.arriving.e T made.arriving.stands).before
 
-      at_f : IsTail (made.arriving.e ∷ p) T
-      at_f = (place_of made.arriving.e T made.arriving.stands).position
+        at_f : IsTail (made.arriving.e ∷ p) T
+        at_f = (place_of made.arriving.e T made.arriving.stands).position
 
-      position_f : IsTail (made.arriving.e ∷ p) (history doc (suc n))
-      position_f = tail_trans (made.arriving.e ∷ p) T (history doc (suc n)) at_f (tail_trans T (x ∷ T) (history doc (suc n)) (inr (tail_all T)) position)
+        position_f : IsTail (made.arriving.e ∷ p) (history doc (suc n))
+        position_f = tail_trans (made.arriving.e ∷ p) T (history doc (suc n)) at_f (tail_trans T (x ∷ T) (history doc (suc n)) (inr (tail_all T)) position)
 
-      facts : (made.arriving.e.actor ≡ actor_of s.who) × (made.arriving.e.fact ≡ Sends s.call s.arrives)
-      facts = sends_of made.arriving.e.actor made.arriving.e.fact s made.arriving.is
+        facts : (made.arriving.e.actor ≡ actor_of s.who) × (made.arriving.e.fact ≡ Sends s.call s.arrives)
+        facts = sends_of made.arriving.e.actor made.arriving.e.fact s made.arriving.is
 
-      arrives : s.arrives ≡ Some x.beat
-      arrives = due_at x.beat s.arrives made.arriving.now
+        arrives : s.arrives ≡ Some x.beat
+        arrives = due_at x.beat s.arrives made.arriving.now
 
-      s_sending : Sending doc a n q s.call s.arrives
-      s_sending = sending_of s.call s.arrives made.arriving.e p position_f (facts.0 ∙ ap actor_of whose) facts.1 (subst (λ (c : Call). a ≤ c.sent) made.call_is wrote_it.0)
+        s_sending : Sending doc a n q s.call s.arrives
+        s_sending = (sending_of s.call s.arrives made.arriving.e p position_f (facts.0 ∙ ap actor_of whose) facts.1 (subst (λ (c : Call). a ≤ c.sent) made.call_is wrote_it.0)).0
 
-      r : IsRound doc near far q s.call s.arrives s_sending.f.beat
-      r =
-          rounds_in doc near far a e q steady one (suc n) s_sending.f s_sending.before s.call s.arrives s_sending.position s_sending.actor s_sending.fact (omega (arith, s_sending.step)) s_sending.from
-          upto (λ k is most. omega (arith, some_is k x.beat (sym is ∙ arrives), late, within))
-        where
-          upto : s_sending.f.beat ≤ e
-          upto = ⊎_elim (λ lt. omega (arith, lt, within)) (λ first. absurd (omega (arith, first.1, s_sending.step))) (entries_are_earlier doc (suc n) s_sending.f (in_head s_sending.f s_sending.before (history doc (suc n)) s_sending.position))
+        r : IsRound doc near far q s.call s.arrives s_sending.f.beat
+        r =
+            rounds_in doc near far a e q steady one (suc n) s_sending.f s_sending.before s.call s.arrives s_sending.position s_sending.actor s_sending.fact (omega (arith, s_sending.step)) s_sending.from
+            upto (λ k is most. omega (arith, some_is k x.beat (sym is ∙ arrives), late, within))
+          where
+            upto : s_sending.f.beat ≤ e
+            upto = ⊎_elim (λ lt. omega (arith, lt, within)) (λ first. absurd (omega (arith, first.1, s_sending.step))) (entries_are_earlier doc (suc n) s_sending.f (in_head s_sending.f s_sending.before (history doc (suc n)) s_sending.position))
 
-      beat : r.at ≡ x.beat
-      beat = some_is r.at x.beat (sym r.arrives_is ∙ arrives)
+        beat : r.at ≡ x.beat
+        beat = some_is r.at x.beat (sym r.arrives_is ∙ arrives)
 
-      there : Entry
-      there = entry r.at 2 q (Answers s.call (answer s.call.request r.before) (reply_arrival doc q.process r.at r.before) (written s.call.request r.before))
+        there : Entry
+        there = entry r.at 2 q (Answers s.call (answer s.call.request r.before) (reply_arrival doc q.process r.at r.before) (written s.call.request r.before))
 
-      mine_back : Back
-      mine_back = record { who = s.who; call = call; reply = reply; comes = comes }
+        mine_back : Back
+        mine_back = record { who = s.who; call = call; reply = reply; comes = comes }
 
-      same : x ∷ T ≡ there ∷ r.before
-      same =
-          answers_differ doc (suc n) x there T r.before mine_back (record { who = q; call = s.call; reply = answer s.call.request r.before; comes = reply_arrival doc q.process r.at r.before }) position
-          (tail_trans (there ∷ r.before) (history doc (suc r.at)) (history doc (suc n)) r.position (later_tail doc (suc r.at) (suc n) (omega (arith, beat, late))))
-          (ap (λ d. back_of x.actor d) fact ∙ ap (λ who. back_of who (Answers call reply comes wrote)) (actor ∙ made.by)) refl whose (ap (λ (c : Call). c.number) made.call_is)
+        same : x ∷ T ≡ there ∷ r.before
+        same =
+            answers_differ doc (suc n) x there T r.before mine_back (record { who = q; call = s.call; reply = answer s.call.request r.before; comes = reply_arrival doc q.process r.at r.before }) position
+            (tail_trans (there ∷ r.before) (history doc (suc r.at)) (history doc (suc n)) r.position (later_tail doc (suc r.at) (suc n) (omega (arith, beat, late))))
+            (ap (λ d. back_of x.actor d) fact ∙ ap (λ who. back_of who (Answers call reply comes wrote)) (actor ∙ made.by)) refl whose (ap (λ (c : Call). c.number) made.call_is)
 
-      won : IsWon s.call.request (answer s.call.request r.before)
-      won =
-          subst (λ h. IsWon s.call.request (answer s.call.request h)) (same_rest x there T r.before same)
-          (won_of s.call.request T (subst (λ o. has (at_key election (request_write s.call.request o)) ≡ true) made.written_is (subst (λ (c : Call). has (at_key election (request_write c.request wrote)) ≡ true) made.call_is wrote_it.1)))
-  writes x T who (FirstPut key object) actor fact position mine wrote_it late made = absurd wrote_it
-  writes x T who (Happens w version) actor fact position mine wrote_it late made = absurd wrote_it
-  writes x T who (Sends call arrives) actor fact position mine wrote_it late made = absurd wrote_it
-  writes x T who (Delivers call reply counted) actor fact position mine wrote_it late made = absurd wrote_it
-  writes x T who (Expires call) actor fact position mine wrote_it late made = absurd wrote_it
-  writes x T who (Ticks t) actor fact position mine wrote_it late made = absurd wrote_it
-  writes x T who Starts actor fact position mine wrote_it late made = absurd wrote_it
-  writes x T who Crashes actor fact position mine wrote_it late made = absurd wrote_it
-  writes x T who Stops actor fact position mine wrote_it late made = absurd wrote_it
-  writes x T who (Stalls beats) actor fact position mine wrote_it late made = absurd wrote_it
-  writes x T who Ends actor fact position mine wrote_it late made = absurd wrote_it
-  writes x T who (Leads version) actor fact position mine wrote_it late made = absurd wrote_it
+        stands : (h : List Entry) → IsTail s_sending.before h → IsTail h (history doc (suc n)) → alive q.process h ≡ Some q.incarnation
+        stands h below above =
+            persists doc near far a e n q role time.deadline steady within none (omega (arith, s_sending.from, r.least, beat, late)) s_sending.before h
+            (since_low doc a n s_sending.f s_sending.before s_sending.position s_sending.from s_sending.step) below above s_sending.up
 
-  -- who writes it by a call of the calm acts, if the reply can come in time
-  pub writer_acts : (x : Entry) (T : List Entry) → IsTail (x ∷ T) (history doc (suc n)) → x.actor ≡ actor_of q → WritesElection a x.fact → x.beat + far ≤ n → ⊥
-  writer_acts x T position mine election_write late = writes x T x.actor x.fact refl refl position mine election_write late (are_made doc (suc n) x T position)
+        won : IsWon s.call.request (answer s.call.request r.before)
+        won =
+            subst (λ h. IsWon s.call.request (answer s.call.request h)) (same_rest x there T r.before same)
+            (won_of s.call.request T (subst (λ o. has (at_key election (request_write s.call.request o)) ≡ true) made.written_is (subst (λ (c : Call). has (at_key election (request_write c.request wrote)) ≡ true) made.call_is wrote_it.1)))
+    writes x T who (FirstPut key object) actor fact position mine wrote_it late made = absurd wrote_it
+    writes x T who (Happens w version) actor fact position mine wrote_it late made = absurd wrote_it
+    writes x T who (Sends call arrives) actor fact position mine wrote_it late made = absurd wrote_it
+    writes x T who (Delivers call reply counted) actor fact position mine wrote_it late made = absurd wrote_it
+    writes x T who (Expires call) actor fact position mine wrote_it late made = absurd wrote_it
+    writes x T who (Ticks t) actor fact position mine wrote_it late made = absurd wrote_it
+    writes x T who Starts actor fact position mine wrote_it late made = absurd wrote_it
+    writes x T who Crashes actor fact position mine wrote_it late made = absurd wrote_it
+    writes x T who Stops actor fact position mine wrote_it late made = absurd wrote_it
+    writes x T who (Stalls beats) actor fact position mine wrote_it late made = absurd wrote_it
+    writes x T who Ends actor fact position mine wrote_it late made = absurd wrote_it
+    writes x T who (Leads version) actor fact position mine wrote_it late made = absurd wrote_it
+
+    -- who writes it by a call of the calm acts, if the reply can come in time
+    pub writer_acts : (x : Entry) (T : List Entry) → IsTail (x ∷ T) (history doc (suc n)) → x.actor ≡ actor_of q → WritesElection a x.fact → x.beat + far ≤ n → ⊥
+    writer_acts x T position mine election_write late = writes x T x.actor x.fact refl refl position mine election_write late (are_made doc (suc n) x T position)
+
+-- ---- the law
+
+pub replies_count : RepliesCount
+replies_count doc near far a e n q role steady time one within x T call arrives stands actor fact from to up = by_sending (sending_of doc near far a e n q role steady time within one call arrives x T stands actor fact since)
+  where
+    sent : call.sent ≡ x.beat
+    sent = (subst (λ o. IfSome o (λ s. (s.call.sent ≡ x.beat) × (s.arrives ≡ request_arrival s.who.process x.beat T))) (sent_is x q call arrives actor fact) (messages_travel doc (suc n) x T stands).0).0
+
+    since : a ≤ call.sent
+    since = omega (arith, sent, from)
+
+    by_sending : (s : Sending doc a n q call arrives) × (s.f ≡ x) × (s.before ≡ T) → HasCounted doc q call (x.beat + 2 * near) (x.beat + 2 * far)
+    by_sending s =
+        subst (λ b. HasCounted doc q call (b + 2 * near) (b + 2 * far)) beat
+        (counted_reply doc near far a e n q role steady time within one call arrives s.0 r (omega (arith, r.most, r.comes_most, to, beat)) (λ h below above. up h (subst (λ g. IsTail g h) s.2 below) above))
+      where
+        beat : s.0.f.beat ≡ x.beat
+        beat = ap (λ (e : Entry). e.beat) s.1
+
+        r : IsRound doc near far q call arrives s.0.f.beat
+        r =
+            rounds_in doc near far a e q steady one (suc n) s.0.f s.0.before call arrives s.0.position s.0.actor s.0.fact (omega (arith, s.0.step)) s.0.from (omega (arith, beat, to, within))
+            (λ k is most. omega (arith, most, beat, to, within))

@@ -1,5 +1,6 @@
 -- The way of a call to the store and back. Source: profile.
-use Rattle.std.specs.Prelude.{◌≡◌, ◌≤◌, ◌<◌, Option, ℕ, suc, ◌+◌, ◌*◌, List, ◌∷◌, Some}
+use Rattle.std.specs.Prelude.{◌≡◌, ◌≤◌, ◌<◌, Option, ℕ, suc, ◌+◌, ◌*◌, List, ◌∷◌, Some, true}
+use Rattle.kube_objects.specs.declared.call.Reply.{Reply}
 use Rattle.kube_objects.specs.Answers.{answer}
 use Rattle.kube_objects.specs.Document.{Doc, is_controller}
 use Rattle.kube_objects.specs.Entry.{Entry, Identity, Call, Sends, Delivers, actor_of, entry}
@@ -31,3 +32,20 @@ abbrev pub RoundsAreShort : Type 0
 RoundsAreShort = (doc : Doc) (near far a e : ℕ) (q : Identity) → IsSteady doc near far a e q.process → 1 ≤ near
     → (m : ℕ) (x : Entry) (T : List Entry) (call : Call) (arrives : Option ℕ) → IsTail (x ∷ T) (history doc m) → x.actor ≡ actor_of q → x.fact ≡ Sends call arrives → 2 ≤ x.step → a ≤ x.beat → x.beat + 2 * far ≤ e
     → IsRound doc near far q call arrives x.beat
+
+-- a reply to the call counts at a beat between
+pub record HasCounted (doc : Doc) (q : Identity) (call : Call) (from to : ℕ) : Type 0 where
+  pub at : ℕ
+  pub least : from ≤ at
+  pub most : at ≤ to
+  pub reply : Reply
+  pub before : List Entry
+  pub position : IsTail (entry at 3 q (Delivers call reply true) ∷ before) (history doc (suc at))
+
+-- and it counts, where the sender stays up and the call timeout is at least two ways
+abbrev pub RepliesCount : Type 0
+RepliesCount =
+    (doc : Doc) (near far a e n : ℕ) (q : Identity) → is_controller doc q.process ≡ true → IsSteady doc near far a e q.process → IsInTime doc far a e q.process → 1 ≤ near → n ≤ e
+    → (x : Entry) (T : List Entry) (call : Call) (arrives : Option ℕ) → IsTail (x ∷ T) (history doc (suc n)) → x.actor ≡ actor_of q → x.fact ≡ Sends call arrives → a ≤ x.beat → x.beat + 2 * far ≤ n
+    → ((h : List Entry) → IsTail T h → IsTail h (history doc (suc n)) → alive q.process h ≡ Some q.incarnation)
+    → HasCounted doc q call (x.beat + 2 * near) (x.beat + 2 * far)

@@ -3,12 +3,14 @@
 
 ghost use Rattle.takeover_laws.specs.Acting.{RecordsStay, WritersAct};
 ghost use Rattle.takeover_laws.specs.Asking.{CandidatesAsk};
-ghost use Rattle.takeover_laws.specs.Rounds.{RoundsAreShort};
+ghost use Rattle.takeover_laws.specs.Rounds.{RepliesCount, RoundsAreShort};
 ghost use Rattle.takeover_laws.specs.Taking.{TakeoversEndInActing};
 
-/// Each call of a controller whose messages pass is answered after one way, and its reply is delivered after another.
+/// Each call of a controller whose messages pass is answered after one way, and its reply is delivered after another; it counts where the
+/// sender stays up and the call timeout is at least two ways.
 pub fn rounds_are_short()
-    ensures { RoundsAreShort }
+    ensures short { RoundsAreShort }
+    ensures count { RepliesCount }
 {}
 
 /// Who writes the election Lease by a call that was sent in a calm acts by the time the reply comes. So while nobody acts, what is stored
