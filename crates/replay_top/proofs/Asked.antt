@@ -1,9 +1,8 @@
 -- The words that ask for a command on a document.
-use Rattle.std.proofs.Common.{◌≡◌, ℕ, Bool, true, false, List, [], ◌∷◌, codes, Option, Some, None, if◌then◌else◌, ap}
+use Rattle.std.proofs.Common.{◌≡◌, ℕ, Bool, true, false, List, [], ◌∷◌, codes, Some, None, if◌then◌else◌, ap}
 use Rattle.std.specs.Option.{option_map, option_or}
 use Rattle.std.specs.Str.{bytes_eq}
 use Rattle.kube_base.specs.declared.numbers.Beat.{Beat}
-use Rattle.replay_top.specs.declared.command.Command.{Command}
 use Rattle.replay_top.specs.declared.command.Command.TheVariants.{Replay, Check, State}
 use Rattle.replay_top.specs.declared.task.Task.TheVariants.{Document, Generate}
 use Rattle.replay_top.specs.Commands.{command_of}

@@ -1,4 +1,4 @@
-use Rattle.std.proofs.Common.{Some, sym, subst}
+use Rattle.std.proofs.Common.{Some, subst}
 use Rattle.replay_top.specs.Claims.{Claims, IsWell}
 use Rattle.kube_replay_c.proofs.kube_replay_run.Goals as goal
 

@@ -1,4 +1,4 @@
-use Rattle.std.proofs.Common.{◌≡◌, ◌≤◌, ◌+◌, Some, [], refl, sym, ◌∙◌, subst, arith}
+use Rattle.std.proofs.Common.{◌≡◌, ◌≤◌, ◌+◌, Some, [], refl, sym, ◌∙◌, subst}
 use Rattle.replay_top.specs.declared.command.Command.TheVariants.{Replay, Check, State}
 use Rattle.replay_top.specs.Bounds.{most_for}
 use Rattle.replay_top.specs.State.{ReadsBack}

@@ -1,6 +1,5 @@
-use Rattle.std.proofs.Common.{List, ℕ, [], Some, None, IfSome, ◌≤◌, ◌+◌, map, string_bytes, refl, sym, ap, subst, ◌∙◌, ◌≡◌, arith}
+use Rattle.std.proofs.Common.{List, ℕ, [], Some, None, IfSome, ◌≤◌, ◌+◌, map, string_bytes, refl, sym, subst, ◌∙◌, ◌≡◌, arith}
 use Rattle.replay_top.specs.declared.command.Command.TheVariants.{State}
-use Rattle.replay_top.specs.declared.task.Task.{Task}
 use Rattle.replay_top.specs.declared.task.Task.TheVariants.{Audit, Document, Generate}
 use Rattle.replay_top.specs.Bounds.{IsIdle, most_steps}
 use Rattle.replay_top.specs.Outcome.{outcome, performed, usage}

@@ -1,10 +1,8 @@
-use Rattle.std.proofs.Common.{◌≤◌, ◌+◌, suc, Some, [], refl, sym, ap, ◌∙◌, arith}
+use Rattle.std.proofs.Common.{Some, [], refl, sym, ap, ◌∙◌, arith}
 use Rattle.byte_edge.proofs.Fronts.{gave-nothing}
-use Rattle.kube_objects.specs.Document.{end_beat}
-use Rattle.script_reader.specs.Documents.{doc_of}
 use Rattle.replay_top.specs.Outcome.{done, of_whole, refused, state_answer}
 use Rattle.replay_top.proofs.Endings.{ends-moved}
-use Rattle.replay_top.proofs.States.{counts-up, state-past, state-within}
+use Rattle.replay_top.proofs.States.{state-past, state-within}
 use Rattle.replay_top.proofs.state.write_state.Goals as goal
 
 pub returns-then-document-last-clause-text : goal.returns-then-document-last-clause-text
