@@ -3,7 +3,7 @@
 
     python3 tools/test_from_cluster.py [--program COMMAND] [--lens COMMAND]
 
-COMMAND is the program, and kube_lens, by default the built ones. The step for CI that stands in docs/lens.md is run as it stands there. The exit
+COMMAND is the program, and kube_lens, by default the built ones. The step for CI that stands in docs/lens-margin.md is run as it stands there. The exit
 status is 1 where anything differs.
 """
 import argparse
@@ -384,8 +384,8 @@ def put(path, text):
 
 
 def steps_of_page():
-    """The commands of the step for CI in docs/lens.md: as a line, and in a workflow, as GitHub Actions runs a step of `shell: bash`."""
-    with open(os.path.join(TOP, 'docs', 'lens.md'), encoding='utf-8') as file:
+    """The commands of the step for CI in docs/lens-margin.md: as a line, and in a workflow, as GitHub Actions runs a step of `shell: bash`."""
+    with open(os.path.join(TOP, 'docs', 'lens-margin.md'), encoding='utf-8') as file:
         section = re.search(r'^## In a pipeline\n(.*?)^## ', file.read(), re.S | re.M)[1]
     line = re.search(r'^    (\S.*--election-flags.*)$', section, re.M)[1]
     block = re.search(r'^```yaml\n.*?run: \|\n(.*?)^```', section, re.S | re.M)[1]
