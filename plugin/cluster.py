@@ -1,12 +1,13 @@
 """What of a cluster may be read for a command: its items, and sentences on what may not."""
 from lists import LEASES, NODES, PODS, SYSTEM, Forbidden
-from manager import Manager, is_manager
+from manager import Manager
 
 WITHOUT = {
     NODES: 'no node is in the answer, and --controller NAME names the hosts of the control plane',
     PODS: 'no eviction is in the answer; -n NAME lists the pods of one namespace',
     LEASES: 'who leads at first is a guess',
 }
+NO_FLAGS = "the flags of kube-controller-manager can't be read in its pods"
 NEEDS_NODES = ('kill-node', 'kill-zone')
 
 
@@ -15,28 +16,26 @@ class Cluster:
 
     def __init__(self, lists, given):
         self.lists, self.given, self.told = lists, given, []
-        narrow = SYSTEM if given.command == 'margin' else None
         nodes = self.listed(NODES)
-        pods = self.listed(PODS, narrow or given.namespace)
-        leases = self.listed(LEASES, narrow)
-        self.items = nodes + ([] if narrow else pods) + leases
+        if given.command == 'margin':
+            pods, leases = [], self.listed(LEASES, SYSTEM)
+        else:
+            pods, leases = self.listed(PODS, given.namespace), self.listed(LEASES)
+        self.items = nodes + pods + leases
         self.manager = None if given.from_manifest else Manager(self.system_pods(pods), leases)
 
-    def listed(self, resource, namespace=None):
+    def listed(self, resource, namespace=None, without=None):
         """A list, or none and a sentence where it may not be read and there is an answer without it."""
         try:
             return self.lists.read(resource, namespace)
         except Forbidden as fault:
             if resource is NODES and self.given.command in NEEDS_NODES:
                 raise Forbidden('%s; there is no %s without them' % (fault, self.given.command)) from fault
-            self.told.append('%s. So %s' % (fault, WITHOUT[resource]))
+            self.told.append('%s. So %s' % (fault, without or WITHOUT[resource]))
             return []
 
     def system_pods(self, pods):
-        """The pods of kube-controller-manager, which another namespace's list doesn't have."""
-        if self.given.namespace in (None, SYSTEM) or self.given.command == 'margin':
+        """The pods of kube-system, which have kube-controller-manager: of the list where it has them, else of one of their own."""
+        if self.given.command != 'margin' and self.given.namespace in (None, SYSTEM):
             return pods
-        try:
-            return [pod for pod in self.lists.read(PODS, SYSTEM) if is_manager(pod)]
-        except Forbidden:
-            return []
+        return self.listed(PODS, SYSTEM, NO_FLAGS)

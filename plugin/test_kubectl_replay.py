@@ -344,6 +344,7 @@ class Forbidden(Replay):
         status, told, said = self.call('margin')
         self.assertEqual((status in (1, 3), told), (True, ''))
         self.assertIn('name them: --controller NAME', said)
+        self.assertIn('cannot list resource "pods" in API group "" in the namespace "kube-system". So the flags of kube-controller-manager can', said)
         self.assertEqual(self.call('margin', '--controller=a', '--controller=b', '--leader-elect-lease-duration=23s')[0], 0)
 
 

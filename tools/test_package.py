@@ -232,14 +232,14 @@ def try_plugin(tried, system):
     """The plugin of kubectl gives the answers of the pipeline, and says where kubectl isn't there."""
     tried.same('kubectl-replay without kubectl', system.run('kubectl-replay margin'), (3, '', "kubectl replay: kubectl can't be run: No such file or directory\n"))
     system.run('cat > /root/cluster.json', read('tools/data/cluster.json'))
-    system.run('cat > /usr/local/bin/kubectl; chmod +x /usr/local/bin/kubectl', KUBECTL)
+    system.run('cat > /usr/bin/kubectl; chmod +x /usr/bin/kubectl', KUBECTL)
     made = 'kube_replay-from-cluster %s < /root/cluster.json > /root/document.json 2>/dev/null; '
     for words, options in (('kill-leader', '--kill-leader @60s'), ('kill-node worker-1 --at 90s', '--kill worker-1@90s'), ('freeze-leader 45s', '--stall @60s+45s')):
         wanted = system.run(made % options + 'kube_replay replay < /root/document.json | kube_lens summary --document /root/document.json')
         tried.same('kubectl replay ' + words, system.run('kubectl replay %s 2>/dev/null' % words), wanted)
     wanted = system.run(made % '' + 'kube_lens margin < /root/document.json')
     tried.same('kubectl replay margin', system.run('kubectl replay margin 2>/dev/null'), wanted)
-    system.run('rm /usr/local/bin/kubectl /root/cluster.json /root/document.json')
+    system.run('rm /usr/bin/kubectl /root/cluster.json /root/document.json')
 
 
 def try_man_pages(tried, system):
