@@ -57,7 +57,7 @@ class Answers:
 
     def summary(self, document, trace):
         lens = [*programs.program('kube_lens'), 'summary']
-        if len(document) + len(trace) < MOST_BYTES:
+        if len(document) + len(trace) <= MOST_BYTES:
             return self.answered(programs.run([*lens, '--document', *['--json'] * self.given.json], document + trace), (0,))
         self.say('document and trace have more than %d bytes: how late each pod goes is not told' % MOST_BYTES)
         return self.answered(programs.run([*lens, *['--json'] * self.given.json], trace), (0,))

@@ -22,6 +22,7 @@ import unittest
 HERE = os.path.dirname(os.path.abspath(__file__))
 TOP = os.path.dirname(HERE)
 sys.path.insert(0, os.path.join(TOP, 'tools'))
+import answers
 import lists
 import test_objects
 import test_server
@@ -417,6 +418,24 @@ class Pages(Replay):
         self.assertEqual(json.loads(document), {**json.loads(self.answer('kill-leader', '--document')), 'events': []})
 
 
+class Large(unittest.TestCase):
+    """Of a document and a trace that are too long together the tables are told, but for how late the pods go."""
+
+    def test_summary(self):
+        def read(name):
+            with open(os.path.join(TOP, 'examples', 'dead-node', name), 'rb') as file:
+                return file.read()
+        said, document, trace = [], read('document.json'), read('trace.txt')
+        lens = [*shlex.split(PLACE['KUBE_LENS_PROGRAM']), 'summary']
+        asked = answers.Answers(argparse.Namespace(json=False), None, said.append)
+        self.assertEqual(asked.summary(document, trace), (0, run([*lens, '--document'], document + trace)))
+        self.assertEqual(said, [])
+        self.addCleanup(setattr, answers, 'MOST_BYTES', answers.MOST_BYTES)
+        answers.MOST_BYTES = len(document) + len(trace) - 1
+        self.assertEqual(asked.summary(document, trace), (0, run(lens, trace)))
+        self.assertEqual(said, ['document and trace have more than %d bytes: how late each pod goes is not told' % answers.MOST_BYTES])
+
+
 class Krew(Replay):
     """What plugin/krew makes, put where krew would put it."""
 
@@ -456,6 +475,7 @@ def main():
         os.symlink(os.path.abspath(given.kubectl), os.path.join(folder, 'kubectl'))
         os.environ['PATH'] = ':'.join([folder, TOP, os.environ['PATH']])
         PLACE.update(PATH=os.environ['PATH'], KUBE_REPLAY_PROGRAM=given.program, KUBE_LENS_PROGRAM=given.lens)
+        os.environ.update(PLACE)
         unittest.main(argv=[sys.argv[0], *given.test], verbosity=2)
 
 
