@@ -42,7 +42,9 @@ class Answers:
         return path
 
     def margin(self, document):
-        return self.answered(programs.run([*programs.program('kube_lens'), 'margin', *['--json'] * self.given.json], document), (0, 1))
+        done = programs.run([*programs.program('kube_lens'), 'margin', *['--json'] * self.given.json], document)
+        unsafe = done.returncode == 1 and done.stdout.rstrip().endswith((b'unsafe', b'"safe":false}'))
+        return (1, done.stdout) if unsafe else (0, self.answered(done))
 
     def run(self, document):
         """The tables of the run, and its page where one is wanted."""
@@ -50,22 +52,22 @@ class Answers:
         if done.returncode == 1:
             explained = programs.run([*programs.program('kube_lens'), 'explain'], document).stdout.decode(errors='replace')
             raise Unread('kube_replay refuses the document of this cluster: %s' % ' / '.join(explained.splitlines()))
-        _, trace = self.answered(done, (0,))
+        trace = self.answered(done)
         if self.given.page:
             self.draw(document, trace)
-        return self.summary(document, trace)
+        return 0, self.summary(document, trace)
 
     def summary(self, document, trace):
         lens = [*programs.program('kube_lens'), 'summary']
         if len(document) + len(trace) <= MOST_BYTES:
-            return self.answered(programs.run([*lens, '--document', *['--json'] * self.given.json], document + trace), (0,))
+            return self.answered(programs.run([*lens, '--document', *['--json'] * self.given.json], document + trace))
         self.say('document and trace have more than %d bytes: how late each pod goes is not told' % MOST_BYTES)
-        return self.answered(programs.run([*lens, *['--json'] * self.given.json], trace), (0,))
+        return self.answered(programs.run([*lens, *['--json'] * self.given.json], trace))
 
     def draw(self, document, trace):
         title = ' '.join(['kubectl replay', self.given.command, *[self.given.of] * bool(self.given.of)]).replace('/', '-')
         paths = [self.write(title + '.json', document), self.write('trace.txt', trace)]
-        _, page = self.answered(programs.run([*programs.tool('view', 'page.py'), '--document', *paths]), (0,))
+        page = self.answered(programs.run([*programs.tool('view', 'page.py'), '--document', *paths]))
         try:
             with open(self.given.page, 'wb') as file:
                 file.write(page)
@@ -73,12 +75,12 @@ class Answers:
             raise Unread("%s can't be written: %s" % (self.given.page, fault.strerror)) from fault
         self.say('the page is in %s' % self.given.page)
 
-    def answered(self, done, statuses):
+    def answered(self, done):
         """What a program wrote, where it ended as it should."""
-        if done.returncode not in statuses or done.returncode and not done.stdout.rstrip().endswith((b'unsafe', b'"safe":false}')):
+        if done.returncode:
             said = (done.stderr or done.stdout).decode(errors='replace').strip()
             raise Unread('%s ended with %d: %s' % (os.path.basename(done.args[0]), done.returncode, said))
-        return done.returncode, done.stdout
+        return done.stdout
 
     def play(self, document):
         """Opens the playground with the cluster, and ends with it."""

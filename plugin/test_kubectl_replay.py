@@ -428,11 +428,11 @@ class Large(unittest.TestCase):
         said, document, trace = [], read('document.json'), read('trace.txt')
         lens = [*shlex.split(PLACE['KUBE_LENS_PROGRAM']), 'summary']
         asked = answers.Answers(argparse.Namespace(json=False), None, said.append)
-        self.assertEqual(asked.summary(document, trace), (0, run([*lens, '--document'], document + trace)))
+        self.assertEqual(asked.summary(document, trace), run([*lens, '--document'], document + trace))
         self.assertEqual(said, [])
         self.addCleanup(setattr, answers, 'MOST_BYTES', answers.MOST_BYTES)
         answers.MOST_BYTES = len(document) + len(trace) - 1
-        self.assertEqual(asked.summary(document, trace), (0, run(lens, trace)))
+        self.assertEqual(asked.summary(document, trace), run(lens, trace))
         self.assertEqual(said, ['document and trace have more than %d bytes: how late each pod goes is not told' % answers.MOST_BYTES])
 
 
