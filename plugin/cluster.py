@@ -24,6 +24,13 @@ class Cluster:
         self.items = nodes + pods + leases
         self.manager = None if given.from_manifest else Manager(self.system_pods(pods), leases)
 
+    def tell_manager(self):
+        """What is told of the pods of kube-controller-manager, if they were looked at."""
+        if not self.manager:
+            return []
+        nodes = [item for item in self.items if item['kind'] == NODES.kind]
+        return self.manager.tell() + ([] if self.given.kubernetes else self.manager.tell_version(nodes))
+
     def listed(self, resource, namespace=None, without=None):
         """A list, or none and a sentence where it may not be read and there is an answer without it."""
         try:

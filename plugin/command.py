@@ -28,7 +28,7 @@ def answer(given, folder):
     for told in cluster.told:
         say(told)
     document = answers.document(cluster)
-    for told in (cluster.manager.tell() if cluster.manager else []):
+    for told in cluster.tell_manager():
         say(told)
     if given.document:
         return 0, document

@@ -6,6 +6,7 @@ import cluster_manifest
 from cluster_controllers import host_of, same_host
 from cluster_flags import FLAGS, value_of
 from cluster_list import is_election, part
+from cluster_versions import number_of
 from lists import SYSTEM
 
 NAME = 'kube-controller-manager'
@@ -26,6 +27,12 @@ def words_of(pod):
         named = any(NAME in word for word in words)
         found += words if named else [NAME, *words] if each.get('name') == NAME else []
     return found
+
+
+def version_of(pod):
+    """The version that its image is called by, as (1, 36), where it is."""
+    images = [each.get('image') or '' for each in part(pod, 'spec', 'containers') or [] if NAME in (each.get('image') or '')]
+    return next((number_of(image.partition('@')[0].rpartition(':')[2]) for image in images), None)
 
 
 def leader_first(pods, leases):
@@ -63,6 +70,15 @@ class Manager:
         flags = ['%s=%s' % (flag, value.text) for flag, value in first[1].items()]
         told = ['flags are those of the pod %s/%s: %s' % (SYSTEM, first[0], ' '.join(flags) or 'none that counts here, so the defaults')]
         return told + [said for name, flags in others for said in differences(first[1], name, flags)]
+
+
+    def tell_version(self, nodes):
+        """That it has another version than the newest kubelet, by which the defaults are taken."""
+        kubelets = [number_of(part(node, 'status', 'nodeInfo', 'kubeletVersion') or '') for node in nodes]
+        version, newest = version_of(self.pods[0]) if self.pods else None, max(filter(None, kubelets), default=None)
+        if not version or version == newest:
+            return []
+        return ['the pod %s has version %d.%d, and the kubelets another: --kubernetes %d.%d takes its defaults' % (self.pods[0]['metadata']['name'], *version, *version)]
 
 
 def value(flags, flag):

@@ -294,6 +294,17 @@ class Flags(Replay):
         self.assertIn('kube-controller-manager-cp-2: none that counts here, so the defaults', said)
         self.assertIn('lease=15000ms', told)
 
+    def test_version(self):
+        """A control plane that is newer than its kubelets."""
+        said = 'the pod kube-controller-manager-cp-2 has version 1.36, and the kubelets another: --kubernetes 1.36 takes its defaults'
+        self.assertNotIn('takes its defaults', self.call('margin')[2])
+        for tag in (':v1.36.2', ':v1.36.2@sha256:abc'):
+            self.server.lists['pods'][1]['spec']['containers'][0]['image'] = 'registry.example:5000/kube-controller-manager' + tag
+            self.assertIn(said, self.call('margin')[2])
+        self.assertNotIn('takes its defaults', self.call('margin', '--kubernetes', '1.36')[2])
+        self.server.lists['pods'][1]['spec']['containers'][0]['image'] = 'registry.example:5000/kube-controller-manager@sha256:abc'
+        self.assertNotIn('takes its defaults', self.call('margin')[2])
+
     def test_none(self):
         self.server.lists['pods'] = self.server.lists['pods'][3:]
         _, told, said = self.call('margin')
