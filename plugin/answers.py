@@ -1,7 +1,7 @@
 """The answers: a document of the cluster, its replay, and what kube_lens says of them."""
 import json
 import os
-import sys
+import subprocess
 
 import network
 import programs
@@ -87,5 +87,8 @@ class Answers:
         found = programs.playground()
         if not found:
             raise Unread('there is no playground yet: neither ./playground in this checkout nor kube_replay-playground on PATH')
-        sys.stdout.flush()
-        return os.spawnvp(os.P_WAIT, found[0], [*found, '--open', self.write('cluster.json', document)])
+        with subprocess.Popen([*found, '--open', self.write('cluster.json', document)]) as opened:
+            try:
+                return opened.wait()
+            finally:
+                opened.terminate()

@@ -1,5 +1,6 @@
 """One call of `kubectl replay`: words, lists, a document, an answer, and the exit status."""
 import os
+import signal
 import sys
 import tempfile
 
@@ -10,7 +11,7 @@ from cluster import Cluster
 from cluster_flags import Wrong
 from lists import Lists, Unread
 
-NO_ANSWER, UNWRITTEN, INTERRUPTED = 3, 4, 130
+NO_ANSWER, UNWRITTEN, INTERRUPTED, TERMINATED = 3, 4, 130, 143
 
 
 def say(text):
@@ -38,6 +39,7 @@ def answer(given, folder):
 
 
 def main(given):
+    signal.signal(signal.SIGTERM, lambda *_: sys.exit(TERMINATED))
     try:
         with tempfile.TemporaryDirectory(prefix='kubectl-replay-') as folder:
             status, data = answer(words.read(given), folder)
