@@ -80,10 +80,11 @@ def main():
     given, more = options()
     try:
         find_engine()
-        server = served(given, more)
-    except NoEngine as fault:
+    except (NoEngine, OSError) as fault:
         print('playground: %s%s' % (fault, '' if beginning.IS_INSTALLED else '; ' + BUILD), file=sys.stderr)
         return NO_ENGINE
+    try:
+        server = served(given, more)
     except (beginning.Wrong, OSError, OverflowError) as fault:
         print('playground: %s' % fault, file=sys.stderr)
         return 1

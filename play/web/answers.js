@@ -8,6 +8,7 @@ import { count, make, plural, time } from './words.js';
 const beats = (answer, key) => answer.summary && key(answer.summary) * answer.summary.header.beatMillis;
 const longest = answer => beats(answer, told => told.spansWithoutLeader.longest);
 const sum = answer => beats(answer, told => told.spansWithoutLeader.sum);
+const atEnd = answer => beats(answer, told => told.leaderlessAtEnd);
 const twoLead = answer => beats(answer, told => told.header.twoLeadBeats);
 const evicted = answer => answer.summary && answer.summary.evictions.count;
 const isRuledOut = answer => / premise=yes\n/.test(answer.trace.slice(0, 200));
@@ -45,8 +46,10 @@ export class Answers {
   }
 
   leaderless(answer, pinned) {
-    const most = longest(answer), rest = most === null ? NO_LENS : 'at longest; ' + time(sum(answer)) + ' in all, ' + plural(answer.summary.terms, 'term');
-    return card('Nobody leads', most === null ? UNKNOWN : time(most), rest, '', differs(most, pinned.trace ? longest(pinned) : null, time));
+    const most = longest(answer), open = atEnd(answer), isOpen = most !== null && open > 0;
+    const rest = most === null ? NO_LENS : (isOpen ? 'and at the end of the run, for ' + time(open) + ' so far; ' : 'at longest; ') + time(sum(answer)) + ' in all, ' + plural(answer.summary.terms, 'term');
+    const value = most === null ? UNKNOWN : (open === most && isOpen ? 'over ' : '') + time(most);
+    return card('Nobody leads', value, rest, isOpen ? 'bad' : '', differs(most, pinned.trace ? longest(pinned) : null, time));
   }
 
   evictions(answer, pinned) {
@@ -70,8 +73,8 @@ export class Answers {
     const who = rows === 1 && names.length > 1 ? 'all ' + names.length : names.join(', '), isShort = longestStallMillis === null;
     const then = pinned.margin && pinned.margin.controllers.find(each => each.name === names[0]);
     const room = isShort ? time(-slackMillis) + ' too short' : time(slackMillis) + ' to spare';
-    return make('tr', { className: isShort ? 'bad' : 'good' }, make('th', { scope: 'row' }, who), make('td', {}, 'lease ' + time(leaseMillis) + ': ' + room),
-      make('td', {}, leastLeaseSeconds === null ? 'no lease up to a day would do' : leastLeaseSeconds + ' s would do'),
+    return make('tr', { className: isShort ? 'bad' : 'good' }, make('th', { scope: 'row' }, who), make('td', {}, room),
+      make('td', {}, 'lease ' + time(leaseMillis) + (leastLeaseSeconds === null ? ', and none up to a day would do' : ', least ' + leastLeaseSeconds + ' s')),
       make('td', {}, isShort ? '' : 'bears a stall of ' + time(longestStallMillis)), make('td', {}, then ? differs(slackMillis, then.slackMillis, time) || '' : ''));
   }
 }

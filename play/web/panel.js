@@ -45,7 +45,7 @@ export class Panel {
     parts.splice(1, 0, this.section('Controllers', false, document.controllers.map((each, place) => this.controller(each, place))));
     this.pods = this.section('Tolerations of the pods', false, []);
     parts.push(this.pods, this.section('Run', false, this.run()), this.section('Events', true, [this.events.list]));
-    this.holder.replaceChildren(...parts);
+    this.holder.replaceChildren(make('p', { className: 'hint' }, '▲ is a default, and sets it. A name in bold was changed.'), ...parts);
     this.buildPods();
     this.sync();
   }

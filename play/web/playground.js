@@ -27,6 +27,7 @@ class Playground {
     this.asking = new Asking((...told) => this.told(...told));
     this.stage = new Stage({ onMoment: (...moment) => this.openLane(...moment), onFile: (text, file) => this.load(text, file.replace(/\.json$/, '')),
       onDrawn: () => { if (this.undo) this.marks.place(); }, say: words => this.say(words) });
+    this.stage.listenPinned();
     this.marks = new Marks(element('marks'), this.stage, this);
     this.menu = new Menu(element('menu'), this);
     this.panel = new Panel(element('panel'), this);
@@ -200,7 +201,6 @@ class Playground {
     this.pinned = this.pinned ? null : { answer: this.answer, document: this.shown.document, name: this.shown.name };
     element('pin').setAttribute('aria-pressed', String(!!this.pinned));
     element('pin').textContent = this.pinned ? 'unpin' : 'pin';
-    element('pinned-holder').hidden = !this.pinned;
     const { pinned } = this;
     this.stage.pin(pinned ? pinned.answer.trace : null, pinned && pinned.document, pinned && pinned.name);
     this.showAnswers();

@@ -3,6 +3,7 @@
 
 /* global Page, Chart, Told, readTrace, element, timeText, AXIS */
 
+const PINNED_SHARE = 0.42;
 const seconds = (beat, millis) => timeText(beat, millis, false);
 
 export class Stage extends Page {
@@ -82,6 +83,18 @@ export class Stage extends Page {
     element('load').onclick = () => element('file').click();
   }
 
+  // Over the pinned trace the wheel and a drag move both.
+  listenPinned() {
+    const canvas = element('pinned');
+    canvas.addEventListener('wheel', event => this.wheel(event), { passive: false });
+    canvas.addEventListener('pointermove', event => {
+      this.state.cursor = event.offsetX;
+      if (event.buttons === 1 && this.chart) this.chart.pan(-event.movementX);
+      this.draw();
+    });
+    canvas.addEventListener('pointerleave', () => { this.state.cursor = null; this.draw(); });
+  }
+
   // Where on the screen a lane stands at a beat; null where it isn't in view.
   place(lane, beat) {
     const row = lane && this.chart.rowOf(lane);
@@ -149,15 +162,20 @@ export class Stage extends Page {
   }
 
   resize() {
+    if (element('pinned')) this.resizePinned();
     super.resize();
-    const canvas = element('pinned');
-    if (!canvas) return;
-    canvas.hidden = !this.pinned;
+  }
+
+  // The pinned trace is as high as it needs, up to a share of the room.
+  resizePinned() {
+    const canvas = element('pinned'), ratio = devicePixelRatio || 1;
+    element('pinned-holder').hidden = !this.pinned;
     if (!this.pinned) return;
-    const ratio = devicePixelRatio || 1, width = canvas.clientWidth, height = canvas.clientHeight;
-    if (canvas.width !== Math.round(width * ratio) || canvas.height !== Math.round(height * ratio)) {
-      Object.assign(canvas, { width: Math.round(width * ratio), height: Math.round(height * ratio) });
-    }
+    const room = element('stage').clientHeight * PINNED_SHARE, height = Math.max(AXIS + 60, Math.min(this.pinned.height + AXIS, room));
+    canvas.style.height = height + 'px';
+    const width = canvas.clientWidth;
+    if (canvas.width === Math.round(width * ratio) && canvas.height === Math.round(height * ratio)) return;
+    Object.assign(canvas, { width: Math.round(width * ratio), height: Math.round(height * ratio) });
   }
 
   drawNow() {
@@ -185,6 +203,10 @@ export class Stage extends Page {
   drawPinned() {
     const canvas = element('pinned'), c = canvas.getContext('2d'), ratio = devicePixelRatio || 1, { pinned, chart, model } = this;
     const factor = model.beat / pinned.model.beat, height = canvas.clientHeight;
+    if (pinned.folded !== chart.folded || pinned.hideQuiet !== chart.hideQuiet || pinned.foldedCount !== chart.folded.size) {
+      Object.assign(pinned, { folded: chart.folded, hideQuiet: chart.hideQuiet, foldedCount: chart.folded.size });
+      pinned.layRows();
+    }
     pinned.setSize(canvas.clientWidth, height);
     Object.assign(pinned, { from: chart.from * factor, to: chart.to * factor });
     c.setTransform(ratio, 0, 0, ratio, 0, 0);
