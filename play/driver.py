@@ -12,7 +12,8 @@ sys.path.insert(0, os.path.join(TOP, 'view'))
 from browser import Browser
 
 CONTROL, SHIFT = 2, 8
-KEY_CODES = {'Tab': 9, 'Enter': 13, 'Escape': 27, ' ': 32, 'ArrowLeft': 37, 'ArrowUp': 38, 'ArrowRight': 39, 'ArrowDown': 40, 'Delete': 46}
+KEY_CODES = {'Tab': 9, 'Enter': 13, 'Escape': 27, ' ': 32, 'ArrowLeft': 37, 'ArrowUp': 38, 'ArrowRight': 39, 'ArrowDown': 40, 'Delete': 46,
+             '.': 190, '-': 189, '+': 187, '/': 191}
 
 
 class Playground:

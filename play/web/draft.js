@@ -100,7 +100,7 @@ const isOf = (toleration, key) => (!toleration.key || toleration.key === key) &&
 export function tolerated(pod) {
   const all = ((pod.spec || {}).tolerations || []).filter(each => isOf(each, UNREACHABLE));
   if (all.length === 0) return 0;
-  const seconds = all.filter(each => each.tolerationSeconds !== undefined && each.tolerationSeconds !== null).map(each => Number(each.tolerationSeconds));
+  const seconds = all.filter(each => each.tolerationSeconds !== undefined && each.tolerationSeconds !== null).map(each => Number(JSON.stringify(each.tolerationSeconds)));
   return seconds.length === 0 ? Infinity : Math.max(0, Math.min(...seconds));
 }
 

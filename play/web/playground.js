@@ -238,7 +238,8 @@ class Playground {
 
   taken() {
     const { shown, answer, known, command, stage } = this;
-    return { name: shown.name, text: shown.text, document: shown.document, trace: answer.trace, chart: stage.chart, known, command };
+    return { name: shown.name, text: shown.text, document: shown.document, trace: answer.trace, chart: stage.chart, known, command,
+      isStale: element('stage').classList.contains('stale') };
   }
 
   // Whether what stands is the answer on the last change. For those who test it.

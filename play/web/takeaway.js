@@ -26,16 +26,16 @@ export function commandOf(command, text, name) {
 }
 
 export class TakeAway {
-  // The host has `taken()`, which gives { name, text, trace, document, chart, known, command }.
+  // The host has `taken()`, which gives { name, text, trace, document, chart, known, command, isStale }.
   constructor(dialog, host) { Object.assign(this, { dialog, host, links: [] }); }
 
   open() {
-    const taken = this.host.taken(), { name, text, trace, document, known, command, chart } = taken;
+    const taken = this.host.taken(), { name, text, trace, document, known, command, chart, isStale } = taken;
     this.revoke();
     const flags = flagsOf(document, known), base = name.replace(/[^A-Za-z0-9._-]/g, '-').replace(/\.json$/, '');
     const timeout = document.settings.callTimeoutMillis ?? known.settings.callTimeoutMillis.default;
     this.dialog.replaceChildren(
-      make('h2', {}, 'Take away'),
+      make('h2', {}, 'Take away'), isStale ? make('p', { className: 'error' }, 'What stands now is refused: this is the last state that was accepted.') : '',
       make('p', { className: 'row' }, this.link('document', base + '.json', text, 'application/json'), this.link('trace', base + '.txt', trace, 'text/plain'),
         this.link('picture (SVG)', base + '.svg', drawn(chart, name), 'image/svg+xml')),
       make('h3', {}, 'The command that gives the same trace'), this.area('command', commandOf(command, text, base)),
