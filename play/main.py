@@ -1,4 +1,4 @@
-"""Serves the playground: a page on which one asks by clicking. ./playground calls it.
+"""Serves the playground: a page on which a document is asked by clicking.
 
     ./playground                        begins with examples/leader-crashes, and offers all examples
     ./playground DOCUMENT               begins with a document
@@ -88,8 +88,9 @@ def main():
     except (beginning.Wrong, OSError, OverflowError) as fault:
         print('playground: %s' % fault, file=sys.stderr)
         return 1
-    signal.signal(signal.SIGTERM, end)
-    signal.signal(signal.SIGHUP, end)
+    # Also where it was started in the background of a script, in which Ctrl-C is ignored.
+    for number in (signal.SIGINT, signal.SIGTERM, signal.SIGHUP):
+        signal.signal(number, end)
     run(server, given.open)
     sys.stdout.flush()
     os._exit(0)

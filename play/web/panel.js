@@ -56,9 +56,11 @@ export class Panel {
     return details;
   }
 
+  // A slider goes on to twice the value that it begins with, where that lies beyond its end.
   dial(what) {
-    const dial = new Dial(what, this.host);
-    dial.first = what.get(this.first);
+    const first = what.get(this.first), [least, most, step] = what.slider, value = first / (what.scale || 1);
+    const dial = new Dial({ ...what, slider: [Math.min(least, value < least ? 2 * value : least), value > most ? 2 * value : most, step] }, this.host);
+    dial.first = first;
     this.dials.push(dial);
     return dial;
   }
