@@ -60,7 +60,7 @@ export const ACTS = [
   { words: 'start', of: ['controller'], events: (process, beat) => [{ beat, type: 'start', process }] },
   { words: 'kubelet comes back', of: ['node'], events: (process, beat) => [{ beat, type: 'start', process }] },
   { words: 'pause', asks: [seconds('for', 20)], of: both, events: (process, beat, [length], document) => [{ beat, type: 'pause', process, beats: beatsOf(document, length * 1000) }] },
-  { words: 'slow network', asks: [{ words: 'each way', value: 1000, unit: 'ms' }, seconds('for', 8)], of: both,
+  { words: 'slow network', asks: [{ words: 'each way', value: 1500, unit: 'ms' }, seconds('for', 8)], of: both,
     events: (process, beat, [millis, length], document) => slow(process, beat, delayOf(document, millis), until(beat, length, document)) },
   { words: 'messages lost', asks: [seconds('for', 10)], of: both, events: (process, beat, [length], document) => lost(process, beat, until(beat, length, document)) },
   { words: 'clock', asks: [{ words: 'off by', value: 2, unit: '%' }], of: both,

@@ -27,7 +27,7 @@ function card(title, value, rest, name, more) {
 const UNKNOWN = '–', NO_LENS = 'needs the built program kube_lens';
 
 export class Answers {
-  // The host has `goToOverlap()`.
+  // The host has `goToOverlap()` and `runLonger()`.
   constructor(holder, host) { Object.assign(this, { holder, host }); }
 
   show(answer, pinned) {
@@ -49,7 +49,9 @@ export class Answers {
     const most = longest(answer), open = atEnd(answer), isOpen = most !== null && open > 0;
     const rest = most === null ? NO_LENS : (isOpen ? 'and at the end of the run, for ' + time(open) + ' so far; ' : 'at longest; ') + time(sum(answer)) + ' in all, ' + plural(answer.summary.terms, 'term');
     const value = most === null ? UNKNOWN : (open === most && isOpen ? 'over ' : '') + time(most);
-    return card('Nobody leads', value, rest, isOpen ? 'bad' : '', differs(most, pinned.trace ? longest(pinned) : null, time));
+    const longer = isOpen ? make('button', { type: 'button', onclick: () => this.host.runLonger() }, 'run twice as long') : null;
+    const parts = [differs(most, pinned.trace ? longest(pinned) : null, time), longer].filter(Boolean);
+    return card('Nobody leads', value, rest, isOpen ? 'bad' : '', make('p', { className: 'rest' }, ...parts));
   }
 
   evictions(answer, pinned) {
@@ -73,9 +75,9 @@ export class Answers {
     const who = rows === 1 && names.length > 1 ? 'all ' + names.length : names.join(', '), isShort = longestStallMillis === null;
     const then = pinned.margin && pinned.margin.controllers.find(each => each.name === names[0]);
     const room = isShort ? time(-slackMillis) + ' too short' : time(slackMillis) + ' to spare';
-    return make('tr', { className: isShort ? 'bad' : 'good' }, make('th', { scope: 'row' }, who), make('td', {}, room),
+    return make('tr', { className: isShort ? 'bad' : 'good' }, make('th', { scope: 'row' }, who), make('td', {}, room, then && then.slackMillis !== slackMillis ? make('span', { className: 'differs' }, ' (pinned: ' + time(then.slackMillis) + ')') : ''),
       make('td', {}, 'lease ' + time(leaseMillis) + (leastLeaseSeconds === null ? ', and none up to a day would do' : ', least ' + leastLeaseSeconds + ' s')),
-      make('td', {}, isShort ? '' : 'bears a stall of ' + time(longestStallMillis)), make('td', {}, then ? differs(slackMillis, then.slackMillis, time) || '' : ''));
+      make('td', {}, isShort ? '' : 'bears a stall of ' + time(longestStallMillis)));
   }
 }
 

@@ -5,7 +5,7 @@
 import { Answers, inWords } from './answers.js';
 import { Asking } from './asking.js';
 import { differences } from './differences.js';
-import { eventsOf, read, textOf } from './draft.js';
+import { eventsOf, read, textOf, withSetting } from './draft.js';
 import { Marks } from './marks.js';
 import { Menu } from './menu.js';
 import { Panel } from './panel.js';
@@ -228,6 +228,11 @@ class Playground {
   goToOverlap() {
     const [first] = this.stage.model.overlaps;
     if (first) this.stage.goTo(this.stage.model.leaderLane, first.from, null, (first.to - first.from) * 12);
+  }
+
+  runLonger() {
+    const { endBeat } = this.document.settings;
+    this.change(withSetting(this.document, 'endBeat', Math.max(1, Math.min(2 * endBeat, this.known.settings.endBeat.maximum))), 'a longer run');
   }
 
   togglePanel() {
