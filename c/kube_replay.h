@@ -1,3 +1,4 @@
+/* SPDX-License-Identifier: Apache-2.0 */
 /* kube_replay as a library: one call, for C and for what calls C.
  *
  * What it does, and the bytes that it writes, are those of the program `kube_replay` with the same words and the same standard input.

@@ -1,3 +1,5 @@
+// SPDX-License-Identifier: Apache-2.0
+
 // Package kubereplay calls kube_replay as a library: the words, bytes and statuses are those of the program.
 //
 // It links c/libkube_replay.so of the checkout that it lies in, which tools/shared-library makes.
