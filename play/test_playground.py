@@ -252,9 +252,9 @@ def test_settings(person, served, pictures):
     person.run('(() => { const e = playground.panel.policy; e.value = "gentle"; e.dispatchEvent(new Event("change")); })()')
     same('rate policy', same_trace('policy', person)['settings']['ratePolicy'], 'gentle')
     load(person, 'tolerations')
-    group = person.run('playground.panel.dials.find(dial => dial.isOfPods && dial.get() === 300).label')
+    group = person.run('playground.panel.dials.find(dial => dial.isOfPods && dial.get(playground.document) === 300).label')
     enter(person, group, 45) if person.run('playground.panel.dials.filter(dial => dial.label === %r).length === 1' % group) else person.run(
-        '(() => { const dial = playground.panel.dials.find(dial => dial.isOfPods && dial.get() === 300); dial.number.value = "45"; dial.number.dispatchEvent(new Event("input")); dial.number.dispatchEvent(new Event("change")); })()')
+        '(() => { const dial = playground.panel.dials.find(dial => dial.isOfPods && dial.get(playground.document) === 300); dial.number.value = "45"; dial.number.dispatchEvent(new Event("input")); dial.number.dispatchEvent(new Event("change")); })()')
     document = same_trace('tolerations', person)
     pod = next(item for item in document['objects']['items'] if item['kind'] == 'Pod' and item['metadata']['name'] == 'five-minutes')
     same('seconds', sorted({each['tolerationSeconds'] for each in pod['spec']['tolerations'] if 'tolerationSeconds' in each}), [45])

@@ -10,6 +10,7 @@ import time
 
 HERE = os.path.dirname(os.path.realpath(__file__))
 LENGTH = 8
+GONE = 'the run was ended: another window asked something, or it took too much memory'
 
 
 class Ended(Exception):
@@ -32,7 +33,7 @@ class Worker:
             length = int.from_bytes(self.read(LENGTH, reader, until), 'big')
             return self.read(length, reader, until)
         except (OSError, ValueError) as fault:
-            raise Ended('its process has ended') from fault
+            raise Ended(GONE) from fault
 
     def read(self, count, reader, until):
         parts = []
@@ -40,7 +41,7 @@ class Worker:
             self.wait(reader, until)
             part = self.process.stdout.read(min(count, 1 << 20))
             if not part:
-                raise Ended('its process has ended')
+                raise Ended(GONE)
             parts.append(part)
             count -= len(part)
         return b''.join(parts)

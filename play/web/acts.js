@@ -27,7 +27,7 @@ export const FIELDS = {
 
 // How each type of event is shown: a sign, and words by its values.
 const ms = (beats, document) => short(beats * beatMillis(document)) + ' ms';
-export const SIGNS = { crash: '✕', start: '▶', stop: '■', pause: '⏸', rate: '◷', delay: '⇄', loss: '⌿', watch: '◉', ready: '♥', put: '＋', remove: '−' };
+export const SIGNS = { crash: '✕', start: '▶', stop: '■', pause: '‖', rate: '◷', delay: '⇄', loss: '⌿', watch: '◉', ready: '♥', put: '+', remove: '−' };
 
 export const TOLD = {
   crash: () => 'crashes', start: () => 'starts', stop: () => 'stops in good order',

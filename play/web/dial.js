@@ -18,7 +18,7 @@ export class Dial {
   build() {
     const id = 'dial-' + ++made, [least, most, step] = this.slider;
     this.range = make('input', { type: 'range', min: least, max: most, step, tabIndex: 0, 'aria-label': this.label + ', slider' });
-    this.number = make('input', { type: 'number', id, step: 'any', min: this.least / this.scale, max: this.most / this.scale });
+    this.number = make('input', { type: 'number', id, step: 'any', placeholder: '∞', min: this.least / this.scale, max: this.most / this.scale });
     this.error = make('p', { className: 'error', id: id + '-error', hidden: true });
     this.number.setAttribute('aria-describedby', id + '-error');
     for (const input of [this.range, this.number]) {
@@ -50,8 +50,9 @@ export class Dial {
 
   // Shows the value that the document has, but for an input that somebody writes in.
   sync(document) {
-    const value = short(this.get(document) / this.scale);
-    for (const input of [this.range, this.number]) if (input !== document.activeElement || Number(input.value) !== Number(value)) input.value = value;
+    const value = this.get(document) / this.scale, written = Number.isFinite(value) ? short(value) : '';
+    this.range.value = Math.min(value, this.slider[1]);
+    if (this.number !== window.document.activeElement || Number(this.number.value) !== value) this.number.value = written;
     this.row.classList.toggle('changed', this.first !== undefined && this.first !== this.get(document));
   }
 

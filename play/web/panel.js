@@ -1,6 +1,6 @@
 // The settings beside the picture, as a person knows them: by kube-controller-manager's flags, with their units.
 
-import { beatMillis, firstDelay, toleranceGroups, withController, withFirstDelay, withSetting, withTolerance } from './draft.js';
+import { beatMillis, firstDelay, tolerated, toleranceGroups, withController, withFirstDelay, withSetting, withTolerance } from './draft.js';
 import { Dial } from './dial.js';
 import { EventList } from './events.js';
 import { make, plural } from './words.js';
@@ -59,7 +59,7 @@ export class Panel {
   // A slider goes on to twice the value that it begins with, where that lies beyond its end.
   dial(what) {
     const first = what.get(this.first), [least, most, step] = what.slider, value = first / (what.scale || 1);
-    const dial = new Dial({ ...what, slider: [Math.min(least, value < least ? 2 * value : least), value > most ? 2 * value : most, step] }, this.host);
+    const dial = new Dial({ ...what, slider: [value < least ? 2 * value : least, Number.isFinite(value) && value > most ? 2 * value : most, step] }, this.host);
     dial.first = first;
     this.dials.push(dial);
     return dial;
@@ -131,7 +131,7 @@ export class Panel {
     const rows = groups.map(({ seconds, places }) => {
       const label = plural(places.length, 'pod') + (seconds === Infinity ? ' for ever' : '');
       return Object.assign(this.dial({ label, help: 'how long they stay on a node that is silent (not-ready or unreachable)', unit: 's', slider: [0, 600, 5], least: 0, most: 1e9, path: null,
-        marks: [{ value: 300, words: 'what Kubernetes gives to pods without one' }], get: () => (seconds === Infinity ? 600 : seconds), set: (changed, value) => withTolerance(changed, places, value) }), { isOfPods: true }).row;
+        marks: [{ value: 300, words: 'what Kubernetes gives to pods without one' }], get: changed => tolerated(changed.objects.items[places[0]]), set: (changed, value) => withTolerance(changed, places, value) }), { isOfPods: true }).row;
     });
     this.pods.replaceChildren(make('summary', {}, 'Tolerations of the pods'), ...rows, ...(rows.length ? [] : [make('p', { className: 'hint' }, 'The document has no pods.')]));
   }

@@ -161,7 +161,7 @@ class Playground {
       this.early = words;
       return this.load(this.examples[0].text, this.examples[0].name);
     }
-    if (question.isNew || fault) return this.trouble(words);
+    if (question.isNew || fault) return this.trouble(words, !question.isNew);
     const event = /^\/events\/([0-9]+)/.exec(refused.path);
     this.marks.wrong = event ? Number(event[1]) : null;
     this.panel.refuse(refused, this.dragged);
