@@ -13,7 +13,7 @@ HERE = os.path.dirname(os.path.realpath(__file__))
 TOP = os.path.dirname(HERE)
 sys.path[:0] = [os.path.join(TOP, 'python'), os.path.join(TOP, 'tools')]
 import questions
-from kube_replay.engine import engine
+from kube_replay import engine
 from kube_replay.errors import KubeReplayError
 
 LENS_VARIABLE = 'KUBE_LENS_PROGRAM'
@@ -21,8 +21,12 @@ LENS_PLACES = (os.path.join(TOP, 'crates', 'kube_lens', 'out', 'kube_lens'), '/u
 DONE, REFUSED, OUT_OF_MEMORY = 0, 1, 5
 # A longer trace isn't handed to the page: no browser draws millions of lines while somebody drags.
 MOST_TRACE = 32_000_000
+# The library is called again where a text has no room in its buffer, so that begins large.
+FIRST_ROOM = 1 << 22
+# What stands before the objects of a document, which the page writes last.
+OBJECTS = b',"objects":'
 # The delay from a node's silence is asked of each pod, which is slow for very many.
-MOST_PODS_ASKED = 2_000
+MOST_PODS_ASKED, BYTES_OF_A_POD = 2_000, 1_000
 
 
 class Lens:
@@ -41,15 +45,19 @@ class Lens:
         return json.loads(done.stdout) if done.returncode in (DONE, REFUSED) and done.stdout.startswith(b'{') else None
 
 
-def without_objects(document):
+def without_objects(document, objects_at):
     """The document as far as clocks, leases and pauses go: what is stored doesn't count there, and is long. None where it is no object."""
+    if objects_at and document[objects_at:objects_at + len(OBJECTS)] == OBJECTS:
+        return document[:objects_at] + b'}'
+    read = parsed(document)
+    return json.dumps({key: value for key, value in read.items() if key != 'objects'}, separators=(',', ':')).encode() if isinstance(read, dict) else None
+
+
+def parsed(document):
     try:
-        read = json.loads(document)
+        return json.loads(document)
     except (ValueError, RecursionError):
-        return None, None
-    if not isinstance(read, dict):
-        return None, None
-    return json.dumps({key: value for key, value in read.items() if key != 'objects'}, separators=(',', ':')).encode(), read
+        return None
 
 
 def lateness(evictions):
@@ -63,6 +71,9 @@ def lateness(evictions):
 
 def pod_delay(document, trace):
     """The most seconds from the silence of a pod's node to the pod's eviction; None where there is none, or where the pods are too many."""
+    if len(document) > MOST_PODS_ASKED * BYTES_OF_A_POD:
+        return None
+    document = parsed(document)
     pods = [item for item in (document.get('objects') or {}).get('items') or [] if item.get('kind') == 'Pod']
     if len(pods) > MOST_PODS_ASKED:
         return None
@@ -88,12 +99,13 @@ class Answers:
     """All that is asked of a document, by one engine and one lens."""
 
     def __init__(self):
-        self.engine, self.lens, self.beside = engine(), Lens(), ThreadPoolExecutor(1)
+        engine.FIRST_ROOM = FIRST_ROOM
+        self.engine, self.lens, self.beside = engine.engine(), Lens(), ThreadPoolExecutor(1)
 
-    def answer(self, document):
-        """The answer on the bytes of a document, as an object for the page."""
+    def answer(self, document, objects_at=0):
+        """The answer on the bytes of a document, as an object for the page; it may tell where the objects begin, if they stand last."""
         replayed = self.beside.submit(self.engine.run, [b'replay'], document)
-        light, read = without_objects(document)
+        light = without_objects(document, objects_at)
         margin = self.lens.ask('margin', '--json', data=light) if light else None
         try:
             status, text = replayed.result()
@@ -105,7 +117,7 @@ class Answers:
             return {'fault': 'memory ran out' if status == OUT_OF_MEMORY else 'the program ended with status %d' % status}
         if len(text) > MOST_TRACE:
             return {'fault': 'the trace has %d MB, and the page draws up to %d: let it run for less, or take longer beats' % (len(text) // 10**6, MOST_TRACE // 10**6)}
-        return {'trace': text.decode(), 'margin': margin, 'summary': summary(self.lens, light, read, text) if light else None}
+        return {'trace': text.decode(), 'margin': margin, 'summary': summary(self.lens, light, document, text) if light else None}
 
     def refusal(self, document, text):
         """Why a document is refused: the code and the path, and where kube_lens is there, its sentence."""

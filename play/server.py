@@ -100,8 +100,9 @@ class Handler(BaseHTTPRequestHandler):
         if len(document) < length:
             self.close_connection = True
             return
+        at = self.headers.get('Objects-At', '0')
         try:
-            self.reply(200, JSON, self.server.workers.ask(document, self.connection))
+            self.reply(200, JSON, self.server.workers.ask(document, int(at) if at.isascii() and at.isdigit() and len(at) < 10 else 0, self.connection))
         except Ended as ended:
             self.reply(200, JSON, json.dumps({'ended': str(ended)}).encode())
 

@@ -1,6 +1,7 @@
 """A process of its own that answers one document after the other, so that a run can be ended by ending it.
 
-On standard input stands the length of each document, eight bytes, and the document; on standard output the same of each answer, a JSON object.
+On standard input stands the length of each document, eight bytes, where its objects begin, eight more, and the document; on standard output the length
+of each answer and the answer, a JSON object.
 """
 import json
 import os
@@ -34,9 +35,10 @@ def write(text):
 def main():
     resource.setrlimit(resource.RLIMIT_AS, (MOST_BYTES_OF_MEMORY, MOST_BYTES_OF_MEMORY))
     answers = Answers()
-    while len(length := read(LENGTH)) == LENGTH:
+    while len(head := read(2 * LENGTH)) == 2 * LENGTH:
+        length, objects_at = (int.from_bytes(part, 'big') for part in (head[:LENGTH], head[LENGTH:]))
         try:
-            told = answers.answer(read(int.from_bytes(length, 'big')))
+            told = answers.answer(read(length), objects_at)
         except MemoryError:
             told = {'fault': 'memory ran out'}
         text = json.dumps(told, separators=(',', ':'), ensure_ascii=False).encode(errors='replace')

@@ -24,16 +24,20 @@ class Worker:
         self.process = subprocess.Popen([sys.executable, '-B', os.path.join(HERE, 'worker.py')], stdin=subprocess.PIPE, stdout=subprocess.PIPE,
                                         bufsize=0, start_new_session=True)
 
-    def ask(self, document, reader, until):
+    def ask(self, document, objects_at, reader, until):
         """The bytes of its answer. Raises Ended where the process ends, the reader goes, or it isn't there in time."""
         try:
-            rest = memoryview(len(document).to_bytes(LENGTH, 'big') + document)
-            while rest:
-                rest = rest[self.process.stdin.write(rest):]
+            self.write(len(document).to_bytes(LENGTH, 'big') + objects_at.to_bytes(LENGTH, 'big'))
+            self.write(document)
             length = int.from_bytes(self.read(LENGTH, reader, until), 'big')
             return self.read(length, reader, until)
         except (OSError, ValueError) as fault:
             raise Ended(GONE) from fault
+
+    def write(self, data):
+        rest = memoryview(data)
+        while rest:
+            rest = rest[self.process.stdin.write(rest):]
 
     def read(self, count, reader, until):
         parts = []
@@ -79,11 +83,11 @@ class Workers:
         self.seconds, self.lock, self.busy, self.ended = seconds, threading.Lock(), None, False
         self.idle = [Worker(), Worker()]
 
-    def ask(self, document, reader):
+    def ask(self, document, objects_at, reader):
         """The answer on a document, as bytes. Raises Ended where a newer question came, or none of that is to be had."""
         worker = self.take()
         try:
-            answer = worker.ask(document, reader, time.monotonic() + self.seconds)
+            answer = worker.ask(document, objects_at, reader, time.monotonic() + self.seconds)
         except Ended:
             self.put(worker, False)
             raise

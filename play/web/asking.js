@@ -36,9 +36,9 @@ export class Asking {
     if (answer) this.told(question, answer, performance.now() - running.since, isLast);
   }
 
-  async fetch({ text }, signal) {
+  async fetch({ text, objectsAt }, signal) {
     try {
-      const headers = { 'Content-Type': 'application/json' };
+      const headers = { 'Content-Type': 'application/json', 'Objects-At': String(objectsAt || 0) };
       const reply = await fetch('run', { method: 'POST', headers, body: text, signal });
       if (!reply.ok) return { fault: (await reply.text()).trim() };
       const answer = await reply.json();

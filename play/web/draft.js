@@ -12,8 +12,9 @@ export function read(text) {
   return LONG_NUMBER.test(text) && JSON.rawJSON ? JSON.parse(text, exact) : JSON.parse(text);
 }
 
-// The text of a document. That of its objects, which may be megabytes, is made once for all documents that share them.
-const texts = new WeakMap();
+// The text of a document, with its objects last, and in how many bytes of it stands what is before them. The text of the objects, which may
+// be megabytes, is made once for all documents that share them.
+const texts = new WeakMap(), OBJECTS = ',"objects":';
 
 function sharedText(value) {
   if (value === null || typeof value !== 'object') return JSON.stringify(value);
@@ -22,7 +23,13 @@ function sharedText(value) {
 }
 
 export function textOf(document) {
-  return '{' + Object.entries(document).map(([key, value]) => JSON.stringify(key) + ':' + sharedText(value)).join(',') + '}';
+  const { objects, ...rest } = document, text = JSON.stringify(rest);
+  return objects === undefined ? text : text.slice(0, -1) + OBJECTS + sharedText(objects) + '}';
+}
+
+export function objectsAt(document) {
+  const { objects, ...rest } = document;
+  return objects === undefined ? 0 : new TextEncoder().encode(JSON.stringify(rest)).length - 1;
 }
 
 // An object with a key of another value, or without it where the value is undefined.

@@ -5,7 +5,7 @@
 import { Answers, inWords } from './answers.js';
 import { Asking } from './asking.js';
 import { differences } from './differences.js';
-import { eventsOf, read, textOf, withSetting } from './draft.js';
+import { eventsOf, objectsAt, read, textOf, withSetting } from './draft.js';
 import { Marks } from './marks.js';
 import { Menu } from './menu.js';
 import { Panel } from './panel.js';
@@ -117,7 +117,7 @@ class Playground {
 
   ask(isOther = false) {
     const { document, name } = this.undo.now;
-    this.asking.ask({ text: textOf(document), document, name, isOther, since: performance.now() });
+    this.asking.ask({ text: textOf(document), objectsAt: objectsAt(document), document, name, isOther, since: performance.now() });
   }
 
   // What the server says
