@@ -626,8 +626,63 @@ def test_large(person, served, pictures):
     same('the last of a drag', same_trace('a drag, large', person)['settings']['leaseDurationSeconds'], value)
 
 
+def test_first_minute(person, served, pictures):
+    """What docs/playground.md tells of three questions comes out as it is told."""
+    longest = lambda: person.run('document.querySelectorAll("#answers .value")[1].textContent')
+    load(person, 'leader-crashes')
+    same('before', longest(), '16.4 s')
+    person.press('#pin')
+    slide(person, '--leader-elect-lease-duration', 29 / 59)
+    same('the run is too short', longest(), 'over 20.1 s')
+    person.press_words('run twice as long')
+    same_trace('a lease of 30 s', person)
+    same('the answer', (longest(), 'pinned: 16.4 s (+15.4 s)' in person.run('document.querySelector("#answers").textContent')), ('31.8 s', True))
+    person.press('#pin')
+    load(person, 'first-election')
+    enter(person, 'runs for', 60)
+    for seconds, wanted in ((8, '0.4 s'), (12, '16.8 s')):
+        person.click(*person.spot('controller who leads', 40))
+        person.run('document.querySelectorAll("#menu input")[2].value = %d' % seconds)
+        person.press_words('API server or etcd slow', 'document.getElementById("menu")')
+        same_trace('slow for %d s' % seconds, person)
+        same('slow for %d s' % seconds, longest(), wanted)
+        person.strike('z', modifiers=CONTROL)
+    # 15 s are longer than 14 s times 1.0714, and 15 s times 0.9334 than 14 s.
+    load(person, 'leader-crashes')
+    for percent, wanted in ((7.1, 'ruled out'), (7.2, 'not ruled out'), (-6.6, 'ruled out'), (-6.7, 'not ruled out')):
+        enter(person, 'clock off by', percent)
+        same('a clock that is off by %s %%' % percent, premise(person), wanted)
+    enter(person, 'clock off by', 0)
+    for timeout, least in ((5, 18), (10, 23)):
+        enter(person, 'call timeout', timeout)
+        same('a call timeout of %d s' % timeout, (premise(person), person.run('playground.answer.margin.controllers[1].leastLeaseSeconds')), ('not ruled out', least))
+
+
+def test_pictures(person, served, pictures):
+    """The pictures of docs/playground.md, where a folder for them is given."""
+    if not pictures:
+        return
+    person.size(1280, 720)
+    load(person, 'leader-crashes')
+    person.click(*person.spot('controller cp-east-2', 100))
+    person.picture(os.path.join(pictures, 'playground.png'))
+    person.strike('Escape')
+    person.run('timeline.moment = null, timeline.choose(timeline.model.leaderLane, null), timeline.showHint(), timeline.state.lane = null')
+    person.mouse('mouseMoved', 5, 5)
+    person.press('#pin')
+    slide(person, '--leader-elect-lease-duration', 29 / 59)
+    person.press_words('run twice as long')
+    person.settle()
+    person.mouse('mouseMoved', 5, 5)
+    person.picture(os.path.join(pictures, 'playground-pinned.png'))
+    person.press('#pin')
+    load(person, 'upstream-timeouts')
+    person.mouse('mouseMoved', 5, 5)
+    person.picture(os.path.join(pictures, 'playground-two-leaders.png'))
+
+
 TESTS = [test_examples, test_kill_leader, test_lease, test_freeze_node, test_marks, test_acts, test_settings, test_refused, test_pin, test_take_away, test_opened, test_exact_numbers,
-         test_view, test_keyboard, test_looks, test_random, test_speed, test_large]
+         test_view, test_keyboard, test_looks, test_first_minute, test_random, test_speed, test_large, test_pictures]
 
 
 def main():

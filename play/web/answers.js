@@ -75,7 +75,7 @@ export class Answers {
     const who = rows === 1 && names.length > 1 ? 'all ' + names.length : names.join(', '), isShort = longestStallMillis === null;
     const then = pinned.margin && pinned.margin.controllers.find(each => each.name === names[0]);
     const room = isShort ? time(-slackMillis) + ' too short' : time(slackMillis) + ' to spare';
-    return make('tr', { className: isShort ? 'bad' : 'good' }, make('th', { scope: 'row' }, who), make('td', {}, room, then && then.slackMillis !== slackMillis ? make('span', { className: 'differs' }, ' (pinned: ' + time(then.slackMillis) + ')') : ''),
+    return make('tr', { className: isShort ? 'bad' : 'good' }, make('th', { scope: 'row' }, who), make('td', {}, room, then && then.slackMillis !== slackMillis ? make('span', { className: 'differs' }, ' (was ' + time(then.slackMillis) + ')') : ''),
       make('td', {}, 'lease ' + time(leaseMillis) + (leastLeaseSeconds === null ? ', and none up to a day would do' : ', least ' + leastLeaseSeconds + ' s')),
       make('td', {}, isShort ? '' : 'bears a stall of ' + time(longestStallMillis)));
   }

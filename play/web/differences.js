@@ -19,11 +19,17 @@ function changes(then, now, name, nameOf) {
     .map(key => name + (nameOf[key] || key) + ' ' + told(key, (then || {})[key]) + ' → ' + told(key, (now || {})[key]));
 }
 
+// The settings, with the length of the run as a time.
+function readable(document) {
+  const { endBeat, ...settings } = document.settings;
+  return { ...settings, runMillis: endBeat * beatMillis(document) };
+}
+
 function moved(document, event) { return subject(event) + ' ' + TOLD[event.type](event, document) + ' at ' + time(event.beat * beatMillis(document)); }
 
 export function differences(then, now, flags) {
   if (then === now) return 'no change';
-  const found = changes(then.settings, now.settings, '', flags);
+  const found = changes(readable(then), readable(now), '', { ...flags, runMillis: 'runs for' });
   now.controllers.forEach((each, i) => found.push(...changes(then.controllers[i], each, each.name + ': ', {})));
   const before = new Set(eventsOf(then).map(each => JSON.stringify(each))), after = new Set(eventsOf(now).map(each => JSON.stringify(each)));
   found.push(...eventsOf(now).filter(each => !before.has(JSON.stringify(each))).map(each => 'new: ' + moved(now, each)));
