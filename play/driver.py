@@ -16,6 +16,27 @@ KEY_CODES = {'Tab': 9, 'Enter': 13, 'Escape': 27, ' ': 32, 'ArrowLeft': 37, 'Arr
              '.': 190, '-': 189, '+': 187, '/': 191}
 
 
+def tree(pid):
+    """A process, and all that it started."""
+    found, waiting = [], [str(pid)]
+    while waiting:
+        found.append(waiting.pop())
+        waiting += subprocess.run(['ps', '-o', 'pid=', '--ppid', found[-1]], stdout=subprocess.PIPE, text=True, check=False).stdout.split()
+    return found
+
+
+def spent(pid):
+    """The seconds of processor time of a process and all that it started, also of what has ended since."""
+    ticks = 0
+    for each in tree(pid):
+        try:
+            with open('/proc/%s/stat' % each, encoding='utf-8') as file:
+                ticks += sum(int(field) for field in file.read().rpartition(')')[2].split()[11:15])
+        except OSError:
+            pass
+    return ticks / os.sysconf('SC_CLK_TCK')
+
+
 class Playground:
     """A process of ./playground."""
 

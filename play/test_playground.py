@@ -23,7 +23,7 @@ import xml.dom.minidom
 HERE = os.path.dirname(os.path.realpath(__file__))
 TOP = os.path.dirname(HERE)
 sys.path.insert(0, HERE)
-from driver import CONTROL, SHIFT, Person, Playground
+from driver import CONTROL, SHIFT, Person, Playground, spent
 
 sys.path.insert(0, os.path.join(TOP, 'python'))
 from kube_replay.engine import find_library, find_program
@@ -553,29 +553,22 @@ def check_random(person, number):
         same('after %d: the document is what is drawn' % (number + 1), json.loads(document), person.run('playground.document'))
 
 
-def share():
-    """How much of a processor a process gets here at this time: less than 1 where others want all processors too."""
-    wall, own = time.monotonic(), time.process_time()
-    while time.process_time() - own < .2:
-        pass
-    return min(1, .2 / (time.monotonic() - wall))
-
-
-def measured(person, change, count=60):
-    """The milliseconds from a change to its picture, one change after the other: the middle, what 95 of 100 keep to, and both as they would be with a
-    processor that nobody else wants."""
-    times, shares = [], [share()]
+def measured(person, served, change, limit, count):
+    """Makes one change after the other. Tells the milliseconds from a change to its picture, the middle and what 95 of 100 keep to, and the processor
+    time of a change in the server, the programs and the browser together. Where other work wants the processors the first says little, so then only the
+    last has to be within the limit: on a machine of one's own a change is drawn within that."""
+    times, pids = [], (served.process.pid, person.process.pid)
+    before = sum(map(spent, pids))
     for i in range(count):
         person.run('playground.times.length = 0, void (%s)(%d)' % (change, i))
         person.settle()
         times.append(person.run('playground.times.at(-1)'))
-        if i % 10 == 9:
-            shares.append(share())
+    cost = (sum(map(spent, pids)) - before) * 1000 / count
     times.sort()
-    middle, late, had = statistics.median(times), times[len(times) * 95 // 100], statistics.mean(shares)
-    print('  a change is drawn after %.0f ms in the middle, 95 of 100 within %.0f ms, with %.0f %% of a processor: %.0f and %.0f ms with a whole one'
-          % (middle, late, 100 * had, middle * had, late * had), flush=True)
-    return middle * had, late * had
+    middle, late, load = statistics.median(times), times[len(times) * 95 // 100], os.getloadavg()[0]
+    print('  a change is drawn after %.0f ms in the middle, 95 of 100 within %.0f ms, and costs %.0f ms of processor time; %.1f processes want %d processors'
+          % (middle, late, cost, load, os.cpu_count()), flush=True)
+    true('within %d ms (%.0f, %.0f, %.0f)' % (limit, middle, late, cost), cost <= limit if load > os.cpu_count() else late <= limit)
 
 
 LEASE = 'i => { const dial = playground.panel.dials[0]; dial.number.value = 16 + i %% %d; dial.number.dispatchEvent(new Event("input")); dial.number.dispatchEvent(new Event("change")); }'
@@ -586,8 +579,7 @@ def test_speed(person, served, pictures):
     for name in ('leader-crashes', 'zone-lost', 'leader-stalls'):
         load(person, name)
         print(name + ':')
-        middle, late = measured(person, LEASE % 30)
-        true('%s: within 100 ms (%.0f, %.0f)' % (name, middle, late), late <= 100)
+        measured(person, served, LEASE % 30, 100, 60)
     load(person, 'leader-crashes')
     slide(person, '--leader-elect-lease-duration', .9)
     slide(person, '--leader-elect-lease-duration', .4)
@@ -618,8 +610,7 @@ def test_large(person, served, pictures):
         person.until('timeline.name === "large" && playground.isSettled', 120)
     same_trace('large', person)
     print('1,000 nodes, 30,000 pods, %.1f MB, %d lines:' % (size / 1e6, person.run('timeline.model.lines')))
-    middle, late = measured(person, LEASE % 30, 20)
-    true('within a second (%.0f, %.0f)' % (middle, late), late <= 1_000)
+    measured(person, served, LEASE % 30, 1_000, 20)
     slide(person, '--leader-elect-lease-duration', .8)
     value = person.run('Number(%s.querySelector("input[type=range]").value)' % dial('--leader-elect-lease-duration'))
     person.until('playground.isSettled', 60)

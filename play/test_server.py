@@ -21,7 +21,7 @@ import unittest
 HERE = os.path.dirname(os.path.realpath(__file__))
 TOP = os.path.dirname(HERE)
 sys.path.insert(0, HERE)
-from driver import Playground
+from driver import Playground, spent, tree
 from gate import MOST_BYTES, POLICY
 
 SMALL = b'{"version":1,"settings":{"endBeat":60},"controllers":[{"name":"c1"}]}'
@@ -219,35 +219,20 @@ class ServerTest(unittest.TestCase):
         with socket.create_connection(('127.0.0.1', self.served.port)) as connection:
             connection.sendall(self.head(b'Content-Length: %d' % len(LONG)) + LONG)
             time.sleep(1)
-            self.assertGreater(self.busy(), 0)
+            self.assertTrue(self.busy())
         time.sleep(1.5)
-        self.assertEqual(self.busy(), 0)
+        self.assertFalse(self.busy())
         self.answers()
 
     def children(self):
         """The processes that the playground started, and those that these did."""
-        found, waiting = [], [self.served.process.pid]
-        while waiting:
-            listed = subprocess.run(['ps', '-o', 'pid=', '--ppid', str(waiting.pop())], stdout=subprocess.PIPE, text=True, check=False).stdout.split()
-            found += listed
-            waiting += listed
-        return found
+        return tree(self.served.process.pid)[1:]
 
     def busy(self):
-        """How many of them used the processor within a second."""
-        def spent():
-            times = {}
-            for pid in self.children():
-                try:
-                    with open('/proc/%s/stat' % pid, encoding='utf-8') as file:
-                        fields = file.read().rpartition(')')[2].split()
-                    times[pid] = int(fields[11]) + int(fields[12])
-                except OSError:
-                    pass
-            return times
-        before = spent()
+        """Whether the playground and what it started use the processor for some time of a second."""
+        before = spent(self.served.process.pid)
         time.sleep(1)
-        return sum(1 for pid, ticks in spent().items() if pid in before and ticks - before[pid] > 3)
+        return spent(self.served.process.pid) - before > .03
 
     def test_ends_at_once(self):
         """Ctrl-C ends it, also while it runs something long, and nothing of it goes on."""
