@@ -53,7 +53,7 @@ def replayed(text):
 def same_trace(what, person):
     """The trace that is drawn is that of the document that is taken away."""
     person.settle()
-    document, trace = person.run('[playground.taken().text, playground.taken().trace]')
+    document, trace = person.run('(taken => [taken.text, taken.trace])(playground.taken())')
     same(what + ': drawn is what is taken', person.run('timeline.model.text'), trace)
     same(what + ': the trace', trace, replayed(document))
     same(what + ': the document is that of the page', json.loads(document), person.run('playground.document'))

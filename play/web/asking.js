@@ -36,10 +36,10 @@ export class Asking {
     if (answer) this.told(question, answer, performance.now() - running.since, isLast);
   }
 
-  async fetch({ text, objectsAt }, signal) {
+  async fetch({ body, objectsAt }, signal) {
     try {
       const headers = { 'Content-Type': 'application/json', 'Objects-At': String(objectsAt || 0) };
-      const reply = await fetch('run', { method: 'POST', headers, body: text, signal });
+      const reply = await fetch('run', { method: 'POST', headers, body, signal });
       if (!reply.ok) return { fault: (await reply.text()).trim() };
       const answer = await reply.json();
       return answer.ended ? this.ended(answer) : answer;

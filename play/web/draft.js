@@ -12,24 +12,26 @@ export function read(text) {
   return LONG_NUMBER.test(text) && JSON.rawJSON ? JSON.parse(text, exact) : JSON.parse(text);
 }
 
-// The text of a document, with its objects last, and in how many bytes of it stands what is before them. The text of the objects, which may
-// be megabytes, is made once for all documents that share them.
-const texts = new WeakMap(), OBJECTS = ',"objects":';
+// The text of a document: what stands before its objects, and these, which come last.
+const OBJECTS = ',"objects":', EMPTY = '}';
 
-function sharedText(value) {
-  if (value === null || typeof value !== 'object') return JSON.stringify(value);
-  if (!texts.has(value)) texts.set(value, JSON.stringify(value));
-  return texts.get(value);
+function headOf(document) {
+  const { objects: _, ...rest } = document;
+  return JSON.stringify(rest).slice(0, -1);
 }
 
-export function textOf(document) {
-  const { objects, ...rest } = document, text = JSON.stringify(rest);
-  return objects === undefined ? text : text.slice(0, -1) + OBJECTS + sharedText(objects) + '}';
-}
+const tailOf = ({ objects }) => (objects === undefined ? EMPTY : OBJECTS + JSON.stringify(objects) + '}');
 
-export function objectsAt(document) {
-  const { objects, ...rest } = document;
-  return objects === undefined ? 0 : new TextEncoder().encode(JSON.stringify(rest)).length - 1;
+export const textOf = document => headOf(document) + tailOf(document);
+
+// The same to be sent, and where in it the objects begin. Those may be megabytes: their bytes are made once for all documents that share them.
+const tails = new WeakMap();
+
+export function bodyOf(document) {
+  const head = new Blob([headOf(document)]), { objects } = document;
+  if (objects === undefined || objects === null) return { body: new Blob([head, tailOf(document)]), objectsAt: 0 };
+  if (!tails.has(objects)) tails.set(objects, new Blob([tailOf(document)]));
+  return { body: new Blob([head, tails.get(objects)]), objectsAt: head.size };
 }
 
 // An object with a key of another value, or without it where the value is undefined.

@@ -5,7 +5,7 @@
 import { Answers, inWords } from './answers.js';
 import { Asking } from './asking.js';
 import { differences } from './differences.js';
-import { eventsOf, objectsAt, read, textOf, withSetting } from './draft.js';
+import { bodyOf, eventsOf, read, textOf, withSetting } from './draft.js';
 import { Marks } from './marks.js';
 import { Menu } from './menu.js';
 import { Panel } from './panel.js';
@@ -75,7 +75,7 @@ class Playground {
   load(text, name) {
     if (/^trace 1 /.test(text)) return this.trouble(name + ' is a trace. The playground opens documents; ./timeline draws a trace.');
     if (new Blob([text]).size > this.mostBytes) return this.trouble(name + ' has more than ' + this.mostBytes.toLocaleString('en') + ' bytes, and no document has.');
-    this.asking.ask({ text, name, isNew: true, document: null, since: performance.now() });
+    this.asking.ask({ body: text, text, name, isNew: true, document: null, since: performance.now() });
     return null;
   }
 
@@ -117,7 +117,7 @@ class Playground {
 
   ask(isOther = false) {
     const { document, name } = this.undo.now;
-    this.asking.ask({ text: textOf(document), objectsAt: objectsAt(document), document, name, isOther, since: performance.now() });
+    this.asking.ask({ ...bodyOf(document), document, name, isOther, since: performance.now() });
   }
 
   // What the server says
@@ -151,8 +151,6 @@ class Playground {
     element('sentence').textContent = example ? example.sentence : question.name;
     this.panel.build();
     this.sync();
-    // The text is that of the state, which may be written otherwise than the file was.
-    question.text = textOf(question.document);
   }
 
   refuse(question, { fault, refused }) {
@@ -243,7 +241,7 @@ class Playground {
 
   taken() {
     const { shown, answer, known, command, stage } = this;
-    return { name: shown.name, text: shown.text, document: shown.document, trace: answer.trace, chart: stage.chart, known, command,
+    return { name: shown.name, text: textOf(shown.document), document: shown.document, trace: answer.trace, chart: stage.chart, known, command,
       isStale: element('stage').classList.contains('stale') };
   }
 
