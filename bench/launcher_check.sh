@@ -218,6 +218,8 @@ LENS
     run check <"$room/document.json"
     hint 'no refusal' 0 ok ''
     run audit <"$room/bad.json"
+    hint 'a document given for a trace' 1 'refused 3 /' 'this is JSON, as a document is; audit reads a trace, as ./kube_replay replay writes it'
+    echo bad | run audit
     hint 'a refusal of what is no document' 1 'refused 3 /' ''
     run check </
     hint 'a directory as input' 0 ok ''

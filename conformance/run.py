@@ -1,5 +1,5 @@
 #!/usr/bin/env python3
-"""Compares the program with recorded answers of Kubernetes 1.20.2, and with what a real control plane did.
+"""Compares the program with recorded answers of Kubernetes 1.20.2 and of client-go 0.36.4, and with what real control planes did.
 
     conformance/run.py [--exe COMMAND] [SET ..]
 
@@ -15,10 +15,11 @@ import os
 import sys
 import time
 
-from beside import page, plane, plane_tables, tables
+from beside import grid, page, plane, plane_tables, release_tables, tables, wave_tables
+from beside.fast_elections import SETTINGS
 from beside.profile import Profile
 from beside.program import NoAnswer, Program
-from beside.recorded import SETS, TOP, tally_of
+from beside.recorded import NEW, SETS, TOP, tally_of
 from beside.tally import row_of
 
 ROOT = os.path.dirname(TOP)
@@ -55,20 +56,49 @@ def of_sets(names, program, profile, is_written):
     return counts, faults
 
 
-def of_plane(program, profile):
+def of_planes(program, profile):
     """The tables of the scenarios, and what no row names."""
     scenario_of = functools.lru_cache(None)(plane.Scenario)
-    found = plane_tables.compared(scenario_of, plane.NAMES, program)
-    stalled = plane_tables.stalled(scenario_of, plane.NAMES, program)
+    names = (*plane.NAMES, *plane.NEW_NAMES)
+    found = plane_tables.compared(scenario_of, names, program)
+    stalled = plane_tables.stalled(scenario_of, names, program)
     over = sum(plane_tables.is_over(it) for pairs in found.values() for it in pairs or [])
     print(f"real control plane: {len(found)} scenarios, {sum(len(it or []) for it in found.values())} events, {over} over 0.5 s", flush=True)
-    made = {
-        "scenarios": plane_tables.scenarios(found), "renewals": plane_tables.renewals(scenario_of, program),
+    made = {"waves": wave_tables.waves(found, scenario_of), "server stalls": wave_tables.server_stalls(found, plane.foretold_ends("n5", program)),
+            "emptied leases": release_tables.emptied_leases(scenario_of, plane.NEW_NAMES, program),
+            "releasing": release_tables.releasing(of_names(found, plane.NEW_NAMES), scenario_of, program)}
+    for version, some in (("", plane.NAMES), (" 0.36", plane.NEW_NAMES)):
+        tables_of = of_plane(of_names(found, some), of_names(stalled, some), scenario_of, program)
+        made.update({name + version: lines for name, lines in tables_of.items()})
+    return made, [*plane_tables.faults(found, profile), *plane_tables.stall_faults(stalled)]
+
+
+def of_names(found, names):
+    return {name: it for name, it in found.items() if name in names}
+
+
+def of_plane(found, stalled, scenario_of, program):
+    """The tables that each version has."""
+    return {
+        "scenarios": plane_tables.scenarios(found),
+        "renewals": plane_tables.renewals(scenario_of, [it for it in ("a", "a2", "ea2") if it in found], program),
         "kills": plane_tables.kills(found, scenario_of), "late reply": plane_tables.late_reply(found, scenario_of, program),
         "plane differences": plane_tables.differences(found),
-        "stalls": plane_tables.stalls(stalled), "verdicts": plane_tables.verdicts(scenario_of, plane.NAMES, program),
+        "stalls": plane_tables.stalls(stalled), "verdicts": plane_tables.verdicts(scenario_of, list(found), program),
     }
-    return made, [*plane_tables.faults(found, profile), *plane_tables.stall_faults(stalled)]
+
+
+def of_answers(counts, program):
+    """The tables of the recorded answers."""
+    made = {"evictions": tables.evictions(program), "releases": release_tables.two_leaders(program), "grid": grid.attempts(),
+            "emptied rounds": release_tables.emptied_rounds(program)}
+    for version, folder, more in (("", "", {}), (" 0.36", NEW, SETTINGS)):
+        some = tables.of_version(counts, bool(folder))
+        made.update({f"answers{version}": tables.answers(some), f"differences{version}": tables.differences(some),
+                     f"not said{version}": tables.not_said(some),
+                     f"two leaders{version}": tables.two_leaders(f"{folder}election_two_leaders", program, more),
+                     f"failovers{version}": tables.failovers(f"{folder}election_failover", program, more)})
+    return made
 
 
 def of_page(made, is_written):
@@ -97,10 +127,9 @@ def main():
     counts, faults = of_sets(given.sets or SETS, program, profile, given.write)
     faults += profile.faults()
     if not given.sets:
-        made, unnamed = of_plane(program, profile)
-        made.update({"answers": tables.answers(counts), "differences": tables.differences(counts), "not said": tables.not_said(counts),
-                     "two leaders": tables.two_leaders(program), "failovers": tables.failovers(program), "evictions": tables.evictions(program)})
-        faults += unnamed + of_page(made, given.write)
+        made, unnamed = of_planes(program, profile)
+        made.update(of_answers(counts, program))
+        faults += [*unnamed, *grid.faults(), *of_page(made, given.write)]
     for fault in faults:
         print(f"FAULT: {fault}")
     cases = sum(it["cases"] for it in counts.values())

@@ -81,17 +81,12 @@ def pod_delay(document, trace):
     return questions.pod_delay(questions.Trace(next(lines), lines), questions.Told(document))
 
 
-def leaderless_at_end(told):
-    """How many beats at the end of a trace nobody leads: those behind the last term, where that ends before."""
-    return told['header']['lastBeat'] + 1 - max((term['until'] for term in told['terms']), default=0)
-
-
 def summary(lens, light, document, trace):
     """What the trace comes to, as far as the page shows it."""
     told = lens.ask('summary', '--document', '--json', data=light + b'\n' + trace)
     if told is None:
         return None
-    return {'header': told['header'], 'terms': len(told['terms']), 'spansWithoutLeader': told['spansWithoutLeader'], 'leaderlessAtEnd': leaderless_at_end(told),
+    return {'header': told['header'], 'terms': len(told['terms']), 'spansWithoutLeader': told['spansWithoutLeader'],
             'evictions': lateness(told['evictions']), 'podDelaySeconds': pod_delay(document, trace) if told['evictions'] else None}
 
 

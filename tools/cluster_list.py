@@ -1,9 +1,10 @@
 """What a list that kubectl wrote tells of a cluster."""
-import datetime
+from cluster_told import counted, few
 
 NODE_LEASES = 'kube-node-lease'
 ELECTION = ('kube-system', 'kube-controller-manager')
 CONTROL_PLANE = ('node-role.kubernetes.io/control-plane', 'node-role.kubernetes.io/master')
+COMPARE = ('Lt', 'Gt')
 ZONE, REGION = 'topology.kubernetes.io/zone', 'topology.kubernetes.io/region'
 
 
@@ -21,10 +22,6 @@ def ready_of(node):
     return next((each for each in part(node, 'status', 'conditions') or [] if each.get('type') == 'Ready'), None)
 
 
-def moment(text):
-    return datetime.datetime.fromisoformat(text.replace('Z', '+00:00'))
-
-
 def is_lease(item, namespace=None):
     return item.get('kind') == 'Lease' and namespace in (None, part(item, 'metadata', 'namespace'))
 
@@ -34,38 +31,26 @@ def is_election(item):
 
 
 class Found:
-    """Nodes with their zones, controllers with the leader first, kubelets, the moment of the list, and what is kept of it."""
+    """Nodes with their zones and versions, the hosts of the control plane, the holder of the election Lease, kubelets, and what is kept of the list."""
 
     def __init__(self, items):
         self.items = items
         self.nodes = [item for item in items if item.get('kind') == 'Node']
         self.zones = {node['metadata']['name']: zones_of(node) for node in self.nodes}
-        self.holder = self.find_holder()
-        self.controllers = self.find_controllers()
-        self.kubelets = [kubelet_of(node) for node in self.nodes]
-        self.epoch = self.find_epoch()
+        self.versions = [part(node, 'status', 'nodeInfo', 'kubeletVersion') for node in self.nodes]
+        election = next((item for item in items if is_election(item)), None)
+        self.holder, self.election_lease = part(election, 'spec', 'holderIdentity'), part(election, 'spec', 'leaseDurationSeconds') or 0
+        self.control_plane = [node['metadata']['name'] for node in self.nodes if is_control_plane(node)]
         durations = {part(item, 'spec', 'leaseDurationSeconds') for item in items if is_lease(item, NODE_LEASES)} - {None}
         self.node_lease = durations.pop() if len(durations) == 1 else None
 
-    def find_holder(self):
-        """The host of the present leader: what stands before the last `_` of its identity."""
-        holders = [part(item, 'spec', 'holderIdentity') for item in self.items if is_election(item)]
-        return holders[0].rpartition('_')[0] or holders[0] if holders and holders[0] else None
+    def kubelets(self, offsets):
+        """A kubelet for each node; of some the clock is so many milliseconds ahead."""
+        kubelets = [kubelet_of(node) for node in self.nodes]
+        return [{**each, 'offsetMillis': offsets[each['node']]} if each['node'] in offsets else each for each in kubelets]
 
-    def find_controllers(self):
-        hosts = [node['metadata']['name'] for node in self.nodes if any(label in (part(node, 'metadata', 'labels') or {}) for label in CONTROL_PLANE)]
-        return ([self.holder] if self.holder else []) + [host for host in hosts if host != self.holder]
-
-    def find_epoch(self):
-        times = [part(item, 'spec', 'renewTime') for item in self.items if is_lease(item)]
-        times += [part(ready_of(node), 'lastHeartbeatTime') for node in self.nodes]
-        moments = [moment(time) for time in times if time]
-        latest = max(moments) if moments else datetime.datetime.now(datetime.timezone.utc)
-        whole = latest.astimezone(datetime.timezone.utc) + datetime.timedelta(microseconds=999_999)
-        return whole.strftime('%Y-%m-%dT%H:%M:%SZ')
-
-    def kept(self, controllers):
-        """The Nodes, Pods, Leases of nodes and the election Lease, with the fields that are read. The present leader leads on."""
+    def kept(self, holder):
+        """The Nodes, Pods, Leases of nodes and the election Lease, with the fields that are read. The present leader, a controller, leads on."""
         out = []
         for item in self.items:
             if item.get('kind') in KEPT:
@@ -74,9 +59,24 @@ class Found:
                 out.append(kept_lease(item))
             elif is_election(item):
                 out.append(kept_lease(item))
-                if self.holder in controllers:
-                    out[-1]['spec']['holderIdentity'] = self.holder + '_1'
+                if holder:
+                    out[-1]['spec']['holderIdentity'] = holder + '_1'
         return out
+
+    def tell(self, told):
+        silent = [kubelet['node'] for kubelet in self.kubelets({}) if kubelet.get('up') is False]
+        why = 'down where Ready is Unknown%s' % (': ' + few(silent) if silent else '')
+        told.row('kubelets', '%d, of these %d down' % (len(self.nodes), len(silent)), why, 'list')
+        pods = [item for item in self.items if item.get('kind') == 'Pod']
+        left = [len(left_out(pod)) for pod in pods if left_out(pod)]
+        if left:
+            told.row('tolerations left out', sum(left), 'operators Lt and Gt are not in a document', 'list')
+            told.say('%s of %s left out: the operator is Lt or Gt, which a document does not have, so such a pod is judged without it' % (
+                counted(sum(left), 'toleration'), counted(len(left), 'pod')))
+
+
+def is_control_plane(node):
+    return any(label in (part(node, 'metadata', 'labels') or {}) for label in CONTROL_PLANE)
 
 
 def zones_of(node):
@@ -101,8 +101,14 @@ def kept_node(item):
             'spec': {'taints': taints}, 'status': {'conditions': conditions}}
 
 
+def left_out(pod):
+    """The tolerations of a pod that compare numbers, which a document can't have."""
+    return [each for each in part(pod, 'spec', 'tolerations') or [] if each.get('operator') in COMPARE]
+
+
 def kept_pod(item):
-    tolerations = [only(each, 'key', 'operator', 'value', 'effect', 'tolerationSeconds') for each in part(item, 'spec', 'tolerations') or []]
+    kept = [each for each in part(item, 'spec', 'tolerations') or [] if each.get('operator') not in COMPARE]
+    tolerations = [only(each, 'key', 'operator', 'value', 'effect', 'tolerationSeconds') for each in kept]
     return {'apiVersion': 'v1', 'kind': 'Pod', 'metadata': only(item['metadata'], 'namespace', 'name'),
             'spec': {**only(item['spec'], 'nodeName'), 'tolerations': tolerations}}
 

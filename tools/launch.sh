@@ -232,9 +232,13 @@ join_document() {
     room=''
 }
 
-# Sees to it that a document can be read once more after a refusal: from its file, or from a copy of what a pipe gives.
+# Sees to it that a document, or what is given for a trace, can be read once more after a refusal: from its file, or from a copy of what a pipe gives.
 keep_document() {
-    case "$1" in replay | check | state) [ -x "$lens" ] || return 0 ;; *) return 0 ;; esac
+    case "$1" in
+        replay | check | state) [ -x "$lens" ] || return 0 ;;
+        audit) ;;
+        *) return 0 ;;
+    esac
     if [ -f /dev/stdin ]; then
         explained=/dev/stdin
     elif [ -p /dev/stdin ] && room=$(mktemp -d 2>/dev/null) && mkfifo "$room/pipe" 2>/dev/null; then
@@ -246,9 +250,15 @@ keep_document() {
     fi
 }
 
-# Says why a document is refused, where kube_lens is as new as the sources: what `explain` says behind the line of the refusal.
+# Says why a document is refused, where kube_lens is as new as the sources: what `explain` says behind the line of the refusal. Of a document that
+# is given for a trace it says that it is none.
 explain_refusal() {
-    [ "$status" -eq 1 ] && [ -n "$explained" ] && is_current "$lens" || return 0
+    [ "$status" -eq 1 ] && [ -n "$explained" ] || return 0
+    if [ "$1" = audit ]; then
+        [ "$(head -c 1 <"$explained" 2>/dev/null)" != '{' ] || say "this is JSON, as a document is; audit reads a trace, as $called replay writes it"
+        return 0
+    fi
+    is_current "$lens" || return 0
     sentence=$({ "$lens" explain <"$explained"; } 2>/dev/null)
     [ $? -eq 1 ] || return 0
     printf '%s\n' "$sentence" | sed "1d;s/^/$name: /" >&2
@@ -258,6 +268,6 @@ run_program() {
     keep_document "$1"
     if [ -n "$feeder" ]; then attend "$program" "$@" <"$room/pipe"; else attend "$program" "$@"; fi
     [ -z "$feeder" ] || kill -TERM "$feeder" 2>/dev/null
-    explain_refusal
+    explain_refusal "$1"
     end_with "$status"
 }

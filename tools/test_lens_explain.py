@@ -7,7 +7,8 @@ The documents are those of examples/, of the rows of check_tables, the FILEs, an
 sorts. Where `check` refuses one, the first line of `explain` has to be its line; the next one has to tell a line and a column at which the
 text shown stands. That is the place of the value at the refusal's path, or of the last value on the way to it that is there; for an unknown
 key that of a key of that object, and of the planted one where one was planted. Where `check` takes the document, `explain` has to tell its
-counts, and of each key that an object has twice both places. PROGRAM is by default the built kube_lens. The exit status is 1 where anything
+counts, of each key that an object has twice both places, of each timing that is likely meant in the other unit its warning, and whether there are
+Nodes and no kubelets. PROGRAM is by default the built kube_lens. The exit status is 1 where anything
 differs. Nothing here is a proof.
 """
 import argparse
@@ -21,6 +22,12 @@ import sys
 
 TOP = os.path.dirname(os.path.dirname(os.path.abspath(__file__)))
 PLANTED = 'leaseDurations'
+# The timings that are looked at, those that a controller may have first, with their defaults.
+STANDARD = {'leaseDurationSeconds': 15, 'renewDeadlineMillis': 10000, 'retryPeriodMillis': 2000, 'callTimeoutMillis': 2000,
+            'monitorPeriodMillis': 5000, 'gracePeriodMillis': 40000, 'startupGraceMillis': 60000, 'nodeLeaseDurationSeconds': 40}
+TIMINGS = list(STANDARD)
+UNHEARD = ('warning: there are Nodes and no kubelets, so all nodes fall silent together, which taints none: a pod is evicted only for a taint that is '
+           'there already or put. Give each node a kubelet, and epoch the time of the list.\n')
 LINE = re.compile(rb'line (\d+), column (\d+): (.*)')
 
 
@@ -145,7 +152,7 @@ def change_item(dice, where):
 
 
 def odd(dice):
-    return dice.choice((0, -1, 1.5, 10 ** 12, 10 ** 25, '', 'x', 'Ü', '60', 'a"b\\', None, True, [], {}, [[]], {'a': {'b': []}}))
+    return dice.choice((0, 10, 15000, -1, 1.5, 10 ** 12, 10 ** 25, '', 'x', 'Ü', '60', 'a"b\\', None, True, [], {}, [[]], {'a': {'b': []}}))
 
 
 def cut(dice, text):
@@ -202,6 +209,35 @@ def place_in(text, told):
     return sum(len(l) + 1 for l in lines[:line - 1]) + column - 1
 
 
+def unit_line(path, value, likely):
+    """The warning of a value that is likely meant in the other unit."""
+    units = ('ms', 'seconds') if path.endswith('Millis') else ('s', 'milliseconds')
+    return f'warning: {path} is {value} {units[0]}: were {units[1]} meant? Then write {likely}.\n'
+
+
+def units_of(values, path):
+    """The warnings of the timings in an object, in the order of docs/document.md."""
+    for key in TIMINGS:
+        value = values.get(key)
+        if value is None:
+            continue
+        if key.endswith('Millis') and value < 100:
+            yield unit_line(f'{path}/{key}', value, value * 1000)
+        elif key.endswith('Seconds') and value >= 1000 and value % 1000 == 0:
+            yield unit_line(f'{path}/{key}', value, value // 1000)
+
+
+def doubts(doc):
+    """The warnings of a well-formed document beside those of keys that are there twice."""
+    settings = {key: doc['settings'].get(key, STANDARD[key]) for key in TIMINGS}
+    lines = list(units_of(settings, '/settings'))
+    for place, one in enumerate(doc['controllers']):
+        own = {key: one[key] for key in TIMINGS[:4] if key in one and one[key] != settings[key]}
+        lines += units_of(own, f'/controllers/{place}')
+    nodes = [item for item in doc.get('objects', {}).get('items') or [] if (item['apiVersion'], item['kind']) == ('v1', 'Node')]
+    return ''.join(lines) + (UNHEARD if nodes and not doc.get('kubelets') else '')
+
+
 def fault(text, checked, explained):
     """What is wrong in the answer to a document, if anything."""
     status, said = checked
@@ -209,10 +245,11 @@ def fault(text, checked, explained):
     if status != ended:
         return f'status {ended}, not {status}'
     if status == 0:
-        warned = told[len(counts(said)):].splitlines()
+        more = doubts(json.loads(text)).encode()
+        warned = told[len(counts(said)):len(told) - len(more)].splitlines()
         places = [place_in(text, line) for number, line in enumerate(warned) if number % 3]
         right = places == [at for both in Places(text).twice[:20] for at in both]
-        return None if right and told.startswith(counts(said)) else f'{told} of {said}'
+        return None if right and told.startswith(counts(said)) and told.endswith(more) else f'{told} of {said}, and {more}'
     first, second, rest = (told.split(b'\n', 2) + [b'', b''])[:3]
     place = place_in(text, second)
     if first + b'\n' != said or place is None or not rest.endswith(b'\n'):

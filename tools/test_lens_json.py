@@ -157,7 +157,7 @@ def explained(told):
     names, found = [name for name, _ in told], dict(told)
     if names == ['wellFormed', 'code', 'path', *PLACE, 'why'] and found['wellFormed'] is False:
         return f"refused {found['code']} {found['path']}\n{place_line(*(found[name] for name in PLACE))}{found['why']}"
-    if names != ['wellFormed', *COUNTS, 'warnings'] or found['wellFormed'] is not True:
+    if names != ['wellFormed', *COUNTS, 'warnings', 'units', 'noKubelets'] or found['wellFormed'] is not True:
         return f'no such members: {names}'
     lines = 'well-formed ' + ' '.join(f'{name}={found[name]}' for name in COUNTS) + '\n'
     for warning in found['warnings']:
@@ -165,7 +165,11 @@ def explained(told):
             return f'no such members: {warning}'
         places = [value for _, value in warning]
         lines += 'warning: a key is here twice, and the last one counts\n' + place_line(*places[:3]) + place_line(*places[3:])
-    return lines
+    for unit in found['units']:
+        if [name for name, _ in unit] != ['path', 'value', 'likely']:
+            return f'no such members: {unit}'
+        lines += test_lens_explain.unit_line(*(value for _, value in unit))
+    return lines + (test_lens_explain.UNHEARD if found['noKubelets'] else '')
 
 
 def explain_fault(program, replay, text):

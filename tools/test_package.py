@@ -145,6 +145,10 @@ def try_refusals(tried, folder):
     other = package('--into', folder, '--program', os.path.join(TOP, 'VERSION'))
     tried.same('tools/package --program of a text', (other.returncode, other.stderr),
                (1, 'package: %s is no program for amd64 (an ELF file)\n' % os.path.join(TOP, 'VERSION')))
+    nowhere = os.path.join(folder, 'nowhere')
+    lost = package('--into', nowhere, '--program', sys.executable, '--lens', sys.executable)
+    tried.same('tools/package into a folder that is not there', (lost.returncode, lost.stdout, lost.stderr),
+               (1, '', 'package: there is no folder %s to write the package into: make it first, or name another by --into\n' % nowhere))
 
 
 def try_program(tried, system):

@@ -7,7 +7,23 @@ Rule = namedtuple("Rule", "scenarios what when rows after", defaults=(0,))
 OVER_SECONDS = 0.5
 PASS_SECONDS = 5.5  # more than a pass and what its phase makes
 RULES = [
-    Rule("b b2 c g", "lead", "any", ["jitter"]),
+    Rule("b b2 c g eb ed eg egz en6 ax", "lead", "any", ["jitter"]),
+    # A leader releases the Lease of another, which is taken anew at once; who leads then moves all that follows.
+    Rule("egz4", "lead", "any", ["emptied lease", "jitter"]),
+    Rule("er18_3", "lead", "there", ["emptied lease"]),
+    Rule("er18_1 er18_3 er18b_2 er18l_1 er23_1", "end", "later", ["releasing"]),
+    # The API server took its time with the first write.
+    Rule("er23_1", "lead", "later", ["store"]),
+    Rule("n5", "lead", "later", ["store", "jitter"]),
+    # The writes of pods that aren't ready hold up the pass, and with it all that follows from it.
+    Rule("n1 n3", "taint", "later", ["request limit", "one pass later"]),
+    Rule("n1", "evict", "later", ["request limit"]),
+    Rule("n3", "evict n1-m.*", "later", ["due time", "request limit"]),
+    Rule("n3", "evict n1-(none|slow)", "later", ["request limit"]),
+    Rule("n3", "untaint", "there", ["new leader's taints"]),
+    Rule("n3", "taint", "there", ["new leader's taints"]),
+    Rule("n7", "taint", "sooner", ["passes slide", "one pass later"]),
+    Rule("n7", "evict n1-s10", "later", ["due time"]),
     # Both leaders delete the same pods within some ms.
     Rule("c2 c3 c6", "evict .*-(none|s0)", "there", ["delete by versions"]),
     # Held were the election's calls alone, which no document can say, so what the old leader did to nodes isn't foretold.

@@ -1,4 +1,5 @@
-"""Leader election: accepted settings, instants of attempts and ends, failovers, two leaders at once."""
+"""Leader election: accepted settings, instants of attempts and ends, failovers, two leaders at once. `more` are settings of a document for
+a newer client-go."""
 from .documents import LEADS, document
 from .elector import Elector
 from .tally import EXACT, differs, left, unnamed
@@ -27,12 +28,17 @@ def config_verdicts(case, program):
 
 
 def election_timeouts(cases, program):
-    return [it for verdicts in program.each(lambda case: instants_verdicts(case, program), cases) for it in verdicts]
+    return instants(cases, program, Elector, lambda case, number: LATER_ATTEMPT)
 
 
-def instants_verdicts(case, program):
+def instants(cases, program, elector_of, why_later):
+    """`why_later` tells the verdict on the attempt of that number, where it is the first that starts at another instant."""
+    judged = program.each(lambda case: instants_verdicts(case, program, elector_of(case), why_later), cases)
+    return [it for verdicts in judged for it in verdicts]
+
+
+def instants_verdicts(case, program, elector, why_later):
     """The start of each attempt up to the first that differs, and the end; in ms from the lead on."""
-    elector = Elector(case)
     if not elector.is_as_foreseen(program.replay(elector.document())):
         return [unnamed("the trace isn't as foreseen")]
     lead = case["lead_us"] // 1000
@@ -45,7 +51,7 @@ def instants_verdicts(case, program):
     verdicts = [EXACT] * equal
     is_same = len(here) == len(there) == equal
     if equal < min(len(here), len(there)):
-        verdicts.append(LATER_ATTEMPT)
+        verdicts.append(why_later(case, equal))
     elif not is_same:
         verdicts.append(MORE_ATTEMPTS)
     if here_stop == there_stop:
@@ -53,7 +59,7 @@ def instants_verdicts(case, program):
     return verdicts + [unnamed("another end") if is_same else OTHER_END]
 
 
-def gap_here(case, program):
+def gap_here(case, program, more):
     """For how many ms nobody leads in the document of a recorded crash."""
     beat = min(case["one_way_ms"], 1000)
     crash = LEADS + case["crash_ms"] // beat
@@ -61,41 +67,43 @@ def gap_here(case, program):
     settings = {"beatMillis": beat, "endBeat": crash + (case["lease_ms"] + 20_000) // beat, "leaseDurationSeconds": case["lease_ms"] // 1000}
     events = [{"beat": LEADS, "type": "start", "process": it} for it in names[1:]]
     events.append({"beat": crash, "type": "crash", "process": "a"})
-    trace = program.replay(document(settings, (), events, [{"name": it, "up": it == "a"} for it in names]))
+    trace = program.replay(document({**settings, **more}, (), events, [{"name": it, "up": it == "a"} for it in names]))
     return ([at for at, _, deed in trace if deed[0] == "lead"][1] - crash) * beat
 
 
-def failovers(cases, program):
+def failovers(cases, program, more):
     """Gaps here and there, in ms, by lease, beat and number of rivals."""
     groups = {}
-    for case, here in zip(cases, program.each(lambda it: gap_here(it, program), cases)):
+    for case, here in zip(cases, program.each(lambda it: gap_here(it, program, more), cases)):
         key = case["lease_ms"], min(case["one_way_ms"], 1000), case["candidates"]
         groups.setdefault(key, []).append((here, case["gap_ms"]))
     return groups
 
 
-def election_failover(cases, program):
+def election_failover(cases, program, more=()):
     """Rivals have jitter there, so a gap is compared with the span of those here."""
     verdicts = []
-    for gaps in failovers(cases, program).values():
+    for gaps in failovers(cases, program, dict(more)).values():
         low, high = min(it for it, _ in gaps), max(it for it, _ in gaps)
         verdicts += [LONGER if it > high else SHORTER if it < low else EXACT for _, it in gaps]
     return verdicts
 
 
-def overlaps(cases, program):
+def premise_of(lease_ms, timeout_ms, program, more=()):
+    """What the first line says of a lease and a call timeout."""
+    settings = {"endBeat": 0, "leaseDurationSeconds": lease_ms // 1000, "callTimeoutMillis": timeout_ms, **dict(more)}
+    return program.answer("check", document(settings)).rsplit("=", 1)[1]
+
+
+def overlaps(cases, program, more=()):
     """What the first line says of each setting, beside for how many ms two led at once in each run there."""
     groups = {}
     for case in cases:
         groups.setdefault((case["lease_ms"], case["timeout_ms"]), []).append(case["overlap_ms"])
-    premises = {}
-    for lease, timeout in groups:
-        settings = {"endBeat": 0, "leaseDurationSeconds": lease // 1000, "callTimeoutMillis": timeout}
-        premises[lease, timeout] = program.answer("check", document(settings)).rsplit("=", 1)[1]
-    return {key: (premises[key], runs) for key, runs in groups.items()}
+    return {key: (premise_of(*key, program, more), runs) for key, runs in groups.items()}
 
 
-def election_two_leaders(cases, program):
-    same = ((premise == "yes") == (max(runs) <= 0) for premise, runs in overlaps(cases, program).values())
+def election_two_leaders(cases, program, more=()):
+    same = ((premise == "yes") == (max(runs) <= 0) for premise, runs in overlaps(cases, program, more).values())
     wrong = unnamed("two leaders and the premise holds, or none and it doesn't")
     return [EXACT if it else wrong for it in same]

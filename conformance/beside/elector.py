@@ -9,11 +9,15 @@ class Elector:
 
     Whether they were right the trace tells: it has to have the writes and the end that were foreseen."""
 
+    more_settings = {}
+
     def __init__(self, case):
         self.case = case
-        self.renew, self.retry = case["RenewMs"], case["RetryMs"]
+        self.renew, self.retry, self.lease = case["RenewMs"], case["RetryMs"], -(-case["LeaseMs"] // 1000)
         self.events, self.starts, self.writes, self.stop = [], [0], [3], -1
-        self.now, self.deadline = LEADS, LEADS + self.renew
+        self.shown = self.stored = 1  # versions of the Lease: the last one that the controller saw, and the store's
+        self.now = self.observed = LEADS
+        self.deadline = LEADS + self.renew
         for plan in case["plans"][1:]:
             if self.now >= self.deadline or not self.attempt(plan):
                 break
@@ -24,10 +28,7 @@ class Elector:
     def attempt(self, plan):
         """One attempt; false where the deadline is reached in it."""
         self.starts.append(self.now)
-        is_good = plan["get"] == "ok" and self.get_and_write(plan)
-        if plan["get"] != "ok":
-            self.losses(self.now, True, False)
-            self.now += max(2, plan["get_ms"])
+        is_good = self.calls(plan)
         if self.now >= self.deadline:
             return False
         if is_good:
@@ -35,23 +36,38 @@ class Elector:
         self.now += self.retry
         return True
 
-    def get_and_write(self, plan):
+    def calls(self, plan):
+        """The calls of an attempt; true where it succeeds."""
+        return self.get(plan) and self.now < self.deadline and self.update(plan)
+
+    def get(self, plan):
         takes = max(2, plan["get_ms"])
+        if plan["get"] != "ok":
+            self.losses(self.now, True, False)
+            self.now += takes
+            return False
         self.delays(self.now, takes)
         self.losses(self.now, False, False)
         self.now += takes
-        if self.now >= self.deadline:
-            return False
-        is_lost, is_quiet = plan["write"] == "error", plan["write"] == "reply_lost"
+        if self.now < self.deadline and self.shown != self.stored:
+            self.shown, self.observed = self.stored, self.now
+        return True
+
+    def update(self, plan):
+        is_lost, is_quiet, is_current = plan["write"] == "error", plan["write"] == "reply_lost", self.shown == self.stored
         takes = max(2, plan["write_ms"])
         self.delays(self.now, 2 if is_quiet else takes)
         self.losses(self.now, is_lost, False)
         if not is_lost:
             self.writes.append(self.now + (1 if is_quiet else min(MOST_DELAY, takes - 1)))
+            self.stored += is_current
         if is_quiet:
             self.losses(self.now + 1, False, True)
         self.now += takes
-        return plan["write"] == "ok"
+        if is_lost or is_quiet or not is_current:
+            return False
+        self.shown, self.observed = self.stored, self.now
+        return True
 
     def delays(self, beat, both):
         request = min(MOST_DELAY, both - 1)
@@ -61,9 +77,8 @@ class Elector:
         self.events.append({"beat": beat, "type": "loss", "process": "me", "requests": requests, "replies": replies})
 
     def document(self):
-        settings = {"beatMillis": 1, "leaseDurationSeconds": -(-self.case["LeaseMs"] // 1000), "renewDeadlineMillis": self.renew,
-                    "retryPeriodMillis": self.retry, "callTimeoutMillis": self.case["timeout_ms"], "restartMillis": 86_400_000,
-                    "endBeat": self.last}
+        settings = {"beatMillis": 1, "leaseDurationSeconds": self.lease, "renewDeadlineMillis": self.renew, "retryPeriodMillis": self.retry,
+                    "callTimeoutMillis": self.case["timeout_ms"], "restartMillis": 86_400_000, "endBeat": self.last, **self.more_settings}
         events = sorted((it for it in self.events if it["beat"] <= self.last), key=lambda it: it["beat"])
         return document(settings, controllers=[{"name": "me"}], events=events)
 
@@ -73,3 +88,14 @@ class Elector:
         writes = [it for it in self.writes if it <= self.last]
         end = [self.stop] if self.stop >= 0 else []
         return beats("lead") == [LEADS] and beats("create election", "update election") == writes and beats("end") == end
+
+
+class FastElector(Elector):
+    """One that renews without a Get where the Lease that it saw is its own and hasn't run out, and with one where that fails."""
+
+    more_settings = {"fastRenew": True}
+
+    def calls(self, plan):
+        if self.now < self.observed + self.lease * 1000 and self.update(plan):
+            return True
+        return self.now < self.deadline and super().calls(plan)

@@ -1,6 +1,7 @@
 """The events of a real control plane beside those that its document foretells."""
 from collections import defaultdict, namedtuple
 
+from .acts import last_act
 from .program import is_accepted
 from .scenario_document import ScenarioDocument, with_late_reply
 from .scenarios import Scenario
@@ -9,8 +10,17 @@ from .scenarios import Scenario
 Pair = namedtuple("Pair", "what observed foretold")
 ALONE_SECONDS = 50  # what it costs to leave an event without its like
 # In these the rival's attempts are fitted to its real takeover, so that what follows it can be compared.
-FITTED = ("c2", "c3", "c4", "c6", "d2", "e", "f", "f2", "h", "h2")
-NAMES = ("a", "a2", "b", "b2", "c", "c2", "c3", "c4", "c6", "d", "d2", "d3", "d4", "e", "e2", "f", "f2", "g", "h", "h2")
+FITTED = ("c2", "c3", "c4", "c6", "d2", "e", "f", "f2", "h", "h2", "n3", "ec4", "ec6r", "eh", "eh10",
+          "er18_1", "er18_3", "er18b_2", "er18l_1", "er23_1")
+NAMES = ("a", "a2", "b", "b2", "c", "c2", "c3", "c4", "c6", "d", "d2", "d3", "d4", "e", "e2", "f", "f2", "g", "h", "h2", "n1", "n3", "n5", "n7")
+# Of client-go 0.36.4.
+NEW_NAMES = ("ea2", "eb", "ec4", "ec6r", "ed", "eg", "egz", "egz4", "eh", "eh10", "en6", "er18_1", "er18_3", "er18b_2", "er18l_1", "er23_1", "ax")
+LOOKED_LATE = ("n5",)  # the driver looked for exits some seconds after them
+
+
+def is_pod_of_wave(name):
+    """Whether it is one of the many pods that were put on a node beside the few that each has."""
+    return "-m" in name
 
 
 def key_of(actor, deed):
@@ -35,6 +45,11 @@ def foretold(scenario, program):
     return [(beat * millis / 1000, actor, deed) for beat, actor, deed in trace]
 
 
+def foretold_ends(name, program):
+    """The seconds at which terms end by themselves."""
+    return [second for second, actor, deed in foretold(Scenario(name), program) if deed[0] == "end" and not actor.startswith("kubelet")]
+
+
 def by_key(events):
     found = defaultdict(list)
     for second, actor, deed in events:
@@ -44,9 +59,12 @@ def by_key(events):
 
 
 def ends(scenario, events):
-    """When leaders ended by themselves: there the process exits before anybody kills it, here it has the line `end`."""
+    """When leaders ended by themselves: there the process exits before anybody kills it, or acts for the last time where nobody looked at
+    that, and here it has the line `end`."""
     killed = [(it["who"], it["at"]) for it in scenario.signals("SIGKILL", "SIGTERM")]
-    exits = [it["at"] for it in scenario.of("kcm-exit") if it["rc"] == 255 and not any(it["who"] == who and at <= it["at"] for who, at in killed)]
+    late = scenario.late_ends()
+    own = [it for it in scenario.of("kcm-exit") if it["rc"] == 255 and not any(it["who"] == who and at <= it["at"] for who, at in killed)]
+    exits = [last_act(scenario, f"kcm-{it['who']}") if it in late else it["at"] for it in own if scenario.name not in LOOKED_LATE]
     return exits, [second for second, actor, deed in events if deed[0] == "end" and not actor.startswith("kubelet")]
 
 

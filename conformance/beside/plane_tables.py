@@ -16,7 +16,18 @@ WORDS = {
     "d4": "two nodes die, grace 42 s", "e": "zones go down and come back; the store stands still", "e2": "the same, and the store doesn't",
     "f": "the leader is killed 20 s after a taint", "f2": "the leader is killed at once after a taint", "g": "SIGTERM of the leader",
     "h": "one reply to the leader is 9.5 s late, then none", "h2": "the same, lease 23 s",
+    "n1": "a node with 500 Ready pods dies, all due at once", "n3": "one with 200, tolerating 20, 40 and 60 s; the leader is killed 5 s after the taint",
+    "n5": "the API server is stopped for 12 s, twice", "n7": "a kubelet renews for 20 s and is silent for 50 s, thrice",
+    "ea2": "a leader renews", "eb": "eight kills of the leader", "ec4": "the leader is stopped for 22.5 s and goes on",
+    "ec6r": "for 45.5 s, lease 23 s, `ReleaseOnCancel`", "ed": "two kills; leases of 15 s and of 30 s beside each other",
+    "eg": "three SIGTERM of the leader, `ReleaseOnCancel`", "egz": "frozen till a rival leads, then SIGTERM, thrice; two electors, `ReleaseOnCancel`",
+    "egz4": "the same six times, three electors", "eh": "one reply to the leader is 4.7 s late, then none", "eh10": "one is 9.5 s late, call timeout 10 s",
+    "en6": "four kills; one clock is 30 s ahead", "ax": "a kill, a SIGTERM with `ReleaseOnCancel` and a freeze, on an API server of 0.36.4",
+    "er18_1": "lease 18 s, `ReleaseOnCancel`, three electors: one reply is 4.7 s late, then calls are held until a rival leads", "er18_3": "the same",
+    "er18b_2": "the same", "er18l_1": "the same, and no call comes through again", "er23_1": "as er18_1, lease 23 s",
 }
+OWN_END = 255  # the status of a process that lost its Lease
+FEW = 5  # so many pods of a group are named
 
 
 def at(second):
@@ -45,7 +56,7 @@ def differences(found):
 
 
 def grouped(name, over):
-    """Evictions of one node at one instant, with the same causes, are one line."""
+    """Evictions of one node that are foretold for one instant, with the same causes, are one line, which has the first one's times."""
     groups = []
     for pair in over:
         key = key_of_group(name, pair)
@@ -54,8 +65,13 @@ def grouped(name, over):
         else:
             groups.append((key, [pair]))
     for _, group in groups:
-        words = group[0].what + "".join(", " + it.what.split()[1] for it in group[1:])
-        yield words, group[0], rows_of(name, group[0])
+        yield words_of(group), group[0], rows_of(name, group[0])
+
+
+def words_of(group):
+    if len(group) > FEW:
+        return f"{group[0].what} and {len(group) - 1} more, the last at {group[-1].observed:.2f}"
+    return group[0].what + "".join(", " + it.what.split()[1] for it in group[1:])
 
 
 def key_of_group(name, pair):
@@ -81,7 +97,7 @@ def late_reply(found, scenario_of, program):
     """Whether two act at once where one reply to a renewal comes late, and then none."""
     rows = []
     for name, it in found.items():
-        if not scenario_of(name).of("proxy"):
+        if not scenario_of(name).of("proxy") or scenario_of(name).is_releasing():
             continue
         premise = program.answer("check", ScenarioDocument(scenario_of(name), False).made()).rsplit("=", 1)[1]
         end = next(pair for pair in it if pair.what == "end")
@@ -97,15 +113,21 @@ def gap(second, signal):
 
 
 def ending_signals(scenario):
-    """Those to processes that hadn't ended by themselves."""
+    """Those to processes that ran and hadn't ended by themselves."""
     exits = scenario.of("kcm-exit")
-    return [signal for signal in scenario.signals("SIGKILL", "SIGTERM")
-            if next(it["rc"] for it in exits if it["who"] == signal["who"] and it["at"] >= signal["at"]) < 0]
+    return [signal for signal in scenario.signals("SIGKILL", "SIGTERM") if not is_frozen(scenario, signal)
+            and next(it["rc"] for it in exits if it["who"] == signal["who"] and it["at"] >= signal["at"]) != OWN_END]
 
 
-def renewals(scenario_of, program):
+def is_frozen(scenario, signal):
+    """Whether the process stood still when it was sent."""
+    earlier = [it for it in scenario.signals("SIGSTOP", "SIGCONT") if it["who"] == signal["who"] and it["at"] < signal["at"]]
+    return bool(earlier) and earlier[-1]["sig"] == "SIGSTOP"
+
+
+def renewals(scenario_of, names, program):
     rows = []
-    for name in ("a", "a2"):
+    for name in names:
         scenario = scenario_of(name)
         leader = scenario.renewals()[0].user
         there = [it.ended for it in scenario.renewals() if it.user == leader and it.verb == "update"]
@@ -138,7 +160,7 @@ def stalls(stalled):
 
 
 def later(seconds):
-    return f"{seconds * 1000:.0f} ms later"
+    return "" if seconds is None else f"{seconds * 1000:.0f} ms later"
 
 
 def lasts(seconds):
@@ -147,9 +169,14 @@ def lasts(seconds):
 
 def stalled(scenario_of, names, program):
     """Of each scenario in which a leader was stopped: what it did, and what its document foretells."""
-    said = [name for name in names if scenario_of(name).is_stalled() and scenario_of(name).is_said()]
+    said = [name for name in names if is_one_stall(scenario_of(name)) and scenario_of(name).is_said()]
     traces = program.each(lambda name: foretold(scenario_of(name), program), said)
     return {name: (stall_of(scenario_of(name)), foretold_of(scenario_of(name), trace)) for name, trace in zip(said, traces)}
+
+
+def is_one_stall(scenario):
+    """Whether one stop is all that was done to processes."""
+    return len(scenario.signals("SIGSTOP")) == 1 and not scenario.signals("SIGKILL", "SIGTERM")
 
 
 def stall_faults(found):
@@ -161,8 +188,7 @@ def stall_faults(found):
 def verdicts(scenario_of, names, program):
     asked = [(name, way) for name in names for way in WAYS]
     told = dict(zip(asked, program.each(lambda it: verdict(scenario_of(it[0]), it[1], program), asked)))
-    words = {key: f"{code} at `{line}`" if line else code for key, (code, line) in told.items()}
-    rows = [(name, *(words[name, way] for way in WAYS)) for name in names]
+    rows = [(name, *(told[name, way] for way in WAYS)) for name in names]
     return table(("Scenario", *(f"`--terms {it}`" for it in WAYS)), rows)
 
 

@@ -2,7 +2,7 @@
 import re
 
 HEADING = "## How each row is known"
-GRADES = ("source", "function", "virtual", "plane", "memory", "profile")
+GRADES = ("source", "function", "virtual", "plane", "changelog", "memory", "profile")
 
 
 class Profile:
@@ -23,7 +23,7 @@ class Profile:
 
     def names_scenario(self, row, letters):
         """Whether the row says that it was seen in this scenario on a real plane."""
-        planes = re.findall(r"plane: ([a-z0-9, ]+)", self.known.get(row, ""))
+        planes = re.findall(r"plane: ([a-z0-9_, ]+)", self.known.get(row, ""))
         return any(letters in it.replace(" ", "").split(",") for it in planes)
 
     def faults(self):

@@ -18,7 +18,7 @@ class Program:
         self.pool = ThreadPoolExecutor(os.cpu_count() or 1)
 
     def lines(self, command, given):
-        """The lines that `command` writes for a document, or for a text; it is run once for each."""
+        """The lines that `command`, with its words, writes for a document, or for a text; it is run once for each."""
         text = given if isinstance(given, str) else json.dumps(given)
         key = command, hashlib.sha256(text.encode()).digest()
         if key not in self.answers:
@@ -26,7 +26,7 @@ class Program:
         return self.answers[key]
 
     def run(self, command, text):
-        ran = subprocess.run([*self.words, command], input=text.encode(), stdout=subprocess.PIPE, stderr=subprocess.PIPE)
+        ran = subprocess.run([*self.words, *command.split()], input=text.encode(), stdout=subprocess.PIPE, stderr=subprocess.PIPE)
         if ran.returncode not in (0, 1):
             raise NoAnswer(f"{command} ended with status {ran.returncode}: {ran.stderr.decode(errors='replace')[-300:]}")
         return ran.stdout.decode().splitlines()

@@ -3,11 +3,14 @@ from .documents import document, listed
 from .scenarios import STALLS_VERSION
 
 STALL_SHARE = 0.8  # a leader's call that took so much of its timeout, or that the store failed, met a stall of the store
-HELD_SECONDS = 9.5  # for so long the proxy held one reply; then it let no further call through
-LOST_SECONDS = 60
+STEP_SECONDS = 0.25  # while the API server stands still, so often the delay of what is sent is set anew
 RETRY_SECONDS = 2
 AFTER_SECONDS = 0.15  # so long after the last renewal a fitted rival asks for the first time
 MOST_DELAY = 6000
+WOKEN_SECONDS = 0.1
+# Built with a time of day that is ahead, which no note tells.
+CLOCKS_AHEAD = (("en6", "kcm-a"),)
+AHEAD_MILLIS = 30_000
 
 
 class ScenarioDocument:
@@ -30,7 +33,7 @@ class ScenarioDocument:
         if what == "kcm-start":
             self.add_start(note)
         elif what == "kcm-signal" and note["sig"] in ("SIGKILL", "SIGTERM"):
-            self.add(second, "crash", f"kcm-{note['who']}")
+            self.take_end(note)
         elif what == "kcm-signal" and note["sig"] == "SIGSTOP":
             goes_on = next(it["at"] for it in self.scenario.signals("SIGCONT") if it["at"] > second)
             self.add(second, "pause", f"kcm-{note['who']}", beats=self.beat(goes_on) - self.beat(second))
@@ -40,9 +43,31 @@ class ScenarioDocument:
             self.add(second, "start", f"kubelet/{note['node']}")
         elif what == "kubelet-stop":
             self.add(second, "crash", f"kubelet/{note['node']}")
+        elif what == "apiserver" and note["sig"] == "SIGSTOP":
+            self.take_server_stall(note)
         elif what == "pod":
             made = next(it for it in self.scenario.log.entries if it.verb == "create" and it.resource == "pods" and it.name == note["name"])
             self.events.append((second, {"type": "put", "object": self.manifest(made)}))
+
+    def take_end(self, note):
+        """A signal that an elector handles by a release is a stop. In a pause that does nothing, so it stands right after it."""
+        is_stop = note["sig"] == "SIGTERM" and self.scenario.is_releasing()
+        woken = (it["at"] for it in self.scenario.signals("SIGCONT") if it["who"] == note["who"] and 0 < it["at"] - note["at"] < WOKEN_SECONDS)
+        second = next((at + 2 * self.millis / 1000 for at in woken), note["at"]) if is_stop else note["at"]
+        self.add(second, "stop" if is_stop else "crash", f"kcm-{note['who']}")
+
+    def take_server_stall(self, note):
+        """What is sent while the API server stands still arrives when it goes on."""
+        goes_on = next(it["at"] for it in self.scenario.of("apiserver") if it["sig"] == "SIGCONT" and it["at"] > note["at"])
+        second = note["at"]
+        while second < goes_on:
+            self.delay_all(second, min(MOST_DELAY, self.beat(goes_on) - self.beat(second)))
+            second += STEP_SECONDS
+        self.delay_all(goes_on, 1)
+
+    def delay_all(self, second, beats):
+        for process in (*self.controllers(), *(f"kubelet/{it}" for it in self.nodes())):
+            self.add(second, "delay", process, requestBeats=max(1, beats), replyBeats=1)
 
     def add_start(self, note):
         """A process starts here when it first asks for the Lease: it took a second or more to come so far."""
@@ -55,6 +80,8 @@ class ScenarioDocument:
     def take_stalls(self):
         """While the store stands still, nothing that the leader says of the election arrives: from between its last renewal and
         its next call on."""
+        if self.scenario.of("apiserver"):
+            return
         holder, renewed = None, 0
         slow = self.scenario.settings["callTimeoutMillis"] / 1000 * STALL_SHARE
         for entry in self.scenario.elections:
@@ -73,7 +100,8 @@ class ScenarioDocument:
         leader = writes[0].user
         lead, renewed = writes[0].ended, max(it.ended for it in writes if it.user == leader and it.ended < takeover.received)
         rounds = round((renewed - lead) / (RETRY_SECONDS + 4 * self.millis / 1000))
-        self.own[leader] = {"retryPeriodMillis": round((renewed - lead) / rounds * 1000) - 4 * self.millis}
+        messages = 2 if self.scenario.is_elector() else 4
+        self.own[leader] = {"retryPeriodMillis": round((renewed - lead) / rounds * 1000) - messages * self.millis}
         asked = max(it.received for it in self.scenario.elections
                     if it.user == takeover.user and it.verb == "get" and it.received < takeover.received)
         lease = self.scenario.settings.get("leaseDurationSeconds", 15)
@@ -81,8 +109,24 @@ class ScenarioDocument:
         travel = 2 * self.millis
         period = int(span * 1000 / int(span / (RETRY_SECONDS + travel / 1000)))
         self.own[takeover.user] = {"retryPeriodMillis": period - travel}
-        start = asked - span - self.scenario.base
-        self.events = [(start if it["type"] == "start" and it["process"] == takeover.user else second, it) for second, it in self.events]
+        starts = {takeover.user: asked - span - self.scenario.base}
+        for user in set(self.controllers()) - {leader, takeover.user}:
+            starts[user] = self.asked_after(user, takeover.ended) - self.scenario.base
+        self.events = [(starts.get(it["process"], second) if it["type"] == "start" else second, it) for second, it in self.events]
+
+    def asked_after(self, user, second):
+        """A further rival came too late for the takeover, so it starts when it first asks after that."""
+        return min(it.received for it in self.scenario.elections if it.user == user and it.received > second)
+
+    def controllers(self):
+        return sorted({f"kcm-{it['who']}" for it in self.scenario.of("kcm-start")})
+
+    def nodes(self):
+        return self.scenario.of("base")[0]["nodes"]
+
+    def own_of(self, user):
+        ahead = {"offsetMillis": AHEAD_MILLIS} if (self.scenario.name, user) in CLOCKS_AHEAD else {}
+        return {**self.scenario.own.get(user, {}), **self.own.get(user, {}), **ahead}
 
     def manifest(self, entry):
         """Of a node or pod that was created: what the program reads of it."""
@@ -110,23 +154,24 @@ class ScenarioDocument:
     def made(self):
         end = self.beat(self.scenario.end)
         events = sorted(((self.beat(second), it) for second, it in self.events), key=lambda it: it[0])
-        controllers = sorted({f"kcm-{it['who']}" for it in self.scenario.of("kcm-start")})
-        nodes = self.scenario.of("base")[0]["nodes"]
         settings = dict(self.scenario.settings, endBeat=end)
         made = document(settings, (), [dict(it, beat=beat) for beat, it in events if beat <= end],
-                        [dict({"name": it, "up": False}, **self.own.get(it, {})) for it in controllers],
+                        [dict({"name": it, "up": False}, **self.own_of(it)) for it in self.controllers()],
                         STALLS_VERSION if self.scenario.is_stalled() else 2)
-        return dict(made, kubelets=[{"node": it, "up": False} for it in nodes], objects=listed(self.objects()))
+        return dict(made, kubelets=[{"node": it, "up": False} for it in self.nodes()], objects=listed(self.objects()))
 
 
 def with_late_reply(made, scenario, trace):
-    """One reply to a renewal is held, and each later call of that controller is lost: a delay at the renewal nearest to the real one."""
+    """One reply to a renewal is held, the one nearest to the real one, and no later call of that controller comes through."""
     held = next(it for it in scenario.of("proxy"))
     user, millis = f"kcm-{held['leader']}", scenario.settings["beatMillis"]
-    real = next(it for it in scenario.renewals() if it.user == user and it.ended - scenario.base > held["at"])
+    real = next(it for it in scenario.renewals() if it.user == user and it.received - scenario.base > held["at"])
     second = real.ended - scenario.base
     renewed = [beat for beat, actor, deed in trace if actor.startswith(user) and deed[:2] == ["update", "election"]]
     beat = min(renewed, key=lambda it: abs(it * millis / 1000 - second))
-    late = {"beat": beat, "type": "delay", "process": user, "requestBeats": min(MOST_DELAY, LOST_SECONDS * 1000 // millis),
-            "replyBeats": int(HELD_SECONDS * 1000 / millis)}
-    return dict(made, events=sorted(made["events"] + [late], key=lambda it: it["beat"]))
+    late = {"beat": beat, "type": "delay", "process": user, "requestBeats": 1, "replyBeats": int(held["reply_delay_put"] * 1000 / millis)}
+    if scenario.is_elector():
+        more = [{"beat": beat + 1, "type": "loss", "process": user, "requests": True, "replies": False}]
+    else:  # the calls that aren't of the election come through there, so they are late here, and not lost
+        late["requestBeats"], more = MOST_DELAY, []
+    return dict(made, events=sorted([*made["events"], late, *more], key=lambda it: it["beat"]))

@@ -17,9 +17,20 @@ BEAT_MILLIS = 2  # four messages of a beat each make a round of renewal 8 ms lon
 DOCUMENT_VERSION = 3
 STALLS_VERSION = 3
 FLAGS = {"--leader-elect-lease-duration": ("leaseDurationSeconds", 1), "--leader-elect-renew-deadline": ("renewDeadlineMillis", 1000),
-         "--leader-elect-retry-period": ("retryPeriodMillis", 1000), "--node-monitor-grace-period": ("gracePeriodMillis", 1000)}
+         "--leader-elect-retry-period": ("retryPeriodMillis", 1000), "--node-monitor-grace-period": ("gracePeriodMillis", 1000),
+         "--call-timeout": ("callTimeoutMillis", 1000)}
+RENEW_DEADLINE = 10_000
+LOOKED_SECONDS = 0.1
+# A user agent begins with the name of the binary.
+CONTROLLERS = "^(kube-controller-manager|elector(-[a-z]+)?)/"
 OPTIONS = argparse.Namespace(by="user", lease="kube-system/kube-controller-manager", kubelets="^system:node:",
-                             controllers="^kube-controller-manager/", evictors="node-controller", rates=[100, 10, 50, 55])
+                             controllers=CONTROLLERS, evictors="node-controller", rates=[100, 10, 50, 55])
+
+
+def timings_of(flags):
+    """The keys of a document that these flags of a process stand for."""
+    named = dict(it.split("=") for it in flags)
+    return {key: int(named[name].rstrip("s")) * times for name, (key, times) in FLAGS.items() if name in named}
 
 
 class Scenario:
@@ -37,16 +48,30 @@ class Scenario:
         self.log.sort()
         self.identities = Identities(self.log, OPTIONS)
         self.elections = [it for it in self.log.entries if self.identities.is_election(it) and it.user.startswith("kcm-")]
-        self.settings = {"beatMillis": BEAT_MILLIS, "callTimeoutMillis": 10_000, "restartMillis": 86_400_000}
+        self.settings = {"beatMillis": BEAT_MILLIS, "restartMillis": 86_400_000}
         self.settings["epoch"] = datetime.fromtimestamp(self.base, timezone.utc).strftime("%Y-%m-%dT%H:%M:%S.%fZ")
         self.take_flags()
 
     def take_flags(self):
-        for flag in (it for note in self.of("kcm-start") for it in note["flags"]):
-            name, value = flag.split("=")
-            key, times = FLAGS[name]
-            self.settings[key] = int(value.rstrip("s")) * times
-        self.settings["callTimeoutMillis"] = self.settings.get("renewDeadlineMillis", 10_000)
+        """Settings are those of the first process; what another one has of its own is in `own`, by its user."""
+        starts = self.of("kcm-start")
+        self.settings.update(timings_of(starts[0]["flags"]))
+        deadline = self.settings.get("renewDeadlineMillis", RENEW_DEADLINE)
+        self.settings.setdefault("callTimeoutMillis", deadline // 2 if self.is_elector() else deadline)
+        if self.is_elector():
+            self.settings["fastRenew"] = True
+        self.own = {}
+        for it in starts:
+            own = {key: value for key, value in timings_of(it["flags"]).items() if self.settings.get(key) != value}
+            if own:
+                self.own[f"kcm-{it['who']}"] = own
+
+    def is_elector(self):
+        """Whether electors of client-go 0.36 ran, and no controller managers."""
+        return any(it.get("kind") == "elector" for it in self.of("kcm-start"))
+
+    def is_releasing(self):
+        return any("--release-on-cancel=true" in it["flags"] for it in self.of("kcm-start"))
 
     def of(self, *whats):
         return [it for it in self.notes if it["what"] in whats]
@@ -73,3 +98,7 @@ class Scenario:
         """The first successful write by another controller than the first leader, None where there is none."""
         writes = self.renewals()
         return next((it for it in writes if it.user != writes[0].user), None)
+
+    def late_ends(self):
+        """Exits that were noted when everything ended: nobody had looked before, so they tell no instant."""
+        return [it for it in self.of("kcm-exit") if it["at"] > self.end - LOOKED_SECONDS]

@@ -2,7 +2,7 @@
 from statistics import median
 
 from . import elections, stories
-from .recorded import SETS, cases_of
+from .recorded import NEW, SETS, cases_of
 from .tally import row_of
 
 
@@ -33,18 +33,22 @@ def not_said(counts):
     return table(("Set", "Cases", "Why no document says it"), rows)
 
 
-def two_leaders(program):
+def of_version(counts, is_new):
+    return {name: it for name, it in counts.items() if name.startswith(NEW) == is_new}
+
+
+def two_leaders(name, program, more=()):
     rows = []
-    for (lease, timeout), (premise, runs) in elections.overlaps(cases_of("election_two_leaders"), program).items():
+    for (lease, timeout), (premise, runs) in elections.overlaps(cases_of(name), program, more).items():
         both = [it for it in runs if it > 0]
         longest = f"{seconds(max(both))} s" if both else ""
         rows.append((f"{lease // 1000} s", f"{timeout // 1000} s", f"`premise={premise}`", len(runs), len(both), longest))
     return table(("Lease", "Call timeout", "First line here", "Runs there", "With two leaders there", "For at most"), rows)
 
 
-def failovers(program):
+def failovers(name, program, more=()):
     rows = []
-    for (lease, beat, rivals), gaps in elections.failovers(cases_of("election_failover"), program).items():
+    for (lease, beat, rivals), gaps in elections.failovers(cases_of(name), program, dict(more)).items():
         here, there = [it for it, _ in gaps], [it for _, it in gaps]
         longer = sum(it > max(here) for it in there)
         rows.append((f"{lease // 1000} s", rivals, f"{2 * beat} ms", f"{seconds(min(here))} to {seconds(max(here))} s",

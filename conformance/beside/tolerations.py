@@ -89,3 +89,22 @@ def due_time_verdict(case, here):
     if here is None and is_long and (there is None or there > span):
         return left("due after 2199, or never: no document tells these apart")
     return differs("seconds in 64 bits", "nanoseconds wrap round there") if is_long else unnamed("another due time")
+
+
+def all_tolerated(cases, program):
+    """As `matching`, where the least seconds weren't recorded: a pod is due at once if a taint isn't tolerated, and else it never is."""
+    lacking = [dict(it, tolerations=[dict(one, seconds=None) for one in it["tolerations"] or []], min_nanos=-1) for it in cases]
+    return matching(lacking, program)
+
+
+def comparisons(cases, program):
+    """The operators Lt and Gt, and words that are none."""
+    answers = {operator: unlawful_operator(program, operator) for operator in {it["toleration"]["operator"] for it in cases}}
+    return [answers[it["toleration"]["operator"]] for it in cases]
+
+
+def unlawful_operator(program, operator):
+    answer = program.answer("place", {"objects": listed([pod("p", "", [{"key": "k", "operator": operator, "value": "5", "effect": "", "seconds": None}])])})
+    if answer == "refused 16 /objects/items/0/spec/tolerations/0/operator":
+        return left("an operator other than Exists and Equal, refused with 16")
+    return unnamed(f"the operator {operator} isn't refused")

@@ -8,7 +8,7 @@ import { count, make, plural, time } from './words.js';
 const beats = (answer, key) => answer.summary && key(answer.summary) * answer.summary.header.beatMillis;
 const longest = answer => beats(answer, told => told.spansWithoutLeader.longest);
 const sum = answer => beats(answer, told => told.spansWithoutLeader.sum);
-const atEnd = answer => beats(answer, told => told.leaderlessAtEnd);
+const atEnd = answer => beats(answer, () => answer.leaderlessAtEnd);
 const twoLead = answer => beats(answer, told => told.header.twoLeadBeats);
 const evicted = answer => answer.summary && answer.summary.evictions.count;
 const isRuledOut = answer => / premise=yes\n/.test(answer.trace.slice(0, 200));

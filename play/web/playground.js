@@ -134,6 +134,7 @@ class Playground {
     this.marks.wrong = null;
     Object.assign(this, { answer, shown: question });
     this.stage.show(answer.trace, question.document, question.name, question.isNew || question.isOther);
+    answer.leaderlessAtEnd = this.stage.leaderlessAtEnd();
     this.showAnswers(false);
     this.showPinned();
     this.times.push(performance.now() - question.since);

@@ -64,6 +64,12 @@ export class Stage extends Page {
     this.scroller.scrollTop = kept.top;
   }
 
+  // For how many beats nobody has led at the end of the run.
+  leaderlessAtEnd() {
+    const { from, to, kinds } = this.model.leaderLane.spans.base;
+    return kinds.at(-1) === 'nobody' ? to.at(-1) - from.at(-1) : 0;
+  }
+
   // The trace that is pinned, over which the present one stands.
   pin(text, document, name) {
     const model = text === null ? null : readTrace(text, new Told(document, name));

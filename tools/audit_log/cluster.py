@@ -18,6 +18,16 @@ def condition_taints(node):
     return {WORDS[it["key"]]: it for it in taints if it.get("effect") == "NoExecute" and it.get("key") in WORDS}
 
 
+def as_before(node, entry, second):
+    """What was at this second of a node that an entry shows later: no taint, and the other Ready where it has changed since."""
+    ready = ready_of(node)
+    changed = ready.get("lastTransitionTime")
+    is_younger = seconds_of(changed) > second if changed else entry.subresource == "status"
+    status = {"True": "Unknown"}.get(ready.get("status"), "True") if is_younger else ready.get("status")
+    metadata = {key: node["metadata"][key] for key in ("name", "labels") if key in node["metadata"]}
+    return {"metadata": metadata, "status": {"conditions": [{"type": "Ready", "status": status}]}}
+
+
 def zone_of(node):
     labels = node["metadata"].get("labels") or {}
     return f"{labels.get(LABEL + 'region', '')}/{labels.get(LABEL + 'zone', '')}"
@@ -32,10 +42,27 @@ class Cluster:
     def __init__(self, rates):
         self.primary, self.secondary, self.large, self.unhealthy = rates
         self.nodes, self.pods = {}, {}
+        self.renewing, self.hidden = set(), []  # nodes whose Lease is renewed, and those of them that the log never shows
 
-    def take_list(self, entry):
-        """What is listed stands, unless a later version is known."""
-        for thing in entry.response.get("items") or []:
+    def begin_with(self, entries):
+        """Informers that watch from the first on, with sendInitialEvents, list nothing, and no log has what a watch says. So a node that is
+        shown at any time stands from the log's begin on, but for one that is created."""
+        first_shown = {}
+        for entry in entries:
+            if entry.resource == "leases" and entry.namespace == "kube-node-lease" and entry.name:
+                self.renewing.add(entry.name)
+            for node in entry.shown() if entry.resource == "nodes" else ():
+                first_shown.setdefault(node["metadata"]["name"], (entry, node))
+        self.hidden = sorted(self.renewing - first_shown.keys())
+        for name, (entry, node) in first_shown.items():
+            if entry.verb != "create":
+                self.nodes[name] = as_before(node, entry, entries[0].received)
+
+    def take_shown(self, entry):
+        """What is shown stands, unless a later version is known."""
+        if entry.resource == "leases":
+            return
+        for thing in entry.shown():
             key = thing["metadata"]["name"]
             known = self.nodes if entry.resource == "nodes" else self.pods
             key = key if entry.resource == "nodes" else (thing["metadata"].get("namespace"), key)
@@ -48,7 +75,7 @@ class Cluster:
         for node in self.nodes.values():
             ready[zone_of(node)].append(ready_of(node).get("status") == "True")
         states = {zone: self.state_of(nodes) for zone, nodes in ready.items()}
-        all_down = bool(states) and all(it == "FullDisruption" for it in states.values())
+        all_down = bool(states) and not self.hidden and all(it == "FullDisruption" for it in states.values())
         return all_down, {zone: (state, 0 if all_down else self.rate_of(state, len(ready[zone]))) for zone, state in states.items()}
 
     def state_of(self, ready):

@@ -36,7 +36,8 @@ class Entry:
         self.id = event.get("auditID"), event.get("stage")
         self.stage, self.verb = event.get("stage"), event.get("verb")
         self.resource, self.subresource = reference.get("resource"), reference.get("subresource")
-        self.request, self.response = event.get("requestObject") or {}, event.get("responseObject") or {}
+        self.is_read = event.get("requestObject") is not None or event.get("responseObject") is not None
+        self.request, self.response = (it if isinstance(it, dict) else {} for it in (event.get("requestObject"), event.get("responseObject")))
         names = (reference, self.request.get("metadata") or {}, self.response.get("metadata") or {})
         self.namespace = next((it["namespace"] for it in names if it.get("namespace")), None)
         self.name = next((it["name"] for it in names if it.get("name")), None)
@@ -53,6 +54,22 @@ class Entry:
 
     def spec(self, of_response=False):
         return (self.response if of_response else self.request).get("spec") or {}
+
+    def lease_spec(self):
+        """The spec as it is stored, else as it was sent; None where the log has neither."""
+        is_stored = self.is_ok() and "spec" in self.response
+        return self.spec(is_stored) if is_stored or "spec" in self.request else None
+
+    def shown(self):
+        """The objects of its resource that the answer shows."""
+        if not self.is_ok():
+            return []
+        if self.verb == "list":
+            return self.response.get("items") or []
+        return [self.response] if self.response.get("kind") in ("Node", "Pod") and not self.is_deletion() else []
+
+    def is_deletion(self):
+        return self.verb in ("delete", "deletecollection")
 
 
 class Log:

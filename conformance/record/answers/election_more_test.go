@@ -62,7 +62,7 @@ func TestRecordTimeouts(t *testing.T) {
 			tc.Plans = append(tc.Plans, p)
 		}
 		ctx, cancel := context.WithCancel(context.Background())
-		l := &runLock{lock: lock{id: "me_1", s: &store{}}, c: &tc.runCase, cancel: cancel, base: nowUs()}
+		l := &runLock{lock: lock{id: "me_1", s: &store{}, base: nowUs()}, c: &tc.runCase, cancel: cancel}
 		led := make(chan struct{})
 		le, err := NewLeaderElector(LeaderElectionConfig{Lock: l, LeaseDuration: time.Duration(tc.LeaseMs) * time.Millisecond,
 			RenewDeadline: time.Duration(tc.RenewMs) * time.Millisecond, RetryPeriod: time.Duration(tc.RetryMs) * time.Millisecond,

@@ -1,6 +1,10 @@
-// Records answers (this project's own code). record.sh places this file into the
-// leaderelection package of an unpacked upstream tree. It needs Go's faketime
-// build tag, so that time moves only when every goroutine sleeps.
+// Records answers (this project's own code). record.sh and record_new.sh place this file into the
+// leaderelection package of upstream, of 1.20 or of 0.32 and newer. It needs Go's faketime build
+// tag, so that time moves only when every goroutine sleeps.
+//
+// A newer leader begins an attempt with an Update, and asks only where that fails. So an attempt
+// begins at a Get, or at an Update that no Get came before; what a plan says of the write holds for
+// each Update of the attempt. A lock knows the version of the last reply that it heard.
 package leaderelection
 
 import (
@@ -84,7 +88,7 @@ func (s *store) spec() coordv1.LeaseSpec {
 type plan struct {
 	GetMs    int64  `json:"get_ms"`
 	Get      string `json:"get"` // ok, error
-	Mid      *bare  `json:"mid"` // another's write between reply and write
+	Mid      *bare  `json:"mid"` // another's write: after the Get's reply, or before an Update without a Get
 	WriteMs  int64  `json:"write_ms"`
 	Write    string `json:"write"` // ok, error, reply_lost
 	sent     string
@@ -92,6 +96,16 @@ type plan struct {
 	sentAt   int64
 	answered string
 	wrote    *bare
+	made     []madeCall
+	midDone  bool
+}
+
+// madeCall is one call of an attempt, as it went.
+type madeCall struct {
+	What  string `json:"what"` // get, create, update, and fast for an update without a get
+	AtUs  int64  `json:"at_us"`
+	EndUs int64  `json:"end_us"`
+	Reply string `json:"reply"` // found, absent, done, exists, conflict, reply_lost, error, cut
 }
 
 // lock is an rl.Interface over store, one planned attempt at a time.
@@ -100,6 +114,13 @@ type lock struct {
 	s      *store
 	p      *plan
 	cached int
+	base   int64
+	asked  bool // the last call was a Get that was answered
+}
+
+// note keeps one call of the plan under way.
+func (l *lock) note(what string, at int64, reply string) {
+	l.p.made = append(l.p.made, madeCall{what, at - l.base, nowUs() - l.base, reply})
 }
 
 func (l *lock) nap(ctx context.Context, ms int64) error {
@@ -116,57 +137,82 @@ func (l *lock) nap(ctx context.Context, ms int64) error {
 	}
 }
 
+func (l *lock) mid() {
+	if l.p.Mid != nil && !l.p.midDone {
+		l.p.midDone = true
+		l.s.put(toSpec(*l.p.Mid))
+	}
+}
+
 func (l *lock) Get(ctx context.Context) (*rl.LeaderElectionRecord, []byte, error) {
+	at, reply := nowUs(), "found"
+	defer func() { l.note("get", at, reply) }()
+	l.asked = false
 	if err := l.nap(ctx, l.p.GetMs); err != nil {
+		reply = "cut"
 		return nil, nil, err
 	}
 	l.p.got = nowUs()
 	if l.p.Get != "ok" {
+		reply = "error"
 		return nil, nil, errors.New("planned")
 	}
+	l.asked = true
+	defer l.mid()
 	if !l.s.there {
-		l.mid()
+		reply = "absent"
 		return nil, nil, apierrors.NewNotFound(leaseGR, "x")
 	}
 	sp := l.s.spec()
 	l.cached = l.s.version
 	rec := rl.LeaseSpecToLeaderElectionRecord(&sp)
 	raw, err := json.Marshal(*rec)
-	l.mid()
 	return rec, raw, err
 }
 
-func (l *lock) mid() {
-	if l.p.Mid != nil {
-		l.s.put(toSpec(*l.p.Mid))
+// refusal is what the store says to a write that it doesn't take, with the word for it.
+func (l *lock) refusal(sent string) (string, error) {
+	switch {
+	case sent == "create" && l.s.there:
+		return "exists", apierrors.NewAlreadyExists(leaseGR, "x")
+	case sent == "update" && !l.s.there:
+		return "absent", apierrors.NewNotFound(leaseGR, "x")
+	case sent == "update" && l.cached != l.s.version:
+		return "conflict", apierrors.NewConflict(leaseGR, "x", errors.New("version"))
 	}
+	return "done", nil
 }
 
 func (l *lock) write(ctx context.Context, sent string, ler rl.LeaderElectionRecord) error {
-	l.p.sent, l.p.sentAt = sent, nowUs()
+	at, what, reply := nowUs(), sent, "done"
+	if sent == "update" && !l.asked {
+		what = "fast"
+		l.mid()
+	}
+	l.asked = false
+	defer func() { l.note(what, at, reply) }()
+	l.p.sent, l.p.sentAt = what, at
 	if err := l.nap(ctx, l.p.WriteMs); err != nil {
+		reply = "cut"
 		return err
 	}
 	if l.p.Write == "error" {
-		l.p.answered = "lost"
+		l.p.answered, reply = "lost", "error"
 		return errors.New("planned")
 	}
-	if sent == "create" && l.s.there {
-		l.p.answered = "exists"
-		return apierrors.NewAlreadyExists(leaseGR, "x")
-	}
-	if sent == "update" && l.cached != l.s.version {
-		l.p.answered = "conflict"
-		return apierrors.NewConflict(leaseGR, "x", errors.New("version"))
+	word, err := l.refusal(sent)
+	l.p.answered, reply = word, word
+	if err != nil {
+		return err
 	}
 	l.s.put(rl.LeaderElectionRecordToLeaseSpec(&ler))
-	l.cached = l.s.version
 	b := fromSpec(l.s.spec())
 	l.p.wrote = &b
-	l.p.answered = "done"
 	if l.p.Write == "reply_lost" {
+		reply = "reply_lost"
 		return errors.New("planned")
 	}
+	l.cached = l.s.version
 	return nil
 }
 
@@ -188,15 +234,16 @@ type step struct {
 	Result *res   `json:"result,omitempty"`
 }
 type res struct {
-	StartUs  int64  `json:"start_us"`
-	GotUs    int64  `json:"got_us"`
-	SentUs   int64  `json:"sent_us"`
-	EndUs    int64  `json:"end_us"`
-	Ok       bool   `json:"ok"`
-	Sent     string `json:"sent"`
-	Answered string `json:"answered"`
-	Wrote    *bare  `json:"wrote"`
-	Version  int    `json:"version"`
+	StartUs  int64      `json:"start_us"`
+	GotUs    int64      `json:"got_us"`
+	SentUs   int64      `json:"sent_us"`
+	EndUs    int64      `json:"end_us"`
+	Ok       bool       `json:"ok"`
+	Sent     string     `json:"sent"`
+	Answered string     `json:"answered"`
+	Wrote    *bare      `json:"wrote"`
+	Version  int        `json:"version"`
+	Made     []madeCall `json:"made"`
 }
 type stepCase struct {
 	LeaseSeconds int64  `json:"lease_seconds"`
@@ -300,7 +347,7 @@ func TestRecordElectionSteps(t *testing.T) {
 				rs := &res{StartUs: nowUs()}
 				rs.Ok = le.tryAcquireOrRenew(context.Background())
 				rs.EndUs, rs.GotUs, rs.SentUs = nowUs(), p.got, p.sentAt
-				rs.Sent, rs.Answered, rs.Wrote, rs.Version = p.sent, p.answered, p.wrote, s.version
+				rs.Sent, rs.Answered, rs.Wrote, rs.Version, rs.Made = p.sent, p.answered, p.wrote, s.version, p.made
 				cs.Steps = append(cs.Steps, step{Op: "attempt", Plan: p, Result: rs})
 			}
 		}
@@ -312,8 +359,9 @@ func TestRecordElectionSteps(t *testing.T) {
 // ---- whole runs of a leader: retry grid and deadline ----
 
 type call struct {
-	What string `json:"what"`
-	AtUs int64  `json:"at_us"`
+	What string     `json:"what"`
+	AtUs int64      `json:"at_us"`
+	Made []madeCall `json:"made"`
 }
 type runCase struct {
 	LeaseMs, RenewMs, RetryMs int64
@@ -328,20 +376,51 @@ type runLock struct {
 	c      *runCase
 	k      int
 	cancel context.CancelFunc
-	base   int64
 	ended  bool
+	goesOn bool // an Update without a Get failed, so the next Get is of the same attempt
 }
 
-func (l *runLock) Get(ctx context.Context) (*rl.LeaderElectionRecord, []byte, error) {
+// begin takes the next plan, where a new attempt begins; false where there is none.
+func (l *runLock) begin() bool {
+	if l.goesOn || l.ended {
+		l.goesOn = false
+		return !l.ended
+	}
 	if l.k >= len(l.c.Plans) {
 		l.ended = true
 		l.cancel()
-		return nil, nil, errors.New("end of plans")
+		return false
 	}
 	l.p = &l.c.Plans[l.k]
 	l.k++
-	l.c.Calls = append(l.c.Calls, call{"attempt", nowUs() - l.base})
+	l.c.Calls = append(l.c.Calls, call{What: "attempt", AtUs: nowUs() - l.base})
+	return true
+}
+
+func (l *runLock) keep() { l.c.Calls[len(l.c.Calls)-1].Made = l.p.made }
+
+func (l *runLock) Get(ctx context.Context) (*rl.LeaderElectionRecord, []byte, error) {
+	if !l.begin() {
+		return nil, nil, errors.New("end of plans")
+	}
+	defer l.keep()
 	return l.lock.Get(ctx)
+}
+
+func (l *runLock) Create(ctx context.Context, r rl.LeaderElectionRecord) error {
+	defer l.keep()
+	return l.write(ctx, "create", r)
+}
+
+func (l *runLock) Update(ctx context.Context, r rl.LeaderElectionRecord) error {
+	isFirst := !l.asked
+	if isFirst && !l.begin() {
+		return errors.New("end of plans")
+	}
+	defer l.keep()
+	err := l.write(ctx, "update", r)
+	l.goesOn = isFirst && err != nil
+	return err
 }
 
 func TestRecordElectionRuns(t *testing.T) {
@@ -385,7 +464,7 @@ func TestRecordElectionRuns(t *testing.T) {
 			rc.Plans = append(rc.Plans, p)
 		}
 		ctx, cancel := context.WithCancel(context.Background())
-		l := &runLock{lock: lock{id: "me_1", s: &store{}}, c: &rc, cancel: cancel, base: nowUs()}
+		l := &runLock{lock: lock{id: "me_1", s: &store{}, base: nowUs()}, c: &rc, cancel: cancel}
 		led := make(chan struct{})
 		le, err := NewLeaderElector(LeaderElectionConfig{Lock: l, LeaseDuration: time.Duration(rc.LeaseMs) * time.Millisecond,
 			RenewDeadline: time.Duration(rc.RenewMs) * time.Millisecond, RetryPeriod: time.Duration(rc.RetryMs) * time.Millisecond,
@@ -430,7 +509,7 @@ func TestRecordElectionConfig(t *testing.T) {
 		if renew < 1 {
 			renew = 1
 		}
-		_, err := NewLeaderElector(LeaderElectionConfig{Lock: &lock{}, LeaseDuration: time.Duration(lease) * time.Second,
+		_, err := NewLeaderElector(LeaderElectionConfig{Lock: &lock{id: "me_1"}, LeaseDuration: time.Duration(lease) * time.Second,
 			RenewDeadline: time.Duration(renew) * time.Millisecond, RetryPeriod: time.Duration(retry) * time.Millisecond,
 			Callbacks: LeaderCallbacks{OnStartedLeading: func(context.Context) {}, OnStoppedLeading: func() {}}})
 		cases = append(cases, cfg{lease, renew, retry, err == nil})

@@ -72,23 +72,34 @@ func (l *slowLock) Get(ctx context.Context) (rec *rl.LeaderElectionRecord, raw [
 	})
 	return
 }
+func (l *slowLock) put(ctx context.Context, ler rl.LeaderElectionRecord, refusal func() error) error {
+	version := 0
+	err := l.call(ctx, true, func() error {
+		if err := refusal(); err != nil {
+			return err
+		}
+		l.s.put(rl.LeaderElectionRecordToLeaseSpec(&ler))
+		version = l.s.version
+		return nil
+	})
+	if err == nil { // a reply that wasn't heard tells no version
+		l.cached = version
+	}
+	return err
+}
 func (l *slowLock) Create(ctx context.Context, ler rl.LeaderElectionRecord) error {
-	return l.call(ctx, true, func() error {
+	return l.put(ctx, ler, func() error {
 		if l.s.there {
 			return apierrors.NewAlreadyExists(leaseGR, "x")
 		}
-		l.s.put(rl.LeaderElectionRecordToLeaseSpec(&ler))
-		l.cached = l.s.version
 		return nil
 	})
 }
 func (l *slowLock) Update(ctx context.Context, ler rl.LeaderElectionRecord) error {
-	return l.call(ctx, true, func() error {
+	return l.put(ctx, ler, func() error {
 		if l.cached != l.s.version {
 			return apierrors.NewConflict(leaseGR, "x", errors.New("version"))
 		}
-		l.s.put(rl.LeaderElectionRecordToLeaseSpec(&ler))
-		l.cached = l.s.version
 		return nil
 	})
 }

@@ -20,7 +20,7 @@ place() {
 }
 trap clean EXIT INT TERM
 clean
-place "$election" "election election_more election_two"
+place "$election" "election election_more election_two election_ends election_release election_emptied"
 place "$lifecycle" "lifecycle health_more"
 place "$lifecycle/scheduler" "scheduler taint_more"
 cd "$tree"

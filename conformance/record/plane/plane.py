@@ -32,6 +32,7 @@ class Plane:
         self.name, self.base, self.dir = name, base, os.path.abspath('run/' + name)
         self.admin = Api(base + 2, 'tok-admin'); self.kub = Api(base + 2, 'tok-kubelet')
         self.kcm = {}; self.kubelets = {}; self.log = None; self.n = 0
+        self.kind = 'kcm'; self.binary = {}    # what is started: 'kcm' or 'elector'; binaries that some have of their own, by user
     def open(self, scen):
         self.out = 'logs/' + scen; os.makedirs(self.out, exist_ok=True)
         self.log = open(self.out + '/driver.jsonl', 'w'); self.audit_from = os.path.getsize(self.dir + '/audit.log') if os.path.exists(self.dir + '/audit.log') else 0
@@ -44,10 +45,13 @@ class Plane:
         port = self.base + 10 + 'abc'.index(u)
         d = self.dir; n = self.n; self.n += 1
         logf = open('%s/kcm-%s.%d.log' % (d, u, n), 'w')
-        cmd = [os.path.abspath('bin/kube-controller-manager'), '--kubeconfig=kc-%s.yaml' % u, '--bind-address=127.0.0.1', '--secure-port=%d' % port, '--port=0',
-               '--cert-dir=%s/certs-%s' % (d, u), '--controllers=nodelifecycle', '--leader-elect=true', '--leader-elect-resource-lock=leases', '-v=4'] + list(flags)
+        cmd = [os.path.abspath('bin/' + self.binary.get(u, {'kcm': 'kube-controller-manager'}.get(self.kind, self.kind))), '--kubeconfig=kc-%s.yaml' % u]
+        if self.kind == 'kcm':
+            cmd += ['--bind-address=127.0.0.1', '--secure-port=%d' % port, '--port=0', '--cert-dir=%s/certs-%s' % (d, u), '--controllers=nodelifecycle',
+                    '--leader-elect=true', '--leader-elect-resource-lock=leases', '-v=4']
+        cmd += list(flags)
         p = subprocess.Popen(cmd, cwd=d, stdout=logf, stderr=logf)
-        self.kcm[u] = p; self.note('kcm-start', who=u, pid=p.pid, flags=list(flags)); return p
+        self.kcm[u] = p; self.note('kcm-start', who=u, kind=self.kind, flags=list(flags)); return p
     def signal(self, u, sig):
         self.note('kcm-signal', who=u, sig=signal.Signals(sig).name); os.kill(self.kcm[u].pid, sig)
     def wait_exit(self, u, timeout=60):
@@ -72,6 +76,12 @@ class Plane:
         s, o = self.admin.req('POST', '/api/v1/namespaces/%s/pods' % ns, body)
         if s >= 300: print('POD', s, o)
         return s
+    def ready_pod(self, name, ns='default'):
+        now = rfc(time.time())
+        conditions = [{'type': t, 'status': 'True', 'lastTransitionTime': now} for t in ('PodScheduled', 'Initialized', 'ContainersReady', 'Ready')]
+        s, o = self.kub.req('PATCH', '/api/v1/namespaces/%s/pods/%s/status' % (ns, name), {'status': {'phase': 'Running', 'conditions': conditions}},
+                            'application/strategic-merge-patch+json')
+        if s >= 300: print('POD STATUS', s, o)
     def wipe(self):
         for path in ('/api/v1/namespaces/default/pods', '/api/v1/nodes', '/apis/coordination.k8s.io/v1/namespaces/kube-node-lease/leases'):
             s, o = self.admin.req('GET', path)
@@ -87,7 +97,7 @@ class Plane:
             for line in f:
                 e = json.loads(line)
                 r = e.get('objectRef', {}).get('resource')
-                if r not in ('leases', 'nodes', 'pods'): continue
+                if r not in ('leases', 'nodes', 'pods', 'events'): continue
                 for k in ('requestObject', 'responseObject'):
                     o = e.get(k)
                     if isinstance(o, dict):

@@ -3,13 +3,14 @@ import sys, time, signal, os, json, subprocess
 sys.path.insert(0, os.path.dirname(os.path.abspath(__file__))); from plane import *
 plane = Plane(sys.argv[1], int(sys.argv[2])); scens = sys.argv[3:]
 NODES = [('n1', 'r1', 'za'), ('n2', 'r1', 'za'), ('n3', 'r1', 'za'), ('n4', 'r1', 'za'), ('n5', 'r1', 'zb'), ('n6', 'r1', 'zb')]
-def setup(scen, tol=(0, 30, 300), flags=(), nodes=NODES):
+def setup(scen, tol=(0, 30, 300), flags=(), nodes=NODES, more=None):
     plane.open(scen); plane.wipe()
     for n in nodes: plane.make_node(*n)
     for n in nodes:
         plane.make_pod('%s-none' % n[0], n[0], []); plane.make_pod('%s-ever' % n[0], n[0], T(None))
         for s in tol: plane.make_pod('%s-s%d' % (n[0], s), n[0], T(s))
         plane.make_pod('%s-slow' % n[0], n[0], [], grace=30)
+    if more: more()
     plane.base_t = time.time(); plane.note('base', at=plane.base_t, nodes=[n[0] for n in nodes])
     for k, n in enumerate(nodes):
         kl = Kubelet(plane, n[0]); plane.kubelets[n[0]] = kl; kl.start(); time.sleep(0.7)
@@ -133,8 +134,52 @@ def s_f(name='f', after=20):
     plane.note('taint-seen'); time.sleep(after); l = leader(); h = plane.holder_of(); plane.signal(l, signal.SIGKILL); plane.wait_exit(l); wait_lead(h)
     plane.mark = time.time(); at(150); finish()
 def s_f2(): s_f('f2', 0.0)
-try:
-    for s in scens: globals()['s_' + s]()
-finally:
-    for p in plane.kcm.values():
-        if p.poll() is None: p.kill()
+# ---- many pods on n1, all Ready; an API server that stands still; a kubelet that flaps
+def many(counts):
+    """Puts so many pods on n1 that tolerate so many seconds, None for no toleration."""
+    from concurrent.futures import ThreadPoolExecutor
+    wanted = [secs for secs, number in counts for _ in range(number)]
+    def one(k):
+        name = 'n1-m%03d-%s' % (k, 'none' if wanted[k] is None else 's%d' % wanted[k])
+        plane.make_pod(name, 'n1', [] if wanted[k] is None else T(wanted[k])); plane.ready_pod(name)
+    with ThreadPoolExecutor(6) as pool: list(pool.map(one, range(len(wanted))))
+def left():
+    s, o = plane.admin.req('GET', '/api/v1/namespaces/default/pods?fieldSelector=spec.nodeName%3Dn1')
+    return sum(i['metadata']['name'].startswith('n1-m') and not i['metadata'].get('deletionTimestamp') for i in o['items'])
+def wait_taint():
+    while not tainted('n1'): time.sleep(0.2)
+    plane.note('taint-seen')
+def wait_gone(timeout=240):
+    t = time.time()
+    while time.time() - t < timeout and left(): time.sleep(1)
+    plane.note('gone')
+def s_n1():
+    """500 pods without tolerations"""
+    setup('n1', tol=(), more=lambda: many([(None, 500)])); plane.mark = time.time(); at(12); kstop('n1'); wait_taint(); wait_gone(); time.sleep(3); finish()
+def s_n3():
+    """200 pods with 20, 40 and 60 s; the leader is killed 5 s after the taint"""
+    setup('n3', tol=(), more=lambda: many([(20, 67), (40, 67), (60, 66)])); plane.mark = time.time(); at(12); kstop('n1'); wait_taint(); time.sleep(5)
+    l = leader(); h = plane.holder_of(); plane.signal(l, signal.SIGKILL); plane.wait_exit(l); wait_lead(h); wait_gone(); time.sleep(3); finish()
+def s_n5():
+    """the API server is stopped for 12 s, twice; whoever ended meanwhile is started again"""
+    setup('n5', tol=(0, 30)); plane.mark = time.time(); pid = int(open(plane.dir + '/apiserver.pid').read())
+    for t in (20, 75):
+        for wait, sig in ((t, signal.SIGSTOP), (t + 12, signal.SIGCONT)):
+            at(wait); plane.note('apiserver', sig=sig.name); os.kill(pid, sig)
+        at(t + 20); gone = [u for u, p in plane.kcm.items() if p.poll() is not None]
+        for u in gone: plane.note('kcm-exit', who=u, rc=plane.kcm[u].returncode)
+        at(t + 32)
+        for u in gone: plane.start_kcm(u, *plane.flags)
+    at(135); finish()
+def s_n7():
+    """n1 renews for 20 s and is silent for 50 s, thrice"""
+    setup('n7', tol=(0, 10, 30)); plane.mark = time.time()
+    for k in range(3): at(20 + 70 * k); kstop('n1'); at(70 + 70 * k); kstart('n1')
+    at(240); finish()
+def play(found):
+    try:
+        for s in scens: found['s_' + s]()
+    finally:
+        for p in plane.kcm.values():
+            if p.poll() is None: p.kill()
+if __name__ == '__main__': play(globals())

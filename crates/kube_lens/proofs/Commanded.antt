@@ -1,11 +1,11 @@
 -- How a run ends, by the command of its words.
-use Rattle.std.proofs.Common.{◌≡◌, ℕ, List, Option, Some, sym, subst}
+use Rattle.std.proofs.Common.{◌≡◌, ℕ, List, [], Option, Some, None, sym, ap, subst, ◌∙◌}
 use Rattle.byte_edge.specs.Bytes.{Taken}
 use Rattle.lens_edge.specs.declared.status.Status.{Status}
 use Rattle.lens_edge.specs.Outcome.{Ends, Reply, Unread}
 use Rattle.kube_lens.specs.declared.command.Command.{Command}
 use Rattle.kube_lens.specs.Commands.{command_of}
-use Rattle.kube_lens.specs.Outcome.{IsOutcome, IsOutcomeOf}
+use Rattle.kube_lens.specs.Outcome.{IsOutcome, IsOutcomeOf, unread_reply}
 
 -- a run that ends as this command ends as by its words
 pub ends-commanded : (words : List (List ℕ)) (bytes : List ℕ) (command : Option Command) (left : Option (List ℕ)) (before after : Taken) (s : Status) → command ≡ command_of words
@@ -16,3 +16,19 @@ ends-commanded words bytes command left before after s is ends = subst (λ c. En
 pub ends-unread : (reply : Reply) (bytes : List ℕ) (left : Option (List ℕ)) (before after : Taken) (s : Status) → left ≡ Some bytes
     → Ends (Unread reply bytes) (Some bytes) before after s → Ends (Unread reply bytes) left before after s
 ends-unread reply bytes left before after s told ends = subst (λ l. Ends (Unread reply bytes) l before after s) (sym told) ends
+
+-- what this command is answered without the source is what the words are
+pub ends-said : (words : List (List ℕ)) (command : Option Command) (said reply : Reply) (before after : Taken) (s : Status) → command ≡ command_of words
+    → unread_reply command words ≡ Some said → unread_reply (command_of words) words ≡ Some reply
+    → Ends (Unread said []) (Some []) before after s → Ends (Unread reply []) (Some []) before after s
+ends-said words command said reply before after s is here there ends =
+    let whole : Some reply ≡ unread_reply command words = sym there ∙ ap (λ c. unread_reply c words) (sym is) in
+    let same : said ≡ reply = cc (here, whole) in
+    subst (λ r. Ends (Unread r []) (Some []) before after s) same ends
+
+-- what is asked of an input has no such answer
+pub never-said : (words : List (List ℕ)) (command : Option Command) (reply : Reply) → command ≡ command_of words → unread_reply command words ≡ None → unread_reply (command_of words) words ≡ Some reply → ⊥
+never-said words command reply is here there =
+    let whole : Some reply ≡ unread_reply command words = sym there ∙ ap (λ c. unread_reply c words) (sym is) in
+    let never : Some reply ≡ None = whole ∙ here in
+    cc

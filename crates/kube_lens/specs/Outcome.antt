@@ -49,6 +49,13 @@ IsOutcomeOf (Some Flags) words = Unread (answer_to (behind words))
 IsOutcomeOf (Some (Asks asked)) words = Read (IsReply asked)
 IsOutcomeOf None words = Unread usage
 
+-- what is answered without the source
+abbrev pub unread_reply : Option Command → List (List ℕ) → Option Reply
+unread_reply (Some Help) words = Some help
+unread_reply (Some Flags) words = Some (answer_to (behind words))
+unread_reply (Some (Asks asked)) words = None
+unread_reply None words = Some usage
+
 -- by the words after the program's name and all bytes of the source
 abbrev pub IsOutcome : List (List ℕ) → List ℕ → Outcome → Type 0
 IsOutcome words = IsOutcomeOf (command_of words) words

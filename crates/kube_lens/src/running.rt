@@ -2,7 +2,7 @@
 ghost use Rattle.std.specs.Prelude.{◌≡◌, ◌≢◌, ◌⊎◌, ℕ, true, false, List, [], Some, None, Ok, map, string_bytes};
 ghost use Rattle.byte_edge.specs.Bytes.{Rose};
 ghost use Rattle.history.specs.Premise.{lease_premise};
-ghost use Rattle.lens_edge.specs.Outcome.{Ends, EndsAs, IsDone, Unread, usage};
+ghost use Rattle.lens_edge.specs.Outcome.{Ends, EndsAs, IsDone, Reply, Unread, usage};
 ghost use Rattle.script_reader.specs.declared.document.Document.{Document};
 ghost use Rattle.script_reader.specs.Documents.{doc_of};
 ghost use Rattle.script_reader.specs.Walk.{document_walk};
@@ -10,7 +10,7 @@ ghost use Rattle.lens_room.specs.declared.by_flags.flags.Flags.{Flags};
 ghost use Rattle.lens_room.specs.Described.{described};
 ghost use Rattle.lens_room.specs.Flags.{behind, flags_of};
 ghost use Rattle.kube_lens.specs.Commands.{command_of};
-ghost use Rattle.kube_lens.specs.Outcome.{IsOutcome, help};
+ghost use Rattle.kube_lens.specs.Outcome.{IsOutcome, help, unread_reply};
 
 use crate::asked::Asked;
 use crate::command::{Command, command_in};
@@ -31,8 +31,14 @@ pub fn run<S: Source, K: Sink>(
 
     // Words that are no command are answered whether or not the source tells its bytes, with no want of memory.
     ensures usage { command_of (map string_bytes words.now.items) ≡ None
-        → (S.left source.new ≡ S.left source.old) × ((result ≡ Status.Answered Verdict.Usage) ⊎ (result ≡ Status.SinkFault))
+        → (S.left source.new ≡ S.left source.old) × (S.faults source.new ≡ S.faults source.old)
+        × ((result ≡ Status.Answered Verdict.Usage) ⊎ (result ≡ Status.SinkFault))
         × Ends (Unread usage []) (Some []) (K.taken sink.old) (K.taken sink.new) result }
+
+    // So are flags and `--help`: the source isn't read, and its faults stay.
+    ensures unread { (reply : Reply) → unread_reply (command_of (map string_bytes words.now.items)) (map string_bytes words.now.items) ≡ Some reply
+        → (S.left source.new ≡ S.left source.old) × (S.faults source.new ≡ S.faults source.old)
+        × Ends (Unread reply []) (Some []) (K.taken sink.old) (K.taken sink.new) result }
 
     // Where neither count of faults rose, the whole answer was written, or memory ran out.
     ensures complete { ¬ Rose (S.faults source.old) (S.faults source.new) → ¬ Rose (K.faults sink.old) (K.faults sink.new)

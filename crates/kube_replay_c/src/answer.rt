@@ -1,19 +1,7 @@
 // What the words and the input give.
-ghost use Rattle.std.specs.Prelude.{◌≡◌, Some, true, map, string_bytes};
-ghost use Rattle.kube_base.specs.declared.numbers.Beat.{Beat};
-ghost use Rattle.history.specs.Evictions.{NotEarly, Prompt};
-ghost use Rattle.history.specs.Premise.{lease_premise};
-ghost use Rattle.history.specs.Safe.{Holder, Exclusive};
-ghost use Rattle.history.specs.Spacing.{Spacing};
-ghost use Rattle.script_reader.specs.declared.document.Document.{Document};
-ghost use Rattle.script_reader.specs.Documents.{doc_of};
-ghost use Rattle.trace_audit.specs.Alone.{entries_in, OneActs};
-ghost use Rattle.replay_top.specs.declared.task.Task.{Task};
-ghost use Rattle.replay_top.specs.Claims.{IsSafe};
+ghost use Rattle.std.specs.Prelude.{◌≡◌, Some, map, string_bytes};
+ghost use Rattle.replay_top.specs.Claims.{Claims, IsWell};
 ghost use Rattle.replay_top.specs.Outcome.{outcome};
-ghost use Rattle.replay_top.specs.Replays.{Replays, Shows, WhereGenerated, WhereReplayedUnderPremise};
-ghost use Rattle.replay_top.specs.State.{ReadsBack};
-ghost use Rattle.replay_top.specs.Tasks.{task_of};
 ghost use Rattle.kube_replay_c.specs.Calls.{EndsIn};
 ghost use Rattle.kube_replay_c.specs.Exits.{exit_status_of};
 
@@ -56,17 +44,8 @@ pub(crate) fn run_in_memory(
     buffer: &mut [u8],
 ) -> Answer
     ensures text { EndsIn (outcome (map string_bytes words.now.items) input.now) buffer.old buffer.new result.put result.whole result.status }
-    ensures holder { result.status ≡ 0 → WhereReplayedUnderPremise (map string_bytes words.now.items) (Some input.now) Holder }
-    ensures exclusive { result.status ≡ 0 → WhereReplayedUnderPremise (map string_bytes words.now.items) (Some input.now) Exclusive }
-    ensures spacing { result.status ≡ 0 → WhereReplayedUnderPremise (map string_bytes words.now.items) (Some input.now) Spacing }
-    ensures not_early { (d : Document) → Replays (map string_bytes words.now.items) (Some input.now) d → NotEarly (doc_of d) }
-    ensures prompt { (d : Document) → Replays (map string_bytes words.now.items) (Some input.now) d → Prompt (doc_of d) }
-    ensures safe { WhereGenerated (map string_bytes words.now.items) IsSafe }
-    ensures safe_state { (d : Document) (beat : Beat) → Shows (map string_bytes words.now.items) (Some input.now) d beat
-        → lease_premise (doc_of d) ≡ true → IsSafe (doc_of d) }
-    ensures reads_back { result.status ≡ 0 → (d : Document) (beat : Beat)
-        → Shows (map string_bytes words.now.items) (Some input.now) d beat → ReadsBack d beat.0 }
-    ensures alone { result.status ≡ 0 → task_of (map string_bytes words.now.items) ≡ Some Task.Audit → OneActs (entries_in input.now) }
+    ensures claims { Claims (map string_bytes words.now.items) (Some input.now) }
+    ensures well { result.status ≡ 0 → IsWell (map string_bytes words.now.items) (Some input.now) }
 {
     let mut source = BorrowedSource::new(input);
     let mut sink = BorrowedSink::new(buffer);

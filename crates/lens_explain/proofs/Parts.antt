@@ -1,20 +1,21 @@
--- A text in three parts.
+-- What is shown of a place, and a beginning of it.
 use Rattle.std.proofs.Common.{◌≡◌, ℕ, List, ◌++◌, take, drop, sym, ap, ◌∙◌, append_assoc, take-append-drop}
 use Rattle.lens_explain.specs.declared.place.Shown.{Shown}
-use Rattle.lens_explain.specs.Places.{IsShown, Place}
-
-pub parts : (input back front shown rest : List ℕ) (n m : ℕ) → front ≡ take n input → back ≡ drop n input → shown ≡ take m back → rest ≡ drop m back → front ++ (shown ++ rest) ≡ input
-parts input back front shown rest n m f b s r = (λ i. f i ++ (s i ++ r i)) ∙ ap (λ l. take n input ++ l) (take-append-drop m back ∙ b) ∙ take-append-drop n input
+use Rattle.lens_explain.specs.Places.{IsShown, IsShownOf}
 
 -- a beginning of what is shown is shown too
-pub shortened : (input : List ℕ) (s t : Shown) (n : ℕ) → t.line ≡ s.line → t.column ≡ s.column → t.text.now ≡ take n s.text.now → IsShown input s → IsShown input t
-shortened input s t n line column text (p, at_line, at_column, is) =
-    let cut : take n p.shown ++ (drop n p.shown ++ p.rest) ≡ p.shown ++ p.rest
-    = sym (append_assoc (take n p.shown) (drop n p.shown) p.rest) ∙ ap (λ l. l ++ p.rest) (take-append-drop n p.shown) in
-    let there : Place input = record {
-      front = p.front;
-      shown = take n p.shown;
-      rest = drop n p.shown ++ p.rest;
-      is_there = ap (λ l. p.front ++ l) cut ∙ p.is_there;
-    } in
-    (there, line ∙ at_line, column ∙ at_column, text ∙ ap (take n) is)
+pub shortened : (input : List ℕ) (place : ℕ) (s t : Shown) (n : ℕ) → t.line ≡ s.line → t.column ≡ s.column → t.text.now ≡ take n s.text.now
+    → IsShown input place s → IsShown input place t
+shortened input place s t n line column text shown =
+    let more = drop n s.text.now ++ shown.2.0 in
+    let whole : t.text.now ++ more ≡ drop place input
+    = ap (λ l. l ++ more) text ∙ sym (append_assoc (take n s.text.now) (drop n s.text.now) shown.2.0) ∙ ap (λ l. l ++ shown.2.0) (take-append-drop n s.text.now) ∙ shown.2.1 in
+    (line ∙ shown.0, column ∙ shown.1, (more, whole))
+
+-- what is shown of a refusal, in another form of the same place
+pub shown-as : (input : List ℕ) (code : ℕ) (path : List ℕ) (s t : Shown) → ((place : ℕ) → IsShown input place s → IsShown input place t) → IsShownOf input code path s → IsShownOf input code path t
+shown-as input code path s t same shown = (shown.0, shown.1, same shown.0 shown.2)
+
+-- a text in two parts, behind a place
+pub behind-place : (input back shown rest : List ℕ) (place n : ℕ) → back ≡ drop place input → shown ≡ take n back → rest ≡ drop n back → shown ++ rest ≡ drop place input
+behind-place input back shown rest place n b s r = (λ i. s i ++ r i) ∙ take-append-drop n back ∙ b

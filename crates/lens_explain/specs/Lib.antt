@@ -1,4 +1,9 @@
+pub mod Slips
 pub mod Json
 pub mod Replies
+pub mod Marks
+pub mod Keys
+pub mod Kept
+pub mod Ways
 pub mod Places
 pub mod Warnings

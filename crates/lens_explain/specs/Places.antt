@@ -1,7 +1,8 @@
 -- Places in a text, as a person counts them.
-use Rattle.std.specs.Prelude.{◌≡◌, ℕ, ◌+◌, ◌==◌, List, ◌++◌, length, reverse, position, count_by, codes, decimal}
+use Rattle.std.specs.Prelude.{◌≡◌, ℕ, ◌+◌, ◌==◌, ◌||◌, Bool, true, false, List, ◌++◌, length, take, drop, reverse, position, count_by, codes, decimal}
 use Rattle.std.specs.Option.{unwrap_or}
 use Rattle.lens_explain.specs.declared.place.Shown.{Shown}
+use Rattle.lens_explain.specs.Ways.{led}
 
 -- the line in which these bytes end: how many line feeds they have, and one more
 abbrev pub line_of : List ℕ → ℕ
@@ -15,13 +16,21 @@ column_of front = unwrap_or (position (λ byte. byte == 10) (reverse front)) (le
 unfoldable pub shown_text : Shown → List ℕ
 shown_text s = codes "line " ++ decimal s.line ++ codes ", column " ++ decimal s.column ++ codes ": " ++ s.text.now ++ codes "\n"
 
--- a place of the input, with a beginning of what stands there
-pub record Place (input : List ℕ) : Type 0 where
-  pub front : List ℕ
-  pub shown : List ℕ
-  pub rest : List ℕ
-  pub is_there : front ++ (shown ++ rest) ≡ input
+-- this is shown of a place of the input: its line and column, and a beginning of what stands there
+abbrev pub IsShown : List ℕ → ℕ → Shown → Type 0
+IsShown input place s =
+    (s.line ≡ line_of (take place input)) × (s.column ≡ column_of (take place input)) × ((rest : List ℕ) × (s.text.now ++ rest ≡ drop place input))
 
--- this is shown of a place of the input
-abbrev pub IsShown : List ℕ → Shown → Type 0
-IsShown input s = (p : Place input) × (s.line ≡ line_of p.front) × (s.column ≡ column_of p.front) × (s.text.now ≡ p.shown)
+-- ---- the place of a refusal: where its path leads. Of an input that isn't JSON (1) it is where the reader stops, and of a key that isn't known (3)
+-- that of the key: no more is said of these two
+
+abbrev pub IsPlaceBy : Bool → List ℕ → List ℕ → ℕ → Type 0
+IsPlaceBy true input path place = Unit {0}
+IsPlaceBy false input path place = place ≡ (led path input).place
+
+abbrev pub IsPlace : List ℕ → ℕ → List ℕ → ℕ → Type 0
+IsPlace input code path place = IsPlaceBy (code == 1 || code == 3) input path place
+
+-- this is shown of a refusal
+abbrev pub IsShownOf : List ℕ → ℕ → List ℕ → Shown → Type 0
+IsShownOf input code path s = (place : ℕ) × IsPlace input code path place × IsShown input place s

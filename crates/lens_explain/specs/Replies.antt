@@ -1,11 +1,13 @@
 -- What is said of a document.
-use Rattle.std.specs.Prelude.{◌≡◌, ℕ, Bool, List, ◌++◌, length, codes, decimal, All, Result, Ok, Err, if◌then◌else◌}
-use Rattle.std.specs.List.{flat_map}
+use Rattle.std.specs.Prelude.{◌≡◌, ℕ, Bool, List, ◌++◌, length, codes, decimal, Result, Ok, Err, if◌then◌else◌}
+use Rattle.std.specs.List.{AllZip, flat_map}
 use Rattle.lens_edge.specs.Outcome.{Reply, refusal_text}
 use Rattle.lens_edge.specs.declared.status.Verdict.TheVariants.{Done, Refused}
 use Rattle.lens_explain.specs.declared.place.Shown.{Shown}
 use Rattle.lens_explain.specs.declared.twice.Warning.{Warning}
-use Rattle.lens_explain.specs.Places.{IsShown, shown_text}
+use Rattle.lens_explain.specs.Keys.{doubled}
+use Rattle.lens_explain.specs.Places.{IsShownOf, shown_text}
+use Rattle.lens_explain.specs.Slips.{is_unheard, slip_text, slips, unheard_text}
 use Rattle.lens_explain.specs.Warnings.{IsWarning, warning_text}
 use Rattle.manifest_json.specs.declared.fault.Refusal.{Refusal}
 use Rattle.script_reader.specs.declared.document.Document.{Document}
@@ -21,8 +23,9 @@ well_formed_text d =
     ++ ((codes " objects=" ++ decimal (length d.objects.items)) ++ ((codes " skipped=" ++ decimal d.objects.skipped)
     ++ ((codes " events=" ++ decimal (length d.events)) ++ codes "\n"))))
 
+-- the counts, the keys that are there twice, values that look as if they were meant in another unit, and nodes of which nothing is heard
 unfoldable pub formed_text : Document → List Warning → List ℕ
-formed_text d ws = well_formed_text d ++ flat_map warning_text ws
+formed_text d ws = well_formed_text d ++ (flat_map warning_text ws ++ (flat_map slip_text (slips d) ++ unheard_text (is_unheard d)))
 
 -- the line of the refusal, and why: the line on a place of the input, and further lines
 unfoldable pub refused_text : Refusal → Shown → List ℕ → List ℕ
@@ -36,16 +39,16 @@ formed as_json d ws = record { verdict = Done; text = if as_json then formed_jso
 abbrev pub refused : Bool → Refusal → Shown → List ℕ → Reply
 refused as_json r s more = record { verdict = Refused; text = if as_json then refused_json r s more else refused_text r s more }
 
--- the counts, and warnings, each of two places of the input
+-- the counts, and a warning of each key that is there twice, of the first twenty of them
 pub record IsFormed (as_json : Bool) (input : List ℕ) (d : Document) (reply : Reply) : Type 0 where
   pub warnings : List Warning
-  pub warned : All (IsWarning input) warnings
+  pub warned : AllZip (IsWarning input) (doubled input) warnings
   pub is : reply ≡ formed as_json d warnings
 
--- the refusal, a place of the input, and further lines
+-- the refusal, its place, and further lines
 pub record IsRefused (as_json : Bool) (input : List ℕ) (r : Refusal) (reply : Reply) : Type 0 where
   pub shown : Shown
-  pub is_shown : IsShown input shown
+  pub is_shown : IsShownOf input r.code r.path shown
   pub more : List ℕ
   pub is : reply ≡ refused as_json r shown more
 

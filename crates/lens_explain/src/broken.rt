@@ -44,8 +44,20 @@ pub(crate) fn hint(input: &[u8], place: usize) -> &'static str {
             before.ends_with(b","),
             *here,
         ),
-        (Some(_), _) =>
-            "A document begins with {. This may be YAML: yq -o=json . makes JSON of it.\n",
+        (Some(_), _) => hint_outside(text),
+    }
+}
+
+/// The same of a text that doesn't begin as JSON.
+fn hint_outside(text: &[u8]) -> &'static str {
+    if text.starts_with(b"\xEF\xBB\xBF") {
+        "The input begins with a byte order mark, which isn't JSON: leave out its first three bytes.\n"
+    } else if text.starts_with(b"\xFF\xFE") || text.starts_with(b"\xFE\xFF") {
+        "The input is UTF-16: write it as UTF-8.\n"
+    } else if text.starts_with(b"trace ") {
+        "This is a trace, not a document: kube_replay audit, kube_lens leaders and kube_lens summary read it.\n"
+    } else {
+        "A document begins with {. This may be YAML: yq -o=json . makes JSON of it.\n"
     }
 }
 

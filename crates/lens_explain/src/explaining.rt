@@ -1,13 +1,16 @@
 // What is said of a document.
-ghost use Rattle.std.specs.Prelude.{◌≡◌, true, false, IfOk};
+ghost use Rattle.std.specs.Prelude.{◌≡◌, true, false, IfOk, map};
 ghost use Rattle.lens_edge.specs.Outcome.{reply_of};
 ghost use Rattle.lens_explain.specs.Replies as spec;
+ghost use Rattle.lens_explain.specs.Slips as slip_spec;
+ghost use Rattle.lens_explain.specs.Slips.{slip_of};
 ghost use Rattle.lens_explain.specs.Replies.{IsExplained, IsFormed, IsRefused};
 
-use crate::lines::{add_counts, add_warnings, add_why};
+use crate::lines::{add_counts, add_slips, add_warnings, add_why};
 use crate::object::{add_formed, add_refused};
 use crate::place::Shown;
 use crate::saying::why;
+use crate::slips::{Slip, add_unheard, is_unheard, slips};
 use crate::twice::{Warning, warnings};
 use kube_base::NoMemory;
 use lens_edge::{Answer, Verdict, refuse_as};
@@ -76,7 +79,7 @@ fn refused_object(
     })
 }
 
-/// That a document is well formed, with its counts, and warnings of keys that are there twice.
+/// That a document is well formed, with its counts, and warnings.
 fn formed(
     alloc: Global,
     input: &[u8],
@@ -86,10 +89,11 @@ fn formed(
     ensures { IfOk result (λ answer. IsFormed as_json input.now document.now (reply_of answer)) }
 {
     let found = warnings(alloc, input)?;
+    let slips = slips(alloc, document)?;
     if as_json {
-        formed_object(alloc, document, &found)
+        formed_object(alloc, document, &found, &slips)
     } else {
-        formed_lines(alloc, document, &found)
+        formed_lines(alloc, document, &found, &slips)
     }
 }
 
@@ -99,12 +103,16 @@ fn formed_lines(
     alloc: Global,
     document: &Document,
     found: &[Warning<'_>],
+    slips: &[Slip],
 ) -> Result<Answer, NoMemory>
+    requires { map slip_of slips.now ≡ slip_spec.slips document.now }
     ensures { IfOk result (λ answer. reply_of answer ≡ spec.formed false document.now found.now) }
 {
     let mut text = Vec::new(alloc);
     add_counts(&mut text, document)?;
     add_warnings(&mut text, found)?;
+    add_slips(&mut text, slips)?;
+    add_unheard(&mut text, is_unheard(document))?;
     Ok(Answer {
         verdict: Verdict::Done,
         text,
@@ -116,11 +124,13 @@ fn formed_object(
     alloc: Global,
     document: &Document,
     found: &[Warning<'_>],
+    slips: &[Slip],
 ) -> Result<Answer, NoMemory>
+    requires { map slip_of slips.now ≡ slip_spec.slips document.now }
     ensures { IfOk result (λ answer. reply_of answer ≡ spec.formed true document.now found.now) }
 {
     let mut text = Vec::new(alloc);
-    add_formed(&mut text, alloc, document, found)?;
+    add_formed(&mut text, alloc, document, found, slips)?;
     Ok(Answer {
         verdict: Verdict::Done,
         text,

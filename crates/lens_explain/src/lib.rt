@@ -11,10 +11,12 @@ mod lines;
 mod nearest;
 mod object;
 mod place;
+mod places;
 mod rules;
 mod saying;
 mod scan;
 mod sentence;
+mod slips;
 mod twice;
 mod walk;
 

@@ -1,11 +1,13 @@
 // The lines on a document.
-ghost use Rattle.std.specs.Prelude.{◌≡◌, ◌++◌, OnOk, decimal};
+ghost use Rattle.std.specs.Prelude.{◌≡◌, ◌++◌, OnOk, decimal, map};
 ghost use Rattle.std.specs.List.{flat_map};
 ghost use Rattle.lens_explain.specs.Places.{shown_text};
+ghost use Rattle.lens_explain.specs.Slips.{slip_of, slip_text};
 ghost use Rattle.lens_explain.specs.Warnings.{warning_text};
 ghost use Rattle.lens_explain.specs.Replies.{well_formed_text};
 
 use crate::place::{Shown, add_shown};
+use crate::slips::{Slip, add_slip};
 use crate::twice::{Warning, add_warning};
 use kube_base::NoMemory;
 use script_reader::Document;
@@ -24,6 +26,15 @@ pub(crate) fn add_warnings(text: &mut Vec<u8>, found: &[Warning<'_>]) -> Result<
 {
     for warning in found {
         add_warning(text, warning)?;
+    }
+    Ok(())
+}
+
+pub(crate) fn add_slips(text: &mut Vec<u8>, slips: &[Slip]) -> Result<(), NoMemory>
+    ensures { OnOk result (text.new.items ≡ text.old.items ++ flat_map slip_text (map slip_of slips.now)) }
+{
+    for slip in slips {
+        add_slip(text, slip)?;
     }
     Ok(())
 }

@@ -1,5 +1,5 @@
 // Places in a text, as a person counts them.
-ghost use Rattle.std.specs.Prelude.{◌≡◌, ◌==◌, ◌++◌, ◌≤◌, ◌<◌, ℕ, List, IfSome, OnOk, length, count_by, position, reverse};
+ghost use Rattle.std.specs.Prelude.{◌≡◌, ◌==◌, ◌++◌, ◌≤◌, ◌<◌, ℕ, List, IfSome, OnOk, length, take, drop, count_by, position, reverse};
 ghost use Rattle.std.specs.Option.{unwrap_or};
 ghost use Rattle.lens_explain.specs.Places.{IsShown, column_of, line_of, shown_text};
 
@@ -23,7 +23,7 @@ pub(crate) struct Shown<'t> {
 impl<'t> Shown<'t> {
     /// With no byte more than is UTF-8.
     pub fn in_utf8(self) -> Shown<'t>
-        ensures { (input : List ℕ) → IsShown input self.entry → IsShown input result }
+        ensures { (input : List ℕ) (place : ℕ) → IsShown input place self.entry → IsShown input place result }
     {
         let whole = match from_utf8(self.text) {
             Ok(_) => self.text.len(),
@@ -34,12 +34,19 @@ impl<'t> Shown<'t> {
     }
 }
 
+/// What stands before a place of a text, and the rest.
+pub(crate) fn cut_at(text: &[u8], place: usize) -> (&[u8], &[u8])
+    ensures front { result.0.now ≡ take place text.now }
+    ensures rest { result.1.now ≡ drop place text.now }
+{
+    text.split_at(place.min(text.len()))
+}
+
 /// What is shown of a place of the input.
 pub(crate) fn shown_at(input: &[u8], place: usize) -> Shown<'_>
-    requires { place ≤ length input.now }
-    ensures { IsShown input.now result }
+    ensures { IsShown input.now place result }
 {
-    let (front, rest) = input.split_at(place);
+    let (front, rest) = cut_at(input, place);
     let (text, _) = rest.split_at(shown_of(rest));
     Shown {
         line: line_in(front),

@@ -84,7 +84,7 @@ pub(crate) fn setting(
 ) -> Result<u64, NoMemory> {
     let mut below = Vec::from_slice(alloc, path)?;
     below.extend_from_slice(key)?;
-    Ok(number_at(input, &below).unwrap_or(default))
+    Ok(number_at(alloc, input, &below)?.unwrap_or(default))
 }
 
 fn add_lease(text: &mut Vec<u8>, timings: Timings) -> Result<(), NoMemory> {

@@ -1,14 +1,13 @@
 // What is said about a refusal.
-ghost use Rattle.std.specs.Prelude.{◌≤◌, IfOk, length};
-ghost use Rattle.lens_explain.specs.Places.{IsShown};
+ghost use Rattle.std.specs.Prelude.{IfOk};
+ghost use Rattle.lens_explain.specs.Places.{IsPlace, IsShownOf};
 
 use crate::broken::{hint, stop_of};
-use crate::keys::key_beside;
+use crate::keys::{Key, key_beside};
 use crate::known::{allowed_at, first_keys_in, keys_in};
 use crate::nearest::nearest;
 use crate::place::{Shown, shown_at};
 use crate::rules::{add_order, add_rule};
-use crate::scan::Span;
 use crate::sentence::sentence;
 use crate::walk::{follow, last_step, step_at, text_at};
 use kube_base::NoMemory;
@@ -30,6 +29,13 @@ pub(crate) struct Reason<'t> {
     pub more: Vec<u8>,
 }
 
+/// A place of the input, and the text of the key that isn't known there.
+#[derive(Clone, Copy)]
+struct Spot<'t> {
+    pub place: usize,
+    pub odd: Option<&'t [u8]>,
+}
+
 /// What is said about the refusal of an input by this code and path.
 pub(crate) fn why<'t>(
     alloc: Global,
@@ -37,56 +43,64 @@ pub(crate) fn why<'t>(
     code: u32,
     path: &[u8],
 ) -> Result<Reason<'t>, NoMemory>
-    ensures { IfOk result (λ why. IsShown input.now why.shown) }
+    ensures { IfOk result (λ why. IsShownOf input.now code path.now why.shown) }
 {
-    let odd = if code == UNKNOWN_KEY {
-        odd_key(alloc, input, path)?
-    } else {
-        None
-    };
-    let place = place_of(alloc, input, code, path, odd)?;
-    let more = said(alloc, input, code, path, odd, place)?;
+    let spot = spot_of(alloc, input, code, path)?;
+    let more = said(alloc, input, code, path, &spot)?;
     Ok(Reason {
-        shown: shown_at(input, place),
+        shown: shown_at(input, spot.place),
         more,
     })
 }
 
 /// The place that is shown: that of the key that isn't known, of the byte at which the text stops to be JSON, or of the last value on the
 /// path that is there.
-fn place_of(
-    alloc: Global,
-    input: &[u8],
-    code: u32,
-    path: &[u8],
-    odd: Option<Span>,
-) -> Result<usize, NoMemory>
-    ensures { IfOk result (λ place. place ≤ length input.now) }
+fn spot_of<'t>(alloc: Global, input: &'t [u8], code: u32, path: &[u8]) -> Result<Spot<'t>, NoMemory>
+    ensures { IfOk result (λ spot. IsPlace input.now code path.now spot.place) }
 {
-    let place = match odd {
-        Some(span) => span.from.saturating_sub(1),
-        None => {
-            if code == BAD_JSON {
-                stop_of(alloc, input)?
-            } else {
-                follow(input, path).place
-            }
+    match code {
+        BAD_JSON => {
+            let place = stop_of(alloc, input)?;
+            Ok(Spot { place, odd: None })
         }
-    };
-    Ok(place.min(input.len()))
+        UNKNOWN_KEY => odd_spot(alloc, input, path),
+        _ => {
+            let found = follow(alloc, input, path)?;
+            Ok(Spot {
+                place: found.place,
+                odd: None,
+            })
+        }
+    }
 }
 
-/// The first key of the object at a path that no version knows there, or else that version 1 doesn't.
-fn odd_key(alloc: Global, input: &[u8], path: &[u8]) -> Result<Option<Span>, NoMemory> {
-    let found = follow(input, path);
-    if !found.whole {
-        return Ok(None);
+/// The place of the first key of the object at a path that isn't known there, or of that object.
+fn odd_spot<'t>(alloc: Global, input: &'t [u8], path: &[u8]) -> Result<Spot<'t>, NoMemory> {
+    let found = follow(alloc, input, path)?;
+    match odd_key(alloc, input, path, found.place)? {
+        Some(key) => Ok(Spot {
+            place: key.place,
+            odd: Some(key.text),
+        }),
+        None => Ok(Spot {
+            place: found.place,
+            odd: None,
+        }),
     }
+}
+
+/// The first key of the object at this place that no version knows there, or else that version 1 doesn't.
+fn odd_key<'t>(
+    alloc: Global,
+    input: &'t [u8],
+    path: &[u8],
+    place: usize,
+) -> Result<Option<Key<'t>>, NoMemory> {
     let kind = kind_at(alloc, input, path)?;
     let part = part_of(path);
-    match key_beside(input, found.place, keys_in(part, kind)) {
-        Some(span) => Ok(Some(span)),
-        None => Ok(key_beside(input, found.place, first_keys_in(part, kind))),
+    match key_beside(alloc, input, place, keys_in(part, kind))? {
+        Some(key) => Ok(Some(key)),
+        None => key_beside(alloc, input, place, first_keys_in(part, kind)),
     }
 }
 
@@ -94,7 +108,7 @@ fn odd_key(alloc: Global, input: &[u8], path: &[u8]) -> Result<Option<Span>, NoM
 fn kind_at<'t>(alloc: Global, input: &'t [u8], path: &[u8]) -> Result<&'t [u8], NoMemory> {
     let mut below = Vec::from_slice(alloc, path)?;
     below.extend_from_slice(b"/type")?;
-    match text_at(input, &below) {
+    match text_at(alloc, input, &below)? {
         Some(kind) => Ok(kind),
         None => Ok(b""),
     }
@@ -111,15 +125,14 @@ fn said(
     input: &[u8],
     code: u32,
     path: &[u8],
-    odd: Option<Span>,
-    place: usize,
+    spot: &Spot<'_>,
 ) -> Result<Vec<u8>, NoMemory> {
     let mut text = Vec::new(alloc);
     add(&mut text, sentence(code).as_bytes())?;
     add(&mut text, b"\n")?;
     match code {
-        1 => add(&mut text, hint(input, place).as_bytes())?,
-        3 => add_key(alloc, &mut text, input, path, odd)?,
+        1 => add(&mut text, hint(input, spot.place).as_bytes())?,
+        3 => add_key(alloc, &mut text, input, path, spot.odd)?,
         4..=6 => add_allowed(&mut text, path)?,
         7 => add_rule(alloc, &mut text, input, path)?,
         9 => add_order(alloc, &mut text, input, path)?,
@@ -134,12 +147,17 @@ fn add_key(
     text: &mut Vec<u8>,
     input: &[u8],
     path: &[u8],
-    odd: Option<Span>,
+    odd: Option<&[u8]>,
 ) -> Result<(), NoMemory> {
-    let Some(span) = odd else {
+    let Some(key) = odd else {
         return Ok(());
     };
-    let key = span.of(input);
+    if path == "/".as_bytes() && is_of_manifest(key) {
+        return add(
+            text,
+            b"This looks like what kubectl get -o json writes: tools/from-cluster makes a document of a list.\n",
+        );
+    }
     let known = keys_in(part_of(path), kind_at(alloc, input, path)?);
     match nearest(alloc, key, known)? {
         Some(near) if near.as_bytes() == key => {
@@ -155,6 +173,11 @@ fn add_key(
         }
         None => add_known(text, known),
     }
+}
+
+/// Whether a key is one that each manifest and each list has.
+fn is_of_manifest(key: &[u8]) -> bool {
+    matches!(key, b"apiVersion" | b"kind" | b"metadata" | b"items")
 }
 
 /// Adds which keys are known.

@@ -1,26 +1,25 @@
 // Keys that are there twice in one object.
-ghost use Rattle.std.specs.Prelude.{◌≡◌, ◌++◌, All, IfOk, OnOk};
+ghost use Rattle.std.specs.Prelude.{◌≡◌, ◌≤◌, [], ◌∷◌, ◌++◌, IfOk, OnOk, length, take};
+ghost use Rattle.std.specs.List.{AllZip};
+ghost use Rattle.lens_explain.specs.Keys.{doubled, key_of, twice_at};
 ghost use Rattle.lens_explain.specs.Warnings.{IsWarning, warning_text};
 
+use crate::keys::{Key, Keys};
 use crate::place::{Shown, add_shown, shown_at};
-use crate::scan::{Mark, Scan};
+use crate::places::Places;
 use kube_base::NoMemory;
 use std::alloc::Global;
-use std::collections::BTreeMap;
 use trace_writer::add;
 
 /// The most keys that are warned of.
 const MOST: usize = 20;
 
-/// Where a key stands that is there twice: both times behind its first quote.
+/// Where a key stands that is there twice: both times the place of its first quote.
 #[derive(Clone, Copy)]
-struct Twice {
-    first: usize,
-    again: usize,
+pub(crate) struct Twice {
+    pub first: usize,
+    pub again: usize,
 }
-
-/// The keys of each object that is open, with where they stand.
-type Keys<'t> = BTreeMap<&'t [u8], usize>;
 
 /// A warning of a key that is there twice in one object: both its places.
 #[derive(Drop)]
@@ -31,14 +30,24 @@ pub(crate) struct Warning<'t> {
 
 /// A warning of each key that is there twice in one object of a JSON text; of the first twenty of them.
 pub(crate) fn warnings(alloc: Global, input: &[u8]) -> Result<Vec<Warning<'_>>, NoMemory>
-    ensures { IfOk result (λ warnings. All (IsWarning input.now) warnings.items) }
+    ensures { IfOk result (λ warnings. AllZip (IsWarning input.now) (doubled input.now) warnings.items) }
 {
     let found = twice_in(alloc, input)?;
+    warnings_of(alloc, input, &found)
+}
+
+fn warnings_of<'t>(
+    alloc: Global,
+    input: &'t [u8],
+    found: &[Twice],
+) -> Result<Vec<Warning<'t>>, NoMemory>
+    ensures { IfOk result (λ warnings. AllZip (IsWarning input.now) found.now warnings.items) }
+{
     let mut warnings = Vec::new(alloc);
-    for twice in &found {
+    for twice in found {
         warnings.push(Warning {
-            first: shown_at(input, twice.first.saturating_sub(1).min(input.len())),
-            again: shown_at(input, twice.again.saturating_sub(1).min(input.len())),
+            first: shown_at(input, twice.first),
+            again: shown_at(input, twice.again),
         })?;
     }
     Ok(warnings)
@@ -58,43 +67,46 @@ pub(crate) fn add_warning(text: &mut Vec<u8>, warning: &Warning<'_>) -> Result<(
 }
 
 /// The first keys that are there twice.
-fn twice_in(alloc: Global, input: &[u8]) -> Result<Vec<Twice>, NoMemory> {
+fn twice_in(alloc: Global, input: &[u8]) -> Result<Vec<Twice>, NoMemory>
+    ensures { IfOk result (λ found. found.items ≡ doubled input.now) }
+{
     let mut found = Vec::new(alloc);
-    let mut open = Vec::new(alloc);
-    let mut scan = Scan::new();
+    let mut places = Places::new(alloc);
+    let mut keys = Keys::new(alloc);
     for (place, byte) in input.iter().enumerate() {
-        match scan.mark(place, *byte) {
-            Mark::Object | Mark::Array => open.push(Keys::new(alloc))?,
-            Mark::Close => {
-                open.pop();
-            }
-            Mark::Colon => {
-                let key = scan.last_text();
-                if let Some(first) = with_key(&mut open, key.of(input), key.from)?
-                    && found.len() < MOST
-                {
-                    found.push(Twice {
-                        first,
-                        again: key.from,
-                    })?;
-                }
-            }
-            Mark::Within | Mark::Plain | Mark::Comma => {}
+        if let Some(key) = keys.key_at(input, place, *byte)? {
+            let before = places.keep(key)?;
+            add_twice(&mut found, key, before)?;
         }
     }
     Ok(found)
 }
 
-/// Keeps a key of the innermost open object, and tells where it stood already.
-fn with_key<'t>(
-    open: &mut Vec<Keys<'t>>,
-    key: &'t [u8],
-    place: usize,
-) -> Result<Option<usize>, NoMemory> {
-    let Some(mut keys) = open.pop() else {
-        return Ok(None);
-    };
-    let earlier = keys.insert(key, place)?;
-    open.push(keys)?;
-    Ok(earlier)
+/// Adds a key that stood at a place before, where there is room for one more.
+#[tactic(auto, using(crate::proofs::Doubling::none_stays))]
+fn add_twice(found: &mut Vec<Twice>, key: Key<'_>, before: Option<usize>) -> Result<(), NoMemory>
+    requires { length found.old.items ≤ 20 }
+    ensures { OnOk result (found.new.items ≡ take 20 (found.old.items ++ twice_at (key_of key.entry) before)) }
+{
+    match before {
+        Some(first) => add_one(
+            found,
+            Twice {
+                first,
+                again: key.place,
+            },
+        ),
+        None => Ok(()),
+    }
+}
+
+#[tactic(auto, using(crate::proofs::Doubling::full_stays, crate::proofs::Doubling::room_for_one))]
+fn add_one(found: &mut Vec<Twice>, twice: Twice) -> Result<(), NoMemory>
+    requires { length found.old.items ≤ 20 }
+    ensures { OnOk result (found.new.items ≡ take 20 (found.old.items ++ twice ∷ [])) }
+{
+    if found.len() < MOST {
+        found.push(twice)?;
+    }
+    Ok(())
 }

@@ -1,95 +1,100 @@
 // The way to a value of a JSON text, by the keys and places of its path.
+ghost use Rattle.std.specs.Prelude.{◌≡◌, ◌≤◌, [], Some, IfOk, OnOk, length, option_copied};
+ghost use Rattle.lens_explain.specs.Marks.{mark_of, scanned, text_of, unscanned};
+ghost use Rattle.lens_explain.specs.Ways as spec;
+ghost use Rattle.lens_explain.specs.Ways.{found_behind, led, next_behind, outer_behind, reach, unfound};
 
 use crate::digits::digits_of;
-use crate::scan::{Mark, Scan, Span};
+use crate::scan::{Mark, Scan};
+use kube_base::NoMemory;
+use std::alloc::Global;
+use trace_writer::add_number;
 
 /// How far a path leads.
 #[derive(Clone, Copy)]
 pub(crate) struct Found {
-    /// Where the last value on the way begins.
-    pub(crate) place: usize,
-    /// Whether it is the one at the path's end.
-    pub(crate) whole: bool,
+    /// Where the last value on the path begins.
+    pub place: usize,
+    /// How many bytes of the path lead to it.
+    pub reached: usize,
 }
 
-/// Where a walk stands.
+/// An object or array that is open.
 #[derive(Clone, Copy)]
-struct Walk {
-    /// How many objects and arrays are open.
-    depth: usize,
-    /// How many of them, from the outermost on, the path leads into.
-    level: usize,
-    /// In an array that the path leads into: the place of the present item.
-    item: Option<u64>,
-    /// The next value is one on the way.
-    awaited: bool,
-    /// How many values on the way were found, and where the last of them begins.
-    steps: usize,
-    place: usize,
+pub(crate) struct Outer {
+    /// How many bytes of the path lead to it, where it is on the path.
+    pub reached: Option<usize>,
+    /// In an array the number of the present item.
+    pub item: Option<u64>,
 }
 
-/// Goes along a path. Of a key that is there twice the last one counts.
-pub(crate) fn follow(input: &[u8], path: &[u8]) -> Found {
-    let mut scan = Scan::new();
-    let mut walk = Walk::new();
+/// What is known behind some bytes of a text.
+#[derive(Drop)]
+pub(crate) struct Walk {
+    pub alloc: Global,
+    pub scan: Scan,
+    /// What is open, the innermost last.
+    pub outer: Vec<Outer>,
+    /// How many bytes of the path lead to the value that comes next, where it is on the path.
+    pub next: Option<usize>,
+    pub found: Found,
+}
+
+/// Goes along a path, to the last value that is on it. So of a key that is there twice the last one counts.
+pub(crate) fn follow(alloc: Global, input: &[u8], path: &[u8]) -> Result<Found, NoMemory>
+    ensures { IfOk result (λ found. found ≡ led path.now input.now) }
+{
+    let mut walk = Walk::new(alloc);
     for (place, byte) in input.iter().enumerate() {
-        let mark = scan.mark(place, *byte);
-        walk.take(mark, place, scan.last_text().of(input), path);
+        walk.take(input, path, place, *byte)?;
     }
-    Found {
-        place: walk.place,
-        whole: walk.steps > steps_of(path),
-    }
+    Ok(walk.found)
 }
 
 /// What stands at the end of a path, from its first byte to the input's end.
-pub(crate) fn value_at<'t>(input: &'t [u8], path: &[u8]) -> Option<&'t [u8]> {
-    let found = follow(input, path);
-    if found.whole {
-        input.get(found.place..)
+pub(crate) fn value_at<'t>(
+    alloc: Global,
+    input: &'t [u8],
+    path: &[u8],
+) -> Result<Option<&'t [u8]>, NoMemory> {
+    let found = follow(alloc, input, path)?;
+    if found.is_whole(path) {
+        Ok(input.get(found.place..))
     } else {
-        None
+        Ok(None)
     }
 }
 
 /// The text at the end of a path, without its quotes.
-pub(crate) fn text_at<'t>(input: &'t [u8], path: &[u8]) -> Option<&'t [u8]> {
-    let value = value_at(input, path)?;
+pub(crate) fn text_at<'t>(
+    alloc: Global,
+    input: &'t [u8],
+    path: &[u8],
+) -> Result<Option<&'t [u8]>, NoMemory> {
+    match value_at(alloc, input, path)? {
+        Some(value) => Ok(first_text(value)),
+        None => Ok(None),
+    }
+}
+
+/// The text that begins here, without its quotes.
+fn first_text(value: &[u8]) -> Option<&[u8]> {
     let mut scan = Scan::new();
     for (place, byte) in value.iter().enumerate() {
         let _ = scan.mark(place, *byte);
-        let Span { from, until } = scan.last_text();
-        if from <= until {
-            return value.get(from..until);
+        if scan.last.until > 0 {
+            return Some(scan.last.of(value));
         }
     }
     None
 }
 
 /// The number at the end of a path.
-pub(crate) fn number_at(input: &[u8], path: &[u8]) -> Option<u64> {
-    digits_of(value_at(input, path)?)
-}
-
-/// How many keys and places a path has.
-fn steps_of(path: &[u8]) -> usize {
-    if path.len() < 2 { 0 } else { slashes_in(path) }
-}
-
-fn slashes_in(text: &[u8]) -> usize {
-    let mut slashes = 0_usize;
-    for byte in text {
-        if *byte == b'/' {
-            slashes = slashes.saturating_add(1);
-        }
+pub(crate) fn number_at(alloc: Global, input: &[u8], path: &[u8]) -> Result<Option<u64>, NoMemory> {
+    match value_at(alloc, input, path)? {
+        Some(value) => Ok(digits_of(value)),
+        None => Ok(None),
     }
-    slashes
-}
-
-/// Whether a key that has slashes itself, as that of a label, is the last one of a path, and leads out of this level.
-fn ends_path(path: &[u8], level: usize, key: &[u8]) -> bool {
-    let slashes = slashes_in(key);
-    slashes > 0 && slashes.saturating_add(level) == steps_of(path) && path.ends_with(key)
 }
 
 /// The key or place of a path that leads out of this level, counted from 1; nothing where there is none.
@@ -102,84 +107,190 @@ pub(crate) fn step_at(path: &[u8], level: usize) -> &[u8] {
 
 /// The last key or place of a path.
 pub(crate) fn last_step(path: &[u8]) -> &[u8] {
-    step_at(path, steps_of(path))
+    match path.split(|byte| *byte == b'/').last() {
+        Some(step) => step,
+        None => b"",
+    }
+}
+
+/// How many bytes of a path lead a step further, where so many lead up to it and the step is the next one.
+fn step_from(path: &[u8], step: &[u8], reached: usize) -> Option<usize>
+    ensures { result ≡ spec.step_from path.now step.now reached }
+{
+    let (_, rest) = path.split_at(reached.min(path.len()));
+    let behind = rest.strip_prefix(b"/")?;
+    let more = behind.strip_prefix(step)?;
+    if ends_step(more) {
+        Some(path.len() - more.len())
+    } else {
+        None
+    }
+}
+
+/// Whether a step ends here: the path does, or a slash comes.
+fn ends_step(rest: &[u8]) -> bool
+    ensures { result ≡ spec.ends_step rest.now }
+{
+    match rest {
+        [] => true,
+        [byte, ..] => *byte == b'/',
+    }
+}
+
+impl Found {
+    /// Whether it is the value at the path's end.
+    pub(crate) fn is_whole(self, path: &[u8]) -> bool {
+        self.reached >= path.len() || path.len() < 2
+    }
+}
+
+impl Outer {
+    fn next_item(self) -> Outer
+        ensures { result ≡ spec.next_item self }
+    {
+        Outer {
+            reached: self.reached,
+            item: match self.item {
+                Some(item) => Some(item.saturating_add(1)),
+                None => None,
+            },
+        }
+    }
 }
 
 impl Walk {
-    fn new() -> Walk {
+    fn new(alloc: Global) -> Walk
+        ensures scan { result.scan ≡ unscanned }
+        ensures outer { result.outer.items ≡ [] }
+        ensures next { result.next ≡ Some 0 }
+        ensures found { result.found ≡ unfound }
+    {
         Walk {
-            depth: 0,
-            level: 0,
-            item: None,
-            awaited: true,
-            steps: 0,
-            place: 0,
+            alloc,
+            scan: Scan::new(),
+            outer: Vec::new(alloc),
+            next: Some(0),
+            found: Found {
+                place: 0,
+                reached: 0,
+            },
         }
     }
 
-    /// Goes over a mark. The text is the one that ended last.
-    fn take(&mut self, mark: Mark, place: usize, text: &[u8], path: &[u8]) {
+    /// Goes over a byte at its place.
+    fn take(&mut self, input: &[u8], path: &[u8], place: usize, byte: u8) -> Result<(), NoMemory>
+        ensures scan { OnOk result (self.new.scan ≡ scanned self.old.scan place byte) }
+        ensures outer { OnOk result (self.new.outer.items ≡ outer_behind (mark_of self.old.scan.side byte) self.old.next self.old.outer.items) }
+        ensures next { OnOk result (self.new.next ≡ next_behind path.now (mark_of self.old.scan.side byte) (text_of input.now self.old.scan.last)
+            self.old.next self.new.outer.items) }
+        ensures found { OnOk result (self.new.found ≡ found_behind (mark_of self.old.scan.side byte) place self.old.next self.old.found) }
+    {
+        let text = self.scan.last.of(input);
+        let mark = self.scan.mark(place, byte);
+        self.reach(mark, place);
+        self.open(mark)?;
+        self.next = self.next_at(path, mark, text)?;
+        Ok(())
+    }
+
+    /// Keeps the value that begins here, where it is on the path.
+    fn reach(&mut self, mark: Mark, place: usize)
+        ensures found { self.new.found ≡ found_behind mark place self.old.next self.old.found }
+        ensures scan { self.new.scan ≡ self.old.scan }
+        ensures outer { self.new.outer ≡ self.old.outer }
+        ensures next { self.new.next ≡ self.old.next }
+    {
         match mark {
-            Mark::Within => {}
-            Mark::Plain => self.reach(place),
-            Mark::Object => self.open(place, None, path),
-            Mark::Array => self.open(place, Some(0), path),
-            Mark::Close => self.close(),
-            Mark::Comma => self.next_item(path),
-            Mark::Colon => self.key(text, path),
+            Mark::Plain | Mark::Object | Mark::Array => {
+                if let Some(reached) = self.next {
+                    self.found = Found { place, reached };
+                }
+            }
+            Mark::Within | Mark::Close | Mark::Comma | Mark::Colon => {}
         }
     }
 
-    /// The awaited value, if one is, begins here.
-    fn reach(&mut self, place: usize) {
-        if self.awaited {
-            self.awaited = false;
-            self.steps = self.level.saturating_add(1);
-            self.place = place;
+    /// Keeps what is open behind a mark.
+    fn open(&mut self, mark: Mark) -> Result<(), NoMemory>
+        ensures outer { OnOk result (self.new.outer.items ≡ outer_behind mark self.old.next self.old.outer.items) }
+        ensures scan { self.new.scan ≡ self.old.scan }
+        ensures found { self.new.found ≡ self.old.found }
+        ensures next { self.new.next ≡ self.old.next }
+    {
+        match mark {
+            Mark::Object => {
+                self.outer.push(Outer {
+                    reached: self.next,
+                    item: None,
+                })?;
+            }
+            Mark::Array => {
+                self.outer.push(Outer {
+                    reached: self.next,
+                    item: Some(0),
+                })?;
+            }
+            Mark::Close => {
+                self.outer.pop();
+            }
+            Mark::Comma => {
+                if let Some(inner) = self.outer.pop() {
+                    self.outer.push(inner.next_item())?;
+                }
+            }
+            Mark::Within | Mark::Plain | Mark::Colon => {}
         }
+        Ok(())
     }
 
-    /// An object begins, or an array with its first item.
-    fn open(&mut self, place: usize, item: Option<u64>, path: &[u8]) {
-        self.depth = self.depth.saturating_add(1);
-        if self.awaited {
-            self.reach(place);
-            self.level = self.level.saturating_add(1);
-            self.item = item;
-            self.await_item(path);
+    /// How many bytes of the path lead to the value that comes next. The text is the one that ended last.
+    fn next_at(&self, path: &[u8], mark: Mark, text: &[u8]) -> Result<Option<usize>, NoMemory>
+        ensures { IfOk result (λ next. next ≡ next_behind path.now mark text.now self.now.next self.now.outer.items) }
+    {
+        match mark {
+            Mark::Within => Ok(self.next),
+            Mark::Plain | Mark::Object | Mark::Close => Ok(None),
+            Mark::Array | Mark::Comma => item_in(self.alloc, path, self.outer.last()),
+            Mark::Colon => Ok(key_in(path, text, self.outer.last())),
         }
     }
+}
 
-    fn close(&mut self) {
-        if self.depth == self.level {
-            self.level = self.level.saturating_sub(1);
-            self.item = None;
-            self.awaited = false;
-        }
-        self.depth = self.depth.saturating_sub(1);
+/// How many bytes of a path lead to the present item of an array.
+fn item_in(alloc: Global, path: &[u8], inner: Option<&Outer>) -> Result<Option<usize>, NoMemory>
+    ensures { IfOk result (λ next. next ≡ spec.item_in path.now (option_copied inner.entry)) }
+{
+    match inner {
+        Some(inner) => item_on(alloc, path, inner.reached, inner.item),
+        None => Ok(None),
     }
+}
 
-    fn next_item(&mut self, path: &[u8]) {
-        if self.depth == self.level {
-            self.item = match self.item {
-                Some(item) => Some(item.saturating_add(1)),
-                None => None,
-            };
-            self.await_item(path);
-        }
-    }
+fn item_on(
+    alloc: Global,
+    path: &[u8],
+    reached: Option<usize>,
+    item: Option<u64>,
+) -> Result<Option<usize>, NoMemory>
+    ensures { IfOk result (λ next. next ≡ spec.item_on path.now reached item) }
+{
+    let (Some(reached), Some(item)) = (reached, item) else {
+        return Ok(None);
+    };
+    let mut step = Vec::new(alloc);
+    add_number(&mut step, item)?;
+    Ok(step_from(path, &step, reached))
+}
 
-    /// Whether the next item of an array is the one on the way.
-    fn await_item(&mut self, path: &[u8]) {
-        self.awaited = match self.item {
-            Some(item) => digits_of(step_at(path, self.level)) == Some(item),
-            None => false,
-        };
-    }
-
-    fn key(&mut self, text: &[u8], path: &[u8]) {
-        if self.depth == self.level && !text.is_empty() {
-            self.awaited = text == step_at(path, self.level) || ends_path(path, self.level, text);
-        }
+/// How many bytes of a path lead to the value of a key.
+fn key_in(path: &[u8], text: &[u8], inner: Option<&Outer>) -> Option<usize>
+    ensures { result ≡ spec.key_in path.now text.now (option_copied inner.entry) }
+{
+    match inner {
+        Some(inner) => match inner.reached {
+            Some(reached) => step_from(path, text, reached),
+            None => None,
+        },
+        None => None,
     }
 }

@@ -13,3 +13,5 @@ pub mod States
 pub mod Readings
 pub mod Askings
 pub mod Endings
+pub mod Bounded
+pub mod Claimed

@@ -1,8 +1,18 @@
--- What is claimed of the history of a document.
+-- What is claimed of the history of a document, and of what was written of it.
+use Rattle.std.specs.Prelude.{◌≡◌, ℕ, true, List, Option, Some}
+use Rattle.kube_base.specs.declared.numbers.Beat.{Beat}
 use Rattle.kube_objects.specs.Document.{Doc}
 use Rattle.history.specs.Evictions.{NotEarly, Prompt}
+use Rattle.history.specs.Premise.{lease_premise}
 use Rattle.history.specs.Safe.{Holder, Exclusive}
 use Rattle.history.specs.Spacing.{Spacing}
+use Rattle.script_reader.specs.declared.document.Document.{Document}
+use Rattle.script_reader.specs.Documents.{doc_of}
+use Rattle.trace_audit.specs.Alone.{entries_in, OneActs}
+use Rattle.replay_top.specs.declared.task.Task.TheVariants.{Audit}
+use Rattle.replay_top.specs.Replays.{Replays, Shows, WhereGenerated, WhereReadUnderPremise, WhereReplayedUnderPremise}
+use Rattle.replay_top.specs.State.{ReadsBack}
+use Rattle.replay_top.specs.Tasks.{task_of}
 
 -- whoever acts is the stored holder, only one identity acts at a beat, queued taints are spaced, and pods are evicted when they are due,
 -- no earlier and no later than by the first tick that reaches the store
@@ -12,3 +22,35 @@ pub record IsSafe (doc : Doc) : Type 0 where
   pub spacing : Spacing doc
   pub not_early : NotEarly doc
   pub prompt : Prompt doc
+
+-- of every document that can be read, where its lease premise holds; the last two without it
+pub record AreSafe : Type 0 where
+  pub holder : WhereReadUnderPremise Holder
+  pub exclusive : WhereReadUnderPremise Exclusive
+  pub spacing : WhereReadUnderPremise Spacing
+  pub not_early : (d : Document) → NotEarly (doc_of d)
+  pub prompt : (d : Document) → Prompt (doc_of d)
+
+-- of the history of the document that these words replay, show a state of, or generate, with these bytes in the source
+pub record Claims (words : List (List ℕ)) (left : Option (List ℕ)) : Type 0 where
+  -- where the lease premise holds, whoever acts is the stored holder and wasn't stopped
+  pub holder : WhereReplayedUnderPremise words left Holder
+  -- only one identity acts at a beat
+  pub exclusive : WhereReplayedUnderPremise words left Exclusive
+  -- from each queued taint of a zone to each in a later beat a token of the zone grows
+  pub spacing : WhereReplayedUnderPremise words left Spacing
+  -- always, a controller evicts a pod only when it is due on the controller's clock
+  pub not_early : (d : Document) → Replays words left d → NotEarly (doc_of d)
+  -- and by its first tick that reaches the store
+  pub prompt : (d : Document) → Replays words left d → Prompt (doc_of d)
+  -- of a generated document all five always: its lease premise holds
+  pub safe : WhereGenerated words IsSafe
+  -- of a document whose state is shown all five, where its lease premise holds
+  pub safe_state : (d : Document) (beat : Beat) → Shows words left d beat → lease_premise (doc_of d) ≡ true → IsSafe (doc_of d)
+
+-- of what was written whole
+pub record IsWell (words : List (List ℕ)) (left : Option (List ℕ)) : Type 0 where
+  -- a state is read as what is stored after the beat
+  pub reads_back : (d : Document) (beat : Beat) → Shows words left d beat → ReadsBack d beat.0
+  -- in a trace that `audit` lets pass all acting lines of a beat are by one identity
+  pub alone : (bytes : List ℕ) → left ≡ Some bytes → task_of words ≡ Some Audit → OneActs (entries_in bytes)

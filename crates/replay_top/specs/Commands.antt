@@ -16,14 +16,3 @@ command_of (word ∷ []) =
     if bytes_eq word (codes "replay") then Some Replay else (if bytes_eq word (codes "check") then Some Check else None)
 command_of (word ∷ beat ∷ []) = if bytes_eq word (codes "state") then state_by beat else None
 command_of _ = None
-
--- the command runs the document
-abbrev pub IsRunning : Command → Type 0
-IsRunning Replay = Unit {0}
-IsRunning Check = ⊥
-IsRunning (State beat) = Unit {0}
-
--- the words ask for such a command
-abbrev pub IsRunningSome : Option Command → Type 0
-IsRunningSome None = ⊥
-IsRunningSome (Some command) = IsRunning command

@@ -1,5 +1,6 @@
 pub mod Answerings
 pub mod Audited
+pub mod Bounds
 pub mod Claims
 pub mod Commands
 pub mod Counts

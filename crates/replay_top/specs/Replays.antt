@@ -11,9 +11,8 @@ use Rattle.replay_top.specs.declared.command.Command.TheVariants.{Replay, State}
 use Rattle.replay_top.specs.declared.status.Status.{Status}
 use Rattle.replay_top.specs.declared.status.Status.TheVariants.{Refused, Usage, SourceFault}
 use Rattle.replay_top.specs.declared.sizes.Sizes.{Sizes}
-use Rattle.replay_top.specs.declared.task.Task.{Task}
-use Rattle.replay_top.specs.declared.task.Task.TheVariants.{Document as DocumentTask, Generate}
-use Rattle.replay_top.specs.Commands.{IsRunning, command_of}
+use Rattle.replay_top.specs.declared.task.Task.TheVariants.{Generate}
+use Rattle.replay_top.specs.Commands.{command_of}
 use Rattle.replay_top.specs.Generated.{document_of}
 use Rattle.replay_top.specs.Tasks.{task_of}
 
@@ -30,11 +29,6 @@ pub record Shows (words : List (List ℕ)) (left : Option (List ℕ)) (d : Docum
   pub told : left ≡ Some bytes
   pub command : command_of words ≡ Some (State beat)
   pub read : document_walk bytes ≡ Ok d
-
--- the task runs a document that is read
-abbrev pub IsRunningTask : Task → Type 0
-IsRunningTask (DocumentTask command) = IsRunning command
-IsRunningTask _ = ⊥
 
 -- this holds of every document that is replayed where the lease premise holds
 abbrev pub WhereReplayedUnderPremise : List (List ℕ) → Option (List ℕ) → (Doc → Type 0) → Type 0

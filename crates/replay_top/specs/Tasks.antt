@@ -25,8 +25,3 @@ task_of words =
 abbrev pub IsWithin : Task → Type 0
 IsWithin (Generate sizes) = AreWithin sizes
 IsWithin _ = Unit {0}
-
--- the source is read
-abbrev pub IsRead : Task → Type 0
-IsRead (Generate sizes) = ⊥
-IsRead _ = Unit {0}

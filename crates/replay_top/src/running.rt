@@ -1,26 +1,20 @@
 // The commands.
-ghost use Rattle.std.specs.Prelude.{◌≡◌, ◌≢◌, ◌⊎◌, ◌≤◌, ◌+◌, ℕ, List, [], Some, None, Ok, ◌++◌, OnOk, true, map, string_bytes};
-ghost use Rattle.agenda_laws.specs.Standing.{standing_beats, standing_below};
+ghost use Rattle.std.specs.Prelude.{◌≡◌, ◌≢◌, ◌⊎◌, ◌≤◌, ◌+◌, ℕ, List, [], Some, None, Ok, ◌++◌, OnOk, IfSome, map, string_bytes};
+ghost use Rattle.agenda_laws.specs.Standing.{standing_beats};
 ghost use Rattle.byte_edge.specs.Bytes.{Rose};
 ghost use Rattle.kube_base.specs.declared.numbers.Beat.{Beat};
-ghost use Rattle.history.specs.Premise.{lease_premise};
-ghost use Rattle.history.specs.Evictions.{NotEarly, Prompt};
-ghost use Rattle.history.specs.Safe.{Holder, Exclusive};
-ghost use Rattle.history.specs.Spacing.{Spacing};
 ghost use Rattle.script_reader.specs.declared.document.Document.{Document};
 ghost use Rattle.script_reader.specs.Documents.{doc_of};
 ghost use Rattle.script_reader.specs.Lawful.{IsLawfulDoc, IsWellNamed};
 ghost use Rattle.script_reader.specs.Walk.{document_walk};
 ghost use Rattle.trace_audit.specs.Alone.{entries_in, OneActs};
-ghost use Rattle.replay_top.specs.Claims.{IsSafe};
-ghost use Rattle.replay_top.specs.Commands.{IsRunning, IsRunningSome, command_of};
+ghost use Rattle.replay_top.specs.Bounds.{IsIdle, most_for, most_steps};
+ghost use Rattle.replay_top.specs.Claims.{AreSafe, Claims, IsSafe, IsWell};
 ghost use Rattle.replay_top.specs.Generated.{document_of, generated_line};
-ghost use Rattle.replay_top.specs.Sizes.{sizes_of};
-ghost use Rattle.replay_top.specs.Tasks.{IsRead, IsWithin, task_of};
+ghost use Rattle.replay_top.specs.Tasks.{IsWithin, task_of};
 ghost use Rattle.replay_top.specs.Outcome.{outcome, usage, performed, obeyed, answer_to, refused, refusal_text, done};
 ghost use Rattle.replay_top.specs.Outcome.{Ends, EndsAs, IsWhole, IsRunEnd};
-ghost use Rattle.replay_top.specs.Replays.{Replays, Shows, WhereGenerated, WhereReplayedUnderPremise, WhereReadUnderPremise};
-ghost use Rattle.replay_top.specs.Replays.{IsRunningTask, IsUnread, IsUndone};
+ghost use Rattle.replay_top.specs.Replays.{IsUndone};
 ghost use Rattle.replay_top.specs.State.{ReadsBack};
 ghost use Rattle.replay_top.specs.Traces.{trace};
 ghost use Rattle.replay_top.specs.Summary.{summary};
@@ -69,67 +63,29 @@ pub fn run<S: Source, K: Sink, L>(
 
     // Words that are no command are answered whether or not the source tells its bytes, with no want of memory.
     ensures usage { task_of (map string_bytes words.now.items) ≡ None
-        → (S.left source.new ≡ S.left source.old) × ((result ≡ Status.Usage) ⊎ (result ≡ Status.SinkFault))
+        → (S.left source.new ≡ S.left source.old) × (S.faults source.new ≡ S.faults source.old)
+        × ((result ≡ Status.Usage) ⊎ (result ≡ Status.SinkFault))
         × Ends (usage []) (Some []) (K.taken sink.old) (K.taken sink.new) result }
 
     // A generated document is run whether or not the source tells its bytes: it isn't read.
     ensures generated { (sizes : Sizes) → task_of (map string_bytes words.now.items) ≡ Some (Task.Generate sizes)
         → (S.left source.new ≡ S.left source.old) × (S.faults source.new ≡ S.faults source.old) × IsRunEnd result
-        × Ends (done (generated_line sizes)) (Some []) (K.taken sink.old) (K.taken sink.new) result
-        × (steps.new ≤ steps.old + standing_beats (document_of sizes)) }
+        × Ends (done (generated_line sizes)) (Some []) (K.taken sink.old) (K.taken sink.new) result }
 
     // Where neither count of faults rose, the run ends as it should with all its text, or memory ran out.
     ensures complete { (bytes : List ℕ) → S.left source.old ≡ Some bytes
         → ¬ Rose (S.faults source.old) (S.faults source.new) → ¬ Rose (K.faults sink.old) (K.faults sink.new)
         → IsWhole (outcome (map string_bytes words.now.items) bytes) (S.left source.new) (K.taken sink.old) (K.taken sink.new) result
         ⊎ (result ≡ Status.OutOfMemory) }
-
-    ensures source_fault { result ≡ Status.SourceFault → Rose (S.faults source.old) (S.faults source.new) }
-    ensures source_silent { result ≡ Status.SourceFault → K.taken sink.new ≡ K.taken sink.old }
+    ensures source_fault { result ≡ Status.SourceFault
+        → Rose (S.faults source.old) (S.faults source.new) × (K.taken sink.new ≡ K.taken sink.old) }
     ensures sink_fault { result ≡ Status.SinkFault → Rose (K.faults sink.old) (K.faults sink.new) }
+    ensures claims { Claims (map string_bytes words.now.items) (S.left source.old) }
+    ensures well { result ≡ Status.Done → IsWell (map string_bytes words.now.items) (S.left source.old) }
 
-    // In the history whose trace is written, where the lease premise holds, whoever acts is the stored holder and wasn't stopped.
-    ensures holder { WhereReplayedUnderPremise (map string_bytes words.now.items) (S.left source.old) Holder }
-
-    // Only one identity acts at a beat.
-    ensures exclusive { WhereReplayedUnderPremise (map string_bytes words.now.items) (S.left source.old) Exclusive }
-
-    // And from each queued taint of a zone to each in a later beat a token of the zone grows.
-    ensures spacing { WhereReplayedUnderPremise (map string_bytes words.now.items) (S.left source.old) Spacing }
-
-    // Always, a controller evicts a pod only when it is due on the controller's clock.
-    ensures not_early { (d : Document) → Replays (map string_bytes words.now.items) (S.left source.old) d → NotEarly (doc_of d) }
-
-    // And by its first tick that reaches the store.
-    ensures prompt { (d : Document) → Replays (map string_bytes words.now.items) (S.left source.old) d → Prompt (doc_of d) }
-
-    // In the history of a generated document all five always hold: its lease premise does.
-    ensures safe { WhereGenerated (map string_bytes words.now.items) IsSafe }
-
-    // No more beats are done than have entries, and none where there is no document or too large a one, or with other words.
-    ensures counted { (d : Document) → Replays (map string_bytes words.now.items) (S.left source.old) d
-        → steps.new ≤ steps.old + standing_beats (doc_of d) }
-    ensures unread { (bytes : List ℕ) → S.left source.old ≡ Some bytes → IsUnread bytes
-        → sizes_of (map string_bytes words.now.items) ≡ None → steps.new ≡ steps.old }
-    ensures undone { IsUndone result → steps.new ≡ steps.old }
-    ensures unasked { ¬ IsRunningSome (command_of (map string_bytes words.now.items))
-        → sizes_of (map string_bytes words.now.items) ≡ None → steps.new ≡ steps.old }
-
-    // For a state no more beats are done than have entries up to its beat.
-    ensures counted_state { (d : Document) (beat : Beat) → Shows (map string_bytes words.now.items) (S.left source.old) d beat
-        → steps.new ≤ steps.old + standing_below (doc_of d) (beat.0 + 1) }
-
-    // A state that was written is read as what is stored after the beat.
-    ensures reads_back { (d : Document) (beat : Beat) → Shows (map string_bytes words.now.items) (S.left source.old) d beat
-        → result ≡ Status.Done → ReadsBack d beat.0 }
-
-    // In the history up to it all five hold too, where the lease premise does.
-    ensures safe_state { (d : Document) (beat : Beat) → Shows (map string_bytes words.now.items) (S.left source.old) d beat
-        → lease_premise (doc_of d) ≡ true → IsSafe (doc_of d) }
-
-    // In a trace that `audit` lets pass all acting lines of a beat are by one identity.
-    ensures alone { (bytes : List ℕ) → S.left source.old ≡ Some bytes → task_of (map string_bytes words.now.items) ≡ Some Task.Audit
-        → result ≡ Status.Done → OneActs (entries_in bytes) }
+    // No more beats are done than have entries, and none where there is no document to run.
+    ensures counted { IfSome (most_steps (task_of (map string_bytes words.now.items)) (S.left source.old)) (λ n. steps.new ≤ steps.old + n) }
+    ensures idle { IsUndone result ⊎ IsIdle (task_of (map string_bytes words.now.items)) (S.left source.old) → steps.new ≡ steps.old }
 {
     documents_are_safe();
     match task_in(words) {
@@ -152,19 +108,14 @@ fn perform<S: Source, K: Sink, L>(
     ensures source_fault { result ≡ Status.SourceFault → Rose (S.faults source.old) (S.faults source.new) }
     ensures source_silent { result ≡ Status.SourceFault → K.taken sink.new ≡ K.taken sink.old }
     ensures sink_fault { result ≡ Status.SinkFault → Rose (K.faults sink.old) (K.faults sink.new) }
-    ensures counted { (bytes : List ℕ) (d : Document) → S.left source.old ≡ Some bytes → document_walk bytes ≡ Ok d → IsRead task
-        → steps.new ≤ steps.old + standing_beats (doc_of d) }
-    ensures unread { (bytes : List ℕ) → S.left source.old ≡ Some bytes → IsUnread bytes → IsRead task → steps.new ≡ steps.old }
+    ensures counted { IfSome (most_steps (Some task) (S.left source.old)) (λ n. steps.new ≤ steps.old + n) }
     ensures undone { IsUndone result → steps.new ≡ steps.old }
-    ensures unasked { ¬ IsRunningTask task → IsRead task → steps.new ≡ steps.old }
-    ensures counted_state { (bytes : List ℕ) (d : Document) (beat : Beat) → S.left source.old ≡ Some bytes → document_walk bytes ≡ Ok d
-        → task ≡ Task.Document (Command.State beat) → steps.new ≤ steps.old + standing_below (doc_of d) (beat.0 + 1) }
+    ensures idle { IsIdle (Some task) (S.left source.old) → steps.new ≡ steps.old }
     ensures reads_back { (bytes : List ℕ) (d : Document) (beat : Beat) → S.left source.old ≡ Some bytes → document_walk bytes ≡ Ok d
         → task ≡ Task.Document (Command.State beat) → result ≡ Status.Done → ReadsBack d beat.0 }
     ensures generated { (sizes : Sizes) → task ≡ Task.Generate sizes
         → (S.left source.new ≡ S.left source.old) × (S.faults source.new ≡ S.faults source.old) × IsRunEnd result
-        × Ends (done (generated_line sizes)) (Some []) (K.taken sink.old) (K.taken sink.new) result
-        × (steps.new ≤ steps.old + standing_beats (document_of sizes)) }
+        × Ends (done (generated_line sizes)) (Some []) (K.taken sink.old) (K.taken sink.new) result }
     ensures safe { (sizes : Sizes) → task ≡ Task.Generate sizes → IsSafe (document_of sizes) }
     ensures alone { (bytes : List ℕ) → S.left source.old ≡ Some bytes → task ≡ Task.Audit → result ≡ Status.Done
         → OneActs (entries_in bytes) }
@@ -179,11 +130,7 @@ fn perform<S: Source, K: Sink, L>(
 
 /// What was proved of every document that can be read, for which nothing is done.
 fn documents_are_safe()
-    ensures holder { WhereReadUnderPremise Holder }
-    ensures exclusive { WhereReadUnderPremise Exclusive }
-    ensures spacing { WhereReadUnderPremise Spacing }
-    ensures not_early { (d : Document) → NotEarly (doc_of d) }
-    ensures prompt { (d : Document) → Prompt (doc_of d) }
+    ensures { AreSafe }
 {
     documents_are_lawful();
     lawful_documents_are_sound();
@@ -216,13 +163,9 @@ fn obey<S: Source, K: Sink, L>(
     ensures source_fault { result ≡ Status.SourceFault → Rose (S.faults source.old) (S.faults source.new) }
     ensures source_silent { result ≡ Status.SourceFault → K.taken sink.new ≡ K.taken sink.old }
     ensures sink_fault { result ≡ Status.SinkFault → Rose (K.faults sink.old) (K.faults sink.new) }
-    ensures counted { (bytes : List ℕ) (d : Document) → S.left source.old ≡ Some bytes → document_walk bytes ≡ Ok d
-        → steps.new ≤ steps.old + standing_beats (doc_of d) }
-    ensures unread { (bytes : List ℕ) → S.left source.old ≡ Some bytes → IsUnread bytes → steps.new ≡ steps.old }
+    ensures counted { IfSome (most_steps (Some (Task.Document command)) (S.left source.old)) (λ n. steps.new ≤ steps.old + n) }
     ensures undone { IsUndone result → steps.new ≡ steps.old }
-    ensures unasked { ¬ IsRunning command → steps.new ≡ steps.old }
-    ensures counted_state { (bytes : List ℕ) (d : Document) (beat : Beat) → S.left source.old ≡ Some bytes → document_walk bytes ≡ Ok d
-        → command ≡ Command.State beat → steps.new ≤ steps.old + standing_below (doc_of d) (beat.0 + 1) }
+    ensures idle { IsIdle (Some (Task.Document command)) (S.left source.old) → steps.new ≡ steps.old }
     ensures reads_back { (bytes : List ℕ) (d : Document) (beat : Beat) → S.left source.old ≡ Some bytes → document_walk bytes ≡ Ok d
         → command ≡ Command.State beat → result ≡ Status.Done → ReadsBack d beat.0 }
 {
@@ -261,10 +204,8 @@ fn answer<K: Sink, L>(
     ensures silent { result ≢ Status.SourceFault }
     ensures undone { IsUndone result → steps.new ≡ steps.old }
     ensures sink_fault { result ≡ Status.SinkFault → Rose (K.faults sink.old) (K.faults sink.new) }
-    ensures counted { steps.new ≤ steps.old + standing_beats (doc_of document) }
-    ensures unasked { ¬ IsRunning command → steps.new ≡ steps.old }
-    ensures counted_state { (beat : Beat) → command ≡ Command.State beat
-        → steps.new ≤ steps.old + standing_below (doc_of document) (beat.0 + 1) }
+    ensures counted { steps.new ≤ steps.old + most_for command document }
+    ensures unasked { command ≡ Command.Check → steps.new ≡ steps.old }
     ensures reads_back { (beat : Beat) → command ≡ Command.State beat → result ≡ Status.Done → ReadsBack document beat.0 }
 {
     match command {

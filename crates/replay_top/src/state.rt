@@ -50,7 +50,6 @@ pub(crate) fn write_state<K: Sink, L>(
     ensures sink_fault { result ≡ Status.SinkFault → Rose (K.faults sink.old) (K.faults sink.new) }
     ensures undone { IsUndone result → steps.new ≡ steps.old }
     ensures counted { steps.new ≤ steps.old + standing_below (doc_of document) (last.0 + 1) }
-    ensures counted_all { steps.new ≤ steps.old + standing_beats (doc_of document) }
 {
     if document.settings.end_beat.0 < last.0 {
         return refuse(alloc, sink, PAST_END, b"/");

@@ -7,7 +7,7 @@ use Rattle.kube_lens.specs.Commands.{command_of}
 use Rattle.kube_lens.specs.Outcome.{help}
 use Rattle.kube_lens.specs.declared.asked.Asked.TheVariants.{Margin}
 use Rattle.kube_lens.specs.declared.command.Command.TheVariants.{Help, Flags, Asks}
-use Rattle.kube_lens.proofs.Commanded.{ends-commanded, ends-unread}
+use Rattle.kube_lens.proofs.Commanded.{ends-commanded, ends-said, ends-unread, never-said}
 use Rattle.kube_lens.proofs.PremiseLaws.{safe-premise, unsafe-premise}
 use Rattle.kube_lens.proofs.running.run.Goals as goal
 
@@ -68,4 +68,33 @@ returns-in-None-clause-text g c bytes told =
     ends-commanded words bytes None left before after c.tell_usage.result found (ends-unread usage bytes left before after c.tell_usage.result told (c.tell_usage.ensures.text bytes))
 
 pub returns-in-None-clause-usage : goal.returns-in-None-clause-usage
-returns-in-None-clause-usage g c other = (refl, c.tell_usage.ensures.status, c.tell_usage.ensures.text [])
+returns-in-None-clause-usage g c other = (refl, refl, c.tell_usage.ensures.status, c.tell_usage.ensures.text [])
+
+pub returns-in-None-clause-unread : goal.returns-in-None-clause-unread
+returns-in-None-clause-unread g c reply is =
+    let words : List (List ℕ) = map string_bytes c.args.words.now.items in
+    let found : None ≡ command_of words = sym c.in-None.is ∙ c.command_in.ensures in
+    (refl, refl, ends-said words None usage reply (g.K.Sink.taken c.args.sink.now) (g.K.Sink.taken c.tell_usage.new.sink) c.tell_usage.result found refl is (c.tell_usage.ensures.text []))
+
+pub returns-in-Some-Help-clause-unread : goal.returns-in-Some-Help-clause-unread
+returns-in-Some-Help-clause-unread g c reply is =
+    let words : List (List ℕ) = map string_bytes c.args.words.now.items in
+    let before = g.K.Sink.taken c.args.sink.now in
+    let after = g.K.Sink.taken c.tell.new.sink in
+    let found : Some Help ≡ command_of words = ap Some (sym c.in-Some-Help.field-0-is) ∙ sym c.in-Some-Help.is ∙ c.command_in.ensures in
+    let told_help : Ends (Unread help []) (Some []) before after c.tell.result
+    = subst (λ text. Ends (Unread (let r : Reply = record { verdict = Done; text = text } in r) []) (Some []) before after c.tell.result) c.help.ensures (c.tell.ensures.text []) in
+    (refl, refl, ends-said words (Some Help) help reply before after c.tell.result found refl is told_help)
+
+pub returns-in-Some-Flags-clause-unread : goal.returns-in-Some-Flags-clause-unread
+returns-in-Some-Flags-clause-unread g c reply is =
+    let words : List (List ℕ) = map string_bytes c.args.words.now.items in
+    let found : Some Flags ≡ command_of words = ap Some (sym c.in-Some-Flags.field-0-is) ∙ sym c.in-Some-Flags.is ∙ c.command_in.ensures in
+    (refl, refl, ends-said words (Some Flags) (answer_to (behind words)) reply (g.K.Sink.taken c.args.sink.now) (g.K.Sink.taken c.run.new.sink) c.run.result found refl is (c.run.ensures.text []))
+
+pub returns-in-Some-Asks-clause-unread : goal.returns-in-Some-Asks-clause-unread
+returns-in-Some-Asks-clause-unread g c reply is =
+    let words : List (List ℕ) = map string_bytes c.args.words.now.items in
+    let asked = c.in-Some-Asks.asked in
+    let found : Some (Asks asked) ≡ command_of words = ap Some (sym c.in-Some-Asks.field-0-is) ∙ sym c.in-Some-Asks.is ∙ c.command_in.ensures in
+    absurd (never-said words (Some (Asks asked)) reply found refl is)

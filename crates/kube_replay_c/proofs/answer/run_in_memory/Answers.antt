@@ -4,7 +4,7 @@ use Rattle.replay_top.specs.Outcome.{outcome}
 use Rattle.kube_replay_c.proofs.Buffers.{ends-in}
 use Rattle.replay_top.specs.declared.status.Status.{Status}
 use Rattle.replay_top.specs.declared.status.Status.TheVariants.{Done, Refused, Usage, SourceFault, SinkFault, OutOfMemory}
-use Rattle.replay_top.specs.Replays.{Shows}
+use Rattle.replay_top.specs.Claims.{Claims, IsWell}
 use Rattle.kube_replay_c.specs.Exits.{exit_status_of}
 use Rattle.kube_replay_c.proofs.answer.run_in_memory.Goals as goal
 
@@ -17,16 +17,6 @@ done SourceFault is = absurd cc
 done SinkFault is = absurd cc
 done OutOfMemory is = absurd cc
 
-pub returns-clause-safe_state : goal.returns-clause-safe_state
-returns-clause-safe_state c d beat shows premise =
-    c.run-status.ensures.safe_state d beat
-    (subst (λ left. Shows (map string_bytes c.args.words.now.items) left d beat) (sym (ap (λ bytes. Some bytes) c.new-source.ensures)) shows) premise
-
-pub returns-clause-alone : goal.returns-clause-alone
-returns-clause-alone c zero audit =
-    c.run-status.ensures.alone c.args.input.now (ap (λ bytes. Some bytes) c.new-source.ensures) audit
-    (done c.run-status.result (sym c.exit_status.ensures ∙ zero))
-
 no_fault : Rose 0 0 → ⊥
 no_fault (inl less) = omega (arith, less)
 no_fault (inr last) = omega (arith, last)
@@ -38,5 +28,14 @@ returns-clause-text c =
     ends-in o _ c.new-sink.result.buffer.ghost_name sink.buffer.ghost_name c.args.buffer.now c.new-sink.result.buffer.now sink.buffer.now _ c.new-sink.result.given sink.given c.put.result c.given.result c.exit_status.result (Some c.run-status.new.source.left.now) c.run-status.result
     c.new-sink.ensures.borrow c.new-sink.ensures.buffer c.new-sink.ensures.given
     (c.run-status.ensures.text c.args.input.now (ap (λ bytes. Some bytes) c.new-source.ensures))
-    (λ fault. no_fault (c.run-status.ensures.source_fault fault))
+    (λ fault. no_fault (c.run-status.ensures.source_fault fault).0)
     (assumption c) c.put.ensures c.given.ensures c.exit_status.ensures
+
+pub returns-clause-claims : goal.returns-clause-claims
+returns-clause-claims c =
+    subst (λ left. Claims (map string_bytes c.args.words.now.items) left) (ap (λ bytes. Some bytes) c.new-source.ensures) c.run-status.ensures.claims
+
+pub returns-clause-well : goal.returns-clause-well
+returns-clause-well c zero =
+    subst (λ left. IsWell (map string_bytes c.args.words.now.items) left) (ap (λ bytes. Some bytes) c.new-source.ensures)
+    (c.run-status.ensures.well (done c.run-status.result (sym c.exit_status.ensures ∙ zero)))

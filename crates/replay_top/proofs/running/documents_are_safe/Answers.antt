@@ -1,21 +1,15 @@
 use Rattle.script_reader.specs.Documents.{doc_of}
 use Rattle.replay_top.proofs.running.documents_are_safe.Goals as goal
 
-pub returns-clause-holder : goal.returns-clause-holder
-returns-clause-holder c bytes d read premise =
-    c.lease_is_safe.ensures.holder (doc_of d) premise (c.lawful_documents_are_sound.ensures (doc_of d) (c.documents_are_lawful.ensures.lawful bytes d read))
-
-pub returns-clause-exclusive : goal.returns-clause-exclusive
-returns-clause-exclusive c bytes d read premise =
-    c.lease_is_safe.ensures.exclusive (doc_of d) premise (c.lawful_documents_are_sound.ensures (doc_of d) (c.documents_are_lawful.ensures.lawful bytes d read))
-
-pub returns-clause-spacing : goal.returns-clause-spacing
-returns-clause-spacing c bytes d read premise =
-    let lawful = c.documents_are_lawful.ensures.lawful bytes d read in
-    c.taints_are_spaced.ensures (doc_of d) premise (c.lawful_documents_are_sound.ensures (doc_of d) lawful) lawful.settings.secondary
-
-pub returns-clause-not_early : goal.returns-clause-not_early
-returns-clause-not_early c d = c.evictions_are_timely.ensures.not_early (doc_of d)
-
-pub returns-clause-prompt : goal.returns-clause-prompt
-returns-clause-prompt c d = c.evictions_are_timely.ensures.prompt (doc_of d)
+pub returns : goal.returns
+returns c =
+    let lawful = c.documents_are_lawful.ensures.lawful in
+    let sound = c.lawful_documents_are_sound.ensures in
+    record {
+      holder = λ bytes d read premise. c.lease_is_safe.ensures.holder (doc_of d) premise (sound (doc_of d) (lawful bytes d read));
+      exclusive = λ bytes d read premise. c.lease_is_safe.ensures.exclusive (doc_of d) premise (sound (doc_of d) (lawful bytes d read));
+      spacing = λ bytes d read premise.
+          c.taints_are_spaced.ensures (doc_of d) premise (sound (doc_of d) (lawful bytes d read)) (lawful bytes d read).settings.secondary;
+      not_early = λ d. c.evictions_are_timely.ensures.not_early (doc_of d);
+      prompt = λ d. c.evictions_are_timely.ensures.prompt (doc_of d);
+    }

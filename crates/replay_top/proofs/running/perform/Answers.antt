@@ -1,13 +1,11 @@
-use Rattle.std.proofs.Common.{◌≡◌, ◌≤◌, ◌+◌, [], Some, refl, sym, ap, ◌∙◌, subst}
-use Rattle.agenda_laws.specs.Standing.{standing_beats}
+use Rattle.std.proofs.Common.{◌≡◌, ◌≤◌, ◌+◌, [], Some, IfSome, refl, sym, ap, ◌∙◌, subst, arith}
 use Rattle.replay_top.specs.declared.sizes.Sizes.{Sizes}
 use Rattle.replay_top.specs.declared.task.Task.TheVariants.{Document, Pods, Audit, Generate}
 use Rattle.replay_top.specs.declared.command.Command.TheVariants.{State}
+use Rattle.replay_top.specs.Bounds.{IsIdle, most_steps}
 use Rattle.replay_top.specs.Claims.{IsSafe}
 use Rattle.replay_top.specs.Generated.{document_of, generated_line}
 use Rattle.replay_top.specs.Outcome.{asked, audited, obeyed, performed, done, unread, Ends}
-use Rattle.replay_top.specs.Replays.{IsRunningTask}
-use Rattle.replay_top.specs.Tasks.{IsRead}
 use Rattle.replay_top.proofs.Endings.{ends-moved, run-end, run-undone}
 use Rattle.replay_top.proofs.running.perform.Goals as goal
 
@@ -48,17 +46,8 @@ returns-in-Generate-clause-source_fault g c fault = absurd (run-end c.write_gene
 pub returns-in-Generate-clause-source_silent : goal.returns-in-Generate-clause-source_silent
 returns-in-Generate-clause-source_silent g c fault = absurd (run-end c.write_generated.result c.write_generated.ensures.ended fault)
 
-pub returns-in-Generate-clause-counted : goal.returns-in-Generate-clause-counted
-returns-in-Generate-clause-counted g c bytes d told read reads = absurd (subst IsRead c.in-Generate.is reads)
-
-pub returns-in-Generate-clause-unread : goal.returns-in-Generate-clause-unread
-returns-in-Generate-clause-unread g c bytes told unread reads = absurd (subst IsRead c.in-Generate.is reads)
-
 pub returns-in-Generate-clause-undone : goal.returns-in-Generate-clause-undone
 returns-in-Generate-clause-undone g c undone = absurd (run-undone c.write_generated.result c.write_generated.ensures.ended undone)
-
-pub returns-in-Generate-clause-unasked : goal.returns-in-Generate-clause-unasked
-returns-in-Generate-clause-unasked g c other reads = absurd (subst IsRead c.in-Generate.is reads)
 
 pub returns-in-Generate-clause-alone : goal.returns-in-Generate-clause-alone
 returns-in-Generate-clause-alone g c bytes told is done =
@@ -71,11 +60,8 @@ returns-in-Generate-clause-generated g c sizes is =
     let same : c.in-Generate.sizes ≡ sizes = cc in
     let taken = g.K.Sink.taken in
     let ended = c.write_generated.result in
-    let P : Sizes → Type 0
-    = λ s. Ends (done (generated_line s)) (Some []) (taken c.args.sink.now) (taken c.write_generated.new.sink) ended
-    × (c.write_generated.new.steps ≤ c.args.steps.now + standing_beats (document_of s)) in
-    let told = subst P same (c.write_generated.ensures.text [], c.write_generated.ensures.counted) in
-    (refl, refl, c.write_generated.ensures.ended, told.0, told.1)
+    let P : Sizes → Type 0 = λ s. Ends (done (generated_line s)) (Some []) (taken c.args.sink.now) (taken c.write_generated.new.sink) ended in
+    (refl, refl, c.write_generated.ensures.ended, subst P same (c.write_generated.ensures.text []))
 
 pub returns-in-Document-clause-generated : goal.returns-in-Document-clause-generated
 returns-in-Document-clause-generated g c sizes is =
@@ -105,36 +91,49 @@ returns-in-Pods-clause-safe g c sizes is = absurd (let never : Pods c.in-Pods.qu
 
 -- ---- the task of a state
 
-pub returns-in-Document-clause-unasked : goal.returns-in-Document-clause-unasked
-returns-in-Document-clause-unasked g c other reads = c.obey.ensures.unasked (λ runs. other (subst IsRunningTask (sym c.in-Document.is) runs))
-
-pub returns-in-Document-clause-counted_state : goal.returns-in-Document-clause-counted_state
-returns-in-Document-clause-counted_state g c bytes d beat told read is =
-    let found : Document c.in-Document.command ≡ Document (State beat) = sym c.in-Document.is ∙ is in
-    c.obey.ensures.counted_state bytes d beat told read (cc)
-
 pub returns-in-Document-clause-reads_back : goal.returns-in-Document-clause-reads_back
 returns-in-Document-clause-reads_back g c bytes d beat told read is done =
     let found : Document c.in-Document.command ≡ Document (State beat) = sym c.in-Document.is ∙ is in
     c.obey.ensures.reads_back bytes d beat told read (cc) done
 
-pub returns-in-Audit-clause-counted_state : goal.returns-in-Audit-clause-counted_state
-returns-in-Audit-clause-counted_state g c bytes d beat told read is = absurd (let never : Audit ≡ Document (State beat) = sym c.in-Audit.is ∙ is in cc)
-
 pub returns-in-Audit-clause-reads_back : goal.returns-in-Audit-clause-reads_back
 returns-in-Audit-clause-reads_back g c bytes d beat told read is done = absurd (let never : Audit ≡ Document (State beat) = sym c.in-Audit.is ∙ is in cc)
-
-pub returns-in-Pods-clause-counted_state : goal.returns-in-Pods-clause-counted_state
-returns-in-Pods-clause-counted_state g c bytes d beat told read is = absurd (let never : Pods c.in-Pods.question ≡ Document (State beat) = sym c.in-Pods.is ∙ is in cc)
 
 pub returns-in-Pods-clause-reads_back : goal.returns-in-Pods-clause-reads_back
 returns-in-Pods-clause-reads_back g c bytes d beat told read is done = absurd (let never : Pods c.in-Pods.question ≡ Document (State beat) = sym c.in-Pods.is ∙ is in cc)
 
-pub returns-in-Generate-clause-counted_state : goal.returns-in-Generate-clause-counted_state
-returns-in-Generate-clause-counted_state g c bytes d beat told read is = absurd (let never : Generate c.in-Generate.sizes ≡ Document (State beat) = sym c.in-Generate.is ∙ is in cc)
-
 pub returns-in-Generate-clause-reads_back : goal.returns-in-Generate-clause-reads_back
 returns-in-Generate-clause-reads_back g c bytes d beat told read is done = absurd (let never : Generate c.in-Generate.sizes ≡ Document (State beat) = sym c.in-Generate.is ∙ is in cc)
 
-pub returns-in-Document-clause-unread : goal.returns-in-Document-clause-unread
-returns-in-Document-clause-unread g c bytes told unread reads = c.obey.ensures.unread bytes told unread
+-- ---- the beats
+
+pub returns-in-Document-clause-counted : goal.returns-in-Document-clause-counted
+returns-in-Document-clause-counted g c =
+    let left = g.S.Source.left c.args.source.now in
+    subst (λ t. IfSome (most_steps (Some t) left) (λ n. c.obey.new.steps ≤ c.args.steps.now + n)) (sym c.in-Document.is) c.obey.ensures.counted
+
+pub returns-in-Generate-clause-counted : goal.returns-in-Generate-clause-counted
+returns-in-Generate-clause-counted g c =
+    let left = g.S.Source.left c.args.source.now in
+    subst (λ t. IfSome (most_steps (Some t) left) (λ n. c.write_generated.new.steps ≤ c.args.steps.now + n)) (sym c.in-Generate.is)
+    c.write_generated.ensures.counted
+
+pub returns-in-Audit-clause-counted : goal.returns-in-Audit-clause-counted
+returns-in-Audit-clause-counted g c =
+    let left = g.S.Source.left c.args.source.now in
+    subst (λ t. IfSome (most_steps (Some t) left) (λ n. c.args.steps.now ≤ c.args.steps.now + n)) (sym c.in-Audit.is) (omega arith)
+
+pub returns-in-Pods-clause-counted : goal.returns-in-Pods-clause-counted
+returns-in-Pods-clause-counted g c =
+    let left = g.S.Source.left c.args.source.now in
+    subst (λ t. IfSome (most_steps (Some t) left) (λ n. c.args.steps.now ≤ c.args.steps.now + n)) (sym c.in-Pods.is) (omega arith)
+
+pub returns-in-Document-clause-idle : goal.returns-in-Document-clause-idle
+returns-in-Document-clause-idle g c idle =
+    let left = g.S.Source.left c.args.source.now in
+    c.obey.ensures.idle (subst (λ t. IsIdle (Some t) left) c.in-Document.is idle)
+
+pub returns-in-Generate-clause-idle : goal.returns-in-Generate-clause-idle
+returns-in-Generate-clause-idle g c idle =
+    let left = g.S.Source.left c.args.source.now in
+    absurd (subst (λ t. IsIdle (Some t) left) c.in-Generate.is idle)

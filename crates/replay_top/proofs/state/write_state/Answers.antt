@@ -1,10 +1,8 @@
-use Rattle.std.proofs.Common.{◌≤◌, ◌+◌, suc, Some, [], refl, sym, ap, ◌∙◌, arith}
+use Rattle.std.proofs.Common.{Some, [], refl, sym, ap, ◌∙◌, arith}
 use Rattle.byte_edge.proofs.Fronts.{gave-nothing}
-use Rattle.kube_objects.specs.Document.{end_beat}
-use Rattle.script_reader.specs.Documents.{doc_of}
 use Rattle.replay_top.specs.Outcome.{done, of_whole, refused, state_answer}
 use Rattle.replay_top.proofs.Endings.{ends-moved}
-use Rattle.replay_top.proofs.States.{counts-up, state-past, state-within}
+use Rattle.replay_top.proofs.States.{state-past, state-within}
 use Rattle.replay_top.proofs.state.write_state.Goals as goal
 
 pub returns-then-document-last-clause-text : goal.returns-then-document-last-clause-text
@@ -24,17 +22,5 @@ returns-in-Ok-clause-text g c =
     ends-moved (done c.deref.result.now) (state_answer d last) (Some []) (Some []) (taken c.args.sink.now) (taken c.write.new.sink) c.write.result
     (state-within d last (omega (arith, past)) ∙ ap done (sym (c.deref.ensures.value ∙ c.in-Ok.ensures.text))) refl c.write.ensures.text
 
-pub returns-in-Ok-clause-counted_all : goal.returns-in-Ok-clause-counted_all
-returns-in-Ok-clause-counted_all g c =
-    let doc = doc_of c.args.document in
-    let past = c.if-document-last.false in
-    counts-up doc (c.args.last.0 + 1) (suc (end_beat doc)) c.args.steps.now c.text_after.new.steps (omega (arith, past)) c.in-Ok.ensures.counted
-
 pub returns-in-Err-clause-text : goal.returns-in-Err-clause-text
 returns-in-Err-clause-text g c = gave-nothing (g.K.Sink.taken c.args.sink.now) (state_answer c.args.document c.args.last.0).text
-
-pub returns-in-Err-clause-counted_all : goal.returns-in-Err-clause-counted_all
-returns-in-Err-clause-counted_all g c =
-    let doc = doc_of c.args.document in
-    let past = c.if-document-last.false in
-    counts-up doc (c.args.last.0 + 1) (suc (end_beat doc)) c.args.steps.now c.text_after.new.steps (omega (arith, past)) c.in-Err.ensures.counted

@@ -1,0 +1,4 @@
+pub mod Answering
+pub mod Placing
+pub mod Waiting
+pub mod Starting

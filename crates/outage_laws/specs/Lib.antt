@@ -1,0 +1,4 @@
+pub mod Attended
+pub mod Passes
+pub mod Marked
+pub mod Gone

@@ -1,0 +1,26 @@
+-- What is claimed of every document that can be read, for the words of a run.
+use Rattle.std.proofs.Common.{◌⊎◌, ℕ, List, Option, inl, inr}
+use Rattle.replay_top.specs.Claims.{AreSafe, Claims, IsSafe}
+use Rattle.replay_top.specs.Replays.{WhereGenerated}
+
+pub either : {A B C : Type 0} → (A → C) → (B → C) → A ⊎ B → C
+either left right (inl a) = left a
+either left right (inr b) = right b
+
+pub claims-hold : (words : List (List ℕ)) (left : Option (List ℕ)) → AreSafe → WhereGenerated words IsSafe → Claims words left
+claims-hold words left safe generated =
+    record {
+      holder = λ d replays premise. safe.holder replays.bytes d replays.read premise;
+      exclusive = λ d replays premise. safe.exclusive replays.bytes d replays.read premise;
+      spacing = λ d replays premise. safe.spacing replays.bytes d replays.read premise;
+      not_early = λ d replays. safe.not_early d;
+      prompt = λ d replays. safe.prompt d;
+      safe = generated;
+      safe_state = λ d beat shows premise. record {
+        holder = safe.holder shows.bytes d shows.read premise;
+        exclusive = safe.exclusive shows.bytes d shows.read premise;
+        spacing = safe.spacing shows.bytes d shows.read premise;
+        not_early = safe.not_early d;
+        prompt = safe.prompt d;
+      };
+    }

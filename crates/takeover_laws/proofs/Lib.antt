@@ -1,0 +1,10 @@
+pub mod Fresh
+pub mod Standing
+pub mod Rounds
+pub mod Deliveries
+pub mod Writers
+pub mod Records
+pub mod Acting
+pub mod Unasked
+pub mod Asking
+pub mod Taking

@@ -1,0 +1,5 @@
+pub mod Calm
+pub mod Rounds
+pub mod Acting
+pub mod Asking
+pub mod Taking
