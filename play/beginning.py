@@ -60,7 +60,7 @@ def known():
     place = os.path.join(TOP, *(['document.schema.json'] if IS_INSTALLED else ['docs', 'document.schema.json']))
     parts = json.loads(read(place))['$defs']
     return {'settings': parts['settings2']['properties'], 'controller': parts['controller2']['properties'], 'kubelet': parts['kubelet']['properties'],
-            'flags': {key: flag for flag, (key, _, _) in cluster_flags.FLAGS.items()}}
+            'flags': {key: flag for flag, (key, *_) in cluster_flags.FLAGS.items()}}
 
 
 def title(path):

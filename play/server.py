@@ -1,6 +1,7 @@
 """The server of the playground: a page, and what it asks, on the loopback interface alone."""
 import json
 import socket
+import sys
 import threading
 from http.server import BaseHTTPRequestHandler, ThreadingHTTPServer
 
@@ -55,7 +56,9 @@ class Server(ThreadingHTTPServer):
         super().shutdown_request(request)
 
     def handle_error(self, request, client_address):
-        """A connection that breaks off is nobody's fault."""
+        """A connection that breaks off is nobody's fault, and isn't told."""
+        if not isinstance(sys.exc_info()[1], (ConnectionError, TimeoutError)):
+            super().handle_error(request, client_address)
 
 
 class Handler(BaseHTTPRequestHandler):
@@ -105,6 +108,9 @@ class Handler(BaseHTTPRequestHandler):
             self.reply(200, JSON, self.server.workers.ask(document, int(at) if at.isascii() and at.isdigit() and len(at) < 10 else 0, self.connection))
         except Ended as ended:
             self.reply(200, JSON, json.dumps({'ended': str(ended)}).encode())
+
+    def log_message(self, *_):
+        """Nothing is told of requests: their paths have the secret."""
 
     def send_error(self, code, message=None, explain=None):
         """What http.server itself refuses: the same short words, with no page."""

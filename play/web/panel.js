@@ -74,9 +74,11 @@ export class Panel {
 
   // Upstream's defaults. How long a call waits has none of its own there: it is the renew deadline, in newer versions half of it.
   marks(key, fallback) {
-    if (key === 'restartMillis') return [{ value: fallback, words: "this project's default" }];
+    const own = { value: fallback, words: "this project's default" };
+    if (key === 'restartMillis') return [own];
+    if (key === 'gracePeriodMillis') return [{ value: fallback, words: 'default of Kubernetes before 1.32' }, { value: 50000, words: 'default of Kubernetes from 1.32 on' }];
     if (key !== 'callTimeoutMillis') return [{ value: fallback, words: KUBERNETES }];
-    return [{ value: fallback, words: "this project's default" }, { value: 5000, words: 'newer Kubernetes: half the renew deadline' }, { value: 10000, words: 'Kubernetes 1.20: the renew deadline' }];
+    return [own, { value: 5000, words: 'newer Kubernetes: half the renew deadline' }, { value: 10000, words: 'Kubernetes 1.20: the renew deadline' }];
   }
 
   fastRenew() {
