@@ -84,7 +84,8 @@ def slide(person, label, share):
 
 def enter(person, label, value):
     """Writes a number into the field of a setting."""
-    person.run('(() => { const e = %s.querySelector("input[type=number]"); for (let d = e.closest("details"); d; d = d.parentElement.closest("details")) d.open = true; e.scrollIntoView({ block: "center" }); e.focus(); e.select(); })()' % dial(label))
+    person.run('(() => { const e = %s.querySelector("input[type=number]"); for (let d = e.closest("details"); d; d = d.parentElement.closest("details")) d.open = true;'
+               ' e.scrollIntoView({ block: "center" }); e.focus(); e.select(); })()' % dial(label))
     for letter in str(value):
         person.strike(letter, letter)
     person.strike('Tab')
@@ -111,7 +112,7 @@ def test_examples(person, served, pictures):
         with open(os.path.join(TOP, 'examples', name, 'trace.txt'), encoding='utf-8') as file:
             same('trace of ' + name, person.run('timeline.model.text'), file.read())
         same_trace(name, person)
-        same('marks of ' + name, person.run('playground.marks.buttons.filter(e => !e.hidden).length + playground.marks.hidden > 0'), person.run('playground.events.some(e => e.process)'))
+        same('marks of ' + name, person.run('playground.marks.buttons.some(e => !e.hidden)'), person.run('playground.events.some(e => e.process)'))
 
 
 def test_kill_leader(person, served, pictures):
@@ -120,7 +121,8 @@ def test_kill_leader(person, served, pictures):
     before = person.run('playground.document')
     leader = person.run('timeline.model.terms[0].lane.name')
     person.click(*person.spot('controller ' + leader, 40))
-    true('the menu tells the moment', '(beat 4' in person.run('document.getElementById("menu").getAttribute("aria-label")') or '(beat 3' in person.run('document.getElementById("menu").getAttribute("aria-label")'))
+    title = person.run('document.getElementById("menu").getAttribute("aria-label")')
+    true('the menu tells the moment: ' + title, re.fullmatch(leader + r' at (3\.9|4|4\.1) s \(beat (39|40|41)\)', title))
     person.press_words('crash', 'document.getElementById("menu")')
     document = same_trace('the leader is killed', person)
     event = document['events'][-1]
@@ -178,7 +180,8 @@ def test_freeze_node(person, served, pictures):
 def test_marks(person, served, pictures):
     """An event is dragged along its lane, moved by keys, changed, and taken away."""
     load(person, 'leader-crashes')
-    marks = lambda: person.run('playground.marks.buttons.filter(e => !e.hidden).map(e => { const b = e.getBoundingClientRect(); return [b.left + b.width / 2, b.top + b.height / 2, e.eventPlace]; })')
+    marks = lambda: person.run('playground.marks.buttons.filter(e => !e.hidden).map(e => { const b = e.getBoundingClientRect();'
+                               ' return [b.left + b.width / 2, b.top + b.height / 2, e.eventPlace]; })')
     same('two marks', len(marks()), 2)
     x, y, _ = marks()[0]
     old = person.run('playground.events[0].beat')
@@ -211,14 +214,14 @@ def test_marks(person, served, pictures):
 
 def test_acts(person, served, pictures):
     """Each act of the menu makes a document that is accepted, on a controller, a node, a zone and on who leads."""
-    for example, lane, beat in (('zone-lost', 'controller cp-1', 60), ('zone-lost', 'node node-a1', 60), ('zone-lost', 'zone eu-1/eu-1b', 60), ('zone-lost', 'controller who leads', 60)):
-        load(person, example)
-        person.click(*person.spot(lane, beat))
+    for lane in ('controller cp-1', 'node node-a1', 'zone eu-1/eu-1b', 'controller who leads'):
+        load(person, 'zone-lost')
+        person.click(*person.spot(lane, 60))
         words = person.run('[...document.querySelectorAll("#menu button")].map(e => e.textContent)')
         true('acts on ' + lane, len(words) >= 4)
         person.strike('Escape')
         for word in words:
-            person.click(*person.spot(lane, beat))
+            person.click(*person.spot(lane, 60))
             before = person.run('playground.events.length')
             person.press_words(word, 'document.getElementById("menu")')
             document = same_trace(lane + ': ' + word, person)
@@ -233,16 +236,20 @@ def test_settings(person, served, pictures):
     """Each setting is changed, and its default's mark sets it back; timings of a controller make version 2."""
     load(person, 'zone-lost')
     labels = person.run('playground.panel.dials.map(dial => dial.label)')
-    for flag in ('--leader-elect-lease-duration', '--leader-elect-renew-deadline', '--leader-elect-retry-period', '--node-monitor-period', '--node-monitor-grace-period', '--node-startup-grace-period',
-                 '--node-eviction-rate', '--secondary-node-eviction-rate', '--large-cluster-size-threshold', '--unhealthy-zone-threshold'):
-        true('a dial for ' + flag, flag in labels)
-    for label, value, key, wanted in (('--node-monitor-grace-period', 20, 'gracePeriodMillis', 20_000), ('--node-eviction-rate', 0.5, 'primaryRate', 500), ('--unhealthy-zone-threshold', 0.3, 'unhealthyPercent', 30),
-                                      ('call timeout', 1.5, 'callTimeoutMillis', 1_500), ('--large-cluster-size-threshold', 3, 'largeZone', 3), ("kubelet's nodeLeaseDurationSeconds", 20, 'nodeLeaseDurationSeconds', 20)):
+    for flag in ('leader-elect-lease-duration', 'leader-elect-renew-deadline', 'leader-elect-retry-period', 'node-monitor-period', 'node-monitor-grace-period',
+                 'node-startup-grace-period', 'node-eviction-rate', 'secondary-node-eviction-rate', 'large-cluster-size-threshold', 'unhealthy-zone-threshold'):
+        true('a dial for ' + flag, '--' + flag in labels)
+    for label, value, key, wanted in (('--node-monitor-grace-period', 20, 'gracePeriodMillis', 20_000), ('--node-eviction-rate', 0.5, 'primaryRate', 500),
+                                      ('--unhealthy-zone-threshold', 0.3, 'unhealthyPercent', 30), ('call timeout', 1.5, 'callTimeoutMillis', 1_500),
+                                      ('--large-cluster-size-threshold', 3, 'largeZone', 3), ("kubelet's nodeLeaseDurationSeconds", 20, 'nodeLeaseDurationSeconds', 20)):
         enter(person, label, value)
         same(label, same_trace(label, person)['settings'][key], wanted)
     person.run('(() => { const e = %s.querySelector(".default"); e.click(); })()' % dial('--node-monitor-grace-period'))
     same('back at the default', same_trace('default', person)['settings']['gracePeriodMillis'], 40_000)
     same('version', person.run('playground.document.version'), 1)
+    enter(person, '--leader-elect-renew-deadline', 8)
+    defaults = person.run('[...%s.querySelectorAll(".default")].map(e => /[0-9.]+ s$/.exec(e.getAttribute("aria-label"))[0])' % dial('call timeout'))
+    same("upstream's call timeouts go with the renew deadline", defaults, ['2 s', '4 s', '8 s'])
     for label, value, key, wanted in (('clock off by', 5, 'ratePpm', 1_050_000), ('clock ahead by', -3, 'offsetMillis', -3_000), ('retry period', 1, 'retryPeriodMillis', 1_000)):
         enter(person, label, value)
         same(label, same_trace(label, person)['controllers'][0][key], wanted)
@@ -252,9 +259,8 @@ def test_settings(person, served, pictures):
     person.run('(() => { const e = playground.panel.policy; e.value = "gentle"; e.dispatchEvent(new Event("change")); })()')
     same('rate policy', same_trace('policy', person)['settings']['ratePolicy'], 'gentle')
     load(person, 'tolerations')
-    group = person.run('playground.panel.dials.find(dial => dial.isOfPods && dial.get(playground.document) === 300).label')
-    enter(person, group, 45) if person.run('playground.panel.dials.filter(dial => dial.label === %r).length === 1' % group) else person.run(
-        '(() => { const dial = playground.panel.dials.find(dial => dial.isOfPods && dial.get(playground.document) === 300); dial.number.value = "45"; dial.number.dispatchEvent(new Event("input")); dial.number.dispatchEvent(new Event("change")); })()')
+    person.run('(() => { const dial = playground.panel.dials.find(dial => dial.isOfPods && dial.get(playground.document) === 300);'
+               ' dial.number.value = "45"; for (const name of ["input", "change"]) dial.number.dispatchEvent(new Event(name)); })()')
     document = same_trace('tolerations', person)
     pod = next(item for item in document['objects']['items'] if item['kind'] == 'Pod' and item['metadata']['name'] == 'five-minutes')
     same('seconds', sorted({each['tolerationSeconds'] for each in pod['spec']['tolerations'] if 'tolerationSeconds' in each}), [45])
@@ -269,13 +275,15 @@ def test_refused(person, served, pictures):
     true('greyed', person.run(stale))
     same('the last good picture', person.run('timeline.model.text'), trace)
     said = person.run('%s.querySelector(".error").textContent' % dial('--leader-elect-renew-deadline'))
-    wanted = person.run('new Promise(done => fetch("run", { method: "POST", headers: { "Content-Type": "application/json" }, body: JSON.stringify(playground.document) }).then(r => r.json()).then(a => done(a.refused.why.trim())))')
+    wanted = person.run('fetch("run", { method: "POST", headers: { "Content-Type": "application/json" }, body: JSON.stringify(playground.document) })'
+                        '.then(reply => reply.json()).then(answer => answer.refused.why.trim())')
     same('the sentence at the control', said, wanted)
     true('and it says something', len(said) > 20)
     if pictures:
         person.picture(os.path.join(pictures, 'refused.png'))
     enter(person, '--leader-elect-renew-deadline', 12)
-    same('good again', (person.run(stale), person.run('%s.querySelector(".error").hidden' % dial('--leader-elect-renew-deadline')), person.run('document.getElementById("trouble").hidden')), (False, True, True))
+    hidden = person.run('[%s.querySelector(".error").hidden, document.getElementById("trouble").hidden]' % dial('--leader-elect-renew-deadline'))
+    same('good again', (person.run(stale), hidden), (False, [True, True]))
     same_trace('good again', person)
     enter(person, '--leader-elect-lease-duration', 0)
     true('out of range', person.run(stale))
@@ -301,7 +309,8 @@ def test_pin(person, served, pictures):
     said = person.run('document.querySelectorAll("#answers .card")[1].textContent')
     true('the difference is told: ' + said, 'pinned: %g s (+%g s)' % (longest / 10, (now - longest) / 10) in said)
     true('what was changed is told', '--leader-elect-lease-duration default → 18 s' in person.run('document.getElementById("pinned-title").textContent'))
-    same('both are drawn over the same time', person.run('(() => { timeline.chart.setWindow(50, 150); timeline.drawNow(); return [timeline.pinned.from, timeline.pinned.to]; })()'), [50, 150])
+    person.run('timeline.chart.setWindow(50, 150), timeline.drawNow()')
+    same('both are drawn over the same time', person.run('[timeline.pinned.from, timeline.pinned.to]'), [50, 150])
     person.press('#pin')
     person.frame()
     same('let go', person.run('[document.getElementById("pinned-holder").hidden, playground.pinned]'), [True, None])
@@ -461,8 +470,9 @@ def test_keyboard(person, served, pictures):
     for _ in range(5):
         person.strike('z', modifiers=CONTROL)
     same('undone', same_trace('undone by keys', person).get('events', []), [])
-    names = person.run('[...document.querySelectorAll("button, input, select, textarea")].filter(e => e.offsetParent && !(e.textContent.trim() || e.getAttribute("aria-label") || e.title || (e.labels && e.labels.length))).map(e => e.outerHTML.slice(0, 100))')
-    same('controls without a name', names, [])
+    nameless = person.run('[...document.querySelectorAll("button, input, select, textarea")].filter(e => e.offsetParent)'
+                          '.filter(e => !(e.textContent.trim() || e.getAttribute("aria-label") || e.title || (e.labels && e.labels.length))).map(e => e.outerHTML.slice(0, 100))')
+    same('controls without a name', nameless, [])
 
 
 def luminance(colour):
@@ -474,7 +484,8 @@ def luminance(colour):
 CONTRASTS = '''(() => {
   const back = e => { for (; e; e = e.parentElement) { const c = getComputedStyle(e).backgroundColor; if (c !== 'rgba(0, 0, 0, 0)') return c; } return 'rgb(255, 255, 255)'; };
   const own = e => [...e.childNodes].some(n => n.nodeType === 3 && n.data.trim());
-  return [...document.querySelectorAll('body *')].filter(e => own(e) && e.offsetParent && !e.disabled && e.tagName !== 'OPTION').map(e => [e.textContent.trim().slice(0, 40), getComputedStyle(e).color, back(e)]);
+  const all = [...document.querySelectorAll('body *')].filter(e => own(e) && e.offsetParent && !e.disabled && e.tagName !== 'OPTION');
+  return all.map(e => [e.textContent.trim().slice(0, 40), getComputedStyle(e).color, back(e)]);
 })()'''
 
 
@@ -496,7 +507,8 @@ def test_looks(person, served, pictures):
         person.size(width, height, 4 if width == 320 else 1)
         person.frame()
         same('%d by %d: nothing is cut at the side' % (width, height), person.run('document.documentElement.scrollWidth <= innerWidth'), True)
-        out = person.run('[...document.querySelectorAll("button, input, select, summary")].filter(e => e.offsetParent && !e.classList.contains("mark") && !e.closest("#menu")).filter(e => { const b = e.getBoundingClientRect(); return b.right > innerWidth + 1 || b.left < -1; }).map(e => e.outerHTML.slice(0, 80))')
+        out = person.run('[...document.querySelectorAll("button, input, select, summary")].filter(e => e.offsetParent && !e.classList.contains("mark") && !e.closest("#menu"))'
+                         '.filter(e => { const b = e.getBoundingClientRect(); return b.right > innerWidth + 1 || b.left < -1; }).map(e => e.outerHTML.slice(0, 80))')
         same('%d by %d: controls past the edge' % (width, height), out, [])
         if width != 320:
             true('%d by %d: the picture has room' % (width, height), person.run('timeline.scroller.clientHeight') >= .3 * height)
@@ -506,12 +518,21 @@ def test_looks(person, served, pictures):
     person.frame()
     person.run('document.getElementById("scroller").scrollIntoView()')
     person.click(*person.spot('controller cm-b', 60))
-    true('the menu fits', person.run('(() => { const b = document.getElementById("menu").getBoundingClientRect(); return b.left >= 0 && b.right <= innerWidth && b.top >= 0 && b.bottom <= innerHeight; })()'))
+    true('the menu fits', person.run('(b => b.left >= 0 && b.right <= innerWidth && b.top >= 0 && b.bottom <= innerHeight)(document.getElementById("menu").getBoundingClientRect())'))
     if pictures:
         person.picture(os.path.join(pictures, 'zoomed-menu.png'))
     person.press_words('crash', 'document.getElementById("menu")')
     same_trace('at 400 %', person)
     person.size(1280, 800)
+
+
+# One of the marks, the buttons of the menu and the sliders, and where it stands.
+HANDLES = '''(() => {
+  const all = [...document.querySelectorAll('.mark:not([hidden]), #menu:not([hidden]) button, .dial input[type=range]')].filter(e => e.offsetParent || e.closest('#menu'));
+  if (!all.length) return null;
+  const b = all[%d %% all.length].getBoundingClientRect();
+  return [b.left + b.width / 2, b.top + b.height / 2];
+})()'''
 
 
 def test_random(person, served, pictures, clicks=500):
@@ -528,12 +549,12 @@ def test_random(person, served, pictures, clicks=500):
         elif choice < .75:
             person.drag(x, y, dice.randint(-300, 300), dice.randint(-60, 60))
         elif choice < .85:
-            spot = person.run('(() => { const all = [...document.querySelectorAll(".mark:not([hidden]), #menu:not([hidden]) button, .dial input[type=range]")].filter(e => e.offsetParent || e.closest("#menu"));'
-                              ' if (!all.length) return null; const e = all[%d %% all.length], b = e.getBoundingClientRect(); return [b.left + b.width / 2, b.top + b.height / 2]; })()' % dice.randint(0, 10**6))
+            spot = person.run(HANDLES % dice.randint(0, 10**6))
             if spot and 0 <= spot[0] < 1280 and 0 <= spot[1] < 800:
                 person.drag(*spot, dice.randint(-80, 80), 0)
         elif choice < .93:
-            person.strike(*dice.choice([('Escape', ''), ('Enter', ''), ('Tab', ''), ('j', 'j'), ('l', 'l'), ('n', 'n'), ('g', 'g'), ('+', '+'), ('-', '-'), ('0', '0'), ('ArrowRight', ''), ('Delete', '')]))
+            key = dice.choice(['Escape', 'Enter', 'Tab', 'ArrowRight', 'Delete', *'jlng+-0'])
+            person.strike(key, key if len(key) == 1 else '')
         elif choice < .97:
             person.wheel(x, y, 0, dice.randint(-200, 200), modifiers=dice.choice((0, CONTROL, SHIFT)))
         else:
@@ -571,7 +592,7 @@ def measured(person, served, change, limit, count):
     true('within %d ms (%.0f, %.0f, %.0f)' % (limit, middle, late, cost), cost <= limit if load > os.cpu_count() else late <= limit)
 
 
-LEASE = 'i => { const dial = playground.panel.dials[0]; dial.number.value = 16 + i %% %d; dial.number.dispatchEvent(new Event("input")); dial.number.dispatchEvent(new Event("change")); }'
+LEASE = 'i => { const { number } = playground.panel.dials[0]; number.value = 16 + i %% %d; for (const name of ["input", "change"]) number.dispatchEvent(new Event(name)); }'
 
 
 def test_speed(person, served, pictures):
@@ -593,7 +614,8 @@ def large():
     nodes = [{'apiVersion': 'v1', 'kind': 'Node', 'metadata': {'name': 'node-%d' % i, 'labels': labels(i)}} for i in range(1_000)]
     keys = ('node.kubernetes.io/not-ready', 'node.kubernetes.io/unreachable')
     tolerations = [{'key': key, 'operator': 'Exists', 'effect': 'NoExecute', 'tolerationSeconds': 30} for key in keys]
-    pods = [{'apiVersion': 'v1', 'kind': 'Pod', 'metadata': {'name': 'web-%d' % i, 'namespace': 'shop'}, 'spec': {'nodeName': 'node-%d' % (i % 1_000), 'tolerations': tolerations}} for i in range(30_000)]
+    pods = [{'apiVersion': 'v1', 'kind': 'Pod', 'metadata': {'name': 'web-%d' % i, 'namespace': 'shop'},
+             'spec': {'nodeName': 'node-%d' % (i % 1_000), 'tolerations': tolerations}} for i in range(30_000)]
     events = [{'beat': 15, 'type': 'crash', 'process': 'kubelet/node-%d' % i} for i in range(0, 200, 10)] + [{'beat': 100, 'type': 'crash', 'process': 'cp-1'}]
     return {'version': 1, 'settings': {'endBeat': 600, 'beatMillis': 1_000}, 'controllers': [{'name': 'cp-%d' % i} for i in (1, 2, 3)],
             'kubelets': [{'node': 'node-%d' % i} for i in range(1_000)], 'objects': {'apiVersion': 'v1', 'kind': 'List', 'items': nodes + pods}, 'events': events}

@@ -114,7 +114,8 @@ class ServerTest(unittest.TestCase):
         self.assertEqual(self.ask('', 'GET', Host='localhost:%d' % self.served.port)[0], 200)
 
     def test_other_origin(self):
-        for origin in ('null', 'http://evil.example', 'https://127.0.0.1:%d' % self.served.port, 'http://127.0.0.1:%d' % (self.served.port % 65535 + 1), 'http://127.0.0.1', self.served.origin + '/'):
+        other = 'http://127.0.0.1:%d' % (self.served.port % 65535 + 1)
+        for origin in ('null', 'http://evil.example', 'https://127.0.0.1:%d' % self.served.port, other, 'http://127.0.0.1', self.served.origin + '/'):
             self.assertEqual(self.ask(Origin=origin)[0], 403, origin)
             self.assertEqual(self.ask('document', 'GET', Origin=origin)[0], 403, origin)
         self.assertEqual(self.ask(without=('Origin',))[0], 403)
@@ -275,7 +276,7 @@ class CommandTest(unittest.TestCase):
     """The words of ./playground."""
 
     def run_words(self, *words, **place):
-        return subprocess.run([os.path.join(TOP, 'playground'), *words], stdout=subprocess.PIPE, stderr=subprocess.PIPE, text=True, env={**os.environ, **place}, timeout=60, check=False)
+        return subprocess.run([os.path.join(TOP, 'playground'), *words], capture_output=True, text=True, env={**os.environ, **place}, timeout=60, check=False)
 
     def test_words_at_fault(self):
         for words, status, said in ((['nowhere.json'], 1, "nowhere.json can't be read"), (['--kubectl', 'x.json'], 2, 'two beginnings'), (['--', '--kill', 'x'], 2, 'are for --kubectl'),
@@ -299,7 +300,7 @@ class CommandTest(unittest.TestCase):
                 connection.request('GET', '/%s/document' % served.secret)
                 told = connection.getresponse().read()
             with open(os.path.join(TOP, 'tools', 'data', 'cluster.json'), 'rb') as listed:
-                made = subprocess.run([os.path.join(TOP, 'tools', 'from-cluster'), '--kill', 'worker-1@60s'], stdin=listed, stdout=subprocess.PIPE, stderr=subprocess.DEVNULL, check=True)
+                made = subprocess.run([os.path.join(TOP, 'tools', 'from-cluster'), '--kill', 'worker-1@60s'], stdin=listed, capture_output=True, check=True)
             self.assertEqual(told, made.stdout)
             with open(path, 'w', encoding='utf-8') as file:
                 file.write('#!/bin/sh\nexit 3\n')

@@ -21,7 +21,8 @@ function differs(now, then, tell) {
 }
 
 function card(title, value, rest, name, more) {
-  return make('div', { className: 'card ' + (name || '') }, make('h3', {}, title), make('p', { className: 'value' }, value), make('p', { className: 'rest' }, ...[].concat(rest || [])), more || null);
+  return make('div', { className: 'card ' + (name || '') }, make('h3', {}, title), make('p', { className: 'value' }, value),
+    make('p', { className: 'rest' }, rest), more || null);
 }
 
 const UNKNOWN = '–', NO_LENS = 'needs the built program kube_lens';
@@ -38,7 +39,7 @@ export class Answers {
   leaders(answer, pinned) {
     const yes = isRuledOut(answer), two = twoLead(answer), then = pinned.trace === undefined ? null : isRuledOut(pinned);
     const tell = ruled => (ruled ? 'ruled out' : 'not ruled out');
-    const rest = [yes ? 'premise=yes, whatever the network does' : 'premise=no: nothing is promised'];
+    const rest = yes ? 'premise=yes, whatever the network does' : 'premise=no: nothing is promised';
     const parts = [then === null ? null : differs(tell(yes), tell(then), words => words)];
     if (two) parts.unshift(make('button', { type: 'button', className: 'loud', onclick: () => this.host.goToOverlap() }, 'two lead for ' + time(two) + ' here'));
     else if (two === 0 && !yes) parts.unshift(make('span', {}, 'not here: two lead for 0 s'));
@@ -47,7 +48,8 @@ export class Answers {
 
   leaderless(answer, pinned) {
     const most = longest(answer), open = atEnd(answer), isOpen = most !== null && open > 0;
-    const rest = most === null ? NO_LENS : (isOpen ? 'and at the end of the run, for ' + time(open) + ' so far; ' : 'at longest; ') + time(sum(answer)) + ' in all, ' + plural(answer.summary.terms, 'term');
+    const where = isOpen ? 'and at the end of the run, for ' + time(open) + ' so far; ' : 'at longest; ';
+    const rest = most === null ? NO_LENS : where + time(sum(answer)) + ' in all, ' + plural(answer.summary.terms, 'term');
     const value = most === null ? UNKNOWN : (open === most && isOpen ? 'over ' : '') + time(most);
     const longer = isOpen ? make('button', { type: 'button', onclick: () => this.host.runLonger() }, 'run twice as long') : null;
     const parts = [differs(most, pinned.trace ? longest(pinned) : null, time), longer].filter(Boolean);
@@ -56,7 +58,8 @@ export class Answers {
 
   evictions(answer, pinned) {
     const number = evicted(answer);
-    return card('Pods evicted', number === null ? UNKNOWN : count(number), number === null ? NO_LENS : lateWords(answer.summary), '', differs(number, pinned.trace ? evicted(pinned) : null, count));
+    const rest = number === null ? NO_LENS : lateWords(answer.summary);
+    return card('Pods evicted', number === null ? UNKNOWN : count(number), rest, '', differs(number, pinned.trace ? evicted(pinned) : null, count));
   }
 
   // The room of each controller's lease. Controllers with the same room share a row.
@@ -75,7 +78,8 @@ export class Answers {
     const who = rows === 1 && names.length > 1 ? 'all ' + names.length : names.join(', '), isShort = longestStallMillis === null;
     const then = pinned.margin && pinned.margin.controllers.find(each => each.name === names[0]);
     const room = isShort ? time(-slackMillis) + ' too short' : time(slackMillis) + ' to spare';
-    return make('tr', { className: isShort ? 'bad' : 'good' }, make('th', { scope: 'row' }, who), make('td', {}, room, then && then.slackMillis !== slackMillis ? make('span', { className: 'differs' }, ' (was ' + time(then.slackMillis) + ')') : ''),
+    const was = then && then.slackMillis !== slackMillis ? make('span', { className: 'differs' }, ' (was ' + time(then.slackMillis) + ')') : '';
+    return make('tr', { className: isShort ? 'bad' : 'good' }, make('th', { scope: 'row' }, who), make('td', {}, room, was),
       make('td', {}, 'lease ' + time(leaseMillis) + (leastLeaseSeconds === null ? ', and none up to a day would do' : ', least ' + leastLeaseSeconds + ' s')),
       make('td', {}, isShort ? '' : 'bears a stall of ' + time(longestStallMillis)));
   }

@@ -25,19 +25,24 @@ export class Dial {
       input.addEventListener('input', () => this.tell(input));
       input.addEventListener('change', () => this.host.keep(this.label));
     }
-    const track = make('div', { className: 'track' }, this.range, ...(this.marks || []).map(mark => this.mark(mark)));
+    this.defaults = (this.marks || []).map(mark => this.mark(mark));
     return make('div', { className: 'dial', title: this.help }, make('label', { htmlFor: id }, this.label),
-      make('span', { className: 'value' }, this.number, make('span', { className: 'unit' }, this.unit)), track, this.error);
+      make('span', { className: 'value' }, this.number, make('span', { className: 'unit' }, this.unit)),
+      make('div', { className: 'track' }, this.range, ...this.defaults.map(({ button }) => button)), this.error);
   }
 
-  // A mark under the slider at a default, which sets it.
+  // A mark under the slider at a default, which sets it. A default may depend on the document.
   mark({ value, words }) {
-    const [least, most] = this.slider, share = Math.max(0, Math.min(1, (value / this.scale - least) / (most - least)));
-    const button = make('button', { type: 'button', className: 'default', title: words + ': ' + short(value / this.scale) + ' ' + this.unit + '; sets it' }, '▲');
-    button.setAttribute('aria-label', this.label + ': ' + words + ', ' + short(value / this.scale) + ' ' + this.unit);
-    button.style.setProperty('--share', share);
-    button.onclick = () => { this.host.preview(this.set(this.host.document, value), this); this.host.keep(this.label); };
-    return button;
+    const of = typeof value === 'function' ? value : () => value;
+    const set = () => { this.host.preview(this.set(this.host.document, of(this.host.document)), this); this.host.keep(this.label); this.sync(this.host.document); };
+    return { of, words, button: make('button', { type: 'button', className: 'default', onclick: set }, '▲') };
+  }
+
+  syncDefault({ of, words, button }, document) {
+    const [least, most] = this.slider, value = of(document) / this.scale, told = words + ', ' + short(value) + ' ' + this.unit;
+    button.style.setProperty('--share', Math.max(0, Math.min(1, (value - least) / (most - least))));
+    button.title = told + '; sets it';
+    button.setAttribute('aria-label', this.label + ': ' + told);
   }
 
   tell(input) {
@@ -53,6 +58,7 @@ export class Dial {
     const value = this.get(document) / this.scale, written = Number.isFinite(value) ? short(value) : '';
     this.range.value = Math.min(value, this.slider[1]);
     if (this.number !== window.document.activeElement || Number(this.number.value) !== value) this.number.value = written;
+    for (const each of this.defaults) this.syncDefault(each, document);
     this.row.classList.toggle('changed', this.first !== undefined && this.first !== this.get(document));
   }
 

@@ -53,7 +53,8 @@ export class Drawing {
   }
 
   box(x, y, width, height, more) {
-    this.parts.push('<rect x="' + round(this.x + x) + '" y="' + round(this.y + y) + '" width="' + round(Math.max(0, width)) + '" height="' + round(Math.max(0, height)) + '" ' + more + '/>');
+    const [wide, high] = [width, height].map(length => round(Math.max(0, length)));
+    this.parts.push('<rect x="' + round(this.x + x) + '" y="' + round(this.y + y) + '" width="' + wide + '" height="' + high + '" ' + more + '/>');
   }
 
   fillRect(x, y, width, height) { this.box(x, y, width, height, 'fill="' + escaped(this.fillStyle) + '"'); }
@@ -94,6 +95,7 @@ export function drawn(chart, title) {
   const definitions = [], paints = new DrawnPaints(getComputedStyle(document.documentElement), definitions), c = new Drawing(definitions);
   const { width } = chart, height = Math.min(MOST_HEIGHT, chart.height + 54);
   chart.draw(c, paints, 0, height, { cursor: null, lane: null, beat: null, found: new Set() });
-  return '<svg xmlns="http://www.w3.org/2000/svg" width="' + width + '" height="' + height + '" viewBox="0 0 ' + width + ' ' + height +
-    '" font-family="system-ui, \'DejaVu Sans\', sans-serif">\n<title>' + escaped(title) + '</title>\n<defs>\n' + definitions.join('\n') + '\n</defs>\n' + c.text + '\n</svg>\n';
+  const head = '<svg xmlns="http://www.w3.org/2000/svg" width="' + width + '" height="' + height + '" viewBox="0 0 ' + width + ' ' + height +
+    '" font-family="system-ui, \'DejaVu Sans\', sans-serif">';
+  return [head, '<title>' + escaped(title) + '</title>', '<defs>', ...definitions, '</defs>', c.text, '</svg>', ''].join('\n');
 }

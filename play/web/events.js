@@ -24,16 +24,19 @@ export class EventList {
     if (this.shown === events || (isOpen && this.host.isDragging)) return;
     this.shown = events;
     this.rows.replaceChildren(...events.slice(0, MOST_ROWS).map((event, place) => this.row(document, event, place)));
-    this.more.textContent = events.length === 0 ? 'None. Click on a lane to make something happen.' : events.length > MOST_ROWS ? 'and ' + count(events.length - MOST_ROWS) + ' more, on the picture' : '';
+    const more = events.length > MOST_ROWS ? 'and ' + count(events.length - MOST_ROWS) + ' more, on the picture' : '';
+    this.more.textContent = events.length === 0 ? 'None. Click on a lane to make something happen.' : more;
     this.fillForm(document);
   }
 
   row(document, event, place) {
-    const at = make('input', { type: 'number', step: 'any', min: 0, value: short(event.beat * beatMillis(document) / 1000), 'aria-label': 'at, s: ' + subject(event) + ' ' + event.type });
+    const at = make('input', { type: 'number', step: 'any', min: 0, value: short(event.beat * beatMillis(document) / 1000) });
+    at.setAttribute('aria-label', 'at, s: ' + subject(event) + ' ' + event.type);
     at.onchange = () => this.move(place, Number(at.value));
     const fields = (FIELDS[event.type] || []).map(field => fieldInput(field.label, field.get(event, document), field, value => this.set(place, field, value)));
     const words = subject(event) + ' ' + TOLD[event.type](event, document);
-    const remove = make('button', { type: 'button', title: 'take it away', onclick: () => this.host.change(withEvent(this.host.document, place, null)[0], 'an event taken away') }, '×');
+    const takeAway = () => this.host.change(withEvent(this.host.document, place, null)[0], 'an event taken away');
+    const remove = make('button', { type: 'button', title: 'take it away', onclick: takeAway }, '×');
     remove.setAttribute('aria-label', 'take away: ' + words);
     const more = fields.length ? make('details', {}, make('summary', {}, words), ...fields) : make('span', { className: 'words' }, words);
     return make('li', {}, make('span', { className: 'sign', 'aria-hidden': 'true' }, SIGNS[event.type]), at, make('span', { className: 'unit' }, 's'), more, remove);

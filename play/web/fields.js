@@ -4,7 +4,10 @@ import { make, short } from './words.js';
 
 export function fieldInput(label, value, { unit = '', step = 'any', least, most, isSwitch, words }, done) {
   const name = label + (unit ? ', ' + unit : '');
-  if (isSwitch) return make('label', { className: 'row' }, make('input', { type: 'checkbox', checked: value, onchange: event => done(event.target.checked) }), ' ' + label);
+  if (isSwitch) {
+    const box = make('input', { type: 'checkbox', checked: value, onchange: event => done(event.target.checked) });
+    return make('label', { className: 'row' }, box, ' ' + label);
+  }
   if (words) {
     const select = make('select', { onchange: event => done(event.target.value) }, ...words.map(word => make('option', { value: word, selected: word === value }, word)));
     return make('label', { className: 'row' }, label + ' ', select);

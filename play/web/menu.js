@@ -22,8 +22,8 @@ export class Menu {
   openLane(lane, beat, spot) {
     const { document } = this.host, at = time(beat * beatMillis(document));
     const title = lane.name + ' at ' + at + ' (beat ' + beat + ')';
-    const rows = { controller: () => this.controllerRows(lane.name, beat), node: () => this.nodeRows(lane.name, beat), zone: () => this.zoneRows(lane.name, beat) }[lane.kind];
-    if (rows) this.open(title, rows(), spot);
+    const rows = { controller: this.controllerRows, node: this.nodeRows, zone: this.zoneRows }[lane.kind];
+    if (rows) this.open(title, rows.call(this, lane.name, beat), spot);
   }
 
   controllerRows(name, beat) {
@@ -40,7 +40,8 @@ export class Menu {
   }
 
   zoneRows(name, beat) {
-    const { document } = this.host, kubelets = nodesOf(document, name.startsWith('/ ') ? '/' : name).map(node => 'kubelet/' + node).filter(each => hasProcess(document, each));
+    const { document } = this.host, nodes = nodesOf(document, name.startsWith('/ ') ? '/' : name);
+    const kubelets = nodes.map(node => 'kubelet/' + node).filter(each => hasProcess(document, each));
     if (kubelets.length === 0) return [make('p', {}, 'The document has no kubelet in this zone.')];
     const acts = ACTS.filter(act => /^(kubelet|pause|slow|messages)/.test(act.words) && act.of.includes('node'));
     return acts.map(act => this.actRow({ ...act, words: 'all ' + kubelets.length + ': ' + act.words }, kubelets, beat));
@@ -48,7 +49,8 @@ export class Menu {
 
   // A row for an act: its numbers, and the button that does it.
   actRow(act, names, beat) {
-    const inputs = (act.asks || []).map(ask => make('input', { type: 'number', value: ask.value, step: 'any', 'aria-label': act.words + ' ' + ask.words + ', ' + ask.unit }));
+    const name = ask => act.words + ' ' + ask.words + ', ' + ask.unit;
+    const inputs = (act.asks || []).map(ask => make('input', { type: 'number', value: ask.value, step: 'any', 'aria-label': name(ask) }));
     const go = () => this.act(act, names, beat, inputs);
     for (const input of inputs) input.addEventListener('keydown', event => { if (event.key === 'Enter') go(); });
     const asked = (act.asks || []).flatMap((ask, i) => [ask.words + ' ', inputs[i], ' ' + ask.unit + ' ']);

@@ -76,9 +76,11 @@ export class Panel {
   marks(key, fallback) {
     const own = { value: fallback, words: "this project's default" };
     if (key === 'restartMillis') return [own];
-    if (key === 'gracePeriodMillis') return [{ value: fallback, words: 'default of Kubernetes before 1.32' }, { value: 50000, words: 'default of Kubernetes from 1.32 on' }];
+    if (key === 'gracePeriodMillis') return [{ value: fallback, words: KUBERNETES + ' before 1.32' }, { value: 50000, words: KUBERNETES + ' from 1.32 on' }];
     if (key !== 'callTimeoutMillis') return [{ value: fallback, words: KUBERNETES }];
-    return [own, { value: 5000, words: 'newer Kubernetes: half the renew deadline' }, { value: 10000, words: 'Kubernetes 1.20: the renew deadline' }];
+    const deadline = document => document.settings.renewDeadlineMillis ?? this.host.known.settings.renewDeadlineMillis.default;
+    return [own, { value: document => Math.round(deadline(document) / 2), words: 'newer Kubernetes: half the renew deadline' },
+      { value: deadline, words: 'Kubernetes 1.20: the renew deadline' }];
   }
 
   fastRenew() {
@@ -105,7 +107,8 @@ export class Panel {
       key('leaseDurationSeconds', { label: 'lease', unit: 's', slider: [1, 60, 1] }, setting('leaseDurationSeconds')),
       key('renewDeadlineMillis', { label: 'renew deadline', unit: 's', scale: 1000, slider: [0.5, 45, 0.5] }, setting('renewDeadlineMillis')),
       key('callTimeoutMillis', { label: 'call timeout', unit: 's', scale: 1000, slider: [0.1, 30, 0.1] }, setting('callTimeoutMillis')));
-    const retry = key('retryPeriodMillis', { label: 'retry period', unit: 's', scale: 1000, slider: [0.1, 15, 0.1], marks: [{ value: 2000, words: KUBERNETES }] }, setting('retryPeriodMillis'));
+    const retryShape = { label: 'retry period', unit: 's', scale: 1000, slider: [0.1, 15, 0.1], marks: [{ value: 2000, words: KUBERNETES }] };
+    const retry = key('retryPeriodMillis', retryShape, setting('retryPeriodMillis'));
     const offset = key('offsetMillis', { label: 'clock ahead by', unit: 's', scale: 1000, slider: [-60, 60, 0.5], marks: [{ value: 0, words: 'right' }] }, () => 0);
     return make('fieldset', {}, make('legend', {}, name), rate.row, offset, delay.row, retry, own);
   }
@@ -113,13 +116,15 @@ export class Panel {
   // The rate of a clock, shown as how much it is off, in per cent.
   rate(path, of, place) {
     const { minimum, maximum } = this.host.known.controller.ratePpm;
-    return this.dial({ label: 'clock off by', help: 'above 0 it is fast, below it is slow', unit: '%', scale: 1e4, slider: [-10, 10, 0.1], least: minimum - 1e6, most: maximum - 1e6, path: path + 'ratePpm',
-      marks: [{ value: 0, words: 'right' }], get: document => (of(document).ratePpm ?? 1e6) - 1e6, set: (document, value) => withController(document, place, 'ratePpm', 1e6 + value) });
+    return this.dial({ label: 'clock off by', help: 'above 0 it is fast, below it is slow', unit: '%', scale: 1e4, slider: [-10, 10, 0.1],
+      least: minimum - 1e6, most: maximum - 1e6, path: path + 'ratePpm', marks: [{ value: 0, words: 'right' }],
+      get: document => (of(document).ratePpm ?? 1e6) - 1e6, set: (document, value) => withController(document, place, 'ratePpm', 1e6 + value) });
   }
 
   delay(name) {
     const beat = () => beatMillis(this.host.document);
-    return this.dial({ label: 'messages take, each way', help: 'from the beginning on, until an event says another', unit: 'ms', slider: [beat(), 5000, beat()], least: beat(), most: 6000 * beat(), path: null,
+    return this.dial({ label: 'messages take, each way', help: 'from the beginning on, until an event says another', unit: 'ms',
+      slider: [beat(), 5000, beat()], least: beat(), most: 6000 * beat(), path: null,
       marks: [{ value: beat(), words: 'one beat' }], get: document => firstDelay(document, name).requestBeats * beatMillis(document),
       set: (document, value) => withFirstDelay(document, name, Math.max(1, Math.min(6000, Math.round(value / beatMillis(document))))) });
   }
@@ -132,18 +137,24 @@ export class Panel {
     const groups = toleranceGroups(document).slice(0, 12);
     const rows = groups.map(({ seconds, places }) => {
       const label = plural(places.length, 'pod') + (seconds === Infinity ? ' for ever' : '');
-      return Object.assign(this.dial({ label, help: 'how long they stay on a node that is silent (not-ready or unreachable)', unit: 's', slider: [0, 600, 5], least: 0, most: 1e9, path: null,
-        marks: [{ value: 300, words: 'what Kubernetes gives to pods without one' }], get: changed => tolerated(changed.objects.items[places[0]]), set: (changed, value) => withTolerance(changed, places, value) }), { isOfPods: true }).row;
+      const dial = this.dial({ label, help: 'how long they stay on a node that is silent (not-ready or unreachable)', unit: 's', slider: [0, 600, 5],
+        least: 0, most: 1e9, path: null, marks: [{ value: 300, words: 'what Kubernetes gives to pods without one' }],
+        get: changed => tolerated(changed.objects.items[places[0]]), set: (changed, value) => withTolerance(changed, places, value) });
+      dial.isOfPods = true;
+      return dial.row;
     });
-    this.pods.replaceChildren(make('summary', {}, 'Tolerations of the pods'), ...rows, ...(rows.length ? [] : [make('p', { className: 'hint' }, 'The document has no pods.')]));
+    const none = rows.length ? '' : make('p', { className: 'hint' }, 'The document has no pods.');
+    this.pods.replaceChildren(make('summary', {}, 'Tolerations of the pods'), ...rows, none);
   }
 
   run() {
     const { known } = this.host, length = beatMillis(this.host.document);
-    const end = this.dial({ label: 'runs for', unit: 's', scale: 1000 / length, slider: [length / 1000, Math.max(600, 2 * this.host.document.settings.endBeat * length / 1000), length / 1000],
-      least: 0, most: known.settings.endBeat.maximum, path: '/settings/endBeat', get: document => document.settings.endBeat, set: (document, value) => withSetting(document, 'endBeat', value) });
-    const beat = this.dial({ label: 'a beat is', help: 'all times of the run are whole beats; events keep their beats', unit: 'ms', slider: [1, 1000, 1], least: 1, most: 1000, path: '/settings/beatMillis',
-      marks: [{ value: 100, words: "this project's default" }], get: document => document.settings.beatMillis ?? 100, set: (document, value) => withSetting(document, 'beatMillis', value) });
+    const step = length / 1000, longest = Math.max(600, 2 * this.host.document.settings.endBeat * step);
+    const end = this.dial({ label: 'runs for', unit: 's', scale: 1 / step, slider: [step, longest, step], least: 0, most: known.settings.endBeat.maximum,
+      path: '/settings/endBeat', get: document => document.settings.endBeat, set: (document, value) => withSetting(document, 'endBeat', value) });
+    const beat = this.dial({ label: 'a beat is', help: 'all times of the run are whole beats; events keep their beats', unit: 'ms', slider: [1, 1000, 1],
+      least: 1, most: 1000, path: '/settings/beatMillis', marks: [{ value: 100, words: "this project's default" }],
+      get: document => document.settings.beatMillis ?? 100, set: (document, value) => withSetting(document, 'beatMillis', value) });
     return [end.row, beat.row];
   }
 

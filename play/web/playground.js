@@ -39,9 +39,11 @@ class Playground {
   // What stands between the elements of the picture.
   buildElements() {
     element('scroller').prepend(make('div', { id: 'marks' }));
-    element('scroller').before(make('div', { id: 'pinned-holder', hidden: true }, make('span', { id: 'pinned-title' }), make('canvas', { id: 'pinned', 'aria-label': 'the timeline of the pinned state' })));
+    const pinned = make('canvas', { id: 'pinned', 'aria-label': 'the timeline of the pinned state' });
+    element('scroller').before(make('div', { id: 'pinned-holder', hidden: true }, make('span', { id: 'pinned-title' }), pinned));
     const list = element('examples');
-    list.append(make('option', { value: '' }, '–'), ...this.examples.map(each => make('option', { value: each.name, title: each.sentence }, each.name + ' – ' + each.sentence)));
+    const option = each => make('option', { value: each.name, title: each.sentence }, each.name + ' – ' + each.sentence);
+    list.append(make('option', { value: '' }, '–'), ...this.examples.map(option));
   }
 
   listen() {

@@ -4,7 +4,7 @@ import { drawn } from './drawing.js';
 import { make, short } from './words.js';
 
 const MOST_IN_A_COMMAND = 4000;
-const SECONDS = /Millis$|Seconds$/;
+const SECONDS = /Millis$|Seconds$/, NO_FLAG = 'kube-controller-manager has no flag for that: it is its renew deadline, or half of it.';
 
 // The settings as kube-controller-manager's flags: those of the election, and all others that the document says.
 export function flagsOf(document, { flags, settings }) {
@@ -40,7 +40,7 @@ export class TakeAway {
         this.link('picture (SVG)', base + '.svg', drawn(chart, name), 'image/svg+xml')),
       make('h3', {}, 'The command that gives the same trace'), this.area('command', commandOf(command, text, base)),
       make('h3', {}, 'Flags of kube-controller-manager'), this.area('flags', flags.join(' ')),
-      make('p', { className: 'hint' }, 'Calls wait ' + timeout / 1000 + ' s for a reply here. kube-controller-manager has no flag for that: it is its renew deadline, or half of it.'),
+      make('p', { className: 'hint' }, 'Calls wait ' + timeout / 1000 + ' s for a reply here. ' + NO_FLAG),
       make('form', { method: 'dialog' }, make('button', {}, 'close')));
     this.dialog.showModal();
   }
