@@ -1,7 +1,7 @@
 #!/usr/bin/env python3
 """Uses the playground in a headless Chromium as a person does: by mouse, by keyboard, large and small, and at random.
 
-    python3 play/test_playground.py [--pictures FOLDER] [--only NAME] [--clicks 500]
+    python3 play/test_playground.py [--pictures FOLDER] [--only NAME] [--clicks 500] [--seed 62]
 
 Each trace that is drawn is compared, byte for byte, with what the program itself writes for the document that "take away" gives. It needs
 Python's standard library alone, and the built programs (or KUBE_REPLAY_PROGRAM and KUBE_LENS_PROGRAM); where Chromium is missing, the
@@ -379,9 +379,15 @@ def test_opened(person, served, pictures):
       dispatchEvent(new DragEvent('drop', { dataTransfer: data, bubbles: true, cancelable: true })); })()''' % json.dumps(text))
     person.until('timeline.name === "dropped"')
     same('what was dropped', same_trace('a drop', person), json.loads(text))
-    person.strike('z', modifiers=CONTROL)
-    person.until('timeline.name === "document"')
-    same_trace('undo goes back to the other document', person)
+    for _ in range(3):
+        person.strike('z', modifiers=CONTROL)
+        person.settle()
+    same('undo goes back over all documents', (person.run('timeline.name'), person.run('playground.undo.past.length')), ('leader-crashes', 0))
+    same_trace('undo goes back to the first document', person)
+    for _ in range(2):
+        person.strike('y', modifiers=CONTROL)
+        person.settle()
+    same('redo', (person.run('timeline.name'), same_trace('redo', person)), ('dropped', json.loads(text)))
 
 
 def test_exact_numbers(person, served, pictures):
@@ -535,9 +541,9 @@ HANDLES = '''(() => {
 })()'''
 
 
-def test_random(person, served, pictures, clicks=500):
+def test_random(person, served, pictures, clicks=500, seed=62):
     """Clicks, drags, keys and wheels at random: nothing breaks, and what stands is still the trace of the document."""
-    dice = random.Random(62)
+    dice = random.Random(seed)
     person.visit(served.address)
     person.said.clear()
     names = person.run('playground.examples.map(each => each.name)')
@@ -703,6 +709,7 @@ def main():
     words.add_argument('--pictures', metavar='FOLDER')
     words.add_argument('--only', metavar='NAME', default='')
     words.add_argument('--clicks', type=int, default=500)
+    words.add_argument('--seed', type=int, default=62)
     given = words.parse_args()
     with Playground() as served, Person() as person:
         for test in TESTS:
@@ -711,7 +718,7 @@ def main():
             person.size(1280, 800)
             person.visit(served.address)
             person.said.clear()
-            test(person, served, given.pictures, *([given.clicks] if test is test_random else []))
+            test(person, served, given.pictures, *([given.clicks, given.seed] if test is test_random else []))
             same('%s: the console' % test.__name__, person.said, [])
             print('%s: %s' % (test.__name__.removeprefix('test_'), '%d faults so far' % len(faults) if faults else 'done'), flush=True)
     sys.exit(1 if faults else 0)

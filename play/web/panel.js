@@ -28,7 +28,7 @@ const SECTIONS = [
 const KUBERNETES = 'default of Kubernetes';
 
 export class Panel {
-  // The host has `document`, `known`, `preview(document, dial)`, `keep(words)`, `change(document, words)`, `showEvent(place)`.
+  // The host has `document`, `opened`, `known`, `preview(document, dial)`, `keep(words)`, `change(document, words)`, `showEvent(place)`.
   constructor(holder, host) {
     Object.assign(this, { holder, host, dials: [] });
     this.events = new EventList(host);
@@ -38,7 +38,6 @@ export class Panel {
   build() {
     const { document } = this.host;
     this.dials = [];
-    this.first = document;
     const parts = SECTIONS.map(section => this.section(section.title, section.open, section.keys.map(([key, shape]) => this.setting(key, shape).row)));
     parts[0].append(this.fastRenew());
     parts[1].append(this.ratePolicy());
@@ -57,8 +56,8 @@ export class Panel {
   }
 
   // A slider goes on to twice the value that it begins with, where that lies beyond its end.
-  dial(what) {
-    const first = what.get(this.first), [least, most, step] = what.slider, value = first / (what.scale || 1);
+  dial(what, document = this.host.opened) {
+    const first = what.get(document), [least, most, step] = what.slider, value = first / (what.scale || 1);
     const dial = new Dial({ ...what, slider: [value < least ? 2 * value : least, Number.isFinite(value) && value > most ? 2 * value : most, step] }, this.host);
     dial.first = first;
     this.dials.push(dial);
@@ -139,7 +138,7 @@ export class Panel {
       const label = plural(places.length, 'pod') + (seconds === Infinity ? ' for ever' : '');
       const dial = this.dial({ label, help: 'how long they stay on a node that is silent (not-ready or unreachable)', unit: 's', slider: [0, 600, 5],
         least: 0, most: 1e9, path: null, marks: [{ value: 300, words: 'what Kubernetes gives to pods without one' }],
-        get: changed => tolerated(changed.objects.items[places[0]]), set: (changed, value) => withTolerance(changed, places, value) });
+        get: changed => tolerated(changed.objects.items[places[0]]), set: (changed, value) => withTolerance(changed, places, value) }, document);
       dial.isOfPods = true;
       return dial.row;
     });

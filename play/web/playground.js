@@ -22,7 +22,7 @@ KEYS.push(['j k', 'the next lane, the one before: a moment on it is chosen'], ['
 class Playground {
   constructor({ name, examples, known, command, mostBytes }) {
     Object.assign(this, { examples, known, command, mostBytes, first: name });
-    Object.assign(this, { undo: null, answer: null, shown: null, pinned: null, opened: null, dragged: null, isDragging: false, times: [] });
+    Object.assign(this, { undo: null, answer: null, shown: null, pinned: null, dragged: null, isDragging: false, times: [] });
     this.buildElements();
     this.asking = new Asking((...told) => this.told(...told));
     this.stage = new Stage({ onMoment: (...moment) => this.openLane(...moment), onFile: (text, file) => this.load(text, file.replace(/\.json$/, '')),
@@ -69,9 +69,12 @@ class Playground {
     this.step(act);
   }
 
-  // The state
+  // The state: the document as it is and as it was opened, and its name
 
   get document() { return this.undo.now.document; }
+
+  // The document as it was opened.
+  get opened() { return this.undo.now.opened; }
 
   // Another document, by its text. It becomes the state once it is accepted.
   load(text, name) {
@@ -85,7 +88,7 @@ class Playground {
   preview(document, dial) {
     this.isDragging = true;
     this.dragged = dial || null;
-    this.undo.preview({ document, name: this.undo.now.name });
+    this.undo.preview({ ...this.undo.now, document });
     this.ask();
     if (dial) this.panel.sync();
   }
@@ -100,7 +103,7 @@ class Playground {
   change(document, words) {
     this.isDragging = false;
     this.dragged = null;
-    this.undo.change({ document, name: this.undo.now.name });
+    this.undo.change({ ...this.undo.now, document });
     this.lastWords = words;
     this.sync();
     this.ask();
@@ -108,13 +111,14 @@ class Playground {
 
   step(which) {
     if (!this.undo) return;
-    const { name } = this.undo.now;
+    const { opened } = this.undo.now;
     this.isDragging = false;
     this.dragged = null;
     if (!this.undo[which]()) return;
-    if (this.undo.now.name !== name) this.panel.build();
+    const isOther = this.undo.now.opened !== opened;
+    if (isOther) this.panel.build();
     this.sync();
-    this.ask(this.undo.now.name !== name);
+    this.ask(isOther);
   }
 
   ask(isOther = false) {
@@ -146,9 +150,8 @@ class Playground {
   // A document that is opened.
   begin(question) {
     question.document = read(question.text);
-    const state = { document: question.document, name: question.name };
+    const state = { document: question.document, name: question.name, opened: question.document };
     if (this.undo) this.undo.change(state); else this.undo = new Undo(state);
-    this.opened = question.document;
     const example = this.examples.find(each => each.name === question.name && each.text === question.text);
     element('examples').value = example ? example.name : '';
     element('sentence').textContent = example ? example.sentence : question.name;
