@@ -390,6 +390,24 @@ def test_opened(person, served, pictures):
     same('redo', (person.run('timeline.name'), same_trace('redo', person)), ('dropped', json.loads(text)))
 
 
+def test_begins_refused(person, served, pictures):
+    """A document that is refused is told, and an example stands in its place; a good one begins."""
+    with tempfile.TemporaryDirectory() as folder:
+        path = os.path.join(folder, 'wrong.json')
+        with open(path, 'w', encoding='utf-8') as file:
+            file.write('{"version":1,"settings":{"endBeat":"60"},"controllers":[{"name":"cp-1"}]}')
+        with Playground(path) as other:
+            person.visit(other.address)
+            told = person.run('document.getElementById("trouble").textContent')
+            true('what is wrong is told: ' + told, told.startswith('wrong is refused (5 /settings/endBeat): ') and 'endBeat takes a whole number' in told)
+            same('an example stands there', person.run('timeline.name'), 'first-election')
+            same_trace('the example', person)
+    path = os.path.join(TOP, 'examples', 'dead-node', 'document.json')
+    with Playground(path) as other, open(path, encoding='utf-8') as file:
+        person.visit(other.address)
+        same('a document that is named', (person.run('timeline.name'), same_trace('named', person)), ('dead-node', json.load(file)))
+
+
 def test_exact_numbers(person, served, pictures):
     """A number that a browser's own numbers can't hold stays as it is."""
     with open(os.path.join(TOP, 'examples', 'dead-node', 'document.json'), encoding='utf-8') as file:
@@ -700,8 +718,8 @@ def test_pictures(person, served, pictures):
     person.picture(os.path.join(pictures, 'playground-two-leaders.png'))
 
 
-TESTS = [test_examples, test_kill_leader, test_lease, test_freeze_node, test_marks, test_acts, test_settings, test_refused, test_pin, test_take_away, test_opened, test_exact_numbers,
-         test_view, test_keyboard, test_looks, test_first_minute, test_random, test_speed, test_large, test_pictures]
+TESTS = [test_examples, test_kill_leader, test_lease, test_freeze_node, test_marks, test_acts, test_settings, test_refused, test_pin, test_take_away, test_opened,
+         test_begins_refused, test_exact_numbers, test_view, test_keyboard, test_looks, test_first_minute, test_random, test_speed, test_large, test_pictures]
 
 
 def main():
