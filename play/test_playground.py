@@ -482,6 +482,11 @@ def test_keyboard(person, served, pictures):
     true('a mark', tab_to(person, 'e.classList.contains("mark")') or person.run('(() => { playground.marks.focus(0); return true; })()'))
     person.strike('ArrowRight')
     same('moved', same_trace('moved by keys', person)['events'][0]['beat'], beat + 1)
+    check_panel_keys(person)
+
+
+def check_panel_keys(person):
+    """A setting, an event that is taken away and one that is added, in the settings beside the picture; and undo."""
     true('the lease', tab_to(person, 'e.type === "range" && e.getAttribute("aria-label").startsWith("--leader-elect-lease")'))
     person.strike('ArrowRight')
     same('a longer lease', same_trace('lease by keys', person)['settings']['leaseDurationSeconds'], 16)
