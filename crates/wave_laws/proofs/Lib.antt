@@ -1,0 +1,4 @@
+pub mod Queue
+pub mod Heads
+pub mod Tokens
+pub mod Waves

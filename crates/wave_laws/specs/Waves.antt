@@ -1,0 +1,70 @@
+-- How long a node waits for its taint. Source: the node lifecycle controller of Kubernetes, its rate limited queues; the order of a queue is the
+-- profile's.
+use Rattle.std.specs.Prelude.{◌≡◌, ◌⊎◌, ◌≤◌, ℕ, suc, ◌+◌, ◌*◌, ◌==◌, ◌&&◌, ◌||◌, nat_lt, Bool, true, false, List, ◌∷◌, count_by, Some}
+use Rattle.kube_base.specs.declared.numbers.Version.{Version}
+use Rattle.kube_objects.specs.declared.call.Answer.TheVariants as answer
+use Rattle.kube_objects.specs.declared.node.Node.{Node}
+use Rattle.kube_objects.specs.Clocks.{local}
+use Rattle.kube_objects.specs.Document.{Doc}
+use Rattle.kube_objects.specs.Entry.{Entry, Identity, Place, Ticks, Head, entry}
+use Rattle.kube_objects.specs.Seen.{node_names}
+use Rattle.kube_objects.specs.Tainting.{queued}
+use Rattle.kube_objects.specs.Tick.{pass, cleaned}
+use Rattle.kube_objects.specs.Tokens.{rated, has_rate, base, token_size}
+use Rattle.history.specs.History.{history}
+use Rattle.history_laws.specs.Tails.{IsTail}
+use Rattle.row_laws.specs.Keys.{is_waiting}
+use Rattle.span_laws.specs.Spans.{RunsAtLeast, IsEnough}
+use Rattle.outage_laws.specs.Attended.{Attends}
+use Rattle.outage_laws.specs.Passes.{synced_at}
+
+-- what the queues of a leader's tick in beat k are read from: the history after its sync, its pass, its untaints and its swaps
+abbrev pub queue_at : Doc → Identity → ℕ → List Entry
+queue_at doc q k = cleaned doc k q (pass doc k q (synced_at doc q k))
+
+-- whether another node waits in the zone and comes before a node: by the beat of its place in the queue, then by its name
+abbrev pub is_ahead : Identity → Place → ℕ → List Entry → ℕ → Bool
+is_ahead q place name h other =
+    is_waiting q place other h
+    && (nat_lt (queued q place other h) (queued q place name h) || ((queued q place other h == queued q place name h) && nat_lt other name))
+
+-- how many do
+abbrev pub ahead : Identity → Place → ℕ → List Entry → ℕ
+ahead q place name h = count_by (is_ahead q place name h) (node_names h)
+
+-- from the queues of beat y on, up to the end of beat e, the zone has this rate
+abbrev pub KeepsRate : Doc → Identity → Place → ℕ → ℕ → ℕ → Type 0
+KeepsRate doc q place rate y e =
+    (h : List Entry) → IsTail (queue_at doc q y) h → IsTail h (history doc (suc e)) → has_rate rate (rated q place h) ≡ true
+
+-- in beat t the leader taints the node out of the zone's queue, and the store accepts it
+pub record IsTainted (doc : Doc) (q : Identity) (place : Place) (name t : ℕ) : Type 0 where
+  pub wanted : ℕ
+  pub given : Version
+  pub written : Node
+  pub version : Version
+  pub before : List Entry
+  pub stands : IsTail (entry t 4 q (Ticks (Head place name wanted given written (Some (answer.Done version)))) ∷ before) (history doc (suc t))
+
+-- by a beat the node is tainted, or it doesn't wait any more for another reason
+abbrev pub IsServedBy : Doc → Identity → Place → ℕ → ℕ → ℕ → Type 0
+IsServedBy doc q place name m last =
+    (t : ℕ) × (m ≤ t) × (t ≤ last) × (IsTainted doc q place name t ⊎ (is_waiting q place name (queue_at doc q t) ≡ false))
+
+-- while a leader attends to its nodes: of a node's zone with one rate from beat y on, and a beat by which a token's interval is over since the
+-- base that the zone has in beat y: the node's taint comes by that beat and as many intervals later as nodes are ahead of it in beat m
+abbrev pub TaintsCome : Type 0
+TaintsCome =
+    (doc : Doc) (q : Identity) (place : Place) (name m y e : ℕ) → Attends doc q m e → m ≤ y
+    → (rate slow interval enough full : ℕ) → KeepsRate doc q place rate y e → RunsAtLeast doc q.process y e slow → IsEnough rate token_size interval → IsEnough slow interval enough
+    → y ≤ full → local doc q.process (base q place (queue_at doc q y)) + interval ≤ local doc q.process full
+    → full + ahead q place name (queue_at doc q m) * enough ≤ e
+    → IsServedBy doc q place name m (full + ahead q place name (queue_at doc q m) * enough)
+
+-- so by as many intervals after beat y, and one more, whatever the base is
+abbrev pub TaintsComeAnyway : Type 0
+TaintsComeAnyway =
+    (doc : Doc) (q : Identity) (place : Place) (name m y e : ℕ) → Attends doc q m e → m ≤ y
+    → (rate slow interval enough : ℕ) → KeepsRate doc q place rate y e → RunsAtLeast doc q.process y e slow → IsEnough rate token_size interval → IsEnough slow interval enough
+    → y + (ahead q place name (queue_at doc q m) + 1) * enough ≤ e
+    → IsServedBy doc q place name m (y + (ahead q place name (queue_at doc q m) + 1) * enough)

@@ -1,0 +1,12 @@
+//! Nodes of a zone that become Unknown are tainted in waves, one after the other: how long a node waits for its taint.
+#![tactic(auto)]
+
+ghost use Rattle.wave_laws.specs.Waves.{TaintsCome, TaintsComeAnyway};
+
+/// While a leader attends to its nodes, and a zone keeps its rate, a node that waits there is tainted, and the store accepts it, by as many of
+/// a token's intervals after the first token as nodes are ahead of it in the zone's queue; unless it doesn't wait any more. The first token is
+/// there an interval after the zone's base, so an interval after the rate is set at the latest: for every document.
+pub fn taints_come()
+    ensures known { TaintsCome }
+    ensures anyway { TaintsComeAnyway }
+{}
