@@ -1,6 +1,6 @@
 -- Where a zone's token is there, its head is tainted and leaves the queue; who isn't tainted keeps its place.
-use Rattle.std.proofs.Common.{◌≡◌, ◌∙◌, ◌⊎◌, ◌≤◌, ◌<◌, ℕ, ◌==◌, not, nat_lt, Bool, true, false, cond, List, [], ◌∷◌, Option, Some, None, refl, sym, ap, subst, inl, inr, ⊎_elim, arith, Less}
-use Rattle.std.proofs.lemmas.Bool.{eq-eqb, eqb-true, cases_lt}
+use Rattle.std.proofs.Common.{◌≡◌, ◌∙◌, ◌⊎◌, ◌≤◌, ◌<◌, ℕ, ◌-◌, ◌*◌, ◌==◌, not, nat_lt, Bool, true, false, cond, List, [], ◌∷◌, Option, Some, None, refl, sym, ap, subst, inl, inr, ⊎_elim, arith, Less}
+use Rattle.std.proofs.lemmas.Bool.{eq-eqb, eqb-true, leb-true, cases_lt}
 use Rattle.std.proofs.lemmas.Bool.Decides.{nat_tests}
 use Rattle.std.specs.Ordering.{nat_cmp}
 use Rattle.kube_base.specs.declared.numbers.Version.{Version}
@@ -8,6 +8,7 @@ use Rattle.kube_objects.specs.declared.call.Answer.TheVariants as answer
 use Rattle.kube_objects.specs.declared.call.Reply.TheVariants as reply
 use Rattle.kube_objects.specs.declared.node.Node.{Node}
 use Rattle.kube_objects.specs.Answers.{as_kind, node_in, answer_update}
+use Rattle.kube_objects.specs.Clocks.{local}
 use Rattle.kube_objects.specs.Document.{Doc}
 use Rattle.kube_objects.specs.Entry.{Entry, Identity, Place, Ticks, Tick, Head, entry}
 use Rattle.kube_objects.specs.Modes.{place_eq, nodes, places}
@@ -16,10 +17,10 @@ use Rattle.kube_objects.specs.Seen.{seen_node, node_names}
 use Rattle.kube_objects.specs.Stored.{Held, node_key, stored, next_version}
 use Rattle.kube_objects.specs.Tainting.{waits, Queued, queued, queued_as, first, head_of}
 use Rattle.kube_objects.specs.Tick.{add, for_each, new_taint, tainted_with, taint}
-use Rattle.kube_objects.specs.Tokens.{base, has_token}
+use Rattle.kube_objects.specs.Tokens.{Rated, rated, base, token_size, is_grown, has_token}
 use Rattle.kube_objects.specs.Tries.{as_answer, try_node}
 use Rattle.history_laws.specs.Tails.{IsTail}
-use Rattle.history_laws.proofs.Plainly.{none_is, some_is, true_is}
+use Rattle.history_laws.proofs.Plainly.{none_is, some_is, true_is, false_is}
 use Rattle.eviction_laws.proofs.Early.{versioned_is}
 use Rattle.outage_laws.specs.Attended.{IsAttended}
 use Rattle.tick_laws.specs.Judged.{key_if, waits_since}
@@ -31,12 +32,12 @@ use Rattle.tick_laws.proofs.Phases.{every}
 use Rattle.tick_laws.proofs.Quiet.{head_some}
 use Rattle.tick_laws.proofs.Tainting.{IsWaiting, waiting, waiting_place, since_waits, heading, taint_adds, taint_either, heading_since, heading_since_elsewhere, heading_base, heading_base_elsewhere, heading_token, accepted_waits}
 use Rattle.tick_laws.proofs.Walks.{above_less}
-use Rattle.wave_laws.specs.Waves.{queue_at}
-use Rattle.wave_laws.proofs.Queue.{served_at, Current, current_more, queue_current}
+use Rattle.wave_laws.specs.Waves.{queue_at, served_at}
+use Rattle.wave_laws.proofs.Queue.{Current, current_more, queue_current}
 
 -- ---- the head comes before all that wait
 
-before : (m n : ℕ) → nat_cmp m n ≡ Less → m < n
+pub before : (m n : ℕ) → nat_cmp m n ≡ Less → m < n
 before m n is = grind (arith, nat_tests)
 
 -- two in a row
@@ -81,6 +82,11 @@ module _ (q : Identity) (place : Place) (h : List Entry) (n at : ℕ) (mine : wa
       by_key (Some wanted) w None head later is (inl same) = subst (λ (y : Queued). Precedes y.0 y.1 at n) (some_is (queued q place m h, m) y is) (here same)
       by_key (Some wanted) w None head later is (inr below) = absurd (nobody below head)
       by_key (Some wanted) w (Some z) head later is there = by_test z (later z head) (nat_lt z.0 (queued q place m h)) refl is there
+
+-- in no time no token grows
+no_size : (rate : ℕ) → token_size ≤ 0 * rate → ⊥
+unfolding token_size
+no_size rate le = omega (arith, le)
 
 -- ---- an accepted taint of the zone's queue
 
@@ -169,18 +175,26 @@ module _ (doc : Doc) (q : Identity) (k : ℕ) (place : Place) where
 
   -- ---- where the token isn't there the base stays
 
-  abbrev Idle : List Entry → Type 0
-  Idle h = (has_token doc q k place h ≡ false) × (base q place h ≡ base q place (queue_at doc q k))
+  pub record Idle (h : List Entry) : Type 0 where
+    pub token : has_token doc q k place h ≡ false
+    pub base : base q place h ≡ base q place (queue_at doc q k)
+    pub since : (name : ℕ) → waits_since q place name h ≡ waits_since q place name (queue_at doc q k)
 
   zone_idle : (zone : Place) (h : List Entry) → Idle h → Idle (taint doc k q zone h)
   zone_idle zone h s = taint_either doc k q zone h Idle s (λ at n wanted w token head. by_zone n wanted w token (place_eq zone place) refl)
     where
       by_zone : (n wanted : ℕ) (w : IsWaiting q zone n wanted h) → has_token doc q k zone h ≡ true → (b : Bool) → place_eq zone place ≡ b → Idle (add k q (heading doc k q zone n wanted w.x (try_node q n w.x.0 h)) h)
-      by_zone n wanted w token true inside = absurd (true_is (sym token ∙ ap (λ zone. has_token doc q k zone h) (same_place zone place inside) ∙ s.0))
-      by_zone n wanted w token false apart = (heading_token doc k q zone h n wanted w place apart ∙ s.0, heading_base_elsewhere doc k q zone h n wanted w place apart ∙ s.1)
+      by_zone n wanted w token true inside = absurd (true_is (sym token ∙ ap (λ zone. has_token doc q k zone h) (same_place zone place inside) ∙ s.token))
+      by_zone n wanted w token false apart = record {
+        token = heading_token doc k q zone h n wanted w place apart ∙ s.token;
+        base = heading_base_elsewhere doc k q zone h n wanted w place apart ∙ s.base;
+        since = λ name. heading_since_elsewhere doc k q zone h n wanted w place apart name ∙ s.since name;
+      }
 
-  pub idle_base : has_token doc q k place (queue_at doc q k) ≡ false → base q place (served_at doc q k) ≡ base q place (queue_at doc q k)
-  idle_base none = let h = queue_at doc q k in (every (taint doc k q) Idle zone_idle (places (nodes q h)) h (none, refl)).1
+  pub idle : has_token doc q k place (queue_at doc q k) ≡ false → Idle (served_at doc q k)
+  idle none =
+      let h = queue_at doc q k in
+      every (taint doc k q) Idle zone_idle (places (nodes q h)) h (record { token = none; base = refl; since = λ name. refl })
 
   -- ---- where it is there the head goes
 
@@ -196,8 +210,8 @@ module _ (doc : Doc) (q : Identity) (k : ℕ) (place : Place) where
     pub beat : ℕ
     pub was : waits_since q place name (queue_at doc q k) ≡ Some beat
     pub first : Precedes beat name at n
-    pub current : Current q h
     pub gone : waits_since q place name h ≡ None
+    pub others : (other : ℕ) → (other ≡ name → ⊥) → waits_since q place other h ≡ waits_since q place other (queue_at doc q k)
     pub taken : Taken q place name k h
     pub base : base q place h ≡ k
 
@@ -210,30 +224,31 @@ module _ (doc : Doc) (q : Identity) (k : ℕ) (place : Place) where
         token = heading_token doc k q zone h n wanted w place apart ∙ s.token;
       })
 
-  zone_spent : (n at : ℕ) (zone : Place) (h : List Entry) → Spent n at h → Spent n at (taint doc k q zone h)
-  zone_spent n at zone h s = taint_either doc k q zone h (Spent n at) s (λ b m wanted w token head. by_stay m wanted w (head_leaves zone h m wanted w s.current s.name))
+  -- after it the token is gone
+  no_token : (h : List Entry) → base q place h ≡ k → has_token doc q k place h ≡ true → ⊥
+  no_token h at token = by_rated (rated q place h) (subst (λ b. is_grown (local doc q.process k - local doc q.process b) (rated q place h) ≡ true) at token)
     where
-      by_base : (m wanted : ℕ) (w : IsWaiting q zone m wanted h) (b : Bool) → place_eq zone place ≡ b → base q place (add k q (heading doc k q zone m wanted w.x (try_node q m w.x.0 h)) h) ≡ k
-      by_base m wanted w true inside = subst (λ p. base q p (add k q (heading doc k q zone m wanted w.x (try_node q m w.x.0 h)) h) ≡ k) (same_place zone place inside) (heading_base doc k q zone h m wanted w)
-      by_base m wanted w false apart = heading_base_elsewhere doc k q zone h m wanted w place apart ∙ s.base
+      by_rated : (o : Option Rated) → is_grown (local doc q.process k - local doc q.process k) o ≡ true → ⊥
+      by_rated None is = false_is is
+      by_rated (Some x) is =
+          let nothing : local doc q.process k - local doc q.process k ≡ 0 = omega arith in
+          no_size x.1 (leb-true token_size (0 * x.1) (subst (λ n. is_grown n (Some x) ≡ true) nothing is))
 
-      gone : (g : List Entry) → Stays s.name h g → waits_since q place s.name g ≡ None
-      gone g (inl same) = same ∙ s.gone
-      gone g (inr (none, taken)) = none
-
-      by_stay : (m wanted : ℕ) (w : IsWaiting q zone m wanted h) → Stays s.name h (add k q (heading doc k q zone m wanted w.x (try_node q m w.x.0 h)) h) → Spent n at (add k q (heading doc k q zone m wanted w.x (try_node q m w.x.0 h)) h)
-      by_stay m wanted w stay =
-          let g = add k q (heading doc k q zone m wanted w.x (try_node q m w.x.0 h)) h in
-          record {
-            name = s.name;
-            beat = s.beat;
-            was = s.was;
-            first = s.first;
-            current = current_more q k (heading doc k q zone m wanted w.x (try_node q m w.x.0 h)) h s.current;
-            gone = gone g stay;
-            taken = taken_more q place s.name k (entry k 4 q (Ticks (heading doc k q zone m wanted w.x (try_node q m w.x.0 h)))) h s.taken;
-            base = by_base m wanted w (place_eq zone place) refl;
-          }
+  zone_spent : (n at : ℕ) (zone : Place) (h : List Entry) → Spent n at h → Spent n at (taint doc k q zone h)
+  zone_spent n at zone h s = taint_either doc k q zone h (Spent n at) s (λ b m wanted w token head. by_zone m wanted w token (place_eq zone place) refl)
+    where
+      by_zone : (m wanted : ℕ) (w : IsWaiting q zone m wanted h) → has_token doc q k zone h ≡ true → (b : Bool) → place_eq zone place ≡ b → Spent n at (add k q (heading doc k q zone m wanted w.x (try_node q m w.x.0 h)) h)
+      by_zone m wanted w token true inside = absurd (no_token h s.base (sym (ap (λ zone. has_token doc q k zone h) (same_place zone place inside)) ∙ token))
+      by_zone m wanted w token false apart = record {
+        name = s.name;
+        beat = s.beat;
+        was = s.was;
+        first = s.first;
+        gone = heading_since_elsewhere doc k q zone h m wanted w place apart s.name ∙ s.gone;
+        others = λ other differs. heading_since_elsewhere doc k q zone h m wanted w place apart other ∙ s.others other differs;
+        taken = taken_more q place s.name k (entry k 4 q (Ticks (heading doc k q zone m wanted w.x (try_node q m w.x.0 h)))) h s.taken;
+        base = heading_base_elsewhere doc k q zone h m wanted w place apart ∙ s.base;
+      }
 
   spend_head : (n at : ℕ) (h : List Entry) → Open h → (beat name wanted : ℕ) (w : IsWaiting q place name wanted h) → waits_since q place name (queue_at doc q k) ≡ Some beat → Precedes beat name at n
       → Spent n at (add k q (heading doc k q place name wanted w.x (try_node q name w.x.0 h)) h)
@@ -244,11 +259,15 @@ module _ (doc : Doc) (q : Identity) (k : ℕ) (place : Place) where
         beat = beat;
         was = was;
         first = order;
-        current = current_more q k (heading doc k q place name wanted w.x (try_node q name w.x.0 h)) h s.current;
         gone = goes.0;
+        others = λ other differs. heading_since doc k q place h name wanted w place other (by_name other (name == other) refl differs) ∙ s.since other;
         taken = goes.1;
         base = heading_base doc k q place h name wanted w;
       }
+    where
+      by_name : (other : ℕ) (b : Bool) → (name == other) ≡ b → (other ≡ name → ⊥) → (name == other) ≡ false
+      by_name other true is differs = absurd (differs (sym (eqb-true name other is)))
+      by_name other false is differs = is
 
   spend : (n at : ℕ) (h : List Entry) → waits_since q place n (queue_at doc q k) ≡ Some at → Open h → Spent n at (taint doc k q place h)
   spend n at h mine s =

@@ -2,3 +2,4 @@ pub mod Queue
 pub mod Heads
 pub mod Tokens
 pub mod Waves
+pub mod Least

@@ -8,7 +8,7 @@ use Rattle.kube_objects.specs.Modes.{nodes, places}
 use Rattle.kube_objects.specs.Newest.{newest, when, or_zero}
 use Rattle.kube_objects.specs.Seen.{is_fresh}
 use Rattle.kube_objects.specs.Tainting.{waits, before_tick, begins_row, queued}
-use Rattle.kube_objects.specs.Tick.{add, pass, taint, tainted, evicted}
+use Rattle.kube_objects.specs.Tick.{add, pass, taint, evicted}
 use Rattle.kube_objects.specs.Tokens.{is_base, base}
 use Rattle.kube_objects.specs.Wire.{loses_requests}
 use Rattle.history.specs.Evictions.{after_turn}
@@ -33,15 +33,11 @@ use Rattle.tick_laws.proofs.Tainting.{taint_either, heading_fresh}
 use Rattle.tick_laws.proofs.Ticked.{ticked_keeps, ticked_then, ticked_before, sync_ticked, pass_ticked, cleaned_ticked, tainted_ticked, evicted_ticked}
 use Rattle.tick_laws.proofs.Waiting.{settle, fresh_settled, no_heads_start}
 use Rattle.beat_laws.proofs.Unticked.{elector_unticked, at_turn_unticked}
-use Rattle.wave_laws.specs.Waves.{queue_at}
+use Rattle.wave_laws.specs.Waves.{queue_at, served_at}
 
 -- as a tick begins
 abbrev pub begun : Doc → Identity → ℕ → List Entry
 begun doc q k = elector_turn doc k q.process (at_turn doc q.process k)
-
--- after its queued taints
-abbrev pub served_at : Doc → Identity → ℕ → List Entry
-served_at doc q k = tainted doc k q (queue_at doc q k)
 
 -- ---- positions
 

@@ -1,6 +1,6 @@
 -- A zone's base while its rate stays, and when its token is there.
 use Rattle.std.proofs.Common.{◌≡◌, ◌∙◌, ◌≤◌, ◌<◌, ℕ, suc, ◌+◌, ◌-◌, ◌*◌, ◌&&◌, not, Bool, true, false, List, Option, Some, None, refl, sym, ap, subst, inr, ⊎_elim, arith}
-use Rattle.std.proofs.lemmas.Bool.{eqb-true, le-leb, cases_eq}
+use Rattle.std.proofs.lemmas.Bool.{eqb-true, leb-true, le-leb, cases_eq}
 use Rattle.std.proofs.Math.Nat.{mul-le-mul_right}
 use Rattle.kube_objects.specs.declared.node.ZoneState.{ZoneState}
 use Rattle.kube_objects.specs.Clocks.{local}
@@ -11,16 +11,17 @@ use Rattle.kube_objects.specs.Modes.{place_eq}
 use Rattle.kube_objects.specs.Newest.{newest, when, join, or_zero}
 use Rattle.kube_objects.specs.Tick.{add, pass}
 use Rattle.kube_objects.specs.Tokens.{Rated, rated_says, rated, has_rate, is_base, base, token_size, is_grown, has_token}
+use Rattle.kube_objects.proofs.Clocks.{local_up}
 use Rattle.history.specs.History.{history}
 use Rattle.history_laws.specs.Tails.{IsTail}
 use Rattle.history_laws.proofs.Plainly.{upper, same_self, false_is}
 use Rattle.history_laws.proofs.Tailed.{tail_all, tail_trans}
 use Rattle.outage_laws.specs.Attended.{IsAttended}
 use Rattle.outage_laws.specs.Passes.{synced_at}
-use Rattle.span_laws.specs.Spans.{IsEnough}
+use Rattle.span_laws.specs.Spans.{IsEnough, IsNeeded}
 use Rattle.tick_laws.proofs.Phases.{is_passing, pass_keeps, sync_limits, cleaned_limits}
-use Rattle.wave_laws.specs.Waves.{queue_at, KeepsRate}
-use Rattle.wave_laws.proofs.Queue.{begun, served_at, next_base, earlier_queue, old_synced, old_queue, queue_in, pass_tail}
+use Rattle.wave_laws.specs.Waves.{queue_at, served_at, KeepsRate}
+use Rattle.wave_laws.proofs.Queue.{begun, base_within, next_base, earlier_queue, old_synced, old_queue, queue_in, pass_tail}
 
 -- ---- entries of a pass
 
@@ -100,3 +101,17 @@ module _ (doc : Doc) (q : Identity) (place : Place) (rate y e : ℕ) (first : Is
           let long : interval * rate ≤ span * rate = mul-le-mul_right rate (omega (arith, over)) in
           let grown : token_size ≤ span * rate = omega (arith, enough, long) in
           subst (λ r. is_grown span (Some (x.0, r)) ≡ true) (sym same) (le-leb token_size (span * rate) grown)
+
+  -- and not before
+  pub token_over : (interval k : ℕ) → IsNeeded rate token_size interval → y ≤ k → k ≤ e → IsAttended doc q k → has_token doc q k place (queue_at doc q k) ≡ true
+      → local doc q.process (base q place (queue_at doc q k)) + interval ≤ local doc q.process k
+  token_over interval k needed from to here there =
+      omega (arith, local_up doc q.process (base q place (queue_at doc q k)) k (base_within doc q k here place), by_rated (rated q place (queue_at doc q k)) (rate_at k from to here) there)
+    where
+      by_rated : (o : Option Rated) → has_rate rate o ≡ true → is_grown (local doc q.process k - local doc q.process (base q place (queue_at doc q k))) o ≡ true
+          → interval ≤ local doc q.process k - local doc q.process (base q place (queue_at doc q k))
+      by_rated None is grown = absurd (false_is is)
+      by_rated (Some x) is grown =
+          let span = local doc q.process k - local doc q.process (base q place (queue_at doc q k)) in
+          let same : x.1 ≡ rate = eqb-true x.1 rate is in
+          needed span (leb-true token_size (span * rate) (subst (λ r. is_grown span (Some (x.0, r)) ≡ true) same grown))

@@ -26,15 +26,15 @@ use Rattle.tick_laws.proofs.Heads.{Precedes}
 use Rattle.tick_laws.proofs.Named.{node_is_named}
 use Rattle.tick_laws.proofs.Tainting.{waiting, since_waits}
 use Rattle.row_laws.specs.Keys.{is_waiting}
-use Rattle.wave_laws.specs.Waves.{queue_at, is_ahead, ahead, KeepsRate, IsTainted, IsServedBy, TaintsCome, TaintsComeAnyway}
-use Rattle.wave_laws.proofs.Queue.{served_at, settles, next_since, key_within, base_within, served_tail, in_history}
-use Rattle.wave_laws.proofs.Heads.{Taken, Stays, stays, idle_base, Spent, spent}
+use Rattle.wave_laws.specs.Waves.{queue_at, served_at, is_ahead, ahead, KeepsRate, IsTainted, IsServedBy, TaintsCome, TaintsComeAnyway}
+use Rattle.wave_laws.proofs.Queue.{settles, next_since, key_within, base_within, served_tail, in_history}
+use Rattle.wave_laws.proofs.Heads.{Taken, Stays, stays, idle, Spent, spent}
 use Rattle.wave_laws.proofs.Tokens.{queue_base, token_there}
 
 -- ---- the nodes ahead
 
 -- by beat and name before another one
-abbrev IsBefore : ℕ → ℕ → ℕ → ℕ → Type 0
+abbrev pub IsBefore : ℕ → ℕ → ℕ → ℕ → Type 0
 IsBefore b x at n = (b < at) ⊎ ((b ≡ at) × (x < n))
 
 -- all nodes ahead of n are in a list
@@ -242,7 +242,7 @@ module _ (doc : Doc) (q : Identity) (place : Place) (n m y e last : ℕ) (attend
 
       ready : IsAttended doc q (suc k) → Ready s.f (suc k)
       ready next =
-          let same : base q place (queue_at doc q (suc k)) ≡ base q place (queue_at doc q k) = queue_base doc q place rate y e first keeps k s.from (omega (arith, lt, s.bound, end)) here next ∙ idle_base doc q k place none in
+          let same : base q place (queue_at doc q (suc k)) ≡ base q place (queue_at doc q k) = queue_base doc q place rate y e first keeps k s.from (omega (arith, lt, s.bound, end)) here next ∙ (idle doc q k place none).base in
           subst (λ b. local doc q.process b + interval ≤ local doc q.process s.f) (sym same) s.ready
 
   step : (k : ℕ) → Reached k → (k < last → Reached (suc k) → Goal) → Goal

@@ -1,6 +1,6 @@
 -- How long a node waits for its taint. Source: the node lifecycle controller of Kubernetes, its rate limited queues; the order of a queue is the
 -- profile's.
-use Rattle.std.specs.Prelude.{◌≡◌, ◌⊎◌, ◌≤◌, ℕ, suc, ◌+◌, ◌*◌, ◌==◌, ◌&&◌, ◌||◌, nat_lt, Bool, true, false, List, ◌∷◌, count_by, Some}
+use Rattle.std.specs.Prelude.{◌≡◌, ◌⊎◌, ◌≤◌, ◌<◌, ℕ, suc, ◌+◌, ◌*◌, ◌==◌, ◌&&◌, ◌||◌, nat_lt, Bool, true, false, List, ◌∷◌, count_by, Some}
 use Rattle.kube_base.specs.declared.numbers.Version.{Version}
 use Rattle.kube_objects.specs.declared.call.Answer.TheVariants as answer
 use Rattle.kube_objects.specs.declared.node.Node.{Node}
@@ -9,18 +9,22 @@ use Rattle.kube_objects.specs.Document.{Doc}
 use Rattle.kube_objects.specs.Entry.{Entry, Identity, Place, Ticks, Head, entry}
 use Rattle.kube_objects.specs.Seen.{node_names}
 use Rattle.kube_objects.specs.Tainting.{queued}
-use Rattle.kube_objects.specs.Tick.{pass, cleaned}
+use Rattle.kube_objects.specs.Tick.{pass, cleaned, tainted}
 use Rattle.kube_objects.specs.Tokens.{rated, has_rate, base, token_size}
 use Rattle.history.specs.History.{history}
 use Rattle.history_laws.specs.Tails.{IsTail}
 use Rattle.row_laws.specs.Keys.{is_waiting}
-use Rattle.span_laws.specs.Spans.{RunsAtLeast, IsEnough}
+use Rattle.span_laws.specs.Spans.{RunsAtLeast, RunsAtMost, IsEnough, IsNeeded}
 use Rattle.outage_laws.specs.Attended.{Attends}
 use Rattle.outage_laws.specs.Passes.{synced_at}
 
 -- what the queues of a leader's tick in beat k are read from: the history after its sync, its pass, its untaints and its swaps
 abbrev pub queue_at : Doc → Identity → ℕ → List Entry
 queue_at doc q k = cleaned doc k q (pass doc k q (synced_at doc q k))
+
+-- and what they leave: the history after the tick's queued taints
+abbrev pub served_at : Doc → Identity → ℕ → List Entry
+served_at doc q k = tainted doc k q (queue_at doc q k)
 
 -- whether another node waits in the zone and comes before a node: by the beat of its place in the queue, then by its name
 abbrev pub is_ahead : Identity → Place → ℕ → List Entry → ℕ → Bool
@@ -68,3 +72,22 @@ TaintsComeAnyway =
     → (rate slow interval enough : ℕ) → KeepsRate doc q place rate y e → RunsAtLeast doc q.process y e slow → IsEnough rate token_size interval → IsEnough slow interval enough
     → y + (ahead q place name (queue_at doc q m) + 1) * enough ≤ e
     → IsServedBy doc q place name m (y + (ahead q place name (queue_at doc q m) + 1) * enough)
+
+-- a node leaves the zone's queue by a queued taint of beat t: it waits before these taints, and doesn't after them
+abbrev pub LeavesTainted : Doc → Identity → Place → ℕ → ℕ → Type 0
+LeavesTainted doc q place name t = (is_waiting q place name (queue_at doc q t) ≡ true) × (is_waiting q place name (served_at doc q t) ≡ false)
+
+-- the nodes that are ahead of a node in beat m leave the queue in no other way before beat t
+abbrev pub LeaveTaintedOnly : Doc → Identity → Place → ℕ → ℕ → ℕ → Type 0
+LeaveTaintedOnly doc q place name m t =
+    (other k : ℕ) → is_ahead q place name (queue_at doc q m) other ≡ true → m ≤ k → k < t → is_waiting q place other (served_at doc q k) ≡ true
+    → is_waiting q place other (queue_at doc q (suc k)) ≡ true
+
+-- a node that waits in beat m leaves its zone's queue by a taint no sooner than as many intervals later as nodes are ahead of it in beat m, where
+-- these leave by taints only
+abbrev pub TaintsTakeTime : Type 0
+TaintsTakeTime =
+    (doc : Doc) (q : Identity) (place : Place) (name m t : ℕ) → Attends doc q m t → m ≤ t → is_waiting q place name (queue_at doc q m) ≡ true → LeavesTainted doc q place name t
+    → LeaveTaintedOnly doc q place name m t
+    → (rate fast interval needed : ℕ) → KeepsRate doc q place rate m t → RunsAtMost doc q.process m t fast → IsNeeded rate token_size interval → IsNeeded fast interval needed
+    → m + ahead q place name (queue_at doc q m) * needed ≤ t

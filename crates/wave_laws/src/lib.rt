@@ -1,7 +1,7 @@
 //! Nodes of a zone that become Unknown are tainted in waves, one after the other: how long a node waits for its taint.
 #![tactic(auto)]
 
-ghost use Rattle.wave_laws.specs.Waves.{TaintsCome, TaintsComeAnyway};
+ghost use Rattle.wave_laws.specs.Waves.{TaintsCome, TaintsComeAnyway, TaintsTakeTime};
 
 /// While a leader attends to its nodes, and a zone keeps its rate, a node that waits there is tainted, and the store accepts it, by as many of
 /// a token's intervals after the first token as nodes are ahead of it in the zone's queue; unless it doesn't wait any more. The first token is
@@ -9,4 +9,10 @@ ghost use Rattle.wave_laws.specs.Waves.{TaintsCome, TaintsComeAnyway};
 pub fn taints_come()
     ensures known { TaintsCome }
     ensures anyway { TaintsComeAnyway }
+{}
+
+/// And where the nodes ahead of it leave the queue by taints only, it leaves by its own no sooner than as many intervals later: for every
+/// document.
+pub fn taints_take_time()
+    ensures { TaintsTakeTime }
 {}
