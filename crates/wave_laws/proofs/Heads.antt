@@ -103,7 +103,7 @@ taken_more : (q : Identity) (place : Place) (name k : ℕ) (x : Entry) (h : List
 taken_more q place name k x h s = record { wanted = s.wanted; given = s.given; written = s.written; version = s.version; before = s.before; stands = inr s.stands }
 
 -- a try over what is current is accepted
-accepted : (q : Identity) (h : List Entry) (name : ℕ) (x : Version × Node) → Current q h → seen_node q name h ≡ Some x → try_node q name x.0 h ≡ Some (answer.Done (next_version h))
+pub accepted : (q : Identity) (h : List Entry) (name : ℕ) (x : Version × Node) → Current q h → seen_node q name h ≡ Some x → try_node q name x.0 h ≡ Some (answer.Done (next_version h))
 accepted q h name x s sees = by_held (stored (node_key name) h) refl (ap (as_kind node_in) (sym (s.mirrors (node_key name))) ∙ sees)
   where
     by_held : (o : Option Held) → stored (node_key name) h ≡ o → as_kind node_in o ≡ Some x → try_node q name x.0 h ≡ Some (answer.Done (next_version h))

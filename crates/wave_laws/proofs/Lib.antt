@@ -3,3 +3,4 @@ pub mod Heads
 pub mod Tokens
 pub mod Waves
 pub mod Least
+pub mod Swaps

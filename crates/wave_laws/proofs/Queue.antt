@@ -33,7 +33,7 @@ use Rattle.tick_laws.proofs.Tainting.{taint_either, heading_fresh}
 use Rattle.tick_laws.proofs.Ticked.{ticked_keeps, ticked_then, ticked_before, sync_ticked, pass_ticked, cleaned_ticked, tainted_ticked, evicted_ticked}
 use Rattle.tick_laws.proofs.Waiting.{settle, fresh_settled, no_heads_start}
 use Rattle.beat_laws.proofs.Unticked.{elector_unticked, at_turn_unticked}
-use Rattle.wave_laws.specs.Waves.{queue_at, served_at}
+use Rattle.wave_laws.specs.Waves.{judged_at, queue_at, served_at}
 
 -- as a tick begins
 abbrev pub begun : Doc → Identity → ℕ → List Entry
@@ -100,10 +100,9 @@ pub record Current (q : Identity) (h : List Entry) : Type 0 where
 pub current_more : (q : Identity) (k : ℕ) (t : Tick) (h : List Entry) → Current q h → Current q (add k q t h)
 current_more q k t h s = record { mirrors = mirrors_more q h k t s.mirrors; passes = s.passes }
 
-pub queue_current : (doc : Doc) (q : Identity) (k : ℕ) → IsAttended doc q k → Current q (queue_at doc q k)
-queue_current doc q k attended =
-    ticked_keeps q k (Current q) (λ t g s. current_more q k t g s) (synced_at doc q k) (queue_at doc q k) (synced_queue doc q k)
-    (subst (λ b. Current q (if (b && not (is_fresh q h)) then add k q Sync h else h)) (sym (ready doc q k attended).watching) (by_test (is_fresh q h) refl))
+synced_current : (doc : Doc) (q : Identity) (k : ℕ) → IsAttended doc q k → Current q (synced_at doc q k)
+synced_current doc q k attended =
+    subst (λ b. Current q (if (b && not (is_fresh q h)) then add k q Sync h else h)) (sym (ready doc q k attended).watching) (by_test (is_fresh q h) refl)
   where
     h : List Entry
     h = begun doc q k
@@ -111,6 +110,14 @@ queue_current doc q k attended =
     by_test : (b : Bool) → is_fresh q h ≡ b → Current q (if (not b) then add k q Sync h else h)
     by_test true is = record { mirrors = fresh q h is; passes = (ready doc q k attended).passing }
     by_test false is = record { mirrors = mirrors_sync q h k; passes = (ready doc q k attended).passing }
+
+pub judged_current : (doc : Doc) (q : Identity) (k : ℕ) → IsAttended doc q k → Current q (judged_at doc q k)
+judged_current doc q k attended =
+    ticked_keeps q k (Current q) (λ t g s. current_more q k t g s) (synced_at doc q k) (judged_at doc q k) (pass_ticked doc k q (synced_at doc q k)) (synced_current doc q k attended)
+
+pub queue_current : (doc : Doc) (q : Identity) (k : ℕ) → IsAttended doc q k → Current q (queue_at doc q k)
+queue_current doc q k attended =
+    ticked_keeps q k (Current q) (λ t g s. current_more q k t g s) (judged_at doc q k) (queue_at doc q k) (cleaned_ticked doc k q (judged_at doc q k)) (judged_current doc q k attended)
 
 -- ---- from the start of a tick to its queues
 

@@ -1,26 +1,32 @@
 -- How long a node waits for its taint. Source: the node lifecycle controller of Kubernetes, its rate limited queues; the order of a queue is the
 -- profile's.
 use Rattle.std.specs.Prelude.{◌≡◌, ◌⊎◌, ◌≤◌, ◌<◌, ℕ, suc, ◌+◌, ◌*◌, ◌==◌, ◌&&◌, ◌||◌, nat_lt, Bool, true, false, List, ◌∷◌, count_by, Some}
+use Rattle.std.specs.List.{list_any}
 use Rattle.kube_base.specs.declared.numbers.Version.{Version}
 use Rattle.kube_objects.specs.declared.call.Answer.TheVariants as answer
 use Rattle.kube_objects.specs.declared.node.Node.{Node}
 use Rattle.kube_objects.specs.Clocks.{local}
 use Rattle.kube_objects.specs.Document.{Doc}
-use Rattle.kube_objects.specs.Entry.{Entry, Identity, Place, Ticks, Head, entry}
-use Rattle.kube_objects.specs.Seen.{node_names}
-use Rattle.kube_objects.specs.Tainting.{queued}
+use Rattle.kube_objects.specs.Entry.{Entry, Identity, Place, Ticks, Head, Swap, entry}
+use Rattle.kube_objects.specs.Modes.{mode}
+use Rattle.kube_objects.specs.Seen.{seen_node, node_names}
+use Rattle.kube_objects.specs.Tainting.{Wanted, wants, is_opposite, queued}
 use Rattle.kube_objects.specs.Tick.{pass, cleaned, tainted}
 use Rattle.kube_objects.specs.Tokens.{rated, has_rate, base, token_size}
 use Rattle.history.specs.History.{history}
 use Rattle.history_laws.specs.Tails.{IsTail}
 use Rattle.row_laws.specs.Keys.{is_waiting}
 use Rattle.span_laws.specs.Spans.{RunsAtLeast, RunsAtMost, IsEnough, IsNeeded}
-use Rattle.outage_laws.specs.Attended.{Attends}
+use Rattle.outage_laws.specs.Attended.{IsAttended, Attends}
 use Rattle.outage_laws.specs.Passes.{synced_at}
 
--- what the queues of a leader's tick in beat k are read from: the history after its sync, its pass, its untaints and its swaps
+-- what the untaints and swaps of a leader's tick in beat k go by: the history after its sync and its pass
+abbrev pub judged_at : Doc → Identity → ℕ → List Entry
+judged_at doc q k = pass doc k q (synced_at doc q k)
+
+-- what its queues are read from: the history after these untaints and swaps
 abbrev pub queue_at : Doc → Identity → ℕ → List Entry
-queue_at doc q k = cleaned doc k q (pass doc k q (synced_at doc q k))
+queue_at doc q k = cleaned doc k q (judged_at doc q k)
 
 -- and what they leave: the history after the tick's queued taints
 abbrev pub served_at : Doc → Identity → ℕ → List Entry
@@ -91,3 +97,17 @@ TaintsTakeTime =
     → LeaveTaintedOnly doc q place name m t
     → (rate fast interval needed : ℕ) → KeepsRate doc q place rate m t → RunsAtMost doc q.process m t fast → IsNeeded rate token_size interval → IsNeeded fast interval needed
     → m + ahead q place name (queue_at doc q m) * needed ≤ t
+
+-- in beat k the leader puts the wanted taint in place of its opposite, and the store accepts it
+pub record IsSwapped (doc : Doc) (q : Identity) (name wanted k : ℕ) : Type 0 where
+  pub given : Version
+  pub written : Node
+  pub version : Version
+  pub before : List Entry
+  pub stands : IsTail (entry k 4 q (Ticks (Swap name wanted given written (Some (answer.Done version)))) ∷ before) (history doc (suc k))
+
+-- a node that has the opposite of the taint that it wants doesn't wait: in an attended beat it is swapped at once
+abbrev pub SwapsAreAtOnce : Type 0
+SwapsAreAtOnce =
+    (doc : Doc) (q : Identity) (name wanted k : ℕ) → IsAttended doc q k → (x : Version × Node) → seen_node q name (judged_at doc q k) ≡ Some x
+    → wants (mode q (judged_at doc q k)) x.1 ≡ Wanted wanted → list_any (is_opposite wanted) x.1.taints ≡ true → IsSwapped doc q name wanted k
