@@ -26,4 +26,4 @@ _kubectl_replay() {
 
 complete -F _kube_replay kube_replay
 complete -o default -F _kubectl_replay kubectl-replay
-complete -o default -F _kube_replay_tool kube_replay-timeline kube_replay-sweep kube_replay-from-cluster kube_replay-from-audit-log
+complete -o default -F _kube_replay_tool kube_replay-timeline kube_replay-playground kube_replay-sweep kube_replay-from-cluster kube_replay-from-audit-log
