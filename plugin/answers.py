@@ -86,7 +86,7 @@ class Answers:
         """Opens the playground with the cluster, and ends with it."""
         found = programs.playground()
         if not found:
-            raise Unread('there is no playground yet: neither ./playground in this checkout nor kube_replay-playground on PATH')
+            raise Unread('there is no playground here: neither ./playground in this checkout nor kube_replay-playground on PATH')
         with subprocess.Popen([*found, '--open', self.write('cluster.json', document)]) as opened:
             try:
                 return opened.wait()

@@ -419,7 +419,7 @@ class Pages(Replay):
         path = place + ':' + self.place['PATH'].replace(TOP + ':', '')
         if shutil.which('kube_replay-playground', path=path):
             self.skipTest('a playground is installed')
-        self.assertIn('there is no playground yet', self.call('play', PATH=path)[2])
+        self.assertIn('there is no playground here', self.call('play', PATH=path)[2])
         with open(os.path.join(place, 'kube_replay-playground'), 'w', encoding='utf-8') as file:
             file.write('#!/bin/sh\necho "$1"; cat "$2"\n')
         os.chmod(file.name, 0o755)

@@ -13,7 +13,7 @@ COMMANDS = {
     'kill-zone': Command('ZONE', '--kill-zone={of}@{at}', 'the kubelets of a zone die (also REGION/ZONE), and the controllers there'),
     'freeze-leader': Command('TIME', '--stall=@{at}+{of}', 'the controller that leads stands still for so long, as 45s, and goes on'),
     'slow-network': Command('TIME', None, 'each request to the API server and each reply takes so long, as 2s'),
-    'play': Command(None, None, 'opens the playground with this cluster, where that is there'),
+    'play': Command(None, None, 'opens the playground with this cluster'),
 }
 RUNS = [name for name in COMMANDS if name not in ('margin', 'play')]
 KUBECTL = ('kubeconfig', 'context', 'cluster', 'user', 'server', 'token', 'as', 'as-group', 'as-uid', 'certificate-authority', 'client-certificate',
