@@ -1,10 +1,12 @@
 -- In a calm it isn't so that nobody acts by the bound.
-use Rattle.std.proofs.Common.{◌≡◌, ◌⊎◌, ◌<◌, ◌≤◌, ℕ, zero, suc, ◌+◌, ◌-◌, ◌*◌, nat_lt, Bool, true, false, List, [], ◌∷◌, Option, Some, None, IfSome, refl, sym, ap, ◌∙◌, subst, inl, inr, ⊎_elim, arith}
+use Rattle.std.proofs.Common.{◌≡◌, ◌⊎◌, ◌<◌, ◌≤◌, ℕ, zero, suc, ◌+◌, ◌-◌, ◌*◌, ◌/◌, max, nat_lt, Bool, true, false, List, [], ◌∷◌, Option, Some, None, IfSome, refl, sym, ap, ◌∙◌, subst, inl, inr, ⊎_elim, arith}
 use Rattle.std.specs.Prelude.{if◌then◌else◌}
+use Rattle.std.proofs.lemmas.Nat.{le-div}
+use Rattle.std.specs.Int.{div_ceil}
 use Rattle.std.proofs.lemmas.Bool.{ltb-false, cases_lt, eq-eqb}
 use Rattle.kube_objects.specs.declared.deed.Actor.{Actor}
 use Rattle.kube_objects.specs.declared.object.Object.{Object}
-use Rattle.kube_objects.specs.Document.{Doc, processes, end_beat, is_controller}
+use Rattle.kube_objects.specs.Document.{Doc, processes, end_beat, is_controller, call_timeout, retry_period}
 use Rattle.kube_objects.specs.Elector.{leads, deadline, acts}
 use Rattle.kube_objects.specs.Entry.{Entry, Identity, Fact, First as FirstPut, Event as Happens, Starts, Stops, Sends, Answers, Delivers, Expires, Leads, Ends, Crashes, Stalls, Ticks, actor_of}
 use Rattle.kube_objects.specs.Identities.{identity}
@@ -27,8 +29,8 @@ use Rattle.history_laws.proofs.Walk.{Anyone, all_turns, walk_any_turn}
 use Rattle.lease_laws.proofs.EachKind.{elsewhere}
 use Rattle.lease_laws.proofs.Quiet.{stored_tick}
 use Rattle.lease_laws.proofs.Steps.{sound_of}
-use Rattle.span_laws.specs.Looks.{IsGreatest}
-use Rattle.span_laws.specs.Spans.{IsEnough}
+use Rattle.span_laws.specs.Quotients.{most_beats}
+use Rattle.span_laws.proofs.Quotients.{rounded_is, bounds_are_exact}
 use Rattle.call_laws.specs.Answering.{with_events, with_answers}
 use Rattle.call_laws.proofs.Above.{in_head}
 use Rattle.call_laws.proofs.Answering.{events_position}
@@ -38,7 +40,8 @@ use Rattle.takeover_laws.specs.Calm.{IsSteady, IsCalm, IsInTime, WritesElection}
 use Rattle.takeover_laws.proofs.Fresh.{turn_counted}
 use Rattle.takeover_laws.proofs.Records.{no_write, asks_elsewhere, wrote_key}
 use Rattle.takeover_laws.proofs.Standing.{controllers_first, persists}
-use Rattle.calm_laws.specs.Bounds.{early_write, early_record, LastsFor, IsCandidate, TakeoversAreBounded}
+use Rattle.calm_laws.specs.Bounds.{early_write, early_record, LastsFor, SomebodyActs, takeover_bound, TakeoversAreBounded, TakeoversAreTold}
+use Rattle.calm_laws.proofs.Deciding.{somebody_or_nobody}
 use Rattle.calm_laws.proofs.First.{none_first}
 use Rattle.calm_laws.proofs.Life.{never_led, restart_same, restart_deadline}
 use Rattle.calm_laws.proofs.Looks.{object_of}
@@ -244,7 +247,8 @@ module _ (doc : Doc) (near far a e n : ℕ) (p i : ℕ) (role : is_controller do
 -- ---- the law
 
 pub takeovers_are_bounded : TakeoversAreBounded
-takeovers_are_bounded doc near far a e sound calm time one ways end p later slow fast lost wait needed c first up_by lost_by ways_by lasting enough most lasts enough_is most_is within none = by_up (alive p S) refl
+takeovers_are_bounded doc near far a e sound calm time one ways end p later slow fast lost wait needed c b first up_by lost_by ways_by lasting enough most lasts enough_is most_is within =
+    ⊎_elim (λ somebody. somebody) (λ none. absurd (idle none)) (somebody_or_nobody doc near far a e n)
   where
     n : ℕ
     n = a + first + most + 4 * far
@@ -258,47 +262,87 @@ takeovers_are_bounded doc near far a e sound calm time one ways end p later slow
     my_time : IsInTime doc far a e p
     my_time = time p c.role c.steady
 
-    the_record : LastsFor lasting (object_of (stored election (history doc (a + far))))
-    the_record =
-        subst (LastsFor lasting)
-        (sym (early_is_stored doc near far a e n sound calm time one ways end within none (omega (arith, one, ways)) (history doc (a + far)) (tail_all (history doc (a + far))))) lasts
-
-    below : p < processes doc
-    below = controllers_first doc p c.role
-
-    with_identity : (i : ℕ) → alive p S ≡ Some i → ⊥
-    with_identity i up =
-        none_first doc near far a e n sound calm time one ways end within none (identity p i) c.role c.steady led lasting the_record slow fast wait needed c.runs_least c.runs_most c.waits c.wait_is c.needed_is lost c.lost_is
-        enough most enough_is most_is G (omega (arith, lost_by)) (omega (arith, ways_by, one, ways)) (omega arith) at_turn_up
+    idle : NobodyActs doc near far a e n → ⊥
+    idle none = by_up (alive p S) refl
       where
-        late : (h : List Entry) → IsTail S h → IsTail h (history doc (suc n)) → alive p h ≡ Some i
-        late = up_later doc near far a e n p i c.role c.steady my_time within none (a + later) (omega arith) (omega (arith, up_by)) up
+        the_record : LastsFor lasting (object_of (stored election (history doc (a + far))))
+        the_record =
+            subst (LastsFor lasting)
+            (sym (early_is_stored doc near far a e n sound calm time one ways end within none (omega (arith, one, ways)) (history doc (a + far)) (tail_all (history doc (a + far))))) lasts
 
-        s_high : IsTail S (history doc (suc (a + later)))
-        s_high = turn_tail doc (suc p) (a + later) (omega (arith, below))
+        below : p < processes doc
+        below = controllers_first doc p c.role
 
-        led : (h : List Entry) → IsTail h (history doc (suc n)) → leads (identity p i) h ≡ false
-        led =
-            never_led doc near far a e n (identity p i) c.role my_time.deadline c.steady within (none (identity p i) c.role c.steady) (omega arith)
-            (late (history doc (suc n)) (tail_trans S (history doc (suc (a + later))) (history doc (suc n)) s_high (later_tail doc (suc (a + later)) (suc n) (omega (arith, up_by)))) (tail_all (history doc (suc n))))
-
-        at_turn_up : alive p (restart doc G p (at_turn doc p G)) ≡ Some i
-        at_turn_up = ⊎_elim before (λ le. here (omega (arith, le, up_by))) (cases_lt (a + later) G)
+        with_identity : (i : ℕ) → alive p S ≡ Some i → ⊥
+        with_identity i up =
+            none_first doc near far a e n sound calm time one ways end within none (identity p i) c.role c.steady led lasting the_record slow fast wait needed c.runs_least c.runs_most c.waits b.wait_is b.needed_is lost b.lost_is
+            enough most enough_is most_is G (omega (arith, lost_by)) (omega (arith, ways_by, one, ways)) (omega arith) at_turn_up
           where
-            before : a + later < G → alive p (restart doc G p (at_turn doc p G)) ≡ Some i
-            before lt = ap (alive p) (restart_same doc G p i (at_turn doc p G) there) ∙ there
+            late : (h : List Entry) → IsTail S h → IsTail h (history doc (suc n)) → alive p h ≡ Some i
+            late = up_later doc near far a e n p i c.role c.steady my_time within none (a + later) (omega arith) (omega (arith, up_by)) up
+
+            s_high : IsTail S (history doc (suc (a + later)))
+            s_high = turn_tail doc (suc p) (a + later) (omega (arith, below))
+
+            led : (h : List Entry) → IsTail h (history doc (suc n)) → leads (identity p i) h ≡ false
+            led =
+                never_led doc near far a e n (identity p i) c.role my_time.deadline c.steady within (none (identity p i) c.role c.steady) (omega arith)
+                (late (history doc (suc n)) (tail_trans S (history doc (suc (a + later))) (history doc (suc n)) s_high (later_tail doc (suc (a + later)) (suc n) (omega (arith, up_by)))) (tail_all (history doc (suc n))))
+
+            at_turn_up : alive p (restart doc G p (at_turn doc p G)) ≡ Some i
+            at_turn_up = ⊎_elim before (λ le. here (omega (arith, le, up_by))) (cases_lt (a + later) G)
               where
-                there : alive p (at_turn doc p G) ≡ Some i
-                there =
-                    late (at_turn doc p G)
-                    (tail_trans S (history doc G) (at_turn doc p G) (tail_trans S (history doc (suc (a + later))) (history doc G) s_high (later_tail doc (suc (a + later)) G (omega (arith, lt)))) (before_turn doc p G))
-                    (tail_trans (at_turn doc p G) (history doc (suc G)) (history doc (suc n)) (turn_tail doc p G (omega (arith, below))) (later_tail doc (suc G) (suc n) (omega arith)))
+                before : a + later < G → alive p (restart doc G p (at_turn doc p G)) ≡ Some i
+                before lt = ap (alive p) (restart_same doc G p i (at_turn doc p G) there) ∙ there
+                  where
+                    there : alive p (at_turn doc p G) ≡ Some i
+                    there =
+                        late (at_turn doc p G)
+                        (tail_trans S (history doc G) (at_turn doc p G) (tail_trans S (history doc (suc (a + later))) (history doc G) s_high (later_tail doc (suc (a + later)) G (omega (arith, lt)))) (before_turn doc p G))
+                        (tail_trans (at_turn doc p G) (history doc (suc G)) (history doc (suc n)) (turn_tail doc p G (omega (arith, below))) (later_tail doc (suc G) (suc n) (omega arith)))
 
-            here : a + later ≡ G → alive p (restart doc G p (at_turn doc p G)) ≡ Some i
-            here is =
-                subst (λ k. alive p (restart doc k p (at_turn doc p k)) ≡ Some i) is
-                (up_restarted doc near far a e n p i c.role c.steady my_time within none (a + later) (omega arith) (omega (arith, up_by)) up)
+                here : a + later ≡ G → alive p (restart doc G p (at_turn doc p G)) ≡ Some i
+                here is =
+                    subst (λ k. alive p (restart doc k p (at_turn doc p k)) ≡ Some i) is
+                    (up_restarted doc near far a e n p i c.role c.steady my_time within none (a + later) (omega arith) (omega (arith, up_by)) up)
 
-    by_up : (o : Option ℕ) → alive p S ≡ o → ⊥
-    by_up None is = true_is (sym c.up ∙ ap has is)
-    by_up (Some i) is = with_identity i is
+        by_up : (o : Option ℕ) → alive p S ≡ o → ⊥
+        by_up None is = true_is (sym c.up ∙ ap has is)
+        by_up (Some i) is = with_identity i is
+
+-- ---- in whole beats
+
+-- a number is below the next multiple
+next_multiple : (n m : ℕ) → 1 ≤ m → n < suc (n / m) * m
+next_multiple n m some = ⊎_elim (λ less. less) (λ le. absurd (omega (arith, le-div (suc (n / m)) n m some le))) (cases_lt n (suc (n / m) * m))
+
+pub takeovers_are_told : TakeoversAreTold
+takeovers_are_told doc near far a e sound calm time one ways end p later slow fast c some_slow some_fast lasting lasts within =
+    subst (SomebodyActs doc near far a e) sum
+    (takeovers_are_bounded doc near far a e sound calm time one ways end p later slow fast lost wait needed c
+    (record { lost_is = next_multiple (call_timeout doc p) slow some_slow; wait_is = (rounded_is slow (retry_period doc p) some_slow).0; needed_is = (rounded_is fast (retry_period doc p) some_fast).1 })
+    first (omega arith) (omega arith) (omega arith) lasting enough most lasts (rounded_is slow lasting some_slow).0 ((bounds_are_exact (needed + 2 * near) (wait + 2 * far) enough).0 some_step).1 (omega (arith, sum, within)))
+  where
+    lost : ℕ
+    lost = call_timeout doc p / slow
+
+    wait : ℕ
+    wait = div_ceil (retry_period doc p) slow
+
+    needed : ℕ
+    needed = div_ceil (retry_period doc p) fast
+
+    enough : ℕ
+    enough = div_ceil lasting slow
+
+    first : ℕ
+    first = max later (max lost (4 * far - 1) + wait)
+
+    most : ℕ
+    most = most_beats (needed + 2 * near) (wait + 2 * far) enough
+
+    some_step : 1 ≤ needed + 2 * near
+    some_step = omega (arith, one)
+
+    sum : a + first + most + 4 * far ≡ a + takeover_bound doc near far p later slow fast lasting
+    sum = omega arith

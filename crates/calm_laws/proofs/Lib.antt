@@ -7,4 +7,5 @@ pub mod Replies
 pub mod Life
 pub mod Looks
 pub mod First
+pub mod Deciding
 pub mod Bounded
