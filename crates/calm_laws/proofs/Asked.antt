@@ -1,14 +1,13 @@
 -- What a candidate that never leads asks for, and what a counted reply is followed by.
-use Rattle.std.proofs.Common.{◌≡◌, ◌⊎◌, ◌≤◌, ℕ, suc, ◌+◌, ◌==◌, ◌&&◌, not, nat_lt, Bool, true, false, cond, List, [], ◌∷◌, Option, Some, None, refl, sym, ap, ◌∙◌, subst, inl, inr, ⊎_elim, arith}
+use Rattle.std.proofs.Common.{◌≡◌, ◌⊎◌, ◌≤◌, ℕ, Bool, true, false, cond, List, ◌∷◌, Option, Some, None, refl, sym, ap, ◌∙◌, subst, inl, inr, arith}
 use Rattle.kube_objects.specs.declared.call.Reply.{Reply}
 use Rattle.kube_objects.specs.declared.call.Reply.TheVariants.{Found, Done, Absent, Exists, Conflict, Unchanged}
 use Rattle.kube_objects.specs.declared.call.Request.{Request}
 use Rattle.kube_objects.specs.declared.call.Request.TheVariants.{Get, Create, Update, PostStatus}
 use Rattle.kube_objects.specs.declared.key.Key.{Key}
-use Rattle.kube_objects.specs.declared.lease.Lease.{Lease}
 use Rattle.kube_objects.specs.Document.{Doc, is_controller}
 use Rattle.kube_objects.specs.Elector.{Moment, Follow, Fails, Asks, Succeeds, is_blocked, updated, follow_get, not_done, follow_write, follow, leads}
-use Rattle.kube_objects.specs.Entry.{Entry, Identity, Call, CallKind, Plain, Fast, Release, Fact, Sends, actor_of}
+use Rattle.kube_objects.specs.Entry.{Entry, Identity, Call, CallKind, Plain, Fast, Release, Sends, actor_of}
 use Rattle.kube_objects.specs.Process.{open_as, alive, call_in}
 use Rattle.kube_objects.specs.Stored.{election, key_of}
 use Rattle.history.specs.History.{history}
@@ -16,7 +15,6 @@ use Rattle.history_laws.specs.Tails.{IsTail}
 use Rattle.history_laws.proofs.Plainly.{none_is}
 use Rattle.call_laws.proofs.Making.{MadeAs, MadeSend, HasStopped, IsOpen, Replied, are_made}
 use Rattle.call_laws.proofs.Starting.{actor_is}
-use Rattle.calm_laws.proofs.Begun.{Begun}
 use Rattle.calm_laws.proofs.Requests.{AsksInTurn, asks_in_turn}
 
 -- ---- what follows a reply

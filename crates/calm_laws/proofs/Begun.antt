@@ -1,5 +1,5 @@
 -- The entry that a waiting call, or a timer, is from.
-use Rattle.std.proofs.Common.{◌≡◌, ◌⊎◌, ◌≤◌, ◌<◌, ℕ, ◌==◌, Bool, true, false, List, [], ◌∷◌, length, Option, Some, None, refl, sym, ap, ◌∙◌, subst, inl, inr, arith}
+use Rattle.std.proofs.Common.{◌≡◌, ◌≤◌, ◌<◌, ℕ, ◌==◌, true, false, List, [], ◌∷◌, length, Option, Some, None, refl, sym, ap, ◌∙◌, subst, inl, inr, arith}
 use Rattle.std.proofs.lemmas.Bool.{eqb-true}
 use Rattle.kube_objects.specs.declared.deed.Actor.{Actor}
 use Rattle.kube_objects.specs.declared.deed.Actor.TheVariants as actors
@@ -7,12 +7,12 @@ use Rattle.kube_objects.specs.Document.{Doc}
 use Rattle.kube_objects.specs.Elector.{timer_says, timer}
 use Rattle.kube_objects.specs.Entry.{Entry, Identity, Call, CallKind, Plain, Fast, Release, Fact, First, Event, Starts, Stops, Sends, Answers, Delivers, Expires, Leads, Ends, Crashes, Stalls, Ticks, actor_of}
 use Rattle.kube_objects.specs.Identities.{is_by}
-use Rattle.kube_objects.specs.Newest.{newest, when, join, or_zero}
+use Rattle.kube_objects.specs.Newest.{newest, join, or_zero}
 use Rattle.kube_objects.specs.Process.{open_as, call_says, last_call, call_in}
 use Rattle.history_laws.specs.Tails.{IsTail}
 use Rattle.history_laws.proofs.Counting.{when_test, when_value}
 use Rattle.history_laws.proofs.Plainly.{upper, some_is, none_is, false_is, and_left, and_right}
-use Rattle.history_laws.proofs.Tailed.{tail_all, tail_trans, tail_of_empty, same_head, same_rest}
+use Rattle.history_laws.proofs.Tailed.{tail_all, tail_trans, tail_of_empty, same_head}
 use Rattle.call_laws.proofs.Above.{tail_length}
 
 pub by_is : (q : Identity) (who : Actor) → is_by q who ≡ true → who ≡ actor_of q

@@ -1,5 +1,5 @@
 -- In a calm it isn't so that nobody acts by the bound.
-use Rattle.std.proofs.Common.{◌≡◌, ◌⊎◌, ◌<◌, ◌≤◌, ℕ, zero, suc, ◌+◌, ◌-◌, ◌*◌, ◌/◌, max, nat_lt, Bool, true, false, List, [], ◌∷◌, Option, Some, None, IfSome, refl, sym, ap, ◌∙◌, subst, inl, inr, ⊎_elim, arith}
+use Rattle.std.proofs.Common.{◌≡◌, ◌<◌, ◌≤◌, ℕ, suc, ◌+◌, ◌-◌, ◌*◌, ◌/◌, max, nat_lt, Bool, true, false, List, [], ◌∷◌, Option, Some, None, refl, sym, ap, ◌∙◌, subst, inl, inr, ⊎_elim, arith}
 use Rattle.std.specs.Prelude.{if◌then◌else◌}
 use Rattle.std.proofs.lemmas.Nat.{le-div}
 use Rattle.std.specs.Int.{div_ceil}
@@ -8,22 +8,22 @@ use Rattle.kube_objects.specs.declared.deed.Actor.{Actor}
 use Rattle.kube_objects.specs.declared.object.Object.{Object}
 use Rattle.kube_objects.specs.Document.{Doc, processes, end_beat, is_controller, call_timeout, retry_period}
 use Rattle.kube_objects.specs.Elector.{leads, deadline, acts}
-use Rattle.kube_objects.specs.Entry.{Entry, Identity, Fact, First as FirstPut, Event as Happens, Starts, Stops, Sends, Answers, Delivers, Expires, Leads, Ends, Crashes, Stalls, Ticks, actor_of}
+use Rattle.kube_objects.specs.Entry.{Entry, Fact, First as FirstPut, Event as Happens, Starts, Stops, Sends, Answers, Delivers, Expires, Leads, Ends, Crashes, Stalls, Ticks}
 use Rattle.kube_objects.specs.Identities.{identity}
 use Rattle.kube_objects.specs.Keys.{key_eq}
 use Rattle.kube_objects.specs.Newest.{newest, when, only_if, join, has}
 use Rattle.kube_objects.specs.Pauses.{is_paused}
 use Rattle.kube_objects.specs.Process.{alive, is_restart_due, ended, starts, born, life}
-use Rattle.kube_objects.specs.Stored.{Held, election, event_write, request_write, at_key, write_of, held_as, holds, last_write, next_version, stored}
+use Rattle.kube_objects.specs.Stored.{election, event_write, request_write, at_key, write_of, held_as, holds, last_write, next_version, stored}
 use Rattle.kube_objects.specs.Tick.{tick}
 use Rattle.kube_objects.specs.Turns.{expired, end_term, try}
 use Rattle.kube_objects.specs.Wire.{Back, back_of}
-use Rattle.history.specs.History.{history, three_steps, at_turn}
+use Rattle.history.specs.History.{history, at_turn}
 use Rattle.history.specs.Sound.{IsSound}
-use Rattle.history.specs.Steps.{start, stamp, restart, expire, finish, attempts, ticks, restart_if, if_up, controller_turn, kubelet_turn, unpaused_turn, turn, step_two, step_three}
-use Rattle.history_laws.specs.Tails.{In, IsTail}
+use Rattle.history.specs.Steps.{start, stamp, restart, expire, finish, attempts, ticks, restart_if, if_up, controller_turn, kubelet_turn, unpaused_turn, turn, step_three}
+use Rattle.history_laws.specs.Tails.{IsTail}
 use Rattle.history_laws.proofs.Order.{entries_are_earlier}
-use Rattle.history_laws.proofs.Plainly.{upper, some_is, none_is, true_is, false_is}
+use Rattle.history_laws.proofs.Plainly.{upper, none_is, true_is}
 use Rattle.history_laws.proofs.Tailed.{tail_all, tail_trans, later_tail, two_adds, three_adds, turns_add, turn_tail, before_turn}
 use Rattle.history_laws.proofs.Walk.{Anyone, all_turns, walk_any_turn}
 use Rattle.lease_laws.proofs.EachKind.{elsewhere}
@@ -86,20 +86,23 @@ module _ (doc : Doc) (near far a e n : ℕ) (sound : IsSound doc) (calm : IsCalm
         by_key true is =
             written_as x T (Some object) (ap (λ d. at_key election (write_of d)) fact ∙ ap (λ b. when b (Some object)) is) (ap (early_write a) fact ∙ ap (λ b. when b (Some object)) is)
         by_key false is =
-            unwritten x T
-            (ap (λ d. join (upper (holds T x.beat x.actor (at_key election (write_of d))) (last_write election T))) fact ∙ ap (λ b. join (upper (holds T x.beat x.actor (when b (Some object))) (last_write election T))) is,
-            ap (early_write a) fact ∙ ap (λ b. when b (Some object)) is) s
+            unwritten x T (
+              ap (λ d. join (upper (holds T x.beat x.actor (at_key election (write_of d))) (last_write election T))) fact ∙ ap (λ b. join (upper (holds T x.beat x.actor (when b (Some object))) (last_write election T))) is,
+              ap (early_write a) fact ∙ ap (λ b. when b (Some object)) is,
+            ) s
     same who (Happens w version) actor fact made =
-        unwritten x T
-        (ap (λ d. join (upper (holds T x.beat x.actor (at_key election (write_of d))) (last_write election T))) fact
-        ∙ ap (λ o. join (upper (holds T x.beat x.actor o) (last_write election T)))
-        (ap (λ w. at_key election (event_write w version)) made.3 ∙ ap (λ v. at_key election (event_write (stamp doc x.beat made.1) v)) made.4 ∙ elsewhere doc x.beat made.1 T (sound_of doc x.beat made.1 sound made.2)),
-        ap (early_write a) fact) s
+        unwritten x T (
+          ap (λ d. join (upper (holds T x.beat x.actor (at_key election (write_of d))) (last_write election T))) fact
+              ∙ ap (λ o. join (upper (holds T x.beat x.actor o) (last_write election T)))
+              (ap (λ w. at_key election (event_write w version)) made.3 ∙ ap (λ v. at_key election (event_write (stamp doc x.beat made.1) v)) made.4 ∙ elsewhere doc x.beat made.1 T (sound_of doc x.beat made.1 sound made.2)),
+          ap (early_write a) fact,
+        ) s
     same who (Ticks t) actor fact made =
-        unwritten x T
-        (ap (λ d. join (upper (holds T x.beat x.actor (at_key election (write_of d))) (last_write election T))) fact
-        ∙ ap (λ who. join (upper (holds T x.beat who (at_key election (write_of (Ticks t)))) (last_write election T))) (actor ∙ made.1) ∙ stored_tick doc x.beat made.0 t T made.2,
-        ap (early_write a) fact) s
+        unwritten x T (
+          ap (λ d. join (upper (holds T x.beat x.actor (at_key election (write_of d))) (last_write election T))) fact
+              ∙ ap (λ who. join (upper (holds T x.beat who (at_key election (write_of (Ticks t)))) (last_write election T))) (actor ∙ made.1) ∙ stored_tick doc x.beat made.0 t T made.2,
+          ap (early_write a) fact,
+        ) s
     same who (Answers call reply comes wrote) actor fact made = by_write (at_key election (request_write call.request wrote)) refl
       where
         no_late : (o : Option Object) → at_key election (request_write call.request wrote) ≡ Some o → a ≤ call.sent → ⊥
@@ -121,9 +124,10 @@ module _ (doc : Doc) (near far a e n : ℕ) (sound : IsSound doc) (calm : IsCalm
 
         by_write : (o : Option (Option Object)) → at_key election (request_write call.request wrote) ≡ o → Same (x ∷ T)
         by_write None is =
-            unwritten x T
-            (ap (λ d. join (upper (holds T x.beat x.actor (at_key election (write_of d))) (last_write election T))) fact ∙ ap (λ o. join (upper (holds T x.beat x.actor o) (last_write election T))) is,
-            ap (early_write a) fact ∙ ap (only_if (nat_lt call.sent a)) is ∙ no_value (nat_lt call.sent a)) s
+            unwritten x T (
+              ap (λ d. join (upper (holds T x.beat x.actor (at_key election (write_of d))) (last_write election T))) fact ∙ ap (λ o. join (upper (holds T x.beat x.actor o) (last_write election T))) is,
+              ap (early_write a) fact ∙ ap (only_if (nat_lt call.sent a)) is ∙ no_value (nat_lt call.sent a),
+            ) s
         by_write (Some o) is = by_time (nat_lt call.sent a) refl
           where
             by_time : (b : Bool) → nat_lt call.sent a ≡ b → Same (x ∷ T)

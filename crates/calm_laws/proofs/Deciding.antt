@@ -1,6 +1,6 @@
 -- Whether a controller's messages pass in a span, and whether somebody acts in it, is decided by looking.
-use Rattle.std.proofs.Common.{◌≡◌, ◌⊎◌, ◌<◌, ◌≤◌, ℕ, zero, suc, ◌+◌, ◌==◌, ◌&&◌, ◌||◌, not, nat_lt, Bool, true, false, List, [], ◌∷◌, length, Option, Some, None, refl, sym, ap, ◌∙◌, subst, inl, inr, ⊎_elim, arith}
-use Rattle.std.proofs.lemmas.Bool.{ltb-true, ltb-false, cases_lt, cases_eq}
+use Rattle.std.proofs.Common.{◌≡◌, ◌⊎◌, ◌<◌, ◌≤◌, ℕ, zero, suc, not, Bool, true, false, List, [], ◌∷◌, Option, Some, None, refl, sym, ap, ◌∙◌, subst, inl, inr, ⊎_elim, arith}
+use Rattle.std.proofs.lemmas.Bool.{cases_lt, cases_eq}
 use Rattle.kube_objects.specs.Clocks.{local}
 use Rattle.kube_objects.specs.Document.{Doc, processes, is_controller}
 use Rattle.kube_objects.specs.Elector.{acts, in_term, is_before, deadline}
@@ -14,11 +14,11 @@ use Rattle.history.specs.History.{history, at_turn}
 use Rattle.history.specs.Safe.{Acts}
 use Rattle.history_laws.specs.Tails.{In}
 use Rattle.history_laws.proofs.Counting.{present_is}
-use Rattle.history_laws.proofs.Plainly.{some_is, none_is, false_is, true_is, and_left, and_right, and_both, not_true}
+use Rattle.history_laws.proofs.Plainly.{false_is, true_is, and_left, and_right}
 use Rattle.call_laws.specs.Answering.{with_events}
-use Rattle.takeover_laws.specs.Acting.{ActsBetween, NobodyActs}
+use Rattle.takeover_laws.specs.Acting.{NobodyActs}
 use Rattle.takeover_laws.specs.Calm.{Passes, AllBeats, IsSteady}
-use Rattle.takeover_laws.proofs.Acting.{Found, Searched, search}
+use Rattle.takeover_laws.proofs.Acting.{Searched, search}
 use Rattle.takeover_laws.proofs.Standing.{controllers_first}
 use Rattle.calm_laws.specs.Bounds.{SomebodyActs}
 

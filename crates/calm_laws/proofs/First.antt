@@ -1,8 +1,7 @@
 -- The first look of a candidate: what it had begun before the calm is over in time, and then it asks.
-use Rattle.std.proofs.Common.{◌≡◌, ◌⊎◌, ◌<◌, ◌≤◌, ℕ, zero, suc, ◌+◌, ◌-◌, ◌*◌, ◌&&◌, not, nat_lt, Bool, true, false, List, [], ◌∷◌, Option, Some, None, IfSome, refl, sym, ap, ◌∙◌, subst, inl, inr, ⊎_elim, arith}
+use Rattle.std.proofs.Common.{◌≡◌, ◌⊎◌, ◌<◌, ◌≤◌, ℕ, zero, suc, ◌+◌, ◌-◌, ◌*◌, ◌&&◌, not, Bool, true, false, List, ◌∷◌, Option, Some, None, IfSome, refl, sym, ap, ◌∙◌, subst, inl, inr, ⊎_elim, arith}
 use Rattle.std.proofs.Math.Nat.{mul-le-mul_right}
 use Rattle.std.proofs.lemmas.Bool.{ltb-true, ltb-false, cases_lt}
-use Rattle.kube_base.specs.declared.numbers.Version.{Version}
 use Rattle.kube_objects.specs.declared.call.Reply.{Reply}
 use Rattle.kube_objects.specs.declared.call.Request.{Request}
 use Rattle.kube_objects.specs.declared.call.Request.TheVariants.{Get, Create, Update, PostStatus}
@@ -13,10 +12,10 @@ use Rattle.kube_objects.specs.Clocks.{local}
 use Rattle.kube_objects.specs.Document.{Doc, processes, end_beat, is_controller, call_timeout, retry_period}
 use Rattle.kube_objects.specs.Elector.{Follow, Fails, Asks, Succeeds, is_fast, lead_says, leads, follow_on, timer_follow, timer_says, timer}
 use Rattle.kube_objects.specs.Entry.{Entry, Identity, Call, Release, Fact, First as FirstPut, Event as Happens, Starts, Stops, Sends, Answers, Delivers, Expires, Leads, Ends, Crashes, Stalls, Ticks, actor_of, entry}
-use Rattle.kube_objects.specs.Identities.{is_by, is_same}
-use Rattle.kube_objects.specs.Newest.{newest, when, only_if, has}
+use Rattle.kube_objects.specs.Identities.{is_by}
+use Rattle.kube_objects.specs.Newest.{newest, when, has}
 use Rattle.kube_objects.specs.Pauses.{is_paused}
-use Rattle.kube_objects.specs.Process.{open_as, alive, call_says, call_in, is_late}
+use Rattle.kube_objects.specs.Process.{open_as, alive, call_in, is_late}
 use Rattle.kube_objects.specs.Stored.{election, key_of, stored}
 use Rattle.kube_objects.specs.Wire.{next_call, request_arrival}
 use Rattle.kube_objects.proofs.Clocks.{local_up}
@@ -26,7 +25,7 @@ use Rattle.history.specs.Steps.{restart, turn}
 use Rattle.history_laws.specs.Tails.{In, IsTail}
 use Rattle.history_laws.proofs.Counting.{CountedFor, counted_is, only_test, only_value, when_test, when_value}
 use Rattle.history_laws.proofs.Order.{entries_are_earlier}
-use Rattle.history_laws.proofs.Plainly.{upper, some_is, none_is, true_is, false_is, and_left, same_is, same_self}
+use Rattle.history_laws.proofs.Plainly.{upper, some_is, none_is, true_is, and_left, same_is, same_self}
 use Rattle.history_laws.proofs.Tailed.{tail_all, tail_trans, tails_meet, later_tail, turn_tail, before_turn}
 use Rattle.span_laws.specs.Looks.{IsGreatest}
 use Rattle.span_laws.specs.Spans.{RunsAtLeast, RunsAtMost, IsEnough, IsNeeded}
@@ -34,7 +33,7 @@ use Rattle.span_laws.proofs.Spans.{goes_least, goes_most, readings_grow}
 use Rattle.call_laws.specs.Answering.{with_events}
 use Rattle.call_laws.proofs.Above.{in_head}
 use Rattle.call_laws.proofs.Answering.{events_position}
-use Rattle.call_laws.proofs.Making.{MadeAs, MadeDelivery, MadeExpiry, MadeSend, HasStopped, IsOpen, Replied, are_made}
+use Rattle.call_laws.proofs.Making.{MadeAs, MadeDelivery, MadeExpiry, MadeSend, HasStopped, IsOpen, are_made}
 use Rattle.call_laws.proofs.Placing.{in_own_beat, not_before, messages_travel}
 use Rattle.call_laws.proofs.Starting.{actor_is}
 use Rattle.takeover_laws.specs.Acting.{AreInTime, NobodyActs}
@@ -51,7 +50,7 @@ use Rattle.calm_laws.proofs.Looks.{object_of, has_lease, LookIn, failed_look, lo
 use Rattle.calm_laws.proofs.Origins.{Origin, origin}
 use Rattle.calm_laws.proofs.Replies.{HasLease, key, answered_late, sent_since, no_late_write}
 use Rattle.calm_laws.proofs.Requests.{asks_in_turn}
-use Rattle.calm_laws.proofs.Turning.{IsWaiting, IsAsking, IsSleeping, Turned, turned}
+use Rattle.calm_laws.proofs.Turning.{Turned, turned}
 
 no_kind : kind.Node ≡ kind.Lease → ⊥
 no_kind h = cc

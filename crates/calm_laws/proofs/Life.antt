@@ -1,6 +1,6 @@
 -- Between two positions at which it is up a controller is up; and who is up and hasn't acted never led.
 use Rattle.std.specs.Prelude.{if◌then◌else◌}
-use Rattle.std.proofs.Common.{◌≡◌, ◌≤◌, ℕ, suc, ◌+◌, Bool, true, false, List, [], ◌∷◌, Option, Some, None, refl, sym, ap, ◌∙◌, subst, inl, inr, arith}
+use Rattle.std.proofs.Common.{◌≡◌, ◌≤◌, ℕ, suc, Bool, true, false, List, [], ◌∷◌, Option, Some, None, refl, sym, ap, ◌∙◌, inr, arith}
 use Rattle.kube_objects.specs.declared.deed.Actor.{Actor}
 use Rattle.kube_objects.specs.Document.{Doc, is_controller, renew_deadline}
 use Rattle.kube_objects.specs.Elector.{leads, deadline}
@@ -11,7 +11,7 @@ use Rattle.history.specs.History.{history, at_turn}
 use Rattle.history.specs.Safe.{Acts}
 use Rattle.history.specs.Steps.{start, restart_if, restart}
 use Rattle.history_laws.specs.Tails.{IsTail}
-use Rattle.history_laws.proofs.Lives.{Counted, Over, counted_more}
+use Rattle.history_laws.proofs.Lives.{Counted, counted_more}
 use Rattle.history_laws.proofs.Plainly.{none_is, true_is}
 use Rattle.history_laws.proofs.Tailed.{tail_all, tail_trans, starts_tail}
 use Rattle.history_laws.proofs.Walk.{StartIsNext}

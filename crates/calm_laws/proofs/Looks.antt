@@ -1,12 +1,11 @@
 -- The looks of a candidate at the record that stays stored: each fails, and the next one comes in time.
-use Rattle.std.proofs.Common.{◌≡◌, ◌⊎◌, ◌<◌, ◌≤◌, ℕ, zero, suc, ◌+◌, ◌-◌, ◌*◌, ◌&&◌, nat_lt, Bool, true, false, cond, List, [], ◌∷◌, Option, Some, None, refl, sym, ap, ◌∙◌, subst, inl, inr, ⊎_elim, arith}
+use Rattle.std.proofs.Common.{◌≡◌, ◌⊎◌, ◌<◌, ◌≤◌, ℕ, zero, suc, ◌+◌, ◌-◌, ◌*◌, Bool, true, false, cond, List, [], ◌∷◌, Option, Some, None, refl, sym, ap, ◌∙◌, subst, inl, inr, ⊎_elim, arith}
 use Rattle.std.proofs.lemmas.Bool.{ltb-true, cases_lt}
 use Rattle.kube_base.specs.declared.numbers.Version.{Version}
 use Rattle.kube_objects.specs.declared.call.Reply.{Reply}
 use Rattle.kube_objects.specs.declared.call.Reply.TheVariants.{Found, Done, Absent, Exists, Conflict, Unchanged}
 use Rattle.kube_objects.specs.declared.call.Request.{Request}
 use Rattle.kube_objects.specs.declared.call.Request.TheVariants.{Get, Create, Update}
-use Rattle.kube_objects.specs.declared.lease.Holder.{Holder}
 use Rattle.kube_objects.specs.declared.lease.Holder.TheVariants as holder
 use Rattle.kube_objects.specs.declared.lease.Lease.{Lease}
 use Rattle.kube_objects.specs.declared.object.Object.{Object}
@@ -15,8 +14,8 @@ use Rattle.kube_objects.specs.Answers.{lease_in, versioned, as_kind, answer_get,
 use Rattle.kube_objects.specs.Clocks.{local}
 use Rattle.kube_objects.specs.Document.{Doc, end_beat, is_controller, of_seconds, retry_period}
 use Rattle.kube_objects.specs.Elector.{Moment, moment, Follow, Fails, Asks, Succeeds, is_blocked, is_valid, updated, created, follow_get, follow, follow_on, leads, Shown, told, shows, shown, is_known, newly, found_shows, observed, observed_at}
-use Rattle.kube_objects.specs.Entry.{Entry, Identity, Call, CallKind, Plain, Sends, Delivers, actor_of, entry}
-use Rattle.kube_objects.specs.Identities.{is_other, is_same, is_by}
+use Rattle.kube_objects.specs.Entry.{Entry, Identity, Call, Plain, Sends, Delivers, actor_of, entry}
+use Rattle.kube_objects.specs.Identities.{is_other}
 use Rattle.kube_objects.specs.Newest.{only_if, or_zero}
 use Rattle.kube_objects.specs.Process.{alive}
 use Rattle.kube_objects.specs.Stored.{Held, election, stored}
@@ -45,7 +44,7 @@ use Rattle.takeover_laws.proofs.Writers.{IsReacted, replies_react}
 use Rattle.calm_laws.specs.Bounds.{LastsFor}
 use Rattle.calm_laws.proofs.Asked.{IsWrite, asks_same, fails_not}
 use Rattle.calm_laws.proofs.Origins.{Origin, origin}
-use Rattle.calm_laws.proofs.Replies.{HasLease, stored_reply, key, answered_late, shows_stored, no_late_write, Seen, seen_stays}
+use Rattle.calm_laws.proofs.Replies.{HasLease, answered_late, shows_stored, no_late_write, seen_stays}
 
 -- ---- what follows a Get
 
@@ -339,7 +338,7 @@ module _ (doc : Doc) (near far a e n : ℕ) (sound : IsSound doc) (calm : IsCalm
       seen_first : (shown q low ≡ Some (b.version, b.lease)) × (or_zero (observed q low) ≤ o)
       seen_first = (
         ap (λ b. upper (only_if b (told first.w.request first.reply)) (shown q first.before)) (same_self q)
-        ∙ ap (λ p. upper p (shown q first.before)) (ap (λ request. told request first.reply) first.get ∙ ap found_shows (first.shows_it ∙ b.found)),
+            ∙ ap (λ p. upper p (shown q first.before)) (ap (λ request. told request first.reply) first.get ∙ ap found_shows (first.shows_it ∙ b.found)),
         upto o (omega arith) low first.position,
       )
 

@@ -1,5 +1,5 @@
 -- The answer that a counted reply brings, and the request that it answers.
-use Rattle.std.proofs.Common.{◌≡◌, ◌⊎◌, ◌<◌, ◌≤◌, ℕ, suc, ◌+◌, ◌&&◌, Bool, true, false, List, [], ◌∷◌, Option, Some, None, refl, sym, ap, ◌∙◌, subst, inl, inr, ⊎_elim, arith}
+use Rattle.std.proofs.Common.{◌≡◌, ℕ, ◌+◌, ◌&&◌, true, List, ◌∷◌, Option, Some, None, sym, ap, ◌∙◌, subst, inl, inr, ⊎_elim, arith}
 use Rattle.kube_objects.specs.declared.call.Reply.{Reply}
 use Rattle.kube_objects.specs.declared.deed.Actor.{Actor}
 use Rattle.kube_objects.specs.declared.deed.Actor.TheVariants as actors
@@ -10,12 +10,12 @@ use Rattle.kube_objects.specs.Entry.{Entry, Identity, Call, Fact, First, Event, 
 use Rattle.kube_objects.specs.Identities.{is_by}
 use Rattle.kube_objects.specs.Newest.{added}
 use Rattle.kube_objects.specs.Process.{is_send, begun, call_in}
-use Rattle.kube_objects.specs.Wire.{Sent, Back, back_of, reply_arrival}
+use Rattle.kube_objects.specs.Wire.{Back, back_of, reply_arrival}
 use Rattle.history.specs.History.{history}
 use Rattle.history_laws.specs.Tails.{IsTail}
 use Rattle.history_laws.proofs.Counting.{CountedFor, counted_is}
-use Rattle.history_laws.proofs.Plainly.{none_is, some_is, and_both, same_self}
-use Rattle.history_laws.proofs.Tailed.{tail_all, tail_trans, tails_meet, begun_tail, same_head, same_rest}
+use Rattle.history_laws.proofs.Plainly.{none_is, some_is, same_self}
+use Rattle.history_laws.proofs.Tailed.{tail_all, tail_trans, tails_meet, begun_tail, same_head}
 use Rattle.call_laws.proofs.Above.{Place, place_of}
 use Rattle.call_laws.proofs.Making.{MadeAs, MadeSend, MadeAnswer, MadeDelivery, are_made}
 use Rattle.call_laws.proofs.Once.{due_at}

@@ -1,30 +1,28 @@
 -- What is shown to a candidate in a calm, and what it asks for then.
-use Rattle.std.proofs.Common.{◌≡◌, ◌⊎◌, ◌<◌, ◌≤◌, ℕ, suc, ◌+◌, ◌*◌, ◌==◌, ◌&&◌, Bool, true, false, cond, List, [], ◌∷◌, Option, Some, None, IfSome, refl, sym, ap, ◌∙◌, subst, inl, inr, ⊎_elim, arith}
+use Rattle.std.proofs.Common.{◌≡◌, ◌<◌, ◌≤◌, ℕ, suc, ◌+◌, ◌*◌, Bool, true, false, cond, List, [], ◌∷◌, Option, Some, None, IfSome, refl, sym, ap, ◌∙◌, subst, inl, inr, ⊎_elim, arith}
 use Rattle.std.proofs.lemmas.Bool.{eq-eqb, cases_lt}
 use Rattle.kube_base.specs.declared.numbers.Version.{Version}
 use Rattle.kube_objects.specs.declared.call.Reply.{Reply}
 use Rattle.kube_objects.specs.declared.call.Reply.TheVariants.{Found, Done, Absent, Exists, Conflict, Unchanged}
 use Rattle.kube_objects.specs.declared.call.Request.{Request}
 use Rattle.kube_objects.specs.declared.call.Request.TheVariants.{Get, Create, Update, PostStatus}
-use Rattle.kube_objects.specs.declared.deed.Actor.{Actor}
-use Rattle.kube_objects.specs.declared.key.Key.{Key}
 use Rattle.kube_objects.specs.declared.lease.Lease.{Lease}
 use Rattle.kube_objects.specs.declared.object.Object.TheVariants as object
 use Rattle.kube_objects.specs.Answers.{lease_in, versioned, as_kind, answer_get, answer, if_done, written}
 use Rattle.kube_objects.specs.Document.{Doc, end_beat, is_controller}
-use Rattle.kube_objects.specs.Elector.{Moment, moment, Follow, Fails, Asks, follow_get, follow, is_blocked, updated, created, leads, Shown, told, done_shows, found_shows, shows, shown, is_known, newly, observed, observed_at}
+use Rattle.kube_objects.specs.Elector.{Moment, moment, Fails, Asks, follow_get, follow, is_blocked, updated, created, leads, Shown, told, done_shows, found_shows, shows, shown, newly, observed, observed_at}
 use Rattle.kube_objects.specs.Entry.{Entry, Identity, Call, Fact, First, Event, Starts, Stops, Sends, Answers, Delivers, Expires, Leads, Ends, Crashes, Stalls, Ticks, actor_of, entry}
 use Rattle.kube_objects.specs.Identities.{is_by}
 use Rattle.kube_objects.specs.Keys.{key_eq}
-use Rattle.kube_objects.specs.Newest.{newest, when, only_if, has, or_zero}
+use Rattle.kube_objects.specs.Newest.{when, has, or_zero}
 use Rattle.kube_objects.specs.Stored.{Held, election, key_of, request_write, at_key, stored}
-use Rattle.kube_objects.specs.Wire.{back_of, sent_of, reply_delay, request_arrival}
+use Rattle.kube_objects.specs.Wire.{back_of, reply_delay, request_arrival}
 use Rattle.history.specs.History.{history}
 use Rattle.history.specs.Sound.{IsSound}
 use Rattle.history_laws.specs.Tails.{In, IsTail}
 use Rattle.history_laws.proofs.Counting.{only_test, only_value}
 use Rattle.history_laws.proofs.Order.{entries_are_earlier}
-use Rattle.history_laws.proofs.Plainly.{upper, some_is, none_is, and_left, and_right}
+use Rattle.history_laws.proofs.Plainly.{upper, some_is, none_is}
 use Rattle.history_laws.proofs.Tailed.{tail_all, tail_trans, later_tail}
 use Rattle.call_laws.specs.Answering.{with_events}
 use Rattle.call_laws.proofs.Above.{next_above, in_head}
@@ -36,8 +34,8 @@ use Rattle.takeover_laws.specs.Taking.{FitsStored}
 use Rattle.takeover_laws.proofs.Records.{no_write, record_stays}
 use Rattle.takeover_laws.proofs.Rounds.{reply_passes, sent_is}
 use Rattle.takeover_laws.proofs.Taking.{takeovers_end_in_acting}
-use Rattle.calm_laws.proofs.Asked.{IsWrite, IsNext, next_is, asks_same, fails_not, Reason, reason_key, reason_of}
-use Rattle.calm_laws.proofs.Begun.{Begun, by_is}
+use Rattle.calm_laws.proofs.Asked.{IsWrite, IsNext, next_is, asks_same, fails_not, reason_key, reason_of}
+use Rattle.calm_laws.proofs.Begun.{by_is}
 use Rattle.calm_laws.proofs.Origins.{Origin, origin}
 
 -- ---- what is stored as a Lease
@@ -277,9 +275,10 @@ module _ (doc : Doc) (near far a e n : ℕ) (sound : IsSound doc) (calm : IsCalm
         by_shows : (p : Option Shown) → shows q z.actor z.fact ≡ p → Seen (z ∷ Z)
         by_shows None is = (ap (λ p. upper p (shown q Z)) is ∙ s.0, subst (λ m. m ≤ o) (sym (ap (λ p. or_zero (upper (newly p (shown q Z) z.beat) (observed q Z))) is)) s.1)
         by_shows (Some x) is =
-            let same = same_shown z Z x at from is in
-            (ap (λ p. upper p (shown q Z)) is ∙ ap Some same,
-            subst (λ m. m ≤ o) (sym (ap (λ p. or_zero (upper (newly p (shown q Z) z.beat) (observed q Z))) is ∙ ap (λ b. or_zero (upper b (observed q Z))) (known x same))) s.1)
+            let same = same_shown z Z x at from is in (
+              ap (λ p. upper p (shown q Z)) is ∙ ap Some same,
+              subst (λ m. m ≤ o) (sym (ap (λ p. or_zero (upper (newly p (shown q Z) z.beat) (observed q Z))) is ∙ ap (λ b. or_zero (upper b (observed q Z))) (known x same))) s.1,
+            )
 
     pub seen_stays : (low h : List Entry) → IsTail (history doc o) low → Seen low → IsTail low h → IsTail h (history doc (suc r)) → Seen h
     seen_stays low [] since s at high = subst Seen at s

@@ -1,5 +1,5 @@
 -- What a candidate's turn comes to: its call waits, it asks, or its timer is ahead.
-use Rattle.std.proofs.Common.{◌≡◌, ◌⊎◌, ℕ, suc, ◌+◌, ◌&&◌, not, nat_lt, Bool, true, false, cond, List, [], ◌∷◌, Option, Some, None, refl, sym, ap, ◌∙◌, subst, inl, inr}
+use Rattle.std.proofs.Common.{◌≡◌, ◌⊎◌, ℕ, ◌&&◌, not, nat_lt, Bool, true, false, List, ◌∷◌, Option, Some, None, refl, sym, ap, ◌∙◌, subst, inl, inr}
 use Rattle.std.specs.Prelude.{if◌then◌else◌}
 use Rattle.kube_objects.specs.declared.call.Request.{Request}
 use Rattle.kube_objects.specs.declared.call.Request.TheVariants.{Get}
@@ -16,7 +16,7 @@ use Rattle.kube_objects.specs.Turns.{expire_call, expired, end_term, just_expire
 use Rattle.kube_objects.specs.Wire.{send}
 use Rattle.history.specs.Steps.{if_up, restart, expire, finish, attempts, ticks, controller_turn, kubelet_turn, unpaused_turn, turn}
 use Rattle.history_laws.specs.Tails.{IsTail}
-use Rattle.history_laws.proofs.Plainly.{upper, none_is, same_self}
+use Rattle.history_laws.proofs.Plainly.{upper, same_self}
 use Rattle.history_laws.proofs.Tailed.{tail_all, tail_trans}
 use Rattle.history_laws.proofs.Ticks.{walk_tick}
 
