@@ -1,10 +1,9 @@
 -- Between two positions at which it is up a controller is up; and who is up and hasn't acted never led.
 use Rattle.std.specs.Prelude.{if◌then◌else◌}
 use Rattle.std.proofs.Common.{◌≡◌, ◌≤◌, ℕ, suc, Bool, true, false, List, [], ◌∷◌, Option, Some, None, refl, sym, ap, ◌∙◌, inr, arith}
-use Rattle.kube_objects.specs.declared.deed.Actor.{Actor}
 use Rattle.kube_objects.specs.Document.{Doc, is_controller, renew_deadline}
 use Rattle.kube_objects.specs.Elector.{leads, deadline}
-use Rattle.kube_objects.specs.Entry.{Entry, Identity, Fact, First, Event, Starts, Stops, Sends, Answers, Delivers, Expires, Leads, Ends, Crashes, Stalls, Ticks}
+use Rattle.kube_objects.specs.Entry.{Entry, Identity}
 use Rattle.kube_objects.specs.Newest.{has}
 use Rattle.kube_objects.specs.Process.{alive, is_restart_due, ended}
 use Rattle.history.specs.History.{history, at_turn}
@@ -14,27 +13,11 @@ use Rattle.history_laws.specs.Tails.{IsTail}
 use Rattle.history_laws.proofs.Lives.{Counted, counted_more}
 use Rattle.history_laws.proofs.Plainly.{none_is, true_is}
 use Rattle.history_laws.proofs.Tailed.{tail_all, tail_trans, starts_tail}
-use Rattle.history_laws.proofs.Walk.{StartIsNext}
-use Rattle.call_laws.proofs.Making.{MadeAs, are_made}
+use Rattle.call_laws.proofs.Making.{are_made}
 use Rattle.takeover_laws.specs.Calm.{IsSteady}
 use Rattle.takeover_laws.proofs.Asking.{leads_set, leads_on}
-use Rattle.takeover_laws.proofs.Fresh.{over_stays, still_up, turn_leads}
+use Rattle.takeover_laws.proofs.Fresh.{next_start, over_stays, still_up, turn_leads}
 use Rattle.takeover_laws.proofs.Standing.{unled}
-
-next_start : (doc : Doc) (k step : ℕ) (who : Actor) (d : Fact) (h : List Entry) → MadeAs doc k step who d h → StartIsNext who d h
-next_start doc k step who Starts h made = made
-next_start doc k step who (First key object) h made = tt
-next_start doc k step who (Event w version) h made = tt
-next_start doc k step who (Sends call arrives) h made = tt
-next_start doc k step who (Answers call reply comes wrote) h made = tt
-next_start doc k step who (Delivers call reply counted) h made = tt
-next_start doc k step who (Expires call) h made = tt
-next_start doc k step who (Ticks t) h made = tt
-next_start doc k step who Crashes h made = tt
-next_start doc k step who Stops h made = tt
-next_start doc k step who (Stalls beats) h made = tt
-next_start doc k step who Ends h made = tt
-next_start doc k step who (Leads version) h made = tt
 
 counted_in : (doc : Doc) (m : ℕ) (h : List Entry) → IsTail h (history doc m) → Counted h
 counted_in doc m [] at = λ p i up. absurd (none_is i up)

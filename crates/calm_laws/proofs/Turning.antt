@@ -5,20 +5,19 @@ use Rattle.kube_objects.specs.declared.call.Request.{Request}
 use Rattle.kube_objects.specs.declared.call.Request.TheVariants.{Get}
 use Rattle.kube_objects.specs.Clocks.{local}
 use Rattle.kube_objects.specs.Document.{Doc, is_controller}
-use Rattle.kube_objects.specs.Elector.{timer, deadline, attempt, acts}
+use Rattle.kube_objects.specs.Elector.{timer, deadline, attempt}
 use Rattle.kube_objects.specs.Entry.{Entry, Identity, Call, CallKind, Plain, Expires, entry}
 use Rattle.kube_objects.specs.Newest.{when, join, has}
 use Rattle.kube_objects.specs.Pauses.{is_paused}
 use Rattle.kube_objects.specs.Process.{alive, last_call, call_in, is_late}
 use Rattle.kube_objects.specs.Stored.{election}
-use Rattle.kube_objects.specs.Tick.{tick}
 use Rattle.kube_objects.specs.Turns.{expire_call, expired, end_term, just_expired, is_fast_call, attempt_if, try}
 use Rattle.kube_objects.specs.Wire.{send}
 use Rattle.history.specs.Steps.{if_up, restart, expire, finish, attempts, ticks, controller_turn, kubelet_turn, unpaused_turn, turn}
 use Rattle.history_laws.specs.Tails.{IsTail}
 use Rattle.history_laws.proofs.Plainly.{upper, same_self}
 use Rattle.history_laws.proofs.Tailed.{tail_all, tail_trans}
-use Rattle.history_laws.proofs.Ticks.{walk_tick}
+use Rattle.takeover_laws.proofs.Unasked.{ticks_add}
 
 -- a call of its own waits, and isn't late
 pub record IsWaiting (doc : Doc) (k : ℕ) (q : Identity) (h all : List Entry) : Type 0 where
@@ -45,17 +44,6 @@ pub record IsSleeping (doc : Doc) (k : ℕ) (q : Identity) (h all : List Entry) 
 
 abbrev pub Turned : Doc → ℕ → Identity → List Entry → List Entry → Type 0
 Turned doc k q h all = IsWaiting doc k q h all ⊎ (IsAsking k q h all ⊎ IsSleeping doc k q h all)
-
-ticks_add : (doc : Doc) (k p : ℕ) (h : List Entry) → IsTail h (ticks doc k p h)
-ticks_add doc k p h = by_up (alive p h)
-  where
-    by_test : (i : ℕ) (b : Bool) → IsTail h (if b then tick doc k (record { process = p; incarnation = i }) h else h)
-    by_test i true = walk_tick doc k (record { process = p; incarnation = i }) (λ g. IsTail h g) (λ t g made s. inr s) h (tail_all h)
-    by_test i false = tail_all h
-
-    by_up : (o : Option ℕ) → IsTail h (if_up p (λ q T. if acts doc q k T then tick doc k q T else T) o h)
-    by_up None = tail_all h
-    by_up (Some i) = by_test i (acts doc (record { process = p; incarnation = i }) k h)
 
 module _ (doc : Doc) (k : ℕ) (q : Identity) (g : List Entry) (role : is_controller doc q.process ≡ true) (awake : is_paused doc q.process k ≡ false)
     (up : alive q.process (restart doc k q.process g) ≡ Some q.incarnation) (unset : deadline doc q (restart doc k q.process g) ≡ None) where
