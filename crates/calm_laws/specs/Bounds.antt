@@ -59,7 +59,7 @@ pub record AreBeats (doc : Doc) (p slow fast lost wait needed : ℕ) : Type 0 wh
   pub needed_is : IsNeeded fast (retry_period doc p) needed
 
 -- first is enough beats for the candidate to be up, free of what it had begun, and to ask; most is enough for its looks to find the record
--- over that was there as the calm began; and there are two ways there and back
+-- over that was there as the calm began; and of four ways two bring the first look, and two the write and its reply
 abbrev pub TakeoversAreBounded : Type 0
 TakeoversAreBounded =
     (doc : Doc) (near far a e : ℕ) → IsSound doc → IsCalm doc near far a e → AreInTime doc near far a e → 1 ≤ near → near ≤ far → e ≤ end_beat doc
