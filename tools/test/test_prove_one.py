@@ -1,7 +1,7 @@
 #!/usr/bin/env python3
 """Tests the scripts that read crates.txt: what stands on what, where a library is taken from, edits, tables and pictures.
 
-    python3 tools/test_prove_one.py [--prove CRATE] [TEST ..]
+    python3 tools/test/test_prove_one.py [--prove CRATE] [TEST ..]
 
 Nothing is proved, but with --prove: then tools/prove-one proves this crate and what is below it, from nothing, in a copy of the sources, and
 refuses it with one of its wrong bodies of each kind. For `rate_bucket` that takes some three processor minutes.
@@ -15,6 +15,8 @@ import sys
 import tempfile
 import time
 import unittest
+
+from places import TOOLS
 
 import bodies
 import crates
@@ -41,8 +43,8 @@ PROVE = None
 
 
 def script(name):
-    """A script of this folder as a module."""
-    path = os.path.join(crates.TOP, 'tools', name)
+    """A script of the tools as a module."""
+    path = os.path.join(TOOLS, name)
     loader = importlib.machinery.SourceFileLoader(name.replace('-', '_'), path)
     module = importlib.util.module_from_spec(importlib.util.spec_from_loader(loader.name, loader))
     loader.exec_module(module)
