@@ -1,0 +1,121 @@
+"""The rows of try-all: each test that needs no proof, with what it needs and how long it took."""
+import os
+import shutil
+import subprocess
+import sys
+from dataclasses import dataclass, field
+from typing import Callable
+
+from crates import TOP
+
+
+@dataclass(frozen=True)
+class Need:
+    """What has to be here, in words that say where it is from."""
+    told: str
+    is_here: Callable[[], bool]
+
+
+def program(name, package):
+    """A program of this system, by the Debian package that has it."""
+    return Need(f'{name} (Debian: {package})', lambda: shutil.which(name) is not None)
+
+
+def file(path, maker):
+    """A file of the repository that is built first."""
+    return Need(f'{path} (made by {maker})', lambda: os.access(os.path.join(TOP, path), os.R_OK))
+
+
+def pythons():
+    """The Pythons of this system: the one that runs this, and Debian's, which sees Debian's modules."""
+    return [sys.executable, '/usr/bin/python3']
+
+
+def python_with(module):
+    """The first Python that has a module, or None."""
+    return next((one for one in pythons() if os.path.exists(one) and
+                 subprocess.run([one, '-c', f'import {module}'], stderr=subprocess.DEVNULL, check=False).returncode == 0), None)
+
+
+REPLAY = file('crates/kube_replay/out/kube_replay', 'tools/prove-all kube_replay')
+LENS = file('crates/kube_lens/out/kube_lens', 'tools/prove-all kube_lens')
+SHARED = file('c/libkube_replay.so', 'tools/shared-library')
+RT = Need('rt (the Rattle kit)', lambda: shutil.which('rt') is not None)
+CHROMIUM = program('chromium', 'chromium')
+COMPILER = program('cc', 'gcc')
+PYTEST = Need('pytest (Debian: python3-pytest)', lambda: python_with('pytest') is not None)
+ROOT = Need('root', lambda: os.geteuid() == 0)
+
+
+@dataclass(frozen=True)
+class Row:
+    """A test: its name, its words, what it needs, and the seconds that it took."""
+    name: str
+    words: list
+    needs: list = field(default_factory=list)
+    seconds: int = 1
+    place: str = '.'
+
+    @property
+    def folder(self):
+        return os.path.normpath(os.path.join(TOP, self.place))
+
+    @property
+    def command(self):
+        first, *rest = self.words
+        if first == 'pytest':
+            return [python_with('pytest'), '-m', 'pytest', *rest]
+        return [sys.executable, *self.words] if first.endswith('.py') else self.words
+
+    @property
+    def took(self):
+        return f'{self.seconds} s' if self.is_quick() else f'{self.seconds / 60:.0f} min'
+
+    def is_quick(self):
+        return self.seconds < 60
+
+    def shown(self):
+        return ' '.join(self.words) + (f'  (in {self.place}/)' if self.place != '.' else '')
+
+
+def test(name, needs, seconds, *words, script=None):
+    """A test of the tools, tools/test/test_NAME.py, or another of its scripts."""
+    return Row(name, [f'tools/test/test_{script or name}.py', *words], needs, seconds)
+
+
+ROWS = [
+    Row('map', ['tools/check-map']),
+    Row('layout', ['tools/check-layout'], [RT], 10),
+    Row('edits', ['tools/wrong-bodies', '--applies'], [], 2),
+    test('prove-one', [RT], 10, script='prove_one'),
+    test('try-all', [], 5, script='try_all'),
+    test('duplicates', [], 5),
+    test('from-audit-log', [], 30, script='from_audit_log'),
+    test('from-cluster', [REPLAY, LENS], 90, script='from_cluster'),
+    test('refusals', [REPLAY], 15),
+    test('margin', [REPLAY, LENS], 120, script='lens'),
+    test('leaders', [REPLAY, LENS], 120, script='lens_trace'),
+    test('summary', [REPLAY, LENS], 120, script='lens_summary'),
+    test('lateness', [REPLAY, LENS], 120, script='lens_lateness'),
+    test('explain', [REPLAY, LENS], 120, script='lens_explain'),
+    test('json', [REPLAY, LENS], 240, script='lens_json'),
+    test('leads', [REPLAY, LENS, CHROMIUM], 300),
+    test('sweep', [REPLAY], 300),
+    Row('launcher', ['bench/launcher_check.sh', 'proved'], [REPLAY, LENS], 60),
+    Row('launcher-hints', ['bench/launcher_check.sh', 'hints'], [], 10),
+    Row('limits', ['bench/limits.py'], [REPLAY], 120),
+    Row('pages', ['tools/check-docs'], [REPLAY, LENS, program('jq', 'jq')], 600),
+    Row('browser', ['view/test_timeline.py'], [CHROMIUM], 300),
+    Row('python', ['pytest', '-q'], [PYTEST, REPLAY], 120, 'python'),
+    Row('go', ['go', 'test', './...'], [program('go', 'golang-go'), COMPILER, SHARED], 60, 'go'),
+    Row('c-library', ['bench/library_check.py', '--program', 'crates/kube_replay/out/kube_replay'], [COMPILER, SHARED, REPLAY], 120),
+    Row('c-valgrind', ['bench/library_check.py', '--valgrind', '--count', '100'], [COMPILER, SHARED, program('valgrind', 'valgrind')], 120),
+    Row('conformance', ['conformance/run.py'], [REPLAY], 120),
+    Row('hostile-edges', ['bench/hostile/edges.py'], [REPLAY], 120),
+    Row('hostile-damaged', ['bench/hostile/damaged.py', '--count', '2000'], [REPLAY], 120),
+    Row('hostile-memory', ['bench/hostile/memory.py', '--part', 'calls'], [REPLAY, COMPILER], 300),
+    Row('hostile-space', ['bench/hostile/memory.py', '--part', 'space'], [REPLAY], 1200),
+    Row('hostile-worst', ['bench/hostile/worst.py'], [REPLAY], 1200),
+    test('package', [ROOT, REPLAY, LENS, program('dpkg-deb', 'dpkg'), program('mmdebstrap', 'mmdebstrap'), program('man', 'man-db'),
+                     program('lintian', 'lintian')], 300),
+]
