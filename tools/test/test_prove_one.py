@@ -383,6 +383,19 @@ class OfMaps(unittest.TestCase):
         self.assertEqual(len(list(self.check.differences([('Other', ['a', 'b'])], groups))), 1)
 
 
+    def test_a_tool_without_a_name_and_a_name_without_a_tool_are_told(self):
+        named = self.check.named_in('| `tools/one`, `two.py` | `three` |\n| `tools/test/test_*.py`, `./four` | x |\ntext\n')
+        self.assertEqual(named, ['tools/one', 'tools/two.py', 'tools/test/test_*.py', './four'])
+        with tempfile.TemporaryDirectory() as room:
+            for name in ('one', 'two.py', 'test/test_a.py', 'unnamed', 'test/unnamed.py'):
+                write('#!/bin/sh\n', room, 'tools', name)
+            write('module\n', room, 'tools', 'module.py')
+            self.assertEqual(list(self.check.unnamed(named, room)),
+                             ['tools/README.md names no tools/unnamed, which can be run', 'tools/README.md names no tools/test/unnamed.py, which can be run'])
+            os.remove(os.path.join(room, 'tools', 'two.py'))
+            self.assertEqual(list(self.check.unnamed(named, room))[2:], ['tools/README.md names tools/two.py, which is not there'])
+
+
 class OfLayout(unittest.TestCase):
     def test_a_file_that_is_not_laid_out_is_told(self):
         check = script('check-layout')
