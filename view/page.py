@@ -65,6 +65,18 @@ def put_in(page, place, text):
     return page.replace(begin, begin + text.replace('&', '&amp;').replace('<', '&lt;'), 1)
 
 
+def between(text, begin, end):
+    return text.split(begin, 1)[1].split(end, 1)[0]
+
+
+def parts():
+    """What another page shows the picture by: the page's style, the elements of its body, and its script without the last part, which begins."""
+    with open(PAGE, encoding='utf-8') as file:
+        page = file.read()
+    return {'style': between(page, '<style>\n', '</style>'), 'body': between(page, '<body>\n', '<script'),
+            'script': between(page, '<script>\n', '</script>')}
+
+
 def main():
     options = argparse.ArgumentParser(prog='timeline', description='Puts a trace into a page: ./timeline [--document FILE] [TRACE] > PAGE.html')
     options.add_argument('--document', metavar='FILE', help='the document of the trace: title, time of day, clocks, nodes of pods, pauses')

@@ -20,4 +20,4 @@ _kube_replay_tool() {
 }
 
 complete -F _kube_replay kube_replay
-complete -o default -F _kube_replay_tool kube_replay-timeline kube_replay-sweep kube_replay-from-cluster kube_replay-from-audit-log
+complete -o default -F _kube_replay_tool kube_replay-timeline kube_replay-playground kube_replay-sweep kube_replay-from-cluster kube_replay-from-audit-log

@@ -23,7 +23,7 @@ TOP = os.path.dirname(os.path.dirname(os.path.dirname(os.path.realpath(__file__)
 WITH = 'man-db,bash-completion,zsh,python3'
 SYSTEM = ['mmdebstrap', '--variant=minbase', '--include=' + WITH, 'bookworm']
 DOC = '/usr/share/doc/kube-replay/'
-COMMANDS = ['kube_replay', 'kube_lens', 'kube_replay-timeline', 'kube_replay-sweep', 'kube_replay-from-cluster', 'kube_replay-from-audit-log']
+COMMANDS = ['kube_replay', 'kube_lens', 'kube_replay-timeline', 'kube_replay-playground', 'kube_replay-sweep', 'kube_replay-from-cluster', 'kube_replay-from-audit-log']
 # What dpkg and the index of man pages write for themselves.
 BOOKS = ('var/lib/dpkg', 'var/log', 'var/cache')
 BASH = '''. /usr/share/bash-completion/bash_completion
@@ -40,6 +40,21 @@ try kube_replay-from-cluster --kill-l
 try kube_replay-sweep p
 try kube_replay-sweep all --as
 try kube_replay-timeline --d
+try kube_replay-playground --kub
+'''
+# Starts the playground, asks it what its page asks, and ends it.
+PLAYGROUND = '''kube_replay-playground > /tmp/said 2> /tmp/faults & own=$!
+for i in $(seq 100); do grep -q '^playground: http' /tmp/said && break; sleep .1; done
+python3 -B - <<'END'
+import json, re, urllib.request
+address = re.search('http://[^/]+/[^/]+/', open('/tmp/said').read())[0]
+get = lambda name: urllib.request.urlopen(address + name).read()
+headers = {'Origin': re.match('http://[^/]+', address)[0], 'Content-Type': 'application/json'}
+answer = json.load(urllib.request.urlopen(urllib.request.Request(address + 'run', get('document'), headers)))
+begun = json.loads(get('beginning'))
+print(json.dumps([begun['name'], len(begun['examples']), b'class Chart' in get('picture.js'), answer['margin']['safe'], answer['trace']]))
+END
+kill -INT $own; wait $own; echo $?; rm /tmp/said /tmp/faults
 '''
 
 
@@ -213,6 +228,14 @@ def try_tools(tried, system):
                (json.loads(read('docs/document.schema.json')), '/usr/share/kube-replay/document.schema.json'))
 
 
+def try_playground(tried, system):
+    """The page is served, with its examples and its picture, and answers as the program does."""
+    status, said, _ = system.run(PLAYGROUND)
+    told, _, ended = said.partition('\n')
+    wanted = ['leader-crashes', len(glob.glob(system.folder + DOC + 'examples/*/document.json')), True, True, system.read(DOC + 'examples/leader-crashes/trace.txt')]
+    tried.same('kube_replay-playground', (status, json.loads(told or 'null'), ended), (0, wanted, '0\n'))
+
+
 def try_man_pages(tried, system):
     for command in COMMANDS:
         status, page, said = system.run('MANWIDTH=100 man --warnings %s | cat' % command)
@@ -221,7 +244,7 @@ def try_man_pages(tried, system):
 
 
 def try_completions(tried, system):
-    words = ['replay', '--version', 'margin', '--kill-leader', 'plan pods', '--ask', '--document']
+    words = ['replay', '--version', 'margin', '--kill-leader', 'plan pods', '--ask', '--document', '--kubectl']
     tried.same('completion in bash', system.run(BASH, shell='bash'), (0, '\n'.join(words) + '\n', ''))
     loaded = 'autoload -U compinit; compinit -u -D; autoload +X _kube_replay && for each in %s; do echo $_comps[$each]; done' % ' '.join(COMMANDS)
     wanted = ''.join('_kube_lens\n' if command == 'kube_lens' else '_kube_replay\n' for command in COMMANDS)
@@ -251,7 +274,7 @@ def try_package(tried, folder, path, tar):
     status, _, said = system.run('dpkg -i /root/kube-replay.deb')
     tried.same('dpkg -i', (status, said), (0, ''))
     tried.same('dpkg --verify', system.run('dpkg --verify kube-replay'), (0, '', ''))
-    for part in (try_program, try_faults, try_lens, try_tools, try_man_pages, try_completions, try_links):
+    for part in (try_program, try_faults, try_lens, try_tools, try_playground, try_man_pages, try_completions, try_links):
         part(tried, system)
     status, _, said = system.run('dpkg -r kube-replay')
     tried.same('dpkg -r', (status, said), (0, ''))

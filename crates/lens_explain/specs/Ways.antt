@@ -96,6 +96,10 @@ found_from path input place (byte ∷ rest) scan outer next found =
 abbrev pub unfound : Found
 unfound = record { place = 0; reached = 0 }
 
+-- the path of the whole input is a slash alone, and has no step
+abbrev pub way_of : List ℕ → List ℕ
+way_of path = if length path == 1 then [] else path
+
 -- where a path leads: to the last value of the input that is on it
 abbrev pub led : List ℕ → List ℕ → Found
-led path input = found_from path input 0 input unscanned [] (Some 0) unfound
+led path input = found_from (way_of path) input 0 input unscanned [] (Some 0) unfound

@@ -44,11 +44,19 @@ pub(crate) struct Walk {
 pub(crate) fn follow(alloc: Global, input: &[u8], path: &[u8]) -> Result<Found, NoMemory>
     ensures { IfOk result (λ found. found ≡ led path.now input.now) }
 {
+    let way = way_of(path);
     let mut walk = Walk::new(alloc);
     for (place, byte) in input.iter().enumerate() {
-        walk.take(input, path, place, *byte)?;
+        walk.take(input, way, place, *byte)?;
     }
     Ok(walk.found)
+}
+
+/// The steps of a path: that of the whole input is a slash alone.
+fn way_of(path: &[u8]) -> &[u8]
+    ensures { result.now ≡ spec.way_of path.now }
+{
+    if path.len() == 1 { b"" } else { path }
 }
 
 /// What stands at the end of a path, from its first byte to the input's end.
