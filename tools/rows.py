@@ -106,6 +106,8 @@ ROWS = [
     Row('limits', ['bench/limits.py'], [REPLAY], 120),
     Row('pages', ['tools/check-docs'], [REPLAY, LENS, program('jq', 'jq')], 600),
     Row('browser', ['view/test_timeline.py'], [CHROMIUM], 300),
+    Row('playground', ['play/test_server.py'], [REPLAY, LENS], 60),
+    Row('playground-page', ['play/test_playground.py'], [REPLAY, LENS, CHROMIUM], 600),
     Row('python', ['pytest', '-q'], [PYTEST, REPLAY], 120, 'python'),
     Row('go', ['go', 'test', './...'], [program('go', 'golang-go'), COMPILER, SHARED], 60, 'go'),
     Row('c-library', ['bench/library_check.py', '--program', 'crates/kube_replay/out/kube_replay'], [COMPILER, SHARED, REPLAY], 120),

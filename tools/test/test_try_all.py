@@ -29,6 +29,11 @@ def script():
     return module
 
 
+def is_script(path):
+    with open(path, 'rb') as file:
+        return file.read(2) == b'#!'
+
+
 class OfTryAll(unittest.TestCase):
     def ran(self, table, *words):
         """The status and the lines of try-all over these rows."""
@@ -77,7 +82,8 @@ class OfRows(unittest.TestCase):
                 self.assertTrue(os.path.isfile(os.path.join(TOP, row.words[0])), row.words[0])
 
     def test_every_test_has_a_row(self):
-        scripts = [os.path.relpath(path, TOP) for folder in ('tools/test', '*') for path in glob.glob(os.path.join(TOP, folder, 'test_*.py'))]
+        paths = [path for folder in ('tools/test', '*') for path in glob.glob(os.path.join(TOP, folder, 'test_*.py'))]
+        scripts = [os.path.relpath(path, TOP) for path in paths if is_script(path)]
         self.assertGreater(len(scripts), 10)
         self.assertEqual(sorted({*scripts, *OTHERS} - {row.words[0] for row in rows.ROWS}), [])
         self.assertTrue({'python', 'go'} <= {row.place for row in rows.ROWS})
