@@ -1,10 +1,15 @@
-"""The rows of try-all: each test that needs no proof, with what it needs and how long it took."""
+"""The rows of try-all: each test that needs no proof, with what it needs and how long it took.
+
+How long is in seconds of the processor, as most tests take on a machine that has nothing else to do; those that wait take longer. A row without
+a number wasn't timed, and takes more than a minute.
+"""
+import functools
 import os
 import shutil
 import subprocess
 import sys
 from dataclasses import dataclass, field
-from typing import Callable
+from typing import Callable, Optional
 
 from crates import TOP
 
@@ -37,8 +42,22 @@ def python_with(module):
                  subprocess.run([one, '-c', f'import {module}'], stderr=subprocess.DEVNULL, check=False).returncode == 0), None)
 
 
-REPLAY = file('crates/kube_replay/out/kube_replay', 'tools/prove-all kube_replay')
-LENS = file('crates/kube_lens/out/kube_lens', 'tools/prove-all kube_lens')
+@functools.cache
+def newest_source():
+    """When a source was changed last."""
+    crates = os.path.join(TOP, 'crates')
+    paths = [os.path.join(folder, name) for kind in ('src', 'specs', 'proofs') for crate in os.listdir(crates)
+             for folder, _, names in os.walk(os.path.join(crates, crate, kind)) for name in names]
+    return max(map(os.path.getmtime, [*paths, os.path.join(TOP, 'crates.txt')]))
+
+
+def built(name):
+    """A program of the repository, built of the sources as they are: the launchers build an older one anew, which takes long."""
+    path = os.path.join(TOP, 'crates', name, 'out', name)
+    return Need(f'{name} of these sources (made by tools/prove-all {name})', lambda: os.path.exists(path) and os.path.getmtime(path) >= newest_source())
+
+
+REPLAY, LENS = built('kube_replay'), built('kube_lens')
 SHARED = file('c/libkube_replay.so', 'tools/shared-library')
 RT = Need('rt (the Rattle kit)', lambda: shutil.which('rt') is not None)
 CHROMIUM = program('chromium', 'chromium')
@@ -49,11 +68,11 @@ ROOT = Need('root', lambda: os.geteuid() == 0)
 
 @dataclass(frozen=True)
 class Row:
-    """A test: its name, its words, what it needs, and the seconds that it took."""
+    """A test: its name, its words, what it needs, how many seconds it took, and the folder that it is run in."""
     name: str
     words: list
     needs: list = field(default_factory=list)
-    seconds: int = 1
+    seconds: Optional[int] = None
     place: str = '.'
 
     @property
@@ -69,10 +88,10 @@ class Row:
 
     @property
     def took(self):
-        return f'{self.seconds} s' if self.is_quick() else f'{self.seconds / 60:.0f} min'
+        return '-' if self.seconds is None else f'{self.seconds} s'
 
     def is_quick(self):
-        return self.seconds < 60
+        return self.seconds is not None and self.seconds < 60
 
     def shown(self):
         return ' '.join(self.words) + (f'  (in {self.place}/)' if self.place != '.' else '')
@@ -84,7 +103,7 @@ def test(name, needs, seconds, *words, script=None):
 
 
 ROWS = [
-    Row('map', ['tools/check-map']),
+    Row('map', ['tools/check-map'], [], 1),
     Row('layout', ['tools/check-layout'], [RT], 10),
     Row('edits', ['tools/wrong-bodies', '--applies'], [], 2),
     test('prove-one', [RT], 10, script='prove_one'),

@@ -57,9 +57,10 @@ class OfTryAll(unittest.TestCase):
         self.assertEqual((status, lines[-1]), (0, '1 passed, 0 failed, 1 skipped'))
 
     def test_only_and_quick(self):
-        table = [rows.Row('good', PASSES), rows.Row('bad', FAILS), rows.Row('goodly', PASSES, seconds=900)]
+        table = [rows.Row('good', PASSES, seconds=1), rows.Row('bad', FAILS, seconds=1), rows.Row('goodly', PASSES), rows.Row('better', PASSES, seconds=900)]
         self.assertEqual(self.ran(table, '--only', 'good')[1][-1], '2 passed, 0 failed, 0 skipped')
         self.assertEqual(self.ran(table, '--only', 'good', '--quick')[1][-1], '1 passed, 0 failed, 0 skipped')
+        self.assertEqual(self.ran(table, '--only', 'better', '--quick')[0], 2)
         self.assertEqual(self.ran(table, '--only', 'other')[0], 2)
 
     def test_what_takes_too_long_is_stopped(self):
