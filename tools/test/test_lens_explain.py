@@ -27,6 +27,7 @@ STANDARD = {'leaseDurationSeconds': 15, 'renewDeadlineMillis': 10000, 'retryPeri
 TIMINGS = list(STANDARD)
 UNHEARD = ('warning: there are Nodes and no kubelets, so all nodes fall silent together, which taints none: a pod is evicted only for a taint that is '
            'there already or put. Give each node a kubelet, and epoch the time of the list.\n')
+TWICE = b'warning: a key is here twice, and the last one counts'
 LINE = re.compile(rb'line (\d+), column (\d+): (.*)')
 
 
@@ -241,7 +242,8 @@ def fault(text, checked, explained):
         more = doubts(json.loads(text)).encode()
         warned = told[len(counts(said)):len(told) - len(more)].splitlines()
         places = [place_in(text, line) for number, line in enumerate(warned) if number % 3]
-        right = places == [at for both in Places(text).twice[:20] for at in both]
+        twice = Places(text).twice[:20]
+        right = places == [at for both in twice for at in both] and warned[::3] == [TWICE] * len(twice)
         return None if right and told.startswith(counts(said)) and told.endswith(more) else f'{told} of {said}, and {more}'
     first, second, rest = (told.split(b'\n', 2) + [b'', b''])[:3]
     place = place_in(text, second)
