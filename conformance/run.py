@@ -4,7 +4,7 @@
     conformance/run.py [--exe COMMAND] [SET ..]
 
 COMMAND is the program without its command word; else it is the built one, crates/kube_replay/out/kube_replay. Ends with 1 where a
-count isn't that of counts.json, where a row of docs/profile.md doesn't say how it is known, where a kind of difference has no row
+count isn't that of counts.json, where a rule of docs/profile.md doesn't say how it is known, where a kind of difference has no rule
 there that names its set or scenario, or where a table of docs/upstream.md isn't the one that is printed here; else with 0. With sets
 it looks at these alone. --write writes counts.json and the tables in place of comparing them.
 """
@@ -38,7 +38,7 @@ def faults_of(name, counts, wanted, profile):
         yield f"{name}: other counts than in counts.json: {json.dumps(counts)}"
     for kind in counts["differ"]:
         if not profile.names_set(row_of(kind), name):
-            yield f"{name}: no row of docs/profile.md is named '{row_of(kind)}' and known by `{name}`, for: {kind}"
+            yield f"{name}: no rule of docs/profile.md is named '{row_of(kind)}' and known by `{name}`, for: {kind}"
 
 
 def of_sets(names, program, profile, is_written):

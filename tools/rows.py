@@ -124,6 +124,7 @@ ROWS = [
     Row('launcher-hints', ['bench/launcher_check.sh', 'hints'], [], 8),
     Row('limits', ['bench/limits.py'], [REPLAY], 9),
     Row('pages', ['tools/check-docs'], [REPLAY, LENS, program('jq', 'jq')], None),
+    Row('site', ['tools/site'], [program('mkdocs', 'mkdocs, mkdocs-material')], None),
     Row('browser', ['view/test_timeline.py'], [CHROMIUM], None),
     Row('playground', ['play/test_server.py'], [REPLAY, LENS], 6),
     Row('playground-page', ['play/test_playground.py'], [REPLAY, LENS, CHROMIUM], None),

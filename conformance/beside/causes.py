@@ -1,4 +1,4 @@
-"""Why a real control plane did something at another second than foretold: rows of docs/profile.md, by rules tried in order."""
+"""Why a real control plane did something at another second than foretold: rules of docs/profile.md, by rules tried in order."""
 import re
 from collections import namedtuple
 

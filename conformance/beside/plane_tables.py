@@ -198,7 +198,7 @@ def faults(found, profile):
         for pair in it or []:
             causes = rows_of(name, pair) if is_over(pair) else [None]
             if not causes or any(row and not profile.names_scenario(row, name) for row in causes):
-                yield f"scenario {name}: no row of docs/profile.md known by 'plane: {name}' for: {pair.what} ({', '.join(causes)})"
+                yield f"scenario {name}: no rule of docs/profile.md known by 'plane: {name}' for: {pair.what} ({', '.join(causes)})"
 
 
 def compared(scenario_of, names, program):

@@ -1,7 +1,7 @@
 """Verdicts on compared answers, and their counts."""
 from collections import Counter, namedtuple
 
-# `kind` begins with the name of a row of docs/profile.md and a colon where the verdict is "differ".
+# `kind` begins with the name of a rule of docs/profile.md and a colon where the verdict is "differ".
 Verdict = namedtuple("Verdict", "word kind")
 EXACT = Verdict("exact", "")
 NEAR = Verdict("near", "")

@@ -18,7 +18,7 @@ PASSES, FAILS = [sys.executable, '-c', 'print("well")'], [sys.executable, '-c', 
 SLEEPS = [sys.executable, '-c', 'import time; time.sleep(60)']
 LACKING = rows.Need('a thing that is nowhere', lambda: False)
 # Beside the scripts named test_*.py: what tries something under another name.
-OTHERS = ['tools/check-docs', 'tools/check-map', 'tools/check-layout', 'bench/launcher_check.sh', 'bench/library_check.py', 'bench/limits.py',
+OTHERS = ['tools/check-docs', 'tools/site', 'tools/check-map', 'tools/check-layout', 'bench/launcher_check.sh', 'bench/library_check.py', 'bench/limits.py',
           'conformance/run.py', 'bench/hostile/edges.py', 'bench/hostile/damaged.py', 'bench/hostile/memory.py', 'bench/hostile/worst.py']
 
 
