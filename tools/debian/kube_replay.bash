@@ -19,5 +19,11 @@ _kube_replay_tool() {
     mapfile -t COMPREPLY < <(compgen -W "$("$1" "${command[@]}" --help 2>/dev/null | grep -o -e '--[a-z][a-z-]*' | sort -u)" -- "$cur")
 }
 
+# The plugin of kubectl says itself what may stand next, as it does to kubectl.
+_kubectl_replay() {
+    mapfile -t COMPREPLY < <(kubectl_complete-replay "${COMP_WORDS[@]:1:COMP_CWORD}" 2>/dev/null | sed -e '/^:/d' -e 's/\t.*//')
+}
+
 complete -F _kube_replay kube_replay
+complete -o default -F _kubectl_replay kubectl-replay
 complete -o default -F _kube_replay_tool kube_replay-timeline kube_replay-playground kube_replay-sweep kube_replay-from-cluster kube_replay-from-audit-log

@@ -14,9 +14,10 @@ def verbatim(lines):
 
 
 def usage(name, text):
-    """The lines of a usage, where each option is kept together with its value."""
-    words = re.findall(r'\[[^\]]*\](?: \.\.\.\])?|\S+', ' '.join(text.split()))[1:]
-    return ['.SY %s' % escaped(name), *[escaped(word).replace(' ', '\\~').replace(',', ',\\:') for word in words], '.YS']
+    """The lines of a usage, where each option is kept together with its value. A plugin is called by two words."""
+    called = next((each for each in (name, name.replace('-', ' ')) if text.startswith(each + ' ')), text.split()[0])
+    words = re.findall(r'\[[^\]]*\](?: \.\.\.\])?|\S+', ' '.join(text.removeprefix(called).split()))
+    return ['.SY "%s"' % escaped(called if ' ' in called else name), *[escaped(word).replace(' ', '\\~').replace(',', ',\\:') for word in words], '.YS']
 
 
 def description(text):
@@ -46,20 +47,25 @@ def options(text):
 
 def sections_of(text):
     """The parts of a help as argparse writes it: usage, description, and those with a heading, which has options or words without one."""
-    parts = re.split(r'^(positional arguments|options):\n', text, flags=re.M)
-    used, _, told = parts[0].partition('\n\n')
-    return used.removeprefix('usage: '), told, parts[2::2]
+    head, *parts = re.split(r'^(positional arguments|options):\n', text, maxsplit=1, flags=re.M)
+    used, _, told = head.partition('\n\n')
+    split = re.split(r'^(\S[^\n]*):\n', ''.join(parts[1:]), flags=re.M)
+    return used.removeprefix('usage: '), told, [(None, split[0]), *zip(split[1::2], split[2::2])]
+
+
+def heading(text):
+    return [] if text in (None, 'positional arguments', 'options') else ['.SS ' + escaped(text[0].upper() + text[1:])]
 
 
 def man_page(name, title, date, version, helps):
     """The page of a tool from its helps: its own, and those of its commands whose options are told too."""
     made = []
-    for number, (heading, text) in enumerate(helps):
+    for number, (section, text) in enumerate(helps):
         used, told, parts = sections_of(text)
         if number == 0:
             made += ['.SH SYNOPSIS', *usage(name, used), '.SH DESCRIPTION', *description(told)]
-        made += ['.SH %s' % heading]
-        for lines in parts:
-            made += options(lines)
+        made += ['.SH %s' % section]
+        for above, lines in parts:
+            made += heading(above) + options(lines)
     made += ['.SH SEE ALSO', '.BR kube_replay (1)']
     return HEAD % (name.upper(), date, version, name, title) + '\n'.join(made) + '\n'

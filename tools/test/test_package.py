@@ -23,7 +23,8 @@ TOP = os.path.dirname(os.path.dirname(os.path.dirname(os.path.realpath(__file__)
 WITH = 'man-db,bash-completion,zsh,python3'
 SYSTEM = ['mmdebstrap', '--variant=minbase', '--include=' + WITH, 'bookworm']
 DOC = '/usr/share/doc/kube-replay/'
-COMMANDS = ['kube_replay', 'kube_lens', 'kube_replay-timeline', 'kube_replay-playground', 'kube_replay-sweep', 'kube_replay-from-cluster', 'kube_replay-from-audit-log']
+COMMANDS = ['kube_replay', 'kube_lens', 'kube_replay-timeline', 'kube_replay-playground', 'kube_replay-sweep', 'kube_replay-from-cluster',
+            'kube_replay-from-audit-log', 'kubectl-replay']
 # What dpkg and the index of man pages write for themselves.
 BOOKS = ('var/lib/dpkg', 'var/log', 'var/cache')
 BASH = '''. /usr/share/bash-completion/bash_completion
@@ -41,6 +42,20 @@ try kube_replay-sweep p
 try kube_replay-sweep all --as
 try kube_replay-timeline --d
 try kube_replay-playground --kub
+try kubectl-replay kill-l
+try kubectl-replay margin --clo
+'''
+# A kubectl that has the lists of a file alone, and knows its plugins.
+KUBECTL = '''#!/usr/bin/python3
+import json, os, sys
+if sys.argv[1] == 'replay':
+    os.execvp('kubectl-replay', sys.argv[1:])
+assert sys.argv[1:3] == ['get', '--raw'], sys.argv
+name = sys.argv[3].partition('?')[0].rpartition('/')[2]
+kind = name.rstrip('s').capitalize()
+with open('/root/cluster.json') as file:
+    items = [item for item in json.load(file)['items'] if item['kind'] == kind]
+json.dump({'kind': kind + 'List', 'items': items}, sys.stdout)
 '''
 # Starts the playground, asks it what its page asks, and ends it.
 PLAYGROUND = '''kube_replay-playground > /tmp/said 2> /tmp/faults & own=$!
@@ -228,6 +243,20 @@ def try_tools(tried, system):
                (json.loads(read('docs/document.schema.json')), '/usr/share/kube-replay/document.schema.json'))
 
 
+def try_plugin(tried, system):
+    """The plugin of kubectl gives the answers of the pipeline, and says where kubectl isn't there."""
+    tried.same('kubectl-replay without kubectl', system.run('kubectl-replay margin'), (3, '', "kubectl replay: kubectl can't be run: No such file or directory\n"))
+    system.run('cat > /root/cluster.json', read('tools/data/cluster.json'))
+    system.run('cat > /usr/bin/kubectl; chmod +x /usr/bin/kubectl', KUBECTL)
+    made = 'kube_replay-from-cluster %s < /root/cluster.json > /root/document.json 2>/dev/null; '
+    for words, options in (('kill-leader', '--kill-leader @60s'), ('kill-node worker-1 --at 90s', '--kill worker-1@90s'), ('freeze-leader 45s', '--stall @60s+45s')):
+        wanted = system.run(made % options + 'kube_replay replay < /root/document.json | kube_lens summary --document /root/document.json')
+        tried.same('kubectl replay ' + words, system.run('kubectl replay %s 2>/dev/null' % words), wanted)
+    wanted = system.run(made % '' + 'kube_lens margin < /root/document.json')
+    tried.same('kubectl replay margin', system.run('kubectl replay margin 2>/dev/null'), wanted)
+    system.run('rm /usr/bin/kubectl /root/cluster.json /root/document.json')
+
+
 def try_playground(tried, system):
     """The page is served, with its examples and its picture, and answers as the program does."""
     status, said, _ = system.run(PLAYGROUND)
@@ -244,7 +273,7 @@ def try_man_pages(tried, system):
 
 
 def try_completions(tried, system):
-    words = ['replay', '--version', 'margin', '--kill-leader', 'plan pods', '--ask', '--document', '--kubectl']
+    words = ['replay', '--version', 'margin', '--kill-leader', 'plan pods', '--ask', '--document', '--kubectl', 'kill-leader', '--clock']
     tried.same('completion in bash', system.run(BASH, shell='bash'), (0, '\n'.join(words) + '\n', ''))
     loaded = 'autoload -U compinit; compinit -u -D; autoload +X _kube_replay && for each in %s; do echo $_comps[$each]; done' % ' '.join(COMMANDS)
     wanted = ''.join('_kube_lens\n' if command == 'kube_lens' else '_kube_replay\n' for command in COMMANDS)
@@ -274,7 +303,7 @@ def try_package(tried, folder, path, tar):
     status, _, said = system.run('dpkg -i /root/kube-replay.deb')
     tried.same('dpkg -i', (status, said), (0, ''))
     tried.same('dpkg --verify', system.run('dpkg --verify kube-replay'), (0, '', ''))
-    for part in (try_program, try_faults, try_lens, try_tools, try_playground, try_man_pages, try_completions, try_links):
+    for part in (try_program, try_faults, try_lens, try_tools, try_playground, try_plugin, try_man_pages, try_completions, try_links):
         part(tried, system)
     status, _, said = system.run('dpkg -r kube-replay')
     tried.same('dpkg -r', (status, said), (0, ''))

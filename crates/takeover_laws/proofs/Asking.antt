@@ -37,7 +37,7 @@ use Rattle.takeover_laws.proofs.Standing.{controllers_first, IsSince, since_even
 
 -- ---- who leads has a deadline, and leads on
 
-leads_set : (doc : Doc) (q : Identity) (h : List Entry) → leads q h ≡ true → has (deadline doc q h) ≡ true
+pub leads_set : (doc : Doc) (q : Identity) (h : List Entry) → leads q h ≡ true → has (deadline doc q h) ≡ true
 leads_set doc q [] is = absurd (false_is is)
 leads_set doc q (x ∷ h) is = cases x.actor x.fact (leads_set doc q h) is
   where
@@ -64,7 +64,7 @@ leads_set doc q (x ∷ h) is = cases x.actor x.fact (leads_set doc q h) is
     cases who (Stalls beats) below is = below is
     cases who Ends below is = below is
 
-leads_on : (q : Identity) (g h : List Entry) → IsTail g h → leads q g ≡ true → leads q h ≡ true
+pub leads_on : (q : Identity) (g h : List Entry) → IsTail g h → leads q g ≡ true → leads q h ≡ true
 leads_on q g [] at is = subst (λ g. leads q g ≡ true) at is
 leads_on q g (x ∷ h) (inl same) is = subst (λ g. leads q g ≡ true) same is
 leads_on q g (x ∷ h) (inr at) is = older (lead_says q x.actor x.fact) (leads_on q g h at is)

@@ -236,7 +236,7 @@ past_ends doc m q h d role up set counted late awake =
 
 -- ---- who is over at a position is so at a later one
 
-next_start : (doc : Doc) (k step : ℕ) (who : Actor) (d : Fact) (h : List Entry) → MadeAs doc k step who d h → StartIsNext who d h
+pub next_start : (doc : Doc) (k step : ℕ) (who : Actor) (d : Fact) (h : List Entry) → MadeAs doc k step who d h → StartIsNext who d h
 next_start doc k step who Starts h made = made
 next_start doc k step who (First key object) h made = tt
 next_start doc k step who (Happens w version) h made = tt

@@ -48,13 +48,13 @@ some_high doc =
     (b.0, λ p k role end. omega (arith, (bound (λ k. rate doc p k) (end_beat doc)).1 k end, b.1 p (let lt : p < length doc.controllers = ltb-true p (length doc.controllers) role in omega (arith, lt))))
 
 -- a kubelet asks for other keys
-asks_elsewhere : (doc : Doc) → IsSound doc → (k : ℕ) → k ≤ end_beat doc → (x : Entry) (b : Back) → In x (history doc (suc k)) → back_of x.actor x.fact ≡ Some b → is_controller doc b.who.process ≡ false → key_eq (key_of b.call.request) election ≡ false
+pub asks_elsewhere : (doc : Doc) → IsSound doc → (k : ℕ) → k ≤ end_beat doc → (x : Entry) (b : Back) → In x (history doc (suc k)) → back_of x.actor x.fact ≡ Some b → is_controller doc b.who.process ≡ false → key_eq (key_of b.call.request) election ≡ false
 asks_elsewhere doc sound k end x b stands is role =
     let h = some_high doc in
     let right = (turn_right doc h.0 h.1 sound (processes doc) k end).entries x stands in
     (subst (λ o. IfSome o (BackRight doc h.0 k (view (history doc (suc k))) x.beat)) is right.1).elsewhere role
 
-wrote_key : (r : Request) (w : Option Object) (o : Option Object) → at_key election (request_write r w) ≡ Some o → key_eq (key_of r) election ≡ true
+pub wrote_key : (r : Request) (w : Option Object) (o : Option Object) → at_key election (request_write r w) ≡ Some o → key_eq (key_of r) election ≡ true
 wrote_key r None o is = absurd (none_is o is)
 wrote_key r (Some x) o is = by_test (key_eq (key_of r) election) is
   where

@@ -25,7 +25,7 @@ use Rattle.takeover_laws.specs.Rounds.{IsRound, RoundsAreShort}
 -- ---- when messages arrive that pass
 
 -- what is in force at a position is what a beat's events left in force
-abbrev Forces : Doc → ℕ → List Entry → Type 0
+abbrev pub Forces : Doc → ℕ → List Entry → Type 0
 Forces doc k h = ((f : What → Option ℕ) → in_force f h ≡ in_force f (with_events doc k)) × ((f : What → Option Bool) → in_force f h ≡ in_force f (with_events doc k))
 
 request_passes : (doc : Doc) (near far p k : ℕ) (h : List Entry) → Passes doc near far p k → Forces doc k h → request_arrival p k h ≡ Some (k + request_delay p (with_events doc k))
@@ -40,7 +40,7 @@ resumes doc p k awake = by_end (pause_end doc p k) awake
     by_end None awake = refl
     by_end (Some j) awake = absurd (true_is awake)
 
-reply_passes : (doc : Doc) (near far p k : ℕ) (h : List Entry) → Passes doc near far p k → Forces doc k h → is_paused doc p (k + reply_delay p (with_events doc k)) ≡ false
+pub reply_passes : (doc : Doc) (near far p k : ℕ) (h : List Entry) → Passes doc near far p k → Forces doc k h → is_paused doc p (k + reply_delay p (with_events doc k)) ≡ false
     → reply_arrival doc p k h ≡ Some (k + reply_delay p (with_events doc k))
 reply_passes doc near far p k h passes force awake =
     ap (λ b. held_up doc p (arrival b k (reply_delay p h))) (ap (or_else false) (force.1 (reply_loss_of p)) ∙ passes.replies)

@@ -31,7 +31,7 @@ use Rattle.call_laws.proofs.Turning.{IsDue}
 
 -- ---- an own turn with an attempt that is due
 
-ticks_add : (doc : Doc) (k p : ℕ) (h : List Entry) → IsTail h (ticks doc k p h)
+pub ticks_add : (doc : Doc) (k p : ℕ) (h : List Entry) → IsTail h (ticks doc k p h)
 ticks_add doc k p h = by_up (alive p h)
   where
     by_test : (i : ℕ) (b : Bool) → IsTail h (if b then tick doc k (record { process = p; incarnation = i }) h else h)

@@ -151,7 +151,7 @@ actor_is p q is = identity_eq p q (ap process_of is) (ap incarnation_of is)
     incarnation_of actors.Script = 0
     incarnation_of (actors.Proc id i) = i
 
-sends_of : (who : Actor) (d : Fact) (s : Sent) → sent_of who d ≡ Some s → (who ≡ actor_of s.who) × (d ≡ Sends s.call s.arrives)
+pub sends_of : (who : Actor) (d : Fact) (s : Sent) → sent_of who d ≡ Some s → (who ≡ actor_of s.who) × (d ≡ Sends s.call s.arrives)
 sends_of actors.Script (Sends call arrives) s is = absurd (none_is s is)
 sends_of (actors.Proc id i) (Sends call arrives) s is =
     let e = some_is (record { who = record { process = id.0; incarnation = i }; call = call; arrives = arrives }) s is in
@@ -182,8 +182,20 @@ pub record Sending (doc : Doc) (a n : ℕ) (q : Identity) (call : Call) (arrives
   pub up : alive q.process before ≡ Some q.incarnation
   pub opens : open_as call.kind call ≡ Some call
 
+-- the reply to a call counts as the round has it, and what it is followed by comes next
+pub record IsReacted (doc : Doc) (near far : ℕ) (q : Identity) (call : Call) (arrives : Option ℕ) (j : ℕ) : Type 0 where
+  pub round : IsRound doc near far q call arrives j
+  pub before : List Entry
+  pub low : IsTail (with_answers doc round.comes) before
+  pub position :
+      IsTail
+      (react round.comes q (leads q (with_reply round.comes q call (answer call.request round.before) before))
+      (follow_on doc q round.comes call.kind call.request (answer call.request round.before) (with_reply round.comes q call (answer call.request round.before) before))
+      (with_reply round.comes q call (answer call.request round.before) before))
+      (history doc (suc round.comes))
+
 -- so it was sent after those events
-since_low : (doc : Doc) (a n : ℕ) (f : Entry) (S : List Entry) → IsTail (f ∷ S) (history doc (suc n)) → a ≤ f.beat → 3 ≤ f.step → IsTail (with_events doc a) S
+pub since_low : (doc : Doc) (a n : ℕ) (f : Entry) (S : List Entry) → IsTail (f ∷ S) (history doc (suc n)) → a ≤ f.beat → 3 ≤ f.step → IsTail (with_events doc a) S
 since_low doc a n f S at from step = by_beat (cases_lt a f.beat)
   where
     by_beat : (a < f.beat) ⊎ (f.beat ≤ a) → IsTail (with_events doc a) S
@@ -351,6 +363,21 @@ module _ (doc : Doc) (near far a e n : ℕ) (q : Identity) (role : is_controller
 
     pub counted_reply : HasCounted doc q call (s.f.beat + 2 * near) (s.f.beat + 2 * far)
     counted_reply = record { at = y; least = omega (arith, r.least, r.comes_least); most = omega (arith, r.most, r.comes_most); reply = first.b.reply; before = first.before; position = counts }
+
+    abbrev follow_of : Back → List Entry
+    follow_of b =
+        react y q (leads q (with_reply y q call b.reply first.before)) (follow_on doc q y call.kind call.request b.reply (with_reply y q call b.reply first.before)) (with_reply y q call b.reply first.before)
+
+    follows_at : IsTail (follow_of first.b) (history doc (suc y))
+    follows_at =
+        tail_trans (follow_of first.b) (delivered doc y first.b first.before) (history doc (suc y))
+        (subst (IsTail (follow_of first.b))
+        (sym (delivers doc q y call first.b first.before role mine number (timely call s.f.beat y s.sent s.from (omega (arith, r.least, r.comes_least)) (omega (arith, r.most, r.comes_most)) (omega (arith, comes, within))) first.waits))
+        (tail_all (follow_of first.b)))
+        (tail_trans (delivered doc y first.b first.before) (step_three doc y two) (history doc (suc y)) first.position (deliveries_position doc y))
+
+    pub reacted : IsReacted doc near far q call arrives s.f.beat
+    reacted = record { round = r; before = first.before; low = first.low; position = subst (λ (b : Back). IsTail (follow_of b) (history doc (suc y))) that follows_at }
 
     module _ (won : IsWon call.request (answer call.request r.before)) where
       reply_won : IsWon call.request first.b.reply
@@ -531,6 +558,32 @@ replies_count doc near far a e n q role steady time one within x T call arrives 
     by_sending s =
         subst (λ b. HasCounted doc q call (b + 2 * near) (b + 2 * far)) beat
         (counted_reply doc near far a e n q role steady time within one call arrives s.0 r (omega (arith, r.most, r.comes_most, to, beat)) (λ h below above. up h (subst (λ g. IsTail g h) s.2 below) above))
+      where
+        beat : s.0.f.beat ≡ x.beat
+        beat = ap (λ (e : Entry). e.beat) s.1
+
+        r : IsRound doc near far q call arrives s.0.f.beat
+        r =
+            rounds_in doc near far a e q steady one (suc n) s.0.f s.0.before call arrives s.0.position s.0.actor s.0.fact (omega (arith, s.0.step)) s.0.from (omega (arith, beat, to, within))
+            (λ k is most. omega (arith, most, beat, to, within))
+
+-- the same with what follows the reply
+pub replies_react : (doc : Doc) (near far a e n : ℕ) (q : Identity) → is_controller doc q.process ≡ true → IsSteady doc near far a e q.process → IsInTime doc far a e q.process → 1 ≤ near → n ≤ e
+    → (x : Entry) (T : List Entry) (call : Call) (arrives : Option ℕ) → IsTail (x ∷ T) (history doc (suc n)) → x.actor ≡ actor_of q → x.fact ≡ Sends call arrives → a ≤ x.beat → x.beat + 2 * far ≤ n
+    → ((h : List Entry) → IsTail T h → IsTail h (history doc (suc n)) → alive q.process h ≡ Some q.incarnation)
+    → IsReacted doc near far q call arrives x.beat
+replies_react doc near far a e n q role steady time one within x T call arrives stands actor fact from to up = by_sending (sending_of doc near far a e n q role steady time within one call arrives x T stands actor fact since)
+  where
+    sent : call.sent ≡ x.beat
+    sent = (subst (λ o. IfSome o (λ s. (s.call.sent ≡ x.beat) × (s.arrives ≡ request_arrival s.who.process x.beat T))) (sent_is x q call arrives actor fact) (messages_travel doc (suc n) x T stands).0).0
+
+    since : a ≤ call.sent
+    since = omega (arith, sent, from)
+
+    by_sending : (s : Sending doc a n q call arrives) × (s.f ≡ x) × (s.before ≡ T) → IsReacted doc near far q call arrives x.beat
+    by_sending s =
+        subst (λ b. IsReacted doc near far q call arrives b) beat
+        (reacted doc near far a e n q role steady time within one call arrives s.0 r (omega (arith, r.most, r.comes_most, to, beat)) (λ h below above. up h (subst (λ g. IsTail g h) s.2 below) above))
       where
         beat : s.0.f.beat ≡ x.beat
         beat = ap (λ (e : Entry). e.beat) s.1

@@ -1,0 +1,11 @@
+pub mod Requests
+pub mod Begun
+pub mod Origins
+pub mod Turning
+pub mod Asked
+pub mod Replies
+pub mod Life
+pub mod Looks
+pub mod First
+pub mod Deciding
+pub mod Bounded

@@ -1,0 +1,290 @@
+-- What is shown to a candidate in a calm, and what it asks for then.
+use Rattle.std.proofs.Common.{◌≡◌, ◌<◌, ◌≤◌, ℕ, suc, ◌+◌, ◌*◌, Bool, true, false, cond, List, [], ◌∷◌, Option, Some, None, IfSome, refl, sym, ap, ◌∙◌, subst, inl, inr, ⊎_elim, arith}
+use Rattle.std.proofs.lemmas.Bool.{eq-eqb, cases_lt}
+use Rattle.kube_base.specs.declared.numbers.Version.{Version}
+use Rattle.kube_objects.specs.declared.call.Reply.{Reply}
+use Rattle.kube_objects.specs.declared.call.Reply.TheVariants.{Found, Done, Absent, Exists, Conflict, Unchanged}
+use Rattle.kube_objects.specs.declared.call.Request.{Request}
+use Rattle.kube_objects.specs.declared.call.Request.TheVariants.{Get, Create, Update, PostStatus}
+use Rattle.kube_objects.specs.declared.lease.Lease.{Lease}
+use Rattle.kube_objects.specs.declared.object.Object.TheVariants as object
+use Rattle.kube_objects.specs.Answers.{lease_in, versioned, as_kind, answer_get, answer, if_done, written}
+use Rattle.kube_objects.specs.Document.{Doc, end_beat, is_controller}
+use Rattle.kube_objects.specs.Elector.{Moment, moment, Fails, Asks, follow_get, follow, is_blocked, updated, created, leads, Shown, told, done_shows, found_shows, shows, shown, newly, observed, observed_at}
+use Rattle.kube_objects.specs.Entry.{Entry, Identity, Call, Fact, First, Event, Starts, Stops, Sends, Answers, Delivers, Expires, Leads, Ends, Crashes, Stalls, Ticks, actor_of, entry}
+use Rattle.kube_objects.specs.Identities.{is_by}
+use Rattle.kube_objects.specs.Keys.{key_eq}
+use Rattle.kube_objects.specs.Newest.{when, has, or_zero}
+use Rattle.kube_objects.specs.Stored.{Held, election, key_of, request_write, at_key, stored}
+use Rattle.kube_objects.specs.Wire.{back_of, reply_delay, request_arrival}
+use Rattle.history.specs.History.{history}
+use Rattle.history.specs.Sound.{IsSound}
+use Rattle.history_laws.specs.Tails.{In, IsTail}
+use Rattle.history_laws.proofs.Counting.{only_test, only_value}
+use Rattle.history_laws.proofs.Order.{entries_are_earlier}
+use Rattle.history_laws.proofs.Plainly.{upper, some_is, none_is}
+use Rattle.history_laws.proofs.Tailed.{tail_all, tail_trans, later_tail}
+use Rattle.call_laws.specs.Answering.{with_events}
+use Rattle.call_laws.proofs.Above.{next_above, in_head}
+use Rattle.call_laws.proofs.Making.{Replied}
+use Rattle.call_laws.proofs.Placing.{from_beat, in_own_beat, not_before, forces_stand, messages_travel}
+use Rattle.takeover_laws.specs.Acting.{AreInTime, NobodyActs}
+use Rattle.takeover_laws.specs.Calm.{Passes, IsSteady, IsCalm, WritesElection}
+use Rattle.takeover_laws.specs.Taking.{FitsStored}
+use Rattle.takeover_laws.proofs.Records.{no_write, record_stays}
+use Rattle.takeover_laws.proofs.Rounds.{reply_passes, sent_is}
+use Rattle.takeover_laws.proofs.Taking.{takeovers_end_in_acting}
+use Rattle.calm_laws.proofs.Asked.{IsWrite, IsNext, next_is, asks_same, fails_not, reason_key, reason_of}
+use Rattle.calm_laws.proofs.Begun.{by_is}
+use Rattle.calm_laws.proofs.Origins.{Origin, origin}
+
+-- ---- what is stored as a Lease
+
+abbrev pub HasLease : Option Held → Type 0
+HasLease None = Unit {0}
+HasLease (Some x) = (lease : Lease) × (lease_in x.object ≡ Some lease)
+
+-- a write that follows a Get that showed what is stored fits it
+fits_of : (q : Identity) (m : Moment) (seen : ℕ) (o : Option Held) (r : Request) → HasLease o → follow_get q m seen (answer_get (as_kind lease_in o)) ≡ Asks r → FitsStored o r
+fits_of q m seen None r lease is = subst (FitsStored None) (asks_same (Create election (created q m)) r is) refl
+fits_of q m seen (Some x) r lease is = by_test (is_blocked q m.now seen lease.0) (ap (λ l. follow_get q m seen (answer_get (versioned x.version l))) (sym lease.1) ∙ is)
+  where
+    by_test : (b : Bool) → cond b Fails (Asks (Update election x.version (updated q m lease.0))) ≡ Asks r → FitsStored (Some x) r
+    by_test true is = absurd (fails_not r is)
+    by_test false is = subst (FitsStored (Some x)) (asks_same (Update election x.version (updated q m lease.0)) r is) (refl, refl)
+
+-- a write that was answered with a version wrote
+wrote_by : (r : Request) (h : List Entry) (version : Version) → IsWrite r → key_of r ≡ election → answer r h ≡ Done version → has (at_key election (request_write r (written r h))) ≡ true
+wrote_by (Create key lease) h version w is done =
+    ap (λ reply. has (at_key election (request_write (Create key lease) (if_done reply (object.Lease lease))))) done ∙ ap (λ k. has (when (key_eq k election) (Some (object.Lease lease)))) is
+wrote_by (Update key given lease) h version w is done =
+    ap (λ reply. has (at_key election (request_write (Update key given lease) (if_done reply (object.Lease lease))))) done ∙ ap (λ k. has (when (key_eq k election) (Some (object.Lease lease)))) is
+wrote_by (Get key) h version w is done = absurd w
+wrote_by (PostStatus name status at) h version w is done = absurd w
+
+module _ (doc : Doc) (near far a e n : ℕ) (sound : IsSound doc) (calm : IsCalm doc near far a e) (time : AreInTime doc near far a e) (one : 1 ≤ near) (ways : near ≤ far) (end : e ≤ end_beat doc) (within : n ≤ e)
+    (none : NobodyActs doc near far a e n) (q : Identity) (role : is_controller doc q.process ≡ true) (steady : IsSteady doc near far a e q.process)
+    (led : (h : List Entry) → IsTail h (history doc (suc n)) → leads q h ≡ false) (lease : HasLease (stored election (history doc (a + far)))) where
+  abbrev pub stored_reply : Reply
+  stored_reply = answer_get (as_kind lease_in (stored election (history doc (a + far))))
+
+  -- ---- where a reply to it is from
+
+  module _ (w : Call) (reply : Reply) (T : List Entry) (y : ℕ) (o : Origin doc q w reply T y) (high : IsTail T (history doc (suc n))) where
+    position : IsTail (o.e ∷ o.low) (history doc (suc n))
+    position = tail_trans (o.e ∷ o.low) T (history doc (suc n)) o.answered high
+
+    sending : IsTail (o.begun.f ∷ o.begun.before) (history doc (suc n))
+    sending = tail_trans (o.begun.f ∷ o.begun.before) T (history doc (suc n)) o.begun.position high
+
+    before_sending : IsTail o.begun.before (history doc (suc n))
+    before_sending = tail_trans o.begun.before (o.begun.f ∷ o.begun.before) (history doc (suc n)) (inr (tail_all o.begun.before)) sending
+
+    -- it asked for the election Lease
+    pub key : key_of w.request ≡ election
+    key =
+        reason_key doc o.begun.f.beat q w.request o.begun.before
+        (reason_of doc (suc n) q role o.begun.f o.begun.before w o.begun.arrives sending o.begun.actor o.begun.fact (led o.begun.before before_sending) o.begun.opens).0
+
+    key_is : key_eq (key_of w.request) election ≡ true
+    key_is = ap (λ k. key_eq k election) key
+
+    earlier : (z : Entry) (Z : List Entry) → IsTail (z ∷ Z) (history doc (suc n)) → z.beat < a → In z (history doc a)
+    earlier z Z at lt = in_head z Z (history doc a) (tail_trans (z ∷ Z) (history doc (suc z.beat)) (history doc a) (in_own_beat doc (suc n) z Z at) (later_tail doc (suc z.beat) a (omega (arith, lt))))
+
+    -- a reply that comes two ways after the calm began was given one way after it, or later
+    pub answered_late : a + 2 * far ≤ y → y ≤ n → a + far ≤ o.e.beat
+    answered_late late to = ⊎_elim (λ lt. absurd (early lt)) (λ from. ⊎_elim (λ lt. absurd (soon from lt)) (λ le. le) (cases_lt o.e.beat (a + far))) (cases_lt o.e.beat a)
+      where
+        back_is : back_of o.e.actor o.e.fact ≡ Some (record { who = q; call = w; reply = reply; comes = Some y })
+        back_is = ap (λ d. back_of o.e.actor d) o.fact ∙ ap (λ who. back_of who (Answers w reply (Some y) (written w.request o.low))) o.actor
+
+        early : o.e.beat < a → ⊥
+        early lt =
+            let come : y < a + far = subst (λ o. IfSome o (λ b. key_eq (key_of b.call.request) election ≡ true → IfSome b.comes (λ m. m < a + far))) back_is (calm.replies o.e (earlier o.e o.low position lt)) key_is in
+            omega (arith, come, late)
+
+        soon : a ≤ o.e.beat → o.e.beat < a + far → ⊥
+        soon from lt = omega (arith, comes, passes.reply_most, late, lt)
+          where
+            passes : Passes doc near far q.process o.e.beat
+            passes = steady.passes o.e.beat from (omega (arith, lt, late, to, within))
+
+            comes : o.e.beat + reply_delay q.process (with_events doc o.e.beat) ≡ y
+            comes =
+                some_is (o.e.beat + reply_delay q.process (with_events doc o.e.beat)) y
+                (sym (reply_passes doc near far q.process o.e.beat o.low passes (forces_stand doc (suc n) o.e o.low position (omega (arith, o.step)))
+                (steady.passes (o.e.beat + reply_delay q.process (with_events doc o.e.beat)) (omega (arith, from)) (omega (arith, passes.reply_most, lt, late, to, within))).awake)
+                ∙ o.comes_is)
+
+    -- so its request was sent in the calm
+    pub sent_since : a + far ≤ o.e.beat → a ≤ o.begun.f.beat
+    sent_since late = ⊎_elim (λ lt. absurd (early lt)) (λ le. le) (cases_lt o.begun.f.beat a)
+      where
+        early : o.begun.f.beat < a → ⊥
+        early lt =
+            let there = subst (λ o. IfSome o (λ s. key_eq (key_of s.call.request) election ≡ true → IfSome s.arrives (λ m. m < a + far)))
+            (sent_is o.begun.f q w o.begun.arrives o.begun.actor o.begun.fact) (calm.requests o.begun.f (earlier o.begun.f o.begun.before sending lt)) key_is in
+            let come : o.e.beat < a + far = subst (λ o. IfSome o (λ m. m < a + far)) o.arrives there in
+            omega (arith, come, late)
+
+    answered_by : o.e.beat ≤ n
+    answered_by = ⊎_elim (λ lt. omega (arith, lt)) (λ first. omega (arith, first.0)) (entries_are_earlier doc (suc n) o.e (in_head o.e o.low (history doc (suc n)) position))
+
+    -- a Get shows what is stored
+    pub shows_stored : w.request ≡ Get election → a + far ≤ o.e.beat → o.e.beat + far ≤ n → reply ≡ stored_reply
+    shows_stored get late to =
+        o.reply_is ∙ ap (λ r. answer r o.low) get
+        ∙ ap (λ x. answer_get (as_kind lease_in x))
+        (record_stays doc near far a e n sound calm end within one ways time none o.e.beat late to o.low
+        (not_before doc (a + far) (suc n) o.e o.low (omega (arith, late, answered_by)) position late (omega (arith, o.step)))
+        (tail_trans o.low (o.e ∷ o.low) (history doc (suc o.e.beat)) (inr (tail_all o.low)) (in_own_beat doc (suc n) o.e o.low position)))
+
+    -- no write of it is accepted
+    pub no_success : (version : Version) → IsWrite w.request → a + far ≤ o.e.beat → o.e.beat + far ≤ n → reply ≡ Done version → ⊥
+    no_success version write late to done =
+        no_write doc near far a e n sound calm end within one ways time none o.e o.low q position o.actor role
+        (subst (WritesElection a) (sym o.fact) (omega (arith, sent, sent_since late), wrote_by w.request o.low version write key (sym o.reply_is ∙ done))) to
+      where
+        sent : w.sent ≡ o.begun.f.beat
+        sent = (subst (λ p. IfSome p (λ s. (s.call.sent ≡ o.begun.f.beat) × (s.arrives ≡ request_arrival s.who.process o.begun.f.beat o.begun.before)))
+            (sent_is o.begun.f q w o.begun.arrives o.begun.actor o.begun.fact) (messages_travel doc (suc n) o.begun.f o.begun.before sending).0).0
+
+  -- ---- a write after a Get ends in acting
+
+  pub no_late_write : (x : Entry) (T : List Entry) (call : Call) (arrives : Option ℕ) → IsTail (x ∷ T) (history doc (suc n)) → x.actor ≡ actor_of q → x.fact ≡ Sends call arrives → 3 ≤ x.step
+      → (f : Replied doc x.beat q call.request T) → IsWrite call.request → a + 2 * far ≤ x.beat → x.beat + 2 * far ≤ n → ⊥
+  no_late_write x T call arrives at actor fact step f write late to =
+      takeovers_end_in_acting doc near far a e n sound calm time one ways end within none q role steady (suc n) x T call arrives at actor fact (omega (arith, step)) (omega (arith, late)) to (omega (arith, late)) fits
+    where
+      y : ℕ
+      y = x.beat
+
+      low : List Entry
+      low = entry x.beat 3 q (Delivers f.waiting f.reply true) ∷ f.before
+
+      at_low : IsTail low (history doc (suc n))
+      at_low = subst (λ g. IsTail g (history doc (suc n))) f.is (tail_trans T (x ∷ T) (history doc (suc n)) (inr (tail_all T)) at)
+
+      high : IsTail f.before (history doc (suc n))
+      high = tail_trans f.before low (history doc (suc n)) (inr (tail_all f.before)) at_low
+
+      o : Origin doc q f.waiting f.reply f.before x.beat
+      o = origin doc (suc n) q (entry x.beat 3 q (Delivers f.waiting f.reply true)) f.before f.waiting f.reply at_low refl refl
+
+      next : IsNext f.waiting.request call.request
+      next = next_is q (moment doc q x.beat) (observed_at doc q T) f.waiting.kind f.waiting.request f.reply call.request f.follows
+
+      get : f.waiting.request ≡ Get election
+      get = (next.written write).1 ∙ ap Get (sym (ap key_of (next.written write).1) ∙ key f.waiting f.reply f.before x.beat o high)
+
+      given : a + far ≤ o.e.beat
+      given = answered_late f.waiting f.reply f.before x.beat o high late (omega (arith, to))
+
+      upto : o.e.beat ≤ x.beat
+      upto =
+          ⊎_elim (λ lt. omega (arith, lt)) (λ first. omega (arith, first.0))
+          (entries_are_earlier doc (suc x.beat) o.e (in_head o.e o.low (history doc (suc x.beat)) (tail_trans (o.e ∷ o.low) low (history doc (suc x.beat)) (inr o.answered)
+          (in_own_beat doc (suc n) (entry x.beat 3 q (Delivers f.waiting f.reply true)) f.before at_low))))
+
+      shows_it : f.reply ≡ stored_reply
+      shows_it = shows_stored f.waiting f.reply f.before x.beat o high get given (omega (arith, upto, to))
+
+      fits : FitsStored (stored election (history doc (a + far))) call.request
+      fits =
+          fits_of q (moment doc q x.beat) (observed_at doc q T) (stored election (history doc (a + far))) call.request lease
+          (ap (λ reply. follow q (moment doc q x.beat) (observed_at doc q T) f.waiting.kind (Get election) reply) (sym shows_it)
+          ∙ ap (λ r. follow q (moment doc q x.beat) (observed_at doc q T) f.waiting.kind r f.reply) (sym get) ∙ f.follows)
+
+  -- ---- what it was shown stays
+
+  module _ (version : Version) (record_is : Lease) (found : stored_reply ≡ Found version record_is) (o r : ℕ) (late : a + 2 * far ≤ o) (to : r + far ≤ n) (ord : o ≤ suc r) where
+    abbrev pub Seen : List Entry → Type 0
+    Seen h = (shown q h ≡ Some (version, record_is)) × (or_zero (observed q h) ≤ o)
+
+    -- what is shown is that
+    same_shown : (z : Entry) (Z : List Entry) (s : Shown) → IsTail (z ∷ Z) (history doc (suc r)) → o ≤ z.beat → shows q z.actor z.fact ≡ Some s → s ≡ (version, record_is)
+    same_shown z Z s at from is = cases z.fact refl is
+      where
+        at_n : IsTail (z ∷ Z) (history doc (suc n))
+        at_n = tail_trans (z ∷ Z) (history doc (suc r)) (history doc (suc n)) at (later_tail doc (suc r) (suc n) (omega (arith, to)))
+
+        high : IsTail Z (history doc (suc n))
+        high = tail_trans Z (z ∷ Z) (history doc (suc n)) (inr (tail_all Z)) at_n
+
+        upto : z.beat ≤ r
+        upto = ⊎_elim (λ lt. omega (arith, lt)) (λ first. omega (arith, first.0)) (entries_are_earlier doc (suc r) z (in_head z Z (history doc (suc r)) at))
+
+        counts : (w : Call) (reply : Reply) → z.actor ≡ actor_of q → z.fact ≡ Delivers w reply true → told w.request reply ≡ Some s → s ≡ (version, record_is)
+        counts w reply actor fact told_is = by_request w.request refl told_is
+          where
+            from_it : Origin doc q w reply Z z.beat
+            from_it = origin doc (suc n) q z Z w reply at_n actor fact
+
+            given : a + far ≤ from_it.e.beat
+            given = answered_late w reply Z z.beat from_it high (omega (arith, late, from)) (omega (arith, upto, to))
+
+            soon : from_it.e.beat + far ≤ n
+            soon =
+                let le : from_it.e.beat ≤ r =
+                ⊎_elim (λ lt. omega (arith, lt)) (λ first. omega (arith, first.0))
+                (entries_are_earlier doc (suc r) from_it.e (in_head from_it.e from_it.low (history doc (suc r)) (tail_trans (from_it.e ∷ from_it.low) Z (history doc (suc r)) from_it.answered (tail_trans Z (z ∷ Z) (history doc (suc r)) (inr (tail_all Z)) at)))) in
+                omega (arith, le, to)
+
+            done : (l : Lease) (b : Reply) → reply ≡ b → IsWrite w.request → done_shows l b ≡ Some s → s ≡ (version, record_is)
+            done l (Done v) is write shows_it = absurd (no_success w reply Z z.beat from_it high v write given soon is)
+            done l Absent is write shows_it = absurd (none_is s shows_it)
+            done l (Found v m) is write shows_it = absurd (none_is s shows_it)
+            done l Exists is write shows_it = absurd (none_is s shows_it)
+            done l (Conflict v) is write shows_it = absurd (none_is s shows_it)
+            done l Unchanged is write shows_it = absurd (none_is s shows_it)
+
+            by_request : (request : Request) → w.request ≡ request → told request reply ≡ Some s → s ≡ (version, record_is)
+            by_request (Get k) is shows_it =
+                let get : w.request ≡ Get election = is ∙ ap Get (sym (ap key_of is) ∙ key w reply Z z.beat from_it high) in
+                some_is s (version, record_is) (sym shows_it ∙ ap found_shows (shows_stored w reply Z z.beat from_it high get given soon ∙ found))
+            by_request (Create k l) is shows_it = done l reply refl (subst IsWrite (sym is) tt) shows_it
+            by_request (Update k v l) is shows_it = done l reply refl (subst IsWrite (sym is) tt) shows_it
+            by_request (PostStatus name status at) is shows_it = absurd (none_is s shows_it)
+
+        cases : (d : Fact) → z.fact ≡ d → shows q z.actor d ≡ Some s → s ≡ (version, record_is)
+        cases (Delivers w reply true) fact is =
+            counts w reply (by_is q z.actor (only_test (is_by q z.actor) (told w.request reply) s is)) fact (only_value (is_by q z.actor) (told w.request reply) s is)
+        cases (Delivers w reply false) fact is = absurd (none_is s is)
+        cases (Sends w arrives) fact is = absurd (none_is s is)
+        cases (First k object) fact is = absurd (none_is s is)
+        cases (Event w v) fact is = absurd (none_is s is)
+        cases (Answers w reply comes wrote) fact is = absurd (none_is s is)
+        cases (Expires w) fact is = absurd (none_is s is)
+        cases (Ticks t) fact is = absurd (none_is s is)
+        cases Starts fact is = absurd (none_is s is)
+        cases Crashes fact is = absurd (none_is s is)
+        cases Stops fact is = absurd (none_is s is)
+        cases (Stalls beats) fact is = absurd (none_is s is)
+        cases Ends fact is = absurd (none_is s is)
+        cases (Leads v) fact is = absurd (none_is s is)
+
+    one_more : (z : Entry) (Z : List Entry) → IsTail (z ∷ Z) (history doc (suc r)) → o ≤ z.beat → Seen Z → Seen (z ∷ Z)
+    one_more z Z at from s = by_shows (shows q z.actor z.fact) refl
+      where
+        known : (x : Shown) → x ≡ (version, record_is) → newly (Some x) (shown q Z) z.beat ≡ None
+        known x is =
+            ap (λ (x : Shown). newly (Some x) (shown q Z) z.beat) is ∙ ap (λ old. newly (Some (version, record_is)) old z.beat) s.0
+            ∙ ap (λ b. cond b None (Some z.beat)) (eq-eqb version.0 version.0 refl)
+
+        by_shows : (p : Option Shown) → shows q z.actor z.fact ≡ p → Seen (z ∷ Z)
+        by_shows None is = (ap (λ p. upper p (shown q Z)) is ∙ s.0, subst (λ m. m ≤ o) (sym (ap (λ p. or_zero (upper (newly p (shown q Z) z.beat) (observed q Z))) is)) s.1)
+        by_shows (Some x) is =
+            let same = same_shown z Z x at from is in (
+              ap (λ p. upper p (shown q Z)) is ∙ ap Some same,
+              subst (λ m. m ≤ o) (sym (ap (λ p. or_zero (upper (newly p (shown q Z) z.beat) (observed q Z))) is ∙ ap (λ b. or_zero (upper b (observed q Z))) (known x same))) s.1,
+            )
+
+    pub seen_stays : (low h : List Entry) → IsTail (history doc o) low → Seen low → IsTail low h → IsTail h (history doc (suc r)) → Seen h
+    seen_stays low [] since s at high = subst Seen at s
+    seen_stays low (z ∷ Z) since s (inl is) high = subst Seen is s
+    seen_stays low (z ∷ Z) since s (inr at) high =
+        one_more z Z high (next_above (λ y. o ≤ y.beat) (history doc o) Z (history doc (suc r)) z (from_beat doc o (suc r) ord) below high).0 (seen_stays low Z since s at (tail_trans Z (z ∷ Z) (history doc (suc r)) (inr (tail_all Z)) high))
+      where
+        below : IsTail (history doc o) Z
+        below = tail_trans (history doc o) low Z since at
