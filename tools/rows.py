@@ -128,6 +128,7 @@ ROWS = [
     Row('browser', ['view/test_timeline.py'], [CHROMIUM], None),
     Row('playground', ['play/test_server.py'], [REPLAY, LENS], 6),
     Row('playground-page', ['play/test_playground.py'], [REPLAY, LENS, CHROMIUM], None),
+    Row('kubectl', ['plugin/test_kubectl_replay.py'], [program('kubectl', 'kubernetes-client'), REPLAY, LENS], None),
     Row('python', ['pytest', '-q'], [PYTEST, REPLAY], 10, 'python'),
     Row('go', ['go', 'test', './...'], [program('go', 'golang-go'), COMPILER, SHARED], None, 'go'),
     Row('c-library', ['bench/library_check.py', '--program', 'crates/kube_replay/out/kube_replay'], [COMPILER, SHARED, REPLAY], 7),
