@@ -1,7 +1,7 @@
 #!/usr/bin/env python3
 """Makes the package, installs it in a clean Debian without the kit, tries all that it has, and removes it again.
 
-    tools/test_package.py [--program FILE --lens FILE] [--root TAR]
+    tools/test/test_package.py [--program FILE --lens FILE] [--root TAR]
 
 It needs root, dpkg-deb, mmdebstrap, man and lintian, all of them in Debian, and for mmdebstrap a mirror; TAR is a system that was made
 before, by the line that --make-root prints. Each line has what was tried, and `same` or what was wrong. The exit status is 1 where
@@ -18,7 +18,7 @@ import subprocess
 import sys
 import tempfile
 
-TOP = os.path.dirname(os.path.dirname(os.path.realpath(__file__)))
+TOP = os.path.dirname(os.path.dirname(os.path.dirname(os.path.realpath(__file__))))
 # What a system has beside the essential packages: the package itself needs none of these.
 WITH = 'man-db,bash-completion,zsh,python3'
 SYSTEM = ['mmdebstrap', '--variant=minbase', '--include=' + WITH, 'bookworm']

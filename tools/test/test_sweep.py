@@ -1,7 +1,7 @@
 #!/usr/bin/env python3
 """Sweeps over the examples, and compares each answer with that of a single run, measured in another way.
 
-    python3 tools/test_sweep.py [--program COMMAND] [--only NAME] [--install] [--pictures FOLDER]
+    python3 tools/test/test_sweep.py [--program COMMAND] [--only NAME] [--install] [--pictures FOLDER]
 
 COMMAND is a program that takes the word `replay` and the document on standard input, by default the built one; without it nothing is tried, since
 a build for each of some 1,200 runs would take days. The sweeps run on all cores, broken off twice, and by GNU parallel over ssh to this machine,
@@ -23,7 +23,7 @@ import tempfile
 import time
 from concurrent.futures import ThreadPoolExecutor
 
-HERE = os.path.dirname(os.path.abspath(__file__))
+HERE = os.path.dirname(os.path.dirname(os.path.abspath(__file__)))
 TOP = os.path.dirname(HERE)
 sys.path.insert(0, os.path.join(TOP, 'view'))
 import lines

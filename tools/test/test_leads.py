@@ -1,13 +1,12 @@
 #!/usr/bin/env python3
 """Compares who leads by `kube_lens`, sweeps, the Python package and the page: all tell the same seconds in which nobody acts, and in which two do.
 
-    tools/test_leads.py [--count 300] [--seed 1] [--without-page] [--program PROGRAM] [--replay PROGRAM]
+    tools/test/test_leads.py [--count 300] [--seed 1] [--without-page] [--program PROGRAM] [--replay PROGRAM]
 
 The documents are those of the examples, one with two pauses in a term, and more with pauses, made from a seed; each is replayed by the built
 kube_replay. `kube_lens leaders` and `summary` tell the same spans in lines, tables and JSON. The page is opened in a headless Chromium. Where
 a trace says premise=yes, two never act. The exit status is 1 where anything differs. Nothing here is a proof.
 """
-import argparse
 import glob
 import io
 import json
@@ -17,10 +16,11 @@ import subprocess
 import sys
 import tempfile
 
-import questions
-import test_lens_trace
+import lens_frame
+from places import TOP
 
-TOP = test_lens_trace.TOP
+import questions
+
 sys.path[:0] = [os.path.join(TOP, 'python'), os.path.join(TOP, 'view')]
 from kube_replay import Trace  # noqa: E402
 
@@ -63,25 +63,22 @@ def replayed(words):
             yield os.path.relpath(path, TOP), file.read()
     dice = random.Random(words.seed)
     for number, each in enumerate([TWO_PAUSES] + [document(dice) for _ in range(words.count)]):
-        text = subprocess.run([words.replay, 'replay'], input=json.dumps(each), stdout=subprocess.PIPE, text=True, check=False).stdout
+        text = lens_frame.text_of(words.replay, 'replay', json.dumps(each))
         if not text.startswith('trace 1 '):
             sys.exit(f'document {number} is refused: {text}{json.dumps(each)}')
         yield f'document {number}', text
 
 
-def asked(program, text, *words):
-    return subprocess.run([program, *words], input=text, stdout=subprocess.PIPE, text=True, check=False)
-
-
 def by_lens(program, text):
     """The spans in which nobody acts and the beats in which two do, as `leaders` and `summary` tell them, and whether these agree."""
-    leaders, told = (json.loads(asked(program, text, command, '--json').stdout) for command in ('leaders', 'summary'))
+    leaders, told = (json.loads(lens_frame.answer(program, [command, '--json'], text)[1]) for command in ('leaders', 'summary'))
     nobody = [(span['from'], span['until']) for span in leaders['nobody']]
     spans, two, line = told['spansWithoutLeader'], told['header']['twoLeadBeats'], told['header']['twoLeadFromLine']
     lengths = [until - since for since, until in nobody]
-    plain, tables = asked(program, text, 'leaders'), asked(program, text, 'summary').stdout.splitlines()
+    status, plain = lens_frame.answer(program, ['leaders'], text)
+    tables = lens_frame.text_of(program, 'summary', text).splitlines()
     agree = [spans == {'count': len(lengths), 'longest': max(lengths, default=0), 'sum': sum(lengths)},
-             (line is None) == (two == 0) == (leaders['overlap'] is None) == (plain.returncode == 0) == plain.stdout.endswith('\none at a time\n'),
+             (line is None) == (two == 0) == (leaders['overlap'] is None) == (status == 0) == plain.endswith('\none at a time\n'),
              line == (leaders['overlap'] or {}).get('line'), tables[1].split()[-2:-1] == [str(two)]]
     return nobody, two, all(agree)
 
@@ -146,16 +143,9 @@ def differing(words, page, text):
 
 
 def main():
-    words = argparse.ArgumentParser(description=__doc__, formatter_class=argparse.RawDescriptionHelpFormatter)
-    words.add_argument('--count', type=int, default=300)
-    words.add_argument('--seed', type=int, default=1)
+    words = lens_frame.options(__doc__, 300)
     words.add_argument('--without-page', action='store_true')
-    words.add_argument('--program', default=test_lens_trace.built('kube_lens'))
-    words.add_argument('--replay', default=test_lens_trace.built('kube_replay'))
-    words = words.parse_args()
-    for program in (words.program, words.replay):
-        if not os.path.exists(program):
-            sys.exit(f'{program} is not built')
+    words = lens_frame.given(words)
     page, count, faults, paused = Page(words.without_page), 0, [], 0
     for name, text in replayed(words):
         found = list(differing(words, page, text))

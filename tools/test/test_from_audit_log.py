@@ -1,5 +1,5 @@
 #!/usr/bin/env python3
-"""Tries tools/from-audit-log on small logs written here, and on recorded ones of conformance/logs: python3 tools/test_from_audit_log.py
+"""Tries tools/from-audit-log on small logs written here, and on recorded ones of conformance/logs: python3 tools/test/test_from_audit_log.py
 
 What is wanted is written out by hand: of a recorded log it is what was done and seen there, by its driver's notes and by the acts that its
 electors number. `verdict` below is the meaning of 41 and 42 in docs/trace.md, written anew; conformance/run.py has `audit` itself judge.
@@ -12,7 +12,8 @@ import sys
 import tempfile
 import unittest
 
-TOP = os.path.dirname(os.path.dirname(os.path.abspath(__file__)))
+from places import TOP
+
 TOOL = os.path.join(TOP, "tools/from-audit-log")
 AGENT = "kube-controller-manager/v1.20.2 (linux/amd64) kubernetes/x/leader-election"
 EVICTS = AGENT.replace("leader-election", "node-controller")

@@ -1,7 +1,7 @@
 #!/usr/bin/env python3
 """Tests the scripts that read crates.txt: what stands on what, where a library is taken from, edits, tables and pictures.
 
-    python3 tools/test_prove_one.py [--prove CRATE] [TEST ..]
+    python3 tools/test/test_prove_one.py [--prove CRATE] [TEST ..]
 
 Nothing is proved, but with --prove: then tools/prove-one proves this crate and what is below it, from nothing, in a copy of the sources, and
 refuses it with one of its wrong bodies of each kind. For `rate_bucket` that takes some three processor minutes.
@@ -15,6 +15,8 @@ import sys
 import tempfile
 import time
 import unittest
+
+from places import TOOLS
 
 import bodies
 import crates
@@ -41,8 +43,8 @@ PROVE = None
 
 
 def script(name):
-    """A script of this folder as a module."""
-    path = os.path.join(crates.TOP, 'tools', name)
+    """A script of the tools as a module."""
+    path = os.path.join(TOOLS, name)
     loader = importlib.machinery.SourceFileLoader(name.replace('-', '_'), path)
     module = importlib.util.module_from_spec(importlib.util.spec_from_loader(loader.name, loader))
     loader.exec_module(module)
@@ -379,6 +381,19 @@ class OfMaps(unittest.TestCase):
         self.assertEqual(list(self.check.differences(groups, groups)), [])
         self.assertEqual(len(list(self.check.differences([('One', ['b', 'a'])], groups))), 1)
         self.assertEqual(len(list(self.check.differences([('Other', ['a', 'b'])], groups))), 1)
+
+
+    def test_a_tool_without_a_name_and_a_name_without_a_tool_are_told(self):
+        named = self.check.named_in('| `tools/one`, `two.py` | `three` |\n| `tools/test/test_*.py`, `./four` | x |\ntext\n')
+        self.assertEqual(named, ['tools/one', 'tools/two.py', 'tools/test/test_*.py', './four'])
+        with tempfile.TemporaryDirectory() as room:
+            for name in ('one', 'two.py', 'test/test_a.py', 'unnamed', 'test/unnamed.py'):
+                write('#!/bin/sh\n', room, 'tools', name)
+            write('module\n', room, 'tools', 'module.py')
+            self.assertEqual(list(self.check.unnamed(named, room)),
+                             ['tools/README.md names no tools/unnamed, which can be run', 'tools/README.md names no tools/test/unnamed.py, which can be run'])
+            os.remove(os.path.join(room, 'tools', 'two.py'))
+            self.assertEqual(list(self.check.unnamed(named, room))[2:], ['tools/README.md names tools/two.py, which is not there'])
 
 
 class OfLayout(unittest.TestCase):

@@ -1,7 +1,7 @@
 #!/usr/bin/env python3
 """Opens the site that tools/site made in a headless Chromium, as files without a server, and searches it.
 
-    tools/test_site.py [--site FOLDER] [--picture FILE]
+    tools/test/test_site.py [--site FOLDER] [--picture FILE]
 
 Each row of QUERIES is typed into the search of another page, and a result has to lead to that heading; the link is then followed.
 FOLDER is out/site where none is named. --picture writes what is seen with the last results. The exit status is 1 where anything differs.
@@ -12,7 +12,7 @@ import re
 import sys
 import time
 
-TOP = os.path.dirname(os.path.dirname(os.path.abspath(__file__)))
+TOP = os.path.dirname(os.path.dirname(os.path.dirname(os.path.abspath(__file__))))
 sys.path.insert(0, os.path.join(TOP, 'view'))
 from browser import Browser
 

@@ -1,21 +1,16 @@
 #!/usr/bin/env python3
 """Compares what `kube_lens leaders` answers with a reference in Python, on the examples' traces and on traces made from seeds.
 
-    tools/test_lens_trace.py [--count 500] [--seed 1] [--program PROGRAM] [--replay crates/kube_replay/out/kube_replay]
+    tools/test/test_lens_trace.py [--count 500] [--seed 1] [--program PROGRAM] [--replay crates/kube_replay/out/kube_replay]
 
 The reference shares nothing with the program: it asks of each beat who leads in it and isn't paused. Some traces are broken on purpose; of these the built
 kube_replay's `audit` is the judge. PROGRAM is by default the built kube_lens; where it isn't built it runs unproved, by `rt try --cases`. The
 exit status is 1 where anything differs. Nothing here is a proof.
 """
-import argparse
-import glob
-import os
-import random
-import subprocess
 import sys
-import tempfile
 
-TOP = os.path.dirname(os.path.dirname(os.path.abspath(__file__)))
+import lens_frame
+
 ENDINGS = ('end', 'stop', 'crash')
 OTHERS = ('start', 'create election exists', 'update election v=7 t=1', 'zone a/b Normal rate=100', 'mode on',
           'unknown n1 NodeStatusUnknown v=3', 'taint n1 unreachable v=4', 'untaint n1 absent', 'evict default/web due=2024-01-01T00:01:15Z v=40')
@@ -32,23 +27,9 @@ def trace(dice):
     return '\n'.join([f'trace 1 beat=100 end={end} premise={dice.choice(("yes", "no"))}'] + lines) + '\n'
 
 
-def broken(dice, text):
-    """The same with one fault."""
-    at = dice.randrange(len(text))
-    return text[:at] + dice.choice(('', '\n', 'x', '0', ' ')) + text[at + 1:]
-
-
 def traces(seed, count):
     """Those of the examples, and as many more as wanted, one in ten of them broken."""
-    cases = []
-    for path in sorted(glob.glob(os.path.join(TOP, 'examples', '*', 'trace*.txt'))):
-        with open(path, encoding='utf-8') as file:
-            cases.append(file.read())
-    dice = random.Random(seed)
-    for number in range(count):
-        text = trace(dice)
-        cases.append(broken(dice, text) if number % 10 == 9 else text)
-    return cases
+    return lens_frame.example_traces() + list(lens_frame.from_seed(seed, count, trace, lens_frame.broken))
 
 
 class Term:
@@ -115,7 +96,7 @@ def expected(text):
 
 def wanted(text, replay):
     """The text wanted: for a text that is no trace the refusal of `audit`."""
-    said = subprocess.run([replay, 'audit'], input=text, stdout=subprocess.PIPE, text=True, check=False).stdout
+    said = lens_frame.text_of(replay, 'audit', text)
     if said.startswith('refused 40 '):
         return said
     told = expected(text)
@@ -128,46 +109,16 @@ def wanted(text, replay):
     return told
 
 
-def differs(program, text, told):
-    """Whether the program ends otherwise than wanted on this trace."""
-    ran = subprocess.run([program, 'leaders'], input=text, stdout=subprocess.PIPE, text=True, check=False)
-    return ran.stdout != told or ran.returncode != (0 if told.endswith('one at a time\n') else 1)
-
-
-def try_unproved(cases):
-    """The status of `rt try` on these traces and the texts wanted."""
-    with tempfile.TemporaryDirectory() as folder:
-        for number, (text, told) in enumerate(cases):
-            for name, what in (('', text), ('.stdout', told)):
-                with open(os.path.join(folder, f'case{number}{name}'), 'w', encoding='utf-8') as file:
-                    file.write(what)
-        ran = subprocess.run(['rt', 'try', '--cases', folder, '--', 'leaders'], cwd=os.path.join(TOP, 'crates', 'kube_lens'), check=False,
-                             stdout=subprocess.PIPE, stderr=subprocess.STDOUT, text=True)
-    print('\n'.join(ran.stdout.splitlines()[-3:]))
-    return ran.returncode
-
-
-def built(name):
-    return os.path.join(TOP, 'crates', name, 'out', name)
+def status(wanted):
+    return 0 if wanted.endswith('one at a time\n') else 1
 
 
 def main():
-    words = argparse.ArgumentParser(description=__doc__, formatter_class=argparse.RawDescriptionHelpFormatter)
-    words.add_argument('--count', type=int, default=500)
-    words.add_argument('--seed', type=int, default=1)
-    words.add_argument('--program', default=built('kube_lens'))
-    words.add_argument('--replay', default=built('kube_replay'))
-    words = words.parse_args()
-    if not os.path.exists(words.replay):
-        sys.exit(f'{words.replay} is not built')
-    cases = [(text, wanted(text, os.path.abspath(words.replay))) for text in traces(words.seed, words.count)]
+    words = lens_frame.given(lens_frame.options(__doc__, 500), may_lack_lens=True)
+    cases = [(text, wanted(text, words.replay)) for text in traces(words.seed, words.count)]
     ends = [told.splitlines()[-1].split()[0] for _, told in cases]
     print(f"{len(cases)} traces: {ends.count('one')} with one at a time, {ends.count('overlap')} with two, {ends.count('refused')} refused", flush=True)
-    if not os.path.exists(words.program):
-        sys.exit(try_unproved(cases))
-    wrong = [text for text, told in cases if differs(os.path.abspath(words.program), text, told)]
-    print(f'{len(wrong)} differ', *wrong[:3], sep='\n')
-    sys.exit(1 if wrong else 0)
+    lens_frame.compare(words, 'leaders', cases, status)
 
 
 if __name__ == '__main__':

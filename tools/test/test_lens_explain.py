@@ -1,7 +1,7 @@
 #!/usr/bin/env python3
 """Compares `kube_lens explain` with `kube_replay check`, and the places that it tells with a reference in Python.
 
-    tools/test_lens_explain.py [--count 2000] [--seed 1] [--program PROGRAM] [--replay crates/kube_replay/out/kube_replay] [FILE ..]
+    tools/test/test_lens_explain.py [--count 2000] [--seed 1] [--program PROGRAM] [--replay crates/kube_replay/out/kube_replay] [FILE ..]
 
 The documents are those of examples/, of the rows of check_tables, the FILEs, and as many from a seed as wanted: examples with faults of many
 sorts. Where `check` refuses one, the first line of `explain` has to be its line; the next one has to tell a line and a column at which the
@@ -11,16 +11,15 @@ counts, of each key that an object has twice both places, of each timing that is
 Nodes and no kubelets. PROGRAM is by default the built kube_lens. The exit status is 1 where anything
 differs. Nothing here is a proof.
 """
-import argparse
 import glob
 import json
 import os
 import random
 import re
-import subprocess
-import sys
 
-TOP = os.path.dirname(os.path.dirname(os.path.abspath(__file__)))
+import lens_frame
+from places import TOP
+
 PLANTED = 'leaseDurations'
 # The timings that are looked at, those that a controller may have first, with their defaults.
 STANDARD = {'leaseDurationSeconds': 15, 'renewDeadlineMillis': 10000, 'retryPeriodMillis': 2000, 'callTimeoutMillis': 2000,
@@ -28,6 +27,7 @@ STANDARD = {'leaseDurationSeconds': 15, 'renewDeadlineMillis': 10000, 'retryPeri
 TIMINGS = list(STANDARD)
 UNHEARD = ('warning: there are Nodes and no kubelets, so all nodes fall silent together, which taints none: a pod is evicted only for a taint that is '
            'there already or put. Give each node a kubelet, and epoch the time of the list.\n')
+TWICE = b'warning: a key is here twice, and the last one counts'
 LINE = re.compile(rb'line (\d+), column (\d+): (.*)')
 
 
@@ -162,32 +162,26 @@ def cut(dice, text):
                         text + b'}', text.replace(b'"', b"'"), text.replace(b'}', b',}', 1), b'# a comment\n' + text, b'\xef\xbb\xbf' + text, b''))
 
 
+def read(path):
+    with open(path, 'rb') as file:
+        return file.read()
+
+
 def rows():
     """The documents of check_tables' rows."""
-    found = []
-    for path in sorted(glob.glob(os.path.join(TOP, 'crates', 'check_tables', 'data', 'documents', '*.txt'))):
-        with open(path, 'rb') as file:
-            found += [line.split(b'\t')[1] for line in file.read().split(b'\n') if line.count(b'\t') == 1]
-    return found
+    tables = sorted(glob.glob(os.path.join(TOP, 'crates', 'check_tables', 'data', 'documents', '*.txt')))
+    return [line.split(b'\t')[1] for path in tables for line in read(path).split(b'\n') if line.count(b'\t') == 1]
 
 
 def texts(seed, count, files):
-    kept = sorted(glob.glob(os.path.join(TOP, 'examples', '*', 'document.json'))) + [os.path.join(TOP, 'examples', 'one-controller.json')]
-    cases = []
-    for path in kept + files:
-        with open(path, 'rb') as file:
-            cases.append(file.read())
-    cases += rows()
-    small = [json.loads(text) for text in cases[:len(kept)] if len(text) < 20000]
+    """Documents as bytes: those of the examples, of the files and of the rows, and as many more as wanted, which are examples with faults."""
+    examples = [text.encode() for text in lens_frame.example_documents()]
+    cases = examples + [read(path) for path in files] + rows()
+    small = [json.loads(text) for text in examples if len(text) < 20000]
     dice = random.Random(seed)
     for _ in range(count):
         cases.append(broken(dice, json.loads(json.dumps(dice.choice(small)))))
     return cases
-
-
-def ran(program, words, text):
-    done = subprocess.run([program, *words], input=text, stdout=subprocess.PIPE, check=False)
-    return done.returncode, done.stdout
 
 
 def counts(said):
@@ -248,7 +242,8 @@ def fault(text, checked, explained):
         more = doubts(json.loads(text)).encode()
         warned = told[len(counts(said)):len(told) - len(more)].splitlines()
         places = [place_in(text, line) for number, line in enumerate(warned) if number % 3]
-        right = places == [at for both in Places(text).twice[:20] for at in both]
+        twice = Places(text).twice[:20]
+        right = places == [at for both in twice for at in both] and warned[::3] == [TWICE] * len(twice)
         return None if right and told.startswith(counts(said)) and told.endswith(more) else f'{told} of {said}, and {more}'
     first, second, rest = (told.split(b'\n', 2) + [b'', b''])[:3]
     place = place_in(text, second)
@@ -266,32 +261,20 @@ def fault(text, checked, explained):
     return None if place in wanted else f'{told} tells {place}, not {wanted}'
 
 
-def built(name):
-    return os.path.join(TOP, 'crates', name, 'out', name)
-
-
 def main():
-    words = argparse.ArgumentParser(description=__doc__, formatter_class=argparse.RawDescriptionHelpFormatter)
-    words.add_argument('--count', type=int, default=2000)
-    words.add_argument('--seed', type=int, default=1)
-    words.add_argument('--program', default=built('kube_lens'))
-    words.add_argument('--replay', default=built('kube_replay'))
+    words = lens_frame.options(__doc__, 2000)
     words.add_argument('files', nargs='*', metavar='FILE')
-    words = words.parse_args()
-    for program in (words.replay, words.program):
-        if not os.path.exists(program):
-            sys.exit(f'{program} is not built')
+    words = lens_frame.given(words)
     seen, wrong = {}, []
     for text in texts(words.seed, words.count, words.files):
-        checked = ran(os.path.abspath(words.replay), ['check'], text)
-        found = fault(text, checked, ran(os.path.abspath(words.program), ['explain'], text))
+        checked = lens_frame.answer(words.replay, ['check'], text)
+        found = fault(text, checked, lens_frame.answer(words.program, ['explain'], text))
         kind = checked[1].split(b' ')[1].decode() if checked[0] == 1 else 'ok'
         seen[kind] = seen.get(kind, 0) + 1
         if found:
-            wrong.append((found, text))
+            wrong.append(f'{found}\n{text}')
     print(f'{sum(seen.values())} documents:', *(f'{kind}: {seen[kind]}' for kind in sorted(seen)))
-    print(f'{len(wrong)} differ', *(f'{found}\n{text}' for found, text in wrong[:3]), sep='\n')
-    sys.exit(1 if wrong else 0)
+    lens_frame.report(wrong)
 
 
 if __name__ == '__main__':

@@ -1,9 +1,9 @@
 #!/usr/bin/env python3
 """Makes an input for each row of the table of refusals in docs/document.md, and compares what the program says with the row's line.
 
-    tools/test_refusals.py [--program COMMAND]
+    tools/test/test_refusals.py [--program COMMAND]
 
-COMMAND is the program, by default the built one. The inputs stand in tools/data/refusals.json: for each code the command's words, and either a
+COMMAND is the program, by default the built one. The inputs stand in tools/test/data/refusals.json: for each code the command's words, and either a
 text, or changes of the smallest document: the value at each place. The lines that are wanted are the page's. The exit status is 1 where anything differs.
 """
 import argparse
@@ -15,9 +15,8 @@ import shlex
 import subprocess
 import sys
 
-HERE = os.path.dirname(os.path.abspath(__file__))
-TOP = os.path.dirname(HERE)
-BUILT = os.path.join(TOP, 'crates', 'kube_replay', 'out', 'kube_replay')
+from places import HERE, TOP, built
+
 SMALLEST = {'version': 1, 'settings': {'endBeat': 60}, 'controllers': [{'name': 'cp-east-1'}]}
 
 
@@ -49,7 +48,7 @@ def input_of(case):
 
 def main():
     options = argparse.ArgumentParser(description=__doc__, formatter_class=argparse.RawDescriptionHelpFormatter)
-    options.add_argument('--program', default=BUILT)
+    options.add_argument('--program', default=built('kube_replay'))
     program = shlex.split(options.parse_args().program)
     with open(os.path.join(HERE, 'data', 'refusals.json'), encoding='utf-8') as file:
         cases = {case['code']: case for case in json.load(file)}

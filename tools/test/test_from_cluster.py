@@ -1,7 +1,7 @@
 #!/usr/bin/env python3
 """Makes documents of the lists in tools/data, which have kubectl's own shape, and looks at what is in them and how they run.
 
-    python3 tools/test_from_cluster.py [--program COMMAND] [--lens COMMAND]
+    python3 tools/test/test_from_cluster.py [--program COMMAND] [--lens COMMAND]
 
 COMMAND is the program, and kube_lens, by default the built ones. The step for CI that stands in docs/lens-margin.md is run as it stands there. The exit
 status is 1 where anything differs.
@@ -15,12 +15,11 @@ import subprocess
 import sys
 import tempfile
 
-HERE = os.path.dirname(os.path.abspath(__file__))
-TOP = os.path.dirname(HERE)
-BUILT = os.path.join(TOP, 'crates', 'kube_replay', 'out', 'kube_replay')
-LENS = os.path.join(TOP, 'crates', 'kube_lens', 'out', 'kube_lens')
-LIST = os.path.join(HERE, 'data', 'cluster.json')
-MANIFEST = os.path.join(HERE, 'data', 'kube-controller-manager.yaml')
+from places import HERE, TOOLS, TOP, built
+
+LENS = built('kube_lens')
+LIST = os.path.join(TOOLS, 'data', 'cluster.json')
+MANIFEST = os.path.join(TOOLS, 'data', 'kube-controller-manager.yaml')
 # Manifests in each form in which the flags are read, with words in the place of the three values; and those in which one can't be read, whose first
 # line has what is said.
 READ, UNREAD = os.path.join(HERE, 'data', 'manifests', 'read'), os.path.join(HERE, 'data', 'manifests', 'unread')
@@ -40,7 +39,7 @@ def has(what, text, *parts):
 def make(*words, given=None):
     with open(LIST) as file:
         text = file.read() if given is None else given
-    done = subprocess.run([os.path.join(HERE, 'from-cluster'), *words], input=text, stdout=subprocess.PIPE, stderr=subprocess.PIPE, text=True)
+    done = subprocess.run([os.path.join(TOOLS, 'from-cluster'), *words], input=text, stdout=subprocess.PIPE, stderr=subprocess.PIPE, text=True)
     return done
 
 
@@ -396,7 +395,7 @@ def test_step(folder, lens):
     """The step of the page fails for unsafe flags in each form, and for flags that can't be read; it passes for safe ones."""
     put(os.path.join(folder, 'kube_lens'), '#!/bin/sh\nexec %s "$@"\n' % lens)
     os.chmod(os.path.join(folder, 'kube_lens'), 0o755)
-    os.symlink(HERE, os.path.join(folder, 'tools'))
+    os.symlink(TOOLS, os.path.join(folder, 'tools'))
     manifest = 'tools/data/kube-controller-manager.yaml'
     cases = [(name, text, True) for name, text in forms('60s').items()] + [(name, text, False) for name, text in forms('30s').items()]
     cases += [(name, text, None) for name, (text, _) in unread().items()]
@@ -412,7 +411,7 @@ def test_step(folder, lens):
 
 def main():
     options = argparse.ArgumentParser(description=__doc__.splitlines()[0])
-    options.add_argument('--program', default=BUILT)
+    options.add_argument('--program', default=built('kube_replay'))
     options.add_argument('--lens', default=LENS)
     given = options.parse_args()
     for test in (test_document, test_flags, test_versions, test_explain, test_controllers, test_events, test_hosts, test_stalls, test_limits, test_refused):

@@ -1,29 +1,23 @@
 #!/usr/bin/env python3
 """Compares what `kube_lens summary --document` answers with a reference in Python, on the examples and on documents made from seeds.
 
-    tools/test_lens_lateness.py [--count 300] [--seed 1] [--program PROGRAM] [--replay PROGRAM]
+    tools/test/test_lens_lateness.py [--count 300] [--seed 1] [--program PROGRAM] [--replay PROGRAM]
 
 A document from a seed is one of the examples whose controllers have other clocks: other rates from the start and at beats, other offsets, another
 epoch. Its trace is what the built kube_replay writes of it. Some are put beside a document that isn't theirs, or are broken. The reference shares
 nothing with the program: it reads the document with Python's JSON, adds up what a clock ran in each beat in exact fractions, and takes dates from
-Python. What stands before the table of lateness is what `kube_lens summary` answers, which tools/test_lens_summary.py compares. PROGRAM is by
+Python. What stands before the table of lateness is what `kube_lens summary` answers, which tools/test/test_lens_summary.py compares. PROGRAM is by
 default the built kube_lens. The exit status is 1 where anything differs. Nothing here is a proof.
 """
-import argparse
 import copy
 import datetime
-import glob
 import json
-import os
 import random
 import re
-import subprocess
-import sys
 
-import test_lens_trace
+import lens_frame
 from test_lens_summary import aligned
 
-TOP = test_lens_trace.TOP
 ZERO = datetime.datetime(1970, 1, 1, tzinfo=datetime.timezone.utc)
 HEADING = ['POD', 'DUE', 'EVICTED', 'BY', 'LATE-BY-ITS-CLOCK', 'LATE-IN-TRUE-TIME']
 
@@ -90,30 +84,19 @@ def table(document, trace):
         yield [pod, due, at, who, late(by_clock), late(in_true_time)]
 
 
-class Programs:
-    def __init__(self, lens, replay):
-        self.lens, self.replay = os.path.abspath(lens), os.path.abspath(replay)
-
-    def trace(self, text):
-        return subprocess.run([self.replay, 'replay'], input=text, stdout=subprocess.PIPE, text=True, check=True).stdout
-
-    def ask(self, words, text):
-        ran = subprocess.run([self.lens, *words], input=text, stdout=subprocess.PIPE, text=True, check=False)
-        return ran.returncode, ran.stdout
-
-    def wanted(self, text, trace):
-        """The status and the text wanted of a document's text and a trace."""
-        said = subprocess.run([self.replay, 'check'], input=text, stdout=subprocess.PIPE, text=True, check=False).stdout
-        if said.startswith('refused '):
-            return 1, said
-        told = self.ask(['summary'], trace)
-        if told[0] != 0:
-            return told
-        document = json.loads(text)
-        if f'trace 1 beat={document["settings"].get("beatMillis", 100)} ' != trace[:trace.index('end=')]:
-            return 1, 'refused 44 /1\n'
-        rows = list(table(document, trace))
-        return 0, told[1] + ('\n' + aligned([HEADING] + rows) if rows else '')
+def wanted(words, text, trace):
+    """The status and the text wanted of a document's text and a trace."""
+    said = lens_frame.text_of(words.replay, 'check', text)
+    if said.startswith('refused '):
+        return 1, said
+    told = lens_frame.answer(words.program, ['summary'], trace)
+    if told[0] != 0:
+        return told
+    document = json.loads(text)
+    if f'trace 1 beat={document["settings"].get("beatMillis", 100)} ' != trace[:trace.index('end=')]:
+        return 1, 'refused 44 /1\n'
+    rows = list(table(document, trace))
+    return 0, told[1] + ('\n' + aligned([HEADING] + rows) if rows else '')
 
 
 def skewed(dice, given):
@@ -145,7 +128,7 @@ def strange(dice, document, trace):
         for event in document.get('events', []):
             event.pop('process', None)
     elif kind == 2:
-        trace = test_lens_trace.broken(dice, trace)
+        trace = lens_frame.broken(dice, trace)
     elif kind == 3:
         document['settings']['endBeat'] = max((event['beat'] for event in document['events']), default=0)
     elif kind == 4:
@@ -155,47 +138,34 @@ def strange(dice, document, trace):
     return json.dumps(document, indent=dice.choice((None, 1))), trace
 
 
-def cases(words, programs):
+def cases(words):
     """Documents as texts and traces."""
     documents = []
-    for path in sorted(glob.glob(os.path.join(TOP, 'examples', '*', 'document*.json'))):
-        with open(path, encoding='utf-8') as file:
-            text = file.read()
-        trace = programs.trace(text)
+    for text in lens_frame.texts('examples', '*', 'document*.json'):
+        trace = lens_frame.text_of(words.replay, 'replay', text)
         yield text, trace
         if ' evict ' in trace and len(trace) < 200_000:
             documents.append(json.loads(text))
     dice = random.Random(words.seed)
     for number in range(words.count):
         document = skewed(dice, dice.choice(documents))
-        trace = programs.trace(json.dumps(document))
+        trace = lens_frame.text_of(words.replay, 'replay', json.dumps(document))
         yield strange(dice, document, trace) if number % 5 == 4 else (json.dumps(document, indent=dice.choice((None, 2))), trace)
 
 
 def main():
-    words = argparse.ArgumentParser(description=__doc__, formatter_class=argparse.RawDescriptionHelpFormatter)
-    words.add_argument('--count', type=int, default=300)
-    words.add_argument('--seed', type=int, default=1)
-    words.add_argument('--program', default=test_lens_trace.built('kube_lens'))
-    words.add_argument('--replay', default=test_lens_trace.built('kube_replay'))
-    words = words.parse_args()
-    for program in (words.program, words.replay):
-        if not os.path.exists(program):
-            sys.exit(f'{program} is not built')
-    programs = Programs(words.program, words.replay)
+    words = lens_frame.given(lens_frame.options(__doc__, 300))
     tried, refused, rows, early, wrong = 0, 0, 0, 0, []
-    for text, trace in cases(words, programs):
-        wanted = programs.wanted(text, trace)
-        told = programs.ask(['summary', '--document'], text + '\n' + trace)
-        tried, refused = tried + 1, refused + wanted[1].startswith('refused ')
-        late_rows = wanted[1].partition('LATE-IN-TRUE-TIME\n')[2].splitlines()
+    for text, trace in cases(words):
+        right = wanted(words, text, trace)
+        told = lens_frame.answer(words.program, ['summary', '--document'], text + '\n' + trace)
+        tried, refused = tried + 1, refused + right[1].startswith('refused ')
+        late_rows = right[1].partition('LATE-IN-TRUE-TIME\n')[2].splitlines()
         rows, early = rows + len(late_rows), early + sum(row.split()[-1].startswith('-') for row in late_rows)
-        if told != wanted:
-            wrong.append((text, trace, told))
-    print(f'{tried} documents, {refused} refused, {rows} evictions, {early} of them early in true time; {len(wrong)} differ')
-    for text, _, told in wrong[:2]:
-        print(text, told[1], sep='\n')
-    sys.exit(1 if wrong or not rows else 0)
+        if told != right:
+            wrong.append(f'{text}\n{told[1]}')
+    print(f'{tried} documents, {refused} refused, {rows} evictions, {early} of them early in true time')
+    lens_frame.report(wrong, tried=rows > 0)
 
 
 if __name__ == '__main__':

@@ -1,23 +1,17 @@
 #!/usr/bin/env python3
 """Compares what `kube_lens summary` answers with a reference in Python, on the examples' traces and on traces made from seeds.
 
-    tools/test_lens_summary.py [--count 200] [--seed 1] [--program PROGRAM] [--traces FOLDER]
+    tools/test/test_lens_summary.py [--count 200] [--seed 1] [--program PROGRAM] [--traces FOLDER]
 
 The reference shares nothing with the program: it splits the lines into words and asks of each beat who leads in it and isn't paused. FOLDER may have more
 traces, one a file. PROGRAM is by default the built kube_lens; where it isn't built it runs unproved, by `rt try --cases`. The exit status is 1
 where anything differs. Nothing here is a proof.
 """
-import argparse
-import glob
 import os
-import random
-import subprocess
-import sys
-import tempfile
 
+import lens_frame
 import test_lens_trace
 
-TOP = test_lens_trace.TOP
 KINDS = ('start', 'crash', 'stop', 'end', 'pause', 'lead', 'create-election', 'update-election', 'nodelease', 'status', 'put', 'remove', 'unknown',
          'mode', 'zone', 'taint', 'swap', 'untaint', 'evict')
 NODES = ('n1', 'n2', 'n3.example')
@@ -59,16 +53,9 @@ def trace(dice):
 
 
 def traces(words):
-    cases = []
-    folders = [os.path.join(TOP, 'examples', '*', 'trace*.txt')] + ([os.path.join(words.traces, '*')] if words.traces else [])
-    for path in sorted(path for folder in folders for path in glob.glob(folder)):
-        with open(path, encoding='utf-8') as file:
-            cases.append(file.read())
-    dice = random.Random(words.seed)
-    for number in range(words.count):
-        text = trace(dice)
-        cases.append(test_lens_trace.broken(dice, text) if number % 10 == 9 else text)
-    return cases
+    """Those of the examples and of a folder, and as many more as wanted, one in ten of them broken."""
+    more = lens_frame.texts(os.path.abspath(words.traces), '*') if words.traces else []
+    return lens_frame.example_traces() + more + list(lens_frame.from_seed(words.seed, words.count, trace, lens_frame.broken))
 
 
 class Trace:
@@ -189,47 +176,23 @@ def aligned(rows):
 
 def wanted(text, replay):
     """The text wanted: for a text that is no trace the refusal of `audit`."""
-    said = subprocess.run([replay, 'audit'], input=text, stdout=subprocess.PIPE, text=True, check=False).stdout
+    said = lens_frame.text_of(replay, 'audit', text)
     if said.startswith('refused 40 '):
         return said
     return '\n'.join(aligned(rows) for rows in tables(Trace(text)) if len(rows) > 1)
 
 
-def differs(program, text, told):
-    ran = subprocess.run([program, 'summary'], input=text, stdout=subprocess.PIPE, text=True, check=False)
-    return ran.stdout != told or ran.returncode != (1 if told.startswith('refused ') else 0)
-
-
-def try_unproved(cases):
-    """The status of `rt try` on these traces and the texts wanted."""
-    with tempfile.TemporaryDirectory() as folder:
-        for number, (text, told) in enumerate(cases):
-            for name, what in (('', text), ('.stdout', told)):
-                with open(os.path.join(folder, f'case{number}{name}'), 'w', encoding='utf-8') as file:
-                    file.write(what)
-        ran = subprocess.run(['rt', 'try', '--cases', folder, '--', 'summary'], cwd=os.path.join(TOP, 'crates', 'kube_lens'), check=False,
-                             stdout=subprocess.PIPE, stderr=subprocess.STDOUT, text=True)
-    print('\n'.join(ran.stdout.splitlines()[-3:]))
-    return ran.returncode
+def status(wanted):
+    return 1 if wanted.startswith('refused ') else 0
 
 
 def main():
-    words = argparse.ArgumentParser(description=__doc__, formatter_class=argparse.RawDescriptionHelpFormatter)
-    words.add_argument('--count', type=int, default=200)
-    words.add_argument('--seed', type=int, default=1)
-    words.add_argument('--program', default=test_lens_trace.built('kube_lens'))
-    words.add_argument('--replay', default=test_lens_trace.built('kube_replay'))
+    words = lens_frame.options(__doc__, 200)
     words.add_argument('--traces')
-    words = words.parse_args()
-    if not os.path.exists(words.replay):
-        sys.exit(f'{words.replay} is not built')
-    cases = [(text, wanted(text, os.path.abspath(words.replay))) for text in traces(words)]
+    words = lens_frame.given(words, may_lack_lens=True)
+    cases = [(text, wanted(text, words.replay)) for text in traces(words)]
     print(f"{len(cases)} traces, {sum(told.startswith('refused ') for _, told in cases)} refused", flush=True)
-    if not os.path.exists(words.program):
-        sys.exit(try_unproved(cases))
-    wrong = [text for text, told in cases if differs(os.path.abspath(words.program), text, told)]
-    print(f'{len(wrong)} differ', *wrong[:3], sep='\n')
-    sys.exit(1 if wrong else 0)
+    lens_frame.compare(words, 'summary', cases, status)
 
 
 if __name__ == '__main__':

@@ -1,24 +1,19 @@
 #!/usr/bin/env python3
 """Compares the lines of `kube_lens margin` with a reference in Python, on documents made from seeds.
 
-    tools/test_lens.py [--count 2000] [--seed 1] [--program PROGRAM] [--replay crates/kube_replay/out/kube_replay]
+    tools/test/test_lens.py [--count 2000] [--seed 1] [--program PROGRAM] [--replay crates/kube_replay/out/kube_replay]
 
 The documents are those of examples/ and as many from a seed as wanted. The reference shares nothing with the program: it goes through the beats one by one for a clock's rates, and finds each number by trying
 the lease premise itself, in fractions. Some documents are broken on purpose; of these, and of whether the last line is `safe`, the built
 kube_replay's `check` is the judge. PROGRAM is by default the built kube_lens; where it isn't
 built it runs unproved, by `rt try --cases`, in half an hour. The exit status is 1 where anything differs. Nothing here is a proof.
 """
-import argparse
-import glob
 import json
-import os
-import random
-import subprocess
 import sys
-import tempfile
 from fractions import Fraction
 
-TOP = os.path.dirname(os.path.dirname(os.path.abspath(__file__)))
+import lens_frame
+
 DAY = 86400
 
 
@@ -74,16 +69,7 @@ def broken(dice, doc):
 
 def documents(seed, count):
     """Those of the examples, and as many more as wanted, one in ten of them broken."""
-    kept = sorted(glob.glob(os.path.join(TOP, 'examples', '*', 'document.json'))) + [os.path.join(TOP, 'examples', 'one-controller.json')]
-    cases = []
-    for path in kept:
-        with open(path, encoding='utf-8') as file:
-            cases.append(json.load(file))
-    dice = random.Random(seed)
-    for number in range(count):
-        doc = document(dice)
-        cases.append(broken(dice, doc) if number % 10 == 9 else doc)
-    return cases
+    return [json.loads(text) for text in lens_frame.example_documents()] + list(lens_frame.from_seed(seed, count, document, broken))
 
 
 class Reference:
@@ -153,7 +139,7 @@ class Reference:
 
 def expected(doc, replay):
     """The text wanted: for a refused document the refusal of `check`."""
-    said = subprocess.run([replay, 'check'], input=json.dumps(doc), stdout=subprocess.PIPE, text=True, check=False).stdout
+    said = lens_frame.text_of(replay, 'check', json.dumps(doc))
     if said.startswith('refused '):
         return said
     text, safe = Reference(doc).text()
@@ -162,46 +148,16 @@ def expected(doc, replay):
     return text
 
 
-def differs(program, doc, text):
-    """Whether the program ends otherwise than wanted on this document."""
-    ran = subprocess.run([program, 'margin'], input=json.dumps(doc), stdout=subprocess.PIPE, text=True, check=False)
-    return ran.stdout != text or ran.returncode != (0 if text.endswith('\nsafe\n') else 1)
-
-
-def try_unproved(cases):
-    """The status of `rt try` on these documents and the texts wanted."""
-    with tempfile.TemporaryDirectory() as folder:
-        for number, (doc, text) in enumerate(cases):
-            for name, what in (('', json.dumps(doc)), ('.stdout', text)):
-                with open(os.path.join(folder, f'case{number}{name}'), 'w', encoding='utf-8') as file:
-                    file.write(what)
-        ran = subprocess.run(['rt', 'try', '--cases', folder, '--', 'margin'], cwd=os.path.join(TOP, 'crates', 'kube_lens'), check=False,
-                             stdout=subprocess.PIPE, stderr=subprocess.STDOUT, text=True)
-    print('\n'.join(ran.stdout.splitlines()[-3:]))
-    return ran.returncode
-
-
-def built(name):
-    return os.path.join(TOP, 'crates', name, 'out', name)
+def status(wanted):
+    return 0 if wanted.endswith('\nsafe\n') else 1
 
 
 def main():
-    words = argparse.ArgumentParser(description=__doc__, formatter_class=argparse.RawDescriptionHelpFormatter)
-    words.add_argument('--count', type=int, default=2000)
-    words.add_argument('--seed', type=int, default=1)
-    words.add_argument('--program', default=built('kube_lens'))
-    words.add_argument('--replay', default=built('kube_replay'))
-    words = words.parse_args()
-    if not os.path.exists(words.replay):
-        sys.exit(f'{words.replay} is not built')
-    cases = [(doc, expected(doc, os.path.abspath(words.replay))) for doc in documents(words.seed, words.count)]
+    words = lens_frame.given(lens_frame.options(__doc__, 2000), may_lack_lens=True)
+    cases = [(json.dumps(doc), expected(doc, words.replay)) for doc in documents(words.seed, words.count)]
     ends = [text.splitlines()[-1].split()[0] for _, text in cases]
     print(f"{len(cases)} documents: {ends.count('safe')} safe, {ends.count('unsafe')} unsafe, {ends.count('refused')} refused", flush=True)
-    if not os.path.exists(words.program):
-        sys.exit(try_unproved(cases))
-    wrong = [doc for doc, text in cases if differs(os.path.abspath(words.program), doc, text)]
-    print(f'{len(wrong)} differ', *[json.dumps(doc) for doc in wrong[:3]], sep='\n')
-    sys.exit(1 if wrong else 0)
+    lens_frame.compare(words, 'margin', cases, status)
 
 
 if __name__ == '__main__':

@@ -3,22 +3,19 @@
 with documents and their traces, that of `kube_lens margin --json` with the numbers of documents and of flags, and that of `kube_lens explain --json`
 with the places in documents, on the examples and on traces, documents and flags made from seeds.
 
-    tools/test_lens_json.py [--count 200] [--seed 1] [--program PROGRAM] [--traces FOLDER]
+    tools/test/test_lens_json.py [--count 200] [--seed 1] [--program PROGRAM] [--traces FOLDER]
 
-What is wanted of `lines` is made of each line's words as docs/lens.md tells, of `leaders` it is what tools/test_lens_trace.py asks of each
-beat, of `margin` what tools/test_lens.py finds by trying, also of the document that flags describe, of `summary` the tables of
-tools/test_lens_summary.py, and beside a document the evictions of tools/test_lens_lateness.py, with no look at the program; what `explain` tells is
-judged by tools/test_lens_explain.py, which asks `check` and finds the places itself. Python's own reader reads the JSON, and names, values and their
+What is wanted of `lines` is made of each line's words as docs/lens-lines.md tells, of `leaders` it is what tools/test/test_lens_trace.py asks of each
+beat, of `margin` what tools/test/test_lens.py finds by trying, also of the document that flags describe, of `summary` the tables of
+tools/test/test_lens_summary.py, and beside a document the evictions of tools/test/test_lens_lateness.py, with no look at the program; what `explain` tells is
+judged by tools/test/test_lens_explain.py, which asks `check` and finds the places itself. Python's own reader reads the JSON, and names, values and their
 order are compared. FOLDER may have more traces, one a file.
 The exit status is 1 where anything differs. Nothing here is a proof.
 """
-import argparse
 import json
-import os
 import random
-import subprocess
-import sys
 
+import lens_frame
 import test_lens
 import test_lens_explain
 import test_lens_lateness
@@ -61,7 +58,7 @@ def first(line):
 
 def lines_wanted(text, replay):
     """The refusal of `audit`, or the members of each line."""
-    said = subprocess.run([replay, 'audit'], input=text, stdout=subprocess.PIPE, text=True, check=False).stdout
+    said = lens_frame.text_of(replay, 'audit', text)
     if said.startswith('refused 40 '):
         return said
     head, *lines = text.splitlines()
@@ -153,7 +150,7 @@ def place_line(line, column, found):
 
 
 def explained(told):
-    """The lines of `explain` that an object stands for, where its members are those that docs/lens.md has, in that order."""
+    """The lines of `explain` that an object stands for, where its members are those that docs/lens-explain.md has, in that order."""
     names, found = [name for name, _ in told], dict(told)
     if names == ['wellFormed', 'code', 'path', *PLACE, 'why'] and found['wellFormed'] is False:
         return f"refused {found['code']} {found['path']}\n{place_line(*(found[name] for name in PLACE))}{found['why']}"
@@ -174,14 +171,14 @@ def explained(told):
 
 def explain_fault(program, replay, text):
     """What is wrong in the object on a document, if anything."""
-    status, said = test_lens_explain.ran(program, ['explain', '--json'], text)
+    status, said = lens_frame.answer(program, ['explain', '--json'], text)
     try:
-        objects = [json.loads(line, object_pairs_hook=lambda pairs: pairs) for line in said.decode().splitlines()]
+        objects = lens_frame.objects(said.decode().splitlines())
     except ValueError as fault:
         return f'no JSON: {fault}: {said}'
     if len(objects) != 1:
         return f'{len(objects)} objects'
-    return test_lens_explain.fault(text, test_lens_explain.ran(replay, ['check'], text), (status, explained(objects[0]).encode()))
+    return test_lens_explain.fault(text, lens_frame.answer(replay, ['check'], text), (status, explained(objects[0]).encode()))
 
 
 # the tables of `summary` by their members, and whether it is one object
@@ -219,7 +216,7 @@ LATE = ('pod', 'due', 'evicted', 'by', 'lateByItsClockMicros', 'lateInTrueTimeMi
 
 def late_wanted(text, trace, replay):
     """The refusal of `check` or `audit` or of a trace with other beats, or the object of the trace, whose evictions also tell how late they were."""
-    said = subprocess.run([replay, 'check'], input=text, stdout=subprocess.PIPE, text=True, check=False).stdout
+    said = lens_frame.text_of(replay, 'check', text)
     right = said if said.startswith('refused ') else summary_wanted(trace, replay)
     if isinstance(right, str):
         return right
@@ -230,20 +227,19 @@ def late_wanted(text, trace, replay):
     return [[(name, evictions if name == 'evictions' else has) for name, has in right[0]]]
 
 
-def late_cases(words, program, replay):
+def late_cases(words):
     """Documents and their traces, with the flags in both orders."""
-    found = test_lens_lateness.cases(words, test_lens_lateness.Programs(program, replay))
-    for number, (text, trace) in enumerate(found):
+    for number, (text, trace) in enumerate(test_lens_lateness.cases(words)):
         flags = ['--document', '--json'] if number % 2 else ['--json', '--document']
-        yield ['summary', *flags], text + '\n' + trace, late_wanted(text, trace, replay)
+        yield ['summary', *flags], text + '\n' + trace, late_wanted(text, trace, words.replay)
 
 
 def told(program, words, text):
     """The exit status and what the program tells: a refusal as it is, and of objects their members."""
-    ran = subprocess.run([program, *words], input=text, stdout=subprocess.PIPE, text=True, check=False)
-    if ran.stdout.startswith('refused ') or not ran.stdout.endswith('\n'):
-        return ran.returncode, ran.stdout
-    return ran.returncode, [json.loads(line, object_pairs_hook=lambda pairs: pairs) for line in ran.stdout[:-1].split('\n')]
+    status, said = lens_frame.answer(program, words, text)
+    if said.startswith('refused ') or not said.endswith('\n'):
+        return status, said
+    return status, lens_frame.objects(said[:-1].split('\n'))
 
 
 def status(command, right):
@@ -253,34 +249,31 @@ def status(command, right):
     return int((command == 'leaders' and dict(right[0])['overlap'] is not None) or (command == 'margin' and not dict(right[0])['safe']))
 
 
+def all_cases(words):
+    """The words, the text and the members wanted of each command but `explain`."""
+    replay, dice = words.replay, random.Random(words.seed)
+    for command, wanted, texts in (('lines', lines_wanted, test_lens_summary.traces(words)),
+                                   ('leaders', leaders_wanted, test_lens_trace.traces(words.seed, words.count)),
+                                   ('summary', summary_wanted, test_lens_summary.traces(words))):
+        yield from (([command, '--json'], text, wanted(text, replay)) for text in texts)
+    yield from late_cases(words)
+    yield from ((['margin', '--json'], json.dumps(doc), margin_wanted(doc, replay)) for doc in test_lens.documents(words.seed, words.count))
+    yield from ((['margin', *flags.words()], '', flags.wanted()) for flags in (Flags(dice) for _ in range(words.count)))
+
+
 def main():
-    words = argparse.ArgumentParser(description=__doc__, formatter_class=argparse.RawDescriptionHelpFormatter)
-    words.add_argument('--count', type=int, default=200)
-    words.add_argument('--seed', type=int, default=1)
-    words.add_argument('--program', default=test_lens_trace.built('kube_lens'))
-    words.add_argument('--replay', default=test_lens_trace.built('kube_replay'))
+    words = lens_frame.options(__doc__, 200)
     words.add_argument('--traces')
-    words = words.parse_args()
-    for program in (words.replay, words.program):
-        if not os.path.exists(program):
-            sys.exit(f'{program} is not built')
-    program, replay = os.path.abspath(words.program), os.path.abspath(words.replay)
-    cases = [(['lines', '--json'], text, lines_wanted(text, replay)) for text in test_lens_summary.traces(words)]
-    cases += [(['leaders', '--json'], text, leaders_wanted(text, replay)) for text in test_lens_trace.traces(words.seed, words.count)]
-    cases += [(['summary', '--json'], text, summary_wanted(text, replay)) for text in test_lens_summary.traces(words)]
-    cases += late_cases(words, program, replay)
-    cases += [(['margin', '--json'], json.dumps(doc), margin_wanted(doc, replay)) for doc in test_lens.documents(words.seed, words.count)]
-    dice = random.Random(words.seed)
-    cases += [(['margin', *flags.words()], '', flags.wanted()) for flags in (Flags(dice) for _ in range(words.count))]
+    words = lens_frame.given(words)
+    cases = list(all_cases(words))
     refused = sum(isinstance(right, str) for _, _, right in cases)
     print(f'{len(cases)} texts, {refused} refused, {sum(len(right) for _, _, right in cases if isinstance(right, list))} objects', flush=True)
-    wrong = [f'{said}: {text}' for said, text, right in cases if told(program, said, text) != (status(said[0], right), right)]
+    wrong = [f'{said}: {text}' for said, text, right in cases if told(words.program, said, text) != (status(said[0], right), right)]
     documents = test_lens_explain.texts(words.seed, words.count, [])
     print(f'{len(documents)} documents to explain', flush=True)
-    faults = [(explain_fault(program, replay, text), text) for text in documents]
+    faults = [(explain_fault(words.program, words.replay, text), text) for text in documents]
     wrong += [f'explain: {fault}: {text}' for fault, text in faults if fault]
-    print(f'{len(wrong)} differ', *wrong[:3], sep='\n')
-    sys.exit(1 if wrong or refused == len(cases) else 0)
+    lens_frame.report(wrong, tried=refused < len(cases))
 
 
 if __name__ == '__main__':

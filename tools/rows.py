@@ -1,0 +1,144 @@
+"""The rows of try-all: each test that needs no proof, with what it needs and how long it took.
+
+How long is in seconds of the processor, as most tests take on a machine that has nothing else to do; those that wait take longer. A row without
+a number wasn't timed, and takes more than a minute.
+"""
+import functools
+import os
+import shutil
+import subprocess
+import sys
+from dataclasses import dataclass, field
+from typing import Callable, Optional
+
+from crates import TOP
+
+
+@dataclass(frozen=True)
+class Need:
+    """What has to be here, in words that say where it is from."""
+    told: str
+    is_here: Callable[[], bool]
+
+
+def program(name, package):
+    """A program of this system, by the Debian package that has it."""
+    return Need(f'{name} (Debian: {package})', lambda: shutil.which(name) is not None)
+
+
+def file(path, maker):
+    """A file of the repository that is built first."""
+    return Need(f'{path} (made by {maker})', lambda: os.access(os.path.join(TOP, path), os.R_OK))
+
+
+def pythons():
+    """The Pythons of this system: the one that runs this, and Debian's, which sees Debian's modules."""
+    return [sys.executable, '/usr/bin/python3']
+
+
+def python_with(module):
+    """The first Python that has a module, or None."""
+    return next((one for one in pythons() if os.path.exists(one) and
+                 subprocess.run([one, '-c', f'import {module}'], stderr=subprocess.DEVNULL, check=False).returncode == 0), None)
+
+
+@functools.cache
+def newest_source():
+    """When a source was changed last."""
+    crates = os.path.join(TOP, 'crates')
+    paths = [os.path.join(folder, name) for kind in ('src', 'specs', 'proofs') for crate in os.listdir(crates)
+             for folder, _, names in os.walk(os.path.join(crates, crate, kind)) for name in names]
+    return max(map(os.path.getmtime, [*paths, os.path.join(TOP, 'crates.txt')]))
+
+
+def built(name):
+    """A program of the repository, built of the sources as they are: the launchers build an older one anew, which takes long."""
+    path = os.path.join(TOP, 'crates', name, 'out', name)
+    return Need(f'{name} of these sources (made by tools/prove-all {name})', lambda: os.path.exists(path) and os.path.getmtime(path) >= newest_source())
+
+
+REPLAY, LENS = built('kube_replay'), built('kube_lens')
+SHARED = file('c/libkube_replay.so', 'tools/shared-library')
+RT = Need('rt (the Rattle kit)', lambda: shutil.which('rt') is not None)
+CHROMIUM = program('chromium', 'chromium')
+COMPILER = program('cc', 'gcc')
+PYTEST = Need('pytest (Debian: python3-pytest)', lambda: python_with('pytest') is not None)
+ROOT = Need('root', lambda: os.geteuid() == 0)
+
+
+@dataclass(frozen=True)
+class Row:
+    """A test: its name, its words, what it needs, how many seconds it took, and the folder that it is run in."""
+    name: str
+    words: list
+    needs: list = field(default_factory=list)
+    seconds: Optional[int] = None
+    place: str = '.'
+
+    @property
+    def folder(self):
+        return os.path.normpath(os.path.join(TOP, self.place))
+
+    @property
+    def command(self):
+        first, *rest = self.words
+        if first == 'pytest':
+            return [python_with('pytest'), '-m', 'pytest', *rest]
+        return [sys.executable, *self.words] if first.endswith('.py') else self.words
+
+    @property
+    def took(self):
+        return '-' if self.seconds is None else f'{self.seconds} s'
+
+    def is_quick(self):
+        return self.seconds is not None and self.seconds < 60
+
+    def shown(self):
+        return ' '.join(self.words) + (f'  (in {self.place}/)' if self.place != '.' else '')
+
+
+def test(name, needs, seconds, *words, script=None):
+    """A test of the tools, tools/test/test_NAME.py, or another of its scripts."""
+    return Row(name, [f'tools/test/test_{script or name}.py', *words], needs, seconds)
+
+
+ROWS = [
+    Row('map', ['tools/check-map'], [], 1),
+    Row('layout', ['tools/check-layout'], [RT], 2),
+    Row('edits', ['tools/wrong-bodies', '--applies'], [], 1),
+    test('prove-one', [RT], 4, script='prove_one'),
+    test('try-all', [], 4, script='try_all'),
+    test('duplicates', [], 2),
+    test('from-audit-log', [], 14, script='from_audit_log'),
+    test('from-cluster', [REPLAY, LENS], 25, script='from_cluster'),
+    test('refusals', [REPLAY], 1),
+    test('margin', [REPLAY, LENS], 6, script='lens'),
+    test('leaders', [REPLAY, LENS], None, script='lens_trace'),
+    test('summary', [REPLAY, LENS], 1, script='lens_summary'),
+    test('lateness', [REPLAY, LENS], 2, script='lens_lateness'),
+    test('explain', [REPLAY, LENS], 21, script='lens_explain'),
+    test('json', [REPLAY, LENS], None, script='lens_json'),
+    test('leads', [REPLAY, LENS, CHROMIUM], None),
+    test('sweep', [REPLAY], None),
+    Row('launcher', ['bench/launcher_check.sh', 'proved'], [REPLAY, LENS], 13),
+    Row('launcher-hints', ['bench/launcher_check.sh', 'hints'], [], 8),
+    Row('limits', ['bench/limits.py'], [REPLAY], 9),
+    Row('pages', ['tools/check-docs'], [REPLAY, LENS, program('jq', 'jq')], None),
+    Row('site', ['tools/site'], [program('mkdocs', 'mkdocs, mkdocs-material')], None),
+    Row('browser', ['view/test_timeline.py'], [CHROMIUM], None),
+    Row('playground', ['play/test_server.py'], [REPLAY, LENS], 6),
+    Row('playground-page', ['play/test_playground.py'], [REPLAY, LENS, CHROMIUM], None),
+    Row('kubectl', ['plugin/test_kubectl_replay.py'], [program('kubectl', 'kubernetes-client'), REPLAY, LENS], None),
+    Row('python', ['pytest', '-q'], [PYTEST, REPLAY], 10, 'python'),
+    Row('go', ['go', 'test', './...'], [program('go', 'golang-go'), COMPILER, SHARED], None, 'go'),
+    Row('c-library', ['bench/library_check.py', '--program', 'crates/kube_replay/out/kube_replay'], [COMPILER, SHARED, REPLAY], 7),
+    Row('c-valgrind', ['bench/library_check.py', '--valgrind', '--count', '100'], [COMPILER, SHARED, program('valgrind', 'valgrind')], 2),
+    Row('conformance', ['conformance/run.py'], [REPLAY], 24),
+    Row('hostile-edges', ['bench/hostile/edges.py'], [REPLAY], None),
+    Row('hostile-damaged', ['bench/hostile/damaged.py', '--count', '2000'], [REPLAY], None),
+    Row('hostile-memory', ['bench/hostile/memory.py', '--part', 'calls'], [REPLAY, COMPILER], None),
+    Row('hostile-space', ['bench/hostile/memory.py', '--part', 'space'], [REPLAY], None),
+    Row('hostile-worst', ['bench/hostile/worst.py'], [REPLAY], None),
+    test('package', [ROOT, REPLAY, LENS, program('dpkg-deb', 'dpkg'), program('mmdebstrap', 'mmdebstrap'), program('man', 'man-db'),
+                     program('lintian', 'lintian')], None),
+]
