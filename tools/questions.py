@@ -1,5 +1,6 @@
 """What a sweep asks of a trace. Each answer is taken from the lines, that of a pod's delay from the document too: a number, `never`, or
 None where there is nothing to tell."""
+import collections
 
 
 class Unknown(Exception):
@@ -7,12 +8,12 @@ class Unknown(Exception):
 
 
 class Trace:
-    """The lines that a question looks at: turns of the lead, marks of silent nodes, taints, evictions, and what kubelets do."""
+    """The lines that a question looks at: turns of the lead and pauses, marks of silent nodes, taints, evictions, and what kubelets do."""
 
     def __init__(self, head, file):
         fields = dict(word.split('=') for word in head.split()[2:])
         self.millis, self.end, self.premise = int(fields['beat']), int(fields['end']), fields['premise']
-        self.turns, self.pauses, self.unknown, self.taints, self.evictions, self.signs = [], [], [], [], [], []
+        self.turns, self.unknown, self.taints, self.evictions, self.signs = [], [], [], [], []
         for line in file:
             beat, actor, *words = line.split()
             self.take(int(beat), actor, words)
@@ -20,9 +21,9 @@ class Trace:
     def take(self, beat, actor, words):
         accepted = words[-1].startswith('v=') and words[-2] != 'conflict'
         if words[0] in ('lead', 'crash', 'stop', 'end'):
-            self.turns.append((beat, actor, words[0]))
+            self.turns.append((beat, actor, words[0], 0))
         if words[0] == 'pause':
-            self.pauses += [(beat, actor, 'pause'), (beat + int(words[1].removeprefix('beats=')), actor, 'wake')]
+            self.turns.append((beat, actor, words[0], int(words[1].removeprefix('beats='))))
         if actor.startswith('kubelet/'):
             self.signs.append((beat, actor[len('kubelet/'):].rpartition('_')[0]))
         if accepted and words[0] == 'unknown':
@@ -35,16 +36,34 @@ class Trace:
     def seconds(self, beats):
         return beats * self.millis / 1000
 
+    def acting(self):
+        """The stretches in which a leader acts, from a beat to before another: its term, from its lead to before its end, without the beats in which
+        a pause has it stand still."""
+        since, still, found = {}, {}, []
+        for beat, actor, turn, beats in self.turns:
+            if actor in since and turn != 'lead':
+                found.append((since[actor], beat))
+            if turn == 'lead':
+                since.setdefault(actor, max(beat, still.get(actor, 0)))
+            elif turn == 'pause':
+                still[actor] = max(still.get(actor, 0), beat + beats)
+                since.update({actor: still[actor]} if actor in since else {})
+            else:
+                since.pop(actor, None)
+        found += [(beat, self.end + 1) for beat in since.values()]
+        return [stretch for stretch in found if stretch[0] < stretch[1]]
+
     def leaders(self):
-        """How many lead: spans of beats from, to before, and the count. A term goes from its lead to the beat before its other line;
-        a leader that is paused does nothing, and doesn't count."""
-        terms, paused, since, acting, spans = set(), set(), 0, 0, []
-        for beat, actor, turn in sorted(self.turns + self.pauses, key=lambda each: each[0]):
-            {'lead': terms.add, 'pause': paused.add, 'wake': paused.discard}.get(turn, terms.discard)(actor)
-            if len(terms - paused) != acting and beat <= self.end:
-                spans.append((since, beat, acting))
-                since, acting = beat, len(terms - paused)
-        spans.append((since, self.end + 1, acting))
+        """How many act as the leader: spans of beats from, to before, and the count."""
+        changes = collections.Counter()
+        for since, until in self.acting():
+            changes[since] += 1
+            changes[until] -= 1
+        spans, since, count = [], 0, 0
+        for beat in sorted(beat for beat, change in changes.items() if change and beat <= self.end):
+            spans.append((since, beat, count))
+            since, count = beat, count + changes[beat]
+        spans.append((since, self.end + 1, count))
         return [span for span in spans if span[0] < span[1]]
 
 
@@ -143,8 +162,8 @@ def pod_delay(trace, told, pod=None):
 
 QUESTIONS = {
     'leaderless': (leaderless, 'seconds without a leader'),
-    'failover': (failover, 'seconds from the loss of the leader to the next lead; the longest, `never` where none follows'),
-    'two-leaders': (two_leaders, 'seconds in which two or more lead'),
+    'failover': (failover, 'seconds from the loss of the leader, also to a pause, until one acts again; the longest, `never` where none follows'),
+    'two-leaders': (two_leaders, 'seconds in which two or more act as the leader'),
     'evictions': (evictions, 'evictions'),
     'taints-a-minute': (taints_a_minute, 'taints in the minute with most of them'),
     'eviction-delay': (eviction_delay, "seconds from the last line of a silent node's kubelet to the last eviction; "

@@ -3,7 +3,7 @@
 
     tools/test_lens_summary.py [--count 200] [--seed 1] [--program PROGRAM] [--traces FOLDER]
 
-The reference shares nothing with the program: it splits the lines into words and asks of each beat who leads in it. FOLDER may have more
+The reference shares nothing with the program: it splits the lines into words and asks of each beat who leads in it and isn't paused. FOLDER may have more
 traces, one a file. PROGRAM is by default the built kube_lens; where it isn't built it runs unproved, by `rt try --cases`. The exit status is 1
 where anything differs. Nothing here is a proof.
 """
@@ -34,7 +34,8 @@ def line(dice):
     leader = dice.choice(('c0_1', 'c0_2', 'host-a_1'))
     kubelet = f'kubelet/{node}_1'
     return dice.choice((
-        (leader, 'lead v=1'), (leader, 'lead v=9'), (leader, dice.choice(test_lens_trace.ENDINGS)), (leader, 'start'), (leader, 'pause beats=7'),
+        (leader, 'lead v=1'), (leader, 'lead v=9'), (leader, dice.choice(test_lens_trace.ENDINGS)), (leader, 'start'),
+        (leader, f'pause beats={dice.choice((1, 7, 7, 900, 604_800_000))}'),
         (leader, dice.choice(('create election v=1 t=0', 'create election exists', 'update election v=2 t=1', 'update election conflict v=7',
                               'update election absent'))),
         (leader, dice.choice(('mode on', 'mode off'))),
@@ -92,30 +93,50 @@ class Trace:
                 ends = [(int(line[0]), line[2]) for line in self.lines[number + 1:] if line[1] == who and line[2] in test_lens_trace.ENDINGS]
                 yield (who, int(beat), *(ends or [(self.end + 1, 'trace-end')])[0])
 
+    def pauses(self):
+        """Who stands still from when until when."""
+        return [(who, int(beat), int(beat) + int(says[1].removeprefix('beats='))) for beat, who, *says in self.lines if says[0] == 'pause']
+
+    def marks(self):
+        """The beats at which it may change who acts, those at which terms and pauses begin or end. Between two of them it is the same at each."""
+        spans = [(since, until) for _, since, until, _ in self.terms()] + [(since, until) for _, since, until in self.pauses()]
+        return sorted({0, self.end + 1, *(beat for span in spans for beat in span if beat <= self.end)})
+
+    def acting(self, beat):
+        """Who acts in a beat: who leads and isn't paused."""
+        paused = {who for who, since, until in self.pauses() if since <= beat < until}
+        return {who for who, since, until, _ in self.terms() if since <= beat < until} - paused
+
+    def began(self, who, beat):
+        """Since which beat somebody acts who does at a beat, and by which line: the last one at which it began to lead or was paused."""
+        leads, since = False, None
+        for number, (at, name, *says) in enumerate(self.lines, 2):
+            if name == who and int(at) <= beat:
+                if says[0] == 'pause' or says[0] == 'lead' and not leads:
+                    since = int(at), number
+                leads = says[0] == 'lead' or leads and says[0] not in test_lens_trace.ENDINGS
+        first = next(mark for mark in sorted({since[0], *self.marks()}) if mark >= since[0] and who in self.acting(mark))
+        return first, since[1]
+
     def overlap(self):
-        """The number of the first line that makes an identity lead in a beat in which another one of an earlier line does, or `-`."""
-        terms = list(self.terms())
-        leads = [number for number, words in enumerate(self.lines) if words[2] == 'lead']
-        crossed = [later for earlier, one in enumerate(terms) for later, other in enumerate(terms)
-                   if earlier < later and one[0] != other[0] and max(one[1], other[1]) < min(one[2], other[2])]
-        return str(leads[min(crossed)] + 2) if crossed else '-'
+        """The line by which the second one begins of the first two that act at once, or `-`."""
+        for beat in self.marks():
+            if beat <= self.end and len(self.acting(beat)) > 1:
+                return str(sorted(self.began(who, beat) for who in self.acting(beat))[1][1])
+        return '-'
 
     def shared(self):
-        """At how many beats two identities lead. Between two beats at which terms begin or end it is the same ones at each."""
-        terms = list(self.terms())
-        marks = sorted({since for _, since, _, _ in terms} | {until for _, _, until, _ in terms})
-        return sum(until - since for since, until in zip(marks, marks[1:]) if len({who for who, first, last, _ in terms if first <= since < last}) > 1)
+        """At how many beats two identities act."""
+        marks = self.marks()
+        return sum(until - since for since, until in zip(marks, marks[1:]) if len(self.acting(since)) > 1)
 
     def quiet(self):
-        """How long each span without a leader is. A span begins at beat 0 or where a term ends, and ends where one begins or at the end."""
-        terms = [(since, until) for _, since, until, _ in self.terms()]
-        marks = sorted({0, self.end + 1, *(since for since, _ in terms), *(until for _, until in terms)})
-        spans = []
-        joined = False
+        """How long each span is in which nobody acts."""
+        marks, spans, joined = self.marks(), [], False
         for since, until in zip(marks, marks[1:]):
-            if any(first <= since < last for first, last in terms):
+            if self.acting(since):
                 joined = False
-            elif joined and since not in {first for first, _ in terms}:
+            elif joined:
                 spans[-1] += until - since
             else:
                 spans.append(until - since)

@@ -3,7 +3,7 @@
 
     tools/test_lens_trace.py [--count 500] [--seed 1] [--program PROGRAM] [--replay crates/kube_replay/out/kube_replay]
 
-The reference shares nothing with the program: it asks of each beat who leads in it. Some traces are broken on purpose; of these the built
+The reference shares nothing with the program: it asks of each beat who leads in it and isn't paused. Some traces are broken on purpose; of these the built
 kube_replay's `audit` is the judge. PROGRAM is by default the built kube_lens; where it isn't built it runs unproved, by `rt try --cases`. The
 exit status is 1 where anything differs. Nothing here is a proof.
 """
@@ -17,7 +17,7 @@ import tempfile
 
 TOP = os.path.dirname(os.path.dirname(os.path.abspath(__file__)))
 ENDINGS = ('end', 'stop', 'crash')
-OTHERS = ('start', 'pause beats=3', 'create election exists', 'update election v=7 t=1', 'zone a/b Normal rate=100', 'mode on',
+OTHERS = ('start', 'create election exists', 'update election v=7 t=1', 'zone a/b Normal rate=100', 'mode on',
           'unknown n1 NodeStatusUnknown v=3', 'taint n1 unreachable v=4', 'untaint n1 absent', 'evict default/web due=2024-01-01T00:01:15Z v=40')
 
 
@@ -26,7 +26,8 @@ def trace(dice):
     end = dice.choice((0, 1, 5, 30, 200))
     people = [f'c{host}_{start}' for host in range(dice.randint(1, 4)) for start in (1, 2)]
     beats = sorted(dice.randint(0, end) for _ in range(dice.choice((0, 1, 2, 5, 12, 40))))
-    says = ('lead v=1', 'lead v=22', *ENDINGS, *ENDINGS, dice.choice(OTHERS))
+    pauses = [f'pause beats={beats}' for beats in dice.choice(((), (1, 3), (2, 10, 40), (1, 5, 20, 300), (7, 604_800_000)))]
+    says = ('lead v=1', 'lead v=22', *ENDINGS, *(() if pauses else ENDINGS), *pauses, dice.choice(OTHERS))
     lines = [f'{beat} {dice.choice(people)} {dice.choice(says)}' for beat in beats]
     return '\n'.join([f'trace 1 beat=100 end={end} premise={dice.choice(("yes", "no"))}'] + lines) + '\n'
 
@@ -67,23 +68,48 @@ class Term:
         return range(self.first, self.until)
 
 
+class Acting:
+    """Who acts in which beats: who leads, but where a pause of its own has it stand still."""
+
+    def __init__(self, lines, terms, end):
+        self.terms, self.end = terms, end
+        self.own = [(number, int(words[0]), *words[1:3], words[3:]) for number, words in enumerate((line.split() for line in lines[1:]), 2)]
+        self.pauses = [(who, beat, beat + int(more[0].removeprefix('beats='))) for _, beat, who, word, more in self.own if word == 'pause']
+
+    def has(self, who, beat):
+        return any(t.who == who and beat in t.beats() for t in self.terms) and not any(
+            name == who and since <= beat < over for name, since, over in self.pauses)
+
+    def at(self, beat):
+        """Those who act in a beat, who began first before the others: since when, by which line, who."""
+        return sorted(self.began(who, beat) for who in {t.who for t in self.terms} if self.has(who, beat))
+
+    def began(self, who, beat):
+        """The line since which somebody acts: its last pause, or the `lead` line that made it lead; and the first beat of it."""
+        ends = [number for number, at, name, word, _ in self.own if name == who and word in ENDINGS and at <= beat]
+        since = [(number, at, word) for number, at, name, word, _ in self.own
+                 if name == who and word in ('lead', 'pause') and at <= beat and number > max(ends, default=0)]
+        leads = [number for number, _, word in since if word == 'lead']
+        number, at = [(number, at) for number, at, word in since if number == leads[0] or word == 'pause' and number > leads[0]][-1]
+        return next(first for first in range(at, beat + 1) if self.has(who, first)), number, who
+
+
 def expected(text):
     """The text wanted for a trace."""
     lines = text.splitlines()
     end = int(lines[0].split()[3].split('=')[1])
     terms = [Term(lines, at, end) for at in range(1, len(lines)) if lines[at].split()[2] == 'lead']
     told = [f'{t.who} from={t.first} until={t.until} ended={t.how}' for t in terms]
-    quiet = [not any(beat in t.beats() for t in terms) for beat in range(end + 1)]
-    # a lead parts the quiet around it, also one that ends in its own beat
-    cut = [not quiet[beat] or any(t.first == beat for t in terms) for beat in range(end + 1)]
+    acting = Acting(lines, terms, end)
+    each = [acting.at(beat) for beat in range(end + 1)]
     for beat in range(end + 1):
-        if quiet[beat] and (beat == 0 or not quiet[beat - 1] or cut[beat]):
-            until = next((later for later in range(beat + 1, end + 1) if cut[later]), end + 1)
+        if not each[beat] and (beat == 0 or each[beat - 1]):
+            until = next((later for later in range(beat + 1, end + 1) if each[later]), end + 1)
             told.append(f'nobody from={beat} until={until}')
-    for t in terms:
-        beside = [s for s in terms if s.number < t.number and s.who != t.who and set(s.beats()) & set(t.beats())]
-        if beside:
-            return '\n'.join(told + [f'overlap line={t.number} from={t.first} who={t.who} beside={beside[0].who}']) + '\n'
+    for both in each:
+        if len(both) > 1:
+            (_, _, beside), (since, number, who), *_ = both
+            return '\n'.join(told + [f'overlap line={number} from={since} who={who} beside={beside}']) + '\n'
     return '\n'.join(told + ['one at a time']) + '\n'
 
 
@@ -93,6 +119,9 @@ def wanted(text, replay):
     if said.startswith('refused 40 '):
         return said
     told = expected(text)
+    if ' pause beats=' in text:
+        # `audit` judges terms, and a pause is no end of one
+        return told
     line = said.split('/')[1].strip() if said.startswith('refused 41 ') else None
     if (line is None) != told.endswith('one at a time\n') or (line and f'\noverlap line={line} ' not in '\n' + told):
         sys.exit(f'audit and the reference differ: {said}{told}{text}')

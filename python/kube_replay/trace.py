@@ -7,7 +7,7 @@ from functools import cached_property
 from typing import TYPE_CHECKING, Any, Iterator, Sequence, TypeVar, overload
 
 from kube_replay.errors import NotATrace
-from kube_replay.lines import Answer, Crash, End, Eviction, Lead, Line, Stop, read_line
+from kube_replay.lines import Answer, Crash, End, Eviction, Lead, Line, Pause, Stop, read_line
 
 if TYPE_CHECKING:
     import pandas
@@ -43,7 +43,7 @@ class Term:
 
 @dataclass(frozen=True)
 class Span:
-    """Beats in which the same number of controllers lead, from the first to the last, both among them."""
+    """Beats in which the same number of controllers act as the leader, from the first to the last, both among them."""
 
     first_beat: int
     last_beat: int
@@ -134,12 +134,36 @@ class Trace(Sequence[Line]):
         last = self.end_beat if ended_by is None else ended_by.beat - 1
         return Term(lead.actor, lead.beat, last, self.beat_millis, lead, ended_by)
 
+    def _acting(self) -> list[tuple[int, int]]:
+        """The stretches in which a leader acts, from a beat to before another."""
+        since: dict[str, int] = {}
+        still: dict[str, int] = {}
+        found = []
+        for line in self.lines:
+            if isinstance(line, Lead):
+                since.setdefault(line.actor, max(line.beat, still.get(line.actor, 0)))
+                continue
+            if not isinstance(line, (End, Crash, Stop, Pause)):
+                continue
+            began = since.pop(line.actor, None)
+            if began is not None:
+                found.append((began, line.beat))
+            if isinstance(line, Pause):
+                still[line.actor] = max(still.get(line.actor, 0), line.beat + line.beats)
+                if began is not None:
+                    since[line.actor] = still[line.actor]
+        found += [(began, self.end_beat + 1) for began in since.values()]
+        return [(began, until) for began, until in found if began < until]
+
     def leaders(self) -> list[Span]:
-        """How many controllers lead, over all beats from 0 to the last: spans that follow on each other."""
+        """How many controllers act as the leader, over all beats from 0 to the last: spans that follow on each other.
+
+        A leader acts in each beat of its term but those in which a `Pause` has it stand still.
+        """
         changes: dict[int, int] = {}
-        for term in self.terms():
-            changes[term.first_beat] = changes.get(term.first_beat, 0) + 1
-            changes[term.last_beat + 1] = changes.get(term.last_beat + 1, 0) - 1
+        for began, until in self._acting():
+            changes[began] = changes.get(began, 0) + 1
+            changes[until] = changes.get(until, 0) - 1
         spans, count, since = [], 0, 0
         for beat in sorted(beat for beat, change in changes.items() if change and beat <= self.end_beat):
             if beat > since:
@@ -148,11 +172,11 @@ class Trace(Sequence[Line]):
         return [*spans, Span(since, self.end_beat, count, self.beat_millis)]
 
     def leaderless(self) -> list[Span]:
-        """The spans in which nobody leads."""
+        """The spans in which nobody acts as the leader."""
         return [span for span in self.leaders() if span.leaders == 0]
 
     def two_leaders(self) -> list[Span]:
-        """The spans in which two or more lead at once."""
+        """The spans in which two or more act at once."""
         return [span for span in self.leaders() if span.leaders > 1]
 
     def to_pandas(self) -> pandas.DataFrame:

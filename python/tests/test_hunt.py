@@ -99,6 +99,15 @@ def test_measures(measure: str, name: str, value: float | None) -> None:
     assert MEASURES[measure].value(run_of(name)) == value
 
 
+def test_a_failover_ends_with_a_leader() -> None:
+    head = 'trace 1 beat=100 end=50 premise=no\n4 a_1 lead v=1\n10 a_1 crash\n20 b_1 lead v=2\n'
+    assert MEASURES['failover'].value(Run(DOCUMENT, Trace(head))) == 10
+    assert MEASURES['failover'].value(Run(DOCUMENT, Trace(head + '40 b_1 pause beats=5\n'))) == 10
+    # nobody leads at the end, where a sweep says `never`
+    assert MEASURES['failover'].value(Run(DOCUMENT, Trace(head + '30 b_1 crash\n'))) is None
+    assert MEASURES['nobody-leads'].value(Run(DOCUMENT, Trace(head + '30 b_1 crash\n'))) == 21
+
+
 def test_pods_of_healthy_nodes() -> None:
     pods = [
         {'apiVersion': 'v1', 'kind': 'Pod', 'metadata': {'name': 'p' + node}, 'spec': {'nodeName': node}} for node in ('n1', 'n2', 'n3')

@@ -38,6 +38,36 @@ def test_who_leads_when() -> None:
     assert [(span.first_beat, span.last_beat, span.leaders, span.seconds) for span in both] == [(184, 188, 2, 0.5)]
 
 
+def test_a_paused_leader_does_not_lead() -> None:
+    trace = stored('leader-stalls')
+    assert round(sum(span.seconds for span in trace.leaderless()), 3) == 22.357
+    assert sum(span.seconds for span in trace.two_leaders()) == 10.0
+
+
+@pytest.mark.parametrize(
+    'lines, leaders',
+    [
+        # from the beat of its line on, as many beats as it says
+        (['2 c1_1 lead v=1', '4 c1_1 pause beats=3'], [0, 0, 1, 1, 0, 0, 0, 1, 1, 1]),
+        (['2 c1_1 lead v=1', '2 c1_1 pause beats=1'], [0, 0, 0, 1, 1, 1, 1, 1, 1, 1]),
+        # one behind the other, and one within another
+        (['1 c1_1 lead v=1', '3 c1_1 pause beats=2', '6 c1_1 pause beats=2'], [0, 1, 1, 0, 0, 1, 0, 0, 1, 1]),
+        (['1 c1_1 lead v=1', '3 c1_1 pause beats=5', '4 c1_1 pause beats=1'], [0, 1, 1, 0, 0, 0, 0, 0, 1, 1]),
+        # past the end of the trace, and past the end of the term
+        (['1 c1_1 lead v=1', '6 c1_1 pause beats=604800000'], [0, 1, 1, 1, 1, 1, 0, 0, 0, 0]),
+        (['1 c1_1 lead v=1', '3 c1_1 pause beats=2', '4 c1_1 crash'], [0, 1, 1, 0, 0, 0, 0, 0, 0, 0]),
+        # begun before the lead, and one of another incarnation
+        (['1 c1_1 pause beats=4', '3 c1_1 lead v=1'], [0, 0, 0, 0, 0, 1, 1, 1, 1, 1]),
+        (['1 c1_1 lead v=1', '2 c1_1 pause beats=6', '3 c1_1 crash', '3 c1_2 start', '5 c1_2 lead v=2'], [0, 1, 0, 0, 0, 1, 1, 1, 1, 1]),
+        # two terms that overlap, of which one stands still
+        (['1 c1_1 lead v=1', '3 c1_1 pause beats=4', '4 c2_1 lead v=2'], [0, 1, 1, 0, 1, 1, 1, 2, 2, 2]),
+    ],
+)
+def test_who_acts_in_each_beat(lines: list[str], leaders: list[int]) -> None:
+    spans = Trace('\n'.join(['trace 1 beat=100 end=9 premise=no', *lines]) + '\n').leaders()
+    assert [span.leaders for span in spans for _ in range(span.beats)] == leaders
+
+
 def test_spans_follow_on_each_other() -> None:
     for name in ('rolling-restart', 'failover-in-a-wave', 'uneven-clocks'):
         spans, end = stored(name).leaders(), stored(name).end_beat

@@ -7,7 +7,7 @@ use Rattle.lens_summary.specs.Summary.{summary}
 use Rattle.lens_trace.specs.Judged.{judged_by}
 use Rattle.lens_trace.specs.Traces.{answer_by, answer_behind, answer_to, trace_reply}
 use Rattle.lens_trace.specs.declared.judging.Judged.{Judged}
-use Rattle.lens_trace.specs.declared.judging.Judged.TheVariants.{Wrong, Overlaps, OneAtATime}
+use Rattle.lens_trace.specs.declared.judging.Judged.TheVariants.{Wrong, IsTrace}
 use Rattle.manifest_json.specs.declared.fault.Refusal.{Refusal}
 use Rattle.script_reader.specs.declared.document.Document.{Document}
 use Rattle.script_reader.specs.Walk.{document_walk}
@@ -38,11 +38,8 @@ by-beats false one other = (refl, λ refused. refl)
 by-judged : (d : Document) (trace : List ℕ) (judged : Judged) (header : Header) (ls : List (Line (List ℕ))) → trace_of trace ≡ Some (header, ls)
     → AreRefusedAlike (told_by d trace (answer_by summary judged header ls) (answer_by summary judged header ls).verdict) (answer_by (figures d) judged header ls)
 by-judged d trace (Wrong line) header ls is = (refl, λ refused. refl)
-by-judged d trace (Overlaps line) header ls is =
-    subst (λ t. AreRefusedAlike (behind_if d (summary header (Some line) ls) t) (figures d header (Some line) ls)) (sym is)
-    (by-beats (header.beat_millis == d.settings.beat_millis) _ _)
-by-judged d trace OneAtATime header ls is =
-    subst (λ t. AreRefusedAlike (behind_if d (summary header None ls) t) (figures d header None ls)) (sym is)
+by-judged d trace IsTrace header ls is =
+    subst (λ t. AreRefusedAlike (behind_if d (summary header ls) t) (figures d header ls)) (sym is)
     (by-beats (header.beat_millis == d.settings.beat_millis) _ _)
 
 by-header : (d : Document) (trace : List ℕ) (judged : Judged) (header : Option Header) (rest : List ℕ)

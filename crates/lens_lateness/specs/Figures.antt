@@ -13,7 +13,9 @@ use Rattle.lens_json.specs.Parts.{list_of}
 use Rattle.lens_summary.specs.FigureLines.{pod_members}
 use Rattle.lens_summary.specs.Figures.{figure_members}
 use Rattle.lens_summary.specs.Pods.{eviction_in}
+use Rattle.lens_terms.specs.declared.stretch.Stretch.{Stretch}
 use Rattle.lens_terms.specs.declared.term.Term.{Term}
+use Rattle.lens_terms.specs.Acting.{acting}
 use Rattle.lens_terms.specs.Terms.{terms}
 use Rattle.script_reader.specs.declared.document.Document.{Document}
 use Rattle.script_reader.specs.Documents.{doc_of}
@@ -47,16 +49,16 @@ late_objects d ls = filter_map (late_by d) ls
 -- ---- the answer
 
 -- the members of `summary --json`, of which these evictions take the place of the sixth, which are its own; by the terms of a trace that ends before
--- the beat `stop`, and its lines
-abbrev pub late_figures : Document → Header → Option ℕ → ℕ → List (Term (List ℕ)) → List (Line (List ℕ)) → List Named
-late_figures d header overlap stop ts ls = set (figure_members header overlap stop ts ls) 5 (codes "evictions", list_of (late_objects d ls))
+-- the beat `stop`, the stretches in which a leader acts, and the lines
+abbrev pub late_figures : Document → Header → ℕ → List (Term (List ℕ)) → List (Stretch (List ℕ)) → List (Line (List ℕ)) → List Named
+late_figures d header stop ts all ls = set (figure_members header stop ts all ls) 5 (codes "evictions", list_of (late_objects d ls))
 
-unfoldable pub figures_json : Document → Header → Option ℕ → List (Line (List ℕ)) → List ℕ
-figures_json d header overlap ls = compact_text (object_of (late_figures d header overlap (header.end + 1) (terms 2 ls) ls))
+unfoldable pub figures_json : Document → Header → List (Term (List ℕ)) → List (Stretch (List ℕ)) → List (Line (List ℕ)) → List ℕ
+figures_json d header ts all ls = compact_text (object_of (late_figures d header (header.end + 1) ts all ls))
 
-abbrev pub told : Document → Header → Option ℕ → List (Line (List ℕ)) → Reply
-told d header overlap ls = record { verdict = Done; text = figures_json d header overlap ls ++ codes "\n" }
+abbrev pub told : Document → Header → List (Line (List ℕ)) → Reply
+told d header ls = record { verdict = Done; text = figures_json d header (terms 2 ls) (acting (header.end + 1) ls) ls ++ codes "\n" }
 
 -- what is told of a trace beside its document; a trace with beats of another length isn't one of this document
-abbrev pub figures : Document → Header → Option ℕ → List (Line (List ℕ)) → Reply
-figures d header overlap ls = if header.beat_millis == d.settings.beat_millis then told d header overlap ls else refusal 44 (codes "/1")
+abbrev pub figures : Document → Header → List (Line (List ℕ)) → Reply
+figures d header ls = if header.beat_millis == d.settings.beat_millis then told d header ls else refusal 44 (codes "/1")

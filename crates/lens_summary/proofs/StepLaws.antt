@@ -2,9 +2,9 @@
 use Rattle.std.proofs.Common.{◌≡◌, ℕ, ◌+◌, ◌<◌, List, [], ◌∷◌, ◌++◌, length, map, drop, get_or, filter_map, option_to_list, Option, Some, None, Bor, refl, sym, ap, ◌∙◌, append_assoc, add-one}
 use Rattle.std.proofs.Math.Seq.{drop-cons}
 use Rattle.std.specs.List.{cons_option}
-use Rattle.lens_terms.specs.declared.term.Term.{Term}
+use Rattle.lens_terms.specs.declared.stretch.Stretch.{Stretch}
+use Rattle.lens_terms.specs.Acting.{shown}
 use Rattle.lens_terms.specs.Spans.{leaderless}
-use Rattle.lens_terms.specs.Terms.{shown}
 use Rattle.lens_trace.proofs.ShownLaws.{leaderless-shown}
 
 pub drop-more : {A : Type 0} (xs : List A) (n : ℕ) (d : A) → n < length xs → drop n xs ≡ get_or xs n d ∷ drop (n + 1) xs
@@ -34,5 +34,5 @@ map-step f see xs i d old new whole within is so_far =
     ∙ ap (λ t. old ++ t) (sym (ap (λ ys. map f (map see ys)) (drop-more xs i d within)))
     ∙ so_far
 
-pub leaderless_shown : (stop : ℕ) (ts : List (Term (Bor (List ℕ)))) → leaderless 0 stop (map shown ts) ≡ leaderless 0 stop ts
-leaderless_shown stop ts = leaderless-shown 0 stop ts
+pub leaderless_shown : (stop : ℕ) (all : List (Stretch (Bor (List ℕ)))) → leaderless 0 stop (map shown all) ≡ leaderless 0 stop all
+leaderless_shown stop all = leaderless-shown 0 stop all

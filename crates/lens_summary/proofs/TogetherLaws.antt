@@ -1,4 +1,4 @@
--- The beats at which two lead are counted.
+-- The beats at which two act are counted.
 use Rattle.std.proofs.Common.{◌≡◌, ℕ, zero, suc, ◌+◌, ◌-◌, ◌≤◌, ◌<◌, ◌&&◌, ◌||◌, not, nat_le, nat_lt, max, min, Bool, true, false, cond, List, [], ◌∷◌, length, map, drop, get_or, count_by, filter_map, None, Bor, refl, sym, ap, ◌∙◌, arith}
 use Rattle.std.specs.List.{list_any, range_with_len}
 use Rattle.std.specs.Str.{bytes_eq}
@@ -6,31 +6,13 @@ use Rattle.std.proofs.lemmas.Bool.{le-leb, lt-leb, lt-ltb, le-ltb}
 use Rattle.std.proofs.lemmas.Bool.Decides.{nat_tests}
 use Rattle.std.proofs.lemmas.List.Sums.{sum_by-cons}
 use Rattle.std.proofs.lemmas.Slice.Eq.{bytes_eq-Decides}
-use Rattle.lens_terms.specs.declared.term.Term.{Term}
-use Rattle.lens_terms.specs.Terms.{shown, terms, until}
-use Rattle.lens_trace.specs.Beats.{has_beat}
-use Rattle.lens_trace.proofs.SpanLaws.{AreBegun, lines-ordered, terms-begun}
-use Rattle.trace_audit.specs.Entries.{first_wrong}
-use Rattle.trace_lines.specs.Forms.{line_of}
-use Rattle.lens_summary.specs.declared.together.Latest.{Latest}
-use Rattle.lens_summary.specs.Together.{is_beside, two_lead, none_yet, rival, with_term, shared_end, beats_from, beats_of_two}
-use Rattle.lens_summary.proofs.StepLaws.{drop-more}
-
--- ---- one more term
-
-pub beats-step : (stop since beats end whole : ℕ) (l next : Latest (List ℕ)) (xs : List (Term (Bor (List ℕ)))) (i : ℕ) (d : Term (Bor (List ℕ))) → i < length xs
-    → end ≡ shared_end stop (max since (get_or xs i d).from) l (shown (get_or xs i d)) → next ≡ with_term l (get_or xs i d).actor.now (until stop (get_or xs i d))
-    → beats + beats_from stop since l (map shown (drop i xs)) ≡ whole
-    → (beats + (end - max since (get_or xs i d).from)) + beats_from stop end next (map shown (drop (i + 1) xs)) ≡ whole
-beats-step stop since beats end whole l next xs i d within ends nexts so_far =
-    let from = max since (get_or xs i d).from in
-    let rest = map shown (drop (i + 1) xs) in
-    let more : beats_from stop since l (map shown (drop i xs)) ≡ beats_from stop since l (shown (get_or xs i d) ∷ rest)
-    = ap (λ ys. beats_from stop since l (map shown ys)) (drop-more xs i d within) in
-    let here : (end - from) + beats_from stop end next rest ≡ beats_from stop since l (shown (get_or xs i d) ∷ rest)
-    = λ j. (ends j - from) + beats_from stop (ends j) (nexts j) rest in
-    let added : (beats + (end - from)) + beats_from stop end next rest ≡ beats + ((end - from) + beats_from stop end next rest) = omega arith in
-    added ∙ ap (λ n. beats + n) (here ∙ sym more) ∙ so_far
+use Rattle.lens_terms.specs.declared.latest.Latest.{Latest}
+use Rattle.lens_terms.specs.declared.stretch.Stretch.{Stretch}
+use Rattle.lens_terms.specs.Acting.{acting}
+use Rattle.lens_terms.specs.Beats.{has_beat, is_beside, two_act}
+use Rattle.lens_terms.specs.Together.{none_yet, rival, with_stretch, shared_end, beats_from, beats_of_two}
+use Rattle.lens_trace.proofs.SpanLaws.{AreBegun, acting-begun}
+use Rattle.trace_lines.specs.declared.line.Line.{Line}
 
 -- ---- the last end of another identity
 
@@ -56,7 +38,7 @@ other-earlier true false h s t u early = refl
 other-earlier false false h s t u early = omega arith
 
 -- with one more term only another identity's changes, to the later one of both
-rival-with : (l : Latest (List ℕ)) (a who : List ℕ) (u : ℕ) → l.beside ≤ l.until → rival (with_term l who u) a ≡ cond (bytes_eq who a) (rival l a) (max (rival l a) u)
+rival-with : (l : Latest (List ℕ)) (a who : List ℕ) (u : ℕ) → l.beside ≤ l.until → rival (with_stretch l who u) a ≡ cond (bytes_eq who a) (rival l a) (max (rival l a) u)
 rival-with l a who u small = by (bytes_eq l.who who) refl (nat_lt l.until u) refl
   where
     apart : bytes_eq l.who who ≡ false → bytes_eq who a ≡ true → bytes_eq l.who a ≡ false
@@ -77,7 +59,7 @@ abbrev IsSmall : Latest (List ℕ) → Type 0
 IsSmall m = m.beside ≤ m.until
 
 -- the last end of all is no sooner
-small-with : (l : Latest (List ℕ)) (who : List ℕ) (u : ℕ) → l.beside ≤ l.until → (with_term l who u).beside ≤ (with_term l who u).until
+small-with : (l : Latest (List ℕ)) (who : List ℕ) (u : ℕ) → l.beside ≤ l.until → (with_stretch l who u).beside ≤ (with_stretch l who u).until
 small-with l who u small = by (bytes_eq l.who who) (nat_lt l.until u) refl
   where
     by : (b c : Bool) → nat_lt l.until u ≡ c
@@ -92,12 +74,12 @@ small-with l who u small = by (bytes_eq l.who who) (nat_lt l.until u) refl
 -- ---- the beats that a term shares with those so far
 
 -- a term has a beat that a term of another identity so far has too
-abbrev meets : ℕ → ℕ → Latest (List ℕ) → Term (List ℕ) → Bool
-meets stop beat l t = has_beat stop beat t && nat_lt beat (rival l t.actor)
+abbrev meets : ℕ → Latest (List ℕ) → Stretch (List ℕ) → Bool
+meets beat l t = has_beat beat t && nat_lt beat (rival l t.actor)
 
-abbrev paired : ℕ → ℕ → Latest (List ℕ) → List (Term (List ℕ)) → Bool
-paired stop beat l [] = false
-paired stop beat l (t ∷ ts) = meets stop beat l t || paired stop beat (with_term l t.actor (until stop t)) ts
+abbrev paired : ℕ → Latest (List ℕ) → List (Stretch (List ℕ)) → Bool
+paired beat l [] = false
+paired beat l (t ∷ ts) = meets beat l t || paired beat (with_stretch l t.actor t.until) ts
 
 reach-by : (b : Bool) (beat r u : ℕ) → nat_lt beat (cond b r (max r u)) ≡ (nat_lt beat r || (not b && nat_lt beat u))
 reach-by true beat r u = sym (or-false (nat_lt beat r))
@@ -108,7 +90,7 @@ reach-by true beat r u = sym (or-false (nat_lt beat r))
 reach-by false beat r u = grind (arith, nat_tests)
 
 reach-with : (beat : ℕ) (l : Latest (List ℕ)) (a who : List ℕ) (u : ℕ) → l.beside ≤ l.until
-    → nat_lt beat (rival (with_term l who u) a) ≡ (nat_lt beat (rival l a) || (not (bytes_eq who a) && nat_lt beat u))
+    → nat_lt beat (rival (with_stretch l who u) a) ≡ (nat_lt beat (rival l a) || (not (bytes_eq who a) && nat_lt beat u))
 reach-with beat l a who u small = ap (nat_lt beat) (rival-with l a who u small) ∙ reach-by (bytes_eq who a) beat (rival l a) u
 
 split : (h r n k X H Y : Bool) → (h ≡ true → k ≡ H) → ((h && (r || (n && k))) || (X || (H && Y))) ≡ (((h && r) || X) || (H && ((n && h) || Y)))
@@ -125,60 +107,60 @@ split true r n k X H Y e = ap (λ k. (r || (n && k)) || (X || (H && Y))) (e refl
     go false false X false Y = refl
 
 -- a later term has a beat only behind the beginning of an earlier one
-has-both : (stop beat : ℕ) (t u : Term (List ℕ)) → nat_le t.from u.from ≡ true → has_beat stop beat u ≡ true → nat_lt beat (until stop t) ≡ has_beat stop beat t
-has-both stop beat t u order has = by (nat_le t.from beat) refl
+has-both : (beat : ℕ) (t u : Stretch (List ℕ)) → nat_le t.from u.from ≡ true → has_beat beat u ≡ true → nat_lt beat t.until ≡ has_beat beat t
+has-both beat t u order has = by (nat_le t.from beat) refl
   where
     left : (a b : Bool) → (a && b) ≡ true → a ≡ true
     left true b e = refl
     left false b e = e
 
-    by : (b : Bool) → nat_le t.from beat ≡ b → nat_lt beat (until stop t) ≡ (b && nat_lt beat (until stop t))
+    by : (b : Bool) → nat_le t.from beat ≡ b → nat_lt beat t.until ≡ (b && nat_lt beat t.until)
     by true e = refl
     by false e =
-        let begun : nat_le u.from beat ≡ true = left (nat_le u.from beat) (nat_lt beat (until stop u)) has in
+        let begun : nat_le u.from beat ≡ true = left (nat_le u.from beat) (nat_lt beat u.until) has in
         let before : beat < t.from = grind (arith, nat_tests, e) in
         let behind : u.from ≤ beat = grind (arith, nat_tests, begun) in
         let in_order : t.from ≤ u.from = grind (arith, nat_tests, order) in
         absurd (omega arith)
 
-any-split : (stop end beat before : ℕ) (l : Latest (List ℕ)) (t : Term (List ℕ)) (us : List (Term (List ℕ))) → l.beside ≤ l.until → nat_le t.from before ≡ true → AreBegun end before us
-    → list_any (meets stop beat (with_term l t.actor (until stop t))) us ≡ (list_any (meets stop beat l) us || (has_beat stop beat t && list_any (is_beside stop beat t.actor) us))
-any-split stop end beat before l t [] small order h = by (has_beat stop beat t)
+any-split : (end beat before : ℕ) (l : Latest (List ℕ)) (t : Stretch (List ℕ)) (us : List (Stretch (List ℕ))) → l.beside ≤ l.until → nat_le t.from before ≡ true → AreBegun end before us
+    → list_any (meets beat (with_stretch l t.actor t.until)) us ≡ (list_any (meets beat l) us || (has_beat beat t && list_any (is_beside beat t.actor) us))
+any-split end beat before l t [] small order h = by (has_beat beat t)
   where
     by : (b : Bool) → false ≡ (b && false)
     by true = refl
     by false = refl
-any-split stop end beat before l t (u ∷ us) small order h =
+any-split end beat before l t (u ∷ us) small order h =
     let from : nat_le before u.from ≡ true = h.0 in
     let both : nat_le t.from u.from ≡ true = grind (arith, nat_tests, order, from) in
-    ap (λ b. (has_beat stop beat u && b) || list_any (meets stop beat (with_term l t.actor (until stop t))) us) (reach-with beat l u.actor t.actor (until stop t) small)
-    ∙ ap (λ b. (has_beat stop beat u && (nat_lt beat (rival l u.actor) || (not (bytes_eq t.actor u.actor) && nat_lt beat (until stop t)))) || b)
-    (any-split stop end beat u.from l t us small both h.2)
-    ∙ split (has_beat stop beat u) (nat_lt beat (rival l u.actor)) (not (bytes_eq t.actor u.actor)) (nat_lt beat (until stop t)) (list_any (meets stop beat l) us)
-    (has_beat stop beat t) (list_any (is_beside stop beat t.actor) us) (has-both stop beat t u both)
+    ap (λ b. (has_beat beat u && b) || list_any (meets beat (with_stretch l t.actor t.until)) us) (reach-with beat l u.actor t.actor t.until small)
+    ∙ ap (λ b. (has_beat beat u && (nat_lt beat (rival l u.actor) || (not (bytes_eq t.actor u.actor) && nat_lt beat t.until))) || b)
+    (any-split end beat u.from l t us small both h.2)
+    ∙ split (has_beat beat u) (nat_lt beat (rival l u.actor)) (not (bytes_eq t.actor u.actor)) (nat_lt beat t.until) (list_any (meets beat l) us)
+    (has_beat beat t) (list_any (is_beside beat t.actor) us) (has-both beat t u both)
 
 four : (m x y z : Bool) → (m || ((x || y) || z)) ≡ ((m || x) || (y || z))
 four true x y z = refl
 four false true y z = refl
 four false false y z = refl
 
-paired-is : (stop end beat before : ℕ) (l : Latest (List ℕ)) (ts : List (Term (List ℕ))) → l.beside ≤ l.until → AreBegun end before ts
-    → paired stop beat l ts ≡ (list_any (meets stop beat l) ts || two_lead stop beat ts)
-paired-is stop end beat before l [] small h = refl
-paired-is stop end beat before l (t ∷ ts) small h =
+paired-is : (end beat before : ℕ) (l : Latest (List ℕ)) (ts : List (Stretch (List ℕ))) → l.beside ≤ l.until → AreBegun end before ts
+    → paired beat l ts ≡ (list_any (meets beat l) ts || two_act beat ts)
+paired-is end beat before l [] small h = refl
+paired-is end beat before l (t ∷ ts) small h =
     let self : nat_le t.from t.from ≡ true = le-leb t.from t.from (omega arith) in
-    ap (λ b. meets stop beat l t || b) (paired-is stop end beat t.from (with_term l t.actor (until stop t)) ts (small-with l t.actor (until stop t) small) h.2)
-    ∙ ap (λ b. meets stop beat l t || (b || two_lead stop beat ts)) (any-split stop end beat t.from l t ts small self h.2)
-    ∙ four (meets stop beat l t) (list_any (meets stop beat l) ts) (has_beat stop beat t && list_any (is_beside stop beat t.actor) ts) (two_lead stop beat ts)
+    ap (λ b. meets beat l t || b) (paired-is end beat t.from (with_stretch l t.actor t.until) ts (small-with l t.actor t.until small) h.2)
+    ∙ ap (λ b. meets beat l t || (b || two_act beat ts)) (any-split end beat t.from l t ts small self h.2)
+    ∙ four (meets beat l t) (list_any (meets beat l) ts) (has_beat beat t && list_any (is_beside beat t.actor) ts) (two_act beat ts)
 
-none-met : (stop beat : ℕ) (ts : List (Term (List ℕ))) → list_any (meets stop beat none_yet) ts ≡ false
-none-met stop beat [] = refl
-none-met stop beat (t ∷ ts) = by (has_beat stop beat t) (bytes_eq [] t.actor) (none-met stop beat ts)
+none-met : (beat : ℕ) (ts : List (Stretch (List ℕ))) → list_any (meets beat none_yet) ts ≡ false
+none-met beat [] = refl
+none-met beat (t ∷ ts) = by (has_beat beat t) (bytes_eq [] t.actor) (none-met beat ts)
   where
-    by : (h b : Bool) → list_any (meets stop beat none_yet) ts ≡ false → ((h && nat_lt beat (cond b 0 0)) || list_any (meets stop beat none_yet) ts) ≡ false
+    by : (h b : Bool) → list_any (meets beat none_yet) ts ≡ false → ((h && nat_lt beat (cond b 0 0)) || list_any (meets beat none_yet) ts) ≡ false
     by false b rest = rest
-    by true true rest = ap (λ n. n || list_any (meets stop beat none_yet) ts) (le-ltb beat 0 (omega arith)) ∙ rest
-    by true false rest = ap (λ n. n || list_any (meets stop beat none_yet) ts) (le-ltb beat 0 (omega arith)) ∙ rest
+    by true true rest = ap (λ n. n || list_any (meets beat none_yet) ts) (le-ltb beat 0 (omega arith)) ∙ rest
+    by true false rest = ap (λ n. n || list_any (meets beat none_yet) ts) (le-ltb beat 0 (omega arith)) ∙ rest
 
 -- ---- how many beats of a range pass a test
 
@@ -223,40 +205,40 @@ passing-split p a (suc m) n =
 
 -- ---- the beats of terms
 
-early-none : (stop end before beat : ℕ) (l : Latest (List ℕ)) (ts : List (Term (List ℕ))) → AreBegun end before ts → beat < before → paired stop beat l ts ≡ false
-early-none stop end before beat l [] h early = refl
-early-none stop end before beat l (t ∷ ts) h early =
+early-none : (end before beat : ℕ) (l : Latest (List ℕ)) (ts : List (Stretch (List ℕ))) → AreBegun end before ts → beat < before → paired beat l ts ≡ false
+early-none end before beat l [] h early = refl
+early-none end before beat l (t ∷ ts) h early =
     let order : nat_le before t.from ≡ true = h.0 in
     let begun : before ≤ t.from = grind (arith, nat_tests, order) in
-    ap (λ b. ((b && nat_lt beat (until stop t)) && nat_lt beat (rival l t.actor)) || paired stop beat (with_term l t.actor (until stop t)) ts) (lt-leb t.from beat (omega arith))
-    ∙ early-none stop end t.from beat (with_term l t.actor (until stop t)) ts h.2 (omega arith)
+    ap (λ b. ((b && nat_lt beat t.until) && nat_lt beat (rival l t.actor)) || paired beat (with_stretch l t.actor t.until) ts) (lt-leb t.from beat (omega arith))
+    ∙ early-none end t.from beat (with_stretch l t.actor t.until) ts h.2 (omega arith)
 
 -- where a term has a beat with those so far
-meets-in : (stop beat : ℕ) (l : Latest (List ℕ)) (t : Term (List ℕ)) → t.from ≤ beat → beat < until stop t → beat < rival l t.actor → meets stop beat l t ≡ true
-meets-in stop beat l t begun ahead met =
-    ap (λ b. (b && nat_lt beat (until stop t)) && nat_lt beat (rival l t.actor)) (le-leb t.from beat begun)
-    ∙ ap (λ b. b && nat_lt beat (rival l t.actor)) (lt-ltb beat (until stop t) ahead) ∙ lt-ltb beat (rival l t.actor) met
+meets-in : (beat : ℕ) (l : Latest (List ℕ)) (t : Stretch (List ℕ)) → t.from ≤ beat → beat < t.until → beat < rival l t.actor → meets beat l t ≡ true
+meets-in beat l t begun ahead met =
+    ap (λ b. (b && nat_lt beat t.until) && nat_lt beat (rival l t.actor)) (le-leb t.from beat begun)
+    ∙ ap (λ b. b && nat_lt beat (rival l t.actor)) (lt-ltb beat t.until ahead) ∙ lt-ltb beat (rival l t.actor) met
 
-meets-out : (stop beat : ℕ) (l : Latest (List ℕ)) (t : Term (List ℕ)) → min (until stop t) (rival l t.actor) ≤ beat → meets stop beat l t ≡ false
-meets-out stop beat l t late = by (nat_le t.from beat) (nat_lt beat (until stop t)) refl (nat_lt beat (rival l t.actor)) refl
+meets-out : (beat : ℕ) (l : Latest (List ℕ)) (t : Stretch (List ℕ)) → min t.until (rival l t.actor) ≤ beat → meets beat l t ≡ false
+meets-out beat l t late = by (nat_le t.from beat) (nat_lt beat t.until) refl (nat_lt beat (rival l t.actor)) refl
   where
-    by : (a b : Bool) → nat_lt beat (until stop t) ≡ b → (c : Bool) → nat_lt beat (rival l t.actor) ≡ c → ((a && b) && c) ≡ false
+    by : (a b : Bool) → nat_lt beat t.until ≡ b → (c : Bool) → nat_lt beat (rival l t.actor) ≡ c → ((a && b) && c) ≡ false
     by false b e c f = refl
     by true false e c f = refl
     by true true e false f = refl
-    by true true e true f = absurd (let ahead : beat < until stop t = grind (arith, nat_tests, e) in let met : beat < rival l t.actor = grind (arith, nat_tests, f) in omega arith)
+    by true true e true f = absurd (let ahead : beat < t.until = grind (arith, nat_tests, e) in let met : beat < rival l t.actor = grind (arith, nat_tests, f) in omega arith)
 
 -- those of terms in the order in which they begin, from a beat on
-beats-counted : (stop end since before : ℕ) (l : Latest (List ℕ)) (ts : List (Term (List ℕ))) → end < stop → since ≤ stop → l.beside ≤ l.until → AreBegun end before ts
-    → beats_from stop since l ts ≡ passing (λ beat. paired stop beat l ts) since (stop - since)
+beats-counted : (stop end since before : ℕ) (l : Latest (List ℕ)) (ts : List (Stretch (List ℕ))) → end < stop → since ≤ stop → l.beside ≤ l.until → AreBegun end before ts
+    → beats_from stop since l ts ≡ passing (λ beat. paired beat l ts) since (stop - since)
 beats-counted stop end since before l [] within room small h = sym (none-pass since (stop - since))
 beats-counted stop end since before l (t ∷ ts) within room small h =
     let begun : t.from ≤ end = (let order : nat_le t.from end ≡ true = h.1 in grind (arith, nat_tests, order)) in
     let from = max since t.from in
     let last = shared_end stop from l t in
-    let next = with_term l t.actor (until stop t) in
-    let p = λ (beat : ℕ). paired stop beat l (t ∷ ts) in
-    let q = λ (beat : ℕ). paired stop beat next ts in
+    let next = with_stretch l t.actor t.until in
+    let p = λ (beat : ℕ). paired beat l (t ∷ ts) in
+    let q = λ (beat : ℕ). paired beat next ts in
     let from_in : from ≤ stop = omega arith in
     let behind : from ≤ last = omega arith in
     let last_in : last ≤ stop = omega arith in
@@ -266,10 +248,10 @@ beats-counted stop end since before l (t ∷ ts) within room small h =
     let before_all : passing p since (from - since) ≡ 0
     = passing-same p (λ b. false) since (from - since) (λ b low high. early b (omega arith)) ∙ none-pass since (from - since) in
     let shared : passing p from (last - from) ≡ last - from
-    = passing-same p (λ b. true) from (last - from) (λ b low high. ap (λ m. m || q b) (meets-in stop b l t (omega arith) (omega arith) (omega arith))) ∙ all-pass from (last - from) in
+    = passing-same p (λ b. true) from (last - from) (λ b low high. ap (λ m. m || q b) (meets-in b l t (omega arith) (omega arith) (omega arith))) ∙ all-pass from (last - from) in
     let later : passing p last (stop - last) ≡ passing q last (stop - last)
-    = passing-same p q last (stop - last) (λ b low high. ap (λ m. m || q b) (meets-out stop b l t (omega arith))) in
-    let ih = beats-counted stop end last t.from next ts within last_in (small-with l t.actor (until stop t) small) h.2 in
+    = passing-same p q last (stop - last) (λ b low high. ap (λ m. m || q b) (meets-out b l t (omega arith))) in
+    let ih = beats-counted stop end last t.from next ts within last_in (small-with l t.actor t.until small) h.2 in
     sym
     (ap (passing p since) all
     ∙ passing-split p since (from - since) ((last - from) + (stop - last))
@@ -285,18 +267,18 @@ beats-counted stop end since before l (t ∷ ts) within room small h =
     zero-first : (n : ℕ) → 0 + n ≡ n
     zero-first n = omega arith
 
-    early : (beat : ℕ) → beat < t.from → paired stop beat l (t ∷ ts) ≡ false
-    early beat low = early-none stop end t.from beat l (t ∷ ts) (le-leb t.from t.from (omega arith), h.1, h.2) low
+    early : (beat : ℕ) → beat < t.from → paired beat l (t ∷ ts) ≡ false
+    early beat low = early-none end t.from beat l (t ∷ ts) (le-leb t.from t.from (omega arith), h.1, h.2) low
 
--- of a trace without a wrong line
-pub beats-of-two-counted : (end : ℕ) (texts : List (List ℕ)) → first_wrong end 2 0 texts ≡ None
-    → beats_of_two (end + 1) (terms 2 (filter_map line_of texts)) ≡ count_by (λ beat. two_lead (end + 1) beat (terms 2 (filter_map line_of texts))) (range_with_len 0 (end + 1))
+-- of a trace
+pub beats-of-two-counted : (end : ℕ) (ls : List (Line (List ℕ)))
+    → beats_of_two (end + 1) (acting (end + 1) ls) ≡ count_by (λ beat. two_act beat (acting (end + 1) ls)) (range_with_len 0 (end + 1))
 unfolding beats_of_two
-beats-of-two-counted end texts right =
-    let ts = terms 2 (filter_map line_of texts) in
-    let begun = terms-begun end 2 0 (filter_map line_of texts) (lines-ordered end 2 0 texts right) in
+beats-of-two-counted end ls =
+    let all = acting (end + 1) ls in
+    let begun = acting-begun end ls in
     let whole : end + 1 - 0 ≡ end + 1 = omega arith in
-    beats-counted (end + 1) end 0 0 none_yet ts (omega arith) (omega arith) (omega arith) begun
-    ∙ ap (passing (λ beat. paired (end + 1) beat none_yet ts) 0) whole
-    ∙ passing-same (λ beat. paired (end + 1) beat none_yet ts) (λ beat. two_lead (end + 1) beat ts) 0 (end + 1)
-    (λ beat low high. paired-is (end + 1) end beat 0 none_yet ts (omega arith) begun ∙ ap (λ b. b || two_lead (end + 1) beat ts) (none-met (end + 1) beat ts))
+    beats-counted (end + 1) end 0 0 none_yet all (omega arith) (omega arith) (omega arith) begun
+    ∙ ap (passing (λ beat. paired beat none_yet all) 0) whole
+    ∙ passing-same (λ beat. paired beat none_yet all) (λ beat. two_act beat all) 0 (end + 1)
+    (λ beat low high. paired-is end beat 0 none_yet all (omega arith) begun ∙ ap (λ b. b || two_act beat all) (none-met beat all))

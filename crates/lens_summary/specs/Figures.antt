@@ -8,27 +8,28 @@ use Rattle.lens_json.specs.Members.{Named, nat, text, object_of}
 use Rattle.lens_json.specs.Parts.{list_of}
 use Rattle.lens_summary.specs.Leaders.{ended}
 use Rattle.lens_summary.specs.Spread.{longest, total}
-use Rattle.lens_summary.specs.Summary.{premise_word}
-use Rattle.lens_summary.specs.Together.{beats_of_two}
+use Rattle.lens_summary.specs.Summary.{premise_word, line_in}
 use Rattle.lens_summary.specs.declared.subject.Subject.TheVariants.{Zones, Nodes, Pods}
 use Rattle.lens_terms.specs.declared.span.Span.{Span}
+use Rattle.lens_terms.specs.declared.stretch.Stretch.{Stretch}
 use Rattle.lens_terms.specs.declared.term.Term.{Term}
+use Rattle.lens_terms.specs.Acting.{acting}
 use Rattle.lens_terms.specs.Spans.{leaderless}
 use Rattle.lens_terms.specs.Terms.{terms, until}
+use Rattle.lens_terms.specs.Together.{overlap, beats_of_two}
 use Rattle.lens_trace.specs.Traces.{trace_reply}
 use Rattle.trace_lines.specs.declared.header.Header.{Header}
 use Rattle.trace_lines.specs.declared.line.Line.{Line}
 use Rattle.lens_summary.specs.FigureLines.{told}
 use Rattle.lens_summary.specs.FigureTotals.{totals}
 
--- ---- the trace itself, its terms, and the spans in which nobody leads
+-- ---- the trace itself, its terms, and the spans in which nobody acts
 
 abbrev pub number_if : Option ℕ → Data
 number_if None = null
 number_if (Some n) = number (unsigned n)
 
--- the milliseconds of a beat, the last beat, the premise as the writer has it, the line of the first `lead` of an identity while another one
--- leads, and at how many beats two lead
+-- the milliseconds of a beat, the last beat, the premise as the writer has it, the line from which on two act, and at how many beats two do
 abbrev pub header_members : Header → List ℕ → Option ℕ → ℕ → List Named
 header_members header premise overlap beats =
     nat (codes "beatMillis") header.beat_millis ∷ nat (codes "lastBeat") header.end ∷ text (codes "premise") premise
@@ -46,18 +47,19 @@ span_members spans = nat (codes "count") (length spans) ∷ nat (codes "longest"
 
 -- ---- the answer
 
--- by the terms of a trace that ends before the beat `stop`, and its lines
-abbrev pub figure_members : Header → Option ℕ → ℕ → List (Term (List ℕ)) → List (Line (List ℕ)) → List Named
-figure_members header overlap stop ts ls =
-    (codes "header", object_of (header_members header (premise_word header.premise) overlap (beats_of_two stop ts))) ∷ (codes "terms", list_of (map (term_members stop) ts))
-    ∷ (codes "spansWithoutLeader", object_of (span_members (leaderless 0 stop ts))) ∷ (codes "zones", list_of (told Zones ls))
-    ∷ (codes "nodes", list_of (told Nodes ls)) ∷ (codes "evictions", list_of (told Pods ls)) ∷ (codes "totals", list_of (totals ls)) ∷ []
+-- by the terms of a trace that ends before the beat `stop`, the stretches in which a leader acts, and the lines
+abbrev pub figure_members : Header → ℕ → List (Term (List ℕ)) → List (Stretch (List ℕ)) → List (Line (List ℕ)) → List Named
+figure_members header stop ts all ls =
+    (codes "header", object_of (header_members header (premise_word header.premise) (line_in (overlap all)) (beats_of_two stop all)))
+    ∷ (codes "terms", list_of (map (term_members stop) ts)) ∷ (codes "spansWithoutLeader", object_of (span_members (leaderless 0 stop all)))
+    ∷ (codes "zones", list_of (told Zones ls)) ∷ (codes "nodes", list_of (told Nodes ls)) ∷ (codes "evictions", list_of (told Pods ls))
+    ∷ (codes "totals", list_of (totals ls)) ∷ []
 
-unfoldable pub figures_json : Header → Option ℕ → List (Line (List ℕ)) → List ℕ
-figures_json header overlap ls = compact_text (object_of (figure_members header overlap (header.end + 1) (terms 2 ls) ls))
+unfoldable pub figures_json : Header → List (Term (List ℕ)) → List (Stretch (List ℕ)) → List (Line (List ℕ)) → List ℕ
+figures_json header ts all ls = compact_text (object_of (figure_members header (header.end + 1) ts all ls))
 
-abbrev pub figures : Header → Option ℕ → List (Line (List ℕ)) → Reply
-figures header overlap ls = record { verdict = Done; text = figures_json header overlap ls ++ codes "\n" }
+abbrev pub figures : Header → List (Line (List ℕ)) → Reply
+figures header ls = record { verdict = Done; text = figures_json header (terms 2 ls) (acting (header.end + 1) ls) ls ++ codes "\n" }
 
 -- what a text is answered
 abbrev pub figures_reply : List ℕ → Reply

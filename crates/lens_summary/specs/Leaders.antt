@@ -1,4 +1,4 @@
--- Who leads, and when nobody does.
+-- Who leads, and when nobody acts.
 use Rattle.std.specs.Prelude.{ℕ, ◌-◌, List, [], ◌∷◌, length, map, codes, decimal, Option, Some, None}
 use Rattle.lens_summary.specs.Cells.{beat_text}
 use Rattle.lens_summary.specs.Tables.{Texts}
@@ -6,6 +6,7 @@ use Rattle.lens_terms.specs.declared.closing.Closing.{Closing}
 use Rattle.lens_terms.specs.declared.closing.Ending.{Ending}
 use Rattle.lens_terms.specs.declared.closing.Ending.TheVariants.{End, Stop, Crash}
 use Rattle.lens_terms.specs.declared.span.Span.{Span}
+use Rattle.lens_terms.specs.declared.stretch.Stretch.{Stretch}
 use Rattle.lens_terms.specs.declared.term.Term.{Term}
 use Rattle.lens_terms.specs.Spans.{leaderless}
 use Rattle.lens_terms.specs.Terms.{until}
@@ -32,6 +33,6 @@ term_rows millis stop ts = (codes "LEADER" ∷ codes "FROM" ∷ codes "UNTIL" �
 abbrev pub span_row : ℕ → List Span → Texts
 span_row millis spans = decimal (length spans) ∷ beat_text (longest spans) millis ∷ beat_text (total spans) millis ∷ []
 
--- the spans in which nobody leads: how many, the longest, and all together
-unfoldable pub span_rows : {T : Type 0} → ℕ → ℕ → List (Term T) → List Texts
-span_rows millis stop ts = (codes "SPANS-WITHOUT-LEADER" ∷ codes "LONGEST" ∷ codes "SUM" ∷ []) ∷ span_row millis (leaderless 0 stop ts) ∷ []
+-- the spans in which nobody acts: how many, the longest, and all together
+unfoldable pub span_rows : {T : Type 0} → ℕ → ℕ → List (Stretch T) → List Texts
+span_rows millis stop all = (codes "SPANS-WITHOUT-LEADER" ∷ codes "LONGEST" ∷ codes "SUM" ∷ []) ∷ span_row millis (leaderless 0 stop all) ∷ []

@@ -1,6 +1,7 @@
-// Who leads, and when nobody does.
+// Who leads, and when nobody acts.
 ghost use Rattle.std.specs.Prelude.{◌≡◌, ◌++◌, ◌∷◌, [], IfOk, OnOk, map};
 ghost use Rattle.lens_summary.specs.Tables.{shown};
+ghost use Rattle.lens_terms.specs.Acting.{shown as stretch_shown};
 ghost use Rattle.lens_terms.specs.Terms as terms;
 ghost use Rattle.lens_summary.specs.Leaders as spec;
 ghost use Rattle.lens_summary.specs.Part.{part};
@@ -10,7 +11,7 @@ use crate::part::add_part;
 use crate::row::{Row, add_row};
 use crate::spread::{longest, total};
 use kube_base::NoMemory;
-use lens_terms::{Closing, Ending, Term, leaderless};
+use lens_terms::{Closing, Ending, Stretch, Term, leaderless};
 use std::alloc::Global;
 
 /// Adds the table of terms.
@@ -27,17 +28,17 @@ pub(crate) fn tell_terms(
     add_part(text, alloc, &rows)
 }
 
-/// Adds the table of the spans in which nobody leads.
+/// Adds the table of the spans in which nobody acts.
 pub(crate) fn tell_spans(
     text: &mut Vec<u8>,
     alloc: Global,
     millis: u32,
     stop: u32,
-    found: &[Term<&[u8]>],
+    acting: &[Stretch<&[u8]>],
 ) -> Result<(), NoMemory>
-    ensures { OnOk result (text.new.items ≡ text.old.items ++ part (spec.span_rows millis stop (map terms.shown found.now))) }
+    ensures { OnOk result (text.new.items ≡ text.old.items ++ part (spec.span_rows millis stop (map stretch_shown acting.now))) }
 {
-    let rows = span_rows(alloc, millis, stop, found)?;
+    let rows = span_rows(alloc, millis, stop, acting)?;
     add_part(text, alloc, &rows)
 }
 
@@ -120,17 +121,17 @@ fn ending_word(ending: Ending) -> &'static [u8]
     }
 }
 
-/// The table of the spans in which nobody leads: how many, the longest, and all together.
+/// The table of the spans in which nobody acts: how many, the longest, and all together.
 #[tactic(auto, using(crate::proofs::StepLaws::leaderless_shown), unfolding(crate::specs::Leaders::span_rows))]
 fn span_rows<'a>(
     alloc: Global,
     millis: u32,
     stop: u32,
-    found: &[Term<&'a [u8]>],
+    acting: &[Stretch<&'a [u8]>],
 ) -> Result<Vec<Row<'a>>, NoMemory>
-    ensures { IfOk result (λ rows. shown rows.items ≡ spec.span_rows millis stop (map terms.shown found.now)) }
+    ensures { IfOk result (λ rows. shown rows.items ≡ spec.span_rows millis stop (map stretch_shown acting.now)) }
 {
-    let spans = leaderless(alloc, stop, found)?;
+    let spans = leaderless(alloc, stop, acting)?;
     let mut rows = Vec::new(alloc);
     let heading = vec![in alloc;
         Cell::Text(b"SPANS-WITHOUT-LEADER"),

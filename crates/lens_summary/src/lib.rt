@@ -13,7 +13,6 @@ mod spread;
 mod subject;
 mod summary;
 mod table;
-mod together;
 mod totals;
 mod zones;
 

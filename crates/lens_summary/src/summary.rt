@@ -3,6 +3,8 @@ ghost use Rattle.std.specs.Prelude.{◌≡◌, ◌++◌, ◌≤◌, IfOk, OnOk, 
 ghost use Rattle.lens_edge.specs.Outcome.{reply_of};
 ghost use Rattle.lens_summary.specs.Cells.{cell_text};
 ghost use Rattle.lens_summary.specs.Tables.{shown};
+ghost use Rattle.lens_terms.specs.Acting.{shown as stretch_shown};
+ghost use Rattle.lens_terms.specs.Together.{overlap as overlap_of};
 ghost use Rattle.trace_lines.specs.Reads.{seen};
 ghost use Rattle.lens_summary.specs.Part.{part};
 ghost use Rattle.lens_summary.specs.Summary as spec;
@@ -13,11 +15,10 @@ use crate::leaders::{tell_spans, tell_terms};
 use crate::part::add_part;
 use crate::row::{Row, add_row};
 use crate::subject::{Subject, tell_subject};
-use crate::together::beats_of_two;
 use crate::totals::tell_totals;
 use kube_base::NoMemory;
 use lens_edge::{Answer, Verdict};
-use lens_terms::terms_of;
+use lens_terms::{Stretch, beats_of_two, overlap, stretches_of, terms_of};
 use lens_trace::{Telling, answer_on};
 use std::alloc::Global;
 use trace_lines::{Header, Line};
@@ -26,7 +27,7 @@ use trace_lines::{Header, Line};
 pub fn summary_of(alloc: Global, input: &[u8]) -> Result<Answer, NoMemory>
     ensures reply { IfOk result (λ answer. reply_of answer ≡ spec.summary_reply input.now) }
 
-    // The number told of beats at which two lead is that of the beats at which two identities of the trace lead.
+    // The number told of beats at which two lead is that of the beats at which two identities of the trace act.
     ensures together { BeatsOfTwoAreCounted }
 {
     answer_on(alloc, &Summary, input)
@@ -36,50 +37,54 @@ pub fn summary_of(alloc: Global, input: &[u8]) -> Result<Answer, NoMemory>
 struct Summary;
 
 impl Telling for Summary {
-    ghost told = { λ asked header overlap ls. spec.summary header overlap ls };
+    ghost told = { λ asked header ls. spec.summary header ls };
 
     fn tell(
         &self,
         alloc: Global,
         header: Header,
-        overlap: Option<u64>,
         lines: &[Line<&[u8]>],
     ) -> Result<Answer, NoMemory> {
-        tell(alloc, header, overlap, lines)
+        tell(alloc, header, lines)
     }
 }
 
-/// All tables on some lines, of which one may be the first `lead` of an identity while another one leads.
-fn tell(
-    alloc: Global,
-    header: Header,
-    overlap: Option<u64>,
-    lines: &[Line<&[u8]>],
-) -> Result<Answer, NoMemory>
+/// All tables on some lines.
+fn tell(alloc: Global, header: Header, lines: &[Line<&[u8]>]) -> Result<Answer, NoMemory>
     requires { header.end ≤ 604800000 }
-    ensures { IfOk result (λ answer. reply_of answer ≡ spec.summary header overlap (map seen lines.now)) }
+    ensures { IfOk result (λ answer. reply_of answer ≡ spec.summary header (map seen lines.now)) }
 {
-    let millis = header.beat_millis;
     let stop = header.end + 1;
     let found = terms_of(alloc, lines)?;
+    let acting = stretches_of(alloc, stop, lines)?;
     let mut text = Vec::new(alloc);
     tell_trace(
         &mut text,
         alloc,
         header,
-        overlap,
-        beats_of_two(stop, &found),
+        overlap_line(&acting),
+        beats_of_two(stop, &acting),
     )?;
-    tell_terms(&mut text, alloc, millis, stop, &found)?;
-    tell_spans(&mut text, alloc, millis, stop, &found)?;
-    tell_subject(&mut text, alloc, millis, Subject::Zones, lines)?;
-    tell_subject(&mut text, alloc, millis, Subject::Nodes, lines)?;
-    tell_subject(&mut text, alloc, millis, Subject::Pods, lines)?;
+    tell_terms(&mut text, alloc, header.beat_millis, stop, &found)?;
+    tell_spans(&mut text, alloc, header.beat_millis, stop, &acting)?;
+    tell_subject(&mut text, alloc, header.beat_millis, Subject::Zones, lines)?;
+    tell_subject(&mut text, alloc, header.beat_millis, Subject::Nodes, lines)?;
+    tell_subject(&mut text, alloc, header.beat_millis, Subject::Pods, lines)?;
     tell_totals(&mut text, alloc, lines)?;
     Ok(Answer {
         verdict: Verdict::Done,
         text,
     })
+}
+
+/// The line that begins the first stretch in which a leader acts while another one does.
+pub(crate) fn overlap_line(acting: &[Stretch<&[u8]>]) -> Option<u64>
+    ensures { result ≡ spec.line_in (overlap_of (map stretch_shown acting.now)) }
+{
+    match overlap(acting) {
+        Some(stretch) => Some(stretch.line),
+        None => None,
+    }
 }
 
 /// Adds the table of the trace itself.

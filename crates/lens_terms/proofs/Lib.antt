@@ -1,1 +1,3 @@
 pub mod TermLaws
+pub mod Sorting
+pub mod StretchLaws

@@ -8,7 +8,7 @@ use Rattle.lens_terms.specs.declared.closing.Ending.{Ending}
 use Rattle.lens_terms.specs.declared.gathering.Gathering.{Gathering}
 use Rattle.lens_terms.specs.declared.term.Term.{Term}
 use Rattle.lens_terms.specs.declared.turn.Turn.{Turn}
-use Rattle.lens_terms.specs.declared.turn.Turn.TheVariants.{Leads, Ends, Keeps}
+use Rattle.lens_terms.specs.declared.turn.Turn.TheVariants.{Leads, Ends, Pauses, Keeps}
 use Rattle.lens_terms.specs.Terms.{turn_of, closing_by, closing, term_of, begun_by, terms, shown}
 use Rattle.lens_terms.specs.Gathered.{held, Stands}
 use Rattle.trace_lines.specs.Reads.{seen}
@@ -26,6 +26,11 @@ closing-led who l ls is =
 pub closing-kept : (who : List ℕ) (l : Line (List ℕ)) (ls : List (Line (List ℕ))) → turn_of l.says ≡ Keeps → closing who (l ∷ ls) ≡ closing who ls
 unfolding closing
 closing-kept who l ls is =
+    ap (λ t. cond (bytes_eq l.actor who) (closing_by l.beat t (closing who ls)) (closing who ls)) is ∙ same-both (bytes_eq l.actor who) (closing who ls)
+
+pub closing-paused : (who : List ℕ) (l : Line (List ℕ)) (ls : List (Line (List ℕ))) (beats : ℕ) → turn_of l.says ≡ Pauses beats → closing who (l ∷ ls) ≡ closing who ls
+unfolding closing
+closing-paused who l ls beats is =
     ap (λ t. cond (bytes_eq l.actor who) (closing_by l.beat t (closing who ls)) (closing who ls)) is ∙ same-both (bytes_eq l.actor who) (closing who ls)
 
 -- one that does
@@ -46,6 +51,13 @@ pub stands-kept : (number : ℕ) (l : Line (List ℕ)) (ls : List (Line (List �
 stands-kept number l ls g is h = record {
   closings = λ who. h.closings who ∙ sym (closing-kept who.now l ls is);
   terms_are = h.terms_are ∙ ap (λ ts. reverse ts) (sym (terms-more number l ls Keeps is));
+}
+
+pub stands-paused : (number : ℕ) (l : Line (List ℕ)) (ls : List (Line (List ℕ))) (beats : ℕ) (g : Gathering) → turn_of l.says ≡ Pauses beats
+    → Stands (number + 1) ls g → Stands number (l ∷ ls) g
+stands-paused number l ls beats g is h = record {
+  closings = λ who. h.closings who ∙ sym (closing-paused who.now l ls beats is);
+  terms_are = h.terms_are ∙ ap (λ ts. reverse ts) (sym (terms-more number l ls (Pauses beats) is));
 }
 
 pub stands-ended : (number : ℕ) (l : Line (List ℕ)) (ls : List (Line (List ℕ))) (how : Ending) (old new : Gathering) → turn_of l.says ≡ Ends how

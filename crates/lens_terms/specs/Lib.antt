@@ -1,3 +1,6 @@
 pub mod Terms
+pub mod Acting
 pub mod Gathered
 pub mod Spans
+pub mod Together
+pub mod Beats

@@ -1,5 +1,5 @@
 -- The terms of a trace's lines: who leads, from when to when, and how that ends. They are those of audit's codes 41 and 42 (profile).
-use Rattle.std.specs.Prelude.{ℕ, ◌+◌, ◌==◌, ◌&&◌, not, nat_le, nat_lt, Bool, List, [], ◌∷◌, Option, Some, None, if◌then◌else◌}
+use Rattle.std.specs.Prelude.{ℕ, ◌+◌, List, [], ◌∷◌, Option, Some, None, if◌then◌else◌}
 use Rattle.std.specs.Str.{bytes_eq}
 use denote.Ref.{Bor}
 use Rattle.trace_lines.specs.declared.line.Line.{Line}
@@ -9,16 +9,16 @@ use Rattle.lens_terms.specs.declared.closing.Closing.{Closing}
 use Rattle.lens_terms.specs.declared.closing.Ending.TheVariants.{End, Stop, Crash}
 use Rattle.lens_terms.specs.declared.term.Term.{Term}
 use Rattle.lens_terms.specs.declared.turn.Turn.{Turn}
-use Rattle.lens_terms.specs.declared.turn.Turn.TheVariants.{Leads, Ends, Keeps}
+use Rattle.lens_terms.specs.declared.turn.Turn.TheVariants.{Leads, Ends, Pauses, Keeps}
 
--- what the words of a line mean for the terms of its actor
+-- what the words of a line mean for the terms of its actor, and for its acting
 abbrev pub turn_of : {T : Type 0} → Says T → Turn
 turn_of (says.Lead version) = Leads
 turn_of says.End = Ends End
 turn_of says.Stop = Ends Stop
 turn_of says.Crash = Ends Crash
 turn_of says.Start = Keeps
-turn_of (says.Pause beats) = Keeps
+turn_of (says.Pause beats) = Pauses beats
 turn_of (says.Election verb answer transitions) = Keeps
 turn_of (says.NodeLease verb node answer) = Keeps
 turn_of (says.Status node ready answer) = Keeps
@@ -35,6 +35,7 @@ turn_of (says.Evict pod due answer) = Keeps
 abbrev pub closing_by : ℕ → Turn → Option Closing → Option Closing
 closing_by beat (Ends how) later = Some (record { beat = beat; how = how })
 closing_by beat Leads later = later
+closing_by beat (Pauses beats) later = later
 closing_by beat Keeps later = later
 
 -- the first of some lines that ends the terms of an identity: an `end`, `stop` or `crash` line of its own
@@ -49,6 +50,7 @@ term_of number l ls = record { line = number; actor = l.actor; from = l.beat; cl
 abbrev pub begun_by : Turn → Term (List ℕ) → List (Term (List ℕ)) → List (Term (List ℕ))
 begun_by Leads term later = term ∷ later
 begun_by (Ends how) term later = later
+begun_by (Pauses beats) term later = later
 begun_by Keeps term later = later
 
 -- the terms of lines that are numbered from a number on, in the order in which they begin
@@ -67,16 +69,3 @@ until_by stop (Some closing) = closing.beat
 -- the first beat in which it leads no more, in a trace that ends before the beat `stop`
 abbrev pub until : {T : Type 0} → ℕ → Term T → ℕ
 until stop t = until_by stop t.closing
-
--- the first of some terms that passes a test
-abbrev pub first : {T : Type 0} → (Term T → Bool) → List (Term T) → Option (Term T)
-first test [] = None
-first test (t ∷ ts) = if test t then Some t else first test ts
-
--- whether a term begins with this line
-abbrev pub begins_at : {T : Type 0} → ℕ → Term T → Bool
-begins_at line t = t.line == line
-
--- whether another identity leads when a term begins
-abbrev pub crosses : ℕ → Term (List ℕ) → Term (List ℕ) → Bool
-crosses stop term other = not (bytes_eq other.actor term.actor) && nat_le other.from term.from && nat_lt term.from (until stop other)

@@ -44,6 +44,7 @@ impl<'a> Gathering<'a> {
                     how,
                 },
             ),
+            Turn::Pauses(_) => Ok(()),
             Turn::Keeps => Ok(()),
         }
     }

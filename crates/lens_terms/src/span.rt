@@ -2,7 +2,7 @@
 ghost use Rattle.std.specs.Prelude.{◌≡◌, ◌++◌, IfOk, OnOk};
 ghost use Rattle.lens_terms.specs.Spans as spec;
 
-use crate::term::Term;
+use crate::stretch::Stretch;
 use kube_base::NoMemory;
 use std::alloc::Global;
 
@@ -13,15 +13,19 @@ pub struct Span {
     pub until: u32,
 }
 
-/// The spans in which nobody leads, by the terms of a trace that ends before the beat `stop`, in the order in which they begin.
-pub fn leaderless(alloc: Global, stop: u32, terms: &[Term<&[u8]>]) -> Result<Vec<Span>, NoMemory>
-    ensures { IfOk result (λ spans. spans.items ≡ spec.leaderless 0 stop terms.now) }
+/// The spans in which nobody acts, by the stretches of a trace that ends before the beat `stop`, in the order in which they begin.
+pub fn leaderless(
+    alloc: Global,
+    stop: u32,
+    found: &[Stretch<&[u8]>],
+) -> Result<Vec<Span>, NoMemory>
+    ensures { IfOk result (λ spans. spans.items ≡ spec.leaderless 0 stop found.now) }
 {
     let mut spans = Vec::new(alloc);
     let mut since = 0;
-    for term in terms {
-        add(&mut spans, since, term.from)?;
-        since = since.max(term.until(stop));
+    for stretch in found {
+        add(&mut spans, since, stretch.from)?;
+        since = since.max(stretch.until);
     }
     add(&mut spans, since, stop)?;
     Ok(spans)

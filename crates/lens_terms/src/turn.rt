@@ -1,4 +1,4 @@
-// What a line means for the terms of its actor.
+// What a line means for its actor as a leader.
 ghost use Rattle.std.specs.Prelude.{◌≡◌};
 ghost use Rattle.trace_lines.specs.Reads.{said};
 ghost use Rattle.lens_terms.specs.Terms as spec;
@@ -6,14 +6,16 @@ ghost use Rattle.lens_terms.specs.Terms as spec;
 use crate::closing::Ending;
 use trace_lines::Says;
 
-/// What a line means for the terms of its actor.
+/// What a line means for its actor as a leader.
 #[derive(Clone, Copy)]
 pub enum Turn {
     /// It begins one.
     Leads,
     /// It ends them.
     Ends(Ending),
-    /// Neither.
+    /// It has the actor stand still for so many beats.
+    Pauses(u32),
+    /// Nothing.
     Keeps,
 }
 
@@ -27,7 +29,7 @@ pub(crate) fn turn_of(says: &Says<&[u8]>) -> Turn
         Says::Stop => Turn::Ends(Ending::Stop),
         Says::Crash => Turn::Ends(Ending::Crash),
         Says::Start => Turn::Keeps,
-        Says::Pause(_) => Turn::Keeps,
+        Says::Pause(beats) => Turn::Pauses(*beats),
         Says::Election(_, _, _) => Turn::Keeps,
         Says::NodeLease(_, _, _) => Turn::Keeps,
         Says::Status(_, _, _) => Turn::Keeps,

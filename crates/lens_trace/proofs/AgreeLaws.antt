@@ -10,7 +10,7 @@ use Rattle.trace_audit.specs.Entries.{role_of, entry_of, entries_of, first_wrong
 use Rattle.lens_terms.specs.declared.closing.Closing.{Closing}
 use Rattle.lens_terms.specs.declared.term.Term.{Term}
 use Rattle.lens_terms.specs.declared.turn.Turn.{Turn}
-use Rattle.lens_terms.specs.declared.turn.Turn.TheVariants.{Leads, Ends, Keeps}
+use Rattle.lens_terms.specs.declared.turn.Turn.TheVariants.{Leads, Ends, Pauses, Keeps}
 use Rattle.lens_terms.specs.Terms.{turn_of, closing_by, closing, term_of, begun_by, terms, until_by}
 use Rattle.lens_trace.specs.Agree.{IsSame, AreSame}
 use Rattle.lens_trace.proofs.AuditTerms.{numbered, entries-numbered, audit-more, audit-none, ended-more, ended-none}
@@ -18,11 +18,13 @@ use Rattle.lens_trace.proofs.AuditTerms.{numbered, entries-numbered, audit-more,
 abbrev begins : Turn → Bool
 begins Leads = true
 begins (Ends how) = false
+begins (Pauses beats) = false
 begins Keeps = false
 
 abbrev ends : Turn → Bool
 ends Leads = false
 ends (Ends how) = true
+ends (Pauses beats) = false
 ends Keeps = false
 
 -- both know the same lines that begin and end terms
@@ -50,6 +52,7 @@ until-more : (stop beat later : ℕ) (c : Option Closing) (b : Bool) (t : Turn) 
     → until_by stop (cond b (closing_by beat t c) c) ≡ cond (b && e) beat later
 until-more stop beat later c true (Ends how) e h is = sym (ap (λ x. cond x beat later) is)
 until-more stop beat later c true Leads e h is = h ∙ sym (ap (λ x. cond x beat later) is)
+until-more stop beat later c true (Pauses beats) e h is = h ∙ sym (ap (λ x. cond x beat later) is)
 until-more stop beat later c true Keeps e h is = h ∙ sym (ap (λ x. cond x beat later) is)
 until-more stop beat later c false t e h is = h
 
@@ -65,6 +68,7 @@ same-more : (stop : ℕ) (t : Term (List ℕ)) (ts : List (Term (List ℕ))) (a 
     → AreSame stop (begun_by turn t ts) (cond b (a ∷ judged) judged)
 same-more stop t ts a judged Leads b is one more = subst (λ b. AreSame stop (t ∷ ts) (cond b (a ∷ judged) judged)) (sym is) (one, more)
 same-more stop t ts a judged (Ends how) b is one more = subst (λ b. AreSame stop ts (cond b (a ∷ judged) judged)) (sym is) more
+same-more stop t ts a judged (Pauses beats) b is one more = subst (λ b. AreSame stop ts (cond b (a ∷ judged) judged)) (sym is) more
 same-more stop t ts a judged Keeps b is one more = subst (λ b. AreSame stop ts (cond b (a ∷ judged) judged)) (sym is) more
 
 terms-same : (stop number : ℕ) (ls : List (Line (List ℕ))) → AreSame stop (terms number ls) (audit.terms stop (numbered number ls))

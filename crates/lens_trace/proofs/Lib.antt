@@ -5,6 +5,7 @@ pub mod ReplyLaws
 pub mod AuditTerms
 pub mod AgreeLaws
 pub mod SpanLaws
+pub mod ActingLaws
 pub mod OverlapLaws
 pub mod MemberLaws
 pub mod ToldLaws

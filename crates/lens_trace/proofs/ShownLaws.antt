@@ -3,27 +3,30 @@ use Rattle.std.proofs.Common.{◌≡◌, ℕ, Bool, true, false, cond, List, [],
 use Rattle.std.proofs.lemmas.List.Concat.{flat_map-cons}
 use Rattle.std.specs.List.{flat_map}
 use Rattle.std.specs.Option.{option_map}
+use Rattle.lens_terms.specs.declared.stretch.Stretch.{Stretch}
 use Rattle.lens_terms.specs.declared.term.Term.{Term}
 use Rattle.lens_terms.specs.declared.span.Span.{Span}
 use Rattle.lens_terms.specs.Spans.{span, leaderless}
-use Rattle.lens_terms.specs.Terms.{first, begins_at, crosses, shown, until}
-use Rattle.lens_trace.specs.Leaders.{term_line, span_line, told_terms, overlap_line, who_text, beside_text}
+use Rattle.lens_terms.specs.Acting.{shown as stretch_shown}
+use Rattle.lens_terms.specs.Terms.{shown}
+use Rattle.lens_terms.specs.Together.{first, crosses}
+use Rattle.lens_trace.specs.Leaders.{term_line, span_line, told_terms, overlap_line, beside_text}
 
 pub flat-shown : (f : Term (List ℕ) → List ℕ) (ts : List (Term (Bor (List ℕ)))) → flat_map f (map shown ts) ≡ flat_map (λ t. f (shown t)) ts
 flat-shown f [] = refl
 flat-shown f (t ∷ ts) =
     flat_map-cons f (shown t) (map shown ts) ∙ ap (λ rest. f (shown t) ++ rest) (flat-shown f ts) ∙ sym (flat_map-cons (λ t. f (shown t)) t ts)
 
-pub leaderless-shown : (since stop : ℕ) (ts : List (Term (Bor (List ℕ)))) → leaderless since stop (map shown ts) ≡ leaderless since stop ts
+pub leaderless-shown : (since stop : ℕ) (all : List (Stretch (Bor (List ℕ)))) → leaderless since stop (map stretch_shown all) ≡ leaderless since stop all
 leaderless-shown since stop [] = refl
-leaderless-shown since stop (t ∷ ts) = ap (λ rest. span since t.from ++ rest) (leaderless-shown (max since (until stop t)) stop ts)
+leaderless-shown since stop (s ∷ all) = ap (λ rest. span since s.from ++ rest) (leaderless-shown (max since s.until) stop all)
 
-pub first-shown : (test : Term (List ℕ) → Bool) (ts : List (Term (Bor (List ℕ)))) → first test (map shown ts) ≡ option_map shown (first (λ t. test (shown t)) ts)
+pub first-shown : (test : Stretch (List ℕ) → Bool) (all : List (Stretch (Bor (List ℕ)))) → first test (map stretch_shown all) ≡ option_map stretch_shown (first (λ s. test (stretch_shown s)) all)
 first-shown test [] = refl
-first-shown test (t ∷ ts) = by (test (shown t)) (first-shown test ts)
+first-shown test (s ∷ all) = by (test (stretch_shown s)) (first-shown test all)
   where
-    by : (b : Bool) → first test (map shown ts) ≡ option_map shown (first (λ t. test (shown t)) ts)
-        → cond b (Some (shown t)) (first test (map shown ts)) ≡ option_map shown (cond b (Some t) (first (λ t. test (shown t)) ts))
+    by : (b : Bool) → first test (map stretch_shown all) ≡ option_map stretch_shown (first (λ s. test (stretch_shown s)) all)
+        → cond b (Some (stretch_shown s)) (first test (map stretch_shown all)) ≡ option_map stretch_shown (cond b (Some s) (first (λ s. test (stretch_shown s)) all))
     by true h = refl
     by false h = h
 
@@ -33,35 +36,32 @@ pub added : (old one two a b : List ℕ) → one ≡ old ++ a → two ≡ one ++
 added old one two a b p q = q ∙ ap (λ t. t ++ b) p ∙ append_assoc old a b
 
 -- the lines of terms and those of spans
-pub terms-told : (stop : ℕ) (ts : List (Term (Bor (List ℕ)))) (spans : List Span) (old one two : List ℕ) → spans ≡ leaderless 0 stop ts
-    → one ≡ old ++ flat_map (λ t. term_line stop (shown t)) ts → two ≡ one ++ flat_map span_line spans → two ≡ old ++ told_terms stop (map shown ts)
+pub terms-told : (stop : ℕ) (ts : List (Term (Bor (List ℕ)))) (all : List (Stretch (Bor (List ℕ)))) (spans : List Span) (old one two : List ℕ) → spans ≡ leaderless 0 stop all
+    → one ≡ old ++ flat_map (λ t. term_line stop (shown t)) ts → two ≡ one ++ flat_map span_line spans → two ≡ old ++ told_terms stop (map shown ts) (map stretch_shown all)
 unfolding told_terms
-terms-told stop ts spans old one two are terms then =
-    added old one two (flat_map (term_line stop) (map shown ts)) (flat_map span_line (leaderless 0 stop (map shown ts)))
+terms-told stop ts all spans old one two are terms then =
+    added old one two (flat_map (term_line stop) (map shown ts)) (flat_map span_line (leaderless 0 stop (map stretch_shown all)))
     (terms ∙ ap (λ t. old ++ t) (sym (flat-shown (term_line stop) ts)))
-    (then ∙ ap (λ s. one ++ flat_map span_line s) (are ∙ sym (leaderless-shown 0 stop ts)))
+    (then ∙ ap (λ s. one ++ flat_map span_line s) (are ∙ sym (leaderless-shown 0 stop all)))
 
 -- the line on an overlap
-pub overlap-told : (stop line : ℕ) (ts : List (Term (Bor (List ℕ)))) (found : Option (Term (Bor (List ℕ)))) (old one two : List ℕ) → found ≡ first (begins_at line) ts
-    → one ≡ old ++ (codes "overlap line=" ++ decimal line) → two ≡ one ++ who_text stop (map shown ts) (option_map shown found) → two ≡ old ++ overlap_line stop (map shown ts) line
+pub overlap-told : (all : List (Stretch (Bor (List ℕ)))) (s : Stretch (Bor (List ℕ))) (found : Option (Stretch (Bor (List ℕ)))) (old one two three four five : List ℕ)
+    → found ≡ first (λ other. crosses (stretch_shown s) (stretch_shown other)) all
+    → one ≡ old ++ (codes "overlap line=" ++ decimal s.line) → two ≡ one ++ (codes " from=" ++ decimal s.from) → three ≡ two ++ codes " who=" → four ≡ three ++ s.actor.now
+    → five ≡ four ++ beside_text (option_map stretch_shown found)
+    → five ≡ old ++ overlap_line (map stretch_shown all) (stretch_shown s)
 unfolding overlap_line
-overlap-told stop line ts found old one two is label then =
-    added old one two (codes "overlap line=" ++ decimal line) (who_text stop (map shown ts) (first (begins_at line) (map shown ts))) label
-    (then ∙ ap (λ o. one ++ who_text stop (map shown ts) o) (ap (λ o. option_map shown o) is ∙ sym (first-shown (begins_at line) ts)))
-    ∙ ap (λ t. old ++ t) (append_assoc (codes "overlap line=") (decimal line) (who_text stop (map shown ts) (first (begins_at line) (map shown ts))))
-
--- whom the term crosses
-pub beside-told : (stop : ℕ) (ts : List (Term (Bor (List ℕ)))) (t : Term (Bor (List ℕ))) (found : Option (Term (Bor (List ℕ)))) (old one two three four : List ℕ)
-    → found ≡ first (λ other. crosses stop (shown t) (shown other)) ts
-    → one ≡ old ++ (codes " from=" ++ decimal t.from) → two ≡ one ++ codes " who=" → three ≡ two ++ t.actor.now → four ≡ three ++ beside_text (option_map shown found)
-    → four ≡ old ++ who_text stop (map shown ts) (Some (shown t))
-beside-told stop ts t found old one two three four is from who actor then =
-    let beside = first (crosses stop (shown t)) (map shown ts) in
-    let last : four ≡ three ++ beside_text beside = then ∙ ap (λ o. three ++ beside_text o) (ap (λ o. option_map shown o) is ∙ sym (first-shown (crosses stop (shown t)) ts)) in
-    let label = codes " from=" ++ decimal t.from in
-    let after_who : two ≡ old ++ (label ++ codes " who=") = added old one two label (codes " who=") from who in
-    let after_actor : three ≡ old ++ (label ++ codes " who=" ++ t.actor.now) = added old two three (label ++ codes " who=") t.actor.now after_who actor in
-    added old three four (label ++ codes " who=" ++ t.actor.now) (beside_text beside) after_actor last
+overlap-told all s found old one two three four five is line from who actor then =
+    let beside = first (crosses (stretch_shown s)) (map stretch_shown all) in
+    let label = codes "overlap line=" ++ decimal s.line in
+    let beat = codes " from=" ++ decimal s.from in
+    let last : five ≡ four ++ beside_text beside = then ∙ ap (λ o. four ++ beside_text o) (ap (λ o. option_map stretch_shown o) is ∙ sym (first-shown (crosses (stretch_shown s)) all)) in
+    let to_two : two ≡ old ++ (label ++ beat) = added old one two label beat line from in
+    let to_three : three ≡ old ++ ((label ++ beat) ++ codes " who=") = added old two three (label ++ beat) (codes " who=") to_two who in
+    let to_four : four ≡ old ++ (((label ++ beat) ++ codes " who=") ++ s.actor.now) = added old three four ((label ++ beat) ++ codes " who=") s.actor.now to_three actor in
+    let to_five : five ≡ old ++ ((((label ++ beat) ++ codes " who=") ++ s.actor.now) ++ beside_text beside)
+    = added old four five (((label ++ beat) ++ codes " who=") ++ s.actor.now) (beside_text beside) to_four last in
+    to_five ∙ ap (λ t. old ++ (((t ++ codes " who=") ++ s.actor.now) ++ beside_text beside)) (sym (append_assoc label (codes " from=") (decimal s.from)))
 
 -- the line on a span
 pub span-told : (s : Span) (old one two three four five : List ℕ) → one ≡ old ++ codes "nobody from=" → two ≡ one ++ decimal s.from → three ≡ two ++ codes " until="

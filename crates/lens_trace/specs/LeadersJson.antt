@@ -11,9 +11,12 @@ use Rattle.lens_terms.specs.declared.closing.Closing.{Closing}
 use Rattle.lens_terms.specs.declared.closing.Ending.{Ending}
 use Rattle.lens_terms.specs.declared.closing.Ending.TheVariants.{End, Stop, Crash}
 use Rattle.lens_terms.specs.declared.span.Span.{Span}
+use Rattle.lens_terms.specs.declared.stretch.Stretch.{Stretch}
 use Rattle.lens_terms.specs.declared.term.Term.{Term}
+use Rattle.lens_terms.specs.Acting.{acting}
 use Rattle.lens_terms.specs.Spans.{leaderless}
-use Rattle.lens_terms.specs.Terms.{terms, until, first, begins_at, crosses}
+use Rattle.lens_terms.specs.Terms.{terms, until}
+use Rattle.lens_terms.specs.Together.{overlap, first, crosses}
 use Rattle.lens_trace.specs.Traces.{trace_reply}
 use Rattle.trace_lines.specs.declared.header.Header.{Header}
 use Rattle.trace_lines.specs.declared.line.Line.{Line}
@@ -34,46 +37,42 @@ abbrev pub term_members : ℕ → Term (List ℕ) → List Named
 term_members stop t =
     text (codes "leader") t.actor ∷ nat (codes "from") t.from ∷ nat (codes "until") (until stop t) ∷ text (codes "ended") (ended t.closing) ∷ []
 
--- a span in which nobody leads
+-- a span in which nobody acts
 abbrev pub span_members : Span → List Named
 span_members s = nat (codes "from") s.from ∷ nat (codes "until") s.until ∷ []
 
-abbrev pub beside : Option (Term (List ℕ)) → List Named
+abbrev pub beside : Option (Stretch (List ℕ)) → List Named
 beside None = []
 beside (Some other) = text (codes "beside") other.actor ∷ []
 
-abbrev pub who : ℕ → List (Term (List ℕ)) → Option (Term (List ℕ)) → List Named
-who stop ts None = []
-who stop ts (Some t) = nat (codes "from") t.from ∷ text (codes "who") t.actor ∷ beside (first (crosses stop t) ts)
+-- the first stretch in which a leader acts that begins while another one acts
+abbrev pub overlap_members : List (Stretch (List ℕ)) → Stretch (List ℕ) → List Named
+overlap_members all s = nat (codes "line") s.line ∷ nat (codes "from") s.from ∷ text (codes "who") s.actor ∷ beside (first (crosses s) all)
 
--- the first `lead` of an identity while another one leads
-abbrev pub overlap_members : ℕ → List (Term (List ℕ)) → ℕ → List Named
-overlap_members stop ts line = nat (codes "line") line ∷ who stop ts (first (begins_at line) ts)
-
-abbrev pub overlap_data : ℕ → List (Term (List ℕ)) → Option ℕ → Data
-overlap_data stop ts None = null
-overlap_data stop ts (Some line) = object_of (overlap_members stop ts line)
+abbrev pub overlap_data : List (Stretch (List ℕ)) → Option (Stretch (List ℕ)) → Data
+overlap_data all None = null
+overlap_data all (Some s) = object_of (overlap_members all s)
 
 -- ---- the answer
 
-abbrev pub leaders_members : ℕ → Option ℕ → List (Term (List ℕ)) → List Named
-leaders_members stop overlap ts =
-    (codes "terms", list_of (map (term_members stop) ts)) ∷ (codes "nobody", list_of (map span_members (leaderless 0 stop ts)))
-    ∷ (codes "overlap", overlap_data stop ts overlap) ∷ []
+abbrev pub leaders_members : ℕ → List (Term (List ℕ)) → List (Stretch (List ℕ)) → List Named
+leaders_members stop ts all =
+    (codes "terms", list_of (map (term_members stop) ts)) ∷ (codes "nobody", list_of (map span_members (leaderless 0 stop all)))
+    ∷ (codes "overlap", overlap_data all (overlap all)) ∷ []
 
-unfoldable pub leaders_json : ℕ → Option ℕ → List (Term (List ℕ)) → List ℕ
-leaders_json stop overlap ts = compact_text (object_of (leaders_members stop overlap ts))
+unfoldable pub leaders_json : ℕ → List (Term (List ℕ)) → List (Stretch (List ℕ)) → List ℕ
+leaders_json stop ts all = compact_text (object_of (leaders_members stop ts all))
 
-abbrev pub verdict_by : Option ℕ → Verdict
+abbrev pub verdict_by : Option (Stretch (List ℕ)) → Verdict
 verdict_by None = Safe
-verdict_by (Some line) = Unsafe
+verdict_by (Some s) = Unsafe
 
-abbrev pub told : ℕ → Option ℕ → List (Term (List ℕ)) → Reply
-told stop overlap ts = record { verdict = verdict_by overlap; text = leaders_json stop overlap ts ++ codes "\n" }
+abbrev pub told : ℕ → List (Term (List ℕ)) → List (Stretch (List ℕ)) → Reply
+told stop ts all = record { verdict = verdict_by (overlap all); text = leaders_json stop ts all ++ codes "\n" }
 
 -- of a trace of this first line, whose last beat is the one before `end + 1`
-abbrev pub leaders : Header → Option ℕ → List (Line (List ℕ)) → Reply
-leaders header overlap ls = told (header.end + 1) overlap (terms 2 ls)
+abbrev pub leaders : Header → List (Line (List ℕ)) → Reply
+leaders header ls = told (header.end + 1) (terms 2 ls) (acting (header.end + 1) ls)
 
 -- what a text is answered
 abbrev pub leaders_reply : List ℕ → Reply

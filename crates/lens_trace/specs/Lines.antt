@@ -29,4 +29,4 @@ objects header ls = record { verdict = Done; text = told header ls }
 
 -- what a text is answered
 abbrev pub lines_reply : List ℕ → Reply
-lines_reply = trace_reply (λ header overlap ls. objects header ls)
+lines_reply = trace_reply objects

@@ -9,13 +9,12 @@ use Rattle.trace_lines.specs.Headers.{header_of}
 use Rattle.trace_lines.specs.declared.header.Header.{Header}
 use Rattle.trace_lines.specs.declared.line.Line.{Line}
 use Rattle.lens_trace.specs.declared.judging.Judged.{Judged}
-use Rattle.lens_trace.specs.declared.judging.Judged.TheVariants.{Wrong, Overlaps, OneAtATime}
+use Rattle.lens_trace.specs.declared.judging.Judged.TheVariants.{Wrong, IsTrace}
 use Rattle.lens_trace.specs.Judged.{judged_by}
 
--- what is told of a trace of this first line, by the line of the first `lead` of an identity while another one leads, if there is one, and by
--- the lines behind the first
+-- what is told of a trace of this first line and the lines behind it
 abbrev pub Tells : Type 0
-Tells = Header → Option ℕ → List (Line (List ℕ)) → Reply
+Tells = Header → List (Line (List ℕ)) → Reply
 
 -- a wrong line is refused as `audit` does
 abbrev pub wrong_line : ℕ → Reply
@@ -23,8 +22,7 @@ wrong_line line = refusal 40 (codes "/" ++ decimal line)
 
 abbrev pub answer_by : Tells → Judged → Header → List (Line (List ℕ)) → Reply
 answer_by told (Wrong line) header ls = wrong_line line
-answer_by told (Overlaps line) header ls = told header (Some line) ls
-answer_by told OneAtATime header ls = told header None ls
+answer_by told IsTrace header ls = told header ls
 
 abbrev pub answer_behind : Tells → Judged → Option Header → List ℕ → Reply
 answer_behind told judged None rest = refusal 40 (codes "/1")

@@ -1,5 +1,5 @@
 // The answer to a trace's text.
-ghost use Rattle.std.specs.Prelude.{◌≡◌, ◌≤◌, ℕ, List, Option, IfOk, map, filter_map};
+ghost use Rattle.std.specs.Prelude.{◌≡◌, ◌≤◌, IfOk, map, filter_map};
 ghost use Rattle.lens_edge.specs.Outcome.{Reply, reply_of};
 ghost use Rattle.trace_audit.specs.Entries.{lines_of};
 ghost use Rattle.trace_lines.specs.Forms.{line_of};
@@ -21,17 +21,10 @@ pub trait Telling {
     /// What it is.
     ghost told: { Self → Tells };
 
-    /// Tells it of a trace of this first line and the lines behind it, of which one may be the first `lead` of an identity while another one
-    /// leads.
-    fn tell(
-        &self,
-        alloc: Global,
-        header: Header,
-        overlap: Option<u64>,
-        lines: &[Line<&[u8]>],
-    ) -> Result<Answer, NoMemory>
+    /// Tells it of a trace of this first line and the lines behind it.
+    fn tell(&self, alloc: Global, header: Header, lines: &[Line<&[u8]>]) -> Result<Answer, NoMemory>
         requires { header.end ≤ 604800000 }
-        ensures { IfOk result (λ answer. reply_of answer ≡ told self.now header overlap (map seen lines.now)) };
+        ensures { IfOk result (λ answer. reply_of answer ≡ told self.now header (map seen lines.now)) };
 }
 
 /// What is told of the trace that this text is, or its refusal.
@@ -64,8 +57,7 @@ fn answer_behind<T: Telling>(
     let lines = read_lines(alloc, rest)?;
     match judged {
         Judged::Wrong(line) => refuse_line(alloc, line),
-        Judged::Overlaps(line) => telling.tell(alloc, header, Some(line), &lines),
-        Judged::OneAtATime => telling.tell(alloc, header, None, &lines),
+        Judged::IsTrace => telling.tell(alloc, header, &lines),
     }
 }
 

@@ -1,21 +1,19 @@
-// What `audit` says of a text's form and of its leaders.
+// What `audit` says of a text's form.
 ghost use Rattle.std.specs.Prelude.{◌≡◌, IfOk};
 ghost use Rattle.trace_audit.specs.Verdict.{verdict};
 ghost use Rattle.lens_trace.specs.Judged as spec;
 
 use kube_base::NoMemory;
 use std::alloc::Global;
-use trace_audit::{AuditFault, BAD_TRACE, OVERLAP, audit};
+use trace_audit::{AuditFault, BAD_TRACE, audit};
 
-/// What `audit` says of a text's form and of its leaders.
+/// What `audit` says of a text's form.
 #[derive(Clone, Copy)]
 pub enum Judged {
     /// This line is wrong or missing.
     Wrong(u64),
-    /// It is a trace, in which this line is the first `lead` of an identity while another one leads.
-    Overlaps(u64),
-    /// It is a trace, in which never two identities lead at one beat.
-    OneAtATime,
+    /// It is a trace.
+    IsTrace,
 }
 
 /// What `audit` says of a text.
@@ -23,7 +21,7 @@ pub fn judge(alloc: Global, text: &[u8]) -> Result<Judged, NoMemory>
     ensures { IfOk result (λ judged. judged ≡ spec.judged_by (verdict text.now)) }
 {
     match audit(alloc, text) {
-        Ok(_) => Ok(Judged::OneAtATime),
+        Ok(_) => Ok(Judged::IsTrace),
         Err(AuditFault::Refused(code, line)) => Ok(by_code(code, line)),
         Err(AuditFault::NoMemory) => Err(NoMemory),
     }
@@ -34,9 +32,7 @@ fn by_code(code: u32, line: u64) -> Judged
 {
     if code == BAD_TRACE {
         Judged::Wrong(line)
-    } else if code == OVERLAP {
-        Judged::Overlaps(line)
     } else {
-        Judged::OneAtATime
+        Judged::IsTrace
     }
 }

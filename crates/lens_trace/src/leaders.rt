@@ -2,27 +2,34 @@
 ghost use Rattle.std.specs.Prelude.{◌≡◌, ◌++◌, ◌≤◌, IfOk, OnOk, Some, map, decimal};
 ghost use Rattle.std.specs.List.{flat_map};
 ghost use Rattle.lens_edge.specs.Outcome.{reply_of};
+ghost use Rattle.lens_terms.specs.Acting.{shown as stretch_shown};
 ghost use Rattle.lens_terms.specs.Terms.{shown};
+ghost use Rattle.lens_terms.specs.Together.{overlap as overlap_in};
 ghost use Rattle.trace_lines.specs.Reads.{seen};
 ghost use Rattle.lens_trace.specs.Agree.{TermsAreAudited};
-ghost use Rattle.lens_trace.specs.Beats.{SpansAreLeaderless};
+ghost use Rattle.lens_trace.specs.Beats.{SpansAreLeaderless, StretchesAreActs};
 ghost use Rattle.lens_trace.specs.Leaders as spec;
 
 use crate::answering::{Telling, answer_on};
 use kube_base::NoMemory;
 use lens_edge::{Answer, Verdict};
-use lens_terms::{Closing, Ending, Span, Term, crossing, leaderless, term_at, terms_of};
+use lens_terms::{
+    Closing, Ending, Span, Stretch, Term, crossing, leaderless, overlap, stretches_of, terms_of,
+};
 use std::alloc::Global;
 use trace_lines::{Header, Line};
 use trace_writer::{add, add_number};
 
-/// The terms of the trace that these bytes are, the spans in which nobody leads, and whether two ever lead at once; or its refusal.
+/// The terms of the trace that these bytes are, the spans in which nobody acts, and whether two ever act at once; or its refusal.
 pub fn leaders_in(alloc: Global, input: &[u8]) -> Result<Answer, NoMemory>
     ensures reply { IfOk result (λ answer. reply_of answer ≡ spec.leaders_reply input.now) }
 
-    // The terms told of a trace are those by which `audit` judges it, and a beat lies in one of the spans exactly where nobody leads.
+    // The terms told of a trace are those by which `audit` judges it, and a beat lies in one of the spans exactly where nobody acts.
     ensures terms { TermsAreAudited }
     ensures spans { SpansAreLeaderless }
+
+    // A beat lies in a stretch of an identity exactly where it leads and no pause of it has it stand still.
+    ensures acts { StretchesAreActs }
 {
     answer_on(alloc, &Leaders, input)
 }
@@ -31,75 +38,65 @@ pub fn leaders_in(alloc: Global, input: &[u8]) -> Result<Answer, NoMemory>
 struct Leaders;
 
 impl Telling for Leaders {
-    ghost told = { λ leaders header overlap ls. spec.leaders header overlap ls };
+    ghost told = { λ leaders header ls. spec.leaders header ls };
 
     fn tell(
         &self,
         alloc: Global,
         header: Header,
-        overlap: Option<u64>,
         lines: &[Line<&[u8]>],
     ) -> Result<Answer, NoMemory> {
-        tell(alloc, header, overlap, lines)
+        tell(alloc, header, lines)
     }
 }
 
-/// Who leads in a trace, when nobody does, and whether two ever do at once.
-fn tell(
-    alloc: Global,
-    header: Header,
-    overlap: Option<u64>,
-    lines: &[Line<&[u8]>],
-) -> Result<Answer, NoMemory>
+/// Who leads in a trace, when nobody acts, and whether two ever do at once.
+fn tell(alloc: Global, header: Header, lines: &[Line<&[u8]>]) -> Result<Answer, NoMemory>
     requires { header.end ≤ 604800000 }
-    ensures { IfOk result (λ answer. reply_of answer ≡ spec.leaders header overlap (map seen lines.now)) }
+    ensures { IfOk result (λ answer. reply_of answer ≡ spec.leaders header (map seen lines.now)) }
 {
+    let stop = header.end + 1;
     let found = terms_of(alloc, lines)?;
-    match overlap {
-        Some(line) => overlapping(alloc, header.end + 1, &found, line),
-        None => one_at_a_time(alloc, header.end + 1, &found),
+    let acting = stretches_of(alloc, stop, lines)?;
+    let mut text = Vec::new(alloc);
+    add_terms(&mut text, alloc, stop, &found, &acting)?;
+    judged(text, &acting)
+}
+
+/// These lines and the last one behind them, which tells where two act at once.
+fn judged(lines: Vec<u8>, acting: &[Stretch<&[u8]>]) -> Result<Answer, NoMemory>
+    ensures { IfOk result (λ answer. reply_of answer ≡ spec.judged lines.items (map stretch_shown acting.now) (overlap_in (map stretch_shown acting.now))) }
+{
+    let mut text = lines;
+    match overlap(acting) {
+        Some(stretch) => {
+            add_overlap(&mut text, acting, stretch)?;
+            Ok(Answer {
+                verdict: Verdict::Unsafe,
+                text,
+            })
+        }
+        None => {
+            add(&mut text, b"one at a time\n")?;
+            Ok(Answer {
+                verdict: Verdict::Safe,
+                text,
+            })
+        }
     }
 }
 
-fn overlapping(
-    alloc: Global,
-    stop: u32,
-    found: &[Term<&[u8]>],
-    line: u64,
-) -> Result<Answer, NoMemory>
-    ensures { IfOk result (λ answer. reply_of answer ≡ spec.overlapping stop (map shown found.now) line) }
-{
-    let mut text = Vec::new(alloc);
-    add_terms(&mut text, alloc, stop, found)?;
-    add_overlap(&mut text, stop, found, line)?;
-    Ok(Answer {
-        verdict: Verdict::Unsafe,
-        text,
-    })
-}
-
-fn one_at_a_time(alloc: Global, stop: u32, found: &[Term<&[u8]>]) -> Result<Answer, NoMemory>
-    ensures { IfOk result (λ answer. reply_of answer ≡ spec.one_at_a_time stop (map shown found.now)) }
-{
-    let mut text = Vec::new(alloc);
-    add_terms(&mut text, alloc, stop, found)?;
-    add(&mut text, b"one at a time\n")?;
-    Ok(Answer {
-        verdict: Verdict::Safe,
-        text,
-    })
-}
-
-/// Adds a line for each term, and for each span in which nobody leads.
+/// Adds a line for each term, and for each span in which nobody acts.
 fn add_terms(
     text: &mut Vec<u8>,
     alloc: Global,
     stop: u32,
     found: &[Term<&[u8]>],
+    acting: &[Stretch<&[u8]>],
 ) -> Result<(), NoMemory>
-    ensures { OnOk result (text.new.items ≡ text.old.items ++ spec.told_terms stop (map shown found.now)) }
+    ensures { OnOk result (text.new.items ≡ text.old.items ++ spec.told_terms stop (map shown found.now) (map stretch_shown acting.now)) }
 {
-    let spans = leaderless(alloc, stop, found)?;
+    let spans = leaderless(alloc, stop, acting)?;
     add_each(text, stop, found)?;
     add_spans(text, &spans)
 }
@@ -165,41 +162,26 @@ fn add_span(text: &mut Vec<u8>, span: Span) -> Result<(), NoMemory>
     add(text, b"\n")
 }
 
-/// Adds the line on the first `lead` of an identity while another one leads.
+/// Adds the line on the first stretch that begins while another identity acts.
 fn add_overlap(
     text: &mut Vec<u8>,
-    stop: u32,
-    found: &[Term<&[u8]>],
-    line: u64,
+    acting: &[Stretch<&[u8]>],
+    stretch: &Stretch<&[u8]>,
 ) -> Result<(), NoMemory>
-    ensures { OnOk result (text.new.items ≡ text.old.items ++ spec.overlap_line stop (map shown found.now) line) }
+    ensures { OnOk result (text.new.items ≡ text.old.items ++ spec.overlap_line (map stretch_shown acting.now) (stretch_shown stretch.now)) }
 {
-    add_count(text, b"overlap line=", line)?;
-    match term_at(found, line) {
-        Some(term) => add_who(text, stop, found, term),
-        None => add(text, b"\n"),
-    }
-}
-
-fn add_who(
-    text: &mut Vec<u8>,
-    stop: u32,
-    found: &[Term<&[u8]>],
-    term: &Term<&[u8]>,
-) -> Result<(), NoMemory>
-    ensures { OnOk result (text.new.items ≡ text.old.items ++ spec.who_text stop (map shown found.now) (Some (shown term.now))) }
-{
-    add_count(text, b" from=", u64::from(term.from))?;
+    add_count(text, b"overlap line=", stretch.line)?;
+    add_count(text, b" from=", u64::from(stretch.from))?;
     add(text, b" who=")?;
-    add(text, term.actor)?;
-    match crossing(stop, found, term) {
+    add(text, stretch.actor)?;
+    match crossing(acting, stretch) {
         Some(other) => add_beside(text, other),
         None => add(text, b"\n"),
     }
 }
 
-fn add_beside(text: &mut Vec<u8>, other: &Term<&[u8]>) -> Result<(), NoMemory>
-    ensures { OnOk result (text.new.items ≡ text.old.items ++ spec.beside_text (Some (shown other.now))) }
+fn add_beside(text: &mut Vec<u8>, other: &Stretch<&[u8]>) -> Result<(), NoMemory>
+    ensures { OnOk result (text.new.items ≡ text.old.items ++ spec.beside_text (Some (stretch_shown other.now))) }
 {
     add(text, b" beside=")?;
     add(text, other.actor)?;

@@ -77,7 +77,9 @@ def main() -> int:
     except (KubeReplayError, OSError, ValueError) as fault:
         print(f'hunt: {fault}', file=sys.stderr)
     except ImportError as fault:
-        print(f'hunt: it needs Hypothesis (apt install python3-hypothesis, or pip install hypothesis): {fault}', file=sys.stderr)
+        if (fault.name or '').split('.')[0] != 'hypothesis':
+            raise
+        print("hunt: a hunt needs Hypothesis, which isn't installed: apt install python3-hypothesis, or pip install hypothesis", file=sys.stderr)
     return WRONG
 
 

@@ -58,17 +58,20 @@ def read_time(text: str) -> datetime:
 
 
 def nobody_leads(run: Run) -> float | None:
-    """The longest span in which nobody leads."""
+    """The longest span in which nobody acts as the leader."""
     return max((span.beats for span in run.trace.leaderless()), default=None)
 
 
 def failover(run: Run) -> float | None:
-    """The longest such span after somebody has led."""
-    return max((span.beats for span in run.trace.leaderless() if span.first_beat > 0), default=None)
+    """The longest such span from one leader to the next. Where nobody leads at the end there is none, and a sweep says `never`."""
+    spans = run.trace.leaders()
+    if spans[-1].leaders == 0:
+        return None
+    return max((span.beats for span in spans if span.leaders == 0 and span.first_beat > 0), default=None)
 
 
 def two_lead(run: Run) -> float | None:
-    """How many beats two or more lead at once."""
+    """How many beats two or more act as the leader at once."""
     return sum(span.beats for span in run.trace.two_leaders()) or None
 
 
@@ -145,7 +148,7 @@ MEASURES: dict[str, Measure] = {
     measure.name: measure
     for measure in (
         Measure('nobody-leads', 'the longest time in which nobody leads', 'beats', nobody_leads),
-        Measure('failover', 'the longest time in which nobody leads, after somebody has led', 'beats', failover),
+        Measure('failover', 'the longest time from one leader to the next; a trace that ends without one has none', 'beats', failover),
         Measure('two-lead', 'for how long two or more lead at once', 'beats', two_lead, nearness_of_two_leaders),
         Measure(
             'healthy-evicted', 'pods evicted from nodes whose kubelet was up all the time', 'pods', healthy_evicted, nearness_of_eviction

@@ -2,6 +2,7 @@
 ghost use Rattle.std.specs.Prelude.{◌≡◌, ◌+◌, ◌≤◌, IfOk, map};
 ghost use Rattle.lens_edge.specs.Outcome.{reply_of};
 ghost use Rattle.lens_json.specs.Parts.{part_of};
+ghost use Rattle.lens_terms.specs.Acting.{shown as stretch_shown};
 ghost use Rattle.lens_terms.specs.Terms.{shown};
 ghost use Rattle.lens_trace.specs.Traces.{trace_reply};
 ghost use Rattle.script_reader.specs.Documents.{doc_of};
@@ -21,7 +22,7 @@ use kube_base::NoMemory;
 use lens_edge::{Answer, Verdict, refuse, refuse_as};
 use lens_json::{Part, What, add_parts};
 use lens_summary::figures::parts;
-use lens_terms::{Term, terms_of};
+use lens_terms::{Stretch, Term, stretches_of, terms_of};
 use lens_trace::{Telling, answer_on};
 use manifest_json::ReadFault;
 use script_reader::{Document, read_document};
@@ -73,36 +74,35 @@ pub(crate) struct Figures<'a> {
 }
 
 impl Telling for Figures<'_> {
-    ghost told = { λ figures header overlap ls. spec.figures figures.document.now header overlap ls };
+    ghost told = { λ figures header ls. spec.figures figures.document.now header ls };
 
     fn tell(
         &self,
         alloc: Global,
         header: Header,
-        overlap: Option<u64>,
         lines: &[Line<&[u8]>],
     ) -> Result<Answer, NoMemory> {
         if header.beat_millis == self.document.settings.beat_millis {
-            tell(alloc, self, header, overlap, lines)
+            tell(alloc, self, header, lines)
         } else {
             refuse(alloc, OTHER_DOCUMENT, b"/1")
         }
     }
 }
 
-/// The object on some lines, of which one may be the first `lead` of an identity while another one leads.
+/// The object on some lines.
 fn tell(
     alloc: Global,
     figures: &Figures<'_>,
     header: Header,
-    overlap: Option<u64>,
     lines: &[Line<&[u8]>],
 ) -> Result<Answer, NoMemory>
     requires { header.end ≤ 604800000 }
-    ensures { IfOk result (λ answer. reply_of answer ≡ spec.told figures.now.document.now header overlap (map seen lines.now)) }
+    ensures { IfOk result (λ answer. reply_of answer ≡ spec.told figures.now.document.now header (map seen lines.now)) }
 {
     let found = terms_of(alloc, lines)?;
-    let parts = late_parts(alloc, figures, header, overlap, &found, lines)?;
+    let acting = stretches_of(alloc, header.end + 1, lines)?;
+    let parts = late_parts(alloc, figures, header, &found, &acting, lines)?;
     let mut text = Vec::new(alloc);
     add_parts(&mut text, &parts)?;
     add(&mut text, b"\n")?;
@@ -117,16 +117,16 @@ fn late_parts<'a>(
     alloc: Global,
     figures: &Figures<'_>,
     header: Header,
-    overlap: Option<u64>,
     found: &[Term<&'a [u8]>],
+    acting: &[Stretch<&'a [u8]>],
     lines: &[Line<&'a [u8]>],
 ) -> Result<[Part<'a>; 7], NoMemory>
     requires { header.end ≤ 604800000 }
     ensures { IfOk result (λ parts. map part_of parts
-        ≡ spec.late_figures figures.now.document.now header overlap (header.end + 1) (map shown found.now) (map seen lines.now)) }
+        ≡ spec.late_figures figures.now.document.now header (header.end + 1) (map shown found.now) (map stretch_shown acting.now) (map seen lines.now)) }
 {
     let evictions = late_objects(alloc, figures.document, figures.clocks, lines)?;
-    let mut members = parts(alloc, header, overlap, found, lines)?;
+    let mut members = parts(alloc, header, found, acting, lines)?;
     members[EVICTIONS] = Part {
         name: b"evictions",
         what: What::List(evictions),

@@ -2,6 +2,7 @@
 ghost use Rattle.std.specs.Prelude.{◌≡◌, ◌+◌, ◌≤◌, IfOk, map};
 ghost use Rattle.lens_edge.specs.Outcome.{reply_of};
 ghost use Rattle.lens_json.specs.Parts.{part_of, what_of};
+ghost use Rattle.lens_terms.specs.Acting.{shown as stretch_shown};
 ghost use Rattle.lens_terms.specs.Terms.{shown};
 ghost use Rattle.trace_lines.specs.Reads.{seen};
 ghost use Rattle.lens_summary.specs.Figures as spec;
@@ -10,12 +11,11 @@ use crate::figures::leaders::{header_members, span_members, terms_in};
 use crate::figures::lines::objects_in;
 use crate::figures::totals::totals_in;
 use crate::subject::Subject;
-use crate::summary::premise_word;
-use crate::together::beats_of_two;
+use crate::summary::{overlap_line, premise_word};
 use kube_base::NoMemory;
 use lens_edge::{Answer, Verdict};
 use lens_json::{Object, Part, What, add_parts};
-use lens_terms::{Term, leaderless, terms_of};
+use lens_terms::{Stretch, Term, beats_of_two, leaderless, stretches_of, terms_of};
 use lens_trace::{Telling, answer_on};
 use std::alloc::Global;
 use trace_lines::{Header, Line};
@@ -32,31 +32,26 @@ pub fn figures_of(alloc: Global, input: &[u8]) -> Result<Answer, NoMemory>
 struct Figures;
 
 impl Telling for Figures {
-    ghost told = { λ figures header overlap ls. spec.figures header overlap ls };
+    ghost told = { λ figures header ls. spec.figures header ls };
 
     fn tell(
         &self,
         alloc: Global,
         header: Header,
-        overlap: Option<u64>,
         lines: &[Line<&[u8]>],
     ) -> Result<Answer, NoMemory> {
-        tell(alloc, header, overlap, lines)
+        tell(alloc, header, lines)
     }
 }
 
-/// The object on some lines, of which one may be the first `lead` of an identity while another one leads.
-fn tell(
-    alloc: Global,
-    header: Header,
-    overlap: Option<u64>,
-    lines: &[Line<&[u8]>],
-) -> Result<Answer, NoMemory>
+/// The object on some lines.
+fn tell(alloc: Global, header: Header, lines: &[Line<&[u8]>]) -> Result<Answer, NoMemory>
     requires { header.end ≤ 604800000 }
-    ensures { IfOk result (λ answer. reply_of answer ≡ spec.figures header overlap (map seen lines.now)) }
+    ensures { IfOk result (λ answer. reply_of answer ≡ spec.figures header (map seen lines.now)) }
 {
     let found = terms_of(alloc, lines)?;
-    let parts = parts(alloc, header, overlap, &found, lines)?;
+    let acting = stretches_of(alloc, header.end + 1, lines)?;
+    let parts = parts(alloc, header, &found, &acting, lines)?;
     let mut text = Vec::new(alloc);
     add_parts(&mut text, &parts)?;
     add(&mut text, b"\n")?;
@@ -66,24 +61,25 @@ fn tell(
     })
 }
 
-/// The members of the object that `summary --json` answers on some lines, by the terms that were found in them. Times are in beats.
+/// The members of the object that `summary --json` answers on some lines, by the terms that were found in them and the stretches in which a
+/// leader acts. Times are in beats.
 #[tactic(auto, using(crate::proofs::StepLaws::leaderless_shown))]
 pub fn parts<'a>(
     alloc: Global,
     header: Header,
-    overlap: Option<u64>,
     found: &[Term<&'a [u8]>],
+    acting: &[Stretch<&'a [u8]>],
     lines: &[Line<&'a [u8]>],
 ) -> Result<[Part<'a>; 7], NoMemory>
     requires { header.end ≤ 604800000 }
     ensures { IfOk result (λ parts. map part_of parts
-        ≡ spec.figure_members header overlap (header.end + 1) (map shown found.now) (map seen lines.now)) }
+        ≡ spec.figure_members header (header.end + 1) (map shown found.now) (map stretch_shown acting.now) (map seen lines.now)) }
 {
     let stop = header.end + 1;
-    let spans = leaderless(alloc, stop, found)?;
-    let beats = beats_of_two(stop, found);
+    let spans = leaderless(alloc, stop, acting)?;
+    let beats = beats_of_two(stop, acting);
     let premise = premise_word(header.premise);
-    let trace = header_members(alloc, header, premise, overlap, beats)?;
+    let trace = header_members(alloc, header, premise, overlap_line(acting), beats)?;
     let terms = terms_in(alloc, stop, found)?;
     let spread = span_members(alloc, &spans)?;
     let zones = objects_in(alloc, Subject::Zones, lines)?;

@@ -1,4 +1,4 @@
-// The trace itself, its terms, and the spans in which nobody leads.
+// The trace itself, its terms, and the spans in which nobody acts.
 ghost use Rattle.std.specs.Prelude.{◌≡◌, IfOk, map};
 ghost use Rattle.lens_json.specs.Members.{data_of, named};
 ghost use Rattle.lens_json.specs.Parts.{members_in};
@@ -86,7 +86,7 @@ fn term_members<'a>(
     Ok(members)
 }
 
-/// The members on the spans in which nobody leads: how many, the longest, and all together.
+/// The members on the spans in which nobody acts: how many, the longest, and all together.
 pub(crate) fn span_members<'a>(alloc: Global, spans: &[Span]) -> Result<Vec<Member<'a>>, NoMemory>
     ensures { IfOk result (λ members. map named members.items ≡ spec.span_members spans.now) }
 {

@@ -2,7 +2,9 @@
 ghost use Rattle.std.specs.Prelude.{◌≡◌, ◌≤◌, IfOk, map};
 ghost use Rattle.lens_edge.specs.Outcome.{reply_of};
 ghost use Rattle.lens_json.specs.Parts.{part_of};
+ghost use Rattle.lens_terms.specs.Acting.{shown as stretch_shown};
 ghost use Rattle.lens_terms.specs.Terms.{shown};
+ghost use Rattle.lens_terms.specs.Together.{overlap as overlap_of};
 ghost use Rattle.trace_lines.specs.Reads.{seen};
 ghost use Rattle.lens_trace.specs.LeadersJson as spec;
 
@@ -11,12 +13,12 @@ use crate::leaders_json::parts::{overlap_in, spans_in, terms_in};
 use kube_base::NoMemory;
 use lens_edge::{Answer, Verdict};
 use lens_json::{Part, What, add_parts};
-use lens_terms::{Term, leaderless, terms_of};
+use lens_terms::{Stretch, Term, leaderless, overlap, stretches_of, terms_of};
 use std::alloc::Global;
 use trace_lines::{Header, Line};
 use trace_writer::add;
 
-/// The terms of the trace that these bytes are, the spans in which nobody leads, and whether two ever lead at once, as one JSON object; or its
+/// The terms of the trace that these bytes are, the spans in which nobody acts, and whether two ever act at once, as one JSON object; or its
 /// refusal.
 pub fn leaders_in(alloc: Global, input: &[u8]) -> Result<Answer, NoMemory>
     ensures { IfOk result (λ answer. reply_of answer ≡ spec.leaders_reply input.now) }
@@ -28,37 +30,33 @@ pub fn leaders_in(alloc: Global, input: &[u8]) -> Result<Answer, NoMemory>
 struct Leaders;
 
 impl Telling for Leaders {
-    ghost told = { λ leaders header overlap ls. spec.leaders header overlap ls };
+    ghost told = { λ leaders header ls. spec.leaders header ls };
 
     fn tell(
         &self,
         alloc: Global,
         header: Header,
-        overlap: Option<u64>,
         lines: &[Line<&[u8]>],
     ) -> Result<Answer, NoMemory> {
-        tell(alloc, header, overlap, lines)
+        tell(alloc, header, lines)
     }
 }
 
-/// The object on a trace, in which two may lead at once from a line on.
+/// The object on a trace.
 #[tactic(auto, unfolding(crate::specs::LeadersJson::leaders_json))]
-fn tell(
-    alloc: Global,
-    header: Header,
-    overlap: Option<u64>,
-    lines: &[Line<&[u8]>],
-) -> Result<Answer, NoMemory>
+fn tell(alloc: Global, header: Header, lines: &[Line<&[u8]>]) -> Result<Answer, NoMemory>
     requires { header.end ≤ 604800000 }
-    ensures { IfOk result (λ answer. reply_of answer ≡ spec.leaders header overlap (map seen lines.now)) }
+    ensures { IfOk result (λ answer. reply_of answer ≡ spec.leaders header (map seen lines.now)) }
 {
+    let stop = header.end + 1;
     let found = terms_of(alloc, lines)?;
-    let parts = parts(alloc, header.end + 1, overlap, &found)?;
+    let acting = stretches_of(alloc, stop, lines)?;
+    let parts = parts(alloc, stop, &found, &acting)?;
     let mut text = Vec::new(alloc);
     add_parts(&mut text, &parts)?;
     add(&mut text, b"\n")?;
     Ok(Answer {
-        verdict: verdict(overlap),
+        verdict: verdict(&acting),
         text,
     })
 }
@@ -68,15 +66,15 @@ fn tell(
 fn parts<'a>(
     alloc: Global,
     stop: u32,
-    overlap: Option<u64>,
     found: &[Term<&'a [u8]>],
+    acting: &[Stretch<&'a [u8]>],
 ) -> Result<[Part<'a>; 3], NoMemory>
-    ensures { IfOk result (λ parts. map part_of parts ≡ spec.leaders_members stop overlap (map shown found.now)) }
+    ensures { IfOk result (λ parts. map part_of parts ≡ spec.leaders_members stop (map shown found.now) (map stretch_shown acting.now)) }
 {
-    let spans = leaderless(alloc, stop, found)?;
+    let spans = leaderless(alloc, stop, acting)?;
     let terms = terms_in(alloc, stop, found)?;
     let nobody = spans_in(alloc, &spans)?;
-    let what = overlap_in(alloc, stop, found, overlap)?;
+    let what = overlap_in(alloc, acting)?;
     Ok([
         Part {
             name: b"terms",
@@ -93,10 +91,10 @@ fn parts<'a>(
     ])
 }
 
-fn verdict(overlap: Option<u64>) -> Verdict
-    ensures { result ≡ spec.verdict_by overlap }
+fn verdict(acting: &[Stretch<&[u8]>]) -> Verdict
+    ensures { result ≡ spec.verdict_by (overlap_of (map stretch_shown acting.now)) }
 {
-    match overlap {
+    match overlap(acting) {
         Some(_) => Verdict::Unsafe,
         None => Verdict::Safe,
     }

@@ -1,13 +1,15 @@
 // The members of the answer.
-ghost use Rattle.std.specs.Prelude.{◌≡◌, ◌++◌, ◌∷◌, [], IfOk, OnOk, Some, map};
+ghost use Rattle.std.specs.Prelude.{◌≡◌, ◌++◌, ◌∷◌, [], IfOk, OnOk, map};
 ghost use Rattle.lens_json.specs.Members.{named};
 ghost use Rattle.lens_json.specs.Parts.{members_in, what_of};
+ghost use Rattle.lens_terms.specs.Acting.{shown as stretch_shown};
 ghost use Rattle.lens_terms.specs.Terms.{shown};
+ghost use Rattle.lens_terms.specs.Together.{overlap as overlap_of};
 ghost use Rattle.lens_trace.specs.LeadersJson as spec;
 
 use kube_base::NoMemory;
 use lens_json::{Member, Object, Value, What};
-use lens_terms::{Closing, Ending, Span, Term, crossing, term_at};
+use lens_terms::{Closing, Ending, Span, Stretch, Term, crossing, overlap};
 use std::alloc::Global;
 
 /// An object for each term.
@@ -61,7 +63,7 @@ fn ending_word(ending: Ending) -> &'static [u8]
     }
 }
 
-/// An object for each span in which nobody leads.
+/// An object for each span in which nobody acts.
 pub(crate) fn spans_in<'a>(alloc: Global, spans: &[Span]) -> Result<Vec<Object<'a>>, NoMemory>
     ensures { IfOk result (λ objects. map members_in objects.items ≡ map spec.span_members spans.now) }
 {
@@ -83,19 +85,17 @@ fn span_members<'a>(alloc: Global, span: Span) -> Result<Vec<Member<'a>>, NoMemo
     Ok(members)
 }
 
-/// The first `lead` of an identity while another one leads, if there is one.
+/// The first stretch that begins while another identity acts, if there is one.
 pub(crate) fn overlap_in<'a>(
     alloc: Global,
-    stop: u32,
-    found: &[Term<&'a [u8]>],
-    overlap: Option<u64>,
+    acting: &[Stretch<&'a [u8]>],
 ) -> Result<What<'a>, NoMemory>
-    ensures { IfOk result (λ what. what_of what ≡ spec.overlap_data stop (map shown found.now) overlap) }
+    ensures { IfOk result (λ what. what_of what ≡ spec.overlap_data (map stretch_shown acting.now) (overlap_of (map stretch_shown acting.now))) }
 {
-    match overlap {
-        Some(line) => {
+    match overlap(acting) {
+        Some(stretch) => {
             let mut members = Vec::new(alloc);
-            add_overlap(&mut members, stop, found, line)?;
+            add_overlap(&mut members, acting, stretch)?;
             Ok(What::Object(Object { members }))
         }
         None => Ok(What::Value(Value::Nothing)),
@@ -104,32 +104,16 @@ pub(crate) fn overlap_in<'a>(
 
 fn add_overlap<'a>(
     members: &mut Vec<Member<'a>>,
-    stop: u32,
-    found: &[Term<&'a [u8]>],
-    line: u64,
+    acting: &[Stretch<&'a [u8]>],
+    stretch: &Stretch<&'a [u8]>,
 ) -> Result<(), NoMemory>
     ensures { OnOk result (map named members.new.items
-        ≡ map named members.old.items ++ spec.overlap_members stop (map shown found.now) line) }
+        ≡ map named members.old.items ++ spec.overlap_members (map stretch_shown acting.now) (stretch_shown stretch.now)) }
 {
-    add(members, Member::number(b"line", line))?;
-    match term_at(found, line) {
-        Some(term) => add_who(members, stop, found, term),
-        None => Ok(()),
-    }
-}
-
-fn add_who<'a>(
-    members: &mut Vec<Member<'a>>,
-    stop: u32,
-    found: &[Term<&'a [u8]>],
-    term: &Term<&'a [u8]>,
-) -> Result<(), NoMemory>
-    ensures { OnOk result (map named members.new.items
-        ≡ map named members.old.items ++ spec.who stop (map shown found.now) (Some (shown term.now))) }
-{
-    add(members, Member::number(b"from", u64::from(term.from)))?;
-    add(members, Member::text(b"who", term.actor))?;
-    match crossing(stop, found, term) {
+    add(members, Member::number(b"line", stretch.line))?;
+    add(members, Member::number(b"from", u64::from(stretch.from)))?;
+    add(members, Member::text(b"who", stretch.actor))?;
+    match crossing(acting, stretch) {
         Some(other) => add(members, Member::text(b"beside", other.actor)),
         None => Ok(()),
     }

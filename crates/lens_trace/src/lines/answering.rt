@@ -28,13 +28,12 @@ pub fn lines_in(alloc: Global, input: &[u8]) -> Result<Answer, NoMemory>
 struct Lines;
 
 impl Telling for Lines {
-    ghost told = { λ lines header overlap ls. spec.objects header ls };
+    ghost told = { λ lines header ls. spec.objects header ls };
 
     fn tell(
         &self,
         alloc: Global,
         header: Header,
-        _overlap: Option<u64>,
         lines: &[Line<&[u8]>],
     ) -> Result<Answer, NoMemory> {
         tell(alloc, header, lines)

@@ -2,4 +2,4 @@ use Rattle.lens_summary.proofs.TogetherLaws.{beats-of-two-counted}
 use Rattle.lens_summary.proofs.summary.summary_of.Goals as goal
 
 pub returns-clause-together : goal.returns-clause-together
-returns-clause-together c end texts right = beats-of-two-counted end texts right
+returns-clause-together c end ls = beats-of-two-counted end ls

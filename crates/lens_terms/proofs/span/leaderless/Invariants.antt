@@ -3,5 +3,5 @@ use Rattle.lens_terms.specs.Spans as spec
 use Rattle.lens_terms.proofs.span.leaderless.Given as goal
 
 -- the spans so far and those of what is left
-abbrev pub invariant-loop-term : goal.invariant-loop-term
-invariant-loop-term l = l.spans.items ++ spec.leaderless l.since l.stop (drop l.term-index l.terms) ≡ spec.leaderless 0 l.stop l.terms
+abbrev pub invariant-loop-stretch : goal.invariant-loop-stretch
+invariant-loop-stretch l = l.spans.items ++ spec.leaderless l.since l.stop (drop l.stretch-index l.found) ≡ spec.leaderless 0 l.stop l.found

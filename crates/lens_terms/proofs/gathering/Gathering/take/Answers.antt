@@ -1,7 +1,7 @@
 use Rattle.std.proofs.Common.{refl, sym, ap, ◌∙◌}
 use Rattle.std.proofs.lemmas.Result.{on_ok_weaker}
 use Rattle.trace_lines.specs.Reads.{seen}
-use Rattle.lens_terms.proofs.TermLaws.{stands-led, stands-ended, stands-kept}
+use Rattle.lens_terms.proofs.TermLaws.{stands-led, stands-ended, stands-paused, stands-kept}
 use Rattle.lens_terms.proofs.gathering.Gathering.take.Goals as goal
 
 pub returns-in_ok-push-in-Leads : goal.returns-in_ok-push-in-Leads
@@ -21,3 +21,6 @@ returns-in-Ends c ls h =
 
 pub returns-in-Keeps : goal.returns-in-Keeps
 returns-in-Keeps c ls h = stands-kept c.args.number (seen c.args.line.now) ls c.args.self.now (sym c.turn_of.ensures ∙ c.in-Keeps.is) h
+
+pub returns-in-Pauses : goal.returns-in-Pauses
+returns-in-Pauses c ls h = stands-paused c.args.number (seen c.args.line.now) ls c.in-Pauses.field-0 c.args.self.now (sym c.turn_of.ensures ∙ c.in-Pauses.is) h
