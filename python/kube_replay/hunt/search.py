@@ -3,6 +3,7 @@ from __future__ import annotations
 
 import time
 from dataclasses import dataclass, field
+from random import Random
 from typing import Any, Callable, Mapping
 
 import hypothesis
@@ -55,19 +56,25 @@ class Store(InMemoryExampleDatabase):
 
 @dataclass
 class Hunt:
-    """A search over one document. `scripts` and `seconds` bound the search; the shrinking after it takes what it needs beyond these."""
+    """A search over one document. `scripts` and `seconds` bound the search; the shrinking after it takes what it needs beyond these. With
+    a seed it tries the same scripts again, where the seconds don't end it."""
 
     document: Mapping[str, Any]
     bounds: Bounds
     measure: Measure
     scripts: int = 20_000
     seconds: float = 60.0
+    seed: int | str | None = None
     tried: int = 0
     worst: float | None = None
     worst_script: Script | None = None
+    best_score: float | None = None
     _store: Store = field(default_factory=Store)
-    _best_score: float | None = None
     _kept: bytes | None = None
+    _random: Random = field(init=False)
+
+    def __post_init__(self) -> None:
+        self._random = Random(self.seed)
 
     def run(self, at_least: float | None = None) -> Found | None:
         """The smallest of the worst scripts that are found. With `at_least` the search ends at the first that is so bad, and the
@@ -79,16 +86,38 @@ class Hunt:
         wanted = self.worst if at_least is None else at_least
         if self.worst_script is None or self.worst is None or wanted is None or self.worst < wanted:
             return None
-        script = self._shrunk(self.worst_script, wanted)
+        script = self.shrunk(self.worst_script, wanted)
         while at_least is None and self.worst > wanted:
             # The shrinking has come across a worse one.
             wanted = self.worst
-            script = self._shrunk(self.worst_script, wanted)
+            script = self.shrunk(self.worst_script, wanted)
+        return self.found(script, wanted)
+
+    def found(self, script: Script, wanted: float) -> Found:
+        """What is told of a script that is so bad."""
         document = document_of(script, self.document)
         return Found(document, script, self.measure.value(Run(document, replay(document))) or wanted, self.tried)
 
+    def search_from(self, first: bytes | None, at_least: float | None) -> bytes | None:
+        """One round that begins with a script as Hypothesis has saved it, or anew; what it has saved of the worst one."""
+        self._begin_from(first)
+        try:
+            self._find(self._is_enough(at_least, time.monotonic() + self.seconds), SEARCHING)
+        except Spent:
+            pass
+        return self.saved()
+
     def _search(self, at_least: float | None, until: float) -> None:
         """Rounds of scripts. Every other one goes on from the worst script so far, and every other one begins anew."""
+        rounds = 0
+        while self._find(self._is_enough(at_least, until), SEARCHING) is None:
+            if self.tried == 0:
+                raise Spent
+            rounds += 1
+            self._begin_from(self.saved() if rounds % 2 else None)
+
+    def _is_enough(self, at_least: float | None, until: float) -> Callable[[Script], bool]:
+        """The condition that ends a search."""
 
         def is_enough(script: Script) -> bool:
             if self.tried >= self.scripts or time.monotonic() > until:
@@ -96,25 +125,20 @@ class Hunt:
             value = self._look_at(script)
             return at_least is not None and value is not None and value >= at_least
 
-        rounds = 0
-        while self._find(is_enough, SEARCHING) is None:
-            if self.tried == 0:
-                raise Spent
-            rounds += 1
-            self._begin_from(self._noted() if rounds % 2 else None)
+        return is_enough
 
-    def _noted(self) -> bytes | None:
+    def saved(self) -> bytes | None:
         """What Hypothesis has saved of the worst script."""
         return self._store.noted or self._kept
 
     def _begin_from(self, first: bytes | None) -> None:
         """The next round begins with this script, or with none."""
-        self._kept, self._store = self._noted(), Store(first)
+        self._kept, self._store = self.saved(), Store(first)
 
     def _find(self, condition: Callable[[Script], bool], phases: tuple[Phase, ...]) -> Script | None:
         """A round of Hypothesis: a script with the condition, or None."""
         settings = hypothesis.settings(
-            max_examples=ROUND,
+            max_examples=min(ROUND, max(1, self.scripts)),
             phases=phases,
             database=self._store,
             deadline=None,
@@ -123,7 +147,7 @@ class Hunt:
             suppress_health_check=list(HealthCheck),
         )
         try:
-            return hypothesis.find(scripts_in(self.bounds), condition, settings=settings, database_key=KEY)
+            return hypothesis.find(scripts_in(self.bounds), condition, settings=settings, random=self._random, database_key=KEY)
         except NoSuchExample:
             return None
 
@@ -136,20 +160,21 @@ class Hunt:
         value = self.measure.value(run)
         score = self.measure.nearness(run) if value is None else float(value)
         hypothesis.target(score)
-        if self._best_score is None or score > self._best_score:
-            self._best_score, self._store.is_noting = score, True
+        if self.best_score is None or score > self.best_score:
+            self.best_score, self._store.is_noting = score, True
             self.worst, self.worst_script = value, script
         return value
 
-    def _shrunk(self, script: Script, wanted: float) -> Script:
-        """The smallest script that is still so bad. A round of shrinking ends after some steps in vain, so there are several."""
+    def shrunk(self, script: Script, wanted: float, first: bytes | None = None) -> Script:
+        """The smallest script that is still so bad. A round of shrinking ends after some steps in vain, so there are several. They begin
+        with the script as Hypothesis has saved it."""
 
         def is_so_bad(script: Script) -> bool:
             value = self._look_at(script)
             return value is not None and value >= wanted
 
         in_vain = 0
-        self._begin_from(self._noted())
+        self._begin_from(first or self.saved())
         for _ in range(MOST_SHRINKINGS):
             smaller = self._find(is_so_bad, SHRINKING)
             in_vain = in_vain + 1 if smaller in (None, script) else 0
