@@ -7,6 +7,7 @@ from __future__ import annotations
 
 import hashlib
 import io
+import logging
 import os
 import pickle
 import re
@@ -25,7 +26,7 @@ from kube_replay.engine import HERE, Engine, Library, Program, find_engine, use
 from kube_replay.errors import KubeReplayError
 
 LOCAL = re.compile(r'local(?::([1-9]\d*))?')
-CONNECT_SECONDS = 30
+CONNECT_SECONDS = 60
 # Dask gives a task up after it was on several workers that were lost (distributed.scheduler.allowed-failures, 3); so often it is handed out.
 MOST_HANDINGS = 20
 AGES_AGO = (1980, 1, 1, 0, 0, 0)
@@ -176,7 +177,8 @@ def connected(address: str, engine: Engine | None = None, modules: Mapping[str, 
     with ExitStack() as stack:
         local = LOCAL.fullmatch(address)
         if local:
-            cluster = LocalCluster(n_workers=int(local[1] or os.cpu_count() or 1), threads_per_worker=1)
+            count = int(local[1] or os.cpu_count() or 1)
+            cluster = LocalCluster(n_workers=count, threads_per_worker=1, silence_logs=logging.ERROR)
             address = stack.enter_context(cluster).scheduler_address
         client = stack.enter_context(Client(address, timeout=CONNECT_SECONDS))
         sending = Sending(client)
