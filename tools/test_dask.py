@@ -147,7 +147,8 @@ def wait_for(process, enough):
 
 def test_lost_in_a_sweep(given, folder):
     """Of three workers one is killed after a quarter of the runs, another after half, and a new one comes: the table of a sweep without Dask."""
-    run([*SWEEP, 'all', *sweep_words(given.runs, 'plain')], folder)
+    if not os.path.exists(os.path.join(folder, "plain", "answers.csv")):
+        run([*SWEEP, "all", *sweep_words(given.runs, "plain")], folder)
     with scheduler(3) as dask:
         process = start([*SWEEP, 'all', *sweep_words(given.runs, 'lost'), '--dask', dask.address], folder)
         wait_for(process, lambda: traces(folder, 'lost') > given.runs // 4)
