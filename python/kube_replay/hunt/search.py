@@ -4,12 +4,11 @@ from __future__ import annotations
 import time
 from dataclasses import dataclass, field
 from random import Random
-from typing import Any, Callable, Mapping
+from typing import Any, Callable, Iterable, Mapping
 
 import hypothesis
 from hypothesis import HealthCheck, Phase, Verbosity
 from hypothesis.database import InMemoryExampleDatabase
-from hypothesis.errors import NoSuchExample
 
 from kube_replay.commands import replay
 from kube_replay.hunt.bounds import Bounds
@@ -17,7 +16,6 @@ from kube_replay.hunt.measures import Measure, Run
 from kube_replay.hunt.scripts import Script, document_of, scripts_in
 
 ROUND = 400
-KEY = b'kube_replay.hunt'
 SEARCHING = (Phase.reuse, Phase.generate, Phase.target)
 SHRINKING = (Phase.reuse, Phase.generate, Phase.shrink)
 MOST_SHRINKINGS = 20
@@ -38,15 +36,24 @@ class Spent(BaseException):
     """The time or the number of scripts is used up. No Exception, so that Hypothesis lets it through."""
 
 
+class Reached(Exception):
+    """A script with the condition that was looked for."""
+
+
 class Store(InMemoryExampleDatabase):
     """Where Hypothesis keeps what is worth coming back to. It notes what is saved of the script that was looked at last."""
 
     def __init__(self, first: bytes | None = None) -> None:
         super().__init__()  # type: ignore[no-untyped-call]
         self.is_noting = False
-        self.noted = first
-        if first is not None:
-            super().save(KEY, first)
+        self.first = self.noted = first
+
+    def fetch(self, key: bytes) -> Iterable[bytes]:
+        """What was saved. Under the key that Hypothesis asks for first, which is that of its test, stands the script to begin with."""
+        if self.first is not None:
+            super().save(key, self.first)
+            self.first = None
+        return super().fetch(key)
 
     def save(self, key: bytes, value: bytes) -> None:
         if self.is_noting:
@@ -145,11 +152,22 @@ class Hunt:
             print_blob=False,
             verbosity=Verbosity.quiet,
             suppress_health_check=list(HealthCheck),
+            report_multiple_bugs=False,
         )
+        last: list[Script] = []
+
+        @hypothesis.given(scripts_in(self.bounds))
+        def look(script: Script) -> None:
+            if condition(script):
+                last[:] = [script]
+                raise Reached
+
+        # `hypothesis.find` with a seed keeps nothing in the store, and so do tests, where the settings aren't outside of the seed.
         try:
-            return hypothesis.find(scripts_in(self.bounds), condition, settings=settings, random=self._random, database_key=KEY)
-        except NoSuchExample:
-            return None
+            settings(hypothesis.seed(self._random.getrandbits(64))(look))()
+        except Reached:
+            return last[0]
+        return None
 
     def _look_at(self, script: Script) -> float | None:
         """The measure of a script, which tells Hypothesis where to climb."""
