@@ -227,6 +227,7 @@ def replay_on_workers(given):
         raise Wrong('--dask needs the Python package kube_replay; docs/python.md tells how to install it') from fault
     plan['ask'] = getattr(given, 'ask', None) or plan['ask']
     rows, faults = {}, []
+    signal.signal(signal.SIGTERM, signal.default_int_handler)
     try:
         for number, document, trace, row, fault in sweep_dask.runs(plan, numbers, given.dask, engine_of(given)):
             if fault:
@@ -236,6 +237,8 @@ def replay_on_workers(given):
             rows[number] = row
     except KeyboardInterrupt:
         raise Wrong('broken off; the same command goes on from here') from None
+    except kube_replay.workers.SchedulerLost as fault:
+        raise Wrong('%s; the same command goes on from here' % fault) from fault
     except kube_replay.workers.WorkersFault as fault:
         raise Wrong(fault) from fault
     tell_faults(faults)

@@ -188,8 +188,9 @@ def test_broken_off(given, folder):
     with scheduler(2) as dask:
         process = start([*words, '--dask', dask.address], folder)
         wait_for(process, lambda: traces(folder, 'broken') > given.runs // 4)
-        process.kill()
-        process.wait()
+        dask.process.kill()
+        same('a sweep that lost its scheduler', process.wait(), 1)
+        same('what it tells', read(folder, 'log').splitlines()[-1], 'sweep: the scheduler is lost; the same command goes on from here')
     before = {number: os.stat(path).st_ino for number, path in trace_paths(given, folder, 'broken') if os.path.exists(path)}
     same('broken off after some', given.runs // 4 < len(before) < given.runs, True)
     run([*words, '--dask', 'local:2'], folder)

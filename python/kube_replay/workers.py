@@ -14,6 +14,8 @@ import re
 import sys
 import time
 import zipfile
+from asyncio import CancelledError
+from concurrent.futures import CancelledError as FutureCancelledError
 from contextlib import ExitStack, contextmanager
 from dataclasses import dataclass
 from functools import lru_cache
@@ -34,6 +36,10 @@ AGES_AGO = (1980, 1, 1, 0, 0, 0)
 
 class WorkersFault(KubeReplayError, RuntimeError):
     """What a user of workers gets to see."""
+
+
+class SchedulerLost(WorkersFault):
+    """The scheduler ended, or can't be reached any more."""
 
 
 @dataclass(frozen=True)
@@ -156,10 +162,13 @@ class Workers:
 
     def _result(self, future: Any, handings: int) -> tuple[Any] | None:
         """The result; None where the task was on so many workers that were lost that Dask gave it up, and it is to be handed out again."""
+        from distributed.comm import CommClosedError
         from distributed.scheduler import KilledWorker
 
         try:
             return (future.result(),)
+        except (CancelledError, FutureCancelledError, CommClosedError) as fault:
+            raise SchedulerLost('the scheduler is lost') from fault
         except KilledWorker as fault:
             if handings < MOST_HANDINGS:
                 return None
@@ -174,6 +183,9 @@ def connected(address: str, engine: Engine | None = None, modules: Mapping[str, 
         from distributed import Client, LocalCluster
     except ImportError as fault:
         raise WorkersFault("--dask needs Dask, which isn't installed: apt install python3-distributed, or pip install distributed") from fault
+    for name in ('distributed.client', 'distributed.utils'):
+        # What these tell of lost workers, and how they trace a lost scheduler, is told by the exceptions.
+        logging.getLogger(name).setLevel(logging.CRITICAL)
     with ExitStack() as stack:
         local = LOCAL.fullmatch(address)
         if local:
