@@ -17,6 +17,7 @@ from kube_replay.workers import LOCAL, Progress, archive_of, named, sources
 
 pytest.importorskip('hypothesis')
 
+import kube_replay.hunt.generations as generations_module  # noqa: E402
 from kube_replay.hunt import read_bounds  # noqa: E402
 from kube_replay.hunt.generations import SHARES, Generations, Ground, searched, size_of  # noqa: E402
 from kube_replay.hunt.scripts import Script  # noqa: E402
@@ -54,7 +55,7 @@ class Hands:
             yield place, function(common, tasks[place])
 
 
-def hunt(hands: Hands, seed: int = 5, at_least: float | None = None, scripts: int = 320) -> Generations:
+def hunt(hands: Hands, seed: int = 5, at_least: float | None = None, scripts: int = 160) -> Generations:
     engine.use(Made())
     return Generations(hands, Ground(DOCUMENT, read_bounds(BOUNDS, DOCUMENT), 'failover', at_least), scripts, 600, seed)
 
@@ -82,26 +83,22 @@ def test_nothing_so_bad() -> None:
     assert hunt(Hands(False), at_least=31).run() is None
 
 
-def test_generations_go_on_from_the_worst() -> None:
+def test_generations_go_on_from_the_worst(monkeypatch: pytest.MonkeyPatch) -> None:
+    monkeypatch.setattr(generations_module, 'SCRIPTS_A_SHARE', 20)
     hands = Hands(False)
-    generations = hunt(hands, scripts=6400)
+    generations = hunt(hands, scripts=640)
     generations.run()
     first, second = hands.handed_out[0], hands.handed_out[1]
     assert {share.first for share in first} == {None}
     assert [share.first is None for share in second] == [True, False] * (SHARES // 2)
     assert len({share.seed for share in first + second}) == 2 * SHARES
-    # Each share of both has the scripts that it may have, and no more.
-    assert all(share.scripts == 200 for share in first + second)
-    assert generations.tried >= 6400
-
-
-def test_a_share_that_begins_with_a_script_is_at_least_as_bad() -> None:
-    hands = Hands(False)
-    generations = hunt(hands, scripts=6400)
-    generations.run()
-    share = hands.handed_out[1][1]
-    worst = searched(generations.ground, share)
-    assert worst is not None and worst.value == 30
+    assert {share.scripts for share in first + second} == {20}
+    assert generations.tried >= 640
+    # A share that begins with a script is at least as bad.
+    assert generations.worst is not None
+    worst = searched(generations.ground, second[1])
+    best = max(found.score for share in first if (found := searched(generations.ground, share)) is not None)
+    assert worst is not None and worst.score >= best
 
 
 def test_the_smaller_script() -> None:
