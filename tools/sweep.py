@@ -33,6 +33,7 @@ from concurrent.futures import ProcessPoolExecutor, ThreadPoolExecutor
 sys.path.insert(0, os.path.dirname(os.path.realpath(__file__)))
 import chart
 import questions
+from sweep_folder import run_path, write_whole
 from sweep_paths import Wrong, changed, read_value, read_values, split_setting
 
 TOP = os.path.dirname(os.path.dirname(os.path.realpath(__file__)))
@@ -93,17 +94,6 @@ def read_plan(folder):
             return json.load(file)
     except OSError as fault:
         raise Wrong('%s holds no sweep: %s' % (folder, fault.strerror)) from fault
-
-
-def run_path(folder, number, ending):
-    return os.path.join(folder, 'runs', '%05d%s' % (number, ending))
-
-
-def write_whole(path, text):
-    """A file that is there is whole, whenever the sweep is broken off."""
-    with open(path + '.part', 'w') as file:
-        file.write(text)
-    os.replace(path + '.part', path)
 
 
 def missing(folder, share='0/1'):
@@ -229,12 +219,11 @@ def replay_on_workers(given):
     rows, faults = {}, []
     signal.signal(signal.SIGTERM, signal.default_int_handler)
     try:
-        for number, document, trace, row, fault in sweep_dask.runs(plan, numbers, given.dask, engine_of(given)):
+        for number, row, fault in sweep_dask.runs(plan, numbers, given.folder, given.dask, engine_of(given)):
             if fault:
                 faults.append('%s %s' % (run_path(given.folder, number, '.json'), fault))
-                continue
-            keep_run(given.folder, number, document, trace)
-            rows[number] = row
+            else:
+                rows[number] = row
     except KeyboardInterrupt:
         raise Wrong('broken off; the same command goes on from here') from None
     except kube_replay.workers.SchedulerLost as fault:
@@ -243,14 +232,6 @@ def replay_on_workers(given):
         raise Wrong(fault) from fault
     tell_faults(faults)
     return rows
-
-
-def keep_run(folder, number, document, trace):
-    """Writes what a worker made of a run: the document where it isn't there, and then the trace."""
-    path = run_path(folder, number, '.json')
-    if not os.path.exists(path):
-        write_whole(path, document)
-    write_whole(run_path(folder, number, '.trace'), trace)
 
 
 def tell_faults(faults):

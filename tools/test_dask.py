@@ -12,12 +12,14 @@ It needs Debian's python3-distributed, for the hunt python3-hypothesis, and a bu
 import argparse
 import json
 import os
+import pickle
 import resource
 import shutil
 import subprocess
 import sys
 import tempfile
 import time
+import zlib
 from contextlib import contextmanager
 
 HERE = os.path.dirname(os.path.realpath(__file__))
@@ -147,8 +149,7 @@ def wait_for(process, enough):
 
 def test_lost_in_a_sweep(given, folder):
     """Of three workers one is killed after a quarter of the runs, another after half, and a new one comes: the table of a sweep without Dask."""
-    if not os.path.exists(os.path.join(folder, "plain", "answers.csv")):
-        run([*SWEEP, "all", *sweep_words(given.runs, "plain")], folder)
+    make_plain(given, folder)
     with scheduler(3) as dask:
         process = start([*SWEEP, 'all', *sweep_words(given.runs, 'lost'), '--dask', dask.address], folder)
         wait_for(process, lambda: traces(folder, 'lost') > given.runs // 4)
@@ -160,7 +161,14 @@ def test_lost_in_a_sweep(given, folder):
     compare(given, folder, 'lost')
 
 
+def make_plain(given, folder):
+    """The same sweep without Dask."""
+    if not os.path.exists(os.path.join(folder, 'plain', 'answers.csv')):
+        run([*SWEEP, 'all', *sweep_words(given.runs, 'plain')], folder)
+
+
 def compare(given, folder, name):
+    make_plain(given, folder)
     for file in ('answers.csv', 'answers.svg'):
         same('%s: %s' % (name, file), read(folder, name, file), read(folder, 'plain', file).replace('plain', name))
     for number in range(0, given.runs, max(1, given.runs // 50)):
@@ -201,6 +209,20 @@ def test_broken_off(given, folder):
 
 def trace_paths(given, folder, name):
     return [(number, os.path.join(folder, name, 'runs', '%05d.trace' % number)) for number in range(given.runs)]
+
+
+def test_unseen_folder(given, folder):
+    """A worker that doesn't see the folder gives what another writes there."""
+    sys.path.insert(0, os.path.join(TOP, 'python'))
+    import sweep_dask
+    make_plain(given, folder)
+    plan = json.loads(read(folder, 'plain', 'plan.json'))
+    common = plan['document'], plan['paths'], plan['ask'], os.path.join(folder, 'not-there.part')
+    packed = sweep_dask.replayed(common, list(enumerate(plan['runs']))[:20])
+    for number, row, fault, *files in pickle.loads(zlib.decompress(packed)):
+        same('unseen: run %d' % number, (fault, files), ('', [read(folder, 'plain', 'runs', '%05d%s' % (number, ending)) for ending in ('.json', '.trace')]))
+        same('unseen: answers %d' % number, row['outcome'], 'done')
+    print('unseen: 20 runs, as without Dask', flush=True)
 
 
 def hunt_words(scripts, *more):
@@ -257,7 +279,8 @@ def speed(given, folder):
         with scheduler(count) as dask:
             words = sweep_words(given.runs, 'on-%d' % count)
             timed('sweep, workers: %d' % count, [*SWEEP, 'all', *words, '--dask', dask.address], folder, dask)
-            timed('hunt, workers: %d' % count, hunt_words(given.scripts, '--dask', dask.address), folder, dask)
+            if given.scripts:
+                timed('hunt, workers: %d' % count, hunt_words(given.scripts, '--dask', dask.address), folder, dask)
     timed('sweep, one thread', [*SWEEP, 'all', *sweep_words(given.runs, 'one'), '--jobs', '1'], folder)
     timed('sweep, all cores', [*SWEEP, 'all', *sweep_words(given.runs, 'cores'), '--program', BUILT], folder)
     if shutil.which('parallel'):
@@ -278,8 +301,10 @@ def options():
     parser.add_argument('--speed', action='store_true')
     parser.add_argument('--workers', type=lambda text: [int(part) for part in text.split(',')], default=[1, 2, 4])
     given = parser.parse_args()
-    given.runs = given.runs or (20_000 if given.speed else 400)
-    given.scripts = given.scripts or (3200 if given.speed else 320)
+    if given.runs is None:
+        given.runs = 20_000 if given.speed else 400
+    if given.scripts is None:
+        given.scripts = 3200 if given.speed else 320
     return given
 
 
