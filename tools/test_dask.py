@@ -27,6 +27,8 @@ TOP = os.path.dirname(HERE)
 SWEEP = [sys.executable, os.path.join(HERE, 'sweep.py')]
 HUNT = [sys.executable, '-m', 'kube_replay.hunt', 'failover']
 CRASHES = os.path.join(TOP, 'examples', 'leader-crashes', 'document.json')
+SILENT = os.path.join(HERE, 'data', 'silent-kubelets.json')
+LONG = 3000
 HUNTED = [os.path.join(TOP, 'docs', 'hunt', name) for name in ('three-controllers.json', 'one-crash.json')]
 BUILT = os.path.join(TOP, 'crates', 'kube_replay', 'out', 'kube_replay')
 ENVIRONMENT = {**os.environ, 'PYTHONPATH': os.pathsep.join([os.path.join(TOP, 'python'), os.environ.get('PYTHONPATH', '')])}
@@ -111,6 +113,12 @@ def sweep_words(runs, folder):
     beats = min(200, runs)
     return [CRASHES, folder, '--set', '/settings/endBeat=500', '--vary', '/events/0/beat=5..%d' % (4 + beats),
             '--vary', '/settings/leaseDurationSeconds=12..%d' % (11 + runs // beats), '--ask', 'failover', '--ask', 'leaderless']
+
+
+def long_words(runs, folder):
+    """A sweep of so many runs that take longer: two grace periods and many lengths of a trace with silent nodes."""
+    return [SILENT, folder, '--vary', '/settings/gracePeriodMillis=40000,50000', '--vary', '/settings/endBeat=%d..%d' % (LONG, LONG + runs // 2 - 1),
+            '--ask', 'evictions', '--ask', 'taints-a-minute']
 
 
 def start(words, folder):
@@ -279,6 +287,7 @@ def speed(given, folder):
         with scheduler(count) as dask:
             words = sweep_words(given.runs, 'on-%d' % count)
             timed('sweep, workers: %d' % count, [*SWEEP, 'all', *words, '--dask', dask.address], folder, dask)
+            timed('long runs, workers: %d' % count, [*SWEEP, 'all', *long_words(given.long, 'long-%d' % count), '--dask', dask.address], folder, dask)
             if given.scripts:
                 timed('hunt, workers: %d' % count, hunt_words(given.scripts, '--dask', dask.address), folder, dask)
     timed('sweep, one thread', [*SWEEP, 'all', *sweep_words(given.runs, 'one'), '--jobs', '1'], folder)
@@ -296,6 +305,7 @@ def options():
     parser = argparse.ArgumentParser(description=__doc__, formatter_class=argparse.RawDescriptionHelpFormatter)
     parser.add_argument('--runs', type=int)
     parser.add_argument('--scripts', type=int)
+    parser.add_argument('--long', type=int, default=1000)
     parser.add_argument('--only', choices=TESTS)
     parser.add_argument('--folder')
     parser.add_argument('--speed', action='store_true')
