@@ -1,11 +1,11 @@
 #!/usr/bin/env python3
-"""Compares who leads by `kube_lens`, sweeps, the Python package and the page: that all tell the same seconds in which nobody acts as the leader, and in which two do.
+"""Compares who leads by `kube_lens`, sweeps, the Python package and the page: all tell the same seconds in which nobody acts, and in which two do.
 
     tools/test_leads.py [--count 300] [--seed 1] [--without-page] [--program PROGRAM] [--replay PROGRAM]
 
 The documents are those of the examples, one with two pauses in a term, and more with pauses, made from a seed; each is replayed by the built
-kube_replay. `kube_lens leaders` and `summary` tell the same spans in lines, tables and JSON. The page is opened in a headless Chromium. Where a trace says premise=yes, two
-never act. The exit status is 1 where anything differs. Nothing here is a proof.
+kube_replay. `kube_lens leaders` and `summary` tell the same spans in lines, tables and JSON. The page is opened in a headless Chromium. Where
+a trace says premise=yes, two never act. The exit status is 1 where anything differs. Nothing here is a proof.
 """
 import argparse
 import glob
@@ -34,7 +34,7 @@ TWO_PAUSES = {'version': 3, 'settings': {'endBeat': 235, 'leaseDurationSeconds':
 def event(dice, name, beat):
     """Something that befalls a controller."""
     kind = dice.choice(('pause', 'pause', 'pause', 'loss', 'delay', 'crash', 'stop', 'start'))
-    more = {'pause': {'beats': dice.choice((1, 5, 40, 58, 180, 300))},
+    more = {'pause': {'beats': dice.choice((1, 5, 58, 180, 180, 300))},
             'loss': {'requests': dice.random() < 0.5, 'replies': dice.random() < 0.5},
             'delay': {'requestBeats': dice.randint(1, 9), 'replyBeats': dice.randint(1, 9)}}
     return {'beat': beat, 'type': kind, 'process': name, **more.get(kind, {})}
@@ -51,7 +51,7 @@ def document(dice):
                 continue
             over[made['process']] = beat + made['beats']
         events.append(made)
-    settings = {'endBeat': end, 'leaseDurationSeconds': dice.choice((15, 20, 30, 60))}
+    settings = {'endBeat': end, 'leaseDurationSeconds': dice.choice((15, 15, 15, 20, 60))}
     return {'version': 3, 'settings': settings, 'events': events,
             'controllers': [{'name': name, 'retryPeriodMillis': dice.choice((1800, 2000, 2500))} for name in names]}
 

@@ -178,8 +178,8 @@ found-behind stop lines at end old new line d within is end_is more so_far =
     = drop-cons lines at d within ∙ ap (λ x. x ∷ drop (suc at) lines) (sym is) ∙ ap (λ n. line ∷ drop n lines) (sym (add-one at)) in
     let next : with_line stop (seen line) known ≡ behind stop (map seen lines) (at + 1)
     = ap (λ l. with_line stop l known) (ap seen is ∙ sym (get_or-map seen lines at d (seen d) within))
-        ∙ sym (behind-next stop nothing_known (map seen lines) at (seen d) (subst (λ n. at < n) (sym (length-map lines seen)) within))
-        ∙ ap (behind stop (map seen lines)) (sym (add-one at)) in
+    ∙ sym (behind-next stop nothing_known (map seen lines) at (seen d) (subst (λ n. at < n) (sym (length-map lines seen)) within))
+    ∙ ap (behind stop (map seen lines)) (sym (add-one at)) in
     let number : at + 1 + 2 ≡ at + 2 + 1 = omega arith in
     let ends_there : end ≡ interrupted stop line.actor.now rest = end_is ∙ ap (λ l. interrupted stop l.actor.now rest) (sym is) in
     ap (λ ss. ss ++ stretches stop (at + 1 + 2) (behind stop (map seen lines) (at + 1)) rest)

@@ -1,5 +1,5 @@
 // The stretches in which a leader acts, gathered from the first line to the last.
-ghost use Rattle.std.specs.Prelude.{◌≡◌, ◌++◌, ℕ, List, IfOk, OnOk, map};
+ghost use Rattle.std.specs.Prelude.{◌≡◌, ◌++◌, IfOk, OnOk, map};
 ghost use Rattle.trace_lines.specs.Reads.{seen};
 ghost use Rattle.lens_terms.specs.Acting as spec;
 ghost use Rattle.lens_terms.specs.Gathered.{AreBelow, AreHeld};
@@ -33,8 +33,8 @@ impl<'a> Acting<'a> {
         ensures { (known : spec.Standings) → AreHeld known self.old.standings → OnOk result (
             AreHeld (spec.with_line stop (seen line.now) known) self.new.standings
             × (map spec.shown self.new.found.items ≡ map spec.shown self.old.found.items
-                ++ spec.stretch number line.now.actor.now end
-                    (spec.begins_by stop line.now.beat (turn_in (seen line.now).says) (known line.now.actor.now)))) }
+            ++ spec.stretch number line.now.actor.now end
+            (spec.begins_by stop line.now.beat (turn_in (seen line.now).says) (known line.now.actor.now)))) }
     {
         let turn = turn_of(&line.says);
         if let Turn::Keeps = turn {

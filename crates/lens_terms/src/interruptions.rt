@@ -64,11 +64,7 @@ impl<'a> Interruptions<'a> {
 
 /// Of each line the beat in which its actor is interrupted behind it, in a trace that ends before the beat `stop`; that of the last line first.
 /// One pass over the lines.
-pub(crate) fn ends_of(
-    alloc: Global,
-    stop: u32,
-    lines: &[Line<&[u8]>],
-) -> Result<Vec<u32>, NoMemory>
+pub(crate) fn ends_of(alloc: Global, stop: u32, lines: &[Line<&[u8]>]) -> Result<Vec<u32>, NoMemory>
     ensures { IfOk result (λ found. found.items ≡ reverse (ends stop (map seen lines.now))) }
 {
     let mut interruptions = Interruptions::new(alloc);

@@ -5,10 +5,10 @@ ghost use Rattle.lens_terms.specs.Together as spec;
 /// Of some stretches: the identity of the one that ends last, the beat of that end, and the last end of one of another identity. The text of a
 /// name is a `T`.
 #[derive(Drop)]
-pub(crate) struct Latest<T> {
-    pub(crate) who: T,
-    pub(crate) until: u32,
-    pub(crate) beside: u32,
+pub struct Latest<T> {
+    pub who: T,
+    pub until: u32,
+    pub beside: u32,
 }
 
 impl<'a> Latest<&'a [u8]> {

@@ -19,6 +19,7 @@ mod turn;
 pub use acting::stretches_of;
 pub use closing::{Closing, Ending};
 pub use gathering::terms_of;
+pub use latest::Latest;
 pub use span::{Span, leaderless};
 pub use stretch::Stretch;
 pub use term::Term;

@@ -14,11 +14,7 @@ pub struct Span {
 }
 
 /// The spans in which nobody acts, by the stretches of a trace that ends before the beat `stop`, in the order in which they begin.
-pub fn leaderless(
-    alloc: Global,
-    stop: u32,
-    found: &[Stretch<&[u8]>],
-) -> Result<Vec<Span>, NoMemory>
+pub fn leaderless(alloc: Global, stop: u32, found: &[Stretch<&[u8]>]) -> Result<Vec<Span>, NoMemory>
     ensures { IfOk result (λ spans. spans.items ≡ spec.leaderless 0 stop found.now) }
 {
     let mut spans = Vec::new(alloc);

@@ -30,7 +30,9 @@ pub fn crossing<'t, 'a>(
     ensures { option_copied result ≡ spec.first (λ other. spec.crosses (shown stretch.now) (shown other)) found.now }
 {
     for other in found {
-        if other.actor != stretch.actor && other.from <= stretch.from && stretch.from < other.until
+        if other.actor != stretch.actor
+            && other.from <= stretch.from
+            && stretch.from < other.until
         {
             return Some(other);
         }

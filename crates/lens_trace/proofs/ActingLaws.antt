@@ -1,5 +1,5 @@
 -- A beat lies in a stretch of an identity exactly where the identity acts.
-use Rattle.std.proofs.Common.{◌≡◌, ℕ, zero, suc, ◌+◌, ◌++◌, ◌≤◌, ◌<◌, ◌==◌, ◌&&◌, ◌||◌, not, nat_le, nat_lt, max, min, Bool, true, false, cond, List, [], ◌∷◌, filter, filter_map, Option, Some, None, refl, sym, ap, ◌∙◌, ◌⊎◌, inl, inr, arith}
+use Rattle.std.proofs.Common.{◌≡◌, ℕ, zero, suc, ◌+◌, ◌≤◌, ◌<◌, ◌==◌, ◌&&◌, ◌||◌, not, nat_le, nat_lt, max, min, Bool, true, false, cond, List, [], ◌∷◌, filter, filter_map, Option, Some, None, refl, sym, ap, ◌∙◌, ◌⊎◌, inl, inr, arith}
 use Rattle.std.specs.List.{list_any}
 use Rattle.std.specs.Str.{bytes_eq}
 use Rattle.std.proofs.lemmas.Bool.{cases_lt, le-leb, lt-leb, lt-ltb, le-ltb}
@@ -15,7 +15,7 @@ use Rattle.lens_terms.specs.declared.stretch.Stretch.{Stretch}
 use Rattle.lens_terms.specs.declared.term.Term.{Term}
 use Rattle.lens_terms.specs.declared.turn.Turn.{Turn}
 use Rattle.lens_terms.specs.declared.turn.Turn.TheVariants.{Leads, Ends, Pauses, Keeps}
-use Rattle.lens_terms.specs.Acting.{Standings, stands_still, pauses, is_paused, has_term, acts, resume, interrupted, interrupted_by, nothing_known, with_line, standing_by, begins_by, stretch, stretches, by_beat, acting}
+use Rattle.lens_terms.specs.Acting.{Standings, stands_still, is_paused, has_term, acts, interrupted, interrupted_by, nothing_known, with_line, standing_by, begins_by, stretch, stretches, by_beat, acting}
 use Rattle.lens_terms.specs.Beats.{is_of}
 use Rattle.lens_terms.specs.Terms.{turn_of, closing, closing_by, term_of, begun_by, terms, until_by}
 use Rattle.lens_trace.proofs.SpanLaws.{AreOrdered, lines-ordered}

@@ -1,4 +1,4 @@
-use Rattle.std.proofs.Common.{◌≡◌, ◌+◌, [], drop, map, rules, refl, arith}
+use Rattle.std.proofs.Common.{◌≡◌, [], map, rules, refl, arith}
 use Rattle.trace_lines.specs.Reads.{seen}
 use Rattle.lens_terms.proofs.StretchLaws.{behind, popped, none-popped, known-behind, found-behind}
 use Rattle.lens_terms.proofs.acting.by_line.Goals as goal

@@ -1,4 +1,4 @@
-use Rattle.std.proofs.Common.{◌<◌, map, rules, refl, ap, ◌∙◌}
+use Rattle.std.proofs.Common.{◌<◌, map, rules, ap, ◌∙◌}
 use Rattle.std.proofs.lemmas.List.Sorted.{answers_always, IsNonDecreasingBy-from_sort, All-permutation, length_permutation}
 use Rattle.lens_terms.specs.Acting.{shown}
 use Rattle.lens_terms.proofs.Sorting.{beat_of, sorted-is, by_beat-shown}
