@@ -85,6 +85,8 @@ def hunt_on_workers(given: argparse.Namespace, document: Any, bounds: Bounds) ->
 
 def run(given: argparse.Namespace) -> int:
     """Hunts, writes what is found, and gives the exit status."""
+    # Where Hypothesis is missing, that is told before anything is read.
+    import kube_replay.hunt.search  # noqa: F401
     from kube_replay.hunt.measures import MEASURES
 
     document, began = load(given.document), time.monotonic()
