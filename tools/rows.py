@@ -63,17 +63,19 @@ RT = Need('rt (the Rattle kit)', lambda: shutil.which('rt') is not None)
 CHROMIUM = program('chromium', 'chromium')
 COMPILER = program('cc', 'gcc')
 PYTEST = Need('pytest (Debian: python3-pytest)', lambda: python_with('pytest') is not None)
+DASK = Need('Dask (Debian: python3-distributed)', lambda: python_with('distributed') is not None)
 ROOT = Need('root', lambda: os.geteuid() == 0)
 
 
 @dataclass(frozen=True)
 class Row:
-    """A test: its name, its words, what it needs, how many seconds it took, and the folder that it is run in."""
+    """A test: its name, its words, what it needs, how many seconds it took, the folder that it is run in, and the module that its Python must have."""
     name: str
     words: list
     needs: list = field(default_factory=list)
     seconds: Optional[int] = None
     place: str = '.'
+    module: Optional[str] = None
 
     @property
     def folder(self):
@@ -81,10 +83,9 @@ class Row:
 
     @property
     def command(self):
-        first, *rest = self.words
-        if first == 'pytest':
-            return [python_with('pytest'), '-m', 'pytest', *rest]
-        return [sys.executable, *self.words] if first.endswith('.py') else self.words
+        if self.module:
+            return [python_with(self.module), *self.words]
+        return [sys.executable, *self.words] if self.words[0].endswith('.py') else self.words
 
     @property
     def took(self):
@@ -120,16 +121,18 @@ ROWS = [
     test('json', [REPLAY, LENS], None, script='lens_json'),
     test('leads', [REPLAY, LENS, CHROMIUM], None),
     test('sweep', [REPLAY], None),
+    Row('dask', ['tools/test/test_dask.py'], [DASK, REPLAY], None, module='distributed'),
     Row('launcher', ['bench/launcher_check.sh', 'proved'], [REPLAY, LENS], 13),
     Row('launcher-hints', ['bench/launcher_check.sh', 'hints'], [], 8),
     Row('limits', ['bench/limits.py'], [REPLAY], 9),
     Row('pages', ['tools/check-docs'], [REPLAY, LENS, program('jq', 'jq')], None),
     Row('site', ['tools/site'], [program('mkdocs', 'mkdocs, mkdocs-material')], None),
+    Row('site-search', ['tools/test/test_site.py'], [file('out/site/index.html', 'tools/site'), CHROMIUM], None),
     Row('browser', ['view/test_timeline.py'], [CHROMIUM], None),
     Row('playground', ['play/test_server.py'], [REPLAY, LENS], 6),
     Row('playground-page', ['play/test_playground.py'], [REPLAY, LENS, CHROMIUM], None),
     Row('kubectl', ['plugin/test_kubectl_replay.py'], [program('kubectl', 'kubernetes-client'), REPLAY, LENS], None),
-    Row('python', ['pytest', '-q'], [PYTEST, REPLAY], 10, 'python'),
+    Row('python', ['-m', 'pytest', '-q'], [PYTEST, REPLAY], 10, 'python', 'pytest'),
     Row('go', ['go', 'test', './...'], [program('go', 'golang-go'), COMPILER, SHARED], None, 'go'),
     Row('c-library', ['bench/library_check.py', '--program', 'crates/kube_replay/out/kube_replay'], [COMPILER, SHARED, REPLAY], 7),
     Row('c-valgrind', ['bench/library_check.py', '--valgrind', '--count', '100'], [COMPILER, SHARED, program('valgrind', 'valgrind')], 2),

@@ -10,6 +10,7 @@
     tools/sweep.py pods DOCUMENT TRACE          each pod on a node that fell silent: when the node did, and when the pod was evicted
     tools/sweep.py questions                    what can be asked
 
+`all` and `replay` with --dask ADDRESS replay on the workers of the Dask scheduler there; --dask local starts workers of its own.
 PATH is /settings/KEY, /controllers/NAME/KEY, /kubelets/NODE/KEY, /events/PLACE/KEY, or of what is stored /objects/Node/NAME/.. and
 /objects/Pod/NAMESPACE/NAME/.. with the keys of the manifest behind; `*` for a name or a place is each of them. VALUES is FROM..TO, FROM..TO..STEP, a list A,B,C, or random:FROM..TO:COUNT. --set PATH=VALUE changes the document for all runs. A sweep that was
 broken off goes on where it stopped, by the same command. docs/pictures.md tells more.
@@ -21,7 +22,6 @@ import itertools
 import json
 import os
 import random
-import re
 import shlex
 import signal
 import subprocess
@@ -33,99 +33,13 @@ from concurrent.futures import ProcessPoolExecutor, ThreadPoolExecutor
 sys.path.insert(0, os.path.dirname(os.path.realpath(__file__)))
 import chart
 import questions
+from sweep_folder import run_path, write_whole
+from sweep_paths import Wrong, changed, read_value, read_values, split_setting
 
 TOP = os.path.dirname(os.path.dirname(os.path.realpath(__file__)))
 # The built program: of these sources, or where the package installs it.
 PLACES = [os.path.join(TOP, 'crates', 'kube_replay', 'out', 'kube_replay'), '/usr/libexec/kube-replay/kube_replay']
 MOST_RUNS = 1_000_000
-
-
-class Wrong(Exception):
-    """What the reader of the command line gets to see."""
-
-
-# Values and paths
-
-def read_values(text, draws):
-    """The values that VALUES stands for."""
-    drawn = re.fullmatch(r'random:(-?\d+)\.\.(-?\d+):(\d+)', text)
-    if drawn:
-        low, high, count = map(int, drawn.groups())
-        return [draws.randint(low, high) for _ in range(count)]
-    reach = re.fullmatch(r'(-?\d+)\.\.(-?\d+)(?:\.\.([1-9]\d*))?', text)
-    if reach:
-        return list(range(int(reach[1]), int(reach[2]) + 1, int(reach[3] or 1)))
-    return [read_value(part) for part in text.split(',')]
-
-
-def read_value(text):
-    try:
-        return json.loads(text)
-    except ValueError:
-        return text
-
-
-def split_setting(text):
-    path, equals, values = text.partition('=')
-    if not equals or not path.startswith('/'):
-        raise Wrong('%s is not of the form PATH=VALUES' % text)
-    return path, values
-
-
-def holders(document, path):
-    """The objects of the document that have the key at the end of a path, and this key."""
-    parts = path.split('/')[1:]
-    if len(parts) == 2 and parts[0] == 'settings':
-        return [document['settings']], parts[1]
-    if len(parts) == 3 and parts[0] in ('controllers', 'kubelets'):
-        name = {'controllers': 'name', 'kubelets': 'node'}[parts[0]]
-        found = [each for each in document.get(parts[0], []) if parts[1] in ('*', each[name])]
-    elif len(parts) == 3 and parts[0] == 'events' and parts[1].isdecimal():
-        found = document.get('events', [])[int(parts[1]):][:1]
-    elif len(parts) > 3 and parts[0] == 'objects' and parts[1] in ('Node', 'Pod', 'Lease'):
-        found = stored(document, parts)
-    else:
-        raise Wrong('%s is no key of settings, of a process, of an event or of an object' % path)
-    if not found:
-        raise Wrong('%s: the document has no such process, event or object' % path)
-    return found, parts[-1].replace('~1', '/')
-
-
-def stored(document, parts):
-    """What stands in the objects of the document at a path, but for its last key. `*` is each name, key or place; ~1 is a slash."""
-    kind, rest = parts[1], parts[2:]
-    names = 1 if kind == 'Node' else 2
-    wanted, keys = rest[:names], [key.replace('~1', '/') for key in rest[names:-1]]
-    found = [item for item in (document.get('objects') or {}).get('items', []) if item.get('kind') == kind and is_named(item, wanted)]
-    for key in keys:
-        found = [part for each in found for part in parts_at(each, key)]
-    return [each for each in found if isinstance(each, dict)]
-
-
-def is_named(item, wanted):
-    meta = item['metadata']
-    names = ([] if len(wanted) == 1 else [meta.get('namespace', 'default')]) + [meta['name']]
-    return all(want in ('*', name) for want, name in zip(wanted, names))
-
-
-def parts_at(value, key):
-    if isinstance(value, list):
-        return value if key == '*' else value[int(key):][:1] if key.isdecimal() else []
-    if isinstance(value, dict):
-        return list(value.values()) if key == '*' else [value[key]] if key in value else []
-    return []
-
-
-def changed(document, changes):
-    """The document with other values. Its events are put in the order of their beats again."""
-    document = json.loads(json.dumps(document))
-    places = [(holders(document, path), value) for path, value in changes]
-    for (objects, key), value in places:
-        for each in objects:
-            each[key] = value
-    if 'events' in document:
-        document['events'].sort(key=lambda event: event['beat'])
-    return document
 
 
 # The plan: a folder with plan.json and the documents of all runs
@@ -166,6 +80,8 @@ def write_plan(given):
             raise Wrong('%s holds another sweep' % given.folder)
     os.makedirs(os.path.join(given.folder, 'runs'), exist_ok=True)
     write_whole(path, json.dumps(plan))
+    if getattr(given, 'dask', None):
+        return  # The workers make the documents.
     for number, values in enumerate(plan['runs']):
         run = run_path(given.folder, number, '.json')
         if not os.path.exists(run):
@@ -178,17 +94,6 @@ def read_plan(folder):
             return json.load(file)
     except OSError as fault:
         raise Wrong('%s holds no sweep: %s' % (folder, fault.strerror)) from fault
-
-
-def run_path(folder, number, ending):
-    return os.path.join(folder, 'runs', '%05d%s' % (number, ending))
-
-
-def write_whole(path, text):
-    """A file that is there is whole, whenever the sweep is broken off."""
-    with open(path + '.part', 'w') as file:
-        file.write(text)
-    os.replace(path + '.part', path)
 
 
 def missing(folder, share='0/1'):
@@ -296,8 +201,42 @@ def replay(folder, program, jobs, share='0/1'):
         except KeyboardInterrupt:
             replays.stop()
             raise Wrong('broken off; the same command goes on from here') from None
-    if replays.faults:
-        raise Wrong('%d runs failed, the first: %s' % (len(replays.faults), replays.faults[0]))
+    tell_faults(replays.faults)
+
+
+def replay_on_workers(given):
+    """Replays the documents that have no trace yet on the workers of a Dask scheduler, and gives the answers of these runs by number."""
+    plan, numbers = read_plan(given.folder), missing(given.folder, getattr(given, 'share', '0/1'))
+    if not numbers:
+        return {}
+    sys.path.append(os.path.join(TOP, 'python'))
+    try:
+        import sweep_dask
+        import kube_replay.workers
+    except ImportError as fault:
+        raise Wrong('--dask needs the Python package kube_replay; docs/python.md tells how to install it') from fault
+    plan['ask'] = getattr(given, 'ask', None) or plan['ask']
+    rows, faults = {}, []
+    signal.signal(signal.SIGTERM, signal.default_int_handler)
+    try:
+        for number, row, fault in sweep_dask.runs(plan, numbers, given.folder, given.dask, engine_of(given)):
+            if fault:
+                faults.append('%s %s' % (run_path(given.folder, number, '.json'), fault))
+            else:
+                rows[number] = row
+    except KeyboardInterrupt:
+        raise Wrong('broken off; the same command goes on from here') from None
+    except kube_replay.workers.SchedulerLost as fault:
+        raise Wrong('%s; the same command goes on from here' % fault) from fault
+    except kube_replay.workers.WorkersFault as fault:
+        raise Wrong(fault) from fault
+    tell_faults(faults)
+    return rows
+
+
+def tell_faults(faults):
+    if faults:
+        raise Wrong('%d runs failed, the first: %s' % (len(faults), faults[0]))
 
 
 # The table and the picture
@@ -315,14 +254,17 @@ def load(path):
         return json.load(file)
 
 
-def write_table(folder, ask=()):
-    plan = read_plan(folder)
+def write_table(folder, ask=(), known=None):
+    """Writes the table and the picture. The answers that are known, by the number of their run, are taken as they are."""
+    plan, known = read_plan(folder), known or {}
     asked, left = ask or plan['ask'], missing(folder)
     if left:
         raise Wrong('%d of %d runs have no trace yet' % (len(left), len(plan['runs'])))
-    tasks = [(run_path(folder, number, '.trace'), asked, run_path(folder, number, '.json')) for number in range(len(plan['runs']))]
+    tasks = [(run_path(folder, number, '.trace'), asked, run_path(folder, number, '.json'))
+             for number in range(len(plan['runs'])) if number not in known]
     with ProcessPoolExecutor() as pool:
-        rows = list(pool.map(answer, tasks, chunksize=16))
+        read = pool.map(answer, tasks, chunksize=16)
+        rows = [known[number] if number in known else next(read) for number in range(len(plan['runs']))]
     path = os.path.join(folder, 'answers.csv')
     with open(path + '.part', 'w', newline='') as file:
         table = csv.writer(file, lineterminator='\n')
@@ -392,6 +334,7 @@ def options():
         if name in ('all', 'replay'):
             command.add_argument('--program')
             command.add_argument('--jobs', type=int)
+            command.add_argument('--dask', metavar='ADDRESS')
         if name == 'replay':
             command.add_argument('--share', default='0/1', metavar='I/N')
     return parser.parse_args()
@@ -405,6 +348,18 @@ def library():
     except (ImportError, OSError):
         return None
     return found if isinstance(found, engine.Library) else None
+
+
+def engine_of(given):
+    """What the workers of a Dask scheduler are sent: the shared library or the program. The launcher builds, and isn't sent."""
+    from kube_replay import engine
+    if given.program:
+        return engine.Program(shlex.split(given.program))
+    built = [place for place in PLACES if os.path.exists(place)]
+    found = library() or (engine.Program(built[:1]) if built else None)
+    if not found:
+        raise Wrong('the program is not built')
+    return found
 
 
 def program_of(given):
@@ -424,10 +379,13 @@ def program_of(given):
 def run(given):
     if given.command in ('all', 'plan'):
         write_plan(given)
-    if given.command in ('all', 'replay'):
+    known = {}
+    if given.command in ('all', 'replay') and given.dask:
+        known = replay_on_workers(given)
+    elif given.command in ('all', 'replay'):
         replay(given.folder, *program_of(given), getattr(given, 'share', '0/1'))
     if given.command in ('all', 'table'):
-        write_table(given.folder, given.ask)
+        write_table(given.folder, given.ask, known)
     if given.command == 'missing':
         print('\n'.join(run_path(given.folder, number, '.json') for number in missing(given.folder)))
     if given.command == 'measure':

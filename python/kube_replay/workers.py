@@ -1,0 +1,220 @@
+"""Work that is done on the workers of a Dask scheduler.
+
+A worker needs Dask (`distributed`) alone: this package, and the shared library or the program that is called, are sent to each worker, also
+to one that comes later. What a lost worker had is done anew by another, so a task has to give the same result whenever it runs.
+"""
+from __future__ import annotations
+
+import hashlib
+import io
+import logging
+import os
+import pickle
+import re
+import sys
+import time
+import zipfile
+from asyncio import CancelledError
+from concurrent.futures import CancelledError as FutureCancelledError
+from contextlib import ExitStack, contextmanager
+from dataclasses import dataclass
+from functools import lru_cache
+from itertools import islice
+from pathlib import Path
+from tempfile import TemporaryDirectory
+from typing import Any, Callable, Iterable, Iterator, Mapping
+
+from kube_replay.engine import HERE, Engine, Library, Program, find_engine, use
+from kube_replay.errors import KubeReplayError
+
+LOCAL = re.compile(r'local(?::([1-9]\d*))?')
+CONNECT_SECONDS = 60
+# Dask gives a task up after it was on several workers that were lost (distributed.scheduler.allowed-failures, 3); so often it is handed out.
+MOST_HANDINGS = 20
+AGES_AGO = (1980, 1, 1, 0, 0, 0)
+
+
+class WorkersFault(KubeReplayError, RuntimeError):
+    """What a user of workers gets to see."""
+
+
+class SchedulerLost(WorkersFault):
+    """The scheduler ended, or can't be reached any more."""
+
+
+@dataclass(frozen=True)
+class Equipment:
+    """What each worker has: the archive of this package, and the engine, of which the first word may be the name of a file that was sent."""
+
+    archive: str
+    is_library: bool
+    words: tuple[str, ...]
+    is_sent: bool
+
+
+def archive_of(files: Mapping[str, bytes]) -> bytes:
+    """A zip archive of these files, by name; the same bytes for the same files."""
+    packed = io.BytesIO()
+    with zipfile.ZipFile(packed, 'w', zipfile.ZIP_DEFLATED) as archive:
+        for name in sorted(files):
+            archive.writestr(zipfile.ZipInfo(name, AGES_AGO), files[name], zipfile.ZIP_DEFLATED)
+    return packed.getvalue()
+
+
+def sources() -> dict[str, bytes]:
+    """The sources of this package, by their names in an archive."""
+    return {str(path.relative_to(HERE.parent)): path.read_bytes() for path in HERE.rglob('*.py')}
+
+
+def named(stem: str, ending: str, data: bytes) -> str:
+    """A file's name that tells its content, so that two versions never meet under one."""
+    return f'{stem}-{hashlib.sha256(data).hexdigest()[:16]}{ending}'
+
+
+class Sending:
+    """The files that each worker is sent, also one that comes later."""
+
+    def __init__(self, client: Any) -> None:
+        self.client = client
+
+    def file(self, stem: str, ending: str, data: bytes) -> str:
+        """Sends a file, and gives its name on the workers. Archives go onto their path for modules."""
+        from distributed.diagnostics.plugin import UploadFile
+
+        name = named(stem, ending, data)
+        with TemporaryDirectory() as folder:
+            path = Path(folder) / name
+            path.write_bytes(data)
+            self.client.register_worker_plugin(UploadFile(str(path)), name=name)
+        return name
+
+    def equipment(self, engine: Engine) -> Equipment:
+        """Sends this package, and the engine where it is a file here."""
+        archive = self.file('kube_replay', '.zip', archive_of(sources()))
+        is_library = isinstance(engine, Library)
+        words = tuple(engine.command) if isinstance(engine, Program) else (engine.place,)
+        if len(words) > 1 or not os.path.isfile(words[0]):
+            return Equipment(archive, is_library, words, False)
+        return Equipment(archive, is_library, (self.file('kube_replay', '.so' if is_library else '', Path(words[0]).read_bytes()),), True)
+
+
+# On a worker
+
+
+@lru_cache
+def engine_here(equipment: Equipment) -> Engine:
+    """The engine on this worker."""
+    from distributed import get_worker
+
+    if f'{os.sep}{equipment.archive}{os.sep}' not in __file__:
+        raise WorkersFault(f'a worker has another version of kube_replay loaded, {os.path.dirname(__file__)}; start the workers anew')
+    words = list(equipment.words)
+    if equipment.is_sent:
+        words[0] = os.path.join(get_worker().local_directory, words[0])
+        os.chmod(words[0], 0o755)
+    return Library(words[0]) if equipment.is_library else Program(words)
+
+
+def done(equipment: Equipment, function: Callable[[Any, Any], Any], common: Any, task: Any) -> Any:
+    """A task's result, on a worker."""
+    use(engine_here(equipment))
+    return function(common, task)
+
+
+# Where the tasks come from
+
+
+class Workers:
+    """The workers of a scheduler."""
+
+    def __init__(self, client: Any, equipment: Equipment) -> None:
+        self.client = client
+        self.equipment = equipment
+
+    def results(self, function: Callable[[Any, Any], Any], common: Any, tasks: Iterable[Any]) -> Iterator[tuple[int, Any]]:
+        """`function(common, task)` for each task, with the task's place, in the order in which they are done. So many tasks are handed
+        out at once that no worker has to wait, and that their results don't pile up."""
+        from distributed import as_completed
+
+        shared = self.client.submit(pickle.loads, pickle.dumps(common), pure=False)
+        waiting, asked, running = iter(enumerate(tasks)), {}, as_completed()
+
+        def hand_out(place: int, task: Any, handings: int) -> None:
+            future = self.client.submit(done, self.equipment, function, shared, task, pure=False)
+            asked[future.key] = place, task, handings
+            running.add(future)
+
+        for place, task in islice(waiting, max(32, 4 * self.threads())):
+            hand_out(place, task, 1)
+        for future in running:
+            place, task, handings = asked.pop(future.key)
+            found = self._result(future, handings)
+            if found is None:
+                hand_out(place, task, handings + 1)
+                continue
+            for following in islice(waiting, 1):
+                hand_out(*following, 1)
+            yield place, found[0]
+
+    def threads(self) -> int:
+        """How many tasks the workers take at once."""
+        return sum(self.client.nthreads().values())
+
+    def _result(self, future: Any, handings: int) -> tuple[Any] | None:
+        """The result; None where the task was on so many workers that were lost that Dask gave it up, and it is to be handed out again."""
+        from distributed.comm import CommClosedError
+        from distributed.scheduler import KilledWorker
+
+        try:
+            return (future.result(),)
+        except (CancelledError, FutureCancelledError, CommClosedError) as fault:
+            raise SchedulerLost('the scheduler is lost') from fault
+        except KilledWorker as fault:
+            if handings < MOST_HANDINGS:
+                return None
+            raise WorkersFault(f'the workers were lost {MOST_HANDINGS} times over at one task: {fault}') from fault
+
+
+@contextmanager
+def connected(address: str, engine: Engine | None = None, modules: Mapping[str, bytes] | None = None) -> Iterator[Workers]:
+    """The workers of the scheduler at an address; `local` starts one with a worker for each processor, `local:N` one with N workers. The
+    workers are sent the package, the engine, and further modules by the names of their files."""
+    try:
+        from distributed import Client, LocalCluster
+    except ImportError as fault:
+        raise WorkersFault("--dask needs Dask, which isn't installed: apt install python3-distributed, or pip install distributed") from fault
+    for name in ('distributed.client', 'distributed.utils'):
+        # What these tell of lost workers, and how they trace a lost scheduler, is told by the exceptions.
+        logging.getLogger(name).setLevel(logging.CRITICAL)
+    with ExitStack() as stack:
+        local = LOCAL.fullmatch(address)
+        if local:
+            count = int(local[1] or os.cpu_count() or 1)
+            cluster = LocalCluster(n_workers=count, threads_per_worker=1, silence_logs=logging.ERROR)
+            address = stack.enter_context(cluster).scheduler_address
+        client = stack.enter_context(Client(address, timeout=CONNECT_SECONDS))
+        sending = Sending(client)
+        workers = Workers(client, sending.equipment(engine or find_engine()))
+        if modules:
+            sending.file('modules', '.zip', archive_of(modules))
+        print(f'dask: {len(client.nthreads())} workers; dashboard {client.dashboard_link}', file=sys.stderr, flush=True)
+        yield workers
+
+
+class Progress:
+    """A bar of how many are done, on standard error: on a terminal in one line, else every ten seconds."""
+
+    def __init__(self, total: int, unit: str) -> None:
+        self.total, self.unit, self.done, self.begin, self.last = total, unit, 0, time.monotonic(), 0.0
+
+    def step(self, count: int, more: str = '') -> None:
+        """So many more are done; behind the count stands what else is told."""
+        self.done += count
+        now, terminal = time.monotonic(), sys.stderr.isatty()
+        if now - self.last < (0.2 if terminal else 10) and self.done < self.total:
+            return
+        self.last = now
+        filled = 24 * min(self.done, self.total) // max(1, self.total)
+        words = f'[{"#" * filled}{"." * (24 - filled)}] {self.done:,} of {self.total:,} {self.unit}, {now - self.begin:.0f} s{more}'
+        ending = '' if terminal and self.done < self.total else '\n'
+        print('\r\033[K' + words if terminal else words, end=ending, file=sys.stderr, flush=True)

@@ -1,0 +1,346 @@
+#!/usr/bin/env python3
+"""Sweeps and hunts on the workers of a Dask scheduler, against the same without one: lost workers, a sweep that is broken off, and the time.
+
+    python3 tools/test/test_dask.py [--runs 400] [--scripts 320] [--only NAME] [--folder FOLDER]
+    python3 tools/test/test_dask.py --speed [--runs 20000] [--scripts 3200] [--workers 1,2,4]
+
+It starts a scheduler and workers of its own on 127.0.0.1, and kills workers in the middle. A sweep has to have the table of tools/sweep.py
+without Dask, a hunt the script that its generations find in this one process. --speed measures in place of that: seconds, and the seconds of
+processor time of the workers, of the scheduler and of the command, on 1, 2 and 4 workers, with one process, and by GNU parallel.
+It needs Debian's python3-distributed, for the hunt python3-hypothesis, and a built program or library. The exit status is 1 where anything differs.
+"""
+import argparse
+import json
+import os
+import pickle
+import resource
+import shutil
+import subprocess
+import sys
+import tempfile
+import time
+import zlib
+from contextlib import contextmanager
+
+HERE = os.path.dirname(os.path.dirname(os.path.realpath(__file__)))
+TOP = os.path.dirname(HERE)
+SWEEP = [sys.executable, os.path.join(HERE, 'sweep.py')]
+HUNT = [sys.executable, '-m', 'kube_replay.hunt', 'failover']
+CRASHES = os.path.join(TOP, 'examples', 'leader-crashes', 'document.json')
+SILENT = os.path.join(HERE, 'data', 'silent-kubelets.json')
+LONG = 3000
+HUNTED = [os.path.join(TOP, 'docs', 'hunt', name) for name in ('three-controllers.json', 'one-crash.json')]
+BUILT = os.path.join(TOP, 'crates', 'kube_replay', 'out', 'kube_replay')
+ENVIRONMENT = {**os.environ, 'PYTHONPATH': os.pathsep.join([os.path.join(TOP, 'python'), os.environ.get('PYTHONPATH', '')])}
+# A worker has neither the package nor an engine of its own: both are sent.
+BARE = {key: value for key, value in os.environ.items() if not key.startswith('KUBE_REPLAY')}
+CLOCK = os.sysconf('SC_CLK_TCK')
+faults = []
+
+
+def same(what, found, wanted):
+    if found != wanted:
+        faults.append(what)
+        print('DIFFERS %s: found %.300r, wanted %.300r' % (what, found, wanted), flush=True)
+
+
+# A scheduler, and workers that can be killed
+
+class Scheduler:
+    """A scheduler of this script's own, with workers, each a process with one thread."""
+
+    def __init__(self, folder):
+        self.folder, self.workers, self.count = folder, [], 0
+        self.file = os.path.join(folder, 'scheduler.json')
+        self.process = self.start('dask_scheduler', '--scheduler-file', self.file, '--host', '127.0.0.1', '--port', '0', '--no-dashboard')
+        while not os.path.exists(self.file) or not os.path.getsize(self.file):
+            same('the scheduler is there', self.process.poll(), None)
+            time.sleep(.1)
+        with open(self.file) as file:
+            self.address = json.load(file)['address']
+
+    def start(self, module, *words):
+        self.count += 1
+        with open(os.path.join(self.folder, 'log-%d' % self.count), 'w') as log:
+            return subprocess.Popen([sys.executable, '-m', 'distributed.cli.' + module, *words], cwd=self.folder, env=BARE, stdout=log,
+                                    stderr=log)
+
+    def add(self, count):
+        """Starts further workers, and waits until they are there."""
+        from distributed import Client
+        self.workers += [self.start('dask_worker', self.address, '--no-nanny', '--nthreads', '1', '--no-dashboard', '--local-directory',
+                                    self.folder) for _ in range(count)]
+        with Client(self.address, timeout=120) as client:
+            client.wait_for_workers(len(self.workers))
+
+    def lose(self):
+        """Kills the worker that was started first."""
+        worker = self.workers.pop(0)
+        worker.kill()
+        worker.wait()
+
+    def stop(self):
+        for process in (*self.workers, self.process):
+            process.kill()
+            process.wait()
+
+    def seconds(self):
+        """The processor time of the workers and of the scheduler so far."""
+        return sum(map(processor_seconds, self.workers)), processor_seconds(self.process)
+
+
+def processor_seconds(process):
+    with open('/proc/%d/stat' % process.pid) as file:
+        fields = file.read().rpartition(')')[2].split()
+    return sum(map(int, fields[11:15])) / CLOCK
+
+
+@contextmanager
+def scheduler(workers):
+    with tempfile.TemporaryDirectory() as folder:
+        found = Scheduler(folder)
+        try:
+            found.add(workers)
+            yield found
+        finally:
+            found.stop()
+
+
+# Sweeps and hunts
+
+def sweep_words(runs, folder):
+    """A sweep of so many runs: the beat of a crash against the duration of the lease."""
+    beats = min(200, runs)
+    return [CRASHES, folder, '--set', '/settings/endBeat=500', '--vary', '/events/0/beat=5..%d' % (4 + beats),
+            '--vary', '/settings/leaseDurationSeconds=12..%d' % (11 + runs // beats), '--ask', 'failover', '--ask', 'leaderless']
+
+
+def long_words(runs, folder):
+    """A sweep of so many runs that take longer: two grace periods and many lengths of a trace with silent nodes."""
+    return [SILENT, folder, '--vary', '/settings/gracePeriodMillis=40000,50000', '--vary', '/settings/endBeat=%d..%d' % (LONG, LONG + runs // 2 - 1),
+            '--ask', 'evictions', '--ask', 'taints-a-minute']
+
+
+def start(words, folder):
+    with open(os.path.join(folder, 'log'), 'a') as log, open(os.path.join(folder, 'worst.json'), 'w') as out:
+        return subprocess.Popen(words, cwd=folder, env=ENVIRONMENT, stdout=out, stderr=log)
+
+
+def run(words, folder):
+    """Seconds, and the processor seconds of a command and what it started."""
+    before, began = resource.getrusage(resource.RUSAGE_CHILDREN), time.monotonic()
+    process = start(words, folder)
+    process.wait()
+    after = resource.getrusage(resource.RUSAGE_CHILDREN)
+    if process.returncode:
+        same('status of ' + ' '.join(words[:4]), read(folder, 'log')[-400:], '')
+    return time.monotonic() - began, after.ru_utime + after.ru_stime - before.ru_utime - before.ru_stime
+
+
+def read(folder, *names):
+    with open(os.path.join(folder, *names)) as file:
+        return file.read()
+
+
+def traces(folder, name):
+    runs = os.path.join(folder, name, 'runs')
+    return sum(entry.endswith('.trace') for entry in os.listdir(runs)) if os.path.isdir(runs) else 0
+
+
+def wait_for(process, enough):
+    while not enough() and process.poll() is None:
+        time.sleep(.05)
+    same('still under way when a worker is lost', process.poll(), None)
+
+
+# The tests
+
+def test_lost_in_a_sweep(given, folder):
+    """Of three workers one is killed after a quarter of the runs, another after half, and a new one comes: the table of a sweep without Dask."""
+    make_plain(given, folder)
+    with scheduler(3) as dask:
+        process = start([*SWEEP, 'all', *sweep_words(given.runs, 'lost'), '--dask', dask.address], folder)
+        wait_for(process, lambda: traces(folder, 'lost') > given.runs // 4)
+        dask.lose()
+        wait_for(process, lambda: traces(folder, 'lost') > given.runs // 2)
+        dask.lose()
+        dask.add(1)
+        same('a sweep that lost workers', process.wait(), 0)
+    compare(given, folder, 'lost')
+
+
+def make_plain(given, folder):
+    """The same sweep without Dask."""
+    if not os.path.exists(os.path.join(folder, 'plain', 'answers.csv')):
+        run([*SWEEP, 'all', *sweep_words(given.runs, 'plain')], folder)
+
+
+def compare(given, folder, name):
+    make_plain(given, folder)
+    for file in ('answers.csv', 'answers.svg'):
+        same('%s: %s' % (name, file), read(folder, name, file), read(folder, 'plain', file).replace('plain', name))
+    for number in range(0, given.runs, max(1, given.runs // 50)):
+        for ending in ('.json', '.trace'):
+            path = ('runs', '%05d%s' % (number, ending))
+            same('%s: run %d%s' % (name, number, ending), read(folder, name, *path), read(folder, 'plain', *path))
+    print('%s: %d runs, as without Dask' % (name, traces(folder, name)), flush=True)
+
+
+def test_all_lost_in_a_sweep(given, folder):
+    """All workers are killed, and others come, with nothing from those before: the same table."""
+    with scheduler(2) as dask:
+        process = start([*SWEEP, 'all', *sweep_words(given.runs, 'all-lost'), '--dask', dask.address], folder)
+        wait_for(process, lambda: traces(folder, 'all-lost') > given.runs // 4)
+        dask.lose()
+        dask.lose()
+        dask.add(2)
+        same('a sweep that lost all workers', process.wait(), 0)
+    compare(given, folder, 'all-lost')
+
+
+def test_broken_off(given, folder):
+    """The scheduler is killed. The same command goes on with another one, and does no run twice."""
+    words = [*SWEEP, 'all', *sweep_words(given.runs, 'broken')]
+    with scheduler(2) as dask:
+        process = start([*words, '--dask', dask.address], folder)
+        wait_for(process, lambda: traces(folder, 'broken') > given.runs // 4)
+        dask.process.kill()
+        same('a sweep that lost its scheduler', process.wait(), 1)
+        same('what it tells', read(folder, 'log').splitlines()[-1], 'sweep: the scheduler is lost; the same command goes on from here')
+    before = {number: os.stat(path).st_ino for number, path in trace_paths(given, folder, 'broken') if os.path.exists(path)}
+    same('broken off after some', given.runs // 4 < len(before) < given.runs, True)
+    run([*words, '--dask', 'local:2'], folder)
+    after = {number: os.stat(path).st_ino for number, path in trace_paths(given, folder, 'broken')}
+    same('no run is done twice', {number: after[number] for number in before}, before)
+    compare(given, folder, 'broken')
+
+
+def trace_paths(given, folder, name):
+    return [(number, os.path.join(folder, name, 'runs', '%05d.trace' % number)) for number in range(given.runs)]
+
+
+def test_unseen_folder(given, folder):
+    """A worker that doesn't see the folder gives what another writes there."""
+    sys.path.insert(0, os.path.join(TOP, 'python'))
+    import sweep_dask
+    make_plain(given, folder)
+    plan = json.loads(read(folder, 'plain', 'plan.json'))
+    common = plan['document'], plan['paths'], plan['ask'], os.path.join(folder, 'not-there.part')
+    packed = sweep_dask.replayed(common, list(enumerate(plan['runs']))[:20])
+    for number, row, fault, *files in pickle.loads(zlib.decompress(packed)):
+        same('unseen: run %d' % number, (fault, files), ('', [read(folder, 'plain', 'runs', '%05d%s' % (number, ending)) for ending in ('.json', '.trace')]))
+        same('unseen: answers %d' % number, row['outcome'], 'done')
+    print('unseen: 20 runs, as without Dask', flush=True)
+
+
+def hunt_words(scripts, *more):
+    return [*HUNT, *HUNTED, '--scripts', str(scripts), '--seconds', '36000', '--seed', '7', *more]
+
+
+class OneProcess:
+    """What workers do, in this process."""
+
+    def results(self, function, common, tasks):
+        for place, task in enumerate(tasks):
+            yield place, function(common, task)
+
+
+def test_lost_in_a_hunt(given, folder):
+    """Of three workers two are killed, and a new one comes: the script that the same generations find in one process."""
+    with scheduler(3) as dask:
+        process = start(hunt_words(given.scripts, '--dask', dask.address), folder)
+        for _ in range(2):
+            busy = dask.seconds()[0]
+            wait_for(process, lambda: dask.seconds()[0] > busy + 2)
+            dask.lose()
+        dask.add(1)
+        same('a hunt that lost workers', process.wait(), 0)
+    sys.path.insert(0, os.path.join(TOP, 'python'))
+    from kube_replay.hunt import read_bounds
+    from kube_replay.hunt.generations import Generations, Ground
+    document, bounds = [json.loads(read(path)) for path in HUNTED]
+    found = Generations(OneProcess(), Ground(document, read_bounds(bounds, document), 'failover'), given.scripts, 36000, 7).run()
+    same('what the hunt has found', json.loads(read(folder, 'worst.json')), found.document)
+    same('how many scripts were tried', '; %s scripts in' % format(found.tried, ',') in read(folder, 'log'), True)
+    print('hunt: %d beats by %d events, %d scripts, as in one process' % (found.value, len(found.script.events), found.tried), flush=True)
+
+
+# The time
+
+def load():
+    return read('/proc/loadavg').split()[0]
+
+
+def timed(what, words, folder, dask=None):
+    """A row: what, seconds, processor seconds of the workers, of the scheduler, and of the command, and the load before."""
+    before, loaded = dask.seconds() if dask else (0, 0), load()
+    seconds, own = run(words, folder)
+    after = dask.seconds() if dask else (0, 0)
+    row = (seconds, after[0] - before[0], after[1] - before[1], own)
+    print('%-28s %7.1f s; processor: workers %6.1f s, scheduler %5.1f s, the command %6.1f s; load %s' % (what, *row, loaded), flush=True)
+    return row
+
+
+def speed(given, folder):
+    """Sweeps and hunts on each number of workers, after each other, and what does the same without Dask."""
+    for count in given.workers:
+        with scheduler(count) as dask:
+            words = sweep_words(given.runs, 'on-%d' % count)
+            timed('sweep, workers: %d' % count, [*SWEEP, 'all', *words, '--dask', dask.address], folder, dask)
+            timed('long runs, workers: %d' % count, [*SWEEP, 'all', *long_words(given.long, 'long-%d' % count), '--dask', dask.address], folder, dask)
+            if given.scripts:
+                timed('hunt, workers: %d' % count, hunt_words(given.scripts, '--dask', dask.address), folder, dask)
+    timed('sweep, one thread', [*SWEEP, 'all', *sweep_words(given.runs, 'one'), '--jobs', '1'], folder)
+    timed('sweep, all cores', [*SWEEP, 'all', *sweep_words(given.runs, 'cores'), '--program', BUILT], folder)
+    if shutil.which('parallel'):
+        run([*SWEEP, 'plan', *sweep_words(given.runs, 'shared')], folder)
+        line = "%s %s missing shared | parallel --will-cite '%s replay < {} > {.}.trace'" % (*SWEEP, BUILT)
+        timed('GNU parallel, its runs alone', ['sh', '-c', line], folder)
+
+
+TESTS = {name.removeprefix('test_'): test for name, test in globals().copy().items() if name.startswith('test_')}
+
+
+def options():
+    parser = argparse.ArgumentParser(description=__doc__, formatter_class=argparse.RawDescriptionHelpFormatter)
+    parser.add_argument('--runs', type=int)
+    parser.add_argument('--scripts', type=int)
+    parser.add_argument('--long', type=int, default=1000)
+    parser.add_argument('--only', choices=TESTS)
+    parser.add_argument('--folder')
+    parser.add_argument('--speed', action='store_true')
+    parser.add_argument('--workers', type=lambda text: [int(part) for part in text.split(',')], default=[1, 2, 4])
+    given = parser.parse_args()
+    if given.runs is None:
+        given.runs = 20_000 if given.speed else 400
+    if given.scripts is None:
+        given.scripts = 3200 if given.speed else 320
+    return given
+
+
+def chosen(given):
+    """What is to be done, by name."""
+    if given.speed:
+        return [('speed', speed)]
+    return [(name, test) for name, test in TESTS.items() if given.only in (None, name)]
+
+
+def main():
+    given = options()
+    try:
+        import distributed  # noqa: F401
+    except ImportError:
+        print("left out, since Dask isn't installed: apt install python3-distributed")
+        return 0
+    with tempfile.TemporaryDirectory() as made:
+        folder = given.folder or made
+        for name, test in chosen(given):
+            began = time.monotonic()
+            test(given, folder)
+            print('%s: %.0f s' % (name, time.monotonic() - began), flush=True)
+    print('%d differ' % len(faults) if faults else 'all as it should be')
+    return 1 if faults else 0
+
+
+if __name__ == '__main__':
+    sys.exit(main())
