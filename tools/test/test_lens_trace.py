@@ -75,6 +75,20 @@ class Acting:
         return next(first for first in range(at, beat + 1) if self.has(who, first)), number, who
 
 
+def each_beat(acting, end):
+    """Who acts in each beat. Only at the beats of lines, behind them, and where a pause is over can it be others than in the beat before."""
+    changes = {0, end + 1}
+    for _, beat, _, _, _ in acting.own:
+        changes |= {beat, beat + 1}
+    for _, _, over in acting.pauses:
+        changes |= {over, over + 1}
+    beats = sorted(beat for beat in changes if beat <= end + 1)
+    each = []
+    for first, behind in zip(beats, beats[1:]):
+        each += [acting.at(first)] * (behind - first)
+    return each
+
+
 def expected(text):
     """The text wanted for a trace."""
     lines = text.splitlines()
@@ -82,7 +96,7 @@ def expected(text):
     terms = [Term(lines, at, end) for at in range(1, len(lines)) if lines[at].split()[2] == 'lead']
     told = [f'{t.who} from={t.first} until={t.until} ended={t.how}' for t in terms]
     acting = Acting(lines, terms, end)
-    each = [acting.at(beat) for beat in range(end + 1)]
+    each = each_beat(acting, end)
     for beat in range(end + 1):
         if not each[beat] and (beat == 0 or each[beat - 1]):
             until = next((later for later in range(beat + 1, end + 1) if each[later]), end + 1)
