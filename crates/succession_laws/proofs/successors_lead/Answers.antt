@@ -1,4 +1,4 @@
-use Rattle.succession_laws.proofs.Looks as looks
+use Rattle.succession_laws.proofs.First as first
 use Rattle.succession_laws.proofs.successors_lead.Goals as goal
 
 pub returns : goal.returns
