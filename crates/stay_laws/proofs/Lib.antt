@@ -1,1 +1,2 @@
-
+pub mod Won
+pub mod Rivals
