@@ -1,2 +1,4 @@
 pub mod Looks
 pub mod First
+pub mod Led
+pub mod Setting

@@ -1,5 +1,53 @@
--- By when somebody else leads after a leader is gone in a calm. Source: client-go, package `leaderelection`; profile.
-use Rattle.std.specs.Prelude.{ℕ}
+-- By when somebody else leads after a leader in a calm has fallen silent, or is stopped, and how long the leader itself acts on.
+-- Source: client-go, package `leaderelection`; profile.
+use Rattle.std.specs.Prelude.{◌≡◌, ◌≤◌, ◌<◌, ℕ, suc, ◌+◌, ◌-◌, ◌*◌, true, false, cond, Option, IfSome}
+use Rattle.kube_objects.specs.Document.{Doc, is_controller, lease_duration, retry_period, renew_deadline}
+use Rattle.kube_objects.specs.Entry.{Entry, Identity}
+use Rattle.kube_objects.specs.Identities.{of_process}
+use Rattle.kube_objects.specs.Newest.{has}
+use Rattle.kube_objects.specs.Pauses.{is_paused}
+use Rattle.kube_objects.specs.Process.{alive}
+use Rattle.kube_objects.specs.Wire.{back_of}
+use Rattle.history.specs.History.{history, at_turn}
+use Rattle.history.specs.Safe.{Acts}
+use Rattle.history_laws.specs.Tails.{In}
+use Rattle.span_laws.specs.Looks.{IsGreatest}
+use Rattle.span_laws.specs.Spans.{RunsAtLeast, RunsAtMost, IsEnough, IsNeeded}
+use Rattle.takeover_laws.specs.Calm.{IsQuiet}
+use Rattle.stay_laws.specs.Stays.{RenewsInTime, HasSuccess, Stays}
+use Rattle.silence_laws.specs.Silence.{LeadsUntil, Bears}
 
-abbrev pub Draft : Type 0
-Draft = ℕ → ℕ
+-- each other controller renews in time where it leads, before beat b and from b on
+pub record OthersRenew (doc : Doc) (near far b e : ℕ) (q : Identity) : Type 0 where
+  pub before : (c : Identity) → is_controller doc c.process ≡ true → (c.process ≡ q.process → ⊥) → RenewsInTime doc near far 0 (b - 1) c
+  pub since : (c : Identity) → is_controller doc c.process ≡ true → (c.process ≡ q.process → ⊥) → RenewsInTime doc near far b e c
+
+-- a reply that was given to a process before beat b is lost or comes within far beats
+abbrev pub RepliesCome : Doc → ℕ → ℕ → ℕ → Type 0
+RepliesCome doc far b p = (x : Entry) → In x (history doc b) → has (of_process p x.actor) ≡ true → IfSome (back_of x.actor x.fact) (λ s. IfSome s.comes (λ m. m < b + far))
+
+-- an heir of q: another controller that is up after its turn at beat b, and whose clock goes from slow to fast in a beat from then on
+pub record IsHeir (doc : Doc) (b e : ℕ) (q : Identity) (p slow fast : ℕ) : Type 0 where
+  pub role : is_controller doc p ≡ true
+  pub other : p ≡ q.process → ⊥
+  pub up : has (alive p (at_turn doc (suc p) b)) ≡ true
+  pub runs_least : RunsAtLeast doc p b e slow
+  pub runs_most : RunsAtMost doc p b e fast
+
+-- an identity of another controller comes to lead by beat n, by a call that was sent at b or later, and stays up to e
+pub record IsFollowed (doc : Doc) (b n e : ℕ) (q : Identity) : Type 0 where
+  pub c : Identity
+  pub other : c.process ≡ q.process → ⊥
+  pub j : ℕ
+  pub to : j ≤ n
+  pub success : HasSuccess doc c b j
+  pub stays : Stays doc c j e
+
+-- where a leader in a calm falls silent at beat b, another one leads by the time that the looks of an heir take at most, its wait, and six ways;
+-- and it stays
+abbrev pub SuccessorsLead : Type 0
+SuccessorsLead =
+    (doc : Doc) (near far b e : ℕ) (q : Identity) → LeadsUntil doc near far b e q → Bears doc near far b e q → IsQuiet doc b e q.process → RepliesCome doc far b q.process → OthersRenew doc near far b e q
+    → (p slow fast wait needed : ℕ) → IsHeir doc b e q p slow fast → IsEnough slow (retry_period doc p) wait → IsNeeded fast (retry_period doc p) needed
+    → (enough most : ℕ) → IsEnough slow (lease_duration doc q.process) enough → IsGreatest (needed + 2 * near) (wait + 2 * far) enough most
+    → b + most + wait + (6 * far - 1) ≤ e → IsFollowed doc b (b + most + wait + (6 * far - 1)) e q
