@@ -2,3 +2,4 @@ pub mod Looks
 pub mod First
 pub mod Led
 pub mod Setting
+pub mod Records

@@ -93,10 +93,15 @@ each_some None P all = tt
 each_some (Some a) P all = all a refl
 
 -- an actor's process
-own_process : (q : Identity) (who : Actor) → who ≡ actor_of q → has (of_process q.process who) ≡ true
+pub own_process : (q : Identity) (who : Actor) → who ≡ actor_of q → has (of_process q.process who) ≡ true
 own_process q who by = ap (λ who. has (of_process q.process who)) by ∙ ap (λ b. has (when b q.incarnation)) (eq-eqb q.process q.process refl)
 
 -- ---- when a message of a steady process arrives
+
+-- a request that is sent at a beat arrives one way later
+pub record IsWay (near far from to : ℕ) : Type 0 where
+  pub least : from + near ≤ to
+  pub most : to ≤ from + far
 
 request_passes : (doc : Doc) (near far p k : ℕ) (h : List Entry) → Passes doc near far p k → Forces doc k h → request_arrival p k h ≡ Some (k + request_delay p (with_events doc k))
 request_passes doc near far p k h passes force =
@@ -105,9 +110,9 @@ request_passes doc near far p k h passes force =
 
 module _ (doc : Doc) (near far e p : ℕ) (steady : IsSteady doc near far 0 e p) where
   -- a controller's request
-  pub request_soon : (m : ℕ) (x : Entry) (T : List Entry) (who : Identity) (call : Call) (arrives : Option ℕ) → IsTail (x ∷ T) (history doc m) → is_controller doc p ≡ true → who.process ≡ p → x.actor ≡ actor_of who → x.fact ≡ Sends call arrives → x.beat ≤ e
-      → (at : ℕ) → arrives ≡ Some at → at ≤ x.beat + far
-  request_soon m x T who call arrives stands role mine actor fact to at is = by_step made.step_is
+  pub request_way : (m : ℕ) (x : Entry) (T : List Entry) (who : Identity) (call : Call) (arrives : Option ℕ) → IsTail (x ∷ T) (history doc m) → is_controller doc p ≡ true → who.process ≡ p → x.actor ≡ actor_of who → x.fact ≡ Sends call arrives → x.beat ≤ e
+      → (at : ℕ) → arrives ≡ Some at → IsWay near far x.beat at
+  request_way m x T who call arrives stands role mine actor fact to at is = by_step made.step_is
     where
       made : MadeSend doc x.beat x.step x.actor call arrives T
       made = subst (λ d. MadeAs doc x.beat x.step x.actor d T) fact (are_made doc m x T stands)
@@ -121,10 +126,11 @@ module _ (doc : Doc) (near far e p : ℕ) (steady : IsSteady doc near far 0 e p)
       passes : Passes doc near far p x.beat
       passes = steady.passes x.beat (omega arith) to
 
-      sent : 2 ≤ x.step → at ≤ x.beat + far
+      sent : 2 ≤ x.step → IsWay near far x.beat at
       sent late =
           let s = request_passes doc near far p x.beat T passes (forces_stand doc m x T stands late) in
-          omega (arith, passes.request_most, some_is at (x.beat + request_delay p (with_events doc x.beat)) (sym is ∙ made.arrives_is ∙ ap (λ p. request_arrival p x.beat T) process ∙ s))
+          let same = some_is at (x.beat + request_delay p (with_events doc x.beat)) (sym is ∙ made.arrives_is ∙ ap (λ p. request_arrival p x.beat T) process ∙ s) in
+          record { least = omega (arith, passes.request_least, same); most = omega (arith, passes.request_most, same) }
 
       stopped : HasStopped x.beat made.q made.kind T → ⊥
       stopped s = omega (arith, steady.stops stop there refl (ap (λ b. has (when b made.q.incarnation)) (eq-eqb made.q.process p process)))
@@ -137,7 +143,7 @@ module _ (doc : Doc) (near far e p : ℕ) (steady : IsSteady doc near far 0 e p)
               in_tail stop (history doc (suc x.beat)) (history doc (suc e)) (later_tail doc (suc x.beat) (suc e) (omega (arith, to)))
               (in_tail stop (x ∷ T) (history doc (suc x.beat)) (in_own_beat doc m x T stands) (inr (subst (In stop) (sym s.is) (inl refl))))
 
-      by_step : (x.step ≡ 1) ⊎ ((x.step ≡ 3) ⊎ (x.step ≡ 4)) → at ≤ x.beat + far
+      by_step : (x.step ≡ 1) ⊎ ((x.step ≡ 3) ⊎ (x.step ≡ 4)) → IsWay near far x.beat at
       by_step (inr (inl three)) = sent (omega (arith, three))
       by_step (inr (inr four)) = sent (omega (arith, four))
       by_step (inl one) = absurd (⊎_elim stopped (λ free. omega (arith, free.2, one)) (made.free (ap (is_controller doc) process ∙ role)))
@@ -287,8 +293,8 @@ module _ (doc : Doc) (near far b e : ℕ) (q : Identity) (l : LeadsUntil doc nea
         soon : is_controller doc m.who.process ≡ true → at ≤ x.beat + far
         soon role =
             ⊎_elim
-            (λ same. request_soon doc near far (b - 1) m.who.process (subst (IsSteady doc near far 0 (b - 1)) (sym same) l.steady) b x place.0 m.who m.call m.arrives place.1 role refl facts.0 facts.1 early at arrives)
-            (λ other. request_soon doc near far e m.who.process (l.others m.who.process role other) b x place.0 m.who m.call m.arrives place.1 role refl facts.0 facts.1 (omega (arith, early, l.within)) at arrives)
+            (λ same. (request_way doc near far (b - 1) m.who.process (subst (IsSteady doc near far 0 (b - 1)) (sym same) l.steady) b x place.0 m.who m.call m.arrives place.1 role refl facts.0 facts.1 early at arrives).most)
+            (λ other. (request_way doc near far e m.who.process (l.others m.who.process role other) b x place.0 m.who m.call m.arrives place.1 role refl facts.0 facts.1 (omega (arith, early, l.within)) at arrives).most)
             (cases_eq m.who.process q.process)
 
         by_role : (t : Bool) → is_controller doc m.who.process ≡ t → at < b + far
