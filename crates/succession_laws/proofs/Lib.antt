@@ -3,3 +3,4 @@ pub mod First
 pub mod Led
 pub mod Setting
 pub mod Records
+pub mod Blocking

@@ -48,12 +48,15 @@ use Rattle.silence_laws.specs.Silence.{LeadsUntil, Bears}
 use Rattle.succession_laws.proofs.Setting.{own_process, request_way, IsWay}
 
 -- no entry stands above one of a later beat
-not_sooner : (h : List Entry) → IsOrdered h → (x : Entry) (T : List Entry) → IsTail (x ∷ T) h → (f : Entry) → In f T → f.beat ≤ x.beat
+pub not_sooner : (h : List Entry) → IsOrdered h → (x : Entry) (T : List Entry) → IsTail (x ∷ T) h → (f : Entry) → In f T → f.beat ≤ x.beat
 not_sooner [] s x T at f stands = absurd (tail_of_empty x T at)
 not_sooner (e ∷ h) s x T (inl is) f stands =
     ⊎_elim (λ lt. omega (arith, lt, ap (λ (x : Entry). x.beat) (same_head x e T h is))) (λ here. omega (arith, here.0, ap (λ (x : Entry). x.beat) (same_head x e T h is)))
     (s.0 f (subst (In f) (same_rest x e T h is) stands))
 not_sooner (e ∷ h) s x T (inr at) f stands = not_sooner h s.1 x T at f stands
+
+pub entries_rise : (doc : Doc) (m : ℕ) (x : Entry) (T : List Entry) → IsTail (x ∷ T) (history doc m) → (f : Entry) → In f T → f.beat ≤ x.beat
+entries_rise doc m = not_sooner (history doc m) (entries_are_ordered doc m)
 
 -- ---- no stops
 
