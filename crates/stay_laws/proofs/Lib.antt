@@ -1,1 +1,3 @@
-
+pub mod Reacting
+pub mod Leading
+pub mod Idle
