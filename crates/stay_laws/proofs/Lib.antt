@@ -1,3 +1,5 @@
 pub mod Reacting
 pub mod Leading
 pub mod Idle
+pub mod Trying
+pub mod Closing
