@@ -1,3 +1,5 @@
+pub mod Won
+pub mod Rivals
 pub mod Reacting
 pub mod Leading
 pub mod Idle
