@@ -37,6 +37,7 @@ use Rattle.takeover_laws.proofs.Deliveries.{Waits, delivered_adds}
 use Rattle.takeover_laws.proofs.Rounds.{rounds_are_short}
 use Rattle.takeover_laws.proofs.Writers.{delivers, follow_adds, timely}
 use Rattle.calm_laws.proofs.Begun.{Begun, begun_by, by_is, waits_between}
+use Rattle.calm_laws.proofs.First.{entry_is}
 use Rattle.calm_laws.proofs.Origins.{sends_differ}
 
 -- ---- what stands below a delivery
@@ -77,13 +78,6 @@ begins doc k b h = by_counted (counted doc b.who k b.call.number h)
     by_counted None = record { x = entry k 3 b.who (Delivers b.call b.reply false); beat = refl; step = refl; position = tail_all (entry k 3 b.who (Delivers b.call b.reply false) ∷ h) }
     by_counted (Some w) = by_role w (is_controller doc b.who.process)
 
-abbrev whole_entry : ℕ → ℕ → Actor → Fact → Entry
-whole_entry beat step who d = record { beat = beat; step = step; actor = who; fact = d }
-
-pub entry_is : (x : Entry) (step : ℕ) (q : Identity) (d : Fact) → x.step ≡ step → x.actor ≡ actor_of q → x.fact ≡ d → x ≡ entry x.beat step q d
-entry_is x step q d at by is =
-    ap (λ (s : ℕ). whole_entry x.beat s x.actor x.fact) at ∙ ap (λ who. whole_entry x.beat step who x.fact) by ∙ ap (λ d. whole_entry x.beat step (actor_of q) d) is
-
 -- ---- a call
 
 -- a reply to the call counts by a beat, at a position after its sending
@@ -91,7 +85,7 @@ pub record IsReplied (doc : Doc) (q : Identity) (call : Call) (sent : List Entry
   pub at : ℕ
   pub most : at ≤ to
   pub reply : Reply
-  pub before : List Entry
+  abbrev pub before : List Entry
   pub position : IsTail (entry at 3 q (Delivers call reply true) ∷ before) (history doc (suc at))
   pub since : IsTail sent before
 
@@ -101,7 +95,7 @@ module _ (doc : Doc) (near far a e : ℕ) (q : Identity) (role : is_controller d
   round : IsRound doc near far q call arrives x.beat
   round = rounds_are_short doc near far a e q steady one m x T call arrives at actor fact (omega (arith, step)) from room
 
-  pub y : ℕ
+  abbrev pub y : ℕ
   y = round.comes
 
   pub y_most : y ≤ x.beat + 2 * far
@@ -110,13 +104,13 @@ module _ (doc : Doc) (near far a e : ℕ) (q : Identity) (role : is_controller d
   y_least : x.beat < y
   y_least = omega (arith, one, round.least, round.comes_least)
 
-  back : Back
+  abbrev back : Back
   back = record { who = q; call = call; reply = answer call.request round.before; comes = reply_arrival doc q.process round.at round.before }
 
   pub before : List Entry
   before = round.deliveries.before
 
-  all : List Entry
+  abbrev all : List Entry
   all = delivered doc y back before
 
   all_high : IsTail all (history doc (suc y))

@@ -112,7 +112,7 @@ module _ (doc : Doc) (q : Identity) (low : List Entry) (at : ℕ) (view : Option
     pub fact : x.fact ≡ Sends call arrives
     pub actor : x.actor ≡ actor_of q
 
-  tried_more : (g h : List Entry) → IsTail g h → Tried g → Tried h
+  pub tried_more : (g h : List Entry) → IsTail g h → Tried g → Tried h
   tried_more g h at s = record { x = s.x; before = s.before; position = tail_trans (s.x ∷ s.before) g h s.position at; since = s.since; idle = s.idle; call = s.call; arrives = s.arrives; fact = s.fact; actor = s.actor }
 
   -- an entry that says nothing of its own, where it is no move of its own

@@ -5,3 +5,6 @@ pub mod Leading
 pub mod Idle
 pub mod Trying
 pub mod Closing
+pub mod Sendings
+pub mod Succeeded
+pub mod Written

@@ -32,7 +32,7 @@ use Rattle.takeover_laws.proofs.Deliveries.{deliveries_add}
 
 -- ---- an entry of step 3 is among the deliveries of its beat
 
-abbrev three : Doc → ℕ → List Entry
+abbrev pub three : Doc → ℕ → List Entry
 three doc k = step_three doc k (with_answers doc k)
 
 four_above : (doc : Doc) (k : ℕ) → Above (λ e. e.step ≡ 4) (three doc k) (history doc (suc k))
@@ -65,8 +65,19 @@ split doc k x T (b ∷ bs) h new at =
     by_place (inr (inl is)) on = here (subst (IsTail (x ∷ T)) (sym is) (tail_all (x ∷ T)))
     by_place (inr (inr low)) on = on (shorter x T (delivered doc k b h) low)
 
+pub in_three : (doc : Doc) (m : ℕ) (x : Entry) (T : List Entry) → IsTail (x ∷ T) (history doc m) → x.step ≡ 3 → IsTail (x ∷ T) (three doc x.beat)
+in_three doc m x T at step = by_place (above_meet (λ e. e.step ≡ 4) (three doc k) (x ∷ T) (history doc (suc k)) (four_above doc k) (in_own_beat doc m x T at))
+  where
+    k : ℕ
+    k = x.beat
+
+    by_place : Above (λ e. e.step ≡ 4) (three doc k) (x ∷ T) ⊎ IsTail (x ∷ T) (three doc k) → IsTail (x ∷ T) (three doc k)
+    by_place (inr at) = at
+    by_place (inl (inl is)) = subst (IsTail (x ∷ T)) (sym is) (tail_all (x ∷ T))
+    by_place (inl (inr above)) = absurd (omega (arith, above.0, step))
+
 from_three : (doc : Doc) (m : ℕ) (x : Entry) (T : List Entry) → IsTail (x ∷ T) (history doc m) → x.step ≡ 3 → From doc x.beat x T (history doc (suc x.beat))
-from_three doc m x T at step = higher (split doc k x T (replies_due k two) two early (by_place (above_meet (λ e. e.step ≡ 4) (three doc k) (x ∷ T) (history doc (suc k)) (four_above doc k) here)))
+from_three doc m x T at step = higher (split doc k x T (replies_due k two) two early (in_three doc m x T at step))
   where
     k : ℕ
     k = x.beat
@@ -74,16 +85,8 @@ from_three doc m x T at step = higher (split doc k x T (replies_due k two) two e
     two : List Entry
     two = with_answers doc k
 
-    here : IsTail (x ∷ T) (history doc (suc k))
-    here = in_own_beat doc m x T at
-
     early : IsTail (x ∷ T) two → ⊥
     early at = ⊎_elim (λ lt. omega (arith, lt)) (λ same. omega (arith, same.1, step)) (within_answers doc k x (in_head x T two at))
-
-    by_place : Above (λ e. e.step ≡ 4) (three doc k) (x ∷ T) ⊎ IsTail (x ∷ T) (three doc k) → IsTail (x ∷ T) (three doc k)
-    by_place (inr at) = at
-    by_place (inl (inl is)) = subst (IsTail (x ∷ T)) (sym is) (tail_all (x ∷ T))
-    by_place (inl (inr above)) = absurd (omega (arith, above.0, step))
 
     higher : From doc k x T (three doc k) → From doc k x T (history doc (suc k))
     higher s = record { b = s.b; h = s.h; stands = s.stands; new = s.new; position = tail_trans (delivered doc k s.b s.h) (three doc k) (history doc (suc k)) s.position (deliveries_position doc k) }
