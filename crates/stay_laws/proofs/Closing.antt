@@ -85,14 +85,14 @@ pub record IsReplied (doc : Doc) (q : Identity) (call : Call) (sent : List Entry
   pub at : ℕ
   pub most : at ≤ to
   pub reply : Reply
-  abbrev pub before : List Entry
+  pub before : List Entry
   pub position : IsTail (entry at 3 q (Delivers call reply true) ∷ before) (history doc (suc at))
   pub since : IsTail sent before
 
 module _ (doc : Doc) (near far a e : ℕ) (q : Identity) (role : is_controller doc q.process ≡ true) (steady : IsSteady doc near far a e q.process) (time : IsInTime doc far a e q.process) (one : 1 ≤ near)
     (m : ℕ) (x : Entry) (T : List Entry) (call : Call) (arrives : Option ℕ) (at : IsTail (x ∷ T) (history doc m)) (actor : x.actor ≡ actor_of q) (fact : x.fact ≡ Sends call arrives) (step : 3 ≤ x.step)
     (sent : call.sent ≡ x.beat) (opens : open_as call.kind call ≡ Some call) (from : a ≤ x.beat) (room : x.beat + 2 * far ≤ e) where
-  round : IsRound doc near far q call arrives x.beat
+  pub round : IsRound doc near far q call arrives x.beat
   round = rounds_are_short doc near far a e q steady one m x T call arrives at actor fact (omega (arith, step)) from room
 
   abbrev pub y : ℕ
@@ -101,13 +101,13 @@ module _ (doc : Doc) (near far a e : ℕ) (q : Identity) (role : is_controller d
   pub y_most : y ≤ x.beat + 2 * far
   y_most = omega (arith, round.most, round.comes_most)
 
-  y_least : x.beat < y
+  pub y_least : x.beat < y
   y_least = omega (arith, one, round.least, round.comes_least)
 
   abbrev back : Back
   back = record { who = q; call = call; reply = answer call.request round.before; comes = reply_arrival doc q.process round.at round.before }
 
-  pub before : List Entry
+  abbrev pub before : List Entry
   before = round.deliveries.before
 
   abbrev all : List Entry
@@ -193,8 +193,13 @@ module _ (doc : Doc) (near far a e : ℕ) (q : Identity) (role : is_controller d
             let late : is_late doc q c.e.beat call ≡ true = subst (λ p. is_late doc p c.e.beat call ≡ true) mine (subst (λ w. is_late doc made.q c.e.beat w ≡ true) closes.1 made.late) in
             absurd (false_is (sym (on_time c.e.beat from_x upto) ∙ late))
         cases who Stops actor fact made closes =
-            absurd (omega (arith, from, from_x, steady.stops c.e
-            (in_tail c.e (history doc (suc y)) (history doc (suc e)) (later_tail doc (suc y) (suc e) (omega (arith, y_most, room))) (in_head c.e c.before (history doc (suc y)) position)) fact (ap (λ who. has (of_process q.process who)) actor ∙ by_process who closes)))
+            absurd (omega (
+              arith,
+              from,
+              from_x,
+              steady.stops c.e
+                  (in_tail c.e (history doc (suc y)) (history doc (suc e)) (later_tail doc (suc y) (suc e) (omega (arith, y_most, room))) (in_head c.e c.before (history doc (suc y)) position)) fact (ap (λ who. has (of_process q.process who)) actor ∙ by_process who closes),
+            ))
           where
             by_process : (who : Actor) → is_by q who ≡ true → has (of_process q.process who) ≡ true
             by_process actors.Script is = absurd (false_is is)

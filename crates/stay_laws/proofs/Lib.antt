@@ -8,3 +8,5 @@ pub mod Closing
 pub mod Sendings
 pub mod Succeeded
 pub mod Written
+pub mod Renewing
+pub mod Staying

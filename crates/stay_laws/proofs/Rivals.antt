@@ -67,7 +67,7 @@ not_sooner (e ∷ h) s x T (inl is) f stands =
 not_sooner (e ∷ h) s x T (inr at) f stands = not_sooner h s.1 x T at f stands
 
 -- everything that is known of waits, of no certain delays
-abbrev plainly : Slow
+abbrev pub plainly : Slow
 plainly = record { who = 0; from = 0; least = 0 }
 
 module _ (doc : Doc) (near far a e : ℕ) (sound : IsSound doc) (calm : IsCalm doc near far a e) (time : AreInTime doc near far a e) (one : 1 ≤ near) (end : e ≤ end_beat doc)

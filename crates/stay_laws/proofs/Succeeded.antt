@@ -88,7 +88,7 @@ module _ (doc : Doc) (q : Identity) (role : is_controller doc q.process ≡ true
   abbrev next : ℕ
   next = local doc q.process y + retry_period doc q.process
 
-  pub s : IsSuccess call.request version
+  abbrev pub s : IsSuccess call.request version
   s = success_is call.request version so
 
   follows : follow_on doc q y call.kind call.request (Done version) low0 ≡ Succeeds version

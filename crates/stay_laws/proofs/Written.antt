@@ -34,7 +34,7 @@ use Rattle.calm_laws.proofs.Replies.{wrote_by}
 use Rattle.gap_laws.proofs.Waits.{Topped, Took, WaitedFor}
 use Rattle.stay_laws.specs.Stays.{HasSuccess, RenewsInTime}
 use Rattle.stay_laws.proofs.Won.{Won}
-use Rattle.stay_laws.proofs.Rivals.{Own, plainly, topped, back_is, won0, own_at, own_writes, won_at}
+use Rattle.stay_laws.proofs.Rivals.{Own, plainly, topped, won0, own_at, own_writes, won_at}
 use Rattle.stay_laws.proofs.Closing.{within_below}
 use Rattle.stay_laws.proofs.Idle.{is_move}
 use Rattle.stay_laws.proofs.Sendings.{IsFree, is_free, key_is, IsWay, answer_high, sending_high, free, way}
@@ -82,7 +82,7 @@ module _ (doc : Doc) (near far a e : ℕ) (sound : IsSound doc) (calm : IsCalm d
   pub write_high : IsTail (o.e ∷ o.low) (history doc (suc e))
   write_high = all_of (o.e ∷ o.low) (answer_high doc near far a e q role steady s.call (Done s.version) s.before y s.position o to)
 
-  pub what : IsSuccess s.call.request s.version
+  abbrev pub what : IsSuccess s.call.request s.version
   what = success_is s.call.request s.version s.success
 
   pub writes : has (at_key election (write_of o.e.fact)) ≡ true
