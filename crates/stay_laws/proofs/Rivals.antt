@@ -67,7 +67,7 @@ not_sooner (e ∷ h) s x T (inl is) f stands =
 not_sooner (e ∷ h) s x T (inr at) f stands = not_sooner h s.1 x T at f stands
 
 -- everything that is known of waits, of no certain delays
-abbrev plainly : Slow
+abbrev pub plainly : Slow
 plainly = record { who = 0; from = 0; least = 0 }
 
 module _ (doc : Doc) (near far a e : ℕ) (sound : IsSound doc) (calm : IsCalm doc near far a e) (time : AreInTime doc near far a e) (one : 1 ≤ near) (end : e ≤ end_beat doc)
@@ -76,7 +76,7 @@ module _ (doc : Doc) (near far a e : ℕ) (sound : IsSound doc) (calm : IsCalm d
   all = history doc (suc e)
 
   -- what is known of all waits
-  known : Waits doc plainly (end_beat doc) (whole_history doc)
+  pub known : Waits doc plainly (end_beat doc) (whole_history doc)
   known = whole_known doc sound (greatest_below doc (length doc.controllers)) (rates_at_most doc) plainly (λ x h at from late. (omega arith, omega arith))
 
   -- its answer as a message to its sender
@@ -84,7 +84,7 @@ module _ (doc : Doc) (near far a e : ℕ) (sound : IsSound doc) (calm : IsCalm d
   back_is x T w = ap (λ d. back_of x.actor d) w.fact ∙ ap (λ who. back_of who (Answers w.call w.reply w.comes w.wrote)) w.actor
 
   -- such a write waited for what it found
-  topped : (x : Entry) (T : List Entry) → IsTail (x ∷ T) all → (w : Won doc x T) → Topped doc x T × Took doc plainly (record { who = w.who; call = w.call; reply = w.reply; comes = w.comes }) x.beat T
+  pub topped : (x : Entry) (T : List Entry) → IsTail (x ∷ T) all → (w : Won doc x T) → Topped doc x T × Took doc plainly (record { who = w.who; call = w.call; reply = w.reply; comes = w.comes }) x.beat T
   topped x T at w =
       subst (λ o. IfSome o (λ b. is_controller doc b.who.process ≡ true → succeeds b.call.request b.reply ≡ true → Topped doc x T × Took doc plainly b x.beat T)) (back_is x T w)
       (known.answers x T (tail_trans (x ∷ T) all (whole_history doc) at (later_tail doc (suc e) (suc (end_beat doc)) (omega (arith, end))))) w.role w.so
@@ -180,7 +180,7 @@ module _ (doc : Doc) (near far a e : ℕ) (sound : IsSound doc) (calm : IsCalm d
     unstopped T at = let none = never_stopped doc near far a e q steady sound end k from to acting in omega (arith, none, count_tail (λ x. is_stop x.fact && is_by q x.actor) T all at)
 
     -- its accepted write leaves its own record
-    own_of : (from : ℕ) (x : Entry) (T : List Entry) → IsTail (x ∷ T) all → (w : Won doc x T) → w.who ≡ q → from ≤ x.beat → Own doc q from (x ∷ T)
+    pub own_of : (from : ℕ) (x : Entry) (T : List Entry) → IsTail (x ∷ T) all → (w : Won doc x T) → w.who ≡ q → from ≤ x.beat → Own doc q from (x ∷ T)
     own_of from x T at w mine since = record {
       y = t.x;
       top = t.top;
@@ -205,7 +205,7 @@ module _ (doc : Doc) (near far a e : ℕ) (sound : IsSound doc) (calm : IsCalm d
         fit = ⊎_elim (λ own. own) (λ free. absurd (omega (arith, free.1, none))) t.fit
 
     -- its first write
-    won0 : Won doc x0 T0
+    pub won0 : Won doc x0 T0
     won0 = is_won doc sound e end x0 T0 at0 (omega (arith, after)) writes0
 
     module _ (n : ℕ) (within : n ≤ e) (soon : n ≤ x0.beat + renews.wait + 5 * far) where
@@ -230,7 +230,7 @@ module _ (doc : Doc) (near far a e : ℕ) (sound : IsSound doc) (calm : IsCalm d
               (omega (arith, upto n x T (omega (arith, late)) at, soon, own.since)))
 
       -- an accepted write above the first one is a controller's success
-      won_at : (x : Entry) (T : List Entry) → IsTail (x ∷ T) (history doc (suc n)) → IsTail (x0 ∷ T0) T → has (at_key election (write_of x.fact)) ≡ true → Won doc x T
+      pub won_at : (x : Entry) (T : List Entry) → IsTail (x ∷ T) (history doc (suc n)) → IsTail (x0 ∷ T0) T → has (at_key election (write_of x.fact)) ≡ true → Won doc x T
       won_at x T at low writes =
           is_won doc sound e end x T (in_all (x ∷ T) at)
           (omega (arith, after, not_sooner (history doc (suc n)) (entries_are_ordered doc (suc n)) x T at x0 (in_head x0 T0 T low))) writes
