@@ -4,3 +4,4 @@ pub mod Led
 pub mod Setting
 pub mod Records
 pub mod Blocking
+pub mod Renewed

@@ -103,16 +103,21 @@ pub record IsWay (near far from to : ℕ) : Type 0 where
   pub least : from + near ≤ to
   pub most : to ≤ from + far
 
+pub record Arrives (near far from : ℕ) (arrives : Option ℕ) : Type 0 where
+  pub at : ℕ
+  pub is : arrives ≡ Some at
+  pub way : IsWay near far from at
+
 request_passes : (doc : Doc) (near far p k : ℕ) (h : List Entry) → Passes doc near far p k → Forces doc k h → request_arrival p k h ≡ Some (k + request_delay p (with_events doc k))
 request_passes doc near far p k h passes force =
     ap (λ b. arrival b k (request_delay p h)) (ap (or_else false) (force.1 (request_loss_of p)) ∙ passes.requests)
     ∙ ap (λ n. Some (k + n)) (ap (or_else 1) (force.0 (request_delay_of p)))
 
 module _ (doc : Doc) (near far e p : ℕ) (steady : IsSteady doc near far 0 e p) where
-  -- a controller's request
-  pub request_way : (m : ℕ) (x : Entry) (T : List Entry) (who : Identity) (call : Call) (arrives : Option ℕ) → IsTail (x ∷ T) (history doc m) → is_controller doc p ≡ true → who.process ≡ p → x.actor ≡ actor_of who → x.fact ≡ Sends call arrives → x.beat ≤ e
-      → (at : ℕ) → arrives ≡ Some at → IsWay near far x.beat at
-  request_way m x T who call arrives stands role mine actor fact to at is = by_step made.step_is
+  -- a controller's request isn't lost
+  pub request_arrives : (m : ℕ) (x : Entry) (T : List Entry) (who : Identity) (call : Call) (arrives : Option ℕ) → IsTail (x ∷ T) (history doc m) → is_controller doc p ≡ true → who.process ≡ p → x.actor ≡ actor_of who → x.fact ≡ Sends call arrives → x.beat ≤ e
+      → Arrives near far x.beat arrives
+  request_arrives m x T who call arrives stands role mine actor fact to = by_step made.step_is
     where
       made : MadeSend doc x.beat x.step x.actor call arrives T
       made = subst (λ d. MadeAs doc x.beat x.step x.actor d T) fact (are_made doc m x T stands)
@@ -126,11 +131,12 @@ module _ (doc : Doc) (near far e p : ℕ) (steady : IsSteady doc near far 0 e p)
       passes : Passes doc near far p x.beat
       passes = steady.passes x.beat (omega arith) to
 
-      sent : 2 ≤ x.step → IsWay near far x.beat at
-      sent late =
-          let s = request_passes doc near far p x.beat T passes (forces_stand doc m x T stands late) in
-          let same = some_is at (x.beat + request_delay p (with_events doc x.beat)) (sym is ∙ made.arrives_is ∙ ap (λ p. request_arrival p x.beat T) process ∙ s) in
-          record { least = omega (arith, passes.request_least, same); most = omega (arith, passes.request_most, same) }
+      sent : 2 ≤ x.step → Arrives near far x.beat arrives
+      sent late = record {
+        at = x.beat + request_delay p (with_events doc x.beat);
+        is = made.arrives_is ∙ ap (λ p. request_arrival p x.beat T) process ∙ request_passes doc near far p x.beat T passes (forces_stand doc m x T stands late);
+        way = record { least = omega (arith, passes.request_least); most = omega (arith, passes.request_most) };
+      }
 
       stopped : HasStopped x.beat made.q made.kind T → ⊥
       stopped s = omega (arith, steady.stops stop there refl (ap (λ b. has (when b made.q.incarnation)) (eq-eqb made.q.process p process)))
@@ -143,10 +149,16 @@ module _ (doc : Doc) (near far e p : ℕ) (steady : IsSteady doc near far 0 e p)
               in_tail stop (history doc (suc x.beat)) (history doc (suc e)) (later_tail doc (suc x.beat) (suc e) (omega (arith, to)))
               (in_tail stop (x ∷ T) (history doc (suc x.beat)) (in_own_beat doc m x T stands) (inr (subst (In stop) (sym s.is) (inl refl))))
 
-      by_step : (x.step ≡ 1) ⊎ ((x.step ≡ 3) ⊎ (x.step ≡ 4)) → IsWay near far x.beat at
+      by_step : (x.step ≡ 1) ⊎ ((x.step ≡ 3) ⊎ (x.step ≡ 4)) → Arrives near far x.beat arrives
       by_step (inr (inl three)) = sent (omega (arith, three))
       by_step (inr (inr four)) = sent (omega (arith, four))
       by_step (inl one) = absurd (⊎_elim stopped (λ free. omega (arith, free.2, one)) (made.free (ap (is_controller doc) process ∙ role)))
+
+  pub request_way : (m : ℕ) (x : Entry) (T : List Entry) (who : Identity) (call : Call) (arrives : Option ℕ) → IsTail (x ∷ T) (history doc m) → is_controller doc p ≡ true → who.process ≡ p → x.actor ≡ actor_of who → x.fact ≡ Sends call arrives → x.beat ≤ e
+      → (at : ℕ) → arrives ≡ Some at → IsWay near far x.beat at
+  request_way m x T who call arrives stands role mine actor fact to at is =
+      let r = request_arrives m x T who call arrives stands role mine actor fact to in
+      subst (IsWay near far x.beat) (some_is r.at at (sym r.is ∙ is)) r.way
 
 -- ---- the situation
 
