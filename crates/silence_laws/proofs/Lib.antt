@@ -1,1 +1,9 @@
 pub mod Quiet
+pub mod Kept
+pub mod Showing
+pub mod Looking
+pub mod Ways
+pub mod Waiting
+pub mod Stepping
+pub mod Chain
+pub mod Chained
