@@ -91,7 +91,7 @@ module _ (doc : Doc) (near far b e : ℕ) (q : Identity) (l : LeadsUntil doc nea
   low_high : IsTail o.low (history doc (suc e))
   low_high = tail_trans o.low (o.e ∷ o.low) (history doc (suc e)) (inr (tail_all o.low)) (tail_trans (o.e ∷ o.low) T (history doc (suc e)) o.answered high)
 
-  k : Kept o.low y
+  abbrev k : Kept o.low y
   k = kept_of o.low y top
 
   foreign : y.by ≡ Some c → ⊥

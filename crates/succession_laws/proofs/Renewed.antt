@@ -147,11 +147,11 @@ reacted_on k q led (Asks request) h = inr (tail_all h)
 reacted_on k q true (Succeeds version) h = tail_all h
 reacted_on k q false (Succeeds version) h = inr (tail_all h)
 
-module _ (doc : Doc) (near far b e : ℕ) (q : Identity) (l : LeadsUntil doc near far b e q) (s : Bears doc near far b e q) (stay : LeadersStay) where
-  abbrev a : ℕ
+module _ (doc : Doc) (near far b e : ℕ) (q : Identity) (l : LeadsUntil doc near far b e q) (s : Bears doc near far b e q) where
+  abbrev pub a : ℕ
   a = b - 1
 
-  end : a ≤ end_beat doc
+  pub end : a ≤ end_beat doc
   end = omega (arith, l.within, s.end)
 
   my_time : IsInTime doc far 0 a q.process
@@ -231,13 +231,10 @@ module _ (doc : Doc) (near far b e : ℕ) (q : Identity) (l : LeadsUntil doc nea
             (tail_trans (o.e ∷ o.low) (history doc (suc o.e.beat)) (history doc at) (in_own_beat doc (suc a) o.e o.low write_high) (later_tail doc (suc o.e.beat) at (omega (arith, ways.comes_least, s.one, from, way.least))))
             (tail_trans (history doc at) (with_events doc at) answering.before (before_events doc at) answering.after)
 
-        abbrev there : Entry
-        there = entry at 2 q (Answers call (answer call.request answering.before) (reply_arrival doc q.process at answering.before) (written call.request answering.before))
-
         by_above : (stored election answering.before ≡ stored election (o.e ∷ o.low)) ⊎ WroteAbove (o.e ∷ o.low) answering.before → Rewritten (x.beat + far)
         by_above (inr w) = from_above (x.beat + far) at answering.before (tail_trans answering.before (answered doc at sent answering.before) (history doc (suc at)) (inr (tail_all answering.before)) answering.position) way.most w
         by_above (inl same) = record {
-          z = there;
+          z = entry at 2 q (Answers call (answer call.request answering.before) (reply_arrival doc q.process at answering.before) (written call.request answering.before));
           before = answering.before;
           position = answering.position;
           since = low;
