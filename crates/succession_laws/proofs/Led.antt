@@ -138,19 +138,9 @@ pub record HasLed (doc : Doc) (q : Identity) (k : ℕ) : Type 0 where
   pub to : j ≤ k
   pub success : HasSuccess doc q 0 j
 
-pub acting_led : (doc : Doc) (q : Identity) (k : ℕ) → Acts doc q k → HasLed doc q k
-acting_led doc q k acting = from_lead (lead_in q g (turn_leads doc q q.process k (set (deadline doc q g) (and_right (is_present (alive q.process g) q.incarnation) (is_before (local doc q.process k) (deadline doc q g)) (term_of doc q k g acting.1)))))
+pub leads_led : (doc : Doc) (q : Identity) (k : ℕ) (g : List Entry) → IsTail g (history doc (suc k)) → leads q g ≡ true → HasLed doc q k
+leads_led doc q k g high leads_it = from_lead (lead_in q g leads_it)
   where
-    g : List Entry
-    g = at_turn doc q.process k
-
-    set : (o : Option ℕ) → is_before (local doc q.process k) o ≡ true → has o ≡ true
-    set None is = absurd (false_is is)
-    set (Some at) is = refl
-
-    high : IsTail g (history doc (suc k))
-    high = turn_tail doc q.process k (omega (arith, controllers_first doc q.process acting.0))
-
     from_lead : HasLead q g → HasLed doc q k
     from_lead s = record {
       j = s.x.beat;
@@ -187,3 +177,15 @@ acting_led doc q k acting = from_lead (lead_in q g (turn_leads doc q q.process k
 
         upto : s.x.beat ≤ k
         upto = ⊎_elim (λ lt. omega (arith, lt)) (λ first. omega (arith, first.0)) (entries_are_earlier doc (suc k) s.x (in_head s.x s.before (history doc (suc k)) at))
+
+pub acting_led : (doc : Doc) (q : Identity) (k : ℕ) → Acts doc q k → HasLed doc q k
+acting_led doc q k acting =
+    leads_led doc q k g (turn_tail doc q.process k (omega (arith, controllers_first doc q.process acting.0)))
+    (turn_leads doc q q.process k (set (deadline doc q g) (and_right (is_present (alive q.process g) q.incarnation) (is_before (local doc q.process k) (deadline doc q g)) (term_of doc q k g acting.1))))
+  where
+    g : List Entry
+    g = at_turn doc q.process k
+
+    set : (o : Option ℕ) → is_before (local doc q.process k) o ≡ true → has o ≡ true
+    set None is = absurd (false_is is)
+    set (Some at) is = refl

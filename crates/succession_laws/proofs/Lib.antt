@@ -5,3 +5,5 @@ pub mod Setting
 pub mod Records
 pub mod Blocking
 pub mod Renewed
+pub mod Timely
+pub mod Following

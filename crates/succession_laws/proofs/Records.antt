@@ -147,22 +147,46 @@ pub record IsIts (doc : Doc) (b p : ℕ) (x : Entry) (T : List Entry) : Type 0 w
   pub f_fact : f.fact ≡ Sends call (Some x.beat)
   pub sent : call.sent ≡ f.beat
 
+-- ---- what is stored
+
+-- it is a record of the leader's process
+pub record OfIt (doc : Doc) (q : Identity) (h : List Entry) : Type 0 where
+  pub y : Held
+  pub top : stored election h ≡ Some y
+  pub who : Identity
+  pub mine : who.process ≡ q.process
+  pub by : y.by ≡ Some who
+  pub lease : Lease
+  pub object : y.object ≡ object.Lease lease
+  pub holder : lease.holder ≡ holder_of who
+  pub duration : lease.duration ≡ Some (lease_seconds doc q.process)
+
+pub new_of_it : (doc : Doc) (b : ℕ) (q : Identity) (x : Entry) (T : List Entry) → IsIts doc b q.process x T → OfIt doc q (x ∷ T)
+new_of_it doc b q x T i = record {
+  y = record { version = next_version T; object = object.Lease i.lease; beat = x.beat; by = identity_of x.actor };
+  top = ap (λ o. join (upper (holds T x.beat x.actor o) (last_write election T))) i.writes;
+  who = i.who;
+  mine = i.mine;
+  by = ap identity_of i.actor;
+  lease = i.lease;
+  object = refl;
+  holder = i.holder;
+  duration = i.duration ∙ ap (λ p. Some (lease_seconds doc p)) i.mine;
+}
+
+pub old_of_it : (doc : Doc) (q : Identity) (x : Entry) (T : List Entry) → at_key election (write_of x.fact) ≡ None → OfIt doc q T → OfIt doc q (x ∷ T)
+old_of_it doc q x T none o = record { y = o.y; top = top_stays x T none ∙ o.top; who = o.who; mine = o.mine; by = o.by; lease = o.lease; object = o.object; holder = o.holder; duration = o.duration }
+
+-- it blocks others for the leader's lease duration
+pub lasts_for : (doc : Doc) (q : Identity) (h : List Entry) → OfIt doc q h → LastsFor (lease_duration doc q.process) (object_of (stored election h))
+lasts_for doc q h o = subst (λ t. LastsFor (lease_duration doc q.process) (object_of t)) (sym o.top) (subst (λ y. LastsFor (lease_duration doc q.process) (Some y)) (sym o.object) (inr (omega (arith, ap (λ t. of_seconds (or_zero t)) o.duration))))
+
 module _ (doc : Doc) (near far b e : ℕ) (q : Identity) (l : LeadsUntil doc near far b e q) (s : Bears doc near far b e q) (quiet : IsQuiet doc b e q.process)
-    (n : ℕ) (within : n ≤ e) (idle : (r : Identity) → is_controller doc r.process ≡ true → (r.process ≡ q.process → ⊥) → (k : ℕ) → k ≤ n → Acts doc r k → ⊥) where
-  module _ (x : Entry) (T : List Entry) (at : IsTail (x ∷ T) (history doc (suc n))) (some : 1 ≤ x.beat) (writes : has (at_key election (write_of x.fact)) ≡ true) (late : x.beat + far ≤ n) where
-    w : Won doc x T
-    w = is_won doc s.sound n (omega (arith, within, s.end)) x T at some writes
+    (n : ℕ) (within : n ≤ e) where
+  module _ (x : Entry) (T : List Entry) (at : IsTail (x ∷ T) (history doc (suc n))) (writes : has (at_key election (write_of x.fact)) ≡ true) (w : Won doc x T) (mine : w.who.process ≡ q.process) where
 
     wrote : has (at_key election (request_write w.call.request w.wrote)) ≡ true
     wrote = ap (λ d. has (at_key election (write_of d))) (sym w.fact) ∙ writes
-
-    mine : w.who.process ≡ q.process
-    mine = ⊎_elim (λ same. same) (λ other. absurd (foreign other)) (cases_eq w.who.process q.process)
-      where
-        foreign : (w.who.process ≡ q.process → ⊥) → ⊥
-        foreign other =
-            writer_acts doc near far 0 e n w.who w.role (l.others w.who.process w.role other) (s.calls w.who.process w.role) within s.one (λ k from to. idle w.who w.role other k to) x T at w.actor
-            (subst (WritesElection 0) (sym w.fact) (omega arith, wrote)) late
 
     early : w.call.sent < b
     early = ⊎_elim (λ lt. lt) (λ le. absurd (silent le)) (cases_lt w.call.sent b)
@@ -248,77 +272,35 @@ module _ (doc : Doc) (near far b e : ℕ) (q : Identity) (l : LeadsUntil doc nea
           sent,
         )
 
-  -- ---- what is stored
+  -- ---- while nobody else acts
 
-  -- it is a record of the leader's process
-  pub record OfIt (h : List Entry) : Type 0 where
-    pub y : Held
-    pub top : stored election h ≡ Some y
-    pub who : Identity
-    pub mine : who.process ≡ q.process
-    pub by : y.by ≡ Some who
-    pub lease : Lease
-    pub object : y.object ≡ object.Lease lease
-    pub holder : lease.holder ≡ holder_of who
-    pub duration : lease.duration ≡ Some (lease_seconds doc q.process)
+  module _ (idle : (r : Identity) → is_controller doc r.process ≡ true → (r.process ≡ q.process → ⊥) → (k : ℕ) → k ≤ n → Acts doc r k → ⊥) where
+    -- no other controller writes it, where a reply could come
+    pub no_foreign : (x : Entry) (T : List Entry) → IsTail (x ∷ T) (history doc (suc n)) → has (at_key election (write_of x.fact)) ≡ true → x.beat + far ≤ n → (w : Won doc x T) → w.who.process ≡ q.process
+    no_foreign x T at writes late w = ⊎_elim (λ same. same) (λ other. absurd (foreign other)) (cases_eq w.who.process q.process)
+      where
+        foreign : (w.who.process ≡ q.process → ⊥) → ⊥
+        foreign other =
+            writer_acts doc near far 0 e n w.who w.role (l.others w.who.process w.role other) (s.calls w.who.process w.role) within s.one (λ k from to. idle w.who w.role other k to) x T at w.actor
+            (subst (WritesElection 0) (sym w.fact) (omega arith, ap (λ d. has (at_key election (write_of d))) (sym w.fact) ∙ writes)) late
 
-  new_of_it : (x : Entry) (T : List Entry) → IsIts doc b q.process x T → OfIt (x ∷ T)
-  new_of_it x T i = record {
-    y = record { version = next_version T; object = object.Lease i.lease; beat = x.beat; by = identity_of x.actor };
-    top = ap (λ o. join (upper (holds T x.beat x.actor o) (last_write election T))) i.writes;
-    who = i.who;
-    mine = i.mine;
-    by = ap identity_of i.actor;
-    lease = i.lease;
-    object = refl;
-    holder = i.holder;
-    duration = i.duration ∙ ap (λ p. Some (lease_seconds doc p)) i.mine;
-  }
+    -- from beat b + far on it is the same
+    pub same_since : (m : ℕ) → b + far ≤ suc m → m + far ≤ n → (h : List Entry) → IsTail (history doc (b + far)) h → IsTail h (history doc (suc m)) → stored election h ≡ stored election (history doc (b + far))
+    same_since m from late [] low high = ap (stored election) (sym low)
+    same_since m from late (z ∷ Z) (inl is) high = ap (stored election) (sym is)
+    same_since m from late (z ∷ Z) (inr low) high = by_write (at_key election (write_of z.fact)) refl ∙ same_since m from late Z low (tail_trans Z (z ∷ Z) (history doc (suc m)) (inr (tail_all Z)) high)
+      where
+        at_n : IsTail (z ∷ Z) (history doc (suc n))
+        at_n = tail_trans (z ∷ Z) (history doc (suc m)) (history doc (suc n)) high (later_tail doc (suc m) (suc n) (omega (arith, late)))
 
-  -- from its write on
-  pub of_it : (x : Entry) (T : List Entry) → IsTail (x ∷ T) (history doc (suc n)) → 1 ≤ x.beat → has (at_key election (write_of x.fact)) ≡ true → (m : ℕ) → m + far ≤ n → (h : List Entry) → IsTail (x ∷ T) h → IsTail h (history doc (suc m)) → OfIt h
-  of_it x T at some writes m late [] low high = absurd (tail_of_empty x T low)
-  of_it x T at some writes m late (z ∷ Z) low high = cases low (at_key election (write_of z.fact)) refl (λ below. of_it x T at some writes m late Z below (tail_trans Z (z ∷ Z) (history doc (suc m)) (inr (tail_all Z)) high))
-    where
-      at_n : IsTail (z ∷ Z) (history doc (suc n))
-      at_n = tail_trans (z ∷ Z) (history doc (suc m)) (history doc (suc n)) high (later_tail doc (suc m) (suc n) (omega (arith, late)))
+        upto : z.beat ≤ m
+        upto = ⊎_elim (λ lt. omega (arith, lt)) (λ first. omega (arith, first.0)) (entries_are_earlier doc (suc m) z (in_head z Z (history doc (suc m)) high))
 
-      upto : z.beat ≤ m
-      upto = ⊎_elim (λ lt. omega (arith, lt)) (λ first. omega (arith, first.0)) (entries_are_earlier doc (suc m) z (in_head z Z (history doc (suc m)) high))
+        beat : b + far ≤ z.beat
+        beat = (next_above (λ y. b + far ≤ y.beat) (history doc (b + far)) Z (history doc (suc m)) z (from_beat doc (b + far) (suc m) from) low high).0
 
-      its : 1 ≤ z.beat → has (at_key election (write_of z.fact)) ≡ true → OfIt (z ∷ Z)
-      its later writes = new_of_it z Z (is_its z Z at_n later writes (omega (arith, upto, late)))
-
-      older : (at_key election (write_of z.fact) ≡ None) → OfIt Z → OfIt (z ∷ Z)
-      older none o = record { y = o.y; top = top_stays z Z none ∙ o.top; who = o.who; mine = o.mine; by = o.by; lease = o.lease; object = o.object; holder = o.holder; duration = o.duration }
-
-      since : IsTail (x ∷ T) Z → x.beat ≤ z.beat
-      since below = not_sooner (history doc (suc m)) (entries_are_ordered doc (suc m)) z Z high x (in_head x T Z below)
-
-      cases : IsTail (x ∷ T) (z ∷ Z) → (o : Option (Option Object)) → at_key election (write_of z.fact) ≡ o → (IsTail (x ∷ T) Z → OfIt Z) → OfIt (z ∷ Z)
-      cases (inl same) o is on = its (subst (λ (y : Entry). 1 ≤ y.beat) (same_head x z T Z same) some) (subst (λ (y : Entry). has (at_key election (write_of y.fact)) ≡ true) (same_head x z T Z same) writes)
-      cases (inr below) None is on = older is (on below)
-      cases (inr below) (Some o) is on = its (omega (arith, some, since below)) (ap has is)
-
-  -- from beat b + far on it is the same
-  pub same_since : (m : ℕ) → b + far ≤ suc m → m + far ≤ n → (h : List Entry) → IsTail (history doc (b + far)) h → IsTail h (history doc (suc m)) → stored election h ≡ stored election (history doc (b + far))
-  same_since m from late [] low high = ap (stored election) (sym low)
-  same_since m from late (z ∷ Z) (inl is) high = ap (stored election) (sym is)
-  same_since m from late (z ∷ Z) (inr low) high = by_write (at_key election (write_of z.fact)) refl ∙ same_since m from late Z low (tail_trans Z (z ∷ Z) (history doc (suc m)) (inr (tail_all Z)) high)
-    where
-      at_n : IsTail (z ∷ Z) (history doc (suc n))
-      at_n = tail_trans (z ∷ Z) (history doc (suc m)) (history doc (suc n)) high (later_tail doc (suc m) (suc n) (omega (arith, late)))
-
-      upto : z.beat ≤ m
-      upto = ⊎_elim (λ lt. omega (arith, lt)) (λ first. omega (arith, first.0)) (entries_are_earlier doc (suc m) z (in_head z Z (history doc (suc m)) high))
-
-      beat : b + far ≤ z.beat
-      beat = (next_above (λ y. b + far ≤ y.beat) (history doc (b + far)) Z (history doc (suc m)) z (from_beat doc (b + far) (suc m) from) low high).0
-
-      by_write : (o : Option (Option Object)) → at_key election (write_of z.fact) ≡ o → stored election (z ∷ Z) ≡ stored election Z
-      by_write None is = top_stays z Z is
-      by_write (Some o) is = absurd (omega (arith, beat, its_beat z Z at_n (omega (arith, beat, s.one, s.ways)) (ap has is) (omega (arith, upto, late))))
-
-  -- it blocks others for the leader's lease duration
-  pub lasts_for : (h : List Entry) → OfIt h → LastsFor (lease_duration doc q.process) (object_of (stored election h))
-  lasts_for h o = subst (λ t. LastsFor (lease_duration doc q.process) (object_of t)) (sym o.top) (subst (λ y. LastsFor (lease_duration doc q.process) (Some y)) (sym o.object) (inr (omega (arith, ap (λ t. of_seconds (or_zero t)) o.duration))))
+        by_write : (o : Option (Option Object)) → at_key election (write_of z.fact) ≡ o → stored election (z ∷ Z) ≡ stored election Z
+        by_write None is = top_stays z Z is
+        by_write (Some o) is =
+            let w : Won doc z Z = is_won doc s.sound n (omega (arith, within, s.end)) z Z at_n (omega (arith, beat, s.one, s.ways)) (ap has is) in
+            absurd (omega (arith, beat, its_beat z Z at_n (ap has is) w (no_foreign z Z at_n (ap has is) (omega (arith, upto, late)) w)))
