@@ -10,3 +10,5 @@ pub mod Chained
 pub mod Led
 pub mod Setting
 pub mod Renewed
+pub mod Owning
+pub mod Taken
