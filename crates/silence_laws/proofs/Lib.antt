@@ -7,3 +7,8 @@ pub mod Waiting
 pub mod Stepping
 pub mod Chain
 pub mod Chained
+pub mod Led
+pub mod Setting
+pub mod Renewed
+pub mod Owning
+pub mod Taken
