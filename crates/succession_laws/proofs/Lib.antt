@@ -6,4 +6,6 @@ pub mod Records
 pub mod Blocking
 pub mod Renewed
 pub mod Timely
+pub mod Turns
+pub mod Ordered
 pub mod Following
