@@ -56,13 +56,14 @@ use Rattle.silence_laws.specs.Silence.{LeadsUntil, Bears}
 use Rattle.silence_laws.proofs.Looking.{asks_election}
 use Rattle.silence_laws.proofs.Ways as ways_of
 use Rattle.silence_laws.proofs.Ways.{reply_way}
-use Rattle.succession_laws.specs.Successions.{OthersRenew, RepliesCome, IsHeir, IsFollowed, SuccessorsLead}
+use Rattle.succession_laws.specs.Successions.{OthersRenew, RepliesCome, IsHeir, IsFollowed, last_ways, SuccessorsLead}
 use Rattle.succession_laws.proofs.Blocking.{blocked}
+use Rattle.succession_laws.proofs.Edge.{edge}
 use Rattle.succession_laws.proofs.First.{none_first}
 use Rattle.succession_laws.proofs.Led.{HasLed, acting_led, leads_led}
 use Rattle.succession_laws.proofs.Records.{OfIt, same_since, no_foreign, lasts_for}
 use Rattle.succession_laws.proofs.Setting.{calm_before, times_before, restrict, idle_before, calm_since, times_since, others_since}
-use Rattle.succession_laws.proofs.Timely.{first, led, led_to, timely, of_it, writer_is_its}
+use Rattle.succession_laws.proofs.Timely.{first, first_low, timely, of_it}
 use Rattle.succession_laws.proofs.Timely as in_time
 
 -- a write that follows a Get that showed what is stored fits it
@@ -87,18 +88,6 @@ no_get : (r : Request) (key : Key) → r ≡ Get key → IsWrite r → ⊥
 no_get r key is write = subst IsWrite is write
 
 module _ (doc : Doc) (near far b e : ℕ) (q : Identity) (l : LeadsUntil doc near far b e q) (s : Bears doc near far b e q) (quiet : IsQuiet doc b e q.process) where
-  -- the leader's first write stands below what comes three ways before b, or later
-  first_low : (m : ℕ) (x : Entry) (T : List Entry) → IsTail (x ∷ T) (history doc (suc m)) → 1 ≤ x.step → b ≤ x.beat + 3 * far → x.beat ≤ m → IsTail ((first doc near far b e q l s).e ∷ (first doc near far b e q l s).low) T
-  first_low m x T at step late upto =
-      tail_trans w (history doc x.beat) T
-      (tail_trans w (history doc (suc (first doc near far b e q l s).e.beat)) (history doc x.beat) (in_own_beat doc (suc (b - 1)) (first doc near far b e q l s).e (first doc near far b e q l s).low (in_time.first_high doc near far b e q l s))
-      (later_tail doc (suc (first doc near far b e q l s).e.beat) x.beat
-      (omega (arith, (in_time.first_ways doc near far b e q l s).comes_least, (in_time.first_ways doc near far b e q l s).sent_least, s.one, (led doc near far b e q l s).to, late))))
-      (not_before doc x.beat (suc m) x T (omega (arith, upto)) at (omega arith) step)
-    where
-      w : List Entry
-      w = (first doc near far b e q l s).e ∷ (first doc near far b e q l s).low
-
   -- ---- another controller
 
   module _ (c : Identity) (role : is_controller doc c.process ≡ true) (other : c.process ≡ q.process → ⊥) where
@@ -131,7 +120,7 @@ module _ (doc : Doc) (near far b e : ℕ) (q : Identity) (l : LeadsUntil doc nea
         step = omega (arith, o.step)
 
         low : IsTail ((first doc near far b e q l s).e ∷ (first doc near far b e q l s).low) o.low
-        low = first_low o.e.beat o.e o.low e_own step late (omega arith)
+        low = first_low doc near far b e q l s o.e.beat o.e o.low e_own step late (omega arith)
 
         of : OfIt doc q o.low
         of = of_it doc near far b e q l s o.e.beat by early quiet o.low low (tail_trans o.low (o.e ∷ o.low) (history doc (suc o.e.beat)) (inr (tail_all o.low)) e_own)
@@ -215,7 +204,14 @@ module _ (doc : Doc) (near far b e : ℕ) (q : Identity) (l : LeadsUntil doc nea
 
     -- ---- while no other controller acts
 
-    module _ (n : ℕ) (within : n ≤ e) (idle : (r : Identity) → is_controller doc r.process ≡ true → (r.process ≡ q.process → ⊥) → (k : ℕ) → k ≤ n → Acts doc r k → ⊥) (led_not : (h : List Entry) → IsTail h (history doc (suc n)) → leads c h ≡ false) (room : b + 3 * far ≤ n) where
+    module _ (n : ℕ) (within : n ≤ e) (idle : (r : Identity) → is_controller doc r.process ≡ true → (r.process ≡ q.process → ⊥) → (k : ℕ) → k ≤ n → Acts doc r k → ⊥) (led_not : (h : List Entry) → IsTail h (history doc (suc n)) → leads c h ≡ false) (room : b + 3 * far ≤ n)
+        (K : ℕ) (late_K : (b + 2 * far ≤ K) ⊎ ((doc.settings.fast_renew ≡ false) × (b + 2 * far ≤ suc K))) where
+      some_way : 1 ≤ far
+      some_way = omega (arith, s.one, s.ways)
+
+      K_least : b + 2 * far ≤ suc K
+      K_least = ⊎_elim (λ le. omega (arith, le)) (λ early. early.1) late_K
+
       abbrev top : Option Held
       top = stored election (history doc (b + far))
 
@@ -247,21 +243,31 @@ module _ (doc : Doc) (near far b e : ℕ) (q : Identity) (l : LeadsUntil doc nea
           e_high : IsTail (o.e ∷ o.low) (history doc (suc n))
           e_high = tail_trans (o.e ∷ o.low) T (history doc (suc n)) o.answered high
 
-      given : (w : Call) (reply : Reply) (T : List Entry) (y : ℕ) → Origin doc c w reply T y → IsTail T (history doc (suc n)) → w.request ≡ Get election → b + 2 * far ≤ y → y + far ≤ n → reply ≡ answer_get (as_kind lease_in top)
-      given w reply T y o high get late soon = shows_top w reply T y o high get (omega (arith, way.most, late)) (omega (arith, way.least, soon))
+      -- and so does one that comes late enough
+      given : (w : Call) (reply : Reply) (T : List Entry) (y : ℕ) → Origin doc c w reply T y → IsTail T (history doc (suc n)) → w.request ≡ Get election → K ≤ y → y + far ≤ n → reply ≡ answer_get (as_kind lease_in top)
+      given w reply T y o high get late soon = ⊎_elim last (λ le. shows_top w reply T y o high get le (omega (arith, way.least, soon))) (cases_lt o.e.beat (b + far))
         where
+          high_e : IsTail T (history doc (suc e))
+          high_e = tail_trans T (history doc (suc n)) (history doc (suc e)) high (later_tail doc (suc n) (suc e) (omega (arith, within)))
+
           way : ways_of.IsWay near far o.e.beat y
-          way =
-              reply_way doc near far e c role steady o.e o.low (tail_trans (o.e ∷ o.low) T (history doc (suc e)) o.answered (tail_trans T (history doc (suc n)) (history doc (suc e)) high (later_tail doc (suc n) (suc e) (omega (arith, within)))))
-              o.step y (omega (arith, soon, within)) o.comes_is
+          way = reply_way doc near far e c role steady o.e o.low (tail_trans (o.e ∷ o.low) T (history doc (suc e)) o.answered high_e) o.step y (omega (arith, soon, within)) o.comes_is
+
+          last : o.e.beat < b + far → reply ≡ answer_get (as_kind lease_in top)
+          last lt = ⊎_elim (λ le. absurd (omega (arith, le, late, way.most, lt))) by_edge late_K
+            where
+              by_edge : (doc.settings.fast_renew ≡ false) × (b + 2 * far ≤ suc K) → reply ≡ answer_get (as_kind lease_in top)
+              by_edge slowly =
+                  o.reply_is ∙ ap (λ r. answer r o.low) get
+                  ∙ ap (λ t. answer_get (as_kind lease_in t)) (sym (edge doc near far b e q l s quiet slowly.0 c role other w reply T y o high_e get (omega (arith, slowly.1, late, way.most, lt)) (omega (arith, way.least, soon, within))))
 
       -- it sends no write
-      no_writes : (x : Entry) (T : List Entry) (call : Call) (arrives : Option ℕ) → IsTail (x ∷ T) (history doc (suc n)) → x.actor ≡ actor_of c → x.fact ≡ Sends call arrives → IsWrite call.request → b + 2 * far ≤ x.beat + 2 * far → x.beat + 2 * far ≤ n → ⊥
+      no_writes : (x : Entry) (T : List Entry) (call : Call) (arrives : Option ℕ) → IsTail (x ∷ T) (history doc (suc n)) → x.actor ≡ actor_of c → x.fact ≡ Sends call arrives → IsWrite call.request → K ≤ x.beat + 2 * far → x.beat + 2 * far ≤ n → ⊥
       no_writes x T call arrives at actor fact write late soon =
           other (ap (λ (p : Identity). p.process) (sym mine) ∙ no_foreign doc near far b e q l s quiet n within idle answer_entry r.before answer_at writes (omega (arith, r.most, soon)) w)
         where
           f : Late x T call.request
-          f = late_write n within x T call arrives at actor fact (led_not T (tail_trans T (x ∷ T) (history doc (suc n)) (inr (tail_all T)) at)) write (omega (arith, late))
+          f = late_write n within x T call arrives at actor fact (led_not T (tail_trans T (x ∷ T) (history doc (suc n)) (inr (tail_all T)) at)) write (omega (arith, late, K_least, some_way))
 
           r : IsRound doc near far c call arrives x.beat
           r = rounds_in doc near far 0 e c steady s.one (suc n) x T call arrives at actor fact (omega (arith, f.step)) (omega arith) (omega (arith, soon, within)) (λ k is most. omega (arith, most, soon, within))
@@ -299,9 +305,22 @@ module _ (doc : Doc) (near far b e : ℕ) (q : Identity) (l : LeadsUntil doc nea
 
   module _ (p slow fast wait needed : ℕ) (heir : IsHeir doc b e q p slow fast) (wait_is : IsEnough slow (retry_period doc p) wait) (needed_is : IsNeeded fast (retry_period doc p) needed)
       (enough most : ℕ) (enough_is : IsEnough slow (lease_duration doc q.process) enough) (most_is : IsGreatest (needed + 2 * near) (wait + 2 * far) enough most)
-      (within : b + most + wait + (6 * far - 1) ≤ e) where
+      (rest : ℕ) (rest_is : (rest ≡ 6 * far - 1) ⊎ ((doc.settings.fast_renew ≡ false) × (rest ≡ 6 * far - 2))) (within : b + most + wait + rest ≤ e) where
     abbrev n : ℕ
-    n = b + most + wait + (6 * far - 1)
+    n = b + most + wait + rest
+
+    a_way : 1 ≤ far
+    a_way = omega (arith, s.one, s.ways)
+
+    rest_least : 6 * far ≤ rest + 2
+    rest_least = ⊎_elim (λ is. omega (arith, is)) (λ is. omega (arith, is.1)) rest_is
+
+    -- from then on each reply shows the leader's last record
+    abbrev K : ℕ
+    K = b + rest + 1 - 4 * far
+
+    late_K : (b + 2 * far ≤ K) ⊎ ((doc.settings.fast_renew ≡ false) × (b + 2 * far ≤ suc K))
+    late_K = ⊎_elim (λ is. inl (omega (arith, is, a_way))) (λ is. inr (is.0, omega (arith, is.1, a_way))) rest_is
 
     some_wait : 1 ≤ wait
     some_wait = by_wait wait wait_is
@@ -316,9 +335,6 @@ module _ (doc : Doc) (near far b e : ℕ) (q : Identity) (l : LeadsUntil doc nea
     idle_ends : ((r : Identity) → is_controller doc r.process ≡ true → (r.process ≡ q.process → ⊥) → (k : ℕ) → k ≤ n → Acts doc r k → ⊥) → ⊥
     idle_ends idle = by_up (alive p S) refl
       where
-        some_way : 1 ≤ far
-        some_way = omega (arith, s.one, s.ways)
-
         first_p : p < processes doc
         first_p = controllers_first doc p heir.role
 
@@ -328,22 +344,22 @@ module _ (doc : Doc) (near far b e : ℕ) (q : Identity) (l : LeadsUntil doc nea
         s_low : IsTail (with_events doc 0) S
         s_low =
             tail_trans (with_events doc 0) (history doc b) S
-            (tail_trans (with_events doc 0) (history doc 1) (history doc b) (events_position doc 0) (later_tail doc 1 b (omega (arith, l.long, some_way)))) (before_turn doc (suc p) b)
+            (tail_trans (with_events doc 0) (history doc 1) (history doc b) (events_position doc 0) (later_tail doc 1 b (omega (arith, l.long, a_way)))) (before_turn doc (suc p) b)
 
         with_identity : (i : ℕ) → alive p S ≡ Some i → ⊥
         with_identity i up =
-            none_first doc near far e n s.one s.ways within c heir.role (steady c heir.role heir.other) (my_time c heir.role heir.other) none led_not (lease_duration doc q.process) (top c heir.role heir.other n within idle led_not room) lasts (b + 2 * far) (omega (arith, some_way))
-            (given c heir.role heir.other n within idle led_not room) (no_writes c heir.role heir.other n within idle led_not room) slow fast wait needed b (omega arith) heir.runs_least heir.runs_most (s.waits p heir.role) wait_is needed_is enough most enough_is most_is
-            G (omega (arith, some_wait, some_way)) (omega (arith, some_way)) (omega (arith, some_way)) (ap (alive p) (restart_same doc G p i (at_turn doc p G) there) ∙ there)
+            none_first doc near far e n s.one s.ways within c heir.role (steady c heir.role heir.other) (my_time c heir.role heir.other) none led_not (lease_duration doc q.process) (top c heir.role heir.other n within idle led_not room K late_K) lasts K (omega (arith, a_way, rest_least))
+            (given c heir.role heir.other n within idle led_not room K late_K) (no_writes c heir.role heir.other n within idle led_not room K late_K) slow fast wait needed b (omega (arith, a_way, rest_least)) heir.runs_least heir.runs_most (s.waits p heir.role) wait_is needed_is enough most enough_is most_is
+            G (omega (arith, some_wait, a_way, rest_least)) (omega (arith, some_wait, a_way, rest_least)) (omega (arith, a_way, rest_least, some_wait)) (ap (alive p) (restart_same doc G p i (at_turn doc p G) there) ∙ there)
           where
             c : Identity
             c = identity p i
 
             G : ℕ
-            G = b + 2 * far + wait - 1
+            G = K + wait - 1
 
             room : b + 3 * far ≤ n
-            room = omega (arith, some_way)
+            room = omega (arith, a_way, rest_least)
 
             none : (k : ℕ) → 0 ≤ k → k ≤ n → Acts doc c k → ⊥
             none k from to = idle c heir.role heir.other k to
@@ -356,14 +372,14 @@ module _ (doc : Doc) (near far b e : ℕ) (q : Identity) (l : LeadsUntil doc nea
                 never_led doc near far 0 e n c heir.role (s.calls p heir.role).deadline (l.others p heir.role heir.other) within none (omega arith)
                 (late (history doc (suc n)) (tail_trans S (history doc (suc b)) (history doc (suc n)) s_high (later_tail doc (suc b) (suc n) (omega arith))) (tail_all (history doc (suc n))))
 
-            lasts : LastsFor (lease_duration doc q.process) (object_of (top c heir.role heir.other n within idle led_not room))
-            lasts = lasts_for doc q (history doc (b + far)) (of_top c heir.role heir.other n within idle led_not room)
+            lasts : LastsFor (lease_duration doc q.process) (object_of (top c heir.role heir.other n within idle led_not room K late_K))
+            lasts = lasts_for doc q (history doc (b + far)) (of_top c heir.role heir.other n within idle led_not room K late_K)
 
             there : alive p (at_turn doc p G) ≡ Some i
             there =
                 late (at_turn doc p G)
-                (tail_trans S (history doc G) (at_turn doc p G) (tail_trans S (history doc (suc b)) (history doc G) s_high (later_tail doc (suc b) G (omega (arith, some_wait, some_way)))) (before_turn doc p G))
-                (tail_trans (at_turn doc p G) (history doc (suc G)) (history doc (suc n)) (turn_tail doc p G (omega (arith, first_p))) (later_tail doc (suc G) (suc n) (omega (arith, some_way))))
+                (tail_trans S (history doc G) (at_turn doc p G) (tail_trans S (history doc (suc b)) (history doc G) s_high (later_tail doc (suc b) G (omega (arith, some_wait, a_way, rest_least)))) (before_turn doc p G))
+                (tail_trans (at_turn doc p G) (history doc (suc G)) (history doc (suc n)) (turn_tail doc p G (omega (arith, first_p))) (later_tail doc (suc G) (suc n) (omega (arith, a_way, rest_least, some_wait))))
 
         by_up : (o : Option ℕ) → alive p S ≡ o → ⊥
         by_up None is = true_is (sym heir.up ∙ ap has is)
@@ -459,11 +475,8 @@ module _ (doc : Doc) (near far b e : ℕ) (q : Identity) (l : LeadsUntil doc nea
           r : Identity
           r = x.r
 
-          some_way : 1 ≤ far
-          some_way = omega (arith, s.one, s.ways)
-
           room : b + far ≤ e
-          room = omega (arith, within, some_way)
+          room = omega (arith, within, a_way, rest_least)
 
           led_r : HasLed doc r x.k
           led_r = acting_led doc r x.k x.acting_is
@@ -482,7 +495,7 @@ module _ (doc : Doc) (near far b e : ℕ) (q : Identity) (l : LeadsUntil doc nea
               by_test false is = is
               by_test true is =
                   let led_h : HasLed doc r (b - 1) = leads_led doc r (b - 1) h (tail_trans h (history doc b) (history doc (suc (b - 1))) at (later_tail doc b (suc (b - 1)) (omega arith))) is in
-                  absurd (not_before_b led_h.j led_h.success (omega (arith, led_h.to, l.long, some_way)))
+                  absurd (not_before_b led_h.j led_h.success (omega (arith, led_h.to, l.long, a_way)))
 
           hs : HasSuccess doc r 0 led_r.j
           hs = led_r.success
@@ -529,4 +542,8 @@ module _ (doc : Doc) (near far b e : ℕ) (q : Identity) (l : LeadsUntil doc nea
 
 pub successors_lead : SuccessorsLead
 successors_lead doc near far b e q l s quiet replies renew p slow fast wait needed heir wait_is needed_is enough most enough_is most_is within =
-    followed doc near far b e q l s quiet p slow fast wait needed heir wait_is needed_is enough most enough_is most_is within renew replies
+    followed doc near far b e q l s quiet p slow fast wait needed heir wait_is needed_is enough most enough_is most_is (last_ways doc far) (by_fast doc.settings.fast_renew refl) within renew replies
+  where
+    by_fast : (t : Bool) → doc.settings.fast_renew ≡ t → (cond t (6 * far - 1) (6 * far - 2) ≡ 6 * far - 1) ⊎ ((doc.settings.fast_renew ≡ false) × (cond t (6 * far - 1) (6 * far - 2) ≡ 6 * far - 2))
+    by_fast true is = inl refl
+    by_fast false is = inr (is, refl)

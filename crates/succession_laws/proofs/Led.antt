@@ -44,7 +44,7 @@ pub record LedBy (doc : Doc) (x : Entry) (version : Version) (h : List Entry) : 
   pub is : h ≡ entry x.beat 3 q (Delivers call reply true) ∷ before
   pub follows : follow_on doc q x.beat call.kind call.request reply h ≡ Succeeds version
 
-abbrev LeadsAs : Doc → Entry → Fact → List Entry → Type 0
+abbrev pub LeadsAs : Doc → Entry → Fact → List Entry → Type 0
 LeadsAs doc x (Leads version) h = LedBy doc x version h
 LeadsAs doc x _ h = Unit {0}
 
@@ -92,7 +92,7 @@ puts_lead doc (x ∷ xs) h s =
     let e = script_entry 0 0 (First x.0 (stamped (whole_second (store_wall doc 0)) x.1)) in
     puts_lead doc xs (e ∷ h) (more doc e h tt s)
 
-leads_as : (doc : Doc) (k : ℕ) (x : Entry) (before : List Entry) → IsTail (x ∷ before) (history doc k) → LeadsAs doc x x.fact before
+pub leads_as : (doc : Doc) (k : ℕ) (x : Entry) (before : List Entry) → IsTail (x ∷ before) (history doc k) → LeadsAs doc x x.fact before
 leads_as doc k = walk_history doc (λ k step h. Lead doc h) (lead_keeps doc) (puts_lead doc doc.objects [] (λ x before at. absurd (tail_of_empty x before at))) k
 
 -- ---- from acting to the success

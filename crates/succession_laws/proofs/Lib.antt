@@ -8,4 +8,8 @@ pub mod Renewed
 pub mod Timely
 pub mod Turns
 pub mod Ordered
+pub mod Edge
 pub mod Following
+pub mod Pausing
+pub mod Terms
+pub mod Lingering

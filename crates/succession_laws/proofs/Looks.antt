@@ -120,7 +120,7 @@ seen_upto q o (x ∷ h) all = by_shows (shows q x.actor x.fact) (seen_upto q o h
 -- ---- what it is shown
 
 -- a write that was answered with a version wrote
-wrote_by : (r : Request) (h : List Entry) (version : Version) → IsWrite r → key_of r ≡ election → answer r h ≡ Done version → has (at_key election (request_write r (written r h))) ≡ true
+pub wrote_by : (r : Request) (h : List Entry) (version : Version) → IsWrite r → key_of r ≡ election → answer r h ≡ Done version → has (at_key election (request_write r (written r h))) ≡ true
 wrote_by (Create key lease) h version w is done =
     ap (λ reply. has (at_key election (request_write (Create key lease) (if_done reply (object.Lease lease))))) done ∙ ap (λ k. has (when (key_eq k election) (Some (object.Lease lease)))) is
 wrote_by (Update key given lease) h version w is done =

@@ -139,6 +139,11 @@ pub record IsIts (doc : Doc) (b p : ℕ) (x : Entry) (T : List Entry) : Type 0 w
   pub holder : lease.holder ≡ holder_of who
   pub duration : lease.duration ≡ Some (lease_seconds doc who.process)
   pub call : Call
+  pub reply : Reply
+  pub comes : Option ℕ
+  pub wrote : Option Object
+  pub fact : x.fact ≡ Answers call reply comes wrote
+  pub so : succeeds call.request reply ≡ true
   pub early : call.sent < b
   pub f : Entry
   pub low : List Entry
@@ -253,6 +258,11 @@ module _ (doc : Doc) (near far b e : ℕ) (q : Identity) (l : LeadsUntil doc nea
       holder = written_lease.fit.0;
       duration = written_lease.fit.1;
       call = w.call;
+      reply = w.reply;
+      comes = w.comes;
+      wrote = w.wrote;
+      fact = w.fact;
+      so = w.so;
       early = early;
       f = w.f;
       low = w.low;

@@ -37,7 +37,7 @@ use Rattle.takeover_laws.specs.Acting.{AreInTime}
 use Rattle.takeover_laws.specs.Calm.{Passes, IsSteady, IsQuiet, IsCalm, IsInTime, AllBeats}
 use Rattle.takeover_laws.proofs.Fresh.{IsFresh, same_or_fresh, set_counted, over_stays, still_up}
 use Rattle.takeover_laws.proofs.Records.{asks_elsewhere}
-use Rattle.takeover_laws.proofs.Rounds.{Forces, reply_passes}
+use Rattle.takeover_laws.proofs.Rounds.{Forces, sent_is, reply_passes}
 use Rattle.takeover_laws.proofs.Standing.{controllers_first, unled}
 use Rattle.takeover_laws.proofs.Writers.{sends_of}
 use Rattle.stay_laws.specs.Stays.{HasSuccess, Stays}
@@ -96,6 +96,11 @@ each_some (Some a) P all = all a refl
 -- an actor's process
 pub own_process : (q : Identity) (who : Actor) → who ≡ actor_of q → has (of_process q.process who) ≡ true
 own_process q who by = ap (λ who. has (of_process q.process who)) by ∙ ap (λ b. has (when b q.incarnation)) (eq-eqb q.process q.process refl)
+
+-- the beat of a call's sending
+pub its_call_sent : (doc : Doc) (m : ℕ) (x : Entry) (T : List Entry) (q : Identity) (call : Call) (arrives : Option ℕ) → IsTail (x ∷ T) (history doc m) → x.actor ≡ actor_of q → x.fact ≡ Sends call arrives → call.sent ≡ x.beat
+its_call_sent doc m x T q call arrives at actor fact =
+    (subst (λ o. IfSome o (λ s. (s.call.sent ≡ x.beat) × (s.arrives ≡ request_arrival s.who.process x.beat T))) (sent_is x q call arrives actor fact) (messages_travel doc m x T at).0).0
 
 -- ---- when a message of a steady process arrives
 

@@ -220,6 +220,18 @@ module _ (doc : Doc) (near far b e : ℕ) (q : Identity) (l : LeadsUntil doc nea
           led.j (omega arith) led_to (omega (arith, first_ways.comes_most)) z Z
           (tail_trans (z ∷ Z) (history doc (suc z.beat)) (history doc (suc led.j)) (in_own_beat doc (suc a) z Z at) (later_tail doc (suc z.beat) (suc led.j) (omega (arith, lt)))) low writes
 
+  -- the leader's first write stands below what comes three ways before b, or later
+  pub first_low : (m : ℕ) (x : Entry) (T : List Entry) → IsTail (x ∷ T) (history doc (suc m)) → 1 ≤ x.step → b ≤ x.beat + 3 * far → x.beat ≤ m → IsTail (first.e ∷ first.low) T
+  first_low m x T at step late upto =
+      tail_trans w (history doc x.beat) T
+      (tail_trans w (history doc (suc first.e.beat)) (history doc x.beat) (in_own_beat doc (suc (b - 1)) first.e first.low first_high)
+      (later_tail doc (suc first.e.beat) x.beat
+      (omega (arith, first_ways.comes_least, first_ways.sent_least, s.one, led.to, late))))
+      (not_before doc x.beat (suc m) x T (omega (arith, upto)) at (omega arith) step)
+    where
+      w : List Entry
+      w = first.e ∷ first.low
+
   -- ---- in time
 
   module _ (m : ℕ) (within : m ≤ e) (upto : m < b + far) where

@@ -21,7 +21,7 @@ use Rattle.history_laws.proofs.Walk.{after_reply, stopped_at, Keeps, walk_histor
 use Rattle.call_laws.proofs.Starting.{actor_is}
 
 -- what is sent is no renewal without a Get, and in a turn it is a Get
-abbrev SendsPlainly : Doc → ℕ → Actor → Fact → Type 0
+abbrev pub SendsPlainly : Doc → ℕ → Actor → Fact → Type 0
 SendsPlainly doc step who (Sends call arrives) = (q : Identity) → who ≡ actor_of q → is_controller doc q.process ≡ true → (is_fast call.kind ≡ false) × (step ≡ 4 → call.request ≡ Get election)
 SendsPlainly doc step who _ = Unit {0}
 

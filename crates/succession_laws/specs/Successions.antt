@@ -7,12 +7,13 @@ use Rattle.kube_objects.specs.Identities.{of_process}
 use Rattle.kube_objects.specs.Newest.{has}
 use Rattle.kube_objects.specs.Pauses.{is_paused}
 use Rattle.kube_objects.specs.Process.{alive}
-use Rattle.kube_objects.specs.Wire.{back_of}
+use Rattle.kube_objects.specs.Wire.{back_of, reply_delay}
 use Rattle.history.specs.History.{history, at_turn}
 use Rattle.history.specs.Safe.{Acts}
 use Rattle.history_laws.specs.Tails.{In}
 use Rattle.span_laws.specs.Looks.{IsGreatest}
 use Rattle.span_laws.specs.Spans.{RunsAtLeast, RunsAtMost, IsEnough, IsNeeded}
+use Rattle.call_laws.specs.Answering.{with_events}
 use Rattle.takeover_laws.specs.Calm.{IsQuiet}
 use Rattle.stay_laws.specs.Stays.{RenewsInTime, HasSuccess, Stays}
 use Rattle.silence_laws.specs.Silence.{LeadsUntil, Bears}
@@ -43,11 +44,29 @@ pub record IsFollowed (doc : Doc) (b n e : ℕ) (q : Identity) : Type 0 where
   pub success : HasSuccess doc c b j
   pub stays : Stays doc c j e
 
--- where a leader in a calm falls silent at beat b, another one leads by the time that the looks of an heir take at most, its wait, and six ways;
+-- the ways from a leader's silence to another's lead, beside the looks and the wait of an heir: an answer may show an older record until one way after
+-- the silence, and in that beat too where leaders renew without a Get
+abbrev pub last_ways : Doc → ℕ → ℕ
+last_ways doc far = cond doc.settings.fast_renew (6 * far - 1) (6 * far - 2)
+
+-- where a leader in a calm falls silent at beat b, another one leads by the time that the looks of an heir take at most, its wait, and these ways;
 -- and it stays
 abbrev pub SuccessorsLead : Type 0
 SuccessorsLead =
     (doc : Doc) (near far b e : ℕ) (q : Identity) → LeadsUntil doc near far b e q → Bears doc near far b e q → IsQuiet doc b e q.process → RepliesCome doc far b q.process → OthersRenew doc near far b e q
     → (p slow fast wait needed : ℕ) → IsHeir doc b e q p slow fast → IsEnough slow (retry_period doc p) wait → IsNeeded fast (retry_period doc p) needed
     → (enough most : ℕ) → IsEnough slow (lease_duration doc q.process) enough → IsGreatest (needed + 2 * near) (wait + 2 * far) enough most
-    → b + most + wait + (6 * far - 1) ≤ e → IsFollowed doc b (b + most + wait + (6 * far - 1)) e q
+    → b + most + wait + last_ways doc far ≤ e → IsFollowed doc b (b + most + wait + last_ways doc far) e q
+
+-- from beat b to beat e a process isn't paused, and a reply to it that isn't lost takes no longer than far beats
+pub record Hears (doc : Doc) (far b e p : ℕ) : Type 0 where
+  pub replies : (k : ℕ) → b ≤ k → k ≤ e → reply_delay p (with_events doc k) ≤ far
+  pub awake : (k : ℕ) → b ≤ k → k ≤ e → is_paused doc p k ≡ false
+
+-- a leader whose requests are lost from beat b on acts on for so long at most: its last success comes less than two ways later, and lasting is
+-- enough beats for its retry period and its renew deadline
+abbrev pub LeadersActOn : Type 0
+LeadersActOn =
+    (doc : Doc) (near far b e : ℕ) (q : Identity) → LeadsUntil doc near far b e q → Bears doc near far b e q → IsQuiet doc b e q.process → Hears doc far b e q.process
+    → (slow lasting : ℕ) → RunsAtLeast doc q.process b e slow → IsEnough slow (retry_period doc q.process + renew_deadline doc q.process) lasting
+    → (k : ℕ) → k ≤ e → Acts doc q k → k + 2 ≤ b + 2 * far + lasting

@@ -1,6 +1,4 @@
 use Rattle.succession_laws.proofs.Following as following
-use Rattle.succession_laws.proofs.Turns as turns
-use Rattle.succession_laws.proofs.Ordered as ordered
 use Rattle.succession_laws.proofs.successors_lead.Goals as goal
 
 pub returns : goal.returns
