@@ -1,5 +1,6 @@
 -- After a leader has fallen silent another controller comes to lead in time, and stays.
 use Rattle.std.proofs.Common.{◌≡◌, ◌⊎◌, ◌<◌, ◌≤◌, ℕ, zero, suc, ◌+◌, ◌-◌, ◌*◌, ◌==◌, ◌&&◌, not, Bool, true, false, cond, List, ◌∷◌, Option, Some, None, IfSome, refl, sym, ap, ◌∙◌, subst, inl, inr, ⊎_elim, arith}
+use Rattle.std.specs.Int.{div_ceil}
 use Rattle.std.proofs.lemmas.Bool.{eq-eqb, cases_eq, cases_lt}
 use Rattle.kube_base.specs.declared.numbers.Version.{Version}
 use Rattle.kube_objects.specs.declared.call.Reply.{Reply}
@@ -29,6 +30,8 @@ use Rattle.history_laws.proofs.Order.{entries_are_earlier}
 use Rattle.history_laws.proofs.Plainly.{none_is, true_is, false_is, and_left, and_right}
 use Rattle.history_laws.proofs.Tailed.{tail_all, tail_trans, later_tail, turn_tail, before_turn}
 use Rattle.span_laws.specs.Looks.{IsGreatest}
+use Rattle.span_laws.specs.Quotients.{most_beats}
+use Rattle.span_laws.proofs.Quotients.{rounded_is, bounds_are_exact}
 use Rattle.span_laws.specs.Spans.{RunsAtLeast, RunsAtMost, IsEnough, IsNeeded}
 use Rattle.call_laws.specs.Answering.{with_events}
 use Rattle.call_laws.proofs.Above.{in_head}
@@ -56,7 +59,7 @@ use Rattle.silence_laws.specs.Silence.{LeadsUntil, Bears}
 use Rattle.silence_laws.proofs.Looking.{asks_election}
 use Rattle.silence_laws.proofs.Ways as ways_of
 use Rattle.silence_laws.proofs.Ways.{reply_way}
-use Rattle.succession_laws.specs.Successions.{OthersRenew, RepliesCome, IsHeir, IsFollowed, last_ways, SuccessorsLead}
+use Rattle.succession_laws.specs.Successions.{OthersRenew, RepliesCome, IsHeir, IsFollowed, last_ways, succession_bound, SuccessorsLead, SuccessorsAreTold}
 use Rattle.succession_laws.proofs.Blocking.{blocked}
 use Rattle.succession_laws.proofs.Edge.{edge}
 use Rattle.succession_laws.proofs.First.{none_first}
@@ -547,3 +550,26 @@ successors_lead doc near far b e q l s quiet replies renew p slow fast wait need
     by_fast : (t : Bool) → doc.settings.fast_renew ≡ t → (cond t (6 * far - 1) (6 * far - 2) ≡ 6 * far - 1) ⊎ ((doc.settings.fast_renew ≡ false) × (cond t (6 * far - 1) (6 * far - 2) ≡ 6 * far - 2))
     by_fast true is = inl refl
     by_fast false is = inr (is, refl)
+
+-- ---- in whole beats
+
+pub successors_are_told : SuccessorsAreTold
+successors_are_told doc near far b e q l s quiet replies renew p slow fast heir some_slow some_fast within =
+    subst (λ n. IsFollowed doc b n e q) sum
+    (successors_lead doc near far b e q l s quiet replies renew p slow fast wait needed heir (rounded_is slow (retry_period doc p) some_slow).0 (rounded_is fast (retry_period doc p) some_fast).1 enough most
+    (rounded_is slow (lease_duration doc q.process) some_slow).0 ((bounds_are_exact (needed + 2 * near) (wait + 2 * far) enough).0 (omega (arith, s.one))).1 (omega (arith, sum, within)))
+  where
+    wait : ℕ
+    wait = div_ceil (retry_period doc p) slow
+
+    needed : ℕ
+    needed = div_ceil (retry_period doc p) fast
+
+    enough : ℕ
+    enough = div_ceil (lease_duration doc q.process) slow
+
+    most : ℕ
+    most = most_beats (needed + 2 * near) (wait + 2 * far) enough
+
+    sum : b + most + wait + last_ways doc far ≡ b + succession_bound doc near far p slow fast (lease_duration doc q.process)
+    sum = omega arith

@@ -50,7 +50,7 @@ module _ (doc : Doc) (a e n : ℕ) (end : e ≤ end_beat doc) (within : n ≤ e)
       t_is = when_value (is_by q who) (local doc q.process x.beat + renew_deadline doc q.process) t is
 
       mine : comes.q ≡ q
-      mine = actor_is comes.q q (sym comes.by ∙ by_is q who (when_test (is_by q who) (local doc q.process x.beat + renew_deadline doc q.process) t is))
+      mine = actor_is comes.q q (sym comes.by ∙ actor ∙ by_is q who (when_test (is_by q who) (local doc q.process x.beat + renew_deadline doc q.process) t is))
 
       by : x.beat ≤ last
       by =

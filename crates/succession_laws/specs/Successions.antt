@@ -1,5 +1,6 @@
 -- By when somebody else leads after a leader in a calm has fallen silent, or is stopped, and how long the leader itself acts on.
 -- Source: client-go, package `leaderelection`; profile.
+use Rattle.std.specs.Int.{div_ceil}
 use Rattle.std.specs.Prelude.{◌≡◌, ◌≤◌, ◌<◌, ℕ, suc, ◌+◌, ◌-◌, ◌*◌, true, false, cond, Option, IfSome}
 use Rattle.kube_objects.specs.Document.{Doc, is_controller, lease_duration, retry_period, renew_deadline}
 use Rattle.kube_objects.specs.Entry.{Entry, Identity}
@@ -12,6 +13,7 @@ use Rattle.history.specs.History.{history, at_turn}
 use Rattle.history.specs.Safe.{Acts}
 use Rattle.history_laws.specs.Tails.{In}
 use Rattle.span_laws.specs.Looks.{IsGreatest}
+use Rattle.span_laws.specs.Quotients.{most_beats}
 use Rattle.span_laws.specs.Spans.{RunsAtLeast, RunsAtMost, IsEnough, IsNeeded}
 use Rattle.call_laws.specs.Answering.{with_events}
 use Rattle.takeover_laws.specs.Calm.{IsQuiet}
@@ -57,6 +59,19 @@ SuccessorsLead =
     → (p slow fast wait needed : ℕ) → IsHeir doc b e q p slow fast → IsEnough slow (retry_period doc p) wait → IsNeeded fast (retry_period doc p) needed
     → (enough most : ℕ) → IsEnough slow (lease_duration doc q.process) enough → IsGreatest (needed + 2 * near) (wait + 2 * far) enough most
     → b + most + wait + last_ways doc far ≤ e → IsFollowed doc b (b + most + wait + last_ways doc far) e q
+
+-- the same bound in whole beats, as a program finds it: each quotient is rounded up, but for the number of looks
+abbrev pub succession_beats : (near far wait needed enough rest : ℕ) → ℕ
+succession_beats near far wait needed enough rest = most_beats (needed + 2 * near) (wait + 2 * far) enough + wait + rest
+
+abbrev pub succession_bound : Doc → (near far p slow fast time : ℕ) → ℕ
+succession_bound doc near far p slow fast time = succession_beats near far (div_ceil (retry_period doc p) slow) (div_ceil (retry_period doc p) fast) (div_ceil time slow) (last_ways doc far)
+
+abbrev pub SuccessorsAreTold : Type 0
+SuccessorsAreTold =
+    (doc : Doc) (near far b e : ℕ) (q : Identity) → LeadsUntil doc near far b e q → Bears doc near far b e q → IsQuiet doc b e q.process → RepliesCome doc far b q.process → OthersRenew doc near far b e q
+    → (p slow fast : ℕ) → IsHeir doc b e q p slow fast → 1 ≤ slow → 1 ≤ fast
+    → b + succession_bound doc near far p slow fast (lease_duration doc q.process) ≤ e → IsFollowed doc b (b + succession_bound doc near far p slow fast (lease_duration doc q.process)) e q
 
 -- from beat b to beat e a process isn't paused, and a reply to it that isn't lost takes no longer than far beats
 pub record Hears (doc : Doc) (far b e p : ℕ) : Type 0 where

@@ -2,12 +2,14 @@
 //! is the contract of a function with an empty body.
 #![tactic(auto)]
 
-ghost use Rattle.succession_laws.specs.Successions.{LeadersActOn, SuccessorsLead};
+ghost use Rattle.succession_laws.specs.Successions.{LeadersActOn, SuccessorsAreTold, SuccessorsLead};
 
 /// Where a leader in a calm span crashes, or all its requests are lost from then on, another controller comes to lead and stays: by the time that
-/// the looks of one that is up take at most until they find the leader's lease over, its wait for its next attempt, and six ways of a message.
+/// the looks of one that is up take at most until they find the leader's lease over, its wait for its next attempt, and six ways of a message;
+/// in whole beats by their quotients.
 pub fn successors_lead()
-    ensures { SuccessorsLead }
+    ensures lead { SuccessorsLead }
+    ensures told { SuccessorsAreTold }
 {}
 
 /// A leader whose requests are lost acts on at most until its retry period and its renew deadline have passed since its last success, which comes
