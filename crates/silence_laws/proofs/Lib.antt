@@ -12,3 +12,4 @@ pub mod Setting
 pub mod Renewed
 pub mod Owning
 pub mod Taken
+pub mod Recent
