@@ -13,3 +13,4 @@ pub mod Renewed
 pub mod Owning
 pub mod Taken
 pub mod Recent
+pub mod Rival
