@@ -14,3 +14,4 @@ pub mod Owning
 pub mod Taken
 pub mod Recent
 pub mod Rival
+pub mod Lasted

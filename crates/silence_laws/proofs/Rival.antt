@@ -200,7 +200,7 @@ module _ (doc : Doc) (near far b e : ℕ) (q : Identity) (l : LeadsUntil doc nea
   pub low_e : IsTail f.before (history doc (suc e))
   low_e = tail_trans f.before (f.x ∷ f.before) (history doc (suc e)) (inr (tail_all f.before)) f.position
 
-  long : own.y.beat + s.renews.wait + 5 * far + 1 ≤ w.call.sent + near
+  pub long : own.y.beat + s.renews.wait + 5 * far + 1 ≤ w.call.sent + near
   long = long_after doc near far b e q l s quiet f
 
   -- it is of another process
@@ -216,16 +216,16 @@ module _ (doc : Doc) (near far b e : ℕ) (q : Identity) (l : LeadsUntil doc nea
   asked_low : IsTail (w.f ∷ w.low) f.before
   asked_low = w.asked
 
-  asked_e : IsTail (w.f ∷ w.low) (history doc (suc e))
+  pub asked_e : IsTail (w.f ∷ w.low) (history doc (suc e))
   asked_e = tail_trans (w.f ∷ w.low) f.before (history doc (suc e)) w.asked low_e
 
-  sent : w.call.sent ≡ w.f.beat
+  pub sent : w.call.sent ≡ w.f.beat
   sent = sent_beat doc near far e c w.role steady w.f w.low w.call (Some f.x.beat) asked_e w.f_actor w.f_fact
 
-  foreign : own.y.by ≡ Some c → ⊥
+  pub foreign : own.y.by ≡ Some c → ⊥
   foreign by = rival doc near far b e q l s quiet f (some_is c q (sym by ∙ own.by))
 
-  others : is_other c own.lease.holder ≡ true
+  pub others : is_other c own.lease.holder ≡ true
   others = other doc near far b e q l s quiet f
 
   key : key_of w.call.request ≡ election
