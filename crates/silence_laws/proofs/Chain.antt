@@ -54,7 +54,7 @@ none_some : {A : Type 0} (x : A) → None ≡ Some x → ⊥
 none_some x is = cc
 
 -- what a controller sends that isn't stopped waits for a reply
-opens_of : (doc : Doc) (n : ℕ) (q : Identity) → is_controller doc q.process ≡ true → ((x : Entry) → In x (history doc (suc n)) → x.fact ≡ Stops → has (of_process q.process x.actor) ≡ true → ⊥)
+pub opens_of : (doc : Doc) (n : ℕ) (q : Identity) → is_controller doc q.process ≡ true → ((x : Entry) → In x (history doc (suc n)) → x.fact ≡ Stops → has (of_process q.process x.actor) ≡ true → ⊥)
     → (x : Entry) (T : List Entry) (call : Call) (arrives : Option ℕ) → IsTail (x ∷ T) (history doc (suc n)) → x.actor ≡ actor_of q → x.fact ≡ Sends call arrives → open_as call.kind call ≡ Some call
 opens_of doc n q role unstopped x T call arrives at actor fact = by_free (made.free role_made)
   where

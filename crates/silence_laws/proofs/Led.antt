@@ -92,7 +92,7 @@ puts_lead doc (x ∷ xs) h s =
     let e = script_entry 0 0 (First x.0 (stamped (whole_second (store_wall doc 0)) x.1)) in
     puts_lead doc xs (e ∷ h) (more doc e h tt s)
 
-leads_as : (doc : Doc) (k : ℕ) (x : Entry) (before : List Entry) → IsTail (x ∷ before) (history doc k) → LeadsAs doc x x.fact before
+pub leads_as : (doc : Doc) (k : ℕ) (x : Entry) (before : List Entry) → IsTail (x ∷ before) (history doc k) → LeadsAs doc x x.fact before
 leads_as doc k = walk_history doc (λ k step h. Lead doc h) (lead_keeps doc) (puts_lead doc doc.objects [] (λ x before at. absurd (tail_of_empty x before at))) k
 
 -- ---- from acting to the success

@@ -12,3 +12,6 @@ pub mod Setting
 pub mod Renewed
 pub mod Owning
 pub mod Taken
+pub mod Recent
+pub mod Rival
+pub mod Lasted

@@ -118,7 +118,7 @@ own_asks : (q : Identity) (m : Moment) (seen : ℕ) (version : Version) (lease :
 own_asks q m seen version lease own = ap (λ b. cond (b && is_valid m.now seen lease) Fails (Asks (Update election version (updated q m lease)))) own
 
 -- what succeeds is done
-done_of : (r : Request) (reply : Reply) → succeeds r reply ≡ true → (version : Version) × (reply ≡ Done version)
+pub done_of : (r : Request) (reply : Reply) → succeeds r reply ≡ true → (version : Version) × (reply ≡ Done version)
 done_of (Get key) reply so = absurd (false_is so)
 done_of (PostStatus name status at) reply so = absurd (false_is so)
 done_of (Create key lease) reply so = by_reply reply so

@@ -72,7 +72,7 @@ module _ (doc : Doc) (near far b e : ℕ) (q : Identity) (l : LeadsUntil doc nea
   pub first_e : IsTail first (history doc (suc e))
   first_e = tail_trans first (history doc (suc a)) (history doc (suc e)) first_a (later_tail doc (suc a) (suc e) (omega (arith, l.within)))
 
-  first_writes : has (at_key election (write_of o.e.fact)) ≡ true
+  pub first_writes : has (at_key election (write_of o.e.fact)) ≡ true
   first_writes = wrote.writes doc near far 0 a s.sound (calm_before doc near far b e q l s) (times_before doc near far b e q l s) s.one end_a q l.role l.steady s.renews j j_to (its_lead doc near far b e q l s).success
 
   -- a write of somebody else above it comes at b or later
@@ -163,3 +163,6 @@ module _ (doc : Doc) (near far b e : ℕ) (q : Identity) (l : LeadsUntil doc nea
           where
             beats : won.call.sent - waited.seen ≤ s.renews.wait + 5 * far - near
             beats = omega (arith, lt, waited.late.0)
+
+    pub sent_before : won.call.sent < f.x.beat
+    sent_before = took.after.0
