@@ -66,7 +66,7 @@ module _ (doc : Doc) (far a n : ℕ) (sound : IsSound doc) (end : n ≤ end_beat
 
 -- ---- a candidate that nobody keeps from leading
 
-events_low : (doc : Doc) (p k : ℕ) → IsTail (with_events doc k) (at_turn doc p k)
+pub events_low : (doc : Doc) (p k : ℕ) → IsTail (with_events doc k) (at_turn doc p k)
 events_low doc p k =
     let one = with_events doc k in
     let two = with_answers doc k in
@@ -182,7 +182,7 @@ takeovers_are_bounded doc near far a e sound calm time one ways end p later slow
 -- ---- in whole beats
 
 -- a number is below the next multiple
-next_multiple : (n m : ℕ) → 1 ≤ m → n < suc (n / m) * m
+pub next_multiple : (n m : ℕ) → 1 ≤ m → n < suc (n / m) * m
 next_multiple n m some = ⊎_elim (λ less. less) (λ le. absurd (omega (arith, le-div (suc (n / m)) n m some le))) (cases_lt n (suc (n / m) * m))
 
 pub takeovers_are_told : TakeoversAreTold

@@ -69,7 +69,7 @@ get_writes q m seen Exists r is = absurd (fails_not r is)
 get_writes q m seen (Conflict version) r is = absurd (fails_not r is)
 get_writes q m seen Unchanged r is = absurd (fails_not r is)
 
-get_no_success : (q : Identity) (m : Moment) (seen : ℕ) (reply : Reply) (v : Version) → follow_get q m seen reply ≡ Succeeds v → ⊥
+pub get_no_success : (q : Identity) (m : Moment) (seen : ℕ) (reply : Reply) (v : Version) → follow_get q m seen reply ≡ Succeeds v → ⊥
 get_no_success q m seen Absent v is = asks_succeeds (Create election (created q m)) v is
 get_no_success q m seen (Found version lease) v is = by_test (is_blocked q m.now seen lease) is
   where

@@ -21,6 +21,9 @@ use Rattle.takeover_laws.proofs.Fresh.{turn_counted}
 use Rattle.calm_laws.proofs.Life.{restart_same, restart_deadline}
 use Rattle.calm_laws.proofs.Turning.{Turned, turned}
 
+pub turn_adds : (doc : Doc) (k p : ℕ) (h : List Entry) → IsTail h (turn doc k p h)
+turn_adds doc k p h = walk_any_turn doc (λ j g. IsTail h g) (all_turns doc Anyone (λ j g. IsTail h g) (λ j x g beat step next s. inr s)) k p h (tail_all h)
+
 module _ (doc : Doc) (p i k : ℕ) (role : is_controller doc p ≡ true) (awake : is_paused doc p k ≡ false)
     (stays : (j : ℕ) (g : List Entry) → IsTail (at_turn doc p k) g → IsTail g (at_turn doc (suc p) k) → alive p g ≡ Some j → alive p (at_turn doc (suc p) k) ≡ Some j)
     (up : alive p (at_turn doc (suc p) k) ≡ Some i) where
@@ -31,10 +34,7 @@ module _ (doc : Doc) (p i k : ℕ) (role : is_controller doc p ≡ true) (awake 
       g = at_turn doc p k
 
       g_low : IsTail g (at_turn doc (suc p) k)
-      g_low = turn_adds_all g
-        where
-          turn_adds_all : (h : List Entry) → IsTail h (turn doc k p h)
-          turn_adds_all h = walk_any_turn doc (λ j g. IsTail h g) (all_turns doc Anyone (λ j g. IsTail h g) (λ j x g beat step next s. inr s)) k p h (tail_all h)
+      g_low = turn_adds doc k p g
 
       by_due : alive p g ≡ None → (b : Bool) → is_restart_due doc p k (ended doc p g) ≡ b → alive p (if b then start k 4 p g else g) ≡ Some i
       by_due down true due = started

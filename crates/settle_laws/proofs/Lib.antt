@@ -1,0 +1,6 @@
+pub mod Pausing
+pub mod Deciding
+pub mod Successes
+pub mod Terms
+pub mod Writing
+pub mod Settled
