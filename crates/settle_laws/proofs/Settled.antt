@@ -182,7 +182,7 @@ module _ (doc : Doc) (near far a e n : ℕ) (sound : IsSound doc) (calm : IsCalm
 
 -- ---- the law
 
-module _ (leaders_stay : LeadersStay) (none_ends : (doc : Doc) (near far a e old : ℕ) → NoneEnds doc near far a e (a + old)) where
+module _ (leaders_stay : LeadersStay) where
   pub calm_spans_settle : CalmSpansSettle
   calm_spans_settle doc near far a e sound calm time one ways end renewed old ends p later slow fast lost wait needed c b after first up_by lost_by ways_by most_lasts enough most early all enough_is most_is within =
       ⊎_elim found (λ nobody. absurd (nobody_never nobody)) (somebody_or_nobody doc near far a e n)
@@ -200,7 +200,7 @@ module _ (leaders_stay : LeadersStay) (none_ends : (doc : Doc) (near far a e old
 
       nobody_never : NobodySucceeds doc near far a e n → ⊥
       nobody_never nobody =
-          never doc near far a e n sound calm time one ways end within old ends (omega (arith, after, up_by)) (none_ends doc near far a e old) nobody most_lasts all early p later slow fast lost wait needed c b after
+          never doc near far a e n sound calm time one ways end within old ends (omega (arith, after, up_by)) (λ p role s. (ends p role s).apart) nobody most_lasts all early p later slow fast lost wait needed c b after
           first up_by lost_by ways_by enough most enough_is most_is (omega arith)
 
   pub settling_is_told : SettlingIsTold
@@ -213,7 +213,7 @@ module _ (leaders_stay : LeadersStay) (none_ends : (doc : Doc) (near far a e old
       in_beats : AllEndBy doc near far a e old
       in_beats q role s =
           let b : EndsInBeats doc far a e old q = ends q role s in
-          record { slow = b.slow; beats = div_ceil (retry_period doc q + renew_deadline doc q) b.slow; runs = b.runs; beats_is = (rounded_is b.slow (retry_period doc q + renew_deadline doc q) b.some).0; in_old = b.in_old }
+          record { slow = b.slow; beats = div_ceil (retry_period doc q + renew_deadline doc q) b.slow; runs = b.runs; beats_is = (rounded_is b.slow (retry_period doc q + renew_deadline doc q) b.some).0; in_old = b.in_old; apart = b.apart }
 
       lost : ℕ
       lost = call_timeout doc p / slow
