@@ -7,6 +7,8 @@ use Rattle.kube_objects.specs.Elector.{leads}
 use Rattle.kube_objects.specs.Entry.{Entry, Identity, Fact, First, Event, Starts, Stops, Sends, Answers, Delivers, Expires, Leads, Ends, Crashes, Stalls, Ticks, actor_of}
 use Rattle.kube_objects.specs.Identities.{identity, of_process}
 use Rattle.kube_objects.specs.Newest.{when, has}
+use Rattle.kube_objects.specs.Clocks.{local}
+use Rattle.kube_objects.specs.Pauses.{is_paused}
 use Rattle.kube_objects.specs.Process.{alive}
 use Rattle.kube_objects.specs.Stored.{election, stored}
 use Rattle.history.specs.History.{history, at_turn}
@@ -33,7 +35,9 @@ use Rattle.calm_laws.proofs.Looks.{object_of}
 use Rattle.stay_laws.specs.Stays.{HasSuccess, Stays, LeadersStay}
 use Rattle.settle_laws.specs.Settles.{AreRenewed, EndsBy, AllEndBy, AllLastFor, IsSettled, settle_bound, CalmSpansSettle, EndsInBeats, AllEndInBeats, SettlingIsTold}
 use Rattle.settle_laws.proofs.Deciding.{SomebodySucceeds, NobodySucceeds, somebody_or_nobody}
-use Rattle.settle_laws.proofs.Terms.{none_acts, never_leads, never_acts}
+use Rattle.settle_laws.proofs.Early as early
+use Rattle.settle_laws.proofs.Early.{GivenActs}
+use Rattle.settle_laws.proofs.Terms.{SucceedsBy, none_acts, never_leads, never_acts}
 use Rattle.settle_laws.proofs.Writing.{kept, lasts}
 
 -- a call that was sent later was sent at an earlier beat or later
@@ -59,14 +63,10 @@ stays_later doc q j n e le s = record {
   alone = λ x before at from writes. s.alone x before at (omega (arith, le, from)) writes;
 }
 
--- no term of a steady controller ends at a beat
-abbrev pub NoneEnds : Doc → ℕ → ℕ → ℕ → ℕ → ℕ → Type 0
-NoneEnds doc near far a e b = (p : ℕ) → is_controller doc p ≡ true → IsSteady doc near far a e p → AllBeats doc e p Ends (λ k. k ≡ b → ⊥)
-
 -- ---- while nobody succeeds
 
-module _ (doc : Doc) (near far a e n : ℕ) (sound : IsSound doc) (calm : IsCalm doc near far a e) (time : AreInTime doc near far a e) (one : 1 ≤ near) (ways : near ≤ far) (end : e ≤ end_beat doc) (within : n ≤ e)
-    (old : ℕ) (ends : AllEndBy doc near far a e old) (room : a + old ≤ n) (apart : NoneEnds doc near far a e (a + old)) (nobody : NobodySucceeds doc near far a e n) where
+module _ (given_acts : GivenActs) (doc : Doc) (near far a e n : ℕ) (sound : IsSound doc) (calm : IsCalm doc near far a e) (time : AreInTime doc near far a e) (one : 1 ≤ near) (ways : near ≤ far) (end : e ≤ end_beat doc) (within : n ≤ e)
+    (old : ℕ) (ends : AllEndBy doc near far a e old) (room : a + old ≤ n) (renewed : AreRenewed doc near far a e) (nobody : NobodySucceeds doc near far a e n) where
   some_far : 1 ≤ far
   some_far = omega (arith, one, ways)
 
@@ -77,8 +77,23 @@ module _ (doc : Doc) (near far a e n : ℕ) (sound : IsSound doc) (calm : IsCalm
     t : IsInTime doc far a e q.process
     t = time q.process role steady
 
+    ends_by : EndsBy doc far a e old q.process
+    ends_by = ends q.process role steady
+
+    awake : (k : ℕ) → a ≤ k → k ≤ e → is_paused doc q.process k ≡ false
+    awake k low high = (steady.passes k low high).awake
+
+    soon : a + (2 * far - 1) < settled
+    soon = early.soon given_acts doc near far a e n sound calm time one ways end within old room q.process role steady t.deadline ends_by
+
+    reached : local doc q.process (a + (2 * far - 1)) + (retry_period doc q.process + renew_deadline doc q.process) ≤ local doc q.process settled
+    reached = early.reached given_acts doc near far a e n sound calm time one ways end within old room q.process role steady t.deadline ends_by
+
+    success_by : SucceedsBy doc n q (a + (2 * far - 1))
+    success_by = early.success_by given_acts doc near far a e n sound calm time one ways end within old room q.process role steady t.deadline ends_by q refl (renewed q role steady) (nobody q role steady)
+
     none_later : (k : ℕ) → settled ≤ k → k ≤ n → Acts doc q k → ⊥
-    none_later = none_acts doc near far a e n sound calm some_far end within old room q role steady t.deadline (ends q.process role steady) (nobody q role steady)
+    none_later = none_acts doc a e n end within q role awake (a + (2 * far - 1)) settled (omega arith) soon room reached success_by
 
     -- the same span from that beat on
     steady_later : IsSteady doc near far settled e q.process
@@ -86,7 +101,10 @@ module _ (doc : Doc) (near far a e n : ℕ) (sound : IsSound doc) (calm : IsCalm
       passes = λ k low high. steady.passes k (omega (arith, low)) high;
       crashes = λ x at fact mine. let le = steady.crashes x at fact mine in omega (arith, le);
       stops = λ x at fact mine. let lt = steady.stops x at fact mine in omega (arith, lt);
-      ends = apart q.process role steady;
+      ends =
+          early.none_ends given_acts doc near far a e n sound calm time one ways end within old room q.process role steady t.deadline ends_by
+          (λ r mine. renewed r (ap (is_controller doc) mine ∙ role) (subst (IsSteady doc near far a e) (sym mine) steady))
+          (λ r mine. nobody r (ap (is_controller doc) mine ∙ role) (subst (IsSteady doc near far a e) (sym mine) steady));
     }
 
     in_time_later : IsInTime doc far settled e q.process
@@ -95,10 +113,10 @@ module _ (doc : Doc) (near far a e n : ℕ) (sound : IsSound doc) (calm : IsCalm
     -- who is up after its turn at that beat never led
     module _ (h : List Entry) (low : IsTail (at_turn doc (suc q.process) settled) h) (high : IsTail h (history doc (suc n))) (up : alive q.process h ≡ Some q.incarnation) where
       led : (g : List Entry) → IsTail g (history doc (suc n)) → leads q g ≡ false
-      led = never_leads doc near far a e n sound calm some_far end within old room q role steady t.deadline (ends q.process role steady) (nobody q role steady) h low high up
+      led = never_leads doc a e n end within q role awake (a + (2 * far - 1)) settled (omega arith) soon room reached success_by h low high up
 
       idle : (k : ℕ) → a ≤ k → k ≤ n → Acts doc q k → ⊥
-      idle = never_acts doc near far a e n sound calm some_far end within old room q role steady t.deadline (ends q.process role steady) (nobody q role steady) h low high up
+      idle = never_acts doc a e n end within q role awake (a + (2 * far - 1)) settled (omega arith) soon room reached success_by h low high up
 
       -- and stays up
       stays_up : IsTail (with_events doc a) h → (g : List Entry) → IsTail h g → IsTail g (history doc (suc n)) → alive q.process g ≡ Some q.incarnation
@@ -118,7 +136,7 @@ module _ (doc : Doc) (near far a e n : ℕ) (sound : IsSound doc) (calm : IsCalm
   is_kept : IsKept doc far settled n
   is_kept = kept doc near far a e n sound calm time one ways end within settled (omega arith) no_write
 
-  module _ (most_lasts : ℕ) (all : AllLastFor doc near far a e most_lasts) (early : LastsFor most_lasts (early_record a (history doc (a + far))))
+  module _ (most_lasts : ℕ) (all : AllLastFor doc near far a e most_lasts) (first_lasts : LastsFor most_lasts (early_record a (history doc (a + far))))
       (p later slow fast lost wait needed : ℕ) (c : IsCandidate doc near far a e p later slow fast) (b : AreBeats doc p slow fast lost wait needed) (after : old ≤ later)
       (first : ℕ) (up_by : later ≤ first) (lost_by : lost + wait ≤ first) (ways_by : (old + 4 * far - 1) + wait ≤ first)
       (enough most : ℕ) (enough_is : IsEnough slow most_lasts enough) (most_is : IsGreatest (needed + 2 * near) (wait + 2 * far) enough most) (time_left : a + first + most + 4 * far ≤ n) where
@@ -129,7 +147,7 @@ module _ (doc : Doc) (near far a e n : ℕ) (sound : IsSound doc) (calm : IsCalm
     below = controllers_first doc p c.role
 
     record_lasts : LastsFor most_lasts (object_of (stored election (history doc (settled + far))))
-    record_lasts = lasts doc near far a e n sound calm time one ways end within settled (omega arith) no_write most_lasts all early (omega (arith, ways_by, time_left, some_far))
+    record_lasts = lasts doc near far a e n sound calm time one ways end within settled (omega arith) no_write most_lasts all first_lasts (omega (arith, ways_by, time_left, some_far))
 
     turn_high : (k : ℕ) → k ≤ n → IsTail (at_turn doc (suc p) k) (history doc (suc n))
     turn_high k le = tail_trans (at_turn doc (suc p) k) (history doc (suc k)) (history doc (suc n)) (turn_tail doc (suc p) k (omega (arith, below))) (later_tail doc (suc k) (suc n) (omega (arith, le)))
@@ -182,7 +200,7 @@ module _ (doc : Doc) (near far a e n : ℕ) (sound : IsSound doc) (calm : IsCalm
 
 -- ---- the law
 
-module _ (leaders_stay : LeadersStay) where
+module _ (leaders_stay : LeadersStay) (given_acts : GivenActs) where
   pub calm_spans_settle : CalmSpansSettle
   calm_spans_settle doc near far a e sound calm time one ways end renewed old ends p later slow fast lost wait needed c b after first up_by lost_by ways_by most_lasts enough most early all enough_is most_is within =
       ⊎_elim found (λ nobody. absurd (nobody_never nobody)) (somebody_or_nobody doc near far a e n)
@@ -200,7 +218,7 @@ module _ (leaders_stay : LeadersStay) where
 
       nobody_never : NobodySucceeds doc near far a e n → ⊥
       nobody_never nobody =
-          never doc near far a e n sound calm time one ways end within old ends (omega (arith, after, up_by)) (λ p role s. (ends p role s).apart) nobody most_lasts all early p later slow fast lost wait needed c b after
+          never given_acts doc near far a e n sound calm time one ways end within old ends (omega (arith, after, up_by)) renewed nobody most_lasts all early p later slow fast lost wait needed c b after
           first up_by lost_by ways_by enough most enough_is most_is (omega arith)
 
   pub settling_is_told : SettlingIsTold
@@ -213,7 +231,7 @@ module _ (leaders_stay : LeadersStay) where
       in_beats : AllEndBy doc near far a e old
       in_beats q role s =
           let b : EndsInBeats doc far a e old q = ends q role s in
-          record { slow = b.slow; beats = div_ceil (retry_period doc q + renew_deadline doc q) b.slow; runs = b.runs; beats_is = (rounded_is b.slow (retry_period doc q + renew_deadline doc q) b.some).0; in_old = b.in_old; apart = b.apart }
+          record { slow = b.slow; beats = div_ceil (retry_period doc q + renew_deadline doc q) b.slow; runs = b.runs; beats_is = (rounded_is b.slow (retry_period doc q + renew_deadline doc q) b.some).0; in_old = b.in_old }
 
       lost : ℕ
       lost = call_timeout doc p / slow

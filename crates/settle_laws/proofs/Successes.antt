@@ -157,7 +157,7 @@ leads_come doc k = walk_history doc (λ k step h. AllCome doc h) (come_keeps doc
 module _ (doc : Doc) (near far a e n : ℕ) (sound : IsSound doc) (calm : IsCalm doc near far a e) (one : 1 ≤ far) (end : n ≤ end_beat doc) (room : a + 2 * far ≤ e)
     (q : Identity) (role : is_controller doc q.process ≡ true) (steady : IsSteady doc near far a e q.process)
     (x : Entry) (T : List Entry) (w : Call) (reply : Reply) (at : IsTail (x ∷ T) (history doc (suc n))) (actor : x.actor ≡ actor_of q) (fact : x.fact ≡ Delivers w reply true) (early : w.sent < a) where
-  o : Origin doc q w reply T x.beat
+  abbrev pub o : Origin doc q w reply T x.beat
   o = origin doc (suc n) q x T w reply at actor fact
 
   high : IsTail T (history doc (suc n))
@@ -185,26 +185,30 @@ module _ (doc : Doc) (near far a e n : ℕ) (sound : IsSound doc) (calm : IsCalm
       (sent_is o.begun.f q w o.begun.arrives o.begun.actor o.begun.fact) (calm.requests o.begun.f (earlier o.begun.f o.begun.before sending (omega (arith, early, sent)))) key_is in
       subst (λ o. IfSome o (λ m. m < a + far)) o.arrives there
 
-  pub comes_early : x.beat < a + 2 * far
-  comes_early = ⊎_elim before since (cases_lt o.e.beat a)
+  back_is : back_of o.e.actor o.e.fact ≡ Some (record { who = q; call = w; reply = reply; comes = Some x.beat })
+  back_is = ap (λ d. back_of o.e.actor d) o.fact ∙ ap (λ who. back_of who (Answers w reply (Some x.beat) (written w.request o.low))) o.actor
+
+  -- given before the calm it comes within one
+  comes_soon : o.e.beat < a → x.beat < a + far
+  comes_soon lt = subst (λ o. IfSome o (λ b. key_eq (key_of b.call.request) election ≡ true → IfSome b.comes (λ m. m < a + far))) back_is (calm.replies o.e (earlier o.e o.low answering lt)) key_is
+
+  -- and given in it after one
+  pub comes_after : a ≤ o.e.beat → (o.e.beat + near ≤ x.beat) × (x.beat ≤ o.e.beat + far)
+  comes_after from = (omega (arith, comes, passes.reply_least), omega (arith, comes, passes.reply_most))
     where
-      back_is : back_of o.e.actor o.e.fact ≡ Some (record { who = q; call = w; reply = reply; comes = Some x.beat })
-      back_is = ap (λ d. back_of o.e.actor d) o.fact ∙ ap (λ who. back_of who (Answers w reply (Some x.beat) (written w.request o.low))) o.actor
+      passes : Passes doc near far q.process o.e.beat
+      passes = steady.passes o.e.beat from (omega (arith, answered, room))
 
-      before : o.e.beat < a → x.beat < a + 2 * far
-      before lt =
-          let come : x.beat < a + far = subst (λ o. IfSome o (λ b. key_eq (key_of b.call.request) election ≡ true → IfSome b.comes (λ m. m < a + far))) back_is (calm.replies o.e (earlier o.e o.low answering lt)) key_is in
-          omega (arith, come, one)
+      comes : o.e.beat + reply_delay q.process (with_events doc o.e.beat) ≡ x.beat
+      comes =
+          some_is (o.e.beat + reply_delay q.process (with_events doc o.e.beat)) x.beat
+          (sym (reply_passes doc near far q.process o.e.beat o.low passes (forces_stand doc (suc n) o.e o.low answering (omega (arith, o.step)))
+          (steady.passes (o.e.beat + reply_delay q.process (with_events doc o.e.beat)) (omega (arith, from)) (omega (arith, passes.reply_most, answered, room))).awake)
+          ∙ o.comes_is)
 
-      since : a ≤ o.e.beat → x.beat < a + 2 * far
-      since from = omega (arith, comes, passes.reply_most, answered)
-        where
-          passes : Passes doc near far q.process o.e.beat
-          passes = steady.passes o.e.beat from (omega (arith, answered, room))
+  pub comes_early : x.beat < a + 2 * far
+  comes_early = ⊎_elim (λ lt. omega (arith, comes_soon lt, one)) (λ from. omega (arith, (comes_after from).1, answered)) (cases_lt o.e.beat a)
 
-          comes : o.e.beat + reply_delay q.process (with_events doc o.e.beat) ≡ x.beat
-          comes =
-              some_is (o.e.beat + reply_delay q.process (with_events doc o.e.beat)) x.beat
-              (sym (reply_passes doc near far q.process o.e.beat o.low passes (forces_stand doc (suc n) o.e o.low answering (omega (arith, o.step)))
-              (steady.passes (o.e.beat + reply_delay q.process (with_events doc o.e.beat)) (omega (arith, from)) (omega (arith, passes.reply_most, answered, room))).awake)
-              ∙ o.comes_is)
+  -- one that comes at the last of these beats was given in the calm
+  pub answered_in : a + far ≤ x.beat → a ≤ o.e.beat
+  answered_in late = ⊎_elim (λ lt. absurd (omega (arith, late, comes_soon lt))) (λ le. le) (cases_lt o.e.beat a)

@@ -40,58 +40,19 @@ use Rattle.settle_laws.specs.Settles.{EndsBy}
 use Rattle.settle_laws.proofs.Pausing.{can_most}
 use Rattle.settle_laws.proofs.Successes.{Comes, ComesBy, leads_come, done_of, follow_succeeds, comes_early}
 
-module _ (doc : Doc) (near far a e n : ℕ) (sound : IsSound doc) (calm : IsCalm doc near far a e) (one : 1 ≤ far) (end : e ≤ end_beat doc) (within : n ≤ e) (old : ℕ) (room : a + old ≤ n)
-    (q : Identity) (role : is_controller doc q.process ≡ true) (steady : IsSteady doc near far a e q.process) (lasts : 1 ≤ renew_deadline doc q.process)
-    (ends : EndsBy doc far a e old q.process) (none : (j : ℕ) → j ≤ n → HasSuccess doc q a j → ⊥) where
-  -- two ways less a beat after the calm began
-  abbrev last : ℕ
-  last = a + (2 * far - 1)
+-- each success of a controller comes by a beat
+abbrev pub SucceedsBy : Doc → ℕ → Identity → ℕ → Type 0
+SucceedsBy doc n q last =
+    (x : Entry) (T : List Entry) (w : Call) (reply : Reply) → IsTail (x ∷ T) (history doc (suc n)) → x.step ≡ 3 → x.actor ≡ actor_of q → x.fact ≡ Delivers w reply true → succeeds w.request reply ≡ true → x.beat ≤ last
 
-  some_beats : 1 ≤ ends.beats
-  some_beats = by_beats ends.beats ends.beats_is
-    where
-      by_beats : (k : ℕ) → retry_period doc q.process + renew_deadline doc q.process ≤ k * ends.slow → 1 ≤ k
-      by_beats zero le = absurd (omega (arith, le, lasts))
-      by_beats (suc k) le = omega arith
-
-  early : last < a + old
-  early = omega (arith, some_beats, ends.in_old)
-
+-- last is the beat by which they come, and by beat settled the clock has gone a retry period and a renew deadline since
+module _ (doc : Doc) (a e n : ℕ) (end : e ≤ end_beat doc) (within : n ≤ e) (q : Identity) (role : is_controller doc q.process ≡ true) (awake : (k : ℕ) → a ≤ k → k ≤ e → is_paused doc q.process k ≡ false)
+    (last settled : ℕ) (from : a ≤ last) (early : last < settled) (room : settled ≤ n)
+    (reached : local doc q.process last + (retry_period doc q.process + renew_deadline doc q.process) ≤ local doc q.process settled) (success_by : SucceedsBy doc n q last) where
   abbrev bound : ℕ
   bound = local doc q.process last + (retry_period doc q.process + renew_deadline doc q.process)
 
-  -- the clock has reached it by then
-  reached : bound ≤ local doc q.process (a + old)
-  reached = readings_grow doc q.process a e ends.slow (retry_period doc q.process + renew_deadline doc q.process) ends.beats ends.runs ends.beats_is last (a + old) (omega arith) (omega (arith, ends.in_old)) (omega (arith, room, within))
-
-  beat_by : (x : Entry) (T : List Entry) → IsTail (x ∷ T) (history doc (suc n)) → x.beat ≤ n
-  beat_by x T at = ⊎_elim (λ lt. omega (arith, lt)) (λ first. omega (arith, first.0)) (entries_are_earlier doc (suc n) x (in_head x T (history doc (suc n)) at))
-
-  -- ---- each success was early
-
-  success_by : (x : Entry) (T : List Entry) (w : Call) (reply : Reply) → IsTail (x ∷ T) (history doc (suc n)) → x.step ≡ 3 → x.actor ≡ actor_of q → x.fact ≡ Delivers w reply true → succeeds w.request reply ≡ true → x.beat ≤ last
-  success_by x T w reply at step actor fact so = ⊎_elim (λ lt. before lt) (λ le. absurd (since le)) (cases_lt w.sent a)
-    where
-      before : w.sent < a → x.beat ≤ last
-      before lt = omega (arith, one, comes_early doc near far a e n sound calm one (omega (arith, within, end)) (omega (arith, early, room, within)) q role steady x T w reply at actor fact lt)
-
-      done : (version : Version) × (reply ≡ Done version)
-      done = done_of w.request reply so
-
-      whole : x ≡ entry x.beat 3 q (Delivers w (Done done.0) true)
-      whole = entry_is x 3 q (Delivers w (Done done.0) true) step actor (fact ∙ ap (λ r. Delivers w r true) done.1)
-
-      since : a ≤ w.sent → ⊥
-      since le = none x.beat (beat_by x T at) (record {
-        call = w;
-        version = done.0;
-        before = T;
-        position = subst (λ z. IsTail (z ∷ T) (history doc (suc x.beat))) whole (in_own_beat doc (suc n) x T at);
-        since = le;
-        success = ap (succeeds w.request) (sym done.1) ∙ so;
-      })
-
-  -- ---- so is each deadline
+  -- ---- each deadline is early
 
   abbrev IsEarly : ℕ → ℕ → Type 0
   IsEarly beat t = (beat ≤ last) × (t ≤ bound)
@@ -125,10 +86,10 @@ module _ (doc : Doc) (near far a e n : ℕ) (sound : IsSound doc) (calm : IsCalm
 
       can : can_at doc q.process (local doc q.process x.beat + retry_period doc q.process) ≤ local doc q.process last + retry_period doc q.process
       can =
-          can_most doc q.process a e (omega (arith, room, within)) end (local doc q.process x.beat + retry_period doc q.process)
-          (omega (arith, reached, local_up doc q.process x.beat last by, local_up doc q.process (a + old) e (omega (arith, room, within))))
-          (λ k low high. (steady.passes k low high).awake) (local doc q.process last + retry_period doc q.process)
-          (omega (arith, local_up doc q.process x.beat last by)) (omega (arith, local_up doc q.process a last (omega arith)))
+          can_most doc q.process a e (omega (arith, from, early, room, within)) end (local doc q.process x.beat + retry_period doc q.process)
+          (omega (arith, reached, local_up doc q.process x.beat last by, local_up doc q.process settled e (omega (arith, room, within))))
+          awake (local doc q.process last + retry_period doc q.process)
+          (omega (arith, local_up doc q.process x.beat last by)) (omega (arith, local_up doc q.process a last from))
   set_by x T at who (Delivers w reply false) actor fact made comes led t is = absurd (none_is t is)
   set_by x T at who (First key object) actor fact made comes led t is = absurd (none_is t is)
   set_by x T at who (Happens w version) actor fact made comes led t is = absurd (none_is t is)
@@ -168,8 +129,8 @@ module _ (doc : Doc) (near far a e n : ℕ) (sound : IsSound doc) (calm : IsCalm
 
   -- ---- it acts no more
 
-  pub none_acts : (k : ℕ) → a + old ≤ k → k ≤ n → Acts doc q k → ⊥
-  none_acts k from to acting = by_deadline (deadline doc q g) refl before
+  pub none_acts : (k : ℕ) → settled ≤ k → k ≤ n → Acts doc q k → ⊥
+  none_acts k low to acting = by_deadline (deadline doc q g) refl before
     where
       g : List Entry
       g = at_turn doc q.process k
@@ -182,67 +143,66 @@ module _ (doc : Doc) (near far a e n : ℕ) (sound : IsSound doc) (calm : IsCalm
 
       by_deadline : (o : Option ℕ) → deadline doc q g ≡ o → is_before (local doc q.process k) o ≡ true → ⊥
       by_deadline None is before = false_is before
-      by_deadline (Some t) is before = omega (arith, ltb-true (local doc q.process k) t before, deadline_by g high t is, reached, local_up doc q.process (a + old) k from)
+      by_deadline (Some t) is before = omega (arith, ltb-true (local doc q.process k) t before, deadline_by g high t is, reached, local_up doc q.process settled k low)
 
   -- ---- who is up after its turn at that beat never led
 
-  turn_high : IsTail (at_turn doc (suc q.process) (a + old)) (history doc (suc n))
+  turn_high : IsTail (at_turn doc (suc q.process) settled) (history doc (suc n))
   turn_high =
-      tail_trans (at_turn doc (suc q.process) (a + old)) (history doc (suc (a + old))) (history doc (suc n)) (turn_tail doc (suc q.process) (a + old) (omega (arith, controllers_first doc q.process role))) (later_tail doc (suc (a + old)) (suc n) (omega (arith, room)))
+      tail_trans (at_turn doc (suc q.process) settled) (history doc (suc settled)) (history doc (suc n)) (turn_tail doc (suc q.process) settled (omega (arith, controllers_first doc q.process role))) (later_tail doc (suc settled) (suc n) (omega (arith, room)))
 
-  no_deadline : (h : List Entry) → IsTail (at_turn doc (suc q.process) (a + old)) h → IsTail h (history doc (suc n)) → alive q.process h ≡ Some q.incarnation → deadline doc q h ≡ None
+  pub no_deadline : (h : List Entry) → IsTail (at_turn doc (suc q.process) settled) h → IsTail h (history doc (suc n)) → alive q.process h ≡ Some q.incarnation → deadline doc q h ≡ None
   no_deadline h low high up = by_deadline (deadline doc q h) refl
     where
       g : List Entry
-      g = at_turn doc q.process (a + old)
+      g = at_turn doc q.process settled
 
       first : q.process < processes doc
       first = controllers_first doc q.process role
 
       last_low : IsTail (history doc (suc last)) g
-      last_low = tail_trans (history doc (suc last)) (history doc (a + old)) g (later_tail doc (suc last) (a + old) (omega (arith, early))) (before_turn doc q.process (a + old))
+      last_low = tail_trans (history doc (suc last)) (history doc settled) g (later_tail doc (suc last) settled (omega (arith, early))) (before_turn doc q.process settled)
 
       g_high : IsTail g (history doc (suc n))
-      g_high = tail_trans g (history doc (suc (a + old))) (history doc (suc n)) (turn_tail doc q.process (a + old) (omega (arith, first))) (later_tail doc (suc (a + old)) (suc n) (omega (arith, room)))
+      g_high = tail_trans g (history doc (suc settled)) (history doc (suc n)) (turn_tail doc q.process settled (omega (arith, first))) (later_tail doc (suc settled) (suc n) (omega (arith, room)))
 
       h_low : IsTail (history doc (suc last)) h
       h_low =
-          tail_trans (history doc (suc last)) (at_turn doc (suc q.process) (a + old)) h
-          (tail_trans (history doc (suc last)) (history doc (a + old)) (at_turn doc (suc q.process) (a + old)) (later_tail doc (suc last) (a + old) (omega (arith, early))) (before_turn doc (suc q.process) (a + old))) low
+          tail_trans (history doc (suc last)) (at_turn doc (suc q.process) settled) h
+          (tail_trans (history doc (suc last)) (history doc settled) (at_turn doc (suc q.process) settled) (later_tail doc (suc last) settled (omega (arith, early))) (before_turn doc (suc q.process) settled)) low
 
       meets : IsTail g h ⊎ IsTail h g
       meets = tails_meet g h (history doc (suc n)) g_high high
 
       clash : (t : ℕ) → deadline doc q h ≡ Some t → ⊥
-      clash t is = (over_stays doc (suc n) q (at_turn doc (suc q.process) (a + old)) h high low (past_ends doc (a + old) q g t role up_g set counted late awake)).1 up
+      clash t is = (over_stays doc (suc n) q (at_turn doc (suc q.process) settled) h high low (past_ends doc settled q g t role up_g set counted late (awake settled (omega (arith, from, early)) (omega (arith, room, within))))).1 up
         where
           set : deadline doc q g ≡ Some t
           set = deadline_same g last_low g_high ∙ sym (deadline_same h h_low high) ∙ is
 
           counted : q.incarnation ≤ starts q.process g
-          counted = turn_counted doc q q.process (a + old) t set
+          counted = turn_counted doc q q.process settled t set
 
-          awake : is_paused doc q.process (a + old) ≡ false
-          awake = (steady.passes (a + old) (omega arith) (omega (arith, room, within))).awake
+  
 
-          g_low : IsTail g (at_turn doc (suc q.process) (a + old))
-          g_low = turn_adds doc (a + old) q.process g
+          g_low : IsTail g (at_turn doc (suc q.process) settled)
+          g_low = turn_adds doc settled q.process g
 
           up_g : alive q.process g ≡ Some q.incarnation
-          up_g = still_up q g counted (λ over. (over_stays doc (suc n) q g h high (tail_trans g (at_turn doc (suc q.process) (a + old)) h g_low low) over).1 up)
+          up_g = still_up q g counted (λ over. (over_stays doc (suc n) q g h high (tail_trans g (at_turn doc (suc q.process) settled) h g_low low) over).1 up)
 
-          late : nat_lt (local doc q.process (a + old)) t ≡ false
-          late = by_test (nat_lt (local doc q.process (a + old)) t) refl
+          late : nat_lt (local doc q.process settled) t ≡ false
+          late = by_test (nat_lt (local doc q.process settled) t) refl
             where
-              by_test : (b : Bool) → nat_lt (local doc q.process (a + old)) t ≡ b → nat_lt (local doc q.process (a + old)) t ≡ false
+              by_test : (b : Bool) → nat_lt (local doc q.process settled) t ≡ b → nat_lt (local doc q.process settled) t ≡ false
               by_test false is = is
-              by_test true is = absurd (omega (arith, ltb-true (local doc q.process (a + old)) t is, deadline_by g g_high t set, reached))
+              by_test true is = absurd (omega (arith, ltb-true (local doc q.process settled) t is, deadline_by g g_high t set, reached))
 
       by_deadline : (o : Option ℕ) → deadline doc q h ≡ o → deadline doc q h ≡ None
       by_deadline None is = is
       by_deadline (Some t) is = absurd (clash t is)
 
-  module _ (h : List Entry) (low : IsTail (at_turn doc (suc q.process) (a + old)) h) (high : IsTail h (history doc (suc n))) (up : alive q.process h ≡ Some q.incarnation) where
+  module _ (h : List Entry) (low : IsTail (at_turn doc (suc q.process) settled) h) (high : IsTail h (history doc (suc n))) (up : alive q.process h ≡ Some q.incarnation) where
     pub never_leads : (g : List Entry) → IsTail g (history doc (suc n)) → leads q g ≡ false
     never_leads g at = by_led (leads q g) refl (tails_meet g h (history doc (suc n)) at high)
       where
@@ -251,8 +211,8 @@ module _ (doc : Doc) (near far a e n : ℕ) (sound : IsSound doc) (calm : IsCalm
 
         h_low : IsTail (history doc (suc last)) h
         h_low =
-            tail_trans (history doc (suc last)) (at_turn doc (suc q.process) (a + old)) h
-            (tail_trans (history doc (suc last)) (history doc (a + old)) (at_turn doc (suc q.process) (a + old)) (later_tail doc (suc last) (a + old) (omega (arith, early))) (before_turn doc (suc q.process) (a + old))) low
+            tail_trans (history doc (suc last)) (at_turn doc (suc q.process) settled) h
+            (tail_trans (history doc (suc last)) (history doc settled) (at_turn doc (suc q.process) settled) (later_tail doc (suc last) settled (omega (arith, early))) (before_turn doc (suc q.process) settled)) low
 
         by_led : (b : Bool) → leads q g ≡ b → IsTail g h ⊎ IsTail h g → leads q g ≡ false
         by_led false is place = is
@@ -261,7 +221,7 @@ module _ (doc : Doc) (near far a e n : ℕ) (sound : IsSound doc) (calm : IsCalm
             absurd (none_set g (deadline_same g (tail_trans (history doc (suc last)) h g h_low above) at ∙ sym (deadline_same h h_low high) ∙ no_deadline h low high up) is)
 
     pub never_acts : (k : ℕ) → a ≤ k → k ≤ n → Acts doc q k → ⊥
-    never_acts k from to acting = by_deadline (deadline doc q g) refl before
+    never_acts k low_k to acting = by_deadline (deadline doc q g) refl before
       where
         g : List Entry
         g = at_turn doc q.process k

@@ -2,14 +2,14 @@
 use Rattle.std.specs.Int.{div_ceil}
 use Rattle.std.specs.Prelude.{◌≡◌, ◌≤◌, ℕ, suc, ◌+◌, ◌-◌, ◌*◌, ◌/◌, max, true}
 use Rattle.kube_objects.specs.Document.{Doc, end_beat, is_controller, lease_duration, call_timeout, retry_period, renew_deadline}
-use Rattle.kube_objects.specs.Entry.{Identity, Ends}
+use Rattle.kube_objects.specs.Entry.{Identity}
 use Rattle.history.specs.History.{history}
 use Rattle.history.specs.Sound.{IsSound}
 use Rattle.span_laws.specs.Looks.{IsGreatest}
 use Rattle.span_laws.specs.Quotients.{most_beats}
 use Rattle.span_laws.specs.Spans.{RunsAtLeast, IsEnough}
 use Rattle.takeover_laws.specs.Acting.{AreInTime}
-use Rattle.takeover_laws.specs.Calm.{AllBeats, IsSteady, IsCalm}
+use Rattle.takeover_laws.specs.Calm.{IsSteady, IsCalm}
 use Rattle.calm_laws.specs.Bounds.{early_record, LastsFor, IsCandidate, AreBeats}
 use Rattle.stay_laws.specs.Stays.{RenewsInTime, Stays}
 
@@ -18,14 +18,13 @@ abbrev pub AreRenewed : Doc → ℕ → ℕ → ℕ → ℕ → Type 0
 AreRenewed doc near far a e = (q : Identity) → is_controller doc q.process ≡ true → IsSteady doc near far a e q.process → RenewsInTime doc near far a e q
 
 -- a term without a success by a call of the span is over old beats after its first one: the last success may be two ways later, less a beat, and
--- beats are enough for a retry period and a renew deadline from there. None ends at that very beat
+-- beats are enough for a retry period and a renew deadline from there.
 pub record EndsBy (doc : Doc) (far a e old p : ℕ) : Type 0 where
   pub slow : ℕ
   pub beats : ℕ
   pub runs : RunsAtLeast doc p a e slow
   pub beats_is : IsEnough slow (retry_period doc p + renew_deadline doc p) beats
   pub in_old : 2 * far - 1 + beats ≤ old
-  pub apart : AllBeats doc e p Ends (λ k. k ≡ a + old → ⊥)
 
 -- and so of each steady controller
 abbrev pub AllEndBy : Doc → ℕ → ℕ → ℕ → ℕ → ℕ → Type 0
@@ -69,7 +68,6 @@ pub record EndsInBeats (doc : Doc) (far a e old p : ℕ) : Type 0 where
   pub some : 1 ≤ slow
   pub runs : RunsAtLeast doc p a e slow
   pub in_old : 2 * far - 1 + div_ceil (retry_period doc p + renew_deadline doc p) slow ≤ old
-  pub apart : AllBeats doc e p Ends (λ k. k ≡ a + old → ⊥)
 
 abbrev pub AllEndInBeats : Doc → ℕ → ℕ → ℕ → ℕ → ℕ → Type 0
 AllEndInBeats doc near far a e old = (p : ℕ) → is_controller doc p ≡ true → IsSteady doc near far a e p → EndsInBeats doc far a e old p
