@@ -14,9 +14,9 @@ use Rattle.kube_objects.specs.Elector.{Moment, moment, Fails, Asks, follow_get, 
 use Rattle.kube_objects.specs.Entry.{Entry, Identity, Call, Fact, First, Event, Starts, Stops, Sends, Answers, Delivers, Expires, Leads, Ends, Crashes, Stalls, Ticks, actor_of, entry}
 use Rattle.kube_objects.specs.Identities.{is_by}
 use Rattle.kube_objects.specs.Keys.{key_eq}
-use Rattle.kube_objects.specs.Newest.{when, has, or_else, or_zero}
+use Rattle.kube_objects.specs.Newest.{when, has, or_zero}
 use Rattle.kube_objects.specs.Stored.{Held, election, key_of, request_write, at_key, stored}
-use Rattle.kube_objects.specs.Wire.{request_delay_of, request_loss_of, arrival, sent_of, back_of, request_delay, reply_delay, request_arrival}
+use Rattle.kube_objects.specs.Wire.{sent_of, back_of, request_delay, reply_delay, request_arrival}
 use Rattle.history.specs.History.{history}
 use Rattle.history_laws.specs.Tails.{In, IsTail}
 use Rattle.history_laws.proofs.Counting.{only_test, only_value}
@@ -29,18 +29,11 @@ use Rattle.call_laws.proofs.Making.{Replied}
 use Rattle.call_laws.proofs.Placing.{from_beat, in_own_beat, not_before, forces_stand, messages_travel}
 use Rattle.takeover_laws.specs.Calm.{Passes, IsSteady, IsCalm, WritesElection}
 use Rattle.takeover_laws.specs.Taking.{FitsStored}
-use Rattle.takeover_laws.proofs.Rounds.{Forces, reply_passes, sent_is}
+use Rattle.takeover_laws.proofs.Rounds.{request_passes, reply_passes, sent_is}
 use Rattle.calm_laws.proofs.Asked.{IsWrite, IsNext, Reason, next_is, asks_same, fails_not, reason_key, reason_of}
 use Rattle.calm_laws.proofs.Begun.{by_is}
 use Rattle.calm_laws.proofs.Kept.{IsKept, no_takeover}
 use Rattle.calm_laws.proofs.Origins.{Origin, origin}
-
--- ---- when a request arrives that passes
-
-pub request_passes : (doc : Doc) (near far p k : ℕ) (h : List Entry) → Passes doc near far p k → Forces doc k h → request_arrival p k h ≡ Some (k + request_delay p (with_events doc k))
-request_passes doc near far p k h passes force =
-    ap (λ b. arrival b k (request_delay p h)) (ap (or_else false) (force.1 (request_loss_of p)) ∙ passes.requests)
-    ∙ ap (λ n. Some (k + n)) (ap (or_else 1) (force.0 (request_delay_of p)))
 
 -- ---- what is stored as a Lease
 
@@ -58,7 +51,7 @@ fits_of q m seen (Some x) r lease is = by_test (is_blocked q m.now seen lease.0)
     by_test false is = subst (FitsStored (Some x)) (asks_same (Update election x.version (updated q m lease.0)) r is) (refl, refl)
 
 -- a write that was answered with a version wrote
-wrote_by : (r : Request) (h : List Entry) (version : Version) → IsWrite r → key_of r ≡ election → answer r h ≡ Done version → has (at_key election (request_write r (written r h))) ≡ true
+pub wrote_by : (r : Request) (h : List Entry) (version : Version) → IsWrite r → key_of r ≡ election → answer r h ≡ Done version → has (at_key election (request_write r (written r h))) ≡ true
 wrote_by (Create key lease) h version w is done =
     ap (λ reply. has (at_key election (request_write (Create key lease) (if_done reply (object.Lease lease))))) done ∙ ap (λ k. has (when (key_eq k election) (Some (object.Lease lease)))) is
 wrote_by (Update key given lease) h version w is done =

@@ -33,13 +33,12 @@ use Rattle.call_laws.proofs.Placing.{from_beat, in_own_beat, forces_stand, messa
 use Rattle.takeover_laws.specs.Acting.{AreInTime}
 use Rattle.takeover_laws.specs.Calm.{Passes, IsSteady, IsQuiet, IsCalm, WritesElection}
 use Rattle.takeover_laws.proofs.Records.{wrote_key}
-use Rattle.takeover_laws.proofs.Rounds.{sent_is}
+use Rattle.takeover_laws.proofs.Rounds.{request_passes, sent_is}
 use Rattle.takeover_laws.proofs.Writers.{sends_of, sending_of}
 use Rattle.calm_laws.specs.Bounds.{early_record, LastsFor}
 use Rattle.calm_laws.proofs.Changes.{Change, Unwritten, Put, Written, IsWritten, IsStored, stored_as, unchanged, put_stored, early_stored, change_of}
 use Rattle.calm_laws.proofs.Kept.{IsKept}
 use Rattle.calm_laws.proofs.Looks.{object_of}
-use Rattle.calm_laws.proofs.Replies.{request_passes}
 use Rattle.settle_laws.specs.Settles.{AllLastFor}
 use Rattle.settle_laws.proofs.Successes.{high_of, asked_of}
 
