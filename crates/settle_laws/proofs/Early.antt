@@ -28,31 +28,15 @@ use Rattle.takeover_laws.proofs.Standing.{controllers_first}
 use Rattle.calm_laws.proofs.First.{entry_is}
 use Rattle.calm_laws.proofs.Origins.{Origin}
 use Rattle.stay_laws.specs.Stays.{HasSuccess, RenewsInTime}
+use Rattle.stay_laws.proofs.Given.{IsGiven}
+use Rattle.stay_laws.proofs.Staying.{given_stays}
 use Rattle.settle_laws.specs.Settles.{EndsBy}
 use Rattle.settle_laws.proofs.Deciding.{NobodySucceeds}
 use Rattle.settle_laws.proofs.Successes as early
 use Rattle.settle_laws.proofs.Successes.{done_of}
 use Rattle.settle_laws.proofs.Terms.{SucceedsBy, none_acts, no_deadline}
 
--- a success in beat y that was given in the span
-pub record IsGiven (doc : Doc) (near far a : ℕ) (q : Identity) (y : ℕ) : Type 0 where
-  pub call : Call
-  pub version : Version
-  pub before : List Entry
-  pub position : IsTail (entry y 3 q (Delivers call (Done version) true) ∷ before) (history doc (suc y))
-  pub success : succeeds call.request (Done version) ≡ true
-  pub o : Origin doc q call (Done version) before y
-  pub from : a ≤ o.e.beat
-  pub least : o.e.beat + near ≤ y
-  pub most : y ≤ o.e.beat + far
-
-abbrev pub GivenActs : Type 0
-GivenActs =
-    (doc : Doc) (near far a e : ℕ) → IsSound doc → IsCalm doc near far a e → AreInTime doc near far a e → 1 ≤ near → near ≤ far → e ≤ end_beat doc
-    → (q : Identity) → is_controller doc q.process ≡ true → IsSteady doc near far a e q.process → RenewsInTime doc near far a e q
-    → (y : ℕ) → IsGiven doc near far a q y → (k : ℕ) → y ≤ k → k ≤ e → Acts doc q k
-
-module _ (given_acts : GivenActs) (doc : Doc) (near far a e n : ℕ) (sound : IsSound doc) (calm : IsCalm doc near far a e) (time : AreInTime doc near far a e) (one : 1 ≤ near) (ways : near ≤ far) (end : e ≤ end_beat doc) (within : n ≤ e)
+module _ (doc : Doc) (near far a e n : ℕ) (sound : IsSound doc) (calm : IsCalm doc near far a e) (time : AreInTime doc near far a e) (one : 1 ≤ near) (ways : near ≤ far) (end : e ≤ end_beat doc) (within : n ≤ e)
     (old : ℕ) (room : a + old ≤ n) (p : ℕ) (role : is_controller doc p ≡ true) (steady : IsSteady doc near far a e p) (lasts : 1 ≤ renew_deadline doc p) (ends : EndsBy doc far a e old p) where
   some_far : 1 ≤ far
   some_far = omega (arith, one, ways)
@@ -120,6 +104,9 @@ module _ (given_acts : GivenActs) (doc : Doc) (near far a e n : ℕ) (sound : Is
       by_last = omega (arith, some_far, early.comes_early doc near far a e n sound calm some_far (omega (arith, within, end)) span q q_role q_steady x T w reply at actor fact sent_before)
 
       -- one at the last of these beats
+      abbrev o : Origin doc q w (Done done.0) T x.beat
+      o = early.o doc near far a e n sound calm some_far (omega (arith, within, end)) span q q_role q_steady x T w (Done done.0) at actor fact_done sent_before
+
       given : x.beat ≡ last → IsGiven doc near far a q x.beat
       given is = record {
         call = w;
@@ -127,16 +114,20 @@ module _ (given_acts : GivenActs) (doc : Doc) (near far a e n : ℕ) (sound : Is
         before = T;
         position = here;
         success = so_done;
-        o = early.o doc near far a e n sound calm some_far (omega (arith, within, end)) span q q_role q_steady x T w (Done done.0) at actor fact_done sent_before;
+        o = o;
         from = in_span;
+        sent = omega (arith, asked, sent_before, in_span);
         least = after.0;
         most = after.1;
       }
         where
-          in_span : a ≤ (early.o doc near far a e n sound calm some_far (omega (arith, within, end)) span q q_role q_steady x T w (Done done.0) at actor fact_done sent_before).e.beat
+          asked : w.sent ≡ o.begun.f.beat
+          asked = early.sent doc near far a e n sound calm some_far (omega (arith, within, end)) span q q_role q_steady x T w (Done done.0) at actor fact_done sent_before
+
+          in_span : a ≤ o.e.beat
           in_span = early.answered_in doc near far a e n sound calm some_far (omega (arith, within, end)) span q q_role q_steady x T w (Done done.0) at actor fact_done sent_before (omega (arith, is, some_far))
 
-          after : _
+          after : (o.e.beat + near ≤ x.beat) × (x.beat ≤ o.e.beat + far)
           after = early.comes_after doc near far a e n sound calm some_far (omega (arith, within, end)) span q q_role q_steady x T w (Done done.0) at actor fact_done sent_before in_span
 
     pub success_by : SucceedsBy doc n q last
@@ -155,7 +146,7 @@ module _ (given_acts : GivenActs) (doc : Doc) (near far a e n : ℕ) (sound : Is
         at_last : x.beat ≡ last → ⊥
         at_last is =
             idle (a + old) (omega arith) room
-            (given_acts doc near far a e sound calm time one ways end q q_role q_steady renews x.beat (given x T w reply at step actor fact so is) (a + old) (omega (arith, is, soon)) (omega (arith, room, within)))
+            ((given_stays doc near far a e sound calm time one end q q_role q_steady renews x.beat (omega (arith, is, soon, room, within)) (given x T w reply at step actor fact so is)).acts (a + old) (omega (arith, is, soon)) (omega (arith, room, within)))
 
     -- who is up after the beat before has no term
     no_term : (h : List Entry) → IsTail (at_turn doc (suc q.process) (a + old - 1)) h → IsTail h (history doc (suc n)) → alive q.process h ≡ Some q.incarnation → deadline doc q h ≡ None

@@ -32,11 +32,11 @@ use Rattle.calm_laws.specs.Bounds.{early_record, LastsFor, IsCandidate, AreBeats
 use Rattle.calm_laws.proofs.Bounded.{events_low, next_multiple, no_candidate}
 use Rattle.calm_laws.proofs.Kept.{IsKept}
 use Rattle.calm_laws.proofs.Looks.{object_of}
-use Rattle.stay_laws.specs.Stays.{HasSuccess, Stays, LeadersStay}
+use Rattle.stay_laws.specs.Stays.{Stays}
+use Rattle.stay_laws.proofs.Staying.{leaders_stay}
 use Rattle.settle_laws.specs.Settles.{AreRenewed, EndsBy, AllEndBy, AllLastFor, IsSettled, settle_bound, CalmSpansSettle, EndsInBeats, AllEndInBeats, SettlingIsTold}
 use Rattle.settle_laws.proofs.Deciding.{SomebodySucceeds, NobodySucceeds, somebody_or_nobody}
 use Rattle.settle_laws.proofs.Early as early
-use Rattle.settle_laws.proofs.Early.{GivenActs}
 use Rattle.settle_laws.proofs.Terms.{SucceedsBy, none_acts, never_leads, never_acts}
 use Rattle.settle_laws.proofs.Writing.{kept, lasts}
 
@@ -65,7 +65,7 @@ stays_later doc q j n e le s = record {
 
 -- ---- while nobody succeeds
 
-module _ (given_acts : GivenActs) (doc : Doc) (near far a e n : ℕ) (sound : IsSound doc) (calm : IsCalm doc near far a e) (time : AreInTime doc near far a e) (one : 1 ≤ near) (ways : near ≤ far) (end : e ≤ end_beat doc) (within : n ≤ e)
+module _ (doc : Doc) (near far a e n : ℕ) (sound : IsSound doc) (calm : IsCalm doc near far a e) (time : AreInTime doc near far a e) (one : 1 ≤ near) (ways : near ≤ far) (end : e ≤ end_beat doc) (within : n ≤ e)
     (old : ℕ) (ends : AllEndBy doc near far a e old) (room : a + old ≤ n) (renewed : AreRenewed doc near far a e) (nobody : NobodySucceeds doc near far a e n) where
   some_far : 1 ≤ far
   some_far = omega (arith, one, ways)
@@ -84,13 +84,13 @@ module _ (given_acts : GivenActs) (doc : Doc) (near far a e n : ℕ) (sound : Is
     awake k low high = (steady.passes k low high).awake
 
     soon : a + (2 * far - 1) < settled
-    soon = early.soon given_acts doc near far a e n sound calm time one ways end within old room q.process role steady t.deadline ends_by
+    soon = early.soon doc near far a e n sound calm time one ways end within old room q.process role steady t.deadline ends_by
 
     reached : local doc q.process (a + (2 * far - 1)) + (retry_period doc q.process + renew_deadline doc q.process) ≤ local doc q.process settled
-    reached = early.reached given_acts doc near far a e n sound calm time one ways end within old room q.process role steady t.deadline ends_by
+    reached = early.reached doc near far a e n sound calm time one ways end within old room q.process role steady t.deadline ends_by
 
     success_by : SucceedsBy doc n q (a + (2 * far - 1))
-    success_by = early.success_by given_acts doc near far a e n sound calm time one ways end within old room q.process role steady t.deadline ends_by q refl (renewed q role steady) (nobody q role steady)
+    success_by = early.success_by doc near far a e n sound calm time one ways end within old room q.process role steady t.deadline ends_by q refl (renewed q role steady) (nobody q role steady)
 
     none_later : (k : ℕ) → settled ≤ k → k ≤ n → Acts doc q k → ⊥
     none_later = none_acts doc a e n end within q role awake (a + (2 * far - 1)) settled (omega arith) soon room reached success_by
@@ -102,7 +102,7 @@ module _ (given_acts : GivenActs) (doc : Doc) (near far a e n : ℕ) (sound : Is
       crashes = λ x at fact mine. let le = steady.crashes x at fact mine in omega (arith, le);
       stops = λ x at fact mine. let lt = steady.stops x at fact mine in omega (arith, lt);
       ends =
-          early.none_ends given_acts doc near far a e n sound calm time one ways end within old room q.process role steady t.deadline ends_by
+          early.none_ends doc near far a e n sound calm time one ways end within old room q.process role steady t.deadline ends_by
           (λ r mine. renewed r (ap (is_controller doc) mine ∙ role) (subst (IsSteady doc near far a e) (sym mine) steady))
           (λ r mine. nobody r (ap (is_controller doc) mine ∙ role) (subst (IsSteady doc near far a e) (sym mine) steady));
     }
@@ -200,59 +200,58 @@ module _ (given_acts : GivenActs) (doc : Doc) (near far a e n : ℕ) (sound : Is
 
 -- ---- the law
 
-module _ (leaders_stay : LeadersStay) (given_acts : GivenActs) where
-  pub calm_spans_settle : CalmSpansSettle
-  calm_spans_settle doc near far a e sound calm time one ways end renewed old ends p later slow fast lost wait needed c b after first up_by lost_by ways_by most_lasts enough most early all enough_is most_is within =
-      ⊎_elim found (λ nobody. absurd (nobody_never nobody)) (somebody_or_nobody doc near far a e n)
-    where
-      n : ℕ
-      n = a + first + most + 4 * far
+pub calm_spans_settle : CalmSpansSettle
+calm_spans_settle doc near far a e sound calm time one ways end renewed old ends p later slow fast lost wait needed c b after first up_by lost_by ways_by most_lasts enough most early all enough_is most_is within =
+    ⊎_elim found (λ nobody. absurd (nobody_never nobody)) (somebody_or_nobody doc near far a e n)
+  where
+    n : ℕ
+    n = a + first + most + 4 * far
 
-      found : SomebodySucceeds doc near far a e n → IsSettled doc near far a e n
-      found s = record {
-        q = s.q;
-        role = s.role;
-        steady = s.is_steady;
-        stays = stays_later doc s.q s.j n e s.to (leaders_stay doc near far a e sound calm time one ways end s.q s.role s.is_steady (renewed s.q s.role s.is_steady) s.j s.success);
-      }
+    found : SomebodySucceeds doc near far a e n → IsSettled doc near far a e n
+    found s = record {
+      q = s.q;
+      role = s.role;
+      steady = s.is_steady;
+      stays = stays_later doc s.q s.j n e s.to (leaders_stay doc near far a e sound calm time one ways end s.q s.role s.is_steady (renewed s.q s.role s.is_steady) s.j s.success);
+    }
 
-      nobody_never : NobodySucceeds doc near far a e n → ⊥
-      nobody_never nobody =
-          never given_acts doc near far a e n sound calm time one ways end within old ends (omega (arith, after, up_by)) renewed nobody most_lasts all early p later slow fast lost wait needed c b after
-          first up_by lost_by ways_by enough most enough_is most_is (omega arith)
+    nobody_never : NobodySucceeds doc near far a e n → ⊥
+    nobody_never nobody =
+        never doc near far a e n sound calm time one ways end within old ends (omega (arith, after, up_by)) renewed nobody most_lasts all early p later slow fast lost wait needed c b after
+        first up_by lost_by ways_by enough most enough_is most_is (omega arith)
 
-  pub settling_is_told : SettlingIsTold
-  settling_is_told doc near far a e sound calm time one ways end renewed old ends p later slow fast c some_slow some_fast after most_lasts early all within =
-      subst (IsSettled doc near far a e) sum
-      (calm_spans_settle doc near far a e sound calm time one ways end renewed old in_beats p later slow fast lost wait needed c
-      (record { lost_is = next_multiple (call_timeout doc p) slow some_slow; wait_is = (rounded_is slow (retry_period doc p) some_slow).0; needed_is = (rounded_is fast (retry_period doc p) some_fast).1 })
-      after first (omega arith) (omega arith) (omega arith) most_lasts enough most early all (rounded_is slow most_lasts some_slow).0 ((bounds_are_exact (needed + 2 * near) (wait + 2 * far) enough).0 some_step).1 (omega (arith, sum, within)))
-    where
-      in_beats : AllEndBy doc near far a e old
-      in_beats q role s =
-          let b : EndsInBeats doc far a e old q = ends q role s in
-          record { slow = b.slow; beats = div_ceil (retry_period doc q + renew_deadline doc q) b.slow; runs = b.runs; beats_is = (rounded_is b.slow (retry_period doc q + renew_deadline doc q) b.some).0; in_old = b.in_old }
+pub settling_is_told : SettlingIsTold
+settling_is_told doc near far a e sound calm time one ways end renewed old ends p later slow fast c some_slow some_fast after most_lasts early all within =
+    subst (IsSettled doc near far a e) sum
+    (calm_spans_settle doc near far a e sound calm time one ways end renewed old in_beats p later slow fast lost wait needed c
+    (record { lost_is = next_multiple (call_timeout doc p) slow some_slow; wait_is = (rounded_is slow (retry_period doc p) some_slow).0; needed_is = (rounded_is fast (retry_period doc p) some_fast).1 })
+    after first (omega arith) (omega arith) (omega arith) most_lasts enough most early all (rounded_is slow most_lasts some_slow).0 ((bounds_are_exact (needed + 2 * near) (wait + 2 * far) enough).0 some_step).1 (omega (arith, sum, within)))
+  where
+    in_beats : AllEndBy doc near far a e old
+    in_beats q role s =
+        let b : EndsInBeats doc far a e old q = ends q role s in
+        record { slow = b.slow; beats = div_ceil (retry_period doc q + renew_deadline doc q) b.slow; runs = b.runs; beats_is = (rounded_is b.slow (retry_period doc q + renew_deadline doc q) b.some).0; in_old = b.in_old }
 
-      lost : ℕ
-      lost = call_timeout doc p / slow
+    lost : ℕ
+    lost = call_timeout doc p / slow
 
-      wait : ℕ
-      wait = div_ceil (retry_period doc p) slow
+    wait : ℕ
+    wait = div_ceil (retry_period doc p) slow
 
-      needed : ℕ
-      needed = div_ceil (retry_period doc p) fast
+    needed : ℕ
+    needed = div_ceil (retry_period doc p) fast
 
-      enough : ℕ
-      enough = div_ceil most_lasts slow
+    enough : ℕ
+    enough = div_ceil most_lasts slow
 
-      first : ℕ
-      first = max later (max lost (old + 4 * far - 1) + wait)
+    first : ℕ
+    first = max later (max lost (old + 4 * far - 1) + wait)
 
-      most : ℕ
-      most = most_beats (needed + 2 * near) (wait + 2 * far) enough
+    most : ℕ
+    most = most_beats (needed + 2 * near) (wait + 2 * far) enough
 
-      some_step : 1 ≤ needed + 2 * near
-      some_step = omega (arith, one)
+    some_step : 1 ≤ needed + 2 * near
+    some_step = omega (arith, one)
 
-      sum : a + first + most + 4 * far ≡ a + settle_bound doc near far p later slow fast old most_lasts
-      sum = omega arith
+    sum : a + first + most + 4 * far ≡ a + settle_bound doc near far p later slow fast old most_lasts
+    sum = omega arith

@@ -172,7 +172,7 @@ module _ (doc : Doc) (near far a e n : ℕ) (sound : IsSound doc) (calm : IsCalm
   key_is : key_eq (key_of w.request) election ≡ true
   key_is = ap (λ k. key_eq k election) (asked_of doc sound n end q role o.begun.f o.begun.before w o.begun.arrives sending o.begun.actor o.begun.fact).key
 
-  sent : w.sent ≡ o.begun.f.beat
+  pub sent : w.sent ≡ o.begun.f.beat
   sent = (subst (λ p. IfSome p (λ s. (s.call.sent ≡ o.begun.f.beat) × (s.arrives ≡ request_arrival s.who.process o.begun.f.beat o.begun.before)))
       (sent_is o.begun.f q w o.begun.arrives o.begun.actor o.begun.fact) (messages_travel doc (suc n) o.begun.f o.begun.before sending).0).0
 
