@@ -183,8 +183,6 @@ module _ (doc : Doc) (a e n : ℕ) (end : e ≤ end_beat doc) (within : n ≤ e)
           counted : q.incarnation ≤ starts q.process g
           counted = turn_counted doc q q.process settled t set
 
-  
-
           g_low : IsTail g (at_turn doc (suc q.process) settled)
           g_low = turn_adds doc settled q.process g
 
