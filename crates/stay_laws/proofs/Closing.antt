@@ -1,22 +1,20 @@
 -- The reply to a call counts within two ways, where the sender is up as it comes.
-use Rattle.std.proofs.Common.{◌≡◌, ◌⊎◌, ◌<◌, ◌≤◌, ℕ, suc, ◌+◌, ◌*◌, ◌==◌, ◌&&◌, Bool, true, false, List, [], ◌∷◌, Option, Some, None, refl, sym, ap, ◌∙◌, subst, inl, inr, ⊎_elim, arith}
-use Rattle.std.proofs.lemmas.Bool.{ltb-true, ltb-false, eq-eqb}
+use Rattle.std.proofs.Common.{◌≡◌, ◌<◌, ◌≤◌, ℕ, suc, ◌+◌, ◌*◌, ◌==◌, Bool, true, false, List, [], ◌∷◌, Option, Some, None, refl, sym, ap, ◌∙◌, subst, inl, inr, ⊎_elim, arith}
+use Rattle.std.proofs.lemmas.Bool.{eq-eqb}
 use Rattle.kube_objects.specs.declared.call.Reply.{Reply}
 use Rattle.kube_objects.specs.declared.call.Request.{Request}
 use Rattle.kube_objects.specs.declared.deed.Actor.{Actor}
 use Rattle.kube_objects.specs.declared.deed.Actor.TheVariants as actors
 use Rattle.kube_objects.specs.Answers.{answer}
-use Rattle.kube_objects.specs.Clocks.{local}
-use Rattle.kube_objects.specs.Document.{Doc, is_controller, call_timeout}
+use Rattle.kube_objects.specs.Document.{Doc, is_controller}
 use Rattle.kube_objects.specs.Elector.{follow_on, leads}
 use Rattle.kube_objects.specs.Entry.{Entry, Identity, Call, Fact, First as FirstPut, Event as Happens, Starts, Stops, Sends, Answers, Delivers, Expires, Leads, Ends, Crashes, Stalls, Ticks, actor_of, entry}
 use Rattle.kube_objects.specs.Identities.{is_by, of_process}
 use Rattle.kube_objects.specs.Kubelet.{next_request, send_next}
 use Rattle.kube_objects.specs.Newest.{when, has}
 use Rattle.kube_objects.specs.Process.{open_as, alive, call_in, is_late, counted}
-use Rattle.kube_objects.specs.Turns.{react, with_reply}
+use Rattle.kube_objects.specs.Turns.{with_reply}
 use Rattle.kube_objects.specs.Wire.{Back, reply_arrival}
-use Rattle.kube_objects.proofs.Clocks.{local_up}
 use Rattle.history.specs.History.{history}
 use Rattle.history.specs.Steps.{deliver_as, delivered, react_as}
 use Rattle.history_laws.specs.Order.{IsWithin, IsOrdered}
@@ -24,7 +22,7 @@ use Rattle.history_laws.specs.Tails.{In, IsTail}
 use Rattle.history_laws.proofs.Order.{entries_are_earlier, entries_are_ordered}
 use Rattle.history_laws.proofs.Plainly.{none_is, false_is, and_left, same_is, same_self}
 use Rattle.history_laws.proofs.Tailed.{tail_all, tail_trans, in_tail, later_tail, two_adds, same_head, same_rest}
-use Rattle.call_laws.specs.Answering.{with_events, with_answers, IsDelivered}
+use Rattle.call_laws.specs.Answering.{with_events, with_answers}
 use Rattle.call_laws.specs.Waiting.{Closes, IsClosed}
 use Rattle.call_laws.proofs.Above.{in_head, next_above}
 use Rattle.call_laws.proofs.Answering.{before_events}

@@ -1,35 +1,28 @@
 -- A leader whose timer has come sends a request: one to renew its lead at once, or a Get.
-use Rattle.std.proofs.Common.{◌≡◌, ◌⊎◌, ◌<◌, ◌≤◌, ℕ, suc, ◌+◌, ◌&&◌, not, nat_lt, Bool, true, false, List, [], ◌∷◌, length, Option, Some, None, refl, sym, ap, ◌∙◌, subst, inl, inr, ⊎_elim, arith}
+use Rattle.std.proofs.Common.{◌≡◌, ◌⊎◌, ◌<◌, ◌≤◌, ℕ, ◌+◌, ◌&&◌, not, nat_lt, Bool, true, false, List, [], ◌∷◌, Option, Some, None, refl, sym, ap, ◌∙◌, subst, inl, inr, ⊎_elim, arith}
 use Rattle.std.specs.Prelude.{if◌then◌else◌}
-use Rattle.std.proofs.lemmas.Bool.{ltb-true, ltb-false, eq-eqb}
-use Rattle.kube_objects.specs.declared.call.Reply.{Reply}
-use Rattle.kube_objects.specs.declared.call.Request.{Request}
+use Rattle.std.proofs.lemmas.Bool.{ltb-true, ltb-false}
 use Rattle.kube_objects.specs.declared.deed.Actor.{Actor}
 use Rattle.kube_objects.specs.Clocks.{local}
 use Rattle.kube_objects.specs.Document.{Doc, is_controller, retry_period}
-use Rattle.kube_objects.specs.Elector.{told, is_fast, Asks, Shown, shown, shows, leads, follow_on, timer_follow, timer_says, timer, deadline, attempt}
+use Rattle.kube_objects.specs.Elector.{told, is_fast, Shown, shown, shows, leads, follow_on, timer_follow, timer_says, timer, deadline, attempt}
 use Rattle.kube_objects.specs.Entry.{Entry, Identity, Call, Fact, First as FirstPut, Event as Happens, Starts, Stops, Sends, Answers, Delivers, Expires, Leads, Ends, Crashes, Stalls, Ticks, actor_of, entry}
-use Rattle.kube_objects.specs.Identities.{is_by, of_process}
+use Rattle.kube_objects.specs.Identities.{is_by}
 use Rattle.kube_objects.specs.Newest.{newest, when, only_if, join, has, or_zero}
 use Rattle.kube_objects.specs.Pauses.{is_paused}
 use Rattle.kube_objects.specs.Process.{alive, starts, open_as, call_says, last_call, call_in}
 use Rattle.kube_objects.specs.Turns.{expire_call, expired, end_term, expired_in, just_expired, is_fast_call, attempt_if, try}
-use Rattle.kube_objects.specs.Wire.{send, next_call, request_arrival}
-use Rattle.history.specs.History.{history, at_turn}
+use Rattle.kube_objects.specs.Wire.{send}
+use Rattle.history.specs.History.{history}
 use Rattle.history.specs.Steps.{if_up, restart_if, restart, expire, finish, attempts, ticks, controller_turn, kubelet_turn, unpaused_turn, turn}
-use Rattle.history_laws.specs.Tails.{In, IsTail}
+use Rattle.history_laws.specs.Tails.{IsTail}
 use Rattle.history_laws.proofs.Counting.{counted_is}
-use Rattle.history_laws.proofs.Plainly.{upper, none_is, true_is, false_is, same_is, same_self}
-use Rattle.history_laws.proofs.Tailed.{tail_all, tail_trans, in_tail, later_tail, turn_tail, same_head}
-use Rattle.call_laws.proofs.Above.{tail_length, in_head}
-use Rattle.call_laws.proofs.Making.{MadeAs, MadeSend, HasStopped, IsOpen, Replied, are_made}
-use Rattle.call_laws.proofs.Starting.{starts_are_down, sends_are_due, actor_is}
-use Rattle.call_laws.proofs.Turning.{IsDue, IsTurnSend}
-use Rattle.takeover_laws.specs.Calm.{IsSteady}
-use Rattle.takeover_laws.proofs.Standing.{controllers_first}
+use Rattle.history_laws.proofs.Plainly.{upper, none_is, true_is, same_is, same_self}
+use Rattle.history_laws.proofs.Tailed.{tail_all, tail_trans, same_head}
+use Rattle.call_laws.proofs.Making.{MadeAs, are_made}
+use Rattle.call_laws.proofs.Starting.{starts_are_down}
 use Rattle.takeover_laws.proofs.Unasked.{ticks_add}
 use Rattle.calm_laws.proofs.Begun.{by_is}
-use Rattle.stay_laws.proofs.Leading.{IsInTerm, IsLeader, in_term, later, up_at, all_before, turn_below, turn_up}
 use Rattle.stay_laws.proofs.Reacting.{leads_are_new}
 
 -- ---- an own turn with an attempt that is due

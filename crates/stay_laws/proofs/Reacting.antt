@@ -1,6 +1,5 @@
 -- What follows a counted reply in its beat; and who leads doesn't come to lead again.
-use Rattle.std.proofs.Common.{◌≡◌, ◌⊎◌, ℕ, zero, suc, Bool, true, false, List, [], ◌∷◌, length, Option, Some, None, refl, sym, ap, ◌∙◌, subst, inl, inr, ⊎_elim, arith, ◌≤◌}
-use Rattle.std.specs.Prelude.{if◌then◌else◌}
+use Rattle.std.proofs.Common.{◌≡◌, ◌⊎◌, ℕ, suc, Bool, true, false, List, [], ◌∷◌, Option, Some, None, refl, sym, ap, ◌∙◌, subst, inl, inr, ⊎_elim, arith}
 use Rattle.kube_base.specs.declared.numbers.Version.{Version}
 use Rattle.kube_objects.specs.declared.call.Reply.{Reply}
 use Rattle.kube_objects.specs.declared.call.Request.{Request}
@@ -9,7 +8,7 @@ use Rattle.kube_objects.specs.declared.object.Object.{Object}
 use Rattle.kube_objects.specs.Clocks.{store_wall, whole_second}
 use Rattle.kube_objects.specs.Document.{Doc, processes, is_controller}
 use Rattle.kube_objects.specs.Elector.{Follow, Fails, Asks, Succeeds, follow_on, leads}
-use Rattle.kube_objects.specs.Entry.{Entry, Identity, Call, Fact, First, Delivers, Leads, Sends, Plain, actor_of, entry, script_entry}
+use Rattle.kube_objects.specs.Entry.{Entry, Identity, Call, Fact, First, Delivers, Leads, actor_of, entry, script_entry}
 use Rattle.kube_objects.specs.InFlight.{replies_due}
 use Rattle.kube_objects.specs.Kubelet.{next_request, send_next}
 use Rattle.kube_objects.specs.Process.{counted}
@@ -17,12 +16,12 @@ use Rattle.kube_objects.specs.Stamps.{stamped}
 use Rattle.kube_objects.specs.Turns.{react}
 use Rattle.kube_objects.specs.Wire.{Back}
 use Rattle.history.specs.History.{put_all, history}
-use Rattle.history.specs.Steps.{deliver_all, deliver_as, delivered, react_as, step_three, turns}
+use Rattle.history.specs.Steps.{deliver_all, deliver_as, delivered, react_as, step_three}
 use Rattle.history_laws.specs.Tails.{IsTail}
 use Rattle.history_laws.proofs.Plainly.{true_is}
 use Rattle.history_laws.proofs.Tailed.{tail_all, tail_trans, tail_of_empty, tails_meet, same_head, same_rest}
 use Rattle.history_laws.proofs.Ticks.{walk_tick}
-use Rattle.history_laws.proofs.Walk.{Anyone, KeepsTurn, Keeps, after_reply, stopped_at, all_turns, walk_any_turns, walk_history}
+use Rattle.history_laws.proofs.Walk.{Anyone, Keeps, after_reply, stopped_at, all_turns, walk_any_turns, walk_history}
 use Rattle.call_laws.specs.Answering.{with_answers}
 use Rattle.call_laws.proofs.Above.{Above, above_all, above_meet, in_head, tail_length}
 use Rattle.call_laws.proofs.Answering.{deliveries_position}

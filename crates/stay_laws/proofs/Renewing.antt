@@ -1,5 +1,5 @@
 -- A leader renews its lead: from one success to the next it acts, and the next one comes in time.
-use Rattle.std.proofs.Common.{◌≡◌, ◌⊎◌, ◌<◌, ◌≤◌, ℕ, zero, suc, ◌+◌, ◌-◌, ◌*◌, ◌==◌, ◌&&◌, not, Bool, true, false, cond, List, [], ◌∷◌, length, Option, Some, None, refl, sym, ap, ◌∙◌, subst, inl, inr, ⊎_elim, arith}
+use Rattle.std.proofs.Common.{◌≡◌, ◌⊎◌, ◌<◌, ◌≤◌, ℕ, zero, suc, ◌+◌, ◌-◌, ◌*◌, ◌&&◌, not, Bool, true, false, cond, List, ◌∷◌, length, Option, Some, refl, sym, ap, ◌∙◌, subst, inl, inr, ⊎_elim, arith}
 use Rattle.std.proofs.Math.Nat.{mul-le-mul_right}
 use Rattle.std.proofs.lemmas.Bool.{cases_lt, eq-eqb}
 use Rattle.kube_base.specs.declared.numbers.Version.{Version}
@@ -11,13 +11,13 @@ use Rattle.kube_objects.specs.declared.lease.Lease.{Lease}
 use Rattle.kube_objects.specs.Answers.{lease_in, versioned, answer_get, answer_over, as_kind, answer, written}
 use Rattle.kube_objects.specs.Clocks.{local}
 use Rattle.kube_objects.specs.Document.{Doc, end_beat, is_controller, renew_deadline, retry_period}
-use Rattle.kube_objects.specs.Elector.{Moment, Follow, Fails, Asks, Shown, shown, moment, observed_at, is_valid, is_blocked, updated, renewed, follow_get, follow, follow_on, succeeds, leads, attempt_from, attempt}
+use Rattle.kube_objects.specs.Elector.{Moment, Fails, Asks, shown, moment, observed_at, is_valid, updated, renewed, follow_get, follow, follow_on, succeeds, leads, attempt_from, attempt}
 use Rattle.kube_objects.specs.Entry.{Entry, Identity, Call, CallKind, Plain, Fast, Fact, Sends, Answers, Delivers, actor_of, entry}
 use Rattle.kube_objects.specs.Identities.{is_own, is_other}
-use Rattle.kube_objects.specs.Process.{open_as, call_in}
+use Rattle.kube_objects.specs.Process.{open_as}
 use Rattle.kube_objects.specs.Stored.{Held, election, stored, next_version}
 use Rattle.kube_objects.specs.Turns.{react}
-use Rattle.kube_objects.specs.Wire.{Back, back_of, next_call, request_arrival, send}
+use Rattle.kube_objects.specs.Wire.{Back, back_of, next_call, request_arrival}
 use Rattle.kube_objects.proofs.Clocks.{local_up}
 use Rattle.history.specs.History.{history}
 use Rattle.history.specs.Safe.{Acts}
@@ -37,7 +37,7 @@ use Rattle.stay_laws.specs.Stays.{HasSuccess, RenewsInTime}
 use Rattle.stay_laws.proofs.Won.{Won}
 use Rattle.stay_laws.proofs.Rivals.{Own}
 use Rattle.stay_laws.proofs.Reacting.{replies_follow}
-use Rattle.stay_laws.proofs.Leading.{IsLeader, up_at, acts_at, later}
+use Rattle.stay_laws.proofs.Leading.{up_at, acts_at, later}
 use Rattle.stay_laws.proofs.Idle.{is_move}
 use Rattle.stay_laws.proofs.Trying.{HasTried, has_tried}
 use Rattle.stay_laws.proofs.Closing as closing

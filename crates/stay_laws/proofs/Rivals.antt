@@ -1,5 +1,5 @@
 -- Once a leader has written the election Lease, nobody else writes it before the leader can have renewed.
-use Rattle.std.proofs.Common.{◌≡◌, ◌⊎◌, ◌<◌, ◌≤◌, ℕ, suc, ◌+◌, ◌-◌, ◌*◌, ◌==◌, ◌&&◌, not, Bool, true, false, List, [], ◌∷◌, length, Option, Some, None, IfSome, refl, sym, ap, ◌∙◌, subst, inl, inr, ⊎_elim, arith}
+use Rattle.std.proofs.Common.{◌≡◌, ◌<◌, ◌≤◌, ℕ, suc, ◌+◌, ◌-◌, ◌*◌, ◌&&◌, not, Bool, true, false, List, [], ◌∷◌, length, Option, Some, None, IfSome, refl, sym, ap, ◌∙◌, subst, inl, inr, ⊎_elim, arith}
 use Rattle.std.proofs.lemmas.Bool.{eq-eqb}
 use Rattle.std.proofs.Math.Nat.{mul-le-mul_right}
 use Rattle.kube_objects.specs.declared.lease.Lease.{Lease}
@@ -8,12 +8,12 @@ use Rattle.kube_objects.specs.declared.object.Object.TheVariants as object
 use Rattle.kube_objects.specs.Clocks.{local}
 use Rattle.kube_objects.specs.Document.{Doc, end_beat, of_seconds, is_controller, lease_seconds, lease_duration}
 use Rattle.kube_objects.specs.Elector.{succeeds}
-use Rattle.kube_objects.specs.Entry.{Entry, Identity, Answers, Sends, actor_of}
+use Rattle.kube_objects.specs.Entry.{Entry, Identity, Answers, actor_of}
 use Rattle.kube_objects.specs.Identities.{is_same, is_by, is_other, of_process, holder_of}
 use Rattle.kube_objects.specs.Newest.{or_zero, or_else, has, when}
 use Rattle.kube_objects.specs.Process.{is_stop, stops}
 use Rattle.kube_objects.specs.Stored.{Held, election, stored, at_key, write_of}
-use Rattle.kube_objects.specs.Wire.{Back, back_of, arrival, request_arrival, request_delay, request_delay_of, loses_requests, sent_of}
+use Rattle.kube_objects.specs.Wire.{Back, back_of, arrival, request_arrival, request_delay, request_delay_of, loses_requests}
 use Rattle.history.specs.History.{history, whole_history}
 use Rattle.history.specs.Premise.{greatest_below}
 use Rattle.history.specs.Safe.{Acts}
@@ -28,7 +28,7 @@ use Rattle.lease_laws.proofs.EachKind.{top_stays}
 use Rattle.lease_laws.proofs.Premises.{rates_at_most}
 use Rattle.call_laws.specs.Answering.{with_events}
 use Rattle.call_laws.proofs.Above.{in_head}
-use Rattle.call_laws.proofs.Placing.{in_own_beat, forces_stand, messages_travel}
+use Rattle.call_laws.proofs.Placing.{forces_stand, messages_travel}
 use Rattle.call_laws.proofs.Starting.{actor_is}
 use Rattle.takeover_laws.specs.Acting.{AreInTime}
 use Rattle.takeover_laws.specs.Calm.{Passes, IsSteady, IsQuiet, IsCalm, WritesElection}

@@ -1,5 +1,5 @@
 -- Who sends a call; and how long a call's way was whose reply counts.
-use Rattle.std.proofs.Common.{◌≡◌, ◌⊎◌, ◌<◌, ◌≤◌, ℕ, suc, ◌+◌, true, false, List, ◌∷◌, Option, Some, None, IfSome, refl, sym, ap, ◌∙◌, subst, inl, inr, ⊎_elim, arith}
+use Rattle.std.proofs.Common.{◌≡◌, ◌⊎◌, ◌≤◌, ℕ, suc, ◌+◌, true, false, List, ◌∷◌, Option, Some, None, IfSome, sym, ap, ◌∙◌, subst, inl, inr, ⊎_elim, arith}
 use Rattle.kube_objects.specs.declared.call.Reply.{Reply}
 use Rattle.kube_objects.specs.Document.{Doc, processes, end_beat, is_controller}
 use Rattle.kube_objects.specs.Entry.{Entry, Identity, Call, Release, Sends, Delivers, actor_of, entry}
@@ -7,7 +7,7 @@ use Rattle.kube_objects.specs.Newest.{or_else}
 use Rattle.kube_objects.specs.Pauses.{resume, held_up}
 use Rattle.kube_objects.specs.Process.{open_as, alive, call_in}
 use Rattle.kube_objects.specs.Stored.{election, key_of}
-use Rattle.kube_objects.specs.Wire.{sent_of, arrival, request_arrival, reply_arrival, request_delay, reply_delay, reply_loss_of, reply_delay_of}
+use Rattle.kube_objects.specs.Wire.{arrival, request_arrival, request_delay, reply_delay, reply_loss_of, reply_delay_of}
 use Rattle.kube_objects.proofs.Pauses.{resume_later}
 use Rattle.history.specs.History.{history}
 use Rattle.history.specs.Sound.{IsSound}

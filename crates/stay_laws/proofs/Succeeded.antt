@@ -1,5 +1,5 @@
 -- What a success leaves: a leader whose timer is set, and that has no call.
-use Rattle.std.proofs.Common.{◌≡◌, ◌⊎◌, ◌<◌, ◌≤◌, ℕ, suc, ◌+◌, ◌&&◌, Bool, true, false, List, [], ◌∷◌, length, Option, Some, None, refl, sym, ap, ◌∙◌, subst, inl, inr, arith}
+use Rattle.std.proofs.Common.{◌≡◌, ◌≤◌, ℕ, suc, ◌+◌, ◌&&◌, Bool, true, false, List, ◌∷◌, length, Some, None, refl, sym, ap, ◌∙◌, subst, inl, inr, arith}
 use Rattle.kube_base.specs.declared.numbers.Version.{Version}
 use Rattle.kube_objects.specs.declared.call.Reply.{Reply}
 use Rattle.kube_objects.specs.declared.call.Reply.TheVariants.{Done}
@@ -8,7 +8,7 @@ use Rattle.kube_objects.specs.declared.call.Request.TheVariants.{Get, Create, Up
 use Rattle.kube_objects.specs.declared.lease.Lease.{Lease}
 use Rattle.kube_objects.specs.Clocks.{local}
 use Rattle.kube_objects.specs.Document.{Doc, is_controller, retry_period, renew_deadline}
-use Rattle.kube_objects.specs.Elector.{Moment, Follow, Asks, Succeeds, told, shown, newly, succeeds, leads, lead_says, deadline, follow, follow_on, moment, observed_at, timer_follow, timer_says, timer}
+use Rattle.kube_objects.specs.Elector.{Moment, Asks, Succeeds, told, shown, succeeds, leads, lead_says, deadline, follow, follow_on, moment, observed_at, timer_follow, timer_says}
 use Rattle.kube_objects.specs.Entry.{Entry, Identity, Call, CallKind, Fact, Delivers, Leads, actor_of, entry}
 use Rattle.kube_objects.specs.Identities.{is_same, is_by}
 use Rattle.kube_objects.specs.Newest.{newest, when, only_if, join, has, or_zero}
@@ -19,15 +19,15 @@ use Rattle.history.specs.History.{history, at_turn, three_steps}
 use Rattle.history_laws.specs.Tails.{IsTail}
 use Rattle.history_laws.proofs.Counting.{counted_is}
 use Rattle.history_laws.proofs.Plainly.{upper, false_is, true_is, and_both, same_self}
-use Rattle.history_laws.proofs.Tailed.{tail_all, tail_trans, turns_add, same_head}
+use Rattle.history_laws.proofs.Tailed.{tail_all, turns_add, same_head}
 use Rattle.call_laws.proofs.Above.{tail_length}
-use Rattle.call_laws.proofs.Making.{MadeAs, MadeDelivery, are_made}
+use Rattle.call_laws.proofs.Making.{MadeDelivery, are_made}
 use Rattle.call_laws.proofs.Placing.{not_before}
 use Rattle.call_laws.proofs.Starting.{actor_is}
 use Rattle.takeover_laws.proofs.Fresh.{can_least}
 use Rattle.calm_laws.proofs.Asked.{IsWrite}
 use Rattle.stay_laws.proofs.Reacting.{replies_follow, in_three}
-use Rattle.stay_laws.proofs.Leading.{IsInTerm, IsLeader}
+use Rattle.stay_laws.proofs.Leading.{IsLeader}
 use Rattle.stay_laws.proofs.Idle.{Idle, is_move}
 use Rattle.stay_laws.proofs.Trying.{AsksNothing}
 

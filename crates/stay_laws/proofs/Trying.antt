@@ -1,5 +1,5 @@
 -- What a leader sends once its timer has come: its attempt.
-use Rattle.std.proofs.Common.{◌≡◌, ◌⊎◌, ◌<◌, ◌≤◌, ℕ, suc, ◌+◌, true, false, List, ◌∷◌, Option, Some, None, refl, sym, ap, ◌∙◌, subst, inl, inr, ⊎_elim, arith}
+use Rattle.std.proofs.Common.{◌≡◌, ◌⊎◌, ◌<◌, ◌≤◌, ℕ, suc, ◌+◌, true, List, ◌∷◌, Option, Some, None, refl, sym, ap, ◌∙◌, subst, inl, inr, arith}
 use Rattle.std.proofs.lemmas.Bool.{eq-eqb}
 use Rattle.kube_objects.specs.declared.call.Reply.{Reply}
 use Rattle.kube_objects.specs.declared.call.Request.{Request}
@@ -15,16 +15,14 @@ use Rattle.kube_objects.proofs.Clocks.{local_up}
 use Rattle.history.specs.History.{history, at_turn}
 use Rattle.history.specs.Steps.{turn}
 use Rattle.history_laws.specs.Tails.{In, IsTail}
-use Rattle.history_laws.proofs.Order.{entries_are_earlier}
 use Rattle.history_laws.proofs.Plainly.{false_is}
 use Rattle.history_laws.proofs.Tailed.{tail_all, tail_trans, in_tail, later_tail, turn_tail}
-use Rattle.call_laws.proofs.Above.{in_head}
 use Rattle.call_laws.proofs.Making.{MadeAs, MadeSend, HasStopped, IsOpen, Replied, are_made}
 use Rattle.call_laws.proofs.Starting.{sends_are_due, actor_is}
 use Rattle.call_laws.proofs.Turning.{IsDue, IsTurnSend}
 use Rattle.takeover_laws.specs.Calm.{IsSteady}
 use Rattle.takeover_laws.proofs.Standing.{controllers_first}
-use Rattle.stay_laws.proofs.Leading.{IsInTerm, IsLeader, in_term, later, up_at, all_before, turn_below, turn_high, turn_up}
+use Rattle.stay_laws.proofs.Leading.{IsInTerm, IsLeader, in_term, later, up_at, all_before, turn_below, turn_high}
 use Rattle.stay_laws.proofs.Idle.{Idle, Tried, tried_more, idle_or_tried, leader_tries}
 
 -- its attempt was sent after a position, and nothing of its own before

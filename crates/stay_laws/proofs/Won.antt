@@ -1,28 +1,28 @@
 -- An accepted write of the election Lease is the success of a controller's call, and who keeps acting never gives up its lead.
-use Rattle.std.proofs.Common.{◌≡◌, ◌⊎◌, ◌<◌, ◌≤◌, ℕ, suc, ◌+◌, ◌==◌, ◌&&◌, Bool, true, false, List, [], ◌∷◌, Option, Some, None, refl, sym, ap, ◌∙◌, subst, inl, inr, ⊎_elim, arith, length}
+use Rattle.std.proofs.Common.{◌≡◌, ◌≤◌, ℕ, suc, ◌==◌, ◌&&◌, Bool, true, false, List, [], ◌∷◌, Option, Some, None, refl, sym, ap, ◌∙◌, subst, inl, inr, arith, length}
 use Rattle.kube_objects.specs.declared.call.Reply.{Reply}
 use Rattle.kube_objects.specs.declared.call.Request.{Request}
 use Rattle.kube_objects.specs.declared.call.Request.TheVariants.{Get, Create, Update, PostStatus}
 use Rattle.kube_objects.specs.declared.deed.Actor.{Actor}
 use Rattle.kube_objects.specs.declared.deed.Actor.TheVariants as actors
 use Rattle.kube_objects.specs.declared.object.Object.{Object}
-use Rattle.kube_objects.specs.Answers.{answer, written}
+use Rattle.kube_objects.specs.Answers.{answer}
 use Rattle.kube_objects.specs.Document.{Doc, processes, end_beat, is_controller}
-use Rattle.kube_objects.specs.Elector.{succeeds, deadline, in_term, is_before}
+use Rattle.kube_objects.specs.Elector.{succeeds, deadline, is_before}
 use Rattle.kube_objects.specs.Entry.{Entry, Identity, Call, Fact, First as FirstPut, Event as Happens, Starts, Stops, Sends, Answers, Delivers, Expires, Leads, Ends, Crashes, Stalls, Ticks, actor_of}
 use Rattle.kube_objects.specs.Identities.{is_by, of_process}
 use Rattle.kube_objects.specs.Keys.{key_eq}
 use Rattle.kube_objects.specs.Newest.{added, when, has}
 use Rattle.kube_objects.specs.Process.{alive, is_present, is_stop, stops}
 use Rattle.kube_objects.specs.Stored.{election, key_of, request_write, event_write, at_key, write_of}
-use Rattle.kube_objects.specs.Wire.{Sent, Back, back_of}
+use Rattle.kube_objects.specs.Wire.{Sent, back_of}
 use Rattle.kube_objects.specs.Clocks.{local}
 use Rattle.history.specs.History.{history, at_turn}
 use Rattle.history.specs.Premise.{greatest_below}
 use Rattle.history.specs.Safe.{Acts}
 use Rattle.history.specs.Sound.{IsSound}
 use Rattle.history.specs.Steps.{stamp}
-use Rattle.history_laws.specs.Tails.{In, IsTail}
+use Rattle.history_laws.specs.Tails.{IsTail}
 use Rattle.history_laws.proofs.Counting.{present_is}
 use Rattle.history_laws.proofs.Plainly.{true_is, false_is, and_left, and_right}
 use Rattle.history_laws.proofs.Tailed.{tail_all, tail_trans, turn_tail, before_turn, later_tail}
@@ -33,7 +33,7 @@ use Rattle.lease_laws.proofs.Premises.{rates_at_most}
 use Rattle.lease_laws.proofs.Quiet.{quiet_tick, deletes_elsewhere}
 use Rattle.lease_laws.proofs.Steps.{sound_of}
 use Rattle.call_laws.proofs.Above.{Above, above_cut, in_head, place_of}
-use Rattle.call_laws.proofs.Making.{MadeAs, MadeAnswer, are_made}
+use Rattle.call_laws.proofs.Making.{MadeAs, are_made}
 use Rattle.call_laws.proofs.Once.{due_at}
 use Rattle.call_laws.proofs.Placing.{from_beat}
 use Rattle.takeover_laws.specs.Calm.{IsSteady}

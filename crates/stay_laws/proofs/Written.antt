@@ -1,24 +1,21 @@
 -- The write of a success stays the last one, but for what its leader writes by later calls.
-use Rattle.std.proofs.Common.{◌≡◌, ◌⊎◌, ◌<◌, ◌≤◌, ℕ, suc, ◌+◌, ◌*◌, Bool, true, false, List, [], ◌∷◌, length, Option, Some, None, IfSome, refl, sym, ap, ◌∙◌, subst, inl, inr, ⊎_elim, arith}
+use Rattle.std.proofs.Common.{◌≡◌, ◌⊎◌, ◌<◌, ◌≤◌, ℕ, suc, ◌+◌, ◌*◌, true, List, [], ◌∷◌, length, Option, Some, None, IfSome, refl, sym, ap, ◌∙◌, subst, inl, inr, ⊎_elim, arith}
 use Rattle.kube_base.specs.declared.numbers.Version.{Version}
 use Rattle.kube_objects.specs.declared.call.Reply.{Reply}
 use Rattle.kube_objects.specs.declared.call.Reply.TheVariants.{Done}
-use Rattle.kube_objects.specs.declared.call.Request.{Request}
 use Rattle.kube_objects.specs.declared.object.Object.{Object}
-use Rattle.kube_objects.specs.Answers.{written}
 use Rattle.kube_objects.specs.Document.{Doc, end_beat, is_controller}
 use Rattle.kube_objects.specs.Entry.{Entry, Identity, Call, Fact, Sends, Answers, Delivers, actor_of, entry}
 use Rattle.kube_objects.specs.Newest.{has}
 use Rattle.kube_objects.specs.Process.{call_in}
-use Rattle.kube_objects.specs.Stored.{Held, election, key_of, stored, at_key, write_of, next_version}
-use Rattle.kube_objects.specs.Wire.{Back, back_of}
+use Rattle.kube_objects.specs.Stored.{Held, election, key_of, stored, at_key, write_of}
 use Rattle.history.specs.History.{history}
 use Rattle.history.specs.Premise.{greatest_below}
 use Rattle.history.specs.Safe.{Acts}
 use Rattle.history.specs.Sound.{IsSound}
-use Rattle.history_laws.specs.Tails.{In, IsTail}
+use Rattle.history_laws.specs.Tails.{IsTail}
 use Rattle.history_laws.proofs.Order.{entries_are_ordered}
-use Rattle.history_laws.proofs.Plainly.{some_is, none_is, true_is, false_is}
+use Rattle.history_laws.proofs.Plainly.{some_is, none_is}
 use Rattle.history_laws.proofs.Tailed.{tail_all, tail_trans, tails_meet, later_tail, same_head}
 use Rattle.lease_laws.proofs.EachKind.{top_stays}
 use Rattle.lease_laws.proofs.Premises.{rates_at_most}
@@ -27,8 +24,7 @@ use Rattle.call_laws.proofs.Starting.{actor_is}
 use Rattle.takeover_laws.specs.Acting.{AreInTime}
 use Rattle.takeover_laws.specs.Calm.{IsSteady, IsCalm}
 use Rattle.takeover_laws.proofs.Writers.{Sending, sending_of}
-use Rattle.calm_laws.proofs.Asked.{IsWrite}
-use Rattle.calm_laws.proofs.Begun.{Begun, waits_between}
+use Rattle.calm_laws.proofs.Begun.{waits_between}
 use Rattle.calm_laws.proofs.Origins.{Origin}
 use Rattle.calm_laws.proofs.Replies.{wrote_by}
 use Rattle.gap_laws.proofs.Waits.{Topped, Took, WaitedFor}
@@ -36,10 +32,9 @@ use Rattle.stay_laws.specs.Stays.{RenewsInTime}
 use Rattle.stay_laws.proofs.Won.{Won}
 use Rattle.stay_laws.proofs.Rivals.{Own, plainly, topped, won0, own_at, own_writes, won_at}
 use Rattle.stay_laws.proofs.Closing.{within_below}
-use Rattle.stay_laws.proofs.Idle.{is_move}
 use Rattle.stay_laws.proofs.Sendings.{IsFree, is_free, key_is, answer_high, sending_high}
 use Rattle.stay_laws.proofs.Given.{IsGiven}
-use Rattle.stay_laws.proofs.Succeeded.{IsSuccess, success_is, IsSet, is_set, low0}
+use Rattle.stay_laws.proofs.Succeeded.{IsSuccess, success_is, IsSet, is_set}
 
 abbrev reply_or : Reply → Fact → Reply
 reply_or x (Answers call reply comes wrote) = reply
