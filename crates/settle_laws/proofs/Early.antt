@@ -5,19 +5,19 @@ use Rattle.kube_base.specs.declared.numbers.Version.{Version}
 use Rattle.kube_objects.specs.declared.call.Reply.{Reply}
 use Rattle.kube_objects.specs.declared.call.Reply.TheVariants.{Done}
 use Rattle.kube_objects.specs.Clocks.{local}
-use Rattle.kube_objects.specs.Document.{Doc, processes, end_beat, is_controller, retry_period, renew_deadline}
-use Rattle.kube_objects.specs.Elector.{succeeds, deadline, leads}
-use Rattle.kube_objects.specs.Entry.{Entry, Identity, Call, Fact, Ends, Delivers, actor_of, entry}
+use Rattle.kube_objects.specs.Document.{Doc, end_beat, is_controller, retry_period, renew_deadline}
+use Rattle.kube_objects.specs.Elector.{succeeds, deadline}
+use Rattle.kube_objects.specs.Entry.{Entry, Identity, Call, Ends, Delivers, actor_of, entry}
 use Rattle.kube_objects.specs.Identities.{of_process}
 use Rattle.kube_objects.specs.Newest.{when, has}
 use Rattle.kube_objects.specs.Process.{alive}
 use Rattle.history.specs.History.{history, at_turn}
 use Rattle.history.specs.Safe.{Acts}
 use Rattle.history.specs.Sound.{IsSound}
-use Rattle.history_laws.specs.Tails.{In, IsTail}
+use Rattle.history_laws.specs.Tails.{IsTail}
 use Rattle.history_laws.proofs.Order.{entries_are_earlier}
 use Rattle.history_laws.proofs.Plainly.{none_is, true_is}
-use Rattle.history_laws.proofs.Tailed.{tail_all, tail_trans, in_tail, later_tail, turn_tail}
+use Rattle.history_laws.proofs.Tailed.{tail_all, tail_trans, later_tail, turn_tail}
 use Rattle.span_laws.proofs.Spans.{readings_grow}
 use Rattle.call_laws.proofs.Above.{in_head, place_of}
 use Rattle.call_laws.proofs.Making.{MadeAs, MadeEnd, are_made}
@@ -31,7 +31,6 @@ use Rattle.stay_laws.specs.Stays.{HasSuccess, RenewsInTime}
 use Rattle.stay_laws.proofs.Given.{IsGiven}
 use Rattle.stay_laws.proofs.Staying.{given_stays}
 use Rattle.settle_laws.specs.Settles.{EndsBy}
-use Rattle.settle_laws.proofs.Deciding.{NobodySucceeds}
 use Rattle.settle_laws.proofs.Successes as early
 use Rattle.settle_laws.proofs.Successes.{done_of}
 use Rattle.settle_laws.proofs.Terms.{SucceedsBy, none_acts, no_deadline}

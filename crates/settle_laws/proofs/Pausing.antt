@@ -1,5 +1,5 @@
 -- Where a reading is reached in a span without pauses, what is due at it can be done then, or could as the span began.
-use Rattle.std.proofs.Common.{◌≡◌, ◌⊎◌, ◌<◌, ◌≤◌, ℕ, zero, suc, ◌+◌, ◌&&◌, not, nat_le, nat_lt, min, Bool, true, false, List, [], ◌∷◌, Option, Some, None, refl, sym, ap, ◌∙◌, subst, inl, inr, ⊎_elim, arith}
+use Rattle.std.proofs.Common.{◌≡◌, ◌<◌, ◌≤◌, ℕ, zero, suc, ◌+◌, ◌&&◌, not, nat_lt, min, true, false, List, [], ◌∷◌, Option, Some, None, refl, sym, ap, ◌∙◌, ⊎_elim, arith}
 use Rattle.std.proofs.lemmas.Bool.{ltb-true, lt-ltb, le-leb, cases_lt}
 use Rattle.kube_objects.specs.declared.script.Event.{Event}
 use Rattle.kube_objects.specs.Clocks.{local}
@@ -8,7 +8,7 @@ use Rattle.kube_objects.specs.Newest.{when, has}
 use Rattle.kube_objects.specs.Pauses.{pause_of, end_of, last_pause, is_paused, is_ahead, wait_of, last_wait, reading_of, can_at}
 use Rattle.kube_objects.proofs.Clocks.{local_up}
 use Rattle.history_laws.proofs.Counting.{when_test, when_value}
-use Rattle.history_laws.proofs.Plainly.{upper, none_is, true_is, false_is, and_left, and_right, not_true}
+use Rattle.history_laws.proofs.Plainly.{upper, none_is, true_is, and_left, and_right, not_true}
 
 none_of : {A : Type 0} (o : Option A) → has o ≡ false → o ≡ None
 none_of None is = refl

@@ -1,6 +1,6 @@
 -- In a calm whose leaders renew in time, it isn't so that no steady controller has a success by the bound.
 use Rattle.std.specs.Int.{div_ceil}
-use Rattle.std.proofs.Common.{◌≡◌, ◌⊎◌, ◌<◌, ◌≤◌, ℕ, suc, ◌+◌, ◌-◌, ◌*◌, ◌/◌, max, Bool, true, false, List, ◌∷◌, Option, Some, None, refl, sym, ap, ◌∙◌, subst, inl, inr, ⊎_elim, arith}
+use Rattle.std.proofs.Common.{◌≡◌, ◌<◌, ◌≤◌, ℕ, suc, ◌+◌, ◌-◌, ◌*◌, ◌/◌, max, true, false, List, ◌∷◌, Option, Some, None, refl, sym, ap, ◌∙◌, subst, ⊎_elim, arith}
 use Rattle.std.proofs.lemmas.Bool.{eq-eqb, cases_lt}
 use Rattle.kube_objects.specs.Document.{Doc, processes, end_beat, is_controller, call_timeout, retry_period, renew_deadline}
 use Rattle.kube_objects.specs.Elector.{leads}
@@ -25,7 +25,7 @@ use Rattle.call_laws.specs.Answering.{with_events}
 use Rattle.call_laws.proofs.Above.{in_head}
 use Rattle.call_laws.proofs.Answering.{events_position}
 use Rattle.takeover_laws.specs.Acting.{AreInTime}
-use Rattle.takeover_laws.specs.Calm.{AllBeats, IsSteady, IsQuiet, IsCalm, IsInTime, WritesElection}
+use Rattle.takeover_laws.specs.Calm.{IsSteady, IsQuiet, IsCalm, IsInTime, WritesElection}
 use Rattle.takeover_laws.proofs.Standing.{controllers_first, persists}
 use Rattle.takeover_laws.proofs.Writers.{writer_acts}
 use Rattle.calm_laws.specs.Bounds.{early_record, LastsFor, IsCandidate, AreBeats}
@@ -34,7 +34,7 @@ use Rattle.calm_laws.proofs.Kept.{IsKept}
 use Rattle.calm_laws.proofs.Looks.{object_of}
 use Rattle.stay_laws.specs.Stays.{Stays}
 use Rattle.stay_laws.proofs.Staying.{leaders_stay}
-use Rattle.settle_laws.specs.Settles.{AreRenewed, EndsBy, AllEndBy, AllLastFor, IsSettled, settle_bound, CalmSpansSettle, EndsInBeats, AllEndInBeats, SettlingIsTold}
+use Rattle.settle_laws.specs.Settles.{AreRenewed, EndsBy, AllEndBy, AllLastFor, IsSettled, settle_bound, CalmSpansSettle, EndsInBeats, SettlingIsTold}
 use Rattle.settle_laws.proofs.Deciding.{SomebodySucceeds, NobodySucceeds, somebody_or_nobody}
 use Rattle.settle_laws.proofs.Early as early
 use Rattle.settle_laws.proofs.Terms.{SucceedsBy, none_acts, never_leads, never_acts}

@@ -1,5 +1,5 @@
 -- Successes: who comes to lead does so by one, and one of a call that was sent before a calm comes early in it.
-use Rattle.std.proofs.Common.{◌≡◌, ◌⊎◌, ◌<◌, ◌≤◌, ℕ, suc, ◌+◌, ◌*◌, true, List, [], ◌∷◌, length, Option, Some, None, IfSome, refl, sym, ap, ◌∙◌, subst, inl, inr, ⊎_elim, arith}
+use Rattle.std.proofs.Common.{◌≡◌, ◌<◌, ◌≤◌, ℕ, suc, ◌+◌, ◌*◌, true, List, [], ◌∷◌, length, Option, Some, IfSome, refl, sym, ap, ◌∙◌, subst, inl, inr, ⊎_elim, arith}
 use Rattle.std.proofs.lemmas.Bool.{cases_lt}
 use Rattle.kube_base.specs.declared.numbers.Version.{Version}
 use Rattle.kube_objects.specs.declared.call.Reply.{Reply}
@@ -12,12 +12,12 @@ use Rattle.kube_objects.specs.declared.object.Object.{Object}
 use Rattle.kube_objects.specs.Answers.{written}
 use Rattle.kube_objects.specs.Clocks.{store_wall, whole_second}
 use Rattle.kube_objects.specs.Document.{Doc, processes, end_beat, is_controller}
-use Rattle.kube_objects.specs.Elector.{Moment, Fails, Asks, Succeeds, follow_write, follow, follow_on, succeeds}
-use Rattle.kube_objects.specs.Entry.{Entry, Identity, Call, CallKind, Plain, Fast, Release, Fact, First, Event as Happens, Starts, Stops, Sends, Answers, Delivers, Expires, Leads, Ends, Crashes, Stalls, Ticks, actor_of, entry, script_entry}
+use Rattle.kube_objects.specs.Elector.{Moment, Succeeds, follow_write, follow, follow_on, succeeds}
+use Rattle.kube_objects.specs.Entry.{Entry, Identity, Call, CallKind, Plain, Fast, Release, Fact, First, Sends, Answers, Delivers, Leads, actor_of, entry, script_entry}
 use Rattle.kube_objects.specs.Keys.{key_eq}
 use Rattle.kube_objects.specs.Stamps.{stamped}
 use Rattle.kube_objects.specs.Stored.{election, key_of}
-use Rattle.kube_objects.specs.Wire.{sent_of, back_of, request_arrival, reply_delay}
+use Rattle.kube_objects.specs.Wire.{back_of, request_arrival, reply_delay}
 use Rattle.history.specs.History.{put_all, history}
 use Rattle.history.specs.Premise.{greatest_below}
 use Rattle.history.specs.Sound.{IsSound}

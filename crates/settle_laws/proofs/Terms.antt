@@ -1,9 +1,7 @@
 -- Where a steady controller has no success by a call of the span, each of its terms is over by a beat.
-use Rattle.std.proofs.Common.{◌≡◌, ◌⊎◌, ◌<◌, ◌≤◌, ℕ, zero, suc, ◌+◌, ◌-◌, ◌*◌, ◌&&◌, not, nat_lt, Bool, true, false, List, [], ◌∷◌, Option, Some, None, refl, sym, ap, ◌∙◌, subst, inl, inr, ⊎_elim, arith}
-use Rattle.std.proofs.lemmas.Bool.{ltb-true, ltb-false, cases_lt}
-use Rattle.kube_base.specs.declared.numbers.Version.{Version}
+use Rattle.std.proofs.Common.{◌≡◌, ◌⊎◌, ◌<◌, ◌≤◌, ℕ, suc, ◌+◌, ◌&&◌, not, nat_lt, Bool, true, false, List, [], ◌∷◌, Option, Some, None, refl, sym, ap, ◌∙◌, subst, inl, inr, arith}
+use Rattle.std.proofs.lemmas.Bool.{ltb-true}
 use Rattle.kube_objects.specs.declared.call.Reply.{Reply}
-use Rattle.kube_objects.specs.declared.call.Reply.TheVariants.{Done}
 use Rattle.kube_objects.specs.declared.deed.Actor.{Actor}
 use Rattle.kube_objects.specs.Clocks.{local}
 use Rattle.kube_objects.specs.Document.{Doc, processes, end_beat, is_controller, retry_period, renew_deadline}
@@ -16,29 +14,21 @@ use Rattle.kube_objects.specs.Process.{alive, starts, is_present}
 use Rattle.kube_objects.proofs.Clocks.{local_up}
 use Rattle.history.specs.History.{history, at_turn}
 use Rattle.history.specs.Safe.{Acts}
-use Rattle.history.specs.Sound.{IsSound}
 use Rattle.history_laws.specs.Tails.{IsTail}
 use Rattle.history_laws.proofs.Counting.{when_test, when_value}
-use Rattle.history_laws.proofs.Lives.{Over}
-use Rattle.history_laws.proofs.Order.{entries_are_earlier}
 use Rattle.history_laws.proofs.Plainly.{upper, some_is, none_is, true_is, false_is, and_left, and_right}
 use Rattle.history_laws.proofs.Tailed.{tail_all, tail_trans, tails_meet, later_tail, turn_tail, before_turn}
-use Rattle.span_laws.proofs.Spans.{readings_grow}
-use Rattle.call_laws.proofs.Above.{next_above, in_head}
-use Rattle.call_laws.proofs.Making.{MadeAs, MadeDelivery, are_made}
-use Rattle.call_laws.proofs.Placing.{from_beat, in_own_beat}
+use Rattle.call_laws.proofs.Above.{next_above}
+use Rattle.call_laws.proofs.Making.{MadeAs, are_made}
+use Rattle.call_laws.proofs.Placing.{from_beat}
 use Rattle.call_laws.proofs.Starting.{actor_is}
-use Rattle.takeover_laws.specs.Calm.{IsSteady, IsCalm}
 use Rattle.takeover_laws.proofs.Asking.{leads_set, leads_on}
 use Rattle.takeover_laws.proofs.Fresh.{turn_counted, turn_leads, past_ends, over_stays, still_up}
 use Rattle.takeover_laws.proofs.Standing.{controllers_first}
 use Rattle.calm_laws.proofs.Begun.{by_is}
-use Rattle.calm_laws.proofs.First.{entry_is}
 use Rattle.calm_laws.proofs.Restarts.{turn_adds}
-use Rattle.stay_laws.specs.Stays.{HasSuccess}
-use Rattle.settle_laws.specs.Settles.{EndsBy}
 use Rattle.settle_laws.proofs.Pausing.{can_most}
-use Rattle.settle_laws.proofs.Successes.{Comes, ComesBy, leads_come, done_of, follow_succeeds, comes_early}
+use Rattle.settle_laws.proofs.Successes.{ComesBy, leads_come, follow_succeeds}
 
 -- each success of a controller comes by a beat
 abbrev pub SucceedsBy : Doc → ℕ → Identity → ℕ → Type 0

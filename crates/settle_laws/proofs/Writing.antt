@@ -1,31 +1,29 @@
 -- While no steady controller has a success by a call of the span, nothing is written by calls of a later beat on, and what is stored lasts for no
 -- longer than a time.
-use Rattle.std.proofs.Common.{◌≡◌, ◌⊎◌, ◌<◌, ◌≤◌, ℕ, suc, ◌+◌, ◌*◌, nat_lt, Bool, true, false, List, [], ◌∷◌, Option, Some, None, IfSome, refl, sym, ap, ◌∙◌, subst, inl, inr, ⊎_elim, arith}
+use Rattle.std.proofs.Common.{◌≡◌, ◌⊎◌, ◌<◌, ◌≤◌, ℕ, suc, ◌+◌, nat_lt, Bool, true, false, List, [], ◌∷◌, Option, Some, None, IfSome, refl, sym, ap, ◌∙◌, subst, inl, inr, ⊎_elim, arith}
 use Rattle.std.proofs.lemmas.Bool.{ltb-false, eq-eqb, cases_lt}
 use Rattle.kube_objects.specs.declared.call.Reply.{Reply}
 use Rattle.kube_objects.specs.declared.call.Reply.TheVariants.{Found, Done, Absent, Exists, Conflict, Unchanged}
 use Rattle.kube_objects.specs.declared.call.Request.{Request}
 use Rattle.kube_objects.specs.declared.call.Request.TheVariants.{Get, Create, Update, PostStatus}
-use Rattle.kube_objects.specs.declared.key.Key.{Key}
-use Rattle.kube_objects.specs.declared.lease.Holder.TheVariants as holder
 use Rattle.kube_objects.specs.declared.lease.Lease.{Lease}
 use Rattle.kube_objects.specs.declared.object.Object.{Object}
 use Rattle.kube_objects.specs.declared.object.Object.TheVariants as object
 use Rattle.kube_objects.specs.Answers.{answer, written, if_done}
-use Rattle.kube_objects.specs.Document.{Doc, end_beat, is_controller, of_seconds, lease_seconds, lease_duration}
+use Rattle.kube_objects.specs.Document.{Doc, end_beat, is_controller, of_seconds, lease_duration}
 use Rattle.kube_objects.specs.Entry.{Entry, Identity, Call, Sends, actor_of}
-use Rattle.kube_objects.specs.Identities.{holder_of, of_process}
+use Rattle.kube_objects.specs.Identities.{of_process}
 use Rattle.kube_objects.specs.Keys.{key_eq}
 use Rattle.kube_objects.specs.Newest.{when, has, or_zero}
 use Rattle.kube_objects.specs.Stored.{election, key_of, request_write, at_key, write_of, stored}
-use Rattle.kube_objects.specs.Wire.{sent_of, request_arrival, request_delay}
+use Rattle.kube_objects.specs.Wire.{request_arrival, request_delay}
 use Rattle.history.specs.History.{history}
 use Rattle.history.specs.Sound.{IsSound}
 use Rattle.history_laws.specs.Tails.{In, IsTail}
 use Rattle.history_laws.proofs.Order.{entries_are_earlier}
 use Rattle.history_laws.proofs.Plainly.{some_is, none_is}
 use Rattle.history_laws.proofs.Tailed.{tail_all, tail_trans, in_tail, later_tail}
-use Rattle.lease_laws.proofs.Invariant.{Asked, View, Fit, FitRequest, view}
+use Rattle.lease_laws.proofs.Invariant.{View, Fit, FitRequest, view}
 use Rattle.call_laws.specs.Answering.{with_events}
 use Rattle.call_laws.proofs.Above.{next_above, in_head, place_of}
 use Rattle.call_laws.proofs.Once.{due_at}
@@ -33,14 +31,14 @@ use Rattle.call_laws.proofs.Placing.{from_beat, in_own_beat, forces_stand, messa
 use Rattle.takeover_laws.specs.Acting.{AreInTime}
 use Rattle.takeover_laws.specs.Calm.{Passes, IsSteady, IsQuiet, IsCalm, WritesElection}
 use Rattle.takeover_laws.proofs.Records.{wrote_key}
-use Rattle.takeover_laws.proofs.Rounds.{request_passes, sent_is}
+use Rattle.takeover_laws.proofs.Rounds.{request_passes}
 use Rattle.takeover_laws.proofs.Writers.{sends_of, sending_of}
 use Rattle.calm_laws.specs.Bounds.{early_record, LastsFor}
 use Rattle.calm_laws.proofs.Changes.{Change, Unwritten, Put, Written, IsWritten, IsStored, stored_as, unchanged, put_stored, early_stored, change_of}
 use Rattle.calm_laws.proofs.Kept.{IsKept}
 use Rattle.calm_laws.proofs.Looks.{object_of}
 use Rattle.settle_laws.specs.Settles.{AllLastFor}
-use Rattle.settle_laws.proofs.Successes.{high_of, asked_of}
+use Rattle.settle_laws.proofs.Successes.{asked_of}
 
 -- ---- what a controller writes lasts for its lease duration, or is nobody's
 
@@ -125,7 +123,7 @@ module _ (doc : Doc) (near far a e n : ℕ) (sound : IsSound doc) (calm : IsCalm
     is_steady since = ⊎_elim (λ s. s) (λ quiet. absurd (never quiet)) (calm.each who.process w.role)
       where
         process_is : has (of_process who.process x.actor) ≡ true
-        process_is = ap (λ who'. has (of_process who.process who')) actor_is ∙ ap (λ b. has (when b who.incarnation)) (eq-eqb who.process who.process refl)
+        process_is = ap (λ actor. has (of_process who.process actor)) actor_is ∙ ap (λ b. has (when b who.incarnation)) (eq-eqb who.process who.process refl)
 
         never : IsQuiet doc a e who.process → ⊥
         never quiet =

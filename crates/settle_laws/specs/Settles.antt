@@ -1,6 +1,6 @@
 -- By when one leads in a calm span that stays, whatever was before it. Source: client-go, package `leaderelection`; profile.
 use Rattle.std.specs.Int.{div_ceil}
-use Rattle.std.specs.Prelude.{◌≡◌, ◌≤◌, ℕ, suc, ◌+◌, ◌-◌, ◌*◌, ◌/◌, max, true}
+use Rattle.std.specs.Prelude.{◌≡◌, ◌≤◌, ℕ, ◌+◌, ◌-◌, ◌*◌, ◌/◌, max, true}
 use Rattle.kube_objects.specs.Document.{Doc, end_beat, is_controller, lease_duration, call_timeout, retry_period, renew_deadline}
 use Rattle.kube_objects.specs.Entry.{Identity}
 use Rattle.history.specs.History.{history}
