@@ -154,6 +154,7 @@ module _ (doc : Doc) (near far a e n : ℕ) (sound : IsSound doc) (calm : IsCalm
         (subst (λ p. local doc p (a + (2 * far - 2)) + (retry_period doc p + renew_deadline doc p) ≤ local doc p (a + old - 1)) (sym mine)
         (grows (a + (2 * far - 2)) (a + old - 1) (omega arith) (omega (arith, ends.in_old, some_far)) (omega (arith, room, within)))) success_before
 
+    -- so none ends at that beat
     pub no_end : (x : Entry) (T : List Entry) → IsTail (x ∷ T) (history doc (suc n)) → x.beat ≡ a + old → 1 ≤ x.step → alive q.process T ≡ Some q.incarnation → (t : ℕ) → deadline doc q T ≡ Some t → ⊥
     no_end x T at is step up t set = none_is t (sym (no_term T low (tail_trans T (x ∷ T) (history doc (suc n)) (inr (tail_all T)) at) up) ∙ set)
       where
@@ -162,7 +163,7 @@ module _ (doc : Doc) (near far a e n : ℕ) (sound : IsSound doc) (calm : IsCalm
             tail_trans (at_turn doc (suc q.process) (a + old - 1)) (history doc (suc (a + old - 1))) T (turn_tail doc (suc q.process) (a + old - 1) (omega (arith, controllers_first doc q.process q_role)))
             (not_before doc (suc (a + old - 1)) (suc n) x T (omega (arith, room, soon)) at (omega (arith, is, soon)) step)
 
-  -- ---- no term ends at that beat
+  -- ---- no term of the controller ends at that beat
 
   module _ (renewed : (q : Identity) → q.process ≡ p → RenewsInTime doc near far a e q) (none : (q : Identity) → q.process ≡ p → (j : ℕ) → j ≤ n → HasSuccess doc q a j → ⊥) where
     pub none_ends : AllBeats doc e p Ends (λ k. k ≡ a + old → ⊥)

@@ -40,7 +40,7 @@ use Rattle.settle_laws.proofs.Early as early
 use Rattle.settle_laws.proofs.Terms.{SucceedsBy, none_acts, never_leads, never_acts}
 use Rattle.settle_laws.proofs.Writing.{kept, lasts}
 
--- a call that was sent later was sent at an earlier beat or later
+-- a write by a call that was sent at a beat or later is one by a call since an earlier beat
 writes_since : (a b : ℕ) (d : Fact) → a ≤ b → WritesElection b d → WritesElection a d
 writes_since a b (Answers call reply comes wrote) le writes = let from = writes.0 in (omega (arith, le, from), writes.1)
 writes_since a b (First key object) le writes = absurd writes
@@ -95,7 +95,7 @@ module _ (doc : Doc) (near far a e n : ℕ) (sound : IsSound doc) (calm : IsCalm
     none_later : (k : ℕ) → settled ≤ k → k ≤ n → Acts doc q k → ⊥
     none_later = none_acts doc a e n end within q role awake (a + (2 * far - 1)) settled (omega arith) soon room reached success_by
 
-    -- the same span from that beat on
+    -- its messages pass from that beat on, too, and none of its terms ends at it
     steady_later : IsSteady doc near far settled e q.process
     steady_later = record {
       passes = λ k low high. steady.passes k (omega (arith, low)) high;
@@ -122,6 +122,7 @@ module _ (doc : Doc) (near far a e n : ℕ) (sound : IsSound doc) (calm : IsCalm
       stays_up : IsTail (with_events doc a) h → (g : List Entry) → IsTail h g → IsTail g (history doc (suc n)) → alive q.process g ≡ Some q.incarnation
       stays_up after g below above = persists doc near far a e n q role t.deadline steady within idle (omega (arith, room)) h g after below above up
 
+  -- no election write by a call of that beat or later is accepted
   no_write : (x : Entry) (T : List Entry) (q : Identity) → IsTail (x ∷ T) (history doc (suc n)) → x.actor ≡ actor_of q → is_controller doc q.process ≡ true → WritesElection settled x.fact → x.beat + far ≤ n → ⊥
   no_write x T q at by role writes late = ⊎_elim steady quiet (calm.each q.process role)
     where
@@ -152,7 +153,7 @@ module _ (doc : Doc) (near far a e n : ℕ) (sound : IsSound doc) (calm : IsCalm
     turn_high : (k : ℕ) → k ≤ n → IsTail (at_turn doc (suc p) k) (history doc (suc n))
     turn_high k le = tail_trans (at_turn doc (suc p) k) (history doc (suc k)) (history doc (suc n)) (turn_tail doc (suc p) k (omega (arith, below))) (later_tail doc (suc k) (suc n) (omega (arith, le)))
 
-    -- at a later beat
+    -- its turn at that beat comes before those of later beats
     turn_before : (j : ℕ) → settled < j → (m : ℕ) → IsTail (at_turn doc (suc p) settled) (at_turn doc m j)
     turn_before j lt m =
         tail_trans (at_turn doc (suc p) settled) (history doc j) (at_turn doc m j)

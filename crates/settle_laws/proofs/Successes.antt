@@ -42,6 +42,7 @@ use Rattle.calm_laws.proofs.Origins.{Origin, origin}
 abbrev pub high_of : Doc → ℕ
 high_of doc = greatest_below doc (length doc.controllers)
 
+-- what the lease theorem knows of its request
 pub asked_of : (doc : Doc) → IsSound doc → (n : ℕ) → n ≤ end_beat doc → (q : Identity) → is_controller doc q.process ≡ true → (f : Entry) (T : List Entry) (call : Call) (arrives : Option ℕ) → IsTail (f ∷ T) (history doc (suc n))
     → f.actor ≡ actor_of q → f.fact ≡ Sends call arrives → Asked doc (high_of doc) (view (history doc (suc n))) q call.sent call.request
 asked_of doc sound n end q role f T call arrives at actor fact =
@@ -50,7 +51,7 @@ asked_of doc sound n end q role f T call arrives at actor fact =
     subst (λ o. IfSome o (SentRight doc (high_of doc) n (view (history doc (suc n))))) (sent_is f q call arrives actor fact) right.0 in
     sent.may.controller role
 
--- ---- successes
+-- ---- what a success is
 
 reply_done : (reply : Reply) (key : Key) (lease : _) → succeeds (Create key lease) reply ≡ true → (version : Version) × (reply ≡ Done version)
 reply_done (Done version) key lease is = (version, refl)
@@ -84,6 +85,7 @@ write_succeeds Release key lease Exists v is = absurd (cc)
 write_succeeds Release key lease (Conflict version) v is = absurd (cc)
 write_succeeds Release key lease Unchanged v is = absurd (cc)
 
+-- what a reply is followed by says so
 pub follow_succeeds : (q : Identity) (m : Moment) (seen : ℕ) (kind : CallKind) (r : Request) (reply : Reply) (v : Version) → follow q m seen kind r reply ≡ Succeeds v → succeeds r reply ≡ true
 follow_succeeds q m seen kind (Get key) reply v is = absurd (get_no_success q m seen reply v is)
 follow_succeeds q m seen kind (Create key lease) reply v is = write_succeeds kind key lease reply v is

@@ -17,8 +17,8 @@ use Rattle.stay_laws.specs.Stays.{RenewsInTime, Stays}
 abbrev pub AreRenewed : Doc → ℕ → ℕ → ℕ → ℕ → Type 0
 AreRenewed doc near far a e = (q : Identity) → is_controller doc q.process ≡ true → IsSteady doc near far a e q.process → RenewsInTime doc near far a e q
 
--- a term without a success by a call of the span is over old beats after its first one: the last success may be two ways later, less a beat, and
--- beats are enough for a retry period and a renew deadline from there.
+-- a term without a success by a call of the span is over old beats after the span's first one: its last success may come two ways later, less a
+-- beat, and beats are enough for a retry period and a renew deadline from there
 pub record EndsBy (doc : Doc) (far a e old p : ℕ) : Type 0 where
   pub slow : ℕ
   pub beats : ℕ
@@ -26,7 +26,7 @@ pub record EndsBy (doc : Doc) (far a e old p : ℕ) : Type 0 where
   pub beats_is : IsEnough slow (retry_period doc p + renew_deadline doc p) beats
   pub in_old : 2 * far - 1 + beats ≤ old
 
--- and so of each steady controller
+-- and so for each steady controller
 abbrev pub AllEndBy : Doc → ℕ → ℕ → ℕ → ℕ → ℕ → Type 0
 AllEndBy doc near far a e old = (p : ℕ) → is_controller doc p ≡ true → IsSteady doc near far a e p → EndsBy doc far a e old p
 
@@ -41,9 +41,9 @@ pub record IsSettled (doc : Doc) (near far a e n : ℕ) : Type 0 where
   pub steady : IsSteady doc near far a e q.process
   pub stays : Stays doc q n e
 
--- first is enough beats for each term of before to be over, and for the candidate to be up, free of what it had begun, and to ask; most is enough
+-- first is enough beats for the terms of before to be over, and for the candidate to be up, free of what it had begun, and to ask; most is enough
 -- for its looks to find the record over that was there as the calm began, or one that a term of before left; and of four ways two bring the first
--- look, and two the write and its reply
+-- look, and two the write and its reply. The candidate is up after a turn at which the terms of before are over
 abbrev pub CalmSpansSettle : Type 0
 CalmSpansSettle =
     (doc : Doc) (near far a e : ℕ) → IsSound doc → IsCalm doc near far a e → AreInTime doc near far a e → 1 ≤ near → near ≤ far → e ≤ end_beat doc → AreRenewed doc near far a e
@@ -62,7 +62,7 @@ abbrev pub settle_bound : Doc → (near far p later slow fast old time : ℕ) �
 settle_bound doc near far p later slow fast old time =
     settle_beats near far later old (call_timeout doc p / slow) (div_ceil (retry_period doc p) slow) (div_ceil (retry_period doc p) fast) (div_ceil time slow)
 
--- a controller's term without a success by a call of the span is over by then, by the quotient
+-- a term without a success by a call of the span is over by then, by the quotient
 pub record EndsInBeats (doc : Doc) (far a e old p : ℕ) : Type 0 where
   pub slow : ℕ
   pub some : 1 ≤ slow
