@@ -72,10 +72,13 @@ pub record EndsInBeats (doc : Doc) (far a e old p : ℕ) : Type 0 where
 abbrev pub AllEndInBeats : Doc → ℕ → ℕ → ℕ → ℕ → ℕ → Type 0
 AllEndInBeats doc near far a e old = (p : ℕ) → is_controller doc p ≡ true → IsSteady doc near far a e p → EndsInBeats doc far a e old p
 
-abbrev pub SettlingIsTold : Type 0
-SettlingIsTold =
-    (doc : Doc) (near far a e : ℕ) → IsSound doc → IsCalm doc near far a e → AreInTime doc near far a e → 1 ≤ near → near ≤ far → e ≤ end_beat doc → AreRenewed doc near far a e
+abbrev pub Settles : Doc → Type 0
+Settles doc =
+    (near far a e : ℕ) → IsSound doc → IsCalm doc near far a e → AreInTime doc near far a e → 1 ≤ near → near ≤ far → e ≤ end_beat doc → AreRenewed doc near far a e
     → (old : ℕ) → AllEndInBeats doc near far a e old
     → (p later slow fast : ℕ) → IsCandidate doc near far a e p later slow fast → 1 ≤ slow → 1 ≤ fast → old ≤ later
     → (time : ℕ) → LastsFor time (early_record a (history doc (a + far))) → AllLastFor doc near far a e time
     → a + settle_bound doc near far p later slow fast old time ≤ e → IsSettled doc near far a e (a + settle_bound doc near far p later slow fast old time)
+
+abbrev pub SettlingIsTold : Type 0
+SettlingIsTold = (doc : Doc) → Settles doc
