@@ -63,9 +63,11 @@ use Rattle.succession_laws.specs.Successions.{OthersRenew, RepliesCome, IsHeir, 
 use Rattle.succession_laws.proofs.Blocking.{blocked}
 use Rattle.succession_laws.proofs.Edge.{edge}
 use Rattle.succession_laws.proofs.First.{none_first}
-use Rattle.succession_laws.proofs.Led.{HasLed, acting_led, leads_led}
+use Rattle.silence_laws.proofs.Led.{HasLed, acting_led}
+use Rattle.succession_laws.proofs.Led.{leads_led}
 use Rattle.succession_laws.proofs.Records.{OfIt, same_since, no_foreign, lasts_for}
-use Rattle.succession_laws.proofs.Setting.{calm_before, times_before, restrict, idle_before, calm_since, times_since, others_since}
+use Rattle.silence_laws.proofs.Setting.{calm_before, times_before, restrict}
+use Rattle.succession_laws.proofs.Setting.{idle_before, calm_since, times_since, others_since}
 use Rattle.succession_laws.proofs.Timely.{first, first_low, timely, of_it}
 use Rattle.succession_laws.proofs.Timely as in_time
 

@@ -4,12 +4,9 @@ pub mod Led
 pub mod Setting
 pub mod Records
 pub mod Blocking
-pub mod Renewed
 pub mod Timely
 pub mod Turns
 pub mod Ordered
 pub mod Edge
 pub mod Following
-pub mod Pausing
-pub mod Terms
 pub mod Lingering

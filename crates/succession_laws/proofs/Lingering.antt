@@ -32,9 +32,10 @@ use Rattle.silence_laws.specs.Silence.{LeadsUntil, Bears}
 use Rattle.silence_laws.proofs.Looking.{asks_election}
 use Rattle.succession_laws.specs.Successions.{Hears, LeadersActOn}
 use Rattle.succession_laws.proofs.Looks.{wrote_by}
-use Rattle.succession_laws.proofs.Renewed.{done_of}
-use Rattle.succession_laws.proofs.Setting.{IsWay, request_way, own_process, its_call_sent}
-use Rattle.succession_laws.proofs.Terms.{SucceedsBy, none_acts}
+use Rattle.silence_laws.proofs.Renewed.{done_of}
+use Rattle.silence_laws.proofs.Setting.{IsWay, request_way, own_process}
+use Rattle.succession_laws.proofs.Setting.{its_call_sent}
+use Rattle.settle_laws.proofs.Terms.{SucceedsBy, none_acts}
 
 -- when a reply comes that isn't lost, where its receiver isn't paused then
 comes_then : (doc : Doc) (p k delay y : ℕ) (lost : Bool) → held_up doc p (arrival lost k delay) ≡ Some y → is_paused doc p (k + delay) ≡ false → y ≡ k + delay

@@ -45,7 +45,7 @@ use Rattle.calm_laws.specs.Bounds.{LastsFor}
 use Rattle.calm_laws.proofs.Looks.{object_of}
 use Rattle.stay_laws.proofs.Won.{Won, is_won}
 use Rattle.silence_laws.specs.Silence.{LeadsUntil, Bears}
-use Rattle.succession_laws.proofs.Setting.{own_process, request_way, IsWay}
+use Rattle.silence_laws.proofs.Setting.{own_process, request_way, IsWay}
 
 -- no entry stands above one of a later beat
 pub not_sooner : (h : List Entry) → IsOrdered h → (x : Entry) (T : List Entry) → IsTail (x ∷ T) h → (f : Entry) → In f T → f.beat ≤ x.beat

@@ -9,13 +9,13 @@ use Rattle.kube_objects.specs.declared.object.Object.{Object}
 use Rattle.kube_objects.specs.Answers.{answer, written}
 use Rattle.kube_objects.specs.Clocks.{local}
 use Rattle.kube_objects.specs.Document.{Doc, end_beat, of_seconds, is_controller, lease_duration}
-use Rattle.kube_objects.specs.Elector.{succeeds, follow_on, leads, is_before, deadline}
+use Rattle.kube_objects.specs.Elector.{Follow, Fails, Asks, Succeeds, succeeds, follow_on, leads, is_before, deadline}
 use Rattle.kube_objects.specs.Entry.{Entry, Identity, Call, Fact, Answers, Delivers, Sends, actor_of, entry}
 use Rattle.kube_objects.specs.Identities.{is_same, is_other, holder_of}
 use Rattle.kube_objects.specs.Newest.{has, or_zero}
 use Rattle.kube_objects.specs.Process.{alive, is_present}
 use Rattle.kube_objects.specs.Stored.{Held, election, stored, at_key, write_of}
-use Rattle.kube_objects.specs.Turns.{with_reply}
+use Rattle.kube_objects.specs.Turns.{react, with_reply}
 use Rattle.kube_objects.specs.Wire.{Back, back_of, reply_arrival}
 use Rattle.history.specs.History.{history, whole_history, at_turn}
 use Rattle.history.specs.Premise.{greatest_below}
@@ -46,15 +46,22 @@ use Rattle.stay_laws.proofs.Sendings as sendings
 use Rattle.stay_laws.proofs.Renewing as renewing
 use Rattle.silence_laws.specs.Silence.{LeadsUntil, Bears}
 use Rattle.silence_laws.proofs.Kept.{Kept, kept_of}
-use Rattle.succession_laws.proofs.Led.{HasLed}
+use Rattle.silence_laws.proofs.Led.{HasLed}
 use Rattle.succession_laws.proofs.Records.{OfIt, new_of_it, old_of_it, is_its, entries_rise}
-use Rattle.succession_laws.proofs.Renewed.{Rewritten, renewed_by, done_of, reacted_on}
-use Rattle.succession_laws.proofs.Renewed as renewed
-use Rattle.succession_laws.proofs.Setting.{IsWay, request_way, calm_before, times_before, its_lead, it_stays}
+use Rattle.silence_laws.proofs.Renewed.{Rewritten, renewed_by, done_of}
+use Rattle.silence_laws.proofs.Renewed as renewed
+use Rattle.silence_laws.proofs.Setting.{IsWay, request_way, calm_before, times_before, its_lead, it_stays}
 
 -- everything that is known of waits, of no certain delays
 abbrev plainly : Slow
 plainly = record { who = 0; from = 0; least = 0 }
+
+-- a reaction has the reply below it
+reacted_on : (k : ℕ) (q : Identity) (led : Bool) (f : Follow) (h : List Entry) → IsTail h (react k q led f h)
+reacted_on k q led Fails h = tail_all h
+reacted_on k q led (Asks request) h = inr (tail_all h)
+reacted_on k q true (Succeeds version) h = tail_all h
+reacted_on k q false (Succeeds version) h = inr (tail_all h)
 
 abbrev reply_or : Reply → Fact → Reply
 reply_or x (Answers call reply comes wrote) = reply

@@ -67,11 +67,14 @@ succession_beats near far wait needed enough rest = most_beats (needed + 2 * nea
 abbrev pub succession_bound : Doc → (near far p slow fast time : ℕ) → ℕ
 succession_bound doc near far p slow fast time = succession_beats near far (div_ceil (retry_period doc p) slow) (div_ceil (retry_period doc p) fast) (div_ceil time slow) (last_ways doc far)
 
-abbrev pub SuccessorsAreTold : Type 0
-SuccessorsAreTold =
-    (doc : Doc) (near far b e : ℕ) (q : Identity) → LeadsUntil doc near far b e q → Bears doc near far b e q → IsQuiet doc b e q.process → RepliesCome doc far b q.process → OthersRenew doc near far b e q
+abbrev pub Succeeds : Doc → Type 0
+Succeeds doc =
+    (near far b e : ℕ) (q : Identity) → LeadsUntil doc near far b e q → Bears doc near far b e q → IsQuiet doc b e q.process → RepliesCome doc far b q.process → OthersRenew doc near far b e q
     → (p slow fast : ℕ) → IsHeir doc b e q p slow fast → 1 ≤ slow → 1 ≤ fast
     → b + succession_bound doc near far p slow fast (lease_duration doc q.process) ≤ e → IsFollowed doc b (b + succession_bound doc near far p slow fast (lease_duration doc q.process)) e q
+
+abbrev pub SuccessorsAreTold : Type 0
+SuccessorsAreTold = (doc : Doc) → Succeeds doc
 
 -- from beat b to beat e a process isn't paused, and a reply to it that isn't lost takes no longer than far beats
 pub record Hears (doc : Doc) (far b e p : ℕ) : Type 0 where
@@ -80,8 +83,11 @@ pub record Hears (doc : Doc) (far b e p : ℕ) : Type 0 where
 
 -- a leader whose requests are lost from beat b on acts on for so long at most: its last success comes less than two ways later, and lasting is
 -- enough beats for its retry period and its renew deadline
-abbrev pub LeadersActOn : Type 0
-LeadersActOn =
-    (doc : Doc) (near far b e : ℕ) (q : Identity) → LeadsUntil doc near far b e q → Bears doc near far b e q → IsQuiet doc b e q.process → Hears doc far b e q.process
+abbrev pub ActsOn : Doc → Type 0
+ActsOn doc =
+    (near far b e : ℕ) (q : Identity) → LeadsUntil doc near far b e q → Bears doc near far b e q → IsQuiet doc b e q.process → Hears doc far b e q.process
     → (slow lasting : ℕ) → RunsAtLeast doc q.process b e slow → IsEnough slow (retry_period doc q.process + renew_deadline doc q.process) lasting
     → (k : ℕ) → k ≤ e → Acts doc q k → k + 2 ≤ b + 2 * far + lasting
+
+abbrev pub LeadersActOn : Type 0
+LeadersActOn = (doc : Doc) → ActsOn doc
