@@ -38,13 +38,14 @@ use Rattle.stay_laws.specs.Stays.{HasSuccess}
 pub record LedBy (doc : Doc) (x : Entry) (version : Version) (h : List Entry) : Type 0 where
   pub q : Identity
   pub by : x.actor ≡ actor_of q
+  pub role : is_controller doc q.process ≡ true
   pub call : Call
   pub reply : Reply
   pub before : List Entry
   pub is : h ≡ entry x.beat 3 q (Delivers call reply true) ∷ before
   pub follows : follow_on doc q x.beat call.kind call.request reply h ≡ Succeeds version
 
-abbrev LeadsAs : Doc → Entry → Fact → List Entry → Type 0
+abbrev pub LeadsAs : Doc → Entry → Fact → List Entry → Type 0
 LeadsAs doc x (Leads version) h = LedBy doc x version h
 LeadsAs doc x _ h = Unit {0}
 
@@ -72,7 +73,7 @@ lead_keeps doc = record {
   counts = λ k b waiting h coming is s. more doc _ h tt s;
   follows = λ k b waiting h request coming is role follows was s. more doc _ (after_reply k b waiting h) tt s;
   leads = λ k b waiting h version coming is role follows was s.
-      more doc (entry k 3 b.who (Leads version)) (after_reply k b waiting h) (record { q = b.who; by = refl; call = waiting; reply = b.reply; before = h; is = refl; follows = follows }) s;
+      more doc (entry k 3 b.who (Leads version)) (after_reply k b waiting h) (record { q = b.who; by = refl; role = role; call = waiting; reply = b.reply; before = h; is = refl; follows = follows }) s;
   asks = λ k b waiting h request coming is role asked was s. more doc _ (after_reply k b waiting h) tt s;
   turns = record {
     restarts = λ k p h s. more doc _ h tt s;

@@ -15,3 +15,4 @@ pub mod Taken
 pub mod Recent
 pub mod Rival
 pub mod Lasted
+pub mod Lasting

@@ -56,6 +56,9 @@ module _ (doc : Doc) (near far b e : ℕ) (q : Identity) (l : LeadsUntil doc nea
   pub j_to : j ≤ a
   j_to = its_time doc near far b e q l s
 
+  pub j_early : j + 3 * far ≤ b
+  j_early = omega (arith, (its_lead doc near far b e q l s).to, l.long)
+
   -- the write by which it came to lead
   abbrev pub o : Origin doc q (its_lead doc near far b e q l s).success.call (Done (its_lead doc near far b e q l s).success.version) (its_lead doc near far b e q l s).success.before j
   o = wrote.o doc near far 0 a s.sound (calm_before doc near far b e q l s) (times_before doc near far b e q l s) s.one end_a q l.role l.steady s.renews j j_to (its_lead doc near far b e q l s).success

@@ -54,6 +54,10 @@ sent_freely doc m q role x T call arrives at actor fact opens = by_free (made.fr
 pub beat_before : (doc : Doc) (m : ℕ) (x : Entry) (T : List Entry) → IsTail (x ∷ T) (history doc (suc m)) → x.beat ≤ m
 beat_before doc m x T at = ⊎_elim (λ lt. omega (arith, lt)) (λ first. omega (arith, first.0)) (entries_are_earlier doc (suc m) x (in_head x T (history doc (suc m)) at))
 
+-- a call tells the beat at which it was sent
+pub sent_at : (doc : Doc) (m : ℕ) (q : Identity) (x : Entry) (T : List Entry) (call : Call) (arrives : Option ℕ) → IsTail (x ∷ T) (history doc m) → x.actor ≡ actor_of q → x.fact ≡ Sends call arrives → call.sent ≡ x.beat
+sent_at doc m q x T call arrives at actor fact = (subst (λ o. IfSome o (λ s. (s.call.sent ≡ x.beat) × (s.arrives ≡ request_arrival s.who.process x.beat T))) (sent_is x q call arrives actor fact) (messages_travel doc m x T at).0).0
+
 -- ---- ways
 
 requests_pass : (doc : Doc) (near far p k : ℕ) (h : List Entry) → Passes doc near far p k → Forces doc k h → request_arrival p k h ≡ Some (k + request_delay p (with_events doc k))

@@ -40,17 +40,13 @@ pub record TakesAtLeast (doc : Doc) (near far e p time least : ℕ) : Type 0 whe
   pub lasting_is : IsNeeded fast time lasting
   pub least_is : (beats : ℕ) → IsAtLeast (needed + 2 * near) (wait + 2 * far) lasting beats → least ≤ beats
 
--- the ways from a leader's write to its next update: a reply and the round of a Get, or the reply alone where it renews without a Get
-abbrev pub renewal_ways : Doc → ℕ → ℕ
-renewal_ways doc far = cond doc.settings.fast_renew far (3 * far)
-
 -- where a leader in a calm falls silent at beat b, each lead of another identity from then on comes no sooner than the looks of each other
 -- candidate take at least, and three ways, after its last write: that came no earlier before b than its renewals come apart
 abbrev pub SilencesLast : Type 0
 SilencesLast =
     (doc : Doc) (near far b e : ℕ) (q : Identity) → LeadsUntil doc near far b e q → (s : Bears doc near far b e q) → IsQuiet doc b e q.process
     → (least : ℕ) → ((p : ℕ) → is_controller doc p ≡ true → (p ≡ q.process → ⊥) → TakesAtLeast doc near far e p (lease_duration doc q.process) least)
-    → (k : ℕ) → IsLead doc b e q k → b + least + 3 * near ≤ k + s.renews.wait + renewal_ways doc far
+    → (k : ℕ) → IsLead doc b e q k → b + least + 3 * near ≤ k + s.renews.wait + 3 * far
 
 -- the same in whole beats, as a program finds it: each quotient rounded up
 abbrev pub takes_beats : (near far needed wait lasting : ℕ) → ℕ
@@ -69,7 +65,7 @@ SilencesAreTold =
     (doc : Doc) (near far b e : ℕ) (q : Identity) → LeadsUntil doc near far b e q → (s : Bears doc near far b e q) → IsQuiet doc b e q.process
     → (slow fast : ℕ → ℕ) → ((p : ℕ) → is_controller doc p ≡ true → (p ≡ q.process → ⊥) → RunsWithin doc e p (slow p) (fast p))
     → (least : ℕ) → ((p : ℕ) → is_controller doc p ≡ true → (p ≡ q.process → ⊥) → least ≤ takes_least doc near far p (slow p) (fast p) (lease_duration doc q.process))
-    → (k : ℕ) → IsLead doc b e q k → b + least + 3 * near ≤ k + s.renews.wait + renewal_ways doc far
+    → (k : ℕ) → IsLead doc b e q k → b + least + 3 * near ≤ k + s.renews.wait + 3 * far
 
 -- and where it is stopped and its release is accepted, four ways after the stop or later
 abbrev pub ReleasesLast : Type 0
