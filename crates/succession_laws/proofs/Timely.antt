@@ -189,7 +189,7 @@ module _ (doc : Doc) (near far b e : ℕ) (q : Identity) (l : LeadsUntil doc nea
       same_origin : o.e ∷ o.low ≡ z ∷ Z
       same_origin =
           answers_differ doc (suc a) o.e z o.low Z (record { who = q; call = w.call; reply = Done done.0; comes = Some y }) z_back
-          (wrote.write_high doc near far 0 a s.sound (calm_before doc near far b e q l s) (times_before doc near far b e q l s) s.one (renewed.end doc near far b e q l s) q l.role l.steady s.renews y to hs) at
+          (wrote.write_high doc near far 0 a s.sound (calm_before doc near far b e q l s) (times_before doc near far b e q l s) s.one (renewed.end doc near far b e q l s) q l.role l.steady s.renews y to (renewed.g doc near far b e q l s y to hs)) at
           (ap (λ d. back_of o.e.actor d) o.fact ∙ ap (λ who. back_of who (Answers w.call (Done done.0) (Some y) (written w.call.request o.low))) o.actor) z_is (sym mine) refl
 
   -- ---- its first write
@@ -204,13 +204,13 @@ module _ (doc : Doc) (near far b e : ℕ) (q : Identity) (l : LeadsUntil doc nea
   first = renewed.o doc near far b e q l s led.j led_to led.success
 
   pub first_high : IsTail (first.e ∷ first.low) (history doc (suc a))
-  first_high = wrote.write_high doc near far 0 a s.sound (calm_before doc near far b e q l s) (times_before doc near far b e q l s) s.one (renewed.end doc near far b e q l s) q l.role l.steady s.renews led.j led_to led.success
+  first_high = wrote.write_high doc near far 0 a s.sound (calm_before doc near far b e q l s) (times_before doc near far b e q l s) s.one (renewed.end doc near far b e q l s) q l.role l.steady s.renews led.j led_to (renewed.g doc near far b e q l s led.j led_to led.success)
 
   first_writes : has (at_key election (write_of first.e.fact)) ≡ true
-  first_writes = wrote.writes doc near far 0 a s.sound (calm_before doc near far b e q l s) (times_before doc near far b e q l s) s.one (renewed.end doc near far b e q l s) q l.role l.steady s.renews led.j led_to led.success
+  first_writes = wrote.writes doc near far 0 a s.sound (calm_before doc near far b e q l s) (times_before doc near far b e q l s) s.one (renewed.end doc near far b e q l s) q l.role l.steady s.renews led.j led_to (renewed.g doc near far b e q l s led.j led_to led.success)
 
   pub first_ways : sendings.IsWay near far first.begun.f.beat first.e.beat led.j
-  first_ways = wrote.ways doc near far 0 a s.sound (calm_before doc near far b e q l s) (times_before doc near far b e q l s) s.one (renewed.end doc near far b e q l s) q l.role l.steady s.renews led.j led_to led.success
+  first_ways = renewed.ways doc near far b e q l s led.j led_to led.success
 
   some_beat : 1 ≤ first.e.beat
   some_beat = omega (arith, first_ways.sent_least, s.one)
@@ -222,8 +222,8 @@ module _ (doc : Doc) (near far b e : ℕ) (q : Identity) (l : LeadsUntil doc nea
     where
       early : z.beat < led.j → z.actor ≡ actor_of q
       early lt =
-          wrote.its_writes doc near far 0 a s.sound (calm_before doc near far b e q l s) (times_before doc near far b e q l s) s.one (renewed.end doc near far b e q l s) q l.role l.steady s.renews led.j led_to led.success
-          (renewing.acts_now doc near far 0 a s.sound (calm_before doc near far b e q l s) (times_before doc near far b e q l s) s.one (renewed.end doc near far b e q l s) q l.role l.steady s.renews led.j led_to led.success)
+          wrote.its_writes doc near far 0 a s.sound (calm_before doc near far b e q l s) (times_before doc near far b e q l s) s.one (renewed.end doc near far b e q l s) q l.role l.steady s.renews led.j led_to (renewed.g doc near far b e q l s led.j led_to led.success)
+          (renewing.acts_now doc near far 0 a s.sound (calm_before doc near far b e q l s) (times_before doc near far b e q l s) s.one (renewed.end doc near far b e q l s) q l.role l.steady s.renews led.j led_to (renewed.g doc near far b e q l s led.j led_to led.success))
           led.j (omega arith) led_to (omega (arith, first_ways.comes_most)) z Z
           (tail_trans (z ∷ Z) (history doc (suc z.beat)) (history doc (suc led.j)) (in_own_beat doc (suc a) z Z at) (later_tail doc (suc z.beat) (suc led.j) (omega (arith, lt)))) low writes
 
