@@ -1,33 +1,31 @@
 -- Another controller's Get that finds the leader's record before it is renewed fails.
-use Rattle.std.proofs.Common.{◌≡◌, ◌⊎◌, ◌<◌, ◌≤◌, ℕ, suc, ◌+◌, ◌-◌, ◌*◌, ◌==◌, ◌&&◌, not, nat_lt, Bool, true, false, cond, List, [], ◌∷◌, Option, Some, None, refl, sym, ap, ◌∙◌, subst, inl, inr, ⊎_elim, arith}
+use Rattle.std.proofs.Common.{◌≡◌, ◌≤◌, ℕ, suc, ◌+◌, ◌-◌, ◌*◌, not, nat_lt, Bool, true, false, cond, List, [], ◌∷◌, Option, Some, None, refl, sym, ap, ◌∙◌, subst, inl, inr, arith}
 use Rattle.std.proofs.Math.Nat.{mul-le-mul_right}
-use Rattle.std.proofs.lemmas.Bool.{ltb-false, eqb-true, cases_lt}
+use Rattle.std.proofs.lemmas.Bool.{ltb-false, eqb-true}
 use Rattle.kube_objects.specs.declared.call.Reply.{Reply}
 use Rattle.kube_objects.specs.declared.call.Reply.TheVariants.{Found}
 use Rattle.kube_objects.specs.declared.call.Request.TheVariants.{Get, Update}
 use Rattle.kube_objects.specs.declared.deed.Actor.{Actor}
 use Rattle.kube_objects.specs.declared.lease.Lease.{Lease}
-use Rattle.kube_objects.specs.declared.object.Object.{Object}
 use Rattle.kube_objects.specs.declared.object.Object.TheVariants as object
 use Rattle.kube_objects.specs.Answers.{lease_in, versioned, as_kind, answer_get, answer}
 use Rattle.kube_objects.specs.Clocks.{local}
-use Rattle.kube_objects.specs.Document.{Doc, end_beat, of_seconds, is_controller, lease_seconds, lease_duration}
-use Rattle.kube_objects.specs.Elector.{Fails, Asks, moment, is_blocked, is_valid, updated, follow_get, follow, follow_on, Shown, told, shows, shown, is_known, newly, observed, observed_at}
-use Rattle.kube_objects.specs.Entry.{Entry, Identity, Call, Fact, First, Event, Starts, Stops, Sends, Answers, Delivers, Expires, Leads, Ends, Crashes, Stalls, Ticks, actor_of, entry}
+use Rattle.kube_objects.specs.Document.{Doc, of_seconds, is_controller, lease_seconds, lease_duration}
+use Rattle.kube_objects.specs.Elector.{Fails, Asks, moment, is_valid, updated, follow_get, follow, follow_on, Shown, told, shows, shown, is_known, newly, observed, observed_at}
+use Rattle.kube_objects.specs.Entry.{Entry, Identity, Call, Fact, First, Event, Starts, Stops, Sends, Answers, Delivers, Expires, Leads, Ends, Crashes, Stalls, Ticks, entry}
 use Rattle.kube_objects.specs.Identities.{is_by, is_same, is_other, holder_of}
-use Rattle.kube_objects.specs.Newest.{only_if, when, has, or_zero}
+use Rattle.kube_objects.specs.Newest.{only_if, when, or_zero}
 use Rattle.kube_objects.specs.Process.{call_says}
-use Rattle.kube_objects.specs.Stored.{Held, election, stored, at_key, write_of}
+use Rattle.kube_objects.specs.Stored.{Held, election, stored}
 use Rattle.history.specs.History.{history}
-use Rattle.history_laws.specs.Tails.{In, IsTail}
-use Rattle.history_laws.proofs.Plainly.{upper, some_is, none_is, true_is, and_both, same_is, same_self}
-use Rattle.history_laws.proofs.Tailed.{tail_all, tail_trans, later_tail, same_head}
+use Rattle.history_laws.specs.Tails.{IsTail}
+use Rattle.history_laws.proofs.Plainly.{upper, some_is, none_is, and_both, same_is, same_self}
+use Rattle.history_laws.proofs.Tailed.{tail_all, tail_trans, same_head}
 use Rattle.span_laws.proofs.Spans.{goes_most}
 use Rattle.call_laws.proofs.Above.{in_head}
-use Rattle.call_laws.proofs.Placing.{in_own_beat, not_before}
 use Rattle.takeover_laws.specs.Calm.{IsSteady}
 use Rattle.calm_laws.proofs.Begun.{Begun}
-use Rattle.calm_laws.proofs.Origins.{Origin, origin}
+use Rattle.calm_laws.proofs.Origins.{Origin}
 use Rattle.silence_laws.specs.Silence.{LeadsUntil, Bears}
 use Rattle.silence_laws.proofs.Kept.{Kept, kept_of}
 use Rattle.silence_laws.proofs.Showing.{IsTold, told_by}

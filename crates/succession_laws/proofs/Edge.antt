@@ -1,5 +1,5 @@
 -- Where leaders don't renew without a Get: another's Get that is answered in the last beat in which a leader's write can arrive is answered after it.
-use Rattle.std.proofs.Common.{◌≡◌, ◌⊎◌, ◌<◌, ◌≤◌, ℕ, suc, ◌+◌, ◌-◌, ◌*◌, Bool, true, false, cond, List, [], ◌∷◌, Option, Some, None, refl, sym, ap, ◌∙◌, subst, inl, inr, ⊎_elim, arith}
+use Rattle.std.proofs.Common.{◌≡◌, ◌⊎◌, ◌≤◌, ℕ, suc, ◌+◌, ◌-◌, Bool, true, false, cond, List, ◌∷◌, Some, refl, sym, ap, ◌∙◌, subst, inl, inr, ⊎_elim, arith}
 use Rattle.kube_base.specs.declared.numbers.Version.{Version}
 use Rattle.kube_objects.specs.declared.call.Reply.{Reply}
 use Rattle.kube_objects.specs.declared.call.Reply.TheVariants.{Found, Done, Absent, Exists, Conflict, Unchanged}
@@ -8,15 +8,14 @@ use Rattle.kube_objects.specs.declared.call.Request.TheVariants.{Get, Create, Up
 use Rattle.kube_objects.specs.declared.key.Key.{Key}
 use Rattle.kube_objects.specs.Answers.{answer, written}
 use Rattle.kube_objects.specs.Document.{Doc, is_controller}
-use Rattle.kube_objects.specs.Elector.{Moment, moment, Follow, Fails, Asks, Succeeds, is_fast, is_blocked, updated, follow_get, not_done, follow_write, follow, follow_on, observed_at, succeeds}
-use Rattle.kube_objects.specs.Entry.{Entry, Identity, Call, CallKind, Plain, Fast, Release, Fact, Sends, Answers, Delivers, actor_of, entry}
+use Rattle.kube_objects.specs.Elector.{Moment, moment, Fails, Asks, Succeeds, is_fast, is_blocked, updated, follow_get, not_done, follow_write, follow, observed_at, succeeds}
+use Rattle.kube_objects.specs.Entry.{Entry, Identity, Call, CallKind, Plain, Fast, Release, Answers, Delivers, entry}
 use Rattle.kube_objects.specs.Newest.{has}
 use Rattle.kube_objects.specs.Stored.{election, stored, at_key, write_of, request_write}
-use Rattle.kube_objects.specs.Wire.{Sent, Back, back_of, reply_arrival}
+use Rattle.kube_objects.specs.Wire.{Sent, back_of, reply_arrival}
 use Rattle.history.specs.History.{history}
 use Rattle.history.specs.Steps.{answered}
-use Rattle.history_laws.specs.Order.{IsWithin}
-use Rattle.history_laws.specs.Tails.{In, IsTail}
+use Rattle.history_laws.specs.Tails.{IsTail}
 use Rattle.history_laws.proofs.Order.{entries_are_earlier, entries_are_ordered}
 use Rattle.history_laws.proofs.Plainly.{false_is, true_is}
 use Rattle.history_laws.proofs.Tailed.{tail_all, tail_trans, tails_meet, later_tail, same_head, same_rest}
@@ -27,7 +26,7 @@ use Rattle.call_laws.proofs.Making.{MadeAs, MadeSend, MadeAnswer, Replied, are_m
 use Rattle.call_laws.proofs.Once.{answers_differ}
 use Rattle.call_laws.proofs.Placing.{in_own_beat}
 use Rattle.call_laws.proofs.Starting.{actor_is}
-use Rattle.takeover_laws.specs.Calm.{IsSteady, IsQuiet, IsInTime}
+use Rattle.takeover_laws.specs.Calm.{IsQuiet}
 use Rattle.takeover_laws.proofs.Rounds.{sent_is}
 use Rattle.takeover_laws.proofs.Writers.{Sending, sending_of}
 use Rattle.calm_laws.proofs.Asked.{IsWrite, asks_same, fails_not}

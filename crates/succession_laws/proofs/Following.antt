@@ -1,5 +1,5 @@
 -- After a leader has fallen silent another controller comes to lead in time, and stays.
-use Rattle.std.proofs.Common.{◌≡◌, ◌⊎◌, ◌<◌, ◌≤◌, ℕ, zero, suc, ◌+◌, ◌-◌, ◌*◌, ◌==◌, ◌&&◌, not, Bool, true, false, cond, List, ◌∷◌, Option, Some, None, IfSome, refl, sym, ap, ◌∙◌, subst, inl, inr, ⊎_elim, arith}
+use Rattle.std.proofs.Common.{◌≡◌, ◌⊎◌, ◌<◌, ◌≤◌, ℕ, zero, suc, ◌+◌, ◌-◌, ◌*◌, not, Bool, true, false, cond, List, ◌∷◌, Option, Some, None, refl, sym, ap, ◌∙◌, subst, inl, inr, ⊎_elim, arith}
 use Rattle.std.specs.Int.{div_ceil}
 use Rattle.std.proofs.lemmas.Bool.{eq-eqb, cases_eq, cases_lt}
 use Rattle.kube_base.specs.declared.numbers.Version.{Version}
@@ -12,8 +12,8 @@ use Rattle.kube_objects.specs.declared.lease.Lease.{Lease}
 use Rattle.kube_objects.specs.declared.object.Object.TheVariants as object
 use Rattle.kube_objects.specs.Answers.{lease_in, versioned, as_kind, answer_get, answer, answer_over, written, written_over, if_done}
 use Rattle.kube_objects.specs.Clocks.{local}
-use Rattle.kube_objects.specs.Document.{Doc, processes, end_beat, is_controller, lease_duration, retry_period}
-use Rattle.kube_objects.specs.Elector.{Moment, moment, Fails, Asks, is_blocked, updated, created, follow_get, follow, follow_on, leads, observed_at, succeeds, acts, in_term, is_before, deadline}
+use Rattle.kube_objects.specs.Document.{Doc, processes, is_controller, lease_duration, retry_period}
+use Rattle.kube_objects.specs.Elector.{Moment, moment, Fails, Asks, is_blocked, updated, follow_get, follow, follow_on, leads, observed_at, acts, in_term, is_before, deadline}
 use Rattle.kube_objects.specs.Entry.{Entry, Identity, Call, Answers, Sends, Delivers, actor_of, entry}
 use Rattle.kube_objects.specs.Identities.{identity}
 use Rattle.kube_objects.specs.Newest.{has}
@@ -23,20 +23,18 @@ use Rattle.kube_objects.specs.Stored.{Held, election, key_of, request_write, at_
 use Rattle.kube_objects.specs.Wire.{reply_arrival}
 use Rattle.history.specs.History.{history, at_turn}
 use Rattle.history.specs.Safe.{Acts}
-use Rattle.history.specs.Steps.{restart}
-use Rattle.history_laws.specs.Tails.{In, IsTail}
+use Rattle.history_laws.specs.Tails.{IsTail}
 use Rattle.history_laws.proofs.Counting.{present_is}
 use Rattle.history_laws.proofs.Order.{entries_are_earlier}
-use Rattle.history_laws.proofs.Plainly.{none_is, true_is, false_is, and_left, and_right}
+use Rattle.history_laws.proofs.Plainly.{true_is, false_is, and_left, and_right}
 use Rattle.history_laws.proofs.Tailed.{tail_all, tail_trans, later_tail, turn_tail, before_turn}
 use Rattle.span_laws.specs.Looks.{IsGreatest}
 use Rattle.span_laws.specs.Quotients.{most_beats}
 use Rattle.span_laws.proofs.Quotients.{rounded_is, bounds_are_exact}
-use Rattle.span_laws.specs.Spans.{RunsAtLeast, RunsAtMost, IsEnough, IsNeeded}
+use Rattle.span_laws.specs.Spans.{IsEnough, IsNeeded}
 use Rattle.call_laws.specs.Answering.{with_events}
 use Rattle.call_laws.proofs.Above.{in_head}
-use Rattle.call_laws.proofs.Answering.{before_events, events_position}
-use Rattle.call_laws.proofs.Making.{Replied}
+use Rattle.call_laws.proofs.Answering.{events_position}
 use Rattle.call_laws.proofs.Placing.{in_own_beat, not_before}
 use Rattle.call_laws.proofs.Starting.{actor_is}
 use Rattle.takeover_laws.specs.Calm.{IsSteady, IsQuiet, IsInTime}
@@ -51,7 +49,7 @@ use Rattle.calm_laws.proofs.Asked.{IsWrite, IsNext, next_is, asks_same, fails_no
 use Rattle.calm_laws.proofs.Life.{never_led, restart_same}
 use Rattle.calm_laws.proofs.Looks.{object_of}
 use Rattle.calm_laws.proofs.Origins.{Origin, origin}
-use Rattle.stay_laws.specs.Stays.{HasSuccess, Stays}
+use Rattle.stay_laws.specs.Stays.{HasSuccess}
 use Rattle.stay_laws.proofs.Staying.{leaders_stay}
 use Rattle.stay_laws.proofs.Succeeded.{success_is}
 use Rattle.stay_laws.proofs.Won.{Won, is_won}

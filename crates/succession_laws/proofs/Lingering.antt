@@ -1,23 +1,19 @@
 -- A leader that has fallen silent acts on until its last term is over.
-use Rattle.std.proofs.Common.{◌≡◌, ◌⊎◌, ◌<◌, ◌≤◌, ℕ, zero, suc, ◌+◌, ◌-◌, ◌*◌, Bool, true, false, List, ◌∷◌, Option, Some, None, IfSome, refl, sym, ap, ◌∙◌, subst, inl, inr, ⊎_elim, arith}
+use Rattle.std.proofs.Common.{◌≡◌, ◌⊎◌, ◌<◌, ◌≤◌, ℕ, zero, suc, ◌+◌, ◌-◌, ◌*◌, Bool, true, false, ◌∷◌, Option, Some, None, refl, sym, ap, ◌∙◌, subst, inr, ⊎_elim, arith}
 use Rattle.std.proofs.lemmas.Bool.{cases_lt}
 use Rattle.kube_base.specs.declared.numbers.Version.{Version}
-use Rattle.kube_objects.specs.declared.call.Reply.{Reply}
 use Rattle.kube_objects.specs.declared.call.Reply.TheVariants.{Done}
-use Rattle.kube_objects.specs.Answers.{answer, written}
-use Rattle.kube_objects.specs.Clocks.{local}
-use Rattle.kube_objects.specs.Document.{Doc, end_beat, is_controller, retry_period, renew_deadline}
+use Rattle.kube_objects.specs.Answers.{written}
+use Rattle.kube_objects.specs.Document.{Doc, retry_period, renew_deadline}
 use Rattle.kube_objects.specs.Elector.{succeeds}
-use Rattle.kube_objects.specs.Entry.{Entry, Identity, Call, Answers, Delivers, actor_of}
-use Rattle.kube_objects.specs.Identities.{of_process}
+use Rattle.kube_objects.specs.Entry.{Identity}
 use Rattle.kube_objects.specs.Newest.{or_else, has}
-use Rattle.kube_objects.specs.Pauses.{is_paused, pause_end, resume, held_up}
-use Rattle.kube_objects.specs.Stored.{election, at_key, request_write, write_of}
-use Rattle.kube_objects.specs.Wire.{arrival, loses_replies, reply_delay, reply_delay_of, reply_arrival}
+use Rattle.kube_objects.specs.Pauses.{is_paused, pause_end, held_up}
+use Rattle.kube_objects.specs.Stored.{election, at_key, request_write}
+use Rattle.kube_objects.specs.Wire.{arrival, loses_replies, reply_delay, reply_delay_of}
 use Rattle.history.specs.History.{history}
 use Rattle.history.specs.Safe.{Acts}
-use Rattle.history_laws.specs.Tails.{In, IsTail}
-use Rattle.history_laws.proofs.Order.{entries_are_earlier}
+use Rattle.history_laws.specs.Tails.{IsTail}
 use Rattle.history_laws.proofs.Plainly.{some_is, none_is, true_is}
 use Rattle.history_laws.proofs.Tailed.{tail_all, tail_trans, in_tail, later_tail}
 use Rattle.span_laws.specs.Spans.{RunsAtLeast, IsEnough}
@@ -25,7 +21,7 @@ use Rattle.span_laws.proofs.Spans.{readings_grow}
 use Rattle.call_laws.specs.Answering.{with_events}
 use Rattle.call_laws.proofs.Above.{in_head}
 use Rattle.call_laws.proofs.Placing.{forces_stand}
-use Rattle.takeover_laws.specs.Calm.{IsSteady, IsQuiet, WritesElection}
+use Rattle.takeover_laws.specs.Calm.{IsQuiet, WritesElection}
 use Rattle.calm_laws.proofs.Origins.{Origin, origin}
 use Rattle.stay_laws.proofs.Succeeded.{success_is}
 use Rattle.silence_laws.specs.Silence.{LeadsUntil, Bears}

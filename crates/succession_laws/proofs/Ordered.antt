@@ -7,7 +7,7 @@ use Rattle.kube_objects.specs.Entry.{Entry}
 use Rattle.kube_objects.specs.InFlight.{is_due}
 use Rattle.kube_objects.specs.Wire.{Sent, sent_of}
 use Rattle.history.specs.History.{history}
-use Rattle.history.specs.Steps.{step_two, answered}
+use Rattle.history.specs.Steps.{answered}
 use Rattle.history.proofs.Due.{step_two-walks, each, answer_due}
 use Rattle.history_laws.specs.Tails.{IsTail}
 use Rattle.history_laws.proofs.Tailed.{tail_all, tail_trans, answer_adds}

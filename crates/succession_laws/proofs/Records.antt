@@ -1,7 +1,6 @@
 -- While nobody else acts, each write of the election Lease is the leader's own, by a call that it sent before it fell silent.
-use Rattle.std.proofs.Common.{◌≡◌, ◌⊎◌, ◌<◌, ◌≤◌, ℕ, suc, ◌+◌, ◌-◌, ◌*◌, ◌==◌, ◌&&◌, Bool, true, false, List, [], ◌∷◌, length, Option, Some, None, IfSome, refl, sym, ap, ◌∙◌, subst, inl, inr, ⊎_elim, arith}
-use Rattle.std.proofs.lemmas.Bool.{eq-eqb, eqb-true, cases_eq, cases_lt}
-use Rattle.kube_base.specs.declared.numbers.Version.{Version}
+use Rattle.std.proofs.Common.{◌≡◌, ◌⊎◌, ◌<◌, ◌≤◌, ℕ, suc, ◌+◌, ◌-◌, ◌==◌, ◌&&◌, Bool, true, false, List, [], ◌∷◌, length, Option, Some, None, IfSome, refl, sym, ap, ◌∙◌, subst, inl, inr, ⊎_elim, arith}
+use Rattle.std.proofs.lemmas.Bool.{cases_eq, cases_lt}
 use Rattle.kube_objects.specs.declared.call.Reply.{Reply}
 use Rattle.kube_objects.specs.declared.call.Reply.TheVariants.{Found, Done, Absent, Exists, Conflict, Unchanged}
 use Rattle.kube_objects.specs.declared.call.Request.{Request}
@@ -12,7 +11,7 @@ use Rattle.kube_objects.specs.declared.lease.Lease.{Lease}
 use Rattle.kube_objects.specs.declared.object.Object.{Object}
 use Rattle.kube_objects.specs.declared.object.Object.TheVariants as object
 use Rattle.kube_objects.specs.Answers.{answer, if_done, written}
-use Rattle.kube_objects.specs.Document.{Doc, processes, end_beat, of_seconds, is_controller, lease_seconds, lease_duration}
+use Rattle.kube_objects.specs.Document.{Doc, processes, of_seconds, is_controller, lease_seconds, lease_duration}
 use Rattle.kube_objects.specs.Elector.{succeeds}
 use Rattle.kube_objects.specs.Entry.{Entry, Identity, Call, Fact, First, Event, Starts, Stops, Sends, Answers, Delivers, Expires, Leads, Ends, Crashes, Stalls, Ticks, actor_of}
 use Rattle.kube_objects.specs.Identities.{identity_of, is_by, of_process, holder_of}
@@ -20,24 +19,22 @@ use Rattle.kube_objects.specs.Keys.{key_eq}
 use Rattle.kube_objects.specs.Newest.{added, when, has, join, or_zero}
 use Rattle.kube_objects.specs.Process.{is_stop, stops}
 use Rattle.kube_objects.specs.Stored.{Held, election, stored, at_key, write_of, request_write, next_version, holds, last_write}
-use Rattle.kube_objects.specs.Wire.{Sent, sent_of, request_arrival}
+use Rattle.kube_objects.specs.Wire.{request_arrival}
 use Rattle.history.specs.History.{history}
 use Rattle.history.specs.Premise.{greatest_below}
 use Rattle.history.specs.Safe.{Acts}
-use Rattle.history.specs.Sound.{IsSound}
 use Rattle.history_laws.specs.Order.{IsOrdered}
 use Rattle.history_laws.specs.Tails.{In, IsTail}
 use Rattle.history_laws.proofs.Order.{entries_are_earlier, entries_are_ordered}
-use Rattle.history_laws.proofs.Plainly.{upper, some_is, none_is, false_is, and_left, and_right}
+use Rattle.history_laws.proofs.Plainly.{upper, false_is, and_left, and_right}
 use Rattle.history_laws.proofs.Tailed.{tail_all, tail_trans, in_tail, later_tail, tail_of_empty, same_head, same_rest}
 use Rattle.lease_laws.proofs.EachKind.{top_stays}
 use Rattle.lease_laws.proofs.Histories.{turn_right}
-use Rattle.lease_laws.proofs.Invariant.{view, Fit, FitRequest, Asked, SentRight}
+use Rattle.lease_laws.proofs.Invariant.{view, Fit, FitRequest, SentRight}
 use Rattle.lease_laws.proofs.Premises.{rates_at_most}
 use Rattle.call_laws.proofs.Above.{in_head, next_above}
 use Rattle.call_laws.proofs.Making.{MadeAs, MadeAnswer, are_made}
 use Rattle.call_laws.proofs.Placing.{in_own_beat, from_beat, messages_travel}
-use Rattle.call_laws.proofs.Starting.{actor_is}
 use Rattle.takeover_laws.specs.Calm.{IsSteady, IsQuiet, WritesElection}
 use Rattle.takeover_laws.proofs.Rounds.{sent_is}
 use Rattle.takeover_laws.proofs.Writers.{writer_acts}
@@ -45,7 +42,7 @@ use Rattle.calm_laws.specs.Bounds.{LastsFor}
 use Rattle.calm_laws.proofs.Looks.{object_of}
 use Rattle.stay_laws.proofs.Won.{Won, is_won}
 use Rattle.silence_laws.specs.Silence.{LeadsUntil, Bears}
-use Rattle.silence_laws.proofs.Setting.{own_process, request_way, IsWay}
+use Rattle.silence_laws.proofs.Setting.{own_process, request_way}
 
 -- no entry stands above one of a later beat
 pub not_sooner : (h : List Entry) → IsOrdered h → (x : Entry) (T : List Entry) → IsTail (x ∷ T) h → (f : Entry) → In f T → f.beat ≤ x.beat
@@ -189,7 +186,6 @@ lasts_for doc q h o = subst (λ t. LastsFor (lease_duration doc q.process) (obje
 module _ (doc : Doc) (near far b e : ℕ) (q : Identity) (l : LeadsUntil doc near far b e q) (s : Bears doc near far b e q) (quiet : IsQuiet doc b e q.process)
     (n : ℕ) (within : n ≤ e) where
   module _ (x : Entry) (T : List Entry) (at : IsTail (x ∷ T) (history doc (suc n))) (writes : has (at_key election (write_of x.fact)) ≡ true) (w : Won doc x T) (mine : w.who.process ≡ q.process) where
-
     wrote : has (at_key election (request_write w.call.request w.wrote)) ≡ true
     wrote = ap (λ d. has (at_key election (write_of d))) (sym w.fact) ∙ writes
 

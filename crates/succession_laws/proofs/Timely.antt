@@ -2,7 +2,6 @@
 use Rattle.std.proofs.Common.{◌≡◌, ◌⊎◌, ◌<◌, ◌≤◌, ℕ, suc, ◌+◌, ◌-◌, ◌*◌, not, Bool, true, false, List, [], ◌∷◌, length, Option, Some, None, IfSome, refl, sym, ap, ◌∙◌, subst, inl, inr, ⊎_elim, arith}
 use Rattle.std.proofs.Math.Nat.{mul-le-mul_right}
 use Rattle.std.proofs.lemmas.Bool.{cases_eq, cases_lt}
-use Rattle.kube_base.specs.declared.numbers.Version.{Version}
 use Rattle.kube_objects.specs.declared.call.Reply.{Reply}
 use Rattle.kube_objects.specs.declared.call.Reply.TheVariants.{Done}
 use Rattle.kube_objects.specs.declared.object.Object.{Object}
@@ -10,20 +9,20 @@ use Rattle.kube_objects.specs.Answers.{answer, written}
 use Rattle.kube_objects.specs.Clocks.{local}
 use Rattle.kube_objects.specs.Document.{Doc, end_beat, of_seconds, is_controller, lease_duration}
 use Rattle.kube_objects.specs.Elector.{Follow, Fails, Asks, Succeeds, succeeds, follow_on, leads, is_before, deadline}
-use Rattle.kube_objects.specs.Entry.{Entry, Identity, Call, Fact, Answers, Delivers, Sends, actor_of, entry}
-use Rattle.kube_objects.specs.Identities.{is_same, is_other, holder_of}
+use Rattle.kube_objects.specs.Entry.{Entry, Identity, Fact, Answers, Delivers, actor_of, entry}
+use Rattle.kube_objects.specs.Identities.{is_same, is_other}
 use Rattle.kube_objects.specs.Newest.{has, or_zero}
 use Rattle.kube_objects.specs.Process.{alive, is_present}
-use Rattle.kube_objects.specs.Stored.{Held, election, stored, at_key, write_of}
+use Rattle.kube_objects.specs.Stored.{election, stored, at_key, write_of}
 use Rattle.kube_objects.specs.Turns.{react, with_reply}
 use Rattle.kube_objects.specs.Wire.{Back, back_of, reply_arrival}
 use Rattle.history.specs.History.{history, whole_history, at_turn}
 use Rattle.history.specs.Premise.{greatest_below}
-use Rattle.history_laws.specs.Tails.{In, IsTail}
+use Rattle.history_laws.specs.Tails.{IsTail}
 use Rattle.history_laws.proofs.Counting.{present_is}
 use Rattle.history_laws.proofs.Order.{entries_are_earlier}
-use Rattle.history_laws.proofs.Plainly.{none_is, true_is, same_is, and_left}
-use Rattle.history_laws.proofs.Tailed.{tail_all, tail_trans, tails_meet, later_tail, before_turn, turn_tail, tail_of_empty, same_head, same_rest}
+use Rattle.history_laws.proofs.Plainly.{true_is, same_is, and_left}
+use Rattle.history_laws.proofs.Tailed.{tail_all, tail_trans, tails_meet, later_tail, before_turn, turn_tail, tail_of_empty, same_head}
 use Rattle.span_laws.proofs.Spans.{goes_most}
 use Rattle.lease_laws.proofs.Claims.{term_of}
 use Rattle.lease_laws.proofs.Premises.{rates_at_most}
@@ -32,14 +31,14 @@ use Rattle.call_laws.proofs.Making.{MadeAs, MadeAnswer, are_made}
 use Rattle.call_laws.proofs.Once.{answers_differ}
 use Rattle.call_laws.proofs.Placing.{in_own_beat, not_before}
 use Rattle.call_laws.proofs.Starting.{actor_is}
-use Rattle.takeover_laws.specs.Calm.{IsSteady, IsQuiet, IsInTime}
+use Rattle.takeover_laws.specs.Calm.{IsQuiet, IsInTime}
 use Rattle.takeover_laws.proofs.Standing.{controllers_first}
 use Rattle.takeover_laws.proofs.Writers.{Sending, IsReacted, sending_of, replies_react}
 use Rattle.calm_laws.proofs.Life.{up_between}
 use Rattle.calm_laws.proofs.Origins.{Origin}
 use Rattle.gap_laws.proofs.Waits.{Slow, Waited, WaitedFor, Took, Topped, Waits}
 use Rattle.gap_laws.proofs.Histories.{whole_known}
-use Rattle.stay_laws.specs.Stays.{HasSuccess, Stays}
+use Rattle.stay_laws.specs.Stays.{HasSuccess}
 use Rattle.stay_laws.proofs.Won.{Won, is_won}
 use Rattle.stay_laws.proofs.Written as wrote
 use Rattle.stay_laws.proofs.Sendings as sendings

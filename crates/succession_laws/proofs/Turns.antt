@@ -1,5 +1,5 @@
 -- Where leaders don't renew without a Get, a controller asks for the election Lease in its turn, and writes it after a reply only.
-use Rattle.std.proofs.Common.{◌≡◌, ℕ, ◌&&◌, Bool, cond, true, false, List, [], ◌∷◌, refl, sym, ap, ◌∙◌, subst, inl, inr, arith}
+use Rattle.std.proofs.Common.{◌≡◌, ℕ, ◌&&◌, cond, true, false, List, [], ◌∷◌, refl, sym, ap, ◌∙◌, subst, inl, inr, arith}
 use Rattle.kube_objects.specs.declared.call.Request.TheVariants.{Get}
 use Rattle.kube_objects.specs.declared.deed.Actor.{Actor}
 use Rattle.kube_objects.specs.declared.key.Key.{Key}
@@ -15,7 +15,7 @@ use Rattle.kube_objects.specs.Stored.{election}
 use Rattle.history.specs.History.{put_all, history}
 use Rattle.history_laws.specs.Tails.{IsTail}
 use Rattle.history_laws.proofs.Plainly.{true_is}
-use Rattle.history_laws.proofs.Tailed.{tail_of_empty, same_head, same_rest}
+use Rattle.history_laws.proofs.Tailed.{tail_of_empty, same_head}
 use Rattle.history_laws.proofs.Ticks.{walk_tick}
 use Rattle.history_laws.proofs.Walk.{after_reply, stopped_at, Keeps, walk_history}
 use Rattle.call_laws.proofs.Starting.{actor_is}

@@ -1,7 +1,7 @@
 -- By when somebody else leads after a leader in a calm has fallen silent, or is stopped, and how long the leader itself acts on.
 -- Source: client-go, package `leaderelection`; profile.
 use Rattle.std.specs.Int.{div_ceil}
-use Rattle.std.specs.Prelude.{◌≡◌, ◌≤◌, ◌<◌, ℕ, suc, ◌+◌, ◌-◌, ◌*◌, true, false, cond, Option, IfSome}
+use Rattle.std.specs.Prelude.{◌≡◌, ◌≤◌, ◌<◌, ℕ, suc, ◌+◌, ◌-◌, ◌*◌, true, false, cond, IfSome}
 use Rattle.kube_objects.specs.Document.{Doc, is_controller, lease_duration, retry_period, renew_deadline}
 use Rattle.kube_objects.specs.Entry.{Entry, Identity}
 use Rattle.kube_objects.specs.Identities.{of_process}
