@@ -57,7 +57,7 @@ use Rattle.silence_laws.specs.Silence.{LeadsUntil, Bears}
 use Rattle.silence_laws.proofs.Looking.{asks_election}
 use Rattle.silence_laws.proofs.Ways as ways_of
 use Rattle.silence_laws.proofs.Ways.{reply_way}
-use Rattle.succession_laws.specs.Successions.{OthersRenew, RepliesCome, IsHeir, IsFollowed, last_ways, succession_bound, SuccessorsLead, SuccessorsAreTold}
+use Rattle.succession_laws.specs.Successions.{OthersRenew, RepliesCome, IsRival, IsFollowed, last_ways, succession_bound, SuccessorsLead, SuccessorsAreTold}
 use Rattle.succession_laws.proofs.Blocking.{blocked}
 use Rattle.succession_laws.proofs.Edge.{edge}
 use Rattle.succession_laws.proofs.First.{none_first}
@@ -306,7 +306,7 @@ module _ (doc : Doc) (near far b e : ℕ) (q : Identity) (l : LeadsUntil doc nea
 
   -- ---- nobody else acts only so long
 
-  module _ (p slow fast wait needed : ℕ) (heir : IsHeir doc b e q p slow fast) (wait_is : IsEnough slow (retry_period doc p) wait) (needed_is : IsNeeded fast (retry_period doc p) needed)
+  module _ (p slow fast wait needed : ℕ) (rival : IsRival doc b e q p slow fast) (wait_is : IsEnough slow (retry_period doc p) wait) (needed_is : IsNeeded fast (retry_period doc p) needed)
       (enough most : ℕ) (enough_is : IsEnough slow (lease_duration doc q.process) enough) (most_is : IsGreatest (needed + 2 * near) (wait + 2 * far) enough most)
       (rest : ℕ) (rest_is : (rest ≡ 6 * far - 1) ⊎ ((doc.settings.fast_renew ≡ false) × (rest ≡ 6 * far - 2))) (within : b + most + wait + rest ≤ e) where
     abbrev n : ℕ
@@ -329,7 +329,7 @@ module _ (doc : Doc) (near far b e : ℕ) (q : Identity) (l : LeadsUntil doc nea
     some_wait = by_wait wait wait_is
       where
         by_wait : (k : ℕ) → retry_period doc p ≤ k * slow → 1 ≤ k
-        by_wait zero le = absurd (omega (arith, le, s.waits p heir.role))
+        by_wait zero le = absurd (omega (arith, le, s.waits p rival.role))
         by_wait (suc k) le = omega arith
 
     abbrev S : List Entry
@@ -339,7 +339,7 @@ module _ (doc : Doc) (near far b e : ℕ) (q : Identity) (l : LeadsUntil doc nea
     idle_ends idle = by_up (alive p S) refl
       where
         first_p : p < processes doc
-        first_p = controllers_first doc p heir.role
+        first_p = controllers_first doc p rival.role
 
         s_high : IsTail S (history doc (suc b))
         s_high = turn_tail doc (suc p) b (omega (arith, first_p))
@@ -351,8 +351,8 @@ module _ (doc : Doc) (near far b e : ℕ) (q : Identity) (l : LeadsUntil doc nea
 
         with_identity : (i : ℕ) → alive p S ≡ Some i → ⊥
         with_identity i up =
-            none_first doc near far e n s.one s.ways within c heir.role (steady c heir.role heir.other) (my_time c heir.role heir.other) none led_not (lease_duration doc q.process) (top c heir.role heir.other n within idle led_not room K late_K) lasts K (omega (arith, a_way, rest_least))
-            (given c heir.role heir.other n within idle led_not room K late_K) (no_writes c heir.role heir.other n within idle led_not room K late_K) slow fast wait needed b (omega (arith, a_way, rest_least)) heir.runs_least heir.runs_most (s.waits p heir.role) wait_is needed_is enough most enough_is most_is
+            none_first doc near far e n s.one s.ways within c rival.role (steady c rival.role rival.other) (my_time c rival.role rival.other) none led_not (lease_duration doc q.process) (top c rival.role rival.other n within idle led_not room K late_K) lasts K (omega (arith, a_way, rest_least))
+            (given c rival.role rival.other n within idle led_not room K late_K) (no_writes c rival.role rival.other n within idle led_not room K late_K) slow fast wait needed b (omega (arith, a_way, rest_least)) rival.runs_least rival.runs_most (s.waits p rival.role) wait_is needed_is enough most enough_is most_is
             G (omega (arith, some_wait, a_way, rest_least)) (omega (arith, some_wait, a_way, rest_least)) (omega (arith, a_way, rest_least, some_wait)) (ap (alive p) (restart_same doc G p i (at_turn doc p G) there) ∙ there)
           where
             c : Identity
@@ -365,18 +365,18 @@ module _ (doc : Doc) (near far b e : ℕ) (q : Identity) (l : LeadsUntil doc nea
             room = omega (arith, a_way, rest_least)
 
             none : (k : ℕ) → 0 ≤ k → k ≤ n → Acts doc c k → ⊥
-            none k from to = idle c heir.role heir.other k to
+            none k from to = idle c rival.role rival.other k to
 
             late : (h : List Entry) → IsTail S h → IsTail h (history doc (suc n)) → alive p h ≡ Some i
-            late h low high = persists doc near far 0 e n c heir.role (s.calls p heir.role).deadline (l.others p heir.role heir.other) within none (omega arith) S h s_low low high up
+            late h low high = persists doc near far 0 e n c rival.role (s.calls p rival.role).deadline (l.others p rival.role rival.other) within none (omega arith) S h s_low low high up
 
             led_not : (h : List Entry) → IsTail h (history doc (suc n)) → leads c h ≡ false
             led_not =
-                never_led doc near far 0 e n c heir.role (s.calls p heir.role).deadline (l.others p heir.role heir.other) within none (omega arith)
+                never_led doc near far 0 e n c rival.role (s.calls p rival.role).deadline (l.others p rival.role rival.other) within none (omega arith)
                 (late (history doc (suc n)) (tail_trans S (history doc (suc b)) (history doc (suc n)) s_high (later_tail doc (suc b) (suc n) (omega arith))) (tail_all (history doc (suc n))))
 
-            lasts : LastsFor (lease_duration doc q.process) (object_of (top c heir.role heir.other n within idle led_not room K late_K))
-            lasts = lasts_for doc q (history doc (b + far)) (of_top c heir.role heir.other n within idle led_not room K late_K)
+            lasts : LastsFor (lease_duration doc q.process) (object_of (top c rival.role rival.other n within idle led_not room K late_K))
+            lasts = lasts_for doc q (history doc (b + far)) (of_top c rival.role rival.other n within idle led_not room K late_K)
 
             there : alive p (at_turn doc p G) ≡ Some i
             there =
@@ -385,7 +385,7 @@ module _ (doc : Doc) (near far b e : ℕ) (q : Identity) (l : LeadsUntil doc nea
                 (tail_trans (at_turn doc p G) (history doc (suc G)) (history doc (suc n)) (turn_tail doc p G (omega (arith, first_p))) (later_tail doc (suc G) (suc n) (omega (arith, a_way, rest_least, some_wait))))
 
         by_up : (o : Option ℕ) → alive p S ≡ o → ⊥
-        by_up None is = true_is (sym heir.up ∙ ap has is)
+        by_up None is = true_is (sym rival.up ∙ ap has is)
         by_up (Some i) is = with_identity i is
 
     -- ---- who acts then
@@ -544,8 +544,8 @@ module _ (doc : Doc) (near far b e : ℕ) (q : Identity) (l : LeadsUntil doc nea
 -- ---- the law
 
 pub successors_lead : SuccessorsLead
-successors_lead doc near far b e q l s quiet replies renew p slow fast wait needed heir wait_is needed_is enough most enough_is most_is within =
-    followed doc near far b e q l s quiet p slow fast wait needed heir wait_is needed_is enough most enough_is most_is (last_ways doc far) (by_fast doc.settings.fast_renew refl) within renew replies
+successors_lead doc near far b e q l s quiet replies renew p slow fast wait needed rival wait_is needed_is enough most enough_is most_is within =
+    followed doc near far b e q l s quiet p slow fast wait needed rival wait_is needed_is enough most enough_is most_is (last_ways doc far) (by_fast doc.settings.fast_renew refl) within renew replies
   where
     by_fast : (t : Bool) → doc.settings.fast_renew ≡ t → (cond t (6 * far - 1) (6 * far - 2) ≡ 6 * far - 1) ⊎ ((doc.settings.fast_renew ≡ false) × (cond t (6 * far - 1) (6 * far - 2) ≡ 6 * far - 2))
     by_fast true is = inl refl
@@ -554,9 +554,9 @@ successors_lead doc near far b e q l s quiet replies renew p slow fast wait need
 -- ---- in whole beats
 
 pub successors_are_told : SuccessorsAreTold
-successors_are_told doc near far b e q l s quiet replies renew p slow fast heir some_slow some_fast within =
+successors_are_told doc near far b e q l s quiet replies renew p slow fast rival some_slow some_fast within =
     subst (λ n. IsFollowed doc b n e q) sum
-    (successors_lead doc near far b e q l s quiet replies renew p slow fast wait needed heir (rounded_is slow (retry_period doc p) some_slow).0 (rounded_is fast (retry_period doc p) some_fast).1 enough most
+    (successors_lead doc near far b e q l s quiet replies renew p slow fast wait needed rival (rounded_is slow (retry_period doc p) some_slow).0 (rounded_is fast (retry_period doc p) some_fast).1 enough most
     (rounded_is slow (lease_duration doc q.process) some_slow).0 ((bounds_are_exact (needed + 2 * near) (wait + 2 * far) enough).0 (omega (arith, s.one))).1 (omega (arith, sum, within)))
   where
     wait : ℕ

@@ -29,8 +29,8 @@ pub record OthersRenew (doc : Doc) (near far b e : ℕ) (q : Identity) : Type 0 
 abbrev pub RepliesCome : Doc → ℕ → ℕ → ℕ → Type 0
 RepliesCome doc far b p = (x : Entry) → In x (history doc b) → has (of_process p x.actor) ≡ true → IfSome (back_of x.actor x.fact) (λ s. IfSome s.comes (λ m. m < b + far))
 
--- an heir of q: another controller that is up after its turn at beat b, and whose clock goes from slow to fast in a beat from then on
-pub record IsHeir (doc : Doc) (b e : ℕ) (q : Identity) (p slow fast : ℕ) : Type 0 where
+-- a rival of q: another controller that is up after its turn at beat b, and whose clock goes from slow to fast in a beat from then on
+pub record IsRival (doc : Doc) (b e : ℕ) (q : Identity) (p slow fast : ℕ) : Type 0 where
   pub role : is_controller doc p ≡ true
   pub other : p ≡ q.process → ⊥
   pub up : has (alive p (at_turn doc (suc p) b)) ≡ true
@@ -46,17 +46,17 @@ pub record IsFollowed (doc : Doc) (b n e : ℕ) (q : Identity) : Type 0 where
   pub success : HasSuccess doc c b j
   pub stays : Stays doc c j e
 
--- the ways from a leader's silence to another's lead, beside the looks and the wait of an heir: an answer may show an older record until one way after
+-- the ways from a leader's silence to another's lead, beside the looks and the wait of a rival: an answer may show an older record until one way after
 -- the silence, and in that beat too where leaders renew without a Get
 abbrev pub last_ways : Doc → ℕ → ℕ
 last_ways doc far = cond doc.settings.fast_renew (6 * far - 1) (6 * far - 2)
 
--- where a leader in a calm falls silent at beat b, another one leads by the time that the looks of an heir take at most, its wait, and these ways;
+-- where a leader in a calm falls silent at beat b, another one leads by the time that the looks of a rival take at most, its wait, and these ways;
 -- and it stays
 abbrev pub SuccessorsLead : Type 0
 SuccessorsLead =
     (doc : Doc) (near far b e : ℕ) (q : Identity) → LeadsUntil doc near far b e q → Bears doc near far b e q → IsQuiet doc b e q.process → RepliesCome doc far b q.process → OthersRenew doc near far b e q
-    → (p slow fast wait needed : ℕ) → IsHeir doc b e q p slow fast → IsEnough slow (retry_period doc p) wait → IsNeeded fast (retry_period doc p) needed
+    → (p slow fast wait needed : ℕ) → IsRival doc b e q p slow fast → IsEnough slow (retry_period doc p) wait → IsNeeded fast (retry_period doc p) needed
     → (enough most : ℕ) → IsEnough slow (lease_duration doc q.process) enough → IsGreatest (needed + 2 * near) (wait + 2 * far) enough most
     → b + most + wait + last_ways doc far ≤ e → IsFollowed doc b (b + most + wait + last_ways doc far) e q
 
@@ -70,7 +70,7 @@ succession_bound doc near far p slow fast time = succession_beats near far (div_
 abbrev pub Succeeds : Doc → Type 0
 Succeeds doc =
     (near far b e : ℕ) (q : Identity) → LeadsUntil doc near far b e q → Bears doc near far b e q → IsQuiet doc b e q.process → RepliesCome doc far b q.process → OthersRenew doc near far b e q
-    → (p slow fast : ℕ) → IsHeir doc b e q p slow fast → 1 ≤ slow → 1 ≤ fast
+    → (p slow fast : ℕ) → IsRival doc b e q p slow fast → 1 ≤ slow → 1 ≤ fast
     → b + succession_bound doc near far p slow fast (lease_duration doc q.process) ≤ e → IsFollowed doc b (b + succession_bound doc near far p slow fast (lease_duration doc q.process)) e q
 
 abbrev pub SuccessorsAreTold : Type 0
