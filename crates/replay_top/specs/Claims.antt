@@ -9,10 +9,11 @@ use Rattle.history.specs.Spacing.{Spacing}
 use Rattle.script_reader.specs.declared.document.Document.{Document}
 use Rattle.script_reader.specs.Documents.{doc_of}
 use Rattle.trace_audit.specs.Alone.{entries_in, OneActs}
-use Rattle.replay_top.specs.declared.task.Task.TheVariants.{Audit}
+use Rattle.replay_top.specs.declared.asked.Asked.TheVariants.{Audit}
+use Rattle.replay_top.specs.declared.command.Command.TheVariants.{Asks}
+use Rattle.replay_top.specs.Commands.{command_of}
 use Rattle.replay_top.specs.Replays.{Replays, Shows, WhereGenerated, WhereReadUnderPremise, WhereReplayedUnderPremise}
 use Rattle.replay_top.specs.State.{ReadsBack}
-use Rattle.replay_top.specs.Tasks.{task_of}
 
 -- whoever acts is the stored holder, only one identity acts at a beat, queued taints are spaced, and pods are evicted when they are due,
 -- no earlier and no later than by the first tick that reaches the store
@@ -53,4 +54,4 @@ pub record IsWell (words : List (List ℕ)) (left : Option (List ℕ)) : Type 0 
   -- a state is read as what is stored after the beat
   pub reads_back : (d : Document) (beat : Beat) → Shows words left d beat → ReadsBack d beat.0
   -- in a trace that `audit` lets pass all acting lines of a beat are by one identity
-  pub alone : (bytes : List ℕ) → left ≡ Some bytes → task_of words ≡ Some Audit → OneActs (entries_in bytes)
+  pub alone : (bytes : List ℕ) → left ≡ Some bytes → command_of words ≡ Some (Asks Audit) → OneActs (entries_in bytes)

@@ -9,20 +9,21 @@ ghost use Rattle.world_core.specs.Worlds.{at_of, end_of, IsReady, WorldStands};
 ghost use Rattle.replay_top.specs.Claims.{IsSafe};
 ghost use Rattle.replay_top.specs.Generated.{counted_line, counts_text, document_of, generated_line, sizes_text, whole_counts};
 ghost use Rattle.replay_top.specs.Outcome.{Ends, IsRunEnd, unread};
+ghost use Rattle.replay_top.specs.Replies.{done};
 ghost use Rattle.replay_top.specs.Runs.{Runs};
 ghost use Rattle.replay_top.specs.Sizes.{AreWithin};
 ghost use Rattle.replay_top.specs.declared.sizes.Sizes.{Sizes};
 
 use crate::counts::Counts;
 use crate::sizes::Sizes;
-use crate::status::Status;
 use crate::trace::{beat_at, next_of};
-use byte_edge::{Failed, Sink, give_all};
+use byte_edge::Sink;
 use document_laws::lawful_documents_are_sound;
 use eviction_laws::evictions_are_timely;
 use itoa::Buffer;
 use kube_base::{NoMemory, Steps};
 use lease_laws::lease_is_safe;
+use run_edge::{Status, Verdict, tell};
 use spacing_laws::taints_are_spaced;
 use std::alloc::Global;
 use trace_writer::add;
@@ -39,7 +40,7 @@ pub(crate) fn write_generated<K: Sink, L>(
     steps: &mut Steps<L>,
 ) -> Status
     requires { AreWithin sizes }
-    ensures text { (left : List ℕ) → Ends (unread (generated_line sizes) left) (Some left) (K.taken sink.old) (K.taken sink.new) result }
+    ensures text { (left : List ℕ) → Ends (unread (done (generated_line sizes)) left) (Some left) (K.taken sink.old) (K.taken sink.new) result }
     ensures ended { IsRunEnd result }
     ensures sink_fault { result ≡ Status.SinkFault → Rose (K.faults sink.old) (K.faults sink.new) }
     ensures counted { steps.new ≤ steps.old + standing_beats (document_of sizes) }
@@ -47,10 +48,7 @@ pub(crate) fn write_generated<K: Sink, L>(
 {
     generated_documents_are_safe();
     match line_of(alloc, sizes, policies, steps) {
-        Ok(text) => match give_all(sink, &text) {
-            Ok(()) => Status::Done,
-            Err(Failed) => Status::SinkFault,
-        },
+        Ok(text) => tell(sink, Verdict::Done, &text),
         Err(NoMemory) => Status::OutOfMemory,
     }
 }
