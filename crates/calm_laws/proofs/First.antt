@@ -58,7 +58,7 @@ no_kind h = cc
 abbrev whole_entry : ℕ → ℕ → Actor → Fact → Entry
 whole_entry beat step who d = record { beat = beat; step = step; actor = who; fact = d }
 
-entry_is : (x : Entry) (step : ℕ) (q : Identity) (d : Fact) → x.step ≡ step → x.actor ≡ actor_of q → x.fact ≡ d → x ≡ entry x.beat step q d
+pub entry_is : (x : Entry) (step : ℕ) (q : Identity) (d : Fact) → x.step ≡ step → x.actor ≡ actor_of q → x.fact ≡ d → x ≡ entry x.beat step q d
 entry_is x step q d at by is =
     ap (λ (s : ℕ). whole_entry x.beat s x.actor x.fact) at ∙ ap (λ who. whole_entry x.beat step who x.fact) by ∙ ap (λ d. whole_entry x.beat step (actor_of q) d) is
 

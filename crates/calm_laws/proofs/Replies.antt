@@ -54,7 +54,7 @@ fits_of q m seen (Some x) r lease is = by_test (is_blocked q m.now seen lease.0)
     by_test false is = subst (FitsStored (Some x)) (asks_same (Update election x.version (updated q m lease.0)) r is) (refl, refl)
 
 -- a write that was answered with a version wrote
-wrote_by : (r : Request) (h : List Entry) (version : Version) → IsWrite r → key_of r ≡ election → answer r h ≡ Done version → has (at_key election (request_write r (written r h))) ≡ true
+pub wrote_by : (r : Request) (h : List Entry) (version : Version) → IsWrite r → key_of r ≡ election → answer r h ≡ Done version → has (at_key election (request_write r (written r h))) ≡ true
 wrote_by (Create key lease) h version w is done =
     ap (λ reply. has (at_key election (request_write (Create key lease) (if_done reply (object.Lease lease))))) done ∙ ap (λ k. has (when (key_eq k election) (Some (object.Lease lease)))) is
 wrote_by (Update key given lease) h version w is done =
