@@ -12,4 +12,5 @@ pub mod Sizes
 pub mod Spoken
 pub mod State
 pub mod Summary
+pub mod Timely
 pub mod Traces

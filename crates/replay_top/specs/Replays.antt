@@ -35,6 +35,10 @@ WhereReplayedUnderPremise words left P = (d : Document) → Replays words left d
 abbrev pub WhereReadUnderPremise : (Doc → Type 0) → Type 0
 WhereReadUnderPremise P = (bytes : List ℕ) (d : Document) → document_walk bytes ≡ Ok d → lease_premise (doc_of d) ≡ true → P (doc_of d)
 
+-- this holds of every document that can be read
+abbrev pub WhereRead : (Doc → Type 0) → Type 0
+WhereRead P = (bytes : List ℕ) (d : Document) → document_walk bytes ≡ Ok d → P (doc_of d)
+
 -- these bytes are no document that is read: there are more than a document may have, or they are refused
 abbrev pub IsUnread : List ℕ → Type 0
 IsUnread bytes = (16777216 < length bytes) ⊎ ((r : Refusal) × (document_walk bytes ≡ Err r))

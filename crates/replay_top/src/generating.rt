@@ -12,19 +12,23 @@ ghost use Rattle.replay_top.specs.Outcome.{Ends, IsRunEnd, unread};
 ghost use Rattle.replay_top.specs.Replies.{done};
 ghost use Rattle.replay_top.specs.Runs.{Runs};
 ghost use Rattle.replay_top.specs.Sizes.{AreWithin};
+ghost use Rattle.replay_top.specs.Timely.{IsTimely};
 ghost use Rattle.replay_top.specs.declared.sizes.Sizes.{Sizes};
 
 use crate::counts::Counts;
 use crate::sizes::Sizes;
 use crate::trace::{beat_at, next_of};
 use byte_edge::Sink;
+use calm_laws::takeovers_are_bounded;
 use document_laws::lawful_documents_are_sound;
 use eviction_laws::evictions_are_timely;
+use gap_laws::{gaps_last, others_wait};
 use itoa::Buffer;
 use kube_base::{NoMemory, Steps};
 use lease_laws::lease_is_safe;
 use run_edge::{Status, Verdict, tell};
 use spacing_laws::taints_are_spaced;
+use stay_laws::leaders_stay;
 use std::alloc::Global;
 use trace_writer::add;
 use world_core::World;
@@ -45,6 +49,7 @@ pub(crate) fn write_generated<K: Sink, L>(
     ensures sink_fault { result ≡ Status.SinkFault → Rose (K.faults sink.old) (K.faults sink.new) }
     ensures counted { steps.new ≤ steps.old + standing_beats (document_of sizes) }
     ensures safe { IsSafe (document_of sizes) }
+    ensures timely { IsTimely (document_of sizes) }
 {
     generated_documents_are_safe();
     match line_of(alloc, sizes, policies, steps) {
@@ -55,13 +60,18 @@ pub(crate) fn write_generated<K: Sink, L>(
 
 /// What was proved of every generated document, for which nothing is done.
 fn generated_documents_are_safe()
-    ensures { (sizes : Sizes) → AreWithin sizes → IsSafe (document_of sizes) }
+    ensures safe { (sizes : Sizes) → AreWithin sizes → IsSafe (document_of sizes) }
+    ensures timely { (sizes : Sizes) → AreWithin sizes → IsTimely (document_of sizes) }
 {
     generated_documents_are_lawful();
     lawful_documents_are_sound();
     lease_is_safe();
     taints_are_spaced();
     evictions_are_timely();
+    takeovers_are_bounded();
+    leaders_stay();
+    gaps_last();
+    others_wait();
 }
 
 /// The line of the generated document of these sizes, which is run.

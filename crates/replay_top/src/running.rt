@@ -24,14 +24,17 @@ use crate::reading::document_in;
 use crate::state::write_state;
 use crate::trace::write_trace;
 use byte_edge::{Sink, Source, TakeFault};
+use calm_laws::takeovers_are_bounded;
 use document_laws::{documents_are_lawful, lawful_documents_are_sound};
 use eviction_laws::evictions_are_timely;
+use gap_laws::{gaps_last, others_wait};
 use kube_base::Steps;
 use lease_laws::lease_is_safe;
 use manifest_json::ReadFault;
 use run_edge::{Status, Verdict, ask, take_input, tell_refusal, tell_too_large, tell_usage};
 use script_reader::Document;
 use spacing_laws::taints_are_spaced;
+use stay_laws::leaders_stay;
 use std::alloc::Global;
 use trace_writer::WriteFault;
 use zone_state::Policies;
@@ -95,6 +98,10 @@ fn documents_are_safe()
     lease_is_safe();
     taints_are_spaced();
     evictions_are_timely();
+    takeovers_are_bounded();
+    leaders_stay();
+    gaps_last();
+    others_wait();
 }
 
 /// Reads the document that the source has and runs it.

@@ -10,6 +10,7 @@ use Rattle.replay_top.specs.Commands.{command_of}
 use Rattle.replay_top.specs.Generated.{document_of, generated_line}
 use Rattle.replay_top.specs.Outcome.{Ends, outcome, unread, usage}
 use Rattle.replay_top.specs.Replies.{done, reply_to, run_reply}
+use Rattle.replay_top.specs.Timely.{IsTimely}
 use Rattle.replay_top.proofs.Claimed.{claims-hold, either}
 use Rattle.replay_top.proofs.Endings.{audited-alone, ends-asked, ends-moved, ends-unread, ends-whole, not-done, not-source, outcome-of, run-end, run-undone}
 use Rattle.replay_top.proofs.running.run.Goals as goal
@@ -47,6 +48,7 @@ returns-in-Some-Asks-clause-source_fault g c fault = (c.ask.ensures.source_fault
 pub returns-in-Some-Asks-clause-claims : goal.returns-in-Some-Asks-clause-claims
 returns-in-Some-Asks-clause-claims g c =
     claims-hold (map string_bytes c.args.words.now.items) (g.S.Source.left c.args.source.now) c.documents_are_safe.ensures
+    (λ sizes is. absurd (let never : Some (Asks c.in-Some-Asks.asked) ≡ Some (Generates sizes) = ap Some (sym c.in-Some-Asks.field-0-is) ∙ sym c.in-Some-Asks.is ∙ c.command_in.ensures.command ∙ is in cc))
     (λ sizes is. absurd (let never : Some (Asks c.in-Some-Asks.asked) ≡ Some (Generates sizes) = ap Some (sym c.in-Some-Asks.field-0-is) ∙ sym c.in-Some-Asks.is ∙ c.command_in.ensures.command ∙ is in cc))
 
 pub returns-in-Some-Asks-clause-well : goal.returns-in-Some-Asks-clause-well
@@ -104,6 +106,7 @@ returns-in-Some-Runs-clause-source_fault g c fault = (c.run_document.ensures.sou
 pub returns-in-Some-Runs-clause-claims : goal.returns-in-Some-Runs-clause-claims
 returns-in-Some-Runs-clause-claims g c =
     claims-hold (map string_bytes c.args.words.now.items) (g.S.Source.left c.args.source.now) c.documents_are_safe.ensures
+    (λ sizes is. absurd (let never : Some (Runs c.in-Some-Runs.run) ≡ Some (Generates sizes) = ap Some (sym c.in-Some-Runs.field-0-is) ∙ sym c.in-Some-Runs.is ∙ c.command_in.ensures.command ∙ is in cc))
     (λ sizes is. absurd (let never : Some (Runs c.in-Some-Runs.run) ≡ Some (Generates sizes) = ap Some (sym c.in-Some-Runs.field-0-is) ∙ sym c.in-Some-Runs.is ∙ c.command_in.ensures.command ∙ is in cc))
 
 pub returns-in-Some-Runs-clause-well : goal.returns-in-Some-Runs-clause-well
@@ -169,6 +172,10 @@ returns-in-Some-Generates-clause-claims g c =
     let found : Some (Generates c.in-Some-Generates.sizes) ≡ Some (Generates sizes) = ap Some (sym c.in-Some-Generates.field-0-is) ∙ sym c.in-Some-Generates.is ∙ c.command_in.ensures.command ∙ is in
     let same : c.in-Some-Generates.sizes ≡ sizes = cc in
     subst (λ s. IsSafe (document_of s)) same c.write_generated.ensures.safe)
+    (λ sizes is.
+    let found : Some (Generates c.in-Some-Generates.sizes) ≡ Some (Generates sizes) = ap Some (sym c.in-Some-Generates.field-0-is) ∙ sym c.in-Some-Generates.is ∙ c.command_in.ensures.command ∙ is in
+    let same : c.in-Some-Generates.sizes ≡ sizes = cc in
+    subst (λ s. IsTimely (document_of s)) same c.write_generated.ensures.timely)
 
 pub returns-in-Some-Generates-clause-well : goal.returns-in-Some-Generates-clause-well
 returns-in-Some-Generates-clause-well g c done =
@@ -221,6 +228,7 @@ returns-in-None-clause-usage g c other =
 pub returns-in-None-clause-claims : goal.returns-in-None-clause-claims
 returns-in-None-clause-claims g c =
     claims-hold (map string_bytes c.args.words.now.items) (g.S.Source.left c.args.source.now) c.documents_are_safe.ensures
+    (λ sizes is. absurd (let never : None ≡ Some (Generates sizes) = sym c.in-None.is ∙ c.command_in.ensures.command ∙ is in cc))
     (λ sizes is. absurd (let never : None ≡ Some (Generates sizes) = sym c.in-None.is ∙ c.command_in.ensures.command ∙ is in cc))
 
 pub returns-in-None-clause-well : goal.returns-in-None-clause-well
