@@ -1,5 +1,5 @@
 -- Which verdicts a run may come to.
-use Rattle.std.proofs.Common.{◌≡◌, ℕ, nat_le, Bool, true, false, cond, List, [], length, drop, codes, Option, Some, None, Result, Ok, Err}
+use Rattle.std.proofs.Common.{◌≡◌, ℕ, nat_le, Bool, true, false, cond, List, [], ◌++◌, length, drop, codes, decimal, Option, Some, None, Result, Ok, Err}
 use Rattle.manifest_json.specs.declared.fault.Refusal.{Refusal}
 use Rattle.pod_inputs.specs.Answers.{collect_answer, place_answer}
 use Rattle.run_edge.specs.declared.status.Verdict.TheVariants.{Done, Safe, Refused, Usage}
@@ -16,8 +16,11 @@ use Rattle.replay_top.specs.declared.command.Run.{Run}
 use Rattle.replay_top.specs.declared.command.Run.TheVariants.{Replay, State}
 use Rattle.replay_top.specs.Commands.{command_of}
 use Rattle.replay_top.specs.Outcome.{outcome, outcome_of, unread}
-use Rattle.replay_top.specs.Replies.{answered, done, on_document, on_pods, on_trace, reply_to, run_reply, state_answer}
+use Rattle.replay_top.specs.Generated.{generated_line}
+use Rattle.replay_top.specs.Replies.{answered, done, on_document, on_pods, on_trace, reply_to, report_text, run_reply, state_answer}
 use Rattle.replay_top.specs.State.{state_text}
+use Rattle.replay_top.specs.Summary.{summary}
+use Rattle.replay_top.specs.Traces.{trace}
 
 -- a reply isn't that something is safe
 abbrev IsTold : Reply → Type 0
@@ -30,12 +33,12 @@ refusal-told : (code : ℕ) (path : List ℕ) → IsTold (refusal code path)
 refusal-told code path same = let never : Refused ≡ Safe = same in cc
 
 on_document-told : (r : Result Document Refusal) → IsTold (on_document r)
-on_document-told (Ok d) = done-told _
+on_document-told (Ok d) = done-told (summary d)
 on_document-told (Err r) = refusal-told r.code r.path
 
 on_trace-told : (r : Result Report Fault) → IsTold (on_trace r)
-on_trace-told (Ok report) = done-told _
-on_trace-told (Err fault) = refusal-told _ _
+on_trace-told (Ok report) = done-told (report_text report)
+on_trace-told (Err fault) = refusal-told fault.code (codes "/" ++ decimal fault.line)
 
 on_pods-told : (r : Result (List ℕ) Refusal) → IsTold (on_pods r)
 on_pods-told (Ok text) = done-told text
@@ -51,11 +54,11 @@ state-told : (d : Document) (b : ℕ) → IsTold (state_answer d b)
 state-told d b = by_test (nat_le b d.settings.end_beat.0)
   where
     by_test : (t : Bool) → IsTold (cond t (done (state_text d b)) (refusal 34 (codes "/")))
-    by_test true = done-told _
-    by_test false = refusal-told _ _
+    by_test true = done-told (state_text d b)
+    by_test false = refusal-told 34 (codes "/")
 
 answered-told : (run : Run) (r : Result Document Refusal) → IsTold (answered run r)
-answered-told Replay (Ok d) = done-told _
+answered-told Replay (Ok d) = done-told (trace d)
 answered-told (State beat) (Ok d) = state-told d beat.0
 answered-told run (Err r) = refusal-told r.code r.path
 
@@ -65,13 +68,13 @@ read-told answer bytes told = by_size (nat_le (length bytes) 16777216)
   where
     by_size : (b : Bool) → IsTold (cond b (unread (answer bytes) []) (unread (refusal 33 (codes "/")) (drop 16777217 bytes))).reply
     by_size true = told
-    by_size false = refusal-told _ _
+    by_size false = refusal-told 33 (codes "/")
 
 command-told : (command : Option Command) (bytes : List ℕ) → IsTold (outcome_of command bytes).reply
 command-told (Some (Asks asked)) bytes = read-told (reply_to asked) bytes (asked-told asked bytes)
 command-told (Some (Runs run)) bytes = read-told (run_reply run) bytes (answered-told run (document_walk bytes))
-command-told (Some (Generates sizes)) bytes = done-told _
-command-told None bytes same = let never : Usage ≡ Safe = same in cc
+command-told (Some (Generates sizes)) bytes = done-told (generated_line sizes)
+command-told None bytes = λ same. let never : Usage ≡ Safe = same in cc
 
 -- no command of the program tells that something is safe: it is done, refused, or no command
 pub never-safe : (words : List (List ℕ)) (bytes : List ℕ) → (outcome words bytes).reply.verdict ≡ Safe → ⊥

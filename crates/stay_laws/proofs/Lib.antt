@@ -6,6 +6,7 @@ pub mod Idle
 pub mod Trying
 pub mod Closing
 pub mod Sendings
+pub mod Given
 pub mod Succeeded
 pub mod Written
 pub mod Renewing

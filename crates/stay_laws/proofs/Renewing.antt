@@ -43,6 +43,7 @@ use Rattle.stay_laws.proofs.Trying.{HasTried, has_tried}
 use Rattle.stay_laws.proofs.Closing as closing
 use Rattle.stay_laws.proofs.Closing.{IsReplied, is_replied}
 use Rattle.stay_laws.proofs.Sendings.{IsFree, is_free, IsWay, way, answer_high}
+use Rattle.stay_laws.proofs.Given.{IsGiven}
 use Rattle.stay_laws.proofs.Succeeded.{IsSet}
 use Rattle.stay_laws.proofs.Written as wrote
 
@@ -99,21 +100,15 @@ record Round (doc : Doc) (near far e : ℕ) (q : Identity) (x : Entry) (T : List
   within : at ≤ e
 
 module _ (doc : Doc) (near far a e : ℕ) (sound : IsSound doc) (calm : IsCalm doc near far a e) (time : AreInTime doc near far a e) (one : 1 ≤ near) (end : e ≤ end_beat doc)
-    (q : Identity) (role : is_controller doc q.process ≡ true) (steady : IsSteady doc near far a e q.process) (renews : RenewsInTime doc near far a e q) (y : ℕ) (to : y ≤ e) (s : HasSuccess doc q a y) where
+    (q : Identity) (role : is_controller doc q.process ≡ true) (steady : IsSteady doc near far a e q.process) (renews : RenewsInTime doc near far a e q) (y : ℕ) (to : y ≤ e) (s : IsGiven doc near far a q y) where
   my_time : IsInTime doc far a e q.process
   my_time = time q.process role steady
 
   abbrev o : Origin doc q s.call (Done s.version) s.before y
-  o = wrote.o doc near far a e sound calm time one end q role steady renews y to s
-
-  ways : IsWay near far o.begun.f.beat o.e.beat y
-  ways = wrote.ways doc near far a e sound calm time one end q role steady renews y to s
-
-  since_a : a < o.e.beat
-  since_a = wrote.since_a doc near far a e sound calm time one end q role steady renews y to s
+  o = s.o
 
   from : a < y
-  from = omega (arith, ways.comes_least, since_a)
+  from = omega (arith, s.least, s.from, one)
 
   abbrev start : IsSet doc q y s.version (wrote.what doc near far a e sound calm time one end q role steady renews y to s).lease (entry y 3 q (Delivers s.call (Done s.version) true) ∷ s.before)
   start = wrote.start doc near far a e sound calm time one end q role steady renews y to s
@@ -293,7 +288,7 @@ module _ (doc : Doc) (near far a e : ℕ) (sound : IsSound doc) (calm : IsCalm d
     shown_low = entry y 3 q (Delivers s.call (Done s.version) true) ∷ s.before
 
     some_way : 1 ≤ far
-    some_way = omega (arith, ways.sent_least, ways.sent_most, one)
+    some_way = omega (arith, s.least, s.most, one)
 
     tried : HasTried doc q low at (Some (s.version, lease)) (history doc (suc g))
     tried = has_tried doc near far a e q role steady at y low start.leader from (Some (s.version, lease)) start.idle start.nothing g d.from (omega (arith, room)) d.reached (timely g (omega (arith, some_way)))
@@ -313,7 +308,7 @@ module _ (doc : Doc) (near far a e : ℕ) (sound : IsSound doc) (calm : IsCalm d
     within_n = omega (arith, d.from)
 
     window : n ≤ o.e.beat + renews.wait + 5 * far
-    window = omega (arith, d.upto, last_by, ways.comes_most)
+    window = omega (arith, d.upto, last_by, s.most)
 
     abbrev own : Own doc q o.e.beat (o.e ∷ o.low)
     own = wrote.first_own doc near far a e sound calm time one end q role steady renews y to s acts_now n within_n room window

@@ -95,7 +95,7 @@ module _ (doc : Doc) (near far a e : ℕ) (sound : IsSound doc) (calm : IsCalm d
 
   -- ---- a rival's write over q's record comes late
 
-  module _ (x : Entry) (T : List Entry) (at : IsTail (x ∷ T) all) (w : Won doc x T) (writes : has (at_key election (write_of x.fact)) ≡ true) (from : ℕ) (after : a < from) (own : Own doc q from T) where
+  module _ (x : Entry) (T : List Entry) (at : IsTail (x ∷ T) all) (w : Won doc x T) (writes : has (at_key election (write_of x.fact)) ≡ true) (from : ℕ) (after : a ≤ from) (own : Own doc q from T) where
     -- what is known of the call
     took : Took doc plainly (record { who = w.who; call = w.call; reply = w.reply; comes = w.comes }) x.beat T
     took = (topped x T at w).1
@@ -174,7 +174,7 @@ module _ (doc : Doc) (near far a e : ℕ) (sound : IsSound doc) (calm : IsCalm d
 
   -- ---- after its write all are q's
 
-  module _ (k : ℕ) (from : a ≤ k) (to : k ≤ e) (acting : Acts doc q k) (x0 : Entry) (T0 : List Entry) (at0 : IsTail (x0 ∷ T0) all) (mine0 : x0.actor ≡ actor_of q) (writes0 : has (at_key election (write_of x0.fact)) ≡ true) (after : a < x0.beat) where
+  module _ (k : ℕ) (from : a ≤ k) (to : k ≤ e) (acting : Acts doc q k) (x0 : Entry) (T0 : List Entry) (at0 : IsTail (x0 ∷ T0) all) (mine0 : x0.actor ≡ actor_of q) (writes0 : has (at_key election (write_of x0.fact)) ≡ true) (after : a ≤ x0.beat) (some : 1 ≤ x0.beat) where
     -- it isn't stopped
     unstopped : (T : List Entry) → IsTail T all → stops q T ≡ 0
     unstopped T at = let none = never_stopped doc near far a e q steady sound end k from to acting in omega (arith, none, count_tail (λ x. is_stop x.fact && is_by q x.actor) T all at)
@@ -206,7 +206,7 @@ module _ (doc : Doc) (near far a e : ℕ) (sound : IsSound doc) (calm : IsCalm d
 
     -- its first write
     pub won0 : Won doc x0 T0
-    won0 = is_won doc sound e end x0 T0 at0 (omega (arith, after)) writes0
+    won0 = is_won doc sound e end x0 T0 at0 some writes0
 
     module _ (n : ℕ) (within : n ≤ e) (soon : n ≤ x0.beat + renews.wait + 5 * far) where
       -- positions up to beat n
@@ -233,7 +233,7 @@ module _ (doc : Doc) (near far a e : ℕ) (sound : IsSound doc) (calm : IsCalm d
       pub won_at : (x : Entry) (T : List Entry) → IsTail (x ∷ T) (history doc (suc n)) → IsTail (x0 ∷ T0) T → has (at_key election (write_of x.fact)) ≡ true → Won doc x T
       won_at x T at low writes =
           is_won doc sound e end x T (in_all (x ∷ T) at)
-          (omega (arith, after, not_sooner (history doc (suc n)) (entries_are_ordered doc (suc n)) x T at x0 (in_head x0 T0 T low))) writes
+          (omega (arith, some, not_sooner (history doc (suc n)) (entries_are_ordered doc (suc n)) x T at x0 (in_head x0 T0 T low))) writes
 
       -- one more entry
       more : (x : Entry) (T : List Entry) → IsTail (x ∷ T) (history doc (suc n)) → IsTail (x0 ∷ T0) T → Own doc q x0.beat T → (o : Option (Option Object)) → at_key election (write_of x.fact) ≡ o → Own doc q x0.beat (x ∷ T)

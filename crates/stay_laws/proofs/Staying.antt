@@ -19,7 +19,7 @@ use Rattle.takeover_laws.specs.Calm.{IsSteady, IsCalm}
 use Rattle.calm_laws.proofs.Origins.{Origin}
 use Rattle.stay_laws.specs.Stays.{HasSuccess, RenewsInTime, Stays, LeadersStay}
 use Rattle.stay_laws.proofs.Closing.{within_below}
-use Rattle.stay_laws.proofs.Sendings.{IsWay}
+use Rattle.stay_laws.proofs.Given.{IsGiven, given_of}
 use Rattle.stay_laws.proofs.Written as wrote
 use Rattle.stay_laws.proofs.Renewing.{Due, due_or_ahead, comes_by, soon, acts_while, acts_now, Next, next_success}
 
@@ -39,7 +39,7 @@ module _ (doc : Doc) (near far a e : ℕ) (sound : IsSound doc) (calm : IsCalm d
     acts : (k : ℕ) → y ≤ k → k < next → Acts doc q k
     success : HasSuccess doc q a next
 
-  module _ (y : ℕ) (to : y ≤ e) (s : HasSuccess doc q a y) where
+  module _ (y : ℕ) (to : y ≤ e) (s : IsGiven doc near far a q y) where
     abbrev DueBy : ℕ → Type 0
     DueBy last = Due doc near far a e sound calm time one end q role steady renews y to s last
 
@@ -83,23 +83,20 @@ module _ (doc : Doc) (near far a e : ℕ) (sound : IsSound doc) (calm : IsCalm d
     alone : (n : ℕ) → y ≤ n → n ≤ e → n ≤ y + renews.wait + 4 * far → (x : Entry) (T : List Entry) → IsTail (x ∷ T) (history doc (suc n)) → y ≤ x.beat → has (at_key election (write_of x.fact)) ≡ true → x.actor ≡ actor_of q
     alone n ge within bound x T stands since writes =
         wrote.its_writes doc near far a e sound calm time one end q role steady renews y to s (acts_now doc near far a e sound calm time one end q role steady renews y to s) n ge within
-        (omega (arith, bound, ways.comes_most)) x T stands (by_place (tails_meet (o.e ∷ o.low) (x ∷ T) (history doc (suc e)) (wrote.write_high doc near far a e sound calm time one end q role steady renews y to s) high)) writes
+        (omega (arith, bound, s.most)) x T stands (by_place (tails_meet (o.e ∷ o.low) (x ∷ T) (history doc (suc e)) (wrote.write_high doc near far a e sound calm time one end q role steady renews y to s) high)) writes
       where
         o : Origin doc q s.call (Done s.version) s.before y
-        o = wrote.o doc near far a e sound calm time one end q role steady renews y to s
-
-        ways : IsWay near far o.begun.f.beat o.e.beat y
-        ways = wrote.ways doc near far a e sound calm time one end q role steady renews y to s
+        o = s.o
 
         high : IsTail (x ∷ T) (history doc (suc e))
         high = tail_trans (x ∷ T) (history doc (suc n)) (history doc (suc e)) stands (later_tail doc (suc n) (suc e) (omega (arith, within)))
 
         by_place : IsTail (o.e ∷ o.low) (x ∷ T) ⊎ IsTail (x ∷ T) (o.e ∷ o.low) → IsTail (o.e ∷ o.low) T
-        by_place (inl (inl is)) = absurd (omega (arith, ap (λ (z : Entry). z.beat) (same_head o.e x o.low T is), since, ways.comes_least, one))
+        by_place (inl (inl is)) = absurd (omega (arith, ap (λ (z : Entry). z.beat) (same_head o.e x o.low T is), since, s.least, one))
         by_place (inl (inr below)) = below
-        by_place (inr (inl is)) = absurd (omega (arith, ap (λ (z : Entry). z.beat) (same_head x o.e T o.low is), since, ways.comes_least, one))
+        by_place (inr (inl is)) = absurd (omega (arith, ap (λ (z : Entry). z.beat) (same_head x o.e T o.low is), since, s.least, one))
         by_place (inr (inr above)) =
-            absurd (⊎_elim (λ lt. omega (arith, lt, since, ways.comes_least, one)) (λ here. omega (arith, here.0, since, ways.comes_least, one))
+            absurd (⊎_elim (λ lt. omega (arith, lt, since, s.least, one)) (λ here. omega (arith, here.0, since, s.least, one))
             (within_below (history doc (suc e)) (entries_are_ordered doc (suc e)) o.e o.low (wrote.write_high doc near far a e sound calm time one end q role steady renews y to s) x (in_head x T o.low above)))
 
     ended : Ending y → Stays doc q y e
@@ -117,22 +114,25 @@ module _ (doc : Doc) (near far a e : ℕ) (sound : IsSound doc) (calm : IsCalm d
             (tail_trans (x ∷ T) (history doc (suc x.beat)) (history doc (suc g.next)) (in_own_beat doc (suc e) x T stands) (later_tail doc (suc x.beat) (suc g.next) (omega (arith, lt)))) since writes
 
   -- by the number of beats that are left
-  stays : (i y : ℕ) → y ≤ e → e ≤ y + i → HasSuccess doc q a y → Stays doc q y e
+  stays : (i y : ℕ) → y ≤ e → e ≤ y + i → IsGiven doc near far a q y → Stays doc q y e
   stays zero y to most s = by_step (goes_on y to s)
     where
       by_step : Ending y ⊎ Going y → Stays doc q y e
       by_step (inl done) = ended y to s done
       by_step (inr g) = absurd (omega (arith, g.later, g.upto, most))
-  stays (suc i) y to most s = by_step (goes_on y to s) (λ g. stays i g.next g.upto (omega (arith, g.later, most)) g.success)
+  stays (suc i) y to most s = by_step (goes_on y to s) (λ g. stays i g.next g.upto (omega (arith, g.later, most)) (given_of doc near far a e q role steady one g.next g.upto g.success))
     where
       by_step : Ending y ⊎ Going y → ((g : Going y) → Stays doc q g.next e) → Stays doc q y e
       by_step (inl done) on = ended y to s done
       by_step (inr g) on = went_on y to s g (on g)
 
+  pub given_stays : (y : ℕ) → y ≤ e → IsGiven doc near far a q y → Stays doc q y e
+  given_stays y to s = stays (e - y) y to (omega (arith, to)) s
+
 -- ---- the law
 
 pub leaders_stay : LeadersStay
-leaders_stay doc near far a e sound calm time one ways end q role steady renews j s = ⊎_elim over (λ le. stays doc near far a e sound calm time one end q role steady renews (e - j) j le (omega (arith, le)) s) (cases_lt e j)
+leaders_stay doc near far a e sound calm time one ways end q role steady renews j s = ⊎_elim over (λ le. given_stays doc near far a e sound calm time one end q role steady renews j le (given_of doc near far a e q role steady one j le s)) (cases_lt e j)
   where
     -- a success after the span
     over : e < j → Stays doc q j e

@@ -25,14 +25,15 @@ use Rattle.takeover_laws.specs.Acting.{AreInTime}
 use Rattle.takeover_laws.specs.Calm.{IsSteady, IsCalm}
 use Rattle.takeover_laws.proofs.Writers.{Sending, sending_of}
 use Rattle.calm_laws.proofs.Begun.{waits_between}
-use Rattle.calm_laws.proofs.Origins.{Origin, origin}
+use Rattle.calm_laws.proofs.Origins.{Origin}
 use Rattle.calm_laws.proofs.Replies.{wrote_by}
 use Rattle.gap_laws.proofs.Waits.{Topped, Took, WaitedFor}
-use Rattle.stay_laws.specs.Stays.{HasSuccess, RenewsInTime}
+use Rattle.stay_laws.specs.Stays.{RenewsInTime}
 use Rattle.stay_laws.proofs.Won.{Won}
 use Rattle.stay_laws.proofs.Rivals.{Own, plainly, topped, won0, own_at, own_writes, won_at}
 use Rattle.stay_laws.proofs.Closing.{within_below}
-use Rattle.stay_laws.proofs.Sendings.{IsFree, is_free, key_is, IsWay, answer_high, sending_high, free, way}
+use Rattle.stay_laws.proofs.Sendings.{IsFree, is_free, key_is, answer_high, sending_high}
+use Rattle.stay_laws.proofs.Given.{IsGiven}
 use Rattle.stay_laws.proofs.Succeeded.{IsSuccess, success_is, IsSet, is_set}
 
 abbrev reply_or : Reply → Fact → Reply
@@ -51,22 +52,16 @@ pub record IsSentSince (q : Identity) (low : List Entry) (call : Call) (h : List
   pub idle : call_in q before ≡ None
 
 module _ (doc : Doc) (near far a e : ℕ) (sound : IsSound doc) (calm : IsCalm doc near far a e) (time : AreInTime doc near far a e) (one : 1 ≤ near) (end : e ≤ end_beat doc)
-    (q : Identity) (role : is_controller doc q.process ≡ true) (steady : IsSteady doc near far a e q.process) (renews : RenewsInTime doc near far a e q) (y : ℕ) (to : y ≤ e) (s : HasSuccess doc q a y) where
+    (q : Identity) (role : is_controller doc q.process ≡ true) (steady : IsSteady doc near far a e q.process) (renews : RenewsInTime doc near far a e q) (y : ℕ) (to : y ≤ e) (s : IsGiven doc near far a q y) where
   -- the reply, its answer and its call's sending
   abbrev pub reply : Entry
   reply = entry y 3 q (Delivers s.call (Done s.version) true)
 
-  pub o : Origin doc q s.call (Done s.version) s.before y
-  o = origin doc (suc y) q reply s.before s.call (Done s.version) s.position refl refl
+  abbrev pub o : Origin doc q s.call (Done s.version) s.before y
+  o = s.o
 
-  sender : IsFree q o.begun.f o.begun.before s.call
-  sender = free doc near far a e q role steady s.call (Done s.version) s.before y s.position o to
-
-  pub ways : IsWay near far o.begun.f.beat o.e.beat y
-  ways = way doc near far a e q role steady s.call (Done s.version) s.before y s.position o to (omega (arith, s.since, sender.sent))
-
-  pub since_a : a < o.e.beat
-  since_a = omega (arith, ways.sent_least, s.since, sender.sent, one)
+  some_beat : 1 ≤ o.e.beat
+  some_beat = let lt = s.sent in omega (arith, lt)
 
   all_of : (h : List Entry) → IsTail h (history doc (suc y)) → IsTail h (history doc (suc e))
   all_of h at = tail_trans h (history doc (suc y)) (history doc (suc e)) at (later_tail doc (suc y) (suc e) (omega (arith, to)))
@@ -103,14 +98,14 @@ module _ (doc : Doc) (near far a e : ℕ) (sound : IsSound doc) (calm : IsCalm d
 
   module _ (acting : Acts doc q y) (n : ℕ) (ge : y ≤ n) (within : n ≤ e) (soon : n ≤ o.e.beat + renews.wait + 5 * far) where
     pub own : (h : List Entry) → IsTail (o.e ∷ o.low) h → IsTail h (history doc (suc n)) → Own doc q o.e.beat h
-    own = own_at doc near far a e sound calm time one end q role steady renews y (omega (arith, ways.comes_least, since_a)) to acting o.e o.low write_high o.actor writes since_a n within soon
+    own = own_at doc near far a e sound calm time one end q role steady renews y (omega (arith, s.least, s.from)) to acting o.e o.low write_high o.actor writes s.from some_beat n within soon
 
     pub its_writes : (x : Entry) (T : List Entry) → IsTail (x ∷ T) (history doc (suc n)) → IsTail (o.e ∷ o.low) T → has (at_key election (write_of x.fact)) ≡ true → x.actor ≡ actor_of q
-    its_writes = own_writes doc near far a e sound calm time one end q role steady renews y (omega (arith, ways.comes_least, since_a)) to acting o.e o.low write_high o.actor writes since_a n within soon
+    its_writes = own_writes doc near far a e sound calm time one end q role steady renews y (omega (arith, s.least, s.from)) to acting o.e o.low write_high o.actor writes s.from some_beat n within soon
 
     -- what it wrote
     abbrev won : Won doc o.e o.low
-    won = won0 doc near far a e sound calm time one end q role steady renews y (omega (arith, ways.comes_least, since_a)) to acting o.e o.low write_high o.actor writes since_a
+    won = won0 doc near far a e sound calm time one end q role steady renews y (omega (arith, s.least, s.from)) to acting o.e o.low write_high o.actor writes s.from some_beat
 
     up_e : (h : List Entry) → IsTail h (history doc (suc n)) → IsTail h (history doc (suc e))
     up_e h at = tail_trans h (history doc (suc n)) (history doc (suc e)) at (later_tail doc (suc n) (suc e) (omega (arith, within)))
@@ -132,13 +127,13 @@ module _ (doc : Doc) (near far a e : ℕ) (sound : IsSound doc) (calm : IsCalm d
         asked = tail_trans (w.f ∷ w.low) T (history doc (suc e)) w.asked (tail_trans T (x ∷ T) (history doc (suc e)) (inr (tail_all T)) (up_e (x ∷ T) at))
 
         sending : (s : Sending doc a e q w.call (Some x.beat)) × (s.f ≡ w.f) × (s.before ≡ w.low)
-        sending = sending_of doc near far a e e q role steady (time q.process role steady) (omega arith) one w.call (Some x.beat) w.f w.low asked (w.f_actor ∙ ap actor_of mine) w.f_fact (omega (arith, late, since_a))
+        sending = sending_of doc near far a e e q role steady (time q.process role steady) (omega arith) one w.call (Some x.beat) w.f w.low asked (w.f_actor ∙ ap actor_of mine) w.f_fact (omega (arith, late, s.from))
 
         at_sending : IsFree q w.f w.low w.call
         at_sending = is_free doc (suc e) q role w.f w.low w.call (Some x.beat) asked (w.f_actor ∙ ap actor_of mine) w.f_fact sending.0.opens
 
         later : o.begun.f.beat < w.f.beat
-        later = omega (arith, late, at_sending.sent, ways.sent_least, one)
+        later = omega (arith, late, at_sending.sent, s.sent)
 
         above : IsTail (o.begun.f ∷ o.begun.before) w.low
         above = meet (tails_meet (o.begun.f ∷ o.begun.before) (w.f ∷ w.low) (history doc (suc e)) asked_high asked)
@@ -188,7 +183,7 @@ module _ (doc : Doc) (near far a e : ℕ) (sound : IsSound doc) (calm : IsCalm d
           where
             w : Won doc x T
             w =
-                won_at doc near far a e sound calm time one end q role steady renews y (omega (arith, ways.comes_least, since_a)) to acting o.e o.low write_high o.actor writes since_a n within soon x T at low (ap has some)
+                won_at doc near far a e sound calm time one end q role steady renews y (omega (arith, s.least, s.from)) to acting o.e o.low write_high o.actor writes s.from some_beat n within soon x T at low (ap has some)
 
             mine : w.who ≡ q
             mine = actor_is w.who q (sym w.actor ∙ its_writes x T at low (ap has some))

@@ -80,7 +80,7 @@ returns-in-Some-Asks-clause-counted g c =
 pub returns-in-Some-Runs-clause-text : goal.returns-in-Some-Runs-clause-text
 returns-in-Some-Runs-clause-text g c bytes told =
     let words : List (List ℕ) = map string_bytes c.args.words.now.items in
-    let run = c.in-Some-Runs.run in
+    let run = c.in-Some-Runs.run' in
     let left = g.S.Source.left c.run_document.new.source in
     let found : Some (Runs run) ≡ command_of words = ap Some (sym c.in-Some-Runs.field-0-is) ∙ sym c.in-Some-Runs.is ∙ c.command_in.ensures.command in
     ends-moved (read_by (run_reply run) bytes) (outcome words bytes) left left (g.K.Sink.taken c.args.sink.now) (g.K.Sink.taken c.run_document.new.sink) c.run_document.result
@@ -94,11 +94,11 @@ returns-in-Some-Runs-clause-complete g c bytes told calm open_sink =
 
 pub returns-in-Some-Runs-clause-usage : goal.returns-in-Some-Runs-clause-usage
 returns-in-Some-Runs-clause-usage g c none =
-    absurd (let never : Some (Runs c.in-Some-Runs.run) ≡ None = ap Some (sym c.in-Some-Runs.field-0-is) ∙ sym c.in-Some-Runs.is ∙ c.command_in.ensures.command ∙ none in cc)
+    absurd (let never : Some (Runs c.in-Some-Runs.run') ≡ None = ap Some (sym c.in-Some-Runs.field-0-is) ∙ sym c.in-Some-Runs.is ∙ c.command_in.ensures.command ∙ none in cc)
 
 pub returns-in-Some-Runs-clause-generated : goal.returns-in-Some-Runs-clause-generated
 returns-in-Some-Runs-clause-generated g c sizes is =
-    absurd (let never : Some (Runs c.in-Some-Runs.run) ≡ Some (Generates sizes) = ap Some (sym c.in-Some-Runs.field-0-is) ∙ sym c.in-Some-Runs.is ∙ c.command_in.ensures.command ∙ is in cc)
+    absurd (let never : Some (Runs c.in-Some-Runs.run') ≡ Some (Generates sizes) = ap Some (sym c.in-Some-Runs.field-0-is) ∙ sym c.in-Some-Runs.is ∙ c.command_in.ensures.command ∙ is in cc)
 
 pub returns-in-Some-Runs-clause-source_fault : goal.returns-in-Some-Runs-clause-source_fault
 returns-in-Some-Runs-clause-source_fault g c fault = (c.run_document.ensures.source_fault fault, c.run_document.ensures.source_silent fault)
@@ -106,13 +106,13 @@ returns-in-Some-Runs-clause-source_fault g c fault = (c.run_document.ensures.sou
 pub returns-in-Some-Runs-clause-claims : goal.returns-in-Some-Runs-clause-claims
 returns-in-Some-Runs-clause-claims g c =
     claims-hold (map string_bytes c.args.words.now.items) (g.S.Source.left c.args.source.now) c.documents_are_safe.ensures
-    (λ sizes is. absurd (let never : Some (Runs c.in-Some-Runs.run) ≡ Some (Generates sizes) = ap Some (sym c.in-Some-Runs.field-0-is) ∙ sym c.in-Some-Runs.is ∙ c.command_in.ensures.command ∙ is in cc))
-    (λ sizes is. absurd (let never : Some (Runs c.in-Some-Runs.run) ≡ Some (Generates sizes) = ap Some (sym c.in-Some-Runs.field-0-is) ∙ sym c.in-Some-Runs.is ∙ c.command_in.ensures.command ∙ is in cc))
+    (λ sizes is. absurd (let never : Some (Runs c.in-Some-Runs.run') ≡ Some (Generates sizes) = ap Some (sym c.in-Some-Runs.field-0-is) ∙ sym c.in-Some-Runs.is ∙ c.command_in.ensures.command ∙ is in cc))
+    (λ sizes is. absurd (let never : Some (Runs c.in-Some-Runs.run') ≡ Some (Generates sizes) = ap Some (sym c.in-Some-Runs.field-0-is) ∙ sym c.in-Some-Runs.is ∙ c.command_in.ensures.command ∙ is in cc))
 
 pub returns-in-Some-Runs-clause-well : goal.returns-in-Some-Runs-clause-well
 returns-in-Some-Runs-clause-well g c done =
     let words : List (List ℕ) = map string_bytes c.args.words.now.items in
-    let run = c.in-Some-Runs.run in
+    let run = c.in-Some-Runs.run' in
     let found : Some (Runs run) ≡ command_of words = ap Some (sym c.in-Some-Runs.field-0-is) ∙ sym c.in-Some-Runs.is ∙ c.command_in.ensures.command in
     record {
       reads_back = λ d beat shows.
@@ -124,13 +124,13 @@ returns-in-Some-Runs-clause-well g c done =
 pub returns-in-Some-Runs-clause-counted : goal.returns-in-Some-Runs-clause-counted
 returns-in-Some-Runs-clause-counted g c =
     let words : List (List ℕ) = map string_bytes c.args.words.now.items in
-    let found : Some (Runs c.in-Some-Runs.run) ≡ command_of words = ap Some (sym c.in-Some-Runs.field-0-is) ∙ sym c.in-Some-Runs.is ∙ c.command_in.ensures.command in
+    let found : Some (Runs c.in-Some-Runs.run') ≡ command_of words = ap Some (sym c.in-Some-Runs.field-0-is) ∙ sym c.in-Some-Runs.is ∙ c.command_in.ensures.command in
     subst (λ t. IfSome (most_steps t (g.S.Source.left c.args.source.now)) (λ n. c.run_document.new.steps ≤ c.args.steps.now + n)) found c.run_document.ensures.counted
 
 pub returns-in-Some-Runs-clause-idle : goal.returns-in-Some-Runs-clause-idle
 returns-in-Some-Runs-clause-idle g c reason =
     let words : List (List ℕ) = map string_bytes c.args.words.now.items in
-    let found : Some (Runs c.in-Some-Runs.run) ≡ command_of words = ap Some (sym c.in-Some-Runs.field-0-is) ∙ sym c.in-Some-Runs.is ∙ c.command_in.ensures.command in
+    let found : Some (Runs c.in-Some-Runs.run') ≡ command_of words = ap Some (sym c.in-Some-Runs.field-0-is) ∙ sym c.in-Some-Runs.is ∙ c.command_in.ensures.command in
     either c.run_document.ensures.undone (λ idle. c.run_document.ensures.idle (subst (λ t. IsIdle t (g.S.Source.left c.args.source.now)) (sym found) idle)) reason
 
 -- ---- a document that is generated
