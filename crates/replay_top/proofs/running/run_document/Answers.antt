@@ -35,9 +35,11 @@ returns-in-Err-Refused-clause-text g c bytes told =
     let after = g.K.Sink.taken c.tell_refusal.new.sink in
     let input = c.in-Ok.ensures.whole bytes told in
     let exact = rw c.in-Err-Refused.field-0-is at c.in-Err-Refused.ensures.exact in
+    let path = rw c.in-Err-Refused.field-0-is at c.as_slice.ensures in
+    let told_it = rw c.in-Err-Refused.field-0-is at (c.tell_refusal.ensures.text []) in
     let ends : Ends (unread (refused r) []) (Some []) before after c.tell_refusal.result
-    = subst (λ path. Ends (unread (refusal r.code path) []) (Some []) before after c.tell_refusal.result) c.as_slice.ensures
-    (ends-unread (refusal r.code c.as_slice.result.now) [] (Some []) before after c.tell_refusal.result refl (c.tell_refusal.ensures.text [])) in
+    = subst (λ path. Ends (unread (refusal r.code path) []) (Some []) before after c.tell_refusal.result) path
+    (ends-unread (refusal r.code c.as_slice.result.now) [] (Some []) before after c.tell_refusal.result refl told_it) in
     ends-moved (unread (refused r) []) (read_by (run_reply run) bytes) (Some []) left before after c.tell_refusal.result
     (read-short (run_reply run) bytes c.in-Ok.input.items left input ∙ ap (λ x. unread (answered run x) []) exact) input.rest ends
 
