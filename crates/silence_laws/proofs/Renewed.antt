@@ -47,6 +47,7 @@ use Rattle.calm_laws.proofs.Begun.{Begun}
 use Rattle.calm_laws.proofs.Life.{up_between}
 use Rattle.calm_laws.proofs.Origins.{Origin, origin, sends_differ}
 use Rattle.stay_laws.specs.Stays.{HasSuccess, Stays, LeadersStay, RenewsInTime}
+use Rattle.stay_laws.proofs.Given.{IsGiven}
 use Rattle.stay_laws.proofs.Won.{Won}
 use Rattle.stay_laws.proofs.Rivals.{Own}
 use Rattle.stay_laws.proofs.Reacting.{replies_follow}
@@ -161,22 +162,40 @@ module _ (doc : Doc) (near far b e : ℕ) (q : Identity) (l : LeadsUntil doc nea
 
   module _ (y : ℕ) (to : y ≤ a) (hs : HasSuccess doc q 0 y) where
     abbrev pub o : Origin doc q hs.call (Done hs.version) hs.before y
-    o = wrote.o doc near far 0 a s.sound (calm_before doc near far b e q l s) (times_before doc near far b e q l s) s.one end q l.role l.steady s.renews y to hs
+    o = origin doc (suc y) q (entry y 3 q (Delivers hs.call (Done hs.version) true)) hs.before hs.call (Done hs.version) hs.position refl refl
 
-    ways : sendings.IsWay near far o.begun.f.beat o.e.beat y
-    ways = wrote.ways doc near far 0 a s.sound (calm_before doc near far b e q l s) (times_before doc near far b e q l s) s.one end q l.role l.steady s.renews y to hs
+    pub ways : sendings.IsWay near far o.begun.f.beat o.e.beat y
+    ways = sendings.way doc near far 0 a q l.role l.steady hs.call (Done hs.version) hs.before y hs.position o to (omega arith)
+
+    pub answered_later : o.begun.f.beat < o.e.beat
+    answered_later = omega (arith, ways.sent_least, s.one)
+
+    -- its answer was given in the span
+    abbrev pub g : IsGiven doc near far 0 q y
+    g = record {
+      call = hs.call;
+      version = hs.version;
+      before = hs.before;
+      position = hs.position;
+      success = hs.success;
+      o = o;
+      from = omega arith;
+      sent = answered_later;
+      least = ways.comes_least;
+      most = ways.comes_most;
+    }
 
     acting : Acts doc q y
-    acting = renewing.acts_now doc near far 0 a s.sound (calm_before doc near far b e q l s) (times_before doc near far b e q l s) s.one end q l.role l.steady s.renews y to hs
+    acting = renewing.acts_now doc near far 0 a s.sound (calm_before doc near far b e q l s) (times_before doc near far b e q l s) s.one end q l.role l.steady s.renews y to g
 
     abbrev own : Own doc q o.e.beat (o.e ∷ o.low)
-    own = wrote.first_own doc near far 0 a s.sound (calm_before doc near far b e q l s) (times_before doc near far b e q l s) s.one end q l.role l.steady s.renews y to hs acting y (omega arith) to (omega (arith, ways.comes_most))
+    own = wrote.first_own doc near far 0 a s.sound (calm_before doc near far b e q l s) (times_before doc near far b e q l s) s.one end q l.role l.steady s.renews y to g acting y (omega arith) to (omega (arith, ways.comes_most))
 
     given : own.y.version ≡ hs.version
-    given = wrote.given doc near far 0 a s.sound (calm_before doc near far b e q l s) (times_before doc near far b e q l s) s.one end q l.role l.steady s.renews y to hs acting y (omega arith) to (omega (arith, ways.comes_most))
+    given = wrote.given doc near far 0 a s.sound (calm_before doc near far b e q l s) (times_before doc near far b e q l s) s.one end q l.role l.steady s.renews y to g acting y (omega arith) to (omega (arith, ways.comes_most))
 
     write_high : IsTail (o.e ∷ o.low) (history doc (suc a))
-    write_high = wrote.write_high doc near far 0 a s.sound (calm_before doc near far b e q l s) (times_before doc near far b e q l s) s.one end q l.role l.steady s.renews y to hs
+    write_high = wrote.write_high doc near far 0 a s.sound (calm_before doc near far b e q l s) (times_before doc near far b e q l s) s.one end q l.role l.steady s.renews y to g
 
     -- a later write, by a beat
     pub record Rewritten (n : ℕ) : Type 0 where
@@ -247,14 +266,14 @@ module _ (doc : Doc) (near far b e : ℕ) (q : Identity) (l : LeadsUntil doc nea
     -- ---- its attempt, where its timer comes in time
 
     abbrev Due : ℕ → Type 0
-    Due last = renewing.Due doc near far 0 a s.sound (calm_before doc near far b e q l s) (times_before doc near far b e q l s) s.one end q l.role l.steady s.renews y to hs last
+    Due last = renewing.Due doc near far 0 a s.sound (calm_before doc near far b e q l s) (times_before doc near far b e q l s) s.one end q l.role l.steady s.renews y to g last
 
     module _ (last : ℕ) (d : Due last) (room : d.g + 2 * far ≤ a) where
       abbrev lease : Lease
-      lease = (wrote.what doc near far 0 a s.sound (calm_before doc near far b e q l s) (times_before doc near far b e q l s) s.one end q l.role l.steady s.renews y to hs).lease
+      lease = (wrote.what doc near far 0 a s.sound (calm_before doc near far b e q l s) (times_before doc near far b e q l s) s.one end q l.role l.steady s.renews y to g).lease
 
       abbrev start : IsSet doc q y hs.version lease (entry y 3 q (Delivers hs.call (Done hs.version) true) ∷ hs.before)
-      start = wrote.start doc near far 0 a s.sound (calm_before doc near far b e q l s) (times_before doc near far b e q l s) s.one end q l.role l.steady s.renews y to hs
+      start = wrote.start doc near far 0 a s.sound (calm_before doc near far b e q l s) (times_before doc near far b e q l s) s.one end q l.role l.steady s.renews y to g
 
       from : 0 < y
       from = omega (arith, ways.comes_least, s.one)
@@ -263,7 +282,7 @@ module _ (doc : Doc) (near far b e : ℕ) (q : Identity) (l : LeadsUntil doc nea
       some_way = omega (arith, s.one, s.ways)
 
       timely : (k : ℕ) → k < d.g + 4 * far → k ≤ a → local doc q.process k < start.at + renew_deadline doc q.process
-      timely = renewing.soon doc near far 0 a s.sound (calm_before doc near far b e q l s) (times_before doc near far b e q l s) s.one end q l.role l.steady s.renews y to hs last d
+      timely = renewing.soon doc near far 0 a s.sound (calm_before doc near far b e q l s) (times_before doc near far b e q l s) s.one end q l.role l.steady s.renews y to g last d
 
       tried : HasTried doc q start.low start.at (Some (hs.version, lease)) (history doc (suc d.g))
       tried =
@@ -387,12 +406,12 @@ module _ (doc : Doc) (near far b e : ℕ) (q : Identity) (l : LeadsUntil doc nea
 
     -- where there was time to send it
     pub renewed_by : y + s.renews.wait + 2 * far ≤ a → Rewritten (y + s.renews.wait + 3 * far)
-    renewed_by room = by_due (renewing.due_or_ahead doc near far 0 a s.sound (calm_before doc near far b e q l s) (times_before doc near far b e q l s) s.one end q l.role l.steady s.renews y to hs s.renews.wait)
+    renewed_by room = by_due (renewing.due_or_ahead doc near far 0 a s.sound (calm_before doc near far b e q l s) (times_before doc near far b e q l s) s.one end q l.role l.steady s.renews y to g s.renews.wait)
       where
-        by_due : Due (y + s.renews.wait) ⊎ renewing.Ahead doc near far 0 a s.sound (calm_before doc near far b e q l s) (times_before doc near far b e q l s) s.one end q l.role l.steady s.renews y to hs (y + s.renews.wait)
+        by_due : Due (y + s.renews.wait) ⊎ renewing.Ahead doc near far 0 a s.sound (calm_before doc near far b e q l s) (times_before doc near far b e q l s) s.one end q l.role l.steady s.renews y to g (y + s.renews.wait)
             → Rewritten (y + s.renews.wait + 3 * far)
         by_due (inr none) =
-            absurd (renewing.comes_by doc near far 0 a s.sound (calm_before doc near far b e q l s) (times_before doc near far b e q l s) s.one end q l.role l.steady s.renews y to hs (omega (arith, room)) none)
+            absurd (renewing.comes_by doc near far 0 a s.sound (calm_before doc near far b e q l s) (times_before doc near far b e q l s) s.one end q l.role l.steady s.renews y to g (omega (arith, room)) none)
         by_due (inl d) =
             let w : Rewritten (d.g + 3 * far) = rewritten (y + s.renews.wait) d (omega (arith, d.upto, room)) in
             record { z = w.z; before = w.before; position = w.position; since = w.since; writes = w.writes; soon = omega (arith, d.upto, w.soon) }

@@ -32,10 +32,12 @@ use Rattle.takeover_laws.specs.Calm.{IsSteady, IsQuiet}
 use Rattle.calm_laws.proofs.Origins.{Origin}
 use Rattle.stay_laws.specs.Stays.{HasSuccess}
 use Rattle.stay_laws.proofs.Won.{Won, is_won}
+use Rattle.stay_laws.proofs.Given.{IsGiven}
 use Rattle.stay_laws.proofs.Rivals.{plainly}
 use Rattle.stay_laws.proofs.Sendings as sendings
 use Rattle.stay_laws.proofs.Written as wrote
 use Rattle.stay_laws.proofs.Renewing as renewing
+use Rattle.silence_laws.proofs.Renewed as renewed
 use Rattle.silence_laws.specs.Silence.{LeadsUntil, Bears}
 use Rattle.silence_laws.proofs.Setting.{calm_before, times_before, its_lead, it_stays, its_time, some_b, own_process}
 use Rattle.silence_laws.proofs.Kept.{Kept, kept_of}
@@ -61,22 +63,25 @@ module _ (doc : Doc) (near far b e : ℕ) (q : Identity) (l : LeadsUntil doc nea
 
   -- the write by which it came to lead
   abbrev pub o : Origin doc q (its_lead doc near far b e q l s).success.call (Done (its_lead doc near far b e q l s).success.version) (its_lead doc near far b e q l s).success.before j
-  o = wrote.o doc near far 0 a s.sound (calm_before doc near far b e q l s) (times_before doc near far b e q l s) s.one end_a q l.role l.steady s.renews j j_to (its_lead doc near far b e q l s).success
+  o = renewed.o doc near far b e q l s j j_to (its_lead doc near far b e q l s).success
 
   pub ways : sendings.IsWay near far o.begun.f.beat o.e.beat j
-  ways = wrote.ways doc near far 0 a s.sound (calm_before doc near far b e q l s) (times_before doc near far b e q l s) s.one end_a q l.role l.steady s.renews j j_to (its_lead doc near far b e q l s).success
+  ways = renewed.ways doc near far b e q l s j j_to (its_lead doc near far b e q l s).success
+
+  abbrev given : IsGiven doc near far 0 q j
+  given = renewed.g doc near far b e q l s j j_to (its_lead doc near far b e q l s).success
 
   abbrev pub first : List Entry
   first = o.e ∷ o.low
 
   first_a : IsTail first (history doc (suc a))
-  first_a = wrote.write_high doc near far 0 a s.sound (calm_before doc near far b e q l s) (times_before doc near far b e q l s) s.one end_a q l.role l.steady s.renews j j_to (its_lead doc near far b e q l s).success
+  first_a = wrote.write_high doc near far 0 a s.sound (calm_before doc near far b e q l s) (times_before doc near far b e q l s) s.one end_a q l.role l.steady s.renews j j_to given
 
   pub first_e : IsTail first (history doc (suc e))
   first_e = tail_trans first (history doc (suc a)) (history doc (suc e)) first_a (later_tail doc (suc a) (suc e) (omega (arith, l.within)))
 
   pub first_writes : has (at_key election (write_of o.e.fact)) ≡ true
-  first_writes = wrote.writes doc near far 0 a s.sound (calm_before doc near far b e q l s) (times_before doc near far b e q l s) s.one end_a q l.role l.steady s.renews j j_to (its_lead doc near far b e q l s).success
+  first_writes = wrote.writes doc near far 0 a s.sound (calm_before doc near far b e q l s) (times_before doc near far b e q l s) s.one end_a q l.role l.steady s.renews j j_to given
 
   -- a write of somebody else above it comes at b or later
   pub foreign_late : (f : IsForeign doc near far b e q l s quiet first (history doc (suc e))) → b ≤ f.x.beat
@@ -90,8 +95,8 @@ module _ (doc : Doc) (near far b e : ℕ) (q : Identity) (l : LeadsUntil doc nea
 
           late : f.x.beat < j → ⊥
           late less =
-              f.other (wrote.its_writes doc near far 0 a s.sound (calm_before doc near far b e q l s) (times_before doc near far b e q l s) s.one end_a q l.role l.steady s.renews j j_to (its_lead doc near far b e q l s).success
-              (renewing.acts_now doc near far 0 a s.sound (calm_before doc near far b e q l s) (times_before doc near far b e q l s) s.one end_a q l.role l.steady s.renews j j_to (its_lead doc near far b e q l s).success)
+              f.other (wrote.its_writes doc near far 0 a s.sound (calm_before doc near far b e q l s) (times_before doc near far b e q l s) s.one end_a q l.role l.steady s.renews j j_to given
+              (renewing.acts_now doc near far 0 a s.sound (calm_before doc near far b e q l s) (times_before doc near far b e q l s) s.one end_a q l.role l.steady s.renews j j_to given)
               j (omega arith) j_to (omega (arith, ways.comes_most)) f.x f.before (tail_trans (f.x ∷ f.before) (history doc (suc f.x.beat)) (history doc (suc j)) in_beat (later_tail doc (suc f.x.beat) (suc j) (omega (arith, less)))) f.since f.writes)
 
           soon : j ≤ f.x.beat → ⊥
