@@ -36,7 +36,7 @@ use Rattle.heard_laws.proofs.Words.{Word, Words, words, words_tail, telling_step
 -- ---- positions
 
 -- what stands below an entry is ordered
-below_ordered : (x : Entry) (g h : List Entry) → IsTail (x ∷ g) h → IsOrdered h → (f : Entry) → In f g → IsWithin x.beat x.step f
+pub below_ordered : (x : Entry) (g h : List Entry) → IsTail (x ∷ g) h → IsOrdered h → (f : Entry) → In f g → IsWithin x.beat x.step f
 below_ordered x g [] at order = absurd (none_there x g at)
   where
     none_there : (x : Entry) (g : List Entry) → x ∷ g ≡ [] → ⊥
@@ -81,11 +81,11 @@ module _ (doc : Doc) (q : Identity) (name k e : ℕ) (attended : IsAttended doc 
       above (inl is) = absurd (same (sym is))
       above (inr at_g) = absurd (never step (within at_g))
 
-no_cycle : (x : Entry) (g : List Entry) → IsTail (x ∷ g) g → ⊥
+pub no_cycle : (x : Entry) (g : List Entry) → IsTail (x ∷ g) g → ⊥
 no_cycle x g at = omega (arith, count_tail (λ e. true) (x ∷ g) g at)
 
 -- what tells of a node does so no later than the last such write
-told_early : (doc : Doc) (name v e : ℕ) (told : IsLastTold doc name v e) (y : Entry) (g : List Entry) → IsTail (y ∷ g) (history doc (suc e)) → tells_of name y.fact ≡ true → y.beat ≤ v
+pub told_early : (doc : Doc) (name v e : ℕ) (told : IsLastTold doc name v e) (y : Entry) (g : List Entry) → IsTail (y ∷ g) (history doc (suc e)) → tells_of name y.fact ≡ true → y.beat ≤ v
 told_early doc name v e told y g at tells = ⊎_elim below above (tails_meet (y ∷ g) (told.x ∷ told.before) (history doc (suc e)) at told.stands)
   where
     same : y ≡ told.x → y.beat ≤ v

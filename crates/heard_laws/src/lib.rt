@@ -2,6 +2,7 @@
 #![tactic(auto)]
 
 ghost use Rattle.heard_laws.specs.Heard.{PassesHearInTime, RenewalsAreHeard};
+ghost use Rattle.heard_laws.specs.Kubelet.{LastWordsAreLate, LastWordsAreSoon};
 
 /// While a leader attends to its nodes: a pass that hears of a node which is stored comes less than a monitor period, on the leader's clock, after
 /// the last write of the node or of its Lease by a kubelet or the script, but for the first of these passes. And where that last write renews the
@@ -9,4 +10,13 @@ ghost use Rattle.heard_laws.specs.Heard.{PassesHearInTime, RenewalsAreHeard};
 pub fn passes_hear()
     ensures most { PassesHearInTime }
     ensures least { RenewalsAreHeard }
+{}
+
+/// A kubelet that starts at a beat, whose messages pass from then on until it dies, and whose node nobody else tells of: its last write comes at most
+/// one greatest delay after its last beat. It comes at the earliest five least delays after the beginning of a round that isn't longer ago, before the
+/// beat after its last one, than four greatest delays and the time from one round to the next: a quarter of the duration of the node's Lease by its
+/// clock, or six greatest delays, whichever is more.
+pub fn kubelets_tell_until_they_die()
+    ensures late { LastWordsAreLate }
+    ensures soon { LastWordsAreSoon }
 {}
