@@ -1,12 +1,10 @@
 -- A kubelet's round ends in a write of its node's Lease.
-use Rattle.std.proofs.Common.{◌≡◌, ◌∙◌, ◌⊎◌, ◌≤◌, ◌<◌, ℕ, zero, suc, ◌+◌, ◌*◌, ◌-◌, ◌==◌, ◌&&◌, ◌||◌, Bool, true, false, cond, List, [], ◌∷◌, Option, Some, None, refl, sym, ap, subst, inl, inr, ⊎_elim, arith}
+use Rattle.std.proofs.Common.{◌≡◌, ◌∙◌, ◌⊎◌, ◌≤◌, ◌<◌, ℕ, suc, ◌+◌, ◌*◌, ◌&&◌, ◌||◌, Bool, true, false, cond, List, ◌∷◌, Option, Some, None, refl, sym, ap, subst, inl, inr, ⊎_elim, arith}
 use Rattle.std.proofs.lemmas.Bool.{eq-eqb}
-use Rattle.kube_base.specs.declared.numbers.Version.{Version}
 use Rattle.kube_objects.specs.declared.call.Reply.{Reply}
 use Rattle.kube_objects.specs.declared.call.Reply.TheVariants as reply
 use Rattle.kube_objects.specs.declared.call.Request.{Request}
 use Rattle.kube_objects.specs.declared.call.Request.TheVariants.{Get, Create, Update, PostStatus}
-use Rattle.kube_objects.specs.declared.deed.Actor.{Actor}
 use Rattle.kube_objects.specs.declared.key.Key.{Key}
 use Rattle.kube_objects.specs.declared.lease.Lease.{Lease}
 use Rattle.kube_objects.specs.declared.object.Object.{Object}
@@ -14,28 +12,27 @@ use Rattle.kube_objects.specs.declared.object.Object.TheVariants as object
 use Rattle.kube_objects.specs.Answers.{versioned, as_kind, lease_in, answer_get, answer, written, if_done, answer_create, answer_update}
 use Rattle.kube_objects.specs.Clocks.{local}
 use Rattle.kube_objects.specs.Document.{Doc, is_controller, call_timeout}
-use Rattle.kube_objects.specs.Entry.{Entry, Identity, Call, Plain, Fact, First as FirstPut, Event as Happens, Starts, Crashes, Stops, Stalls, Ends, Sends, Answers, Delivers, Expires, Leads, Ticks, actor_of, entry}
+use Rattle.kube_objects.specs.Entry.{Entry, Identity, Call, Plain, Fact, Sends, Answers, Delivers, actor_of, entry}
 use Rattle.kube_objects.specs.Identities.{identity_of, is_same, is_by}
 use Rattle.kube_objects.specs.Kubelet.{node_of, is_post, ends_round, round_says, round_period, round_timer_says, round_timer, heartbeat_lease, next_request, send_next}
 use Rattle.kube_objects.specs.Newest.{newest, when, join, has, or_else, or_zero}
-use Rattle.kube_objects.specs.Process.{alive, begun, last_call, call_in, is_late}
-use Rattle.kube_objects.specs.Stored.{Held, node_key, node_lease, key_of, at_key, request_write, write_of, stored, next_version}
+use Rattle.kube_objects.specs.Process.{alive, last_call, call_in, is_late}
+use Rattle.kube_objects.specs.Stored.{Held, node_key, node_lease, key_of, at_key, request_write, stored, next_version}
 use Rattle.kube_objects.specs.Turns.{with_reply, expired_in}
-use Rattle.kube_objects.specs.Wire.{Sent, Back, back_of, back_as, in_force, request_delay_of, request_loss_of, request_delay, loses_requests, arrival, request_arrival, reply_arrival, next_call}
+use Rattle.kube_objects.specs.Wire.{Sent, Back, back_of, back_as, request_delay_of, request_loss_of, request_delay, arrival, request_arrival, reply_arrival, next_call}
 use Rattle.history.specs.History.{three_steps, history}
 use Rattle.history.specs.Sound.{IsSound}
 use Rattle.history.specs.Steps.{answered}
-use Rattle.history_laws.specs.Order.{IsWithin}
 use Rattle.history_laws.specs.Tails.{In, IsTail}
 use Rattle.history_laws.proofs.Order.{entries_are_ordered}
-use Rattle.history_laws.proofs.Plainly.{upper, some_is, none_is, true_is, false_is, same_self}
+use Rattle.history_laws.proofs.Plainly.{upper, none_is, true_is, false_is, same_self}
 use Rattle.history_laws.proofs.Tailed.{tail_all, tail_trans, tails_meet, in_tail, later_tail, two_adds, same_head, begun_tail}
 use Rattle.history_laws.proofs.Versions.{versions_are_given}
 use Rattle.eviction_laws.proofs.KeyNames.{key_self}
 use Rattle.span_laws.specs.Spans.{RunsAtMost}
 use Rattle.call_laws.specs.Answering.{with_events, with_answers, IsAnswered}
 use Rattle.call_laws.specs.Waiting.{IsClosed}
-use Rattle.call_laws.proofs.Above.{in_head, place_of}
+use Rattle.call_laws.proofs.Above.{place_of}
 use Rattle.call_laws.proofs.Answering.{before_events, requests_are_answered}
 use Rattle.call_laws.proofs.Making.{MadeAs, MadeAnswer, are_made}
 use Rattle.call_laws.proofs.Once.{answers_differ}
@@ -47,7 +44,7 @@ use Rattle.takeover_laws.proofs.Writers.{sends_of, since_low}
 use Rattle.heard_laws.specs.Heard.{is_about, tells_of}
 use Rattle.heard_laws.specs.Kubelet.{AnswersSince, TellsAlone, IsLeaseKey}
 use Rattle.heard_laws.proofs.Heard.{below_ordered, no_cycle}
-use Rattle.heard_laws.proofs.Words.{words, words_tail, SameWord, same_words}
+use Rattle.heard_laws.proofs.Words.{words, words_tail, same_words}
 use Rattle.heard_laws.proofs.Sending.{KubeletSends, sends_as, newest_number, number_is, waits_on, stays_up}
 use Rattle.heard_laws.proofs.Replied.{timely, Replied, replied, next_low}
 use Rattle.heard_laws.proofs.Closing.{HasAnswer, closed_answered, one_at_a_time}

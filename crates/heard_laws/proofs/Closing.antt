@@ -1,7 +1,6 @@
 -- A kubelet sends one call at a time: its call is answered before the next one is sent.
-use Rattle.std.proofs.Common.{◌≡◌, ◌∙◌, ◌⊎◌, ◌≤◌, ◌<◌, ℕ, zero, suc, ◌+◌, ◌*◌, ◌-◌, Bool, true, false, List, [], ◌∷◌, Option, Some, None, refl, sym, ap, subst, inl, inr, ⊎_elim, arith}
+use Rattle.std.proofs.Common.{◌≡◌, ◌∙◌, ◌⊎◌, ◌≤◌, ◌<◌, ℕ, suc, ◌+◌, ◌*◌, true, false, List, ◌∷◌, Option, Some, None, refl, sym, ap, subst, inl, inr, ⊎_elim, arith}
 use Rattle.std.proofs.lemmas.Bool.{cases_lt}
-use Rattle.kube_objects.specs.declared.call.Reply.{Reply}
 use Rattle.kube_objects.specs.declared.deed.Actor.{Actor}
 use Rattle.kube_objects.specs.Answers.{answer}
 use Rattle.kube_objects.specs.Document.{Doc, is_controller, call_timeout}
@@ -18,17 +17,16 @@ use Rattle.history_laws.specs.Order.{IsWithin}
 use Rattle.history_laws.specs.Tails.{In, IsTail}
 use Rattle.history_laws.proofs.Counting.{counted_is}
 use Rattle.history_laws.proofs.Order.{entries_are_ordered, entries_are_earlier}
-use Rattle.history_laws.proofs.Plainly.{upper, some_is, none_is, true_is, false_is, same_is, same_self}
+use Rattle.history_laws.proofs.Plainly.{upper, none_is, true_is, same_is, same_self}
 use Rattle.history_laws.proofs.Tailed.{tail_all, tail_trans, tails_meet, in_tail, later_tail, same_head}
 use Rattle.span_laws.specs.Spans.{RunsAtMost}
 use Rattle.call_laws.specs.Answering.{with_events}
 use Rattle.call_laws.specs.Waiting.{Closes, IsClosed}
 use Rattle.call_laws.proofs.Making.{MadeAs, are_made}
-use Rattle.call_laws.proofs.Placing.{in_own_beat, not_before}
 use Rattle.takeover_laws.specs.Calm.{IsSteady}
 use Rattle.heard_laws.proofs.Heard.{below_ordered}
 use Rattle.heard_laws.proofs.Replied.{timely, Replied, replied, next_low}
-use Rattle.heard_laws.proofs.Sending.{KubeletMakes, kubelet_makes, KubeletSends, sends_as, by_is, newest_number, none_stays, waits_on}
+use Rattle.heard_laws.proofs.Sending.{KubeletMakes, kubelet_makes, sends_as, by_is, newest_number, none_stays, waits_on}
 
 -- an answer to the identity's call of this number stands in a history
 pub record HasAnswer (q : Identity) (number : ℕ) (h : List Entry) : Type 0 where

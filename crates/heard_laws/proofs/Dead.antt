@@ -1,28 +1,25 @@
 -- Until when a dead kubelet told of its node.
-use Rattle.std.proofs.Common.{◌≡◌, ◌∙◌, ◌⊎◌, ◌≤◌, ◌<◌, ℕ, zero, suc, ◌+◌, ◌*◌, ◌-◌, ◌&&◌, Bool, true, false, List, [], ◌∷◌, Option, Some, None, refl, sym, ap, subst, inl, inr, ⊎_elim, arith}
+use Rattle.std.proofs.Common.{◌≡◌, ◌∙◌, ◌⊎◌, ◌≤◌, ◌<◌, ℕ, zero, suc, ◌+◌, ◌*◌, ◌&&◌, Bool, true, false, List, [], ◌∷◌, Option, Some, None, refl, sym, ap, subst, inl, inr, ⊎_elim, arith}
 use Rattle.std.proofs.lemmas.Bool.{cases_lt, eq-eqb}
 use Rattle.kube_objects.specs.declared.call.Reply.{Reply}
-use Rattle.kube_objects.specs.declared.call.Request.{Request}
 use Rattle.kube_objects.specs.declared.deed.Actor.{Actor}
 use Rattle.kube_objects.specs.declared.object.Object.{Object}
 use Rattle.kube_objects.specs.Clocks.{local}
-use Rattle.kube_objects.specs.Document.{Doc, processes, is_controller, call_timeout}
-use Rattle.kube_objects.specs.Entry.{Entry, Identity, Call, Fact, First as FirstPut, Event as Happens, Starts, Crashes, Stops, Stalls, Ends, Sends, Answers, Delivers, Expires, Leads, Ticks, actor_of, entry}
-use Rattle.kube_objects.specs.Identities.{identity, is_same, is_by, of_process}
-use Rattle.kube_objects.specs.Kubelet.{node_of, is_post, round_says, has_round, round_period, round_timer_says, round_timer, next_request}
+use Rattle.kube_objects.specs.Document.{Doc}
+use Rattle.kube_objects.specs.Entry.{Entry, Identity, Call, Fact, Starts, Sends, Answers, Delivers, Expires, actor_of, entry}
+use Rattle.kube_objects.specs.Identities.{identity, is_by, of_process}
+use Rattle.kube_objects.specs.Kubelet.{node_of, is_post, round_says, has_round, round_period, round_timer_says}
 use Rattle.kube_objects.specs.Newest.{newest, added, when, join, has, or_else, or_zero}
-use Rattle.kube_objects.specs.Process.{alive, starts, is_start, begun, is_send, call_says, last_call, call_in}
-use Rattle.kube_objects.specs.Turns.{expired_in, just_expired}
+use Rattle.kube_objects.specs.Process.{alive, starts, is_start, begun, is_send, call_says, last_call}
+use Rattle.kube_objects.specs.Turns.{expired_in}
 use Rattle.history.specs.History.{three_steps, history, at_turn}
 use Rattle.history.specs.Sound.{IsSound}
-use Rattle.history.specs.Steps.{step_three}
 use Rattle.history_laws.specs.Tails.{In, IsTail}
 use Rattle.history_laws.proofs.Lives.{Counted, Over, counted_more}
 use Rattle.history_laws.proofs.Order.{entries_are_ordered, entries_are_earlier}
-use Rattle.history_laws.proofs.Plainly.{upper, some_is, none_is, true_is, false_is, same_self, added_more}
-use Rattle.history_laws.proofs.Tailed.{tail_all, tail_trans, tails_meet, in_tail, later_tail, two_adds, three_adds, turns_add, turn_tail, before_turn, starts_tail, begun_tail, same_head}
-use Rattle.history_laws.proofs.Walk.{StartIsNext}
-use Rattle.span_laws.specs.Spans.{RunsAtLeast, RunsAtMost, IsEnough}
+use Rattle.history_laws.proofs.Plainly.{upper, some_is, none_is, false_is, same_self, added_more}
+use Rattle.history_laws.proofs.Tailed.{tail_all, tail_trans, tails_meet, in_tail, later_tail, two_adds, three_adds, turns_add, turn_tail, before_turn, starts_tail, same_head}
+use Rattle.span_laws.specs.Spans.{RunsAtLeast, IsEnough}
 use Rattle.span_laws.proofs.Spans.{readings_grow}
 use Rattle.call_laws.specs.Answering.{with_events, with_answers}
 use Rattle.call_laws.proofs.Above.{in_head, place_of}
@@ -30,10 +27,9 @@ use Rattle.call_laws.proofs.Answering.{before_events, events_position}
 use Rattle.call_laws.proofs.Making.{MadeAs, MadeAnswer, are_made}
 use Rattle.call_laws.proofs.Once.{due_at}
 use Rattle.call_laws.proofs.Starting.{actor_is}
-use Rattle.takeover_laws.specs.Calm.{IsSteady}
 use Rattle.takeover_laws.proofs.Fresh.{next_start, over_stays, still_up}
 use Rattle.takeover_laws.proofs.Writers.{sends_of, since_low}
-use Rattle.heard_laws.specs.Heard.{tells_of, IsLastTold}
+use Rattle.heard_laws.specs.Heard.{tells_of}
 use Rattle.heard_laws.specs.Kubelet.{LivesFrom, IsTimely, AnswersSince, TellsAlone, IsLeaseKey, LastWordsAreSoon, LastWordsAreLate}
 use Rattle.heard_laws.proofs.Heard.{below_ordered, told_early}
 use Rattle.heard_laws.proofs.Sending.{by_is, KubeletSends, sends_as, none_stays, stays_up}

@@ -312,7 +312,7 @@ kept_written q name time (x ∷ h) is = cases (λ is. renewed_more name time x h
 -- ---- a renewal is heard
 
 -- by the first pass of the term
-first_hears : (q : Identity) (name : ℕ) (h : List Entry) → last_pass q h ≡ None → hears q name h ≡ true
+pub first_hears : (q : Identity) (name : ℕ) (h : List Entry) → last_pass q h ≡ None → hears q name h ≡ true
 first_hears q name h none =
     ap (λ a. not a || is_news (heartbeat q name h) (kept_heartbeat q name h) || is_later (renewal q name h) (kept_renewal q name h))
     (ap (or_else false) (none_said q Bool (λ T. Some (is_found q name T)) h none))

@@ -1,16 +1,16 @@
 -- A kubelet that has no call begins a round as soon as its time has come.
-use Rattle.std.proofs.Common.{◌≡◌, ◌∙◌, ◌⊎◌, ◌≤◌, ◌<◌, ℕ, zero, suc, ◌+◌, ◌*◌, ◌-◌, ◌==◌, ◌&&◌, not, nat_lt, Bool, true, false, List, [], ◌∷◌, length, length-append, Option, Some, None, refl, sym, ap, subst, inl, inr, ⊎_elim, arith}
+use Rattle.std.proofs.Common.{◌≡◌, ◌∙◌, ◌⊎◌, ◌≤◌, ◌<◌, ℕ, suc, ◌+◌, ◌&&◌, not, nat_lt, Bool, true, false, List, [], ◌∷◌, Option, Some, None, refl, sym, ap, subst, inl, inr, arith}
 use Rattle.std.specs.Prelude.{if◌then◌else◌}
-use Rattle.std.proofs.lemmas.Bool.{ltb-true, eq-eqb, cases_lt}
+use Rattle.std.proofs.lemmas.Bool.{ltb-true}
 use Rattle.kube_objects.specs.declared.call.Reply.{Reply}
 use Rattle.kube_objects.specs.declared.call.Request.{Request}
 use Rattle.kube_objects.specs.declared.deed.Actor.{Actor}
 use Rattle.kube_objects.specs.Clocks.{local}
 use Rattle.kube_objects.specs.Document.{Doc, processes, is_controller}
 use Rattle.kube_objects.specs.Entry.{Entry, Identity, Call, Plain, Fact, First as FirstPut, Event as Happens, Starts, Crashes, Stops, Stalls, Ends, Sends, Answers, Delivers, Expires, Leads, Ticks, actor_of, entry}
-use Rattle.kube_objects.specs.Identities.{is_same, is_by}
+use Rattle.kube_objects.specs.Identities.{is_by}
 use Rattle.kube_objects.specs.Kubelet.{is_post, ends_round, round_says, has_round, round_period, round_timer_says, round_timer, post, next_request, is_post_call, round_if, is_round_due, round}
-use Rattle.kube_objects.specs.Newest.{newest, added, when, join, or_else, or_zero, has}
+use Rattle.kube_objects.specs.Newest.{newest, added, when, join, or_else, or_zero}
 use Rattle.kube_objects.specs.Pauses.{is_paused}
 use Rattle.kube_objects.specs.Process.{alive, begun, is_send, open_as, call_says, last_call, call_in}
 use Rattle.kube_objects.specs.Turns.{expire_call, expired, expired_in, just_expired}
@@ -18,16 +18,14 @@ use Rattle.kube_objects.specs.Wire.{next_call, request_arrival, send}
 use Rattle.history.specs.Evictions.{after_turn}
 use Rattle.history.specs.History.{history, at_turn}
 use Rattle.history.specs.Sound.{IsSound}
-use Rattle.history.specs.Steps.{if_up, expire, rounds, kubelet_turn, controller_turn, unpaused_turn, turn}
-use Rattle.history_laws.specs.Tails.{In, IsTail}
+use Rattle.history.specs.Steps.{if_up, rounds, kubelet_turn, controller_turn, unpaused_turn}
+use Rattle.history_laws.specs.Tails.{IsTail}
 use Rattle.history_laws.proofs.Counting.{counted_is}
-use Rattle.history_laws.proofs.Plainly.{upper, some_is, none_is, true_is, false_is, same_is, same_self, added_more}
-use Rattle.history_laws.proofs.Tailed.{tail_all, tail_trans, tail_of_empty, turn_tail, begun_tail, same_rest}
-use Rattle.call_laws.specs.Answering.{with_events}
-use Rattle.call_laws.proofs.Making.{MadeAs, MadeExpiry, are_made}
+use Rattle.history_laws.proofs.Plainly.{upper, none_is, true_is, false_is, added_more}
+use Rattle.history_laws.proofs.Tailed.{tail_all, tail_trans, turn_tail, begun_tail, same_rest}
+use Rattle.call_laws.proofs.Making.{MadeAs, are_made}
 use Rattle.call_laws.proofs.Starting.{actor_is, starts_are_down}
-use Rattle.takeover_laws.specs.Calm.{IsSteady}
-use Rattle.heard_laws.proofs.Sending.{KubeletMakes, kubelet_makes, KubeletSends, Follows, Seeks, Posts, sends_as, by_is, none_stays, stays_up}
+use Rattle.heard_laws.proofs.Sending.{KubeletSends, Follows, Seeks, Posts, sends_as, by_is}
 
 -- a kubelet that has no call and no round, and whose next one may begin at a reading
 pub record Idle (doc : Doc) (q : Identity) (at : ℕ) (h : List Entry) : Type 0 where

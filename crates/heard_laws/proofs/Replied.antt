@@ -1,8 +1,7 @@
 -- A reply to a kubelet whose messages pass counts, and what follows it is sent.
-use Rattle.std.proofs.Common.{◌≡◌, ◌∙◌, ◌⊎◌, ◌≤◌, ◌<◌, ℕ, zero, suc, ◌+◌, ◌*◌, ◌-◌, ◌==◌, ◌&&◌, not, nat_lt, Bool, true, false, List, [], ◌∷◌, Option, Some, None, refl, sym, ap, subst, inl, inr, ⊎_elim, arith}
+use Rattle.std.proofs.Common.{◌≡◌, ◌∙◌, ◌≤◌, ℕ, suc, ◌+◌, ◌*◌, ◌-◌, ◌==◌, ◌&&◌, not, Bool, true, false, List, ◌∷◌, Option, Some, None, refl, sym, ap, subst, inl, inr, ⊎_elim, arith}
 use Rattle.std.proofs.Math.Nat.{mul-le-mul_right}
 use Rattle.std.proofs.lemmas.Bool.{ltb-true, ltb-false, eq-eqb, eqb-true}
-use Rattle.kube_objects.specs.declared.call.Reply.{Reply}
 use Rattle.kube_objects.specs.declared.call.Request.{Request}
 use Rattle.kube_objects.specs.declared.deed.Actor.{Actor}
 use Rattle.kube_objects.specs.declared.deed.Actor.TheVariants as actors
@@ -39,11 +38,11 @@ use Rattle.call_laws.proofs.Once.{answers_differ, due_at}
 use Rattle.call_laws.proofs.Placing.{in_own_beat, within_answers}
 use Rattle.takeover_laws.specs.Calm.{IsSteady}
 use Rattle.takeover_laws.specs.Rounds.{IsRound}
-use Rattle.takeover_laws.proofs.Deliveries.{Waits, First, is_for, first_for, delivered_adds, deliveries_add, all_coming, any_coming}
+use Rattle.takeover_laws.proofs.Deliveries.{Waits, First, first_for, delivered_adds, deliveries_add, all_coming, any_coming}
 use Rattle.takeover_laws.proofs.Rounds.{rounds_in, in_answers}
 use Rattle.takeover_laws.proofs.Writers.{since_low}
 use Rattle.heard_laws.proofs.Heard.{below_ordered}
-use Rattle.heard_laws.proofs.Sending.{KubeletSends, sends_as, opens, waits_on, stays_up}
+use Rattle.heard_laws.proofs.Sending.{KubeletSends, sends_as, waits_on, stays_up}
 
 -- what a kubelet sends after a counted reply
 delivers : (doc : Doc) (q : Identity) (k : ℕ) (call : Call) (b : Back) (h : List Entry) → is_controller doc q.process ≡ false → b.who ≡ q → (call.number == b.call.number) ≡ true → is_late doc q k call ≡ false → Waits doc k q call h

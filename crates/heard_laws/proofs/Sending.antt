@@ -1,5 +1,5 @@
 -- When a kubelet sends, and which call of it waits.
-use Rattle.std.proofs.Common.{◌≡◌, ◌∙◌, ◌⊎◌, ◌≤◌, ◌<◌, ℕ, zero, suc, ◌+◌, ◌==◌, ◌&&◌, not, Bool, true, false, List, [], ◌∷◌, Option, Some, None, refl, sym, ap, subst, inl, inr, ⊎_elim, arith}
+use Rattle.std.proofs.Common.{◌≡◌, ◌∙◌, ◌⊎◌, ◌≤◌, ◌<◌, ℕ, suc, ◌+◌, ◌==◌, ◌&&◌, Bool, true, false, List, [], ◌∷◌, Option, Some, None, refl, sym, ap, subst, inl, inr, ⊎_elim, arith}
 use Rattle.std.proofs.lemmas.Bool.{eqb-true, eq-eqb}
 use Rattle.kube_objects.specs.declared.call.Reply.{Reply}
 use Rattle.kube_objects.specs.declared.call.Request.{Request}
@@ -11,9 +11,9 @@ use Rattle.kube_objects.specs.declared.object.Object.{Object}
 use Rattle.kube_objects.specs.declared.script.What.TheVariants as what
 use Rattle.kube_objects.specs.Clocks.{store_wall, whole_second}
 use Rattle.kube_objects.specs.Document.{Doc, is_controller}
-use Rattle.kube_objects.specs.Entry.{Entry, Identity, Call, CallKind, Plain, Fact, First, Event, Starts, Crashes, Stops, Stalls, Ends, Sends, Answers, Delivers, Expires, Leads, Ticks, actor_of, entry, script_entry}
+use Rattle.kube_objects.specs.Entry.{Entry, Identity, Call, CallKind, Plain, Fact, First, Starts, Crashes, Stops, Ends, Sends, Delivers, Expires, actor_of, entry, script_entry}
 use Rattle.kube_objects.specs.Identities.{identity, is_same, is_by, of_process}
-use Rattle.kube_objects.specs.Kubelet.{is_post, round_says, has_round, next_request, post, node_of}
+use Rattle.kube_objects.specs.Kubelet.{round_says, has_round, next_request, post, node_of}
 use Rattle.kube_objects.specs.Newest.{newest, added, when, join, or_else, has}
 use Rattle.kube_objects.specs.Process.{born, gone, life_says, life, alive, begun, is_send, open_as, call_says, last_call, call_in, counted}
 use Rattle.kube_objects.specs.Stamps.{stamped}
@@ -23,9 +23,9 @@ use Rattle.kube_objects.specs.Wire.{next_call, request_arrival, send}
 use Rattle.history.specs.History.{put_all, history}
 use Rattle.history.specs.Sound.{IsSound}
 use Rattle.history_laws.specs.Tails.{In, IsTail}
-use Rattle.history_laws.proofs.Counting.{CountedFor, counted_is}
+use Rattle.history_laws.proofs.Counting.{counted_is}
 use Rattle.history_laws.proofs.Expired.{expired_none}
-use Rattle.history_laws.proofs.Plainly.{upper, some_is, none_is, true_is, false_is, same_is, same_self, and_left, added_more}
+use Rattle.history_laws.proofs.Plainly.{upper, some_is, none_is, true_is, false_is, same_is, same_self, added_more}
 use Rattle.history_laws.proofs.Rounds.{Runs, RunsOwn, runs_more, runs_empty, goes_on}
 use Rattle.history_laws.proofs.Tailed.{tail_all, tail_trans, tail_of_empty, same_head, same_rest, begun_tail}
 use Rattle.history_laws.proofs.Ticks.{walk_tick}
