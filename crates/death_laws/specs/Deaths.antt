@@ -21,7 +21,7 @@ use Rattle.outage_laws.specs.Gone.{IsDated, IsDoomed}
 use Rattle.outage_laws.specs.Marked.{grace_period, StaysPosted, IsMarked}
 use Rattle.outage_laws.specs.Passes.{synced_at, monitor_period}
 use Rattle.heard_laws.specs.Heard.{IsLastTold, IsLatestRenewal}
-use Rattle.heard_laws.specs.Kubelet.{LivesFrom, TellsAlone}
+use Rattle.heard_laws.specs.Kubelet.{LivesFrom, IsLeftAlone}
 use Rattle.wave_laws.specs.Waves.{queue_at, ahead, KeepsRate, IsTainted}
 
 -- a leader attends to the beats from its first pass on; the node is stored all the while, and the all-Full mode doesn't end after that pass
@@ -88,12 +88,12 @@ PodsGoAfterFailovers =
     (doc : Doc) (r q : Identity) (t k seconds slow enough : ℕ) → wall doc r.process t ≡ wall doc q.process t → IsDated doc q.process → IsAttended doc q k → RunsAtLeast doc q.process t k slow
     → IsEnough slow (of_seconds seconds) enough → t + enough ≤ k → (key : Key) → is_pod key.kind ≡ true → IsDoomed doc r t seconds key (after_turn doc q.process k) → ⊥
 
--- and where the node's kubelet lives up to a last beat, and nobody else tells of the node: its last word comes by one message's way after that beat, so
+-- and where the node's kubelet lives up to a last beat, and the node is left to it alone: its last word comes by one message's way after that beat, so
 -- the node is last heard of less than a monitor period later, or by the leader's first pass
 abbrev pub DeathsAreMarked : Type 0
 DeathsAreMarked =
     (doc : Doc) (q : Identity) (name a e v : ℕ) → WatchesOver doc q name a e → (told : IsLastTold doc name v e)
     → (slow near far enough needed most : ℕ) → IsPaced doc q a e slow near far enough needed most
-    → (short long s last : ℕ) (kubelet : Identity) → IsSound doc → 1 ≤ short → LivesFrom doc short long s last kubelet name → s ≤ last → TellsAlone doc s e kubelet name → last + long ≤ e
+    → (short long s last : ℕ) (kubelet : Identity) → IsSound doc → 1 ≤ short → LivesFrom doc short long s last kubelet name → s ≤ last → IsLeftAlone doc s e kubelet name → last + long ≤ e
     → (latest : ℕ) → a ≤ latest → last + long + far ≤ suc latest → latest + most ≤ e
     → MarkedAfter doc q name a v latest near far enough needed most (IsLatestRenewal name told.x told.before)

@@ -42,9 +42,9 @@ use Rattle.takeover_laws.specs.Calm.{Passes, IsSteady}
 use Rattle.takeover_laws.proofs.Rounds.{in_events}
 use Rattle.takeover_laws.proofs.Writers.{sends_of, since_low}
 use Rattle.heard_laws.specs.Heard.{is_about, tells_of}
-use Rattle.heard_laws.specs.Kubelet.{AnswersSince, TellsAlone, IsLeaseKey}
 use Rattle.heard_laws.proofs.Heard.{below_ordered, no_cycle}
 use Rattle.heard_laws.proofs.Words.{words, words_tail, same_words}
+use Rattle.heard_laws.proofs.Requests.{AnswersSince, IsLeaseKey, TellsAlone}
 use Rattle.heard_laws.proofs.Sending.{KubeletSends, sends_as, newest_number, number_is, waits_on, stays_up}
 use Rattle.heard_laws.proofs.Replied.{timely, Replied, replied, next_low}
 use Rattle.heard_laws.proofs.Closing.{HasAnswer, closed_answered, one_at_a_time}

@@ -30,8 +30,9 @@ use Rattle.call_laws.proofs.Starting.{actor_is}
 use Rattle.takeover_laws.proofs.Fresh.{next_start, over_stays, still_up}
 use Rattle.takeover_laws.proofs.Writers.{sends_of, since_low}
 use Rattle.heard_laws.specs.Heard.{tells_of}
-use Rattle.heard_laws.specs.Kubelet.{LivesFrom, IsTimely, AnswersSince, TellsAlone, IsLeaseKey, LastWordsAreSoon, LastWordsAreLate}
+use Rattle.heard_laws.specs.Kubelet.{LivesFrom, IsTimely, LastWordsAreSoon, LastWordsAreLate}
 use Rattle.heard_laws.proofs.Heard.{below_ordered, told_early}
+use Rattle.heard_laws.proofs.Requests.{AnswersSince, IsLeaseKey, TellsAlone, tells_alone, lease_key}
 use Rattle.heard_laws.proofs.Sending.{by_is, KubeletSends, sends_as, none_stays, stays_up}
 use Rattle.heard_laws.proofs.Idle.{Idle, IsUnfollowed, Begins, idle_on, posts_now}
 use Rattle.heard_laws.proofs.Chain.{RoundEnds, WritesAt, arrives_in, round_writes, round_ends}
@@ -274,12 +275,12 @@ module _ (doc : Doc) (sound : IsSound doc) (near far s l : ℕ) (q : Identity) (
         later go le = let a = next_round j r from (omega (arith, le)) in go a.0 a.1 (omega (arith, from, a.2)) (omega (arith, a.3, le)) (omega (arith, a.2, few))
 
 pub last_words_are_late : LastWordsAreLate
-last_words_are_late doc near far s last e v q name sound one lives to timely alone leases end slow enough most slowly is_enough enough_most far_most told =
+last_words_are_late doc near far s last e v q name sound one lives to timely alone kinds end slow enough most slowly is_enough enough_most far_most told =
     omega (arith, a.2, soon)
   where
     a : (w : ℕ) × WritesAt doc (node_of doc q.process) e w × (suc last + 5 * near ≤ w + 4 * far + most)
     a =
-        last_write doc sound near far s last q name lives (omega (arith, to)) e timely one alone leases end slow enough most slowly is_enough enough_most far_most (suc last) s (first_round doc sound near far s last q name lives (omega (arith, to))) (omega arith) to
+        last_write doc sound near far s last q name lives (omega (arith, to)) e timely one (tells_alone doc sound s e q name alone) (lease_key doc sound e name kinds) end slow enough most slowly is_enough enough_most far_most (suc last) s (first_round doc sound near far s last q name lives (omega (arith, to))) (omega arith) to
         (omega arith)
 
     soon : a.0 ≤ v
@@ -288,7 +289,7 @@ last_words_are_late doc near far s last e v q name sound one lives to timely alo
 -- ---- and no later
 
 pub last_words_are_soon : LastWordsAreSoon
-last_words_are_soon doc near far s last e v q name sound one lives some alone end told = ⊎_elim (λ late. by_fact told.x.fact refl (alone told.x told.before told.stands told.tells (omega (arith, late, told.beat))) (are_made doc (suc e) told.x told.before told.stands)) (λ early. omega (arith, early, some)) (cases_lt s v)
+last_words_are_soon doc near far s last e v q name sound one lives some alone end told = ⊎_elim (λ late. by_fact told.x.fact refl (tells_alone doc sound s e q name alone told.x told.before told.stands told.tells (omega (arith, late, told.beat))) (are_made doc (suc e) told.x told.before told.stands)) (λ early. omega (arith, early, some)) (cases_lt s v)
   where
     -- it isn't up any more
     over : Over q (with_events doc (suc last))

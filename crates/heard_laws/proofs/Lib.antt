@@ -3,6 +3,7 @@ pub mod Words
 pub mod Said
 pub mod Heard
 pub mod Sending
+pub mod Requests
 pub mod Replied
 pub mod Closing
 pub mod Idle

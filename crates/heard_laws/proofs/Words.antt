@@ -53,7 +53,7 @@ pod_is_none pod key kind other = by_test (key_eq pod key) refl
     by_test true is = absurd (true_is (sym kind ∙ ap (λ (key : Key). is_pod key.kind) (key_is pod key is) ∙ other))
     by_test false is = refl
 
-other_node : (x name : ℕ) → (x ≡ name → ⊥) → key_eq (node_key x) (node_key name) ≡ false
+pub other_node : (x name : ℕ) → (x ≡ name → ⊥) → key_eq (node_key x) (node_key name) ≡ false
 other_node x name differs = by_test (key_eq (node_key x) (node_key name)) refl
   where
     by_test : (b : Bool) → key_eq (node_key x) (node_key name) ≡ b → b ≡ false

@@ -12,10 +12,11 @@ pub fn passes_hear()
     ensures least { RenewalsAreHeard }
 {}
 
-/// A kubelet that starts at a beat, whose messages pass from then on until it dies, and whose node nobody else tells of: its last write comes at most
-/// one greatest delay after its last beat. It comes at the earliest five least delays after the beginning of a round that isn't longer ago, before the
-/// beat after its last one, than four greatest delays and the time from one round to the next: a quarter of the duration of the node's Lease by its
-/// clock, or six greatest delays, whichever is more.
+/// A kubelet starts, its messages pass from then until it dies, and after its start its node and the node's Lease are left to this run of it alone: its
+/// last write comes at most one greatest delay after its last beat. It comes at the earliest five least delays after the beginning of a round that
+/// isn't longer ago, before the beat after its last one, than four greatest delays and the time from one round to the next: a quarter of the duration
+/// of the node's Lease by its clock, or six greatest delays, whichever is more. So it is for every document that leaves the election Lease alone, stops
+/// controllers only, and puts objects under keys of their kinds, as each does that is read.
 pub fn kubelets_tell_until_they_die()
     ensures late { LastWordsAreLate }
     ensures soon { LastWordsAreSoon }
