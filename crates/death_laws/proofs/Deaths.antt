@@ -87,7 +87,7 @@ module _ (doc : Doc) (q : Identity) (name a e v : ℕ) (watches : WatchesOver do
           let h = renewals_are_heard doc q name a e v watches.attends watches.first from told renews k.0 k.1 k.2 k.3 in
           ⊎_elim (λ lt. absurd (true_is (sym h.4 ∙ silent h.0 lt (omega (arith, h.2, k.2)) h.3))) (λ le. omega (arith, le, h.1)) (cases_lt last.at h.0)
 
-  pub marks : MarkedAfter doc q name a v latest near far enough needed most (IsLatestRenewal name told.x told.before)
+  pub marks : MarkedAfter doc q name a e v latest near far enough needed most (IsLatestRenewal name told.x told.before)
   marks =
       let m =
       nodes_are_marked doc q name last.at e (λ k low high. watches.attends k (omega (arith, low, last.least)) high) is_last slow paced.fast near far (λ j low high. paced.slowly j (omega (arith, low, last.least)) high)
@@ -95,6 +95,7 @@ module _ (doc : Doc) (q : Identity) (name a e v : ℕ) (watches : WatchesOver do
       record {
         p = last.at;
         m = m.0;
+        heard = is_last;
         from = last.least;
         upto = early;
         since = since;
@@ -119,7 +120,7 @@ pub dead_nodes_end : DeadNodesEnd
 dead_nodes_end doc q name a e v watches told slow near far enough needed most paced latest first word within place y k rate interval turn last late keeps interval_enough turn_enough few last_is end =
     (marked, t.0, t.1, omega (arith, t.2, bound, last_is), t.3, gone)
   where
-    marked : MarkedAfter doc q name a v latest near far enough needed most (IsLatestRenewal name told.x told.before)
+    marked : MarkedAfter doc q name a e v latest near far enough needed most (IsLatestRenewal name told.x told.before)
     marked = marks doc q name a e v watches told slow near far enough needed most paced latest first word within
 
     from : a ≤ marked.m

@@ -18,7 +18,7 @@ use Rattle.span_laws.specs.Spans.{RunsAtLeast, RunsAtMost, IsEnough, IsNeeded}
 use Rattle.span_laws.specs.Looks.{IsAtMost, IsAtLeast, IsGreatest}
 use Rattle.outage_laws.specs.Attended.{IsAttended, Attends}
 use Rattle.outage_laws.specs.Gone.{IsDated, IsDoomed}
-use Rattle.outage_laws.specs.Marked.{grace_period, StaysPosted, IsMarked}
+use Rattle.outage_laws.specs.Marked.{grace_period, StaysPosted, IsMarked, IsLastHeard}
 use Rattle.outage_laws.specs.Passes.{synced_at, monitor_period}
 use Rattle.heard_laws.specs.Heard.{IsLastTold, IsLatestRenewal}
 use Rattle.heard_laws.specs.Kubelet.{LivesFrom, IsLeftAlone}
@@ -44,9 +44,10 @@ pub record IsPaced (doc : Doc) (q : Identity) (a e slow near far enough needed m
   pub greatest : IsGreatest near far enough most
 
 -- the node is last heard of by the pass of beat p, and is marked in beat m, if it stays stored with a Ready that isn't Unknown until then
-pub record MarkedAfter (doc : Doc) (q : Identity) (name a v latest near far enough needed most : ℕ) (Renewed : Type 0) : Type 0 where
+pub record MarkedAfter (doc : Doc) (q : Identity) (name a e v latest near far enough needed most : ℕ) (Renewed : Type 0) : Type 0 where
   pub p : ℕ
   pub m : ℕ
+  pub heard : IsLastHeard doc q name p e
   pub from : a ≤ p
   pub upto : p ≤ latest
   pub since : Renewed → a ≤ v → v ≤ p
@@ -64,9 +65,9 @@ DeadNodesAreMarked =
     (doc : Doc) (q : Identity) (name a e v : ℕ) → WatchesOver doc q name a e → (told : IsLastTold doc name v e)
     → (slow near far enough needed most : ℕ) → IsPaced doc q a e slow near far enough needed most
     → (latest : ℕ) → a ≤ latest → v + far ≤ suc latest → latest + most ≤ e
-    → MarkedAfter doc q name a v latest near far enough needed most (IsLatestRenewal name told.x told.before)
+    → MarkedAfter doc q name a e v latest near far enough needed most (IsLatestRenewal name told.x told.before)
 
--- where the node's zone keeps a rate from beat y on, which isn't before the mark, and no more than k nodes are ahead of it at its mark: by as many of a
+-- where the node's zone keeps a rate from beat y on, which is no sooner than the latest mark, and up to that never more than k nodes are ahead of it: by as many of a
 -- token's intervals after y, and one more, it is tainted, or doesn't wait any more; and by as many beats later as the seconds take that a pod tolerates
 -- the taint, the pod is gone, or the taint is
 abbrev pub DeadNodesEnd : Type 0
@@ -76,7 +77,7 @@ DeadNodesEnd =
     → (latest : ℕ) → a ≤ latest → v + far ≤ suc latest → latest + most ≤ e
     → (place : Place) (y k rate interval turn last : ℕ) → latest + most ≤ y → KeepsRate doc q place rate y e → IsEnough rate token_size interval → IsEnough slow interval turn
     → ((j : ℕ) → a ≤ j → j ≤ latest + most → ahead q place name (queue_at doc q j) ≤ k) → last ≡ y + (k + 1) * turn → last ≤ e
-    → (marked : MarkedAfter doc q name a v latest near far enough needed most (IsLatestRenewal name told.x told.before))
+    → (marked : MarkedAfter doc q name a e v latest near far enough needed most (IsLatestRenewal name told.x told.before))
     × (t : ℕ) × (marked.m ≤ t) × (t ≤ last) × (IsTainted doc q place name t ⊎ (is_waiting q place name (queue_at doc q t) ≡ false))
     × (IsDated doc q.process → (seconds gone j : ℕ) → IsEnough slow (of_seconds seconds) gone → last + gone ≤ j → j ≤ e → (key : Key) → is_pod key.kind ≡ true
     → IsDoomed doc q t seconds key (after_turn doc q.process j) → ⊥)
@@ -96,4 +97,4 @@ DeathsAreMarked =
     → (slow near far enough needed most : ℕ) → IsPaced doc q a e slow near far enough needed most
     → (short long s last : ℕ) (kubelet : Identity) → IsSound doc → 1 ≤ short → LivesFrom doc short long s last kubelet name → s ≤ last → IsLeftAlone doc s e kubelet name → last + long ≤ e
     → (latest : ℕ) → a ≤ latest → last + long + far ≤ suc latest → latest + most ≤ e
-    → MarkedAfter doc q name a v latest near far enough needed most (IsLatestRenewal name told.x told.before)
+    → MarkedAfter doc q name a e v latest near far enough needed most (IsLatestRenewal name told.x told.before)
