@@ -189,7 +189,6 @@ lasts_for doc q h o = subst (λ t. LastsFor (lease_duration doc q.process) (obje
 module _ (doc : Doc) (near far b e : ℕ) (q : Identity) (l : LeadsUntil doc near far b e q) (s : Bears doc near far b e q) (quiet : IsQuiet doc b e q.process)
     (n : ℕ) (within : n ≤ e) where
   module _ (x : Entry) (T : List Entry) (at : IsTail (x ∷ T) (history doc (suc n))) (writes : has (at_key election (write_of x.fact)) ≡ true) (w : Won doc x T) (mine : w.who.process ≡ q.process) where
-
     wrote : has (at_key election (request_write w.call.request w.wrote)) ≡ true
     wrote = ap (λ d. has (at_key election (write_of d))) (sym w.fact) ∙ writes
 
