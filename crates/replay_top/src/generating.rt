@@ -27,9 +27,12 @@ use itoa::Buffer;
 use kube_base::{NoMemory, Steps};
 use lease_laws::lease_is_safe;
 use run_edge::{Status, Verdict, tell};
+use settle_laws::calm_spans_settle;
+use silence_laws::silences_last;
 use spacing_laws::taints_are_spaced;
 use stay_laws::leaders_stay;
 use std::alloc::Global;
+use succession_laws::{leaders_act_on, successors_lead};
 use trace_writer::add;
 use world_core::World;
 use world_gen::{generate, generated_documents_are_lawful};
@@ -72,6 +75,10 @@ fn generated_documents_are_safe()
     leaders_stay();
     gaps_last();
     others_wait();
+    calm_spans_settle();
+    silences_last();
+    successors_lead();
+    leaders_act_on();
 }
 
 /// The line of the generated document of these sizes, which is run.

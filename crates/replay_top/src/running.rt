@@ -33,9 +33,12 @@ use lease_laws::lease_is_safe;
 use manifest_json::ReadFault;
 use run_edge::{Status, Verdict, ask, take_input, tell_refusal, tell_too_large, tell_usage};
 use script_reader::Document;
+use settle_laws::calm_spans_settle;
+use silence_laws::silences_last;
 use spacing_laws::taints_are_spaced;
 use stay_laws::leaders_stay;
 use std::alloc::Global;
+use succession_laws::{leaders_act_on, successors_lead};
 use trace_writer::WriteFault;
 use zone_state::Policies;
 
@@ -102,6 +105,10 @@ fn documents_are_safe()
     leaders_stay();
     gaps_last();
     others_wait();
+    calm_spans_settle();
+    silences_last();
+    successors_lead();
+    leaders_act_on();
 }
 
 /// Reads the document that the source has and runs it.

@@ -25,4 +25,8 @@ returns-clause-timely c s within =
       stays = c.leaders_stay.ensures doc;
       gap = c.gaps_last.ensures doc;
       waits = c.others_wait.ensures doc;
+      settles = c.calm_spans_settle.ensures.told doc;
+      silence = c.silences_last.ensures.told doc;
+      succeeds = c.successors_lead.ensures.told doc;
+      acts_on = c.leaders_act_on.ensures doc;
     }
