@@ -50,9 +50,10 @@ class SchedulerLost(WorkersFault):
 
 @dataclass(frozen=True)
 class Equipment:
-    """What each worker has: the archive of this package, and the engine, of which the first word may be the name of a file that was sent."""
+    """What each worker has: the archives of this package and of further modules, and the engine, of which the first word may be the name of a
+    file that was sent."""
 
-    archive: str
+    archives: tuple[str, ...]
     is_library: bool
     words: tuple[str, ...]
     is_sent: bool
@@ -117,17 +118,24 @@ class Sending:
         self.client.register_worker_plugin(placing(name, data), name=name)
         return name
 
-    def equipment(self, engine: Engine) -> Equipment:
-        """Sends this package, and the engine where it is a file here."""
-        archive = self.file('kube_replay', '.zip', archive_of(sources()))
+    def equipment(self, engine: Engine, modules: Mapping[str, bytes]) -> Equipment:
+        """Sends this package, further modules by the names of their files, and the engine where it is a file here."""
+        packed = {'kube_replay': sources(), 'modules': modules}
+        archives = tuple(self.file(stem, '.zip', archive_of(files)) for stem, files in packed.items() if files)
         is_library = isinstance(engine, Library)
         words = tuple(engine.command) if isinstance(engine, Program) else (engine.place,)
         if len(words) > 1 or not os.path.isfile(words[0]):
-            return Equipment(archive, is_library, words, False)
-        return Equipment(archive, is_library, (self.file('kube_replay', '.so' if is_library else '', Path(words[0]).read_bytes()),), True)
+            return Equipment(archives, is_library, words, False)
+        return Equipment(archives, is_library, (self.file('kube_replay', '.so' if is_library else '', Path(words[0]).read_bytes()),), True)
 
 
 # On a worker
+
+
+def see_version(equipment: Equipment, place: str) -> None:
+    """Sees that a module at this place is one that was sent with this equipment."""
+    if not any(f'{os.sep}{archive}{os.sep}' in place for archive in equipment.archives):
+        raise WorkersFault(f'a worker has another version of kube_replay loaded, {os.path.dirname(place)}; start the workers anew')
 
 
 @lru_cache
@@ -135,8 +143,7 @@ def engine_here(equipment: Equipment) -> Engine:
     """The engine on this worker."""
     from distributed import get_worker
 
-    if f'{os.sep}{equipment.archive}{os.sep}' not in __file__:
-        raise WorkersFault(f'a worker has another version of kube_replay loaded, {os.path.dirname(__file__)}; start the workers anew')
+    see_version(equipment, __file__)
     words = list(equipment.words)
     if equipment.is_sent:
         words[0] = os.path.join(get_worker().local_directory, words[0])
@@ -145,9 +152,11 @@ def engine_here(equipment: Equipment) -> Engine:
 
 
 def done(equipment: Equipment, function: Callable[[Any, Any], Any], common: Any, task: Any) -> Any:
-    """A task's result, on a worker."""
+    """A task's result, on a worker. Dask may still have the function as an earlier command sent it, so it is looked up anew."""
     use(engine_here(equipment))
-    return function(common, task)
+    module = importlib.import_module(function.__module__)
+    see_version(equipment, str(module.__file__))
+    return getattr(module, function.__name__)(common, task)
 
 
 # Where the tasks come from
@@ -211,6 +220,11 @@ class Workers:
             if handings < MOST_HANDINGS:
                 return None
             raise WorkersFault(f'the workers were lost {MOST_HANDINGS} times over at one task: {fault}') from fault
+        except Exception as fault:
+            # The class of another version of this module is another class.
+            if type(fault).__name__ == WorkersFault.__name__:
+                raise WorkersFault(str(fault)) from fault
+            raise
 
 
 class Watch(Thread):
@@ -258,9 +272,7 @@ def connected(address: str, engine: Engine | None = None, modules: Mapping[str, 
             address = stack.enter_context(cluster).scheduler_address
         client = stack.enter_context(Client(address, timeout=CONNECT_SECONDS))
         sending = Sending(client)
-        workers = Workers(client, sending.equipment(engine or find_engine()))
-        if modules:
-            sending.file('modules', '.zip', archive_of(modules))
+        workers = Workers(client, sending.equipment(engine or find_engine(), modules or {}))
         stack.enter_context(Watch(client))
         print(f'dask: {len(client.nthreads())} workers; dashboard {client.dashboard_link}', file=sys.stderr, flush=True)
         yield workers

@@ -255,6 +255,28 @@ def test_one_after_another(given, folder):
     compare(given, folder, 'second')
 
 
+def test_other_modules(given, folder):
+    """A second command from a checkout with other questions, on the same worker, has the answers of its own; with another package it is told."""
+    other = os.path.join(folder, 'other')
+    for name in ('tools', 'python'):
+        shutil.copytree(os.path.join(TOP, name), os.path.join(other, name))
+    with open(os.path.join(other, 'tools', 'questions.py'), 'a') as file:
+        file.write("\n\nQUESTIONS['failover'] = (lambda trace: 'other', QUESTIONS['failover'][1])\n")
+    with scheduler(1) as dask:
+        for top, wanted in ((TOP, False), (other, True), (TOP, False)):
+            name = 'modules-%d' % len(os.listdir(folder))
+            sweep = [sys.executable, os.path.join(top, 'tools', 'sweep.py'), 'all', *sweep_words(20, name), '--dask', dask.address, '--program', BUILT]
+            run(sweep, folder, dask)
+            same('%s: answers of its own' % name, ',other,' in read(folder, name, 'answers.csv'), wanted)
+        with open(os.path.join(other, 'python', 'kube_replay', 'lines.py'), 'a') as file:
+            file.write('\n# another version\n')
+        environment = {**ENVIRONMENT, 'PYTHONPATH': os.path.join(other, 'python')}
+        ended = subprocess.run([*sweep[:1], os.path.join(other, 'tools', 'sweep.py'), 'all', *sweep_words(20, 'refused'), '--dask', dask.address, '--program', BUILT],
+                               cwd=folder, env=environment, stdout=subprocess.DEVNULL, stderr=subprocess.PIPE, text=True, check=False)
+        same('another version of the package', (ended.returncode, 'sweep: a worker has another version of kube_replay loaded, ' in ended.stderr, 'Traceback' in ended.stderr),
+             (1, True, False))
+
+
 def test_unseen_folder(given, folder):
     """A worker that doesn't see the folder gives what another writes there."""
     sys.path[:0] = [HERE, os.path.join(TOP, 'python')]
