@@ -6,12 +6,12 @@ a number wasn't timed, and takes more than a minute.
 import functools
 import os
 import shutil
-import subprocess
 import sys
 from dataclasses import dataclass, field
 from typing import Callable, Optional
 
 from crates import TOP
+from pythons import python_with
 
 
 @dataclass(frozen=True)
@@ -29,17 +29,6 @@ def program(name, package):
 def file(path, maker):
     """A file of the repository that is built first."""
     return Need(f'{path} (made by {maker})', lambda: os.access(os.path.join(TOP, path), os.R_OK))
-
-
-def pythons():
-    """The Pythons of this system: the one that runs this, and Debian's, which sees Debian's modules."""
-    return [sys.executable, '/usr/bin/python3']
-
-
-def python_with(module):
-    """The first Python that has a module, or None."""
-    return next((one for one in pythons() if os.path.exists(one) and
-                 subprocess.run([one, '-c', f'import {module}'], stderr=subprocess.DEVNULL, check=False).returncode == 0), None)
 
 
 @functools.cache
@@ -64,6 +53,7 @@ CHROMIUM = program('chromium', 'chromium')
 COMPILER = program('cc', 'gcc')
 PYTEST = Need('pytest (Debian: python3-pytest)', lambda: python_with('pytest') is not None)
 DASK = Need('Dask (Debian: python3-distributed)', lambda: python_with('distributed') is not None)
+MKDOCS = Need('MkDocs (Debian: mkdocs, mkdocs-material)', lambda: python_with('mkdocs') is not None)
 ROOT = Need('root', lambda: os.geteuid() == 0)
 
 
@@ -126,7 +116,7 @@ ROWS = [
     Row('launcher-hints', ['bench/launcher_check.sh', 'hints'], [], 8),
     Row('limits', ['bench/limits.py'], [REPLAY], 9),
     Row('pages', ['tools/check-docs'], [REPLAY, LENS, program('jq', 'jq')], None),
-    Row('site', ['tools/site'], [program('mkdocs', 'mkdocs, mkdocs-material')], None),
+    Row('site', ['tools/site'], [MKDOCS], None, module='mkdocs'),
     Row('site-search', ['tools/test/test_site.py'], [file('out/site/index.html', 'tools/site'), CHROMIUM], None),
     Row('browser', ['view/test_timeline.py'], [CHROMIUM], None),
     Row('playground', ['play/test_server.py'], [REPLAY, LENS], 6),
@@ -143,5 +133,5 @@ ROWS = [
     Row('hostile-space', ['bench/hostile/memory.py', '--part', 'space'], [REPLAY], None),
     Row('hostile-worst', ['bench/hostile/worst.py'], [REPLAY], None),
     test('package', [ROOT, REPLAY, LENS, program('dpkg-deb', 'dpkg'), program('mmdebstrap', 'mmdebstrap'), program('man', 'man-db'),
-                     program('lintian', 'lintian')], None),
+                     program('lintian', 'lintian'), MKDOCS], None),
 ]

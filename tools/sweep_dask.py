@@ -4,6 +4,7 @@ import json
 import os
 import pickle
 import tempfile
+import time
 import zlib
 
 import questions
@@ -12,7 +13,11 @@ import sweep_paths
 
 # What a worker is sent beside the package kube_replay. That may come to it later than these, so it is imported where it is used.
 MODULES = ('questions.py', 'sweep_dask.py', 'sweep_folder.py', 'sweep_paths.py')
-MOST_AT_ONCE = 64
+# So long does a worker take for a piece of the runs, so many are in it at most, and so many pieces has each worker still before it, which
+# become smaller at the end: then no worker is long at work alone.
+PIECE_SECONDS = 1
+MOST_AT_ONCE = 512
+PIECES_AHEAD = 4
 
 
 def runs(plan, numbers, folder, address, chosen):
@@ -22,15 +27,42 @@ def runs(plan, numbers, folder, address, chosen):
 
     place = os.path.abspath(os.path.join(folder, 'runs'))
     with workers.connected(address, chosen, modules()) as found, tempfile.NamedTemporaryFile(dir=place, suffix='.part') as sign:
-        at_once = max(1, min(MOST_AT_ONCE, len(numbers) // 256))
-        chunks = [[(number, plan['runs'][number]) for number in numbers[first:first + at_once]] for first in range(0, len(numbers), at_once)]
-        common, progress = (plan['document'], plan['paths'], plan['ask'], sign.name), workers.Progress(len(numbers), 'runs')
-        for chunk, packed in found.results(replayed, common, chunks):
-            progress.step(len(chunks[chunk]))
-            for number, row, fault, *files in pickle.loads(zlib.decompress(packed)):
+        common, pieces = (plan['document'], plan['paths'], plan['ask'], sign.name), Pieces(plan['runs'], numbers, found.threads)
+        progress = workers.Progress(len(numbers), 'runs')
+        for _, packed in found.results(replayed, common, pieces):
+            seconds, done = pickle.loads(zlib.decompress(packed))
+            pieces.took(len(done), seconds)
+            progress.step(len(done))
+            for number, row, fault, *files in done:
                 if files:
                     sweep_folder.keep_run(folder, number, *files)
                 yield number, row, fault
+
+
+class Pieces:
+    """The runs with these numbers, piece by piece, each of so many runs as were done in the time of a piece before."""
+
+    def __init__(self, runs, numbers, threads):
+        self.runs, self.numbers, self.threads = runs, numbers, threads
+        self.done, self.seconds = 0, 0
+
+    def took(self, count, seconds):
+        """So many further runs took a worker so long."""
+        self.done, self.seconds = self.done + count, self.seconds + seconds
+
+    def __iter__(self):
+        first = 0
+        while first < len(self.numbers):
+            piece = self.numbers[first:first + self.at_once(len(self.numbers) - first)]
+            first += len(piece)
+            yield [(number, self.runs[number]) for number in piece]
+
+    def at_once(self, left):
+        """How many runs are in the next piece, of those that are left."""
+        if not self.done:
+            return 1
+        in_time = round(PIECE_SECONDS * self.done / max(self.seconds, 1e-6))
+        return max(1, min(in_time, MOST_AT_ONCE, left // (PIECES_AHEAD * max(1, self.threads()))))
 
 
 def modules():
@@ -42,13 +74,14 @@ def modules():
     return files
 
 
-def replayed(common, chunk):
-    """The runs of a chunk, on a worker."""
+def replayed(common, piece):
+    """The seconds that a piece of the runs took, and its runs, on a worker."""
+    began = time.monotonic()
     document, paths, asked, sign = common
-    done = [one_run(number, json.dumps(sweep_paths.changed(document, list(zip(paths, values)))), asked) for number, values in chunk]
+    done = [one_run(number, json.dumps(sweep_paths.changed(document, list(zip(paths, values)))), asked) for number, values in piece]
     if os.path.exists(sign):
         done = [written(os.path.dirname(os.path.dirname(sign)), *each) for each in done]
-    return zlib.compress(pickle.dumps(done), 1)
+    return zlib.compress(pickle.dumps((time.monotonic() - began, done)), 1)
 
 
 def written(folder, number, row, fault, *files):

@@ -6,22 +6,25 @@ to one that comes later. What a lost worker had is done anew by another, so a ta
 from __future__ import annotations
 
 import hashlib
+import importlib
 import io
 import logging
+import math
 import os
 import pickle
+import pkgutil
 import re
 import sys
 import time
 import zipfile
 from asyncio import CancelledError
 from concurrent.futures import CancelledError as FutureCancelledError
-from contextlib import ExitStack, contextmanager
+from contextlib import ExitStack, contextmanager, suppress
 from dataclasses import dataclass
 from functools import lru_cache
 from itertools import islice
 from pathlib import Path
-from tempfile import TemporaryDirectory
+from threading import Event, Thread
 from typing import Any, Callable, Iterable, Iterator, Mapping
 
 from kube_replay.engine import HERE, Engine, Library, Program, find_engine, use
@@ -31,6 +34,9 @@ LOCAL = re.compile(r'local(?::([1-9]\d*))?')
 CONNECT_SECONDS = 60
 # Dask gives a task up after it was on several workers that were lost (distributed.scheduler.allowed-failures, 3); so often it is handed out.
 MOST_HANDINGS = 20
+# How many tasks are handed out for each that the workers take at once, and how often it is asked how many these are.
+HANDED_OUT = 3
+COUNT_SECONDS = 5
 AGES_AGO = (1980, 1, 1, 0, 0, 0)
 
 
@@ -44,9 +50,10 @@ class SchedulerLost(WorkersFault):
 
 @dataclass(frozen=True)
 class Equipment:
-    """What each worker has: the archive of this package, and the engine, of which the first word may be the name of a file that was sent."""
+    """What each worker has: the archives of this package and of further modules, and the engine, of which the first word may be the name of a
+    file that was sent."""
 
-    archive: str
+    archives: tuple[str, ...]
     is_library: bool
     words: tuple[str, ...]
     is_sent: bool
@@ -71,6 +78,34 @@ def named(stem: str, ending: str, data: bytes) -> str:
     return f'{stem}-{hashlib.sha256(data).hexdigest()[:16]}{ending}'
 
 
+def placing(name: str, data: bytes) -> Any:
+    """The plugin that puts a file into a worker's folder. A file that is there stays as it is, since an earlier command may have loaded it:
+    a shared library that is written anew below a process ends that process. What a worker has of an archive's modules from elsewhere is
+    forgotten. The class stands within a function, since a worker that has no such package yet is then sent the class itself."""
+    from distributed.diagnostics.plugin import WorkerPlugin
+
+    class Placing(WorkerPlugin):  # type: ignore[misc]
+        def setup(self, worker: Any) -> None:
+            path = os.path.join(worker.local_directory, name)
+            if not os.path.exists(path):
+                with open(path + '.part', 'wb') as file:
+                    file.write(data)
+                os.replace(path + '.part', path)
+            if name.endswith('.zip'):
+                self.take(path)
+
+        def take(self, archive: str) -> None:
+            sys.path[:] = [archive, *(place for place in sys.path if place != archive)]
+            names = {found.name for found in pkgutil.iter_modules([archive])}
+            for module in list(sys.modules):
+                place = getattr(sys.modules[module], '__file__', None) or ''
+                if module.partition('.')[0] in names and not place.startswith(archive + os.sep):
+                    del sys.modules[module]
+            importlib.invalidate_caches()
+
+    return Placing()
+
+
 class Sending:
     """The files that each worker is sent, also one that comes later."""
 
@@ -79,26 +114,28 @@ class Sending:
 
     def file(self, stem: str, ending: str, data: bytes) -> str:
         """Sends a file, and gives its name on the workers. Archives go onto their path for modules."""
-        from distributed.diagnostics.plugin import UploadFile
-
         name = named(stem, ending, data)
-        with TemporaryDirectory() as folder:
-            path = Path(folder) / name
-            path.write_bytes(data)
-            self.client.register_worker_plugin(UploadFile(str(path)), name=name)
+        self.client.register_worker_plugin(placing(name, data), name=name)
         return name
 
-    def equipment(self, engine: Engine) -> Equipment:
-        """Sends this package, and the engine where it is a file here."""
-        archive = self.file('kube_replay', '.zip', archive_of(sources()))
+    def equipment(self, engine: Engine, modules: Mapping[str, bytes]) -> Equipment:
+        """Sends this package, further modules by the names of their files, and the engine where it is a file here."""
+        packed = {'kube_replay': sources(), 'modules': modules}
+        archives = tuple(self.file(stem, '.zip', archive_of(files)) for stem, files in packed.items() if files)
         is_library = isinstance(engine, Library)
         words = tuple(engine.command) if isinstance(engine, Program) else (engine.place,)
         if len(words) > 1 or not os.path.isfile(words[0]):
-            return Equipment(archive, is_library, words, False)
-        return Equipment(archive, is_library, (self.file('kube_replay', '.so' if is_library else '', Path(words[0]).read_bytes()),), True)
+            return Equipment(archives, is_library, words, False)
+        return Equipment(archives, is_library, (self.file('kube_replay', '.so' if is_library else '', Path(words[0]).read_bytes()),), True)
 
 
 # On a worker
+
+
+def see_version(equipment: Equipment, place: str) -> None:
+    """Sees that a module at this place is one that was sent with this equipment."""
+    if not any(f'{os.sep}{archive}{os.sep}' in place for archive in equipment.archives):
+        raise WorkersFault(f'a worker has another version of kube_replay loaded, {os.path.dirname(place)}; start the workers anew')
 
 
 @lru_cache
@@ -106,8 +143,7 @@ def engine_here(equipment: Equipment) -> Engine:
     """The engine on this worker."""
     from distributed import get_worker
 
-    if f'{os.sep}{equipment.archive}{os.sep}' not in __file__:
-        raise WorkersFault(f'a worker has another version of kube_replay loaded, {os.path.dirname(__file__)}; start the workers anew')
+    see_version(equipment, __file__)
     words = list(equipment.words)
     if equipment.is_sent:
         words[0] = os.path.join(get_worker().local_directory, words[0])
@@ -116,9 +152,11 @@ def engine_here(equipment: Equipment) -> Engine:
 
 
 def done(equipment: Equipment, function: Callable[[Any, Any], Any], common: Any, task: Any) -> Any:
-    """A task's result, on a worker."""
+    """A task's result, on a worker. Dask may still have the function as an earlier command sent it, so it is looked up anew."""
     use(engine_here(equipment))
-    return function(common, task)
+    module = importlib.import_module(function.__module__)
+    see_version(equipment, str(module.__file__))
+    return getattr(module, function.__name__)(common, task)
 
 
 # Where the tasks come from
@@ -130,10 +168,11 @@ class Workers:
     def __init__(self, client: Any, equipment: Equipment) -> None:
         self.client = client
         self.equipment = equipment
+        self._count, self._looked = 0, -math.inf
 
     def results(self, function: Callable[[Any, Any], Any], common: Any, tasks: Iterable[Any]) -> Iterator[tuple[int, Any]]:
-        """`function(common, task)` for each task, with the task's place, in the order in which they are done. So many tasks are handed
-        out at once that no worker has to wait, and that their results don't pile up."""
+        """`function(common, task)` for each task, with the task's place, in the order in which they are done. A task is taken only when it is
+        handed out: so many at once that no worker has to wait, and that their results don't pile up."""
         from distributed import as_completed
 
         shared = self.client.submit(pickle.loads, pickle.dumps(common), pure=False)
@@ -144,21 +183,29 @@ class Workers:
             asked[future.key] = place, task, handings
             running.add(future)
 
-        for place, task in islice(waiting, max(32, 4 * self.threads())):
-            hand_out(place, task, 1)
+        def fill() -> None:
+            for place, task in islice(waiting, max(0, HANDED_OUT * max(2, self.threads()) - len(asked))):
+                hand_out(place, task, 1)
+
+        fill()
         for future in running:
             place, task, handings = asked.pop(future.key)
             found = self._result(future, handings)
             if found is None:
                 hand_out(place, task, handings + 1)
                 continue
-            for following in islice(waiting, 1):
-                hand_out(*following, 1)
+            fill()
             yield place, found[0]
 
     def threads(self) -> int:
-        """How many tasks the workers take at once."""
-        return sum(self.client.nthreads().values())
+        """How many tasks the workers take at once, as it was a few seconds ago at most. Of a scheduler that is lost the last count stands; whoever
+        waits for a result is told of the loss."""
+        now = time.monotonic()
+        if now - self._looked > COUNT_SECONDS:
+            with suppress(OSError, CancelledError, FutureCancelledError):
+                self._count = sum(self.client.nthreads().values())
+            self._looked = now
+        return self._count
 
     def _result(self, future: Any, handings: int) -> tuple[Any] | None:
         """The result; None where the task was on so many workers that were lost that Dask gave it up, and it is to be handed out again."""
@@ -173,6 +220,37 @@ class Workers:
             if handings < MOST_HANDINGS:
                 return None
             raise WorkersFault(f'the workers were lost {MOST_HANDINGS} times over at one task: {fault}') from fault
+        except Exception as fault:
+            # The class of another version of this module is another class.
+            if type(fault).__name__ == WorkersFault.__name__:
+                raise WorkersFault(str(fault)) from fault
+            raise
+
+
+class Watch(Thread):
+    """Tells when no worker is left, since a command then waits for one for as long as it takes."""
+
+    def __init__(self, client: Any) -> None:
+        super().__init__(daemon=True)
+        self.client, self.ended = client, Event()
+
+    def run(self) -> None:
+        before = True
+        while not self.ended.wait(COUNT_SECONDS):
+            try:
+                there = bool(self.client.nthreads())
+            except Exception:  # noqa: BLE001: a lost scheduler is told by who waits for a result
+                return
+            if there != before:
+                print('dask: there are workers again' if there else 'dask: no worker is left; waiting for one', file=sys.stderr, flush=True)
+            before = there
+
+    def __enter__(self) -> Watch:
+        self.start()
+        return self
+
+    def __exit__(self, *fault: object) -> None:
+        self.ended.set()
 
 
 @contextmanager
@@ -194,9 +272,8 @@ def connected(address: str, engine: Engine | None = None, modules: Mapping[str, 
             address = stack.enter_context(cluster).scheduler_address
         client = stack.enter_context(Client(address, timeout=CONNECT_SECONDS))
         sending = Sending(client)
-        workers = Workers(client, sending.equipment(engine or find_engine()))
-        if modules:
-            sending.file('modules', '.zip', archive_of(modules))
+        workers = Workers(client, sending.equipment(engine or find_engine(), modules or {}))
+        stack.enter_context(Watch(client))
         print(f'dask: {len(client.nthreads())} workers; dashboard {client.dashboard_link}', file=sys.stderr, flush=True)
         yield workers
 

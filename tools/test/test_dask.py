@@ -35,6 +35,7 @@ ENVIRONMENT = {**os.environ, 'PYTHONPATH': os.pathsep.join([os.path.join(TOP, 'p
 # A worker has neither the package nor an engine of its own: both are sent.
 BARE = {key: value for key, value in os.environ.items() if not key.startswith('KUBE_REPLAY')}
 CLOCK = os.sysconf('SC_CLK_TCK')
+NO_WORKER = 'dask: no worker is left; waiting for one\n'
 faults = []
 
 
@@ -78,6 +79,20 @@ class Scheduler:
         worker = self.workers.pop(0)
         worker.kill()
         worker.wait()
+
+    def sent(self):
+        """The files that the workers were sent, by path, with what tells them from others of the same name."""
+        found = {}
+        for place, _, names in os.walk(self.folder):
+            for name in names:
+                if name.startswith(('kube_replay-', 'modules-')):
+                    stat = os.stat(os.path.join(place, name))
+                    found[os.path.join(place, name)] = stat.st_ino, stat.st_mtime_ns
+        return found
+
+    def ended(self):
+        """The statuses of the workers that have ended by themselves."""
+        return [worker.poll() for worker in self.workers if worker.poll() is not None]
 
     def stop(self):
         for process in (*self.workers, self.process):
@@ -126,10 +141,16 @@ def start(words, folder):
         return subprocess.Popen(words, cwd=folder, env=ENVIRONMENT, stdout=out, stderr=log)
 
 
-def run(words, folder):
-    """Seconds, and the processor seconds of a command and what it started."""
+def run(words, folder, dask=None):
+    """Seconds, and the processor seconds of a command and what it started. It is ended where a worker of its scheduler has ended."""
     before, began = resource.getrusage(resource.RUSAGE_CHILDREN), time.monotonic()
     process = start(words, folder)
+    while process.poll() is None:
+        if dask and dask.ended():
+            same('the workers of ' + ' '.join(words[:4]), dask.ended(), [])
+            process.kill()
+            break
+        time.sleep(.01)
     process.wait()
     after = resource.getrusage(resource.RUSAGE_CHILDREN)
     if process.returncode:
@@ -193,6 +214,7 @@ def test_all_lost_in_a_sweep(given, folder):
         wait_for(process, lambda: traces(folder, 'all-lost') > given.runs // 4)
         dask.lose()
         dask.lose()
+        wait_for(process, lambda: NO_WORKER in read(folder, 'log'))
         dask.add(2)
         same('a sweep that lost all workers', process.wait(), 0)
     compare(given, folder, 'all-lost')
@@ -219,15 +241,51 @@ def trace_paths(given, folder, name):
     return [(number, os.path.join(folder, name, 'runs', '%05d.trace' % number)) for number in range(given.runs)]
 
 
+def test_one_after_another(given, folder):
+    """Two sweeps and a hunt on the same worker: it goes on with the files that it has, and each gives the table of a sweep without Dask."""
+    with scheduler(1) as dask:
+        run([*SWEEP, 'all', *sweep_words(given.runs, 'first'), '--dask', dask.address], folder, dask)
+        before = dask.sent()
+        run([*SWEEP, 'all', *sweep_words(given.runs, 'second'), '--dask', dask.address], folder, dask)
+        if given.scripts:
+            run(hunt_words(given.scripts, '--dask', dask.address), folder, dask)
+        same('the files of the first command', {name: dask.sent().get(name) for name in before}, before)
+        same('files were sent', bool(before), True)
+    compare(given, folder, 'first')
+    compare(given, folder, 'second')
+
+
+def test_other_modules(given, folder):
+    """A second command from a checkout with other questions, on the same worker, has the answers of its own; with another package it is told."""
+    other = os.path.join(folder, 'other')
+    for name in ('tools', 'python'):
+        shutil.copytree(os.path.join(TOP, name), os.path.join(other, name))
+    with open(os.path.join(other, 'tools', 'questions.py'), 'a') as file:
+        file.write("\n\nQUESTIONS['failover'] = (lambda trace: 'other', QUESTIONS['failover'][1])\n")
+    with scheduler(1) as dask:
+        for top, wanted in ((TOP, False), (other, True), (TOP, False)):
+            name = 'modules-%d' % len(os.listdir(folder))
+            sweep = [sys.executable, os.path.join(top, 'tools', 'sweep.py'), 'all', *sweep_words(20, name), '--dask', dask.address, '--program', BUILT]
+            run(sweep, folder, dask)
+            same('%s: answers of its own' % name, ',other,' in read(folder, name, 'answers.csv'), wanted)
+        with open(os.path.join(other, 'python', 'kube_replay', 'lines.py'), 'a') as file:
+            file.write('\n# another version\n')
+        environment = {**ENVIRONMENT, 'PYTHONPATH': os.path.join(other, 'python')}
+        ended = subprocess.run([*sweep[:1], os.path.join(other, 'tools', 'sweep.py'), 'all', *sweep_words(20, 'refused'), '--dask', dask.address, '--program', BUILT],
+                               cwd=folder, env=environment, stdout=subprocess.DEVNULL, stderr=subprocess.PIPE, text=True, check=False)
+        same('another version of the package', (ended.returncode, 'sweep: a worker has another version of kube_replay loaded, ' in ended.stderr, 'Traceback' in ended.stderr),
+             (1, True, False))
+
+
 def test_unseen_folder(given, folder):
     """A worker that doesn't see the folder gives what another writes there."""
-    sys.path.insert(0, os.path.join(TOP, 'python'))
+    sys.path[:0] = [HERE, os.path.join(TOP, 'python')]
     import sweep_dask
     make_plain(given, folder)
     plan = json.loads(read(folder, 'plain', 'plan.json'))
     common = plan['document'], plan['paths'], plan['ask'], os.path.join(folder, 'not-there.part')
     packed = sweep_dask.replayed(common, list(enumerate(plan['runs']))[:20])
-    for number, row, fault, *files in pickle.loads(zlib.decompress(packed)):
+    for number, row, fault, *files in pickle.loads(zlib.decompress(packed))[1]:
         same('unseen: run %d' % number, (fault, files), ('', [read(folder, 'plain', 'runs', '%05d%s' % (number, ending)) for ending in ('.json', '.trace')]))
         same('unseen: answers %d' % number, row['outcome'], 'done')
     print('unseen: 20 runs, as without Dask', flush=True)
@@ -274,7 +332,7 @@ def load():
 def timed(what, words, folder, dask=None):
     """A row: what, seconds, processor seconds of the workers, of the scheduler, and of the command, and the load before."""
     before, loaded = dask.seconds() if dask else (0, 0), load()
-    seconds, own = run(words, folder)
+    seconds, own = run(words, folder, dask)
     after = dask.seconds() if dask else (0, 0)
     row = (seconds, after[0] - before[0], after[1] - before[1], own)
     print('%-28s %7.1f s; processor: workers %6.1f s, scheduler %5.1f s, the command %6.1f s; load %s' % (what, *row, loaded), flush=True)

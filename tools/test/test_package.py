@@ -3,7 +3,7 @@
 
     tools/test/test_package.py [--program FILE --lens FILE] [--root TAR]
 
-It needs root, dpkg-deb, mmdebstrap, man and lintian, all of them in Debian, and for mmdebstrap a mirror; TAR is a system that was made
+It needs root, dpkg-deb, mmdebstrap, man, lintian, mkdocs and mkdocs-material, all of them in Debian, and for mmdebstrap a mirror; TAR is a system that was made
 before, by the line that --make-root prints. Each line has what was tried, and `same` or what was wrong. The exit status is 1 where
 anything was. With --program and --lens the package is made of other builds than the proved ones.
 """
@@ -17,6 +17,7 @@ import shutil
 import subprocess
 import sys
 import tempfile
+import urllib.parse
 
 TOP = os.path.dirname(os.path.dirname(os.path.dirname(os.path.realpath(__file__))))
 # What a system has beside the essential packages: the package itself needs none of these.
@@ -294,6 +295,21 @@ def try_links(tried, system):
     tried.same('links among the pages', lost, [])
 
 
+def try_site(tried, system):
+    """The pages as a site: each link among them leads somewhere, the search has its script, and the system's readers of manuals are told."""
+    html = system.folder + DOC + 'html/'
+    pages = glob.glob(html + '**/*.html', recursive=True)
+    tried.same('pages of the site', (os.path.isfile(html + 'index.html'), os.path.isfile(html + 'search/offline.js'), len(pages) > 60), (True, True, True))
+    lost = []
+    for page in pages:
+        with open(page, encoding='utf-8') as file:
+            links = re.findall(r'(?:href|src)="(?!https?:|data:|#)([^"#]+)', file.read())
+        lost += [(os.path.relpath(page, html), link) for link in links if not os.path.exists(os.path.join(os.path.dirname(page), urllib.parse.unquote(link)))]
+    tried.same('links of the site', lost, [])
+    told = dict(re.findall('^(Index|Files): (.*)', system.read('/usr/share/doc-base/kube-replay'), re.M))
+    tried.same('the page that doc-base names', told['Index'], DOC + 'html/index.html')
+
+
 def try_package(tried, folder, path, tar):
     system = System(os.path.join(folder, 'system'))
     os.mkdir(system.folder)
@@ -303,7 +319,7 @@ def try_package(tried, folder, path, tar):
     status, _, said = system.run('dpkg -i /root/kube-replay.deb')
     tried.same('dpkg -i', (status, said), (0, ''))
     tried.same('dpkg --verify', system.run('dpkg --verify kube-replay'), (0, '', ''))
-    for part in (try_program, try_faults, try_lens, try_tools, try_playground, try_plugin, try_man_pages, try_completions, try_links):
+    for part in (try_program, try_faults, try_lens, try_tools, try_playground, try_plugin, try_man_pages, try_completions, try_links, try_site):
         part(tried, system)
     status, _, said = system.run('dpkg -r kube-replay')
     tried.same('dpkg -r', (status, said), (0, ''))

@@ -175,8 +175,9 @@ def traces(folder):
 
 
 def test_broken_off(given, folder):
-    """Killed once and interrupted once, it goes on, and ends with the same bytes."""
-    words = ('all', CRASH_WORDS[0], 'broken', *CRASH_WORDS[2:], '--jobs', '1', '--program', given.program)
+    """Killed once and interrupted once, it goes on, and ends with the same bytes. Each run takes a moment longer, so that it is broken off before its end."""
+    slow = shlex.join(['sh', '-c', 'sleep .02; exec "$@"', 'slow', *shlex.split(given.program)])
+    words = ('all', CRASH_WORDS[0], 'broken', *CRASH_WORDS[2:], '--jobs', '1', '--program', slow)
     broken = os.path.join(folder, 'broken')
     for count, stroke in ((15, signal.SIGKILL), (40, signal.SIGINT)):
         running = sweep(*words, folder=folder, wait=False)

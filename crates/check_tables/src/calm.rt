@@ -5,14 +5,15 @@ ghost use Rattle.replay_top.specs.Outcome.{outcome};
 use byte_edge::{CalmSink, CalmSource};
 use kube_base::Steps;
 use rate_policies::{full, partial};
-use replay_top::{Status, run};
+use replay_top::run;
+use run_edge::Status;
 use std::alloc::Global;
 use std::sync::ledger::Blank;
 use zone_state::Policies;
 
 /// How a run ends where neither its source nor its sink can fail: as the words and the bytes say, or for want of memory.
 pub(crate) fn ends_calmly(alloc: Global, words: &Vec<String>, bytes: Vec<u8>) -> Status
-    ensures { (result ≡ (outcome (map string_bytes words.now.items) bytes.items).status) ⊎ (result ≡ Status.OutOfMemory) }
+    ensures { (result ≡ Status.Answered (outcome (map string_bytes words.now.items) bytes.items).reply.verdict) ⊎ (result ≡ Status.OutOfMemory) }
 {
     let mut source = CalmSource::new(bytes);
     let mut sink = CalmSink::new();

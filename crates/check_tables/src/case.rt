@@ -5,13 +5,13 @@ use crate::many::document_of;
 use crate::table::Kind;
 use crate::trial::{Trial, ample, both_write, ends, shows, writes};
 use kube_base::NoMemory;
-use replay_top::Status;
+use run_edge::{Status, Verdict};
 use std::alloc::Global;
 
 /// Whether a row holds, in a table of this kind with this form.
 pub(crate) fn holds(alloc: Global, kind: Kind, form: &str, row: &str) -> Result<bool, NoMemory> {
     match kind {
-        Kind::Words => words_hold(alloc, form, row, Status::Usage),
+        Kind::Words => words_hold(alloc, form, row, Status::Answered(Verdict::Usage)),
         Kind::Lines => line_holds(alloc, row),
         _ => match row.split_once('\t') {
             Some((wanted, case)) => case_holds(alloc, kind, form, wanted, case),
@@ -104,7 +104,7 @@ fn many_hold(alloc: Global, parts: &str, line: &str) -> Result<bool, NoMemory> {
 /// Whether a run with the words of the row writes what stands in front of them.
 fn line_holds(alloc: Global, row: &str) -> Result<bool, NoMemory> {
     match row.split_once('\t') {
-        Some((wanted, _)) => words_hold(alloc, wanted, row, Status::Done),
+        Some((wanted, _)) => words_hold(alloc, wanted, row, Status::Answered(Verdict::Done)),
         None => Ok(false),
     }
 }

@@ -4,7 +4,7 @@ use crate::case::with_line_feeds;
 use crate::tally::Tally;
 use crate::trial::{Trial, ample, ends, status_of, words_in, writes};
 use kube_base::NoMemory;
-use replay_top::Status;
+use run_edge::{Status, Verdict};
 use std::alloc::Global;
 
 /// The most bytes that an input may have.
@@ -88,7 +88,13 @@ fn over_failing_sources(alloc: Global, asked: &Asked<'_>) -> Result<Tally, NoMem
         ..ample(asked.input, asked.text.len())
     };
     let text = asked.text.as_bytes();
-    tally.add(ends(alloc, asked.words, &trial, Status::Done, text)?);
+    tally.add(ends(
+        alloc,
+        asked.words,
+        &trial,
+        Status::Answered(Verdict::Done),
+        text,
+    )?);
     Ok(tally)
 }
 
@@ -99,7 +105,13 @@ fn over_unread_source(alloc: Global, asked: &Asked<'_>) -> Result<Tally, NoMemor
         ..ample(asked.input, asked.text.len())
     };
     let text = asked.text.as_bytes();
-    Ok(Tally::of(ends(alloc, asked.words, &trial, Status::Done, text)?))
+    Ok(Tally::of(ends(
+        alloc,
+        asked.words,
+        &trial,
+        Status::Answered(Verdict::Done),
+        text,
+    )?))
 }
 
 /// A sink that is full holds the front of the text.
@@ -115,7 +127,7 @@ fn over_full_sinks(alloc: Global, asked: &Asked<'_>) -> Result<Tally, NoMemory> 
         let status = if room < whole.len() {
             Status::SinkFault
         } else {
-            Status::Done
+            Status::Answered(Verdict::Done)
         };
         tally.add(ends(alloc, asked.words, &trial, status, &whole[..room])?);
     }

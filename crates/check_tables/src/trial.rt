@@ -3,7 +3,8 @@ use crate::calm::ends_calmly;
 use byte_edge::{MemSink, MemSource};
 use kube_base::{NoMemory, Steps};
 use rate_policies::{full, partial};
-use replay_top::{Status, run};
+use replay_top::run;
+use run_edge::{Status, Verdict};
 use std::alloc::Global;
 use std::sync::ledger::Blank;
 use zone_state::Policies;
@@ -117,8 +118,8 @@ fn one_word(alloc: Global, word: &str) -> Result<Vec<String>, NoMemory> {
 /// How a run ends that writes this.
 pub(crate) fn status_of(text: &str) -> Status {
     if text.starts_with("refused ") {
-        Status::Refused
+        Status::Answered(Verdict::Refused)
     } else {
-        Status::Done
+        Status::Answered(Verdict::Done)
     }
 }

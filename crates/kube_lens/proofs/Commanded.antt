@@ -1,8 +1,8 @@
 -- How a run ends, by the command of its words.
 use Rattle.std.proofs.Common.{◌≡◌, ℕ, List, [], Option, Some, None, sym, ap, subst, ◌∙◌}
 use Rattle.byte_edge.specs.Bytes.{Taken}
-use Rattle.lens_edge.specs.declared.status.Status.{Status}
-use Rattle.lens_edge.specs.Outcome.{Ends, Reply, Unread}
+use Rattle.run_edge.specs.declared.status.Status.{Status}
+use Rattle.run_edge.specs.Outcome.{Ends, Reply, Unread}
 use Rattle.kube_lens.specs.declared.command.Command.{Command}
 use Rattle.kube_lens.specs.Commands.{command_of}
 use Rattle.kube_lens.specs.Outcome.{IsOutcome, IsOutcomeOf, unread_reply}

@@ -2,11 +2,11 @@
 use Rattle.std.proofs.Common.{◌≡◌, ℕ, nat_le, Bool, true, false, List, length, Option, Ok, ap, ◌∙◌, subst}
 use Rattle.byte_edge.specs.Bytes.{Taken}
 use Rattle.history.specs.Premise.{lease_premise}
-use Rattle.lens_edge.specs.declared.status.Status.{Status}
-use Rattle.lens_edge.specs.declared.status.Status.TheVariants.{Answered}
-use Rattle.lens_edge.specs.declared.status.Verdict.{Verdict}
-use Rattle.lens_edge.specs.declared.status.Verdict.TheVariants.{Safe, Unsafe, Refused}
-use Rattle.lens_edge.specs.Outcome.{Outcome, Read, ReadBy, Ends}
+use Rattle.run_edge.specs.declared.status.Status.{Status}
+use Rattle.run_edge.specs.declared.status.Status.TheVariants.{Answered}
+use Rattle.run_edge.specs.declared.status.Verdict.{Verdict}
+use Rattle.run_edge.specs.declared.status.Verdict.TheVariants.{Safe, Unsafe, Refused}
+use Rattle.run_edge.specs.Outcome.{Outcome, Read, ReadBy, Ends}
 use Rattle.lens_room.specs.Replies.{found, verdict_of}
 use Rattle.lens_room.proofs.VerdictLaws.{verdict-safe, verdict-unsafe}
 use Rattle.script_reader.specs.declared.document.Document.{Document}

@@ -1,3 +1,2 @@
-pub mod Exits
 pub mod Commands
 pub mod Outcome

@@ -1,7 +1,8 @@
 -- What a run writes and how it ends.
 use Rattle.std.specs.Prelude.{◌≡◌, ℕ, true, false, List, codes, Option, Some, None}
-use Rattle.lens_edge.specs.declared.status.Verdict.TheVariants.{Done}
-use Rattle.lens_edge.specs.Outcome.{Outcome, Read, Reply, Unread, usage}
+use Rattle.run_edge.specs.declared.status.Verdict.TheVariants.{Done}
+use Rattle.run_edge.specs.Outcome.{Outcome, Read, Reply, Unread}
+use Rattle.run_edge.specs.Outcome as edge
 use Rattle.lens_explain.specs.Replies.{IsExplained}
 use Rattle.lens_lateness.specs.FigureReplies as lateness_json
 use Rattle.lens_lateness.specs.Replies as lateness
@@ -27,6 +28,10 @@ help = record {
   verdict = Done;
   text = codes "kube_lens: answers on leader elections, in a person's words\n\nkube_lens margin < document         for each controller what its lease has to outlast, and what is left\nkube_lens margin --json < document  the same as one JSON object\nkube_lens margin --lease 15s ..     the same of flags: --lease --renew --retry --timeout --skew --beat --json\nkube_lens leaders < trace           who led from when to when, when nobody did, and whether two did at once\nkube_lens leaders --json < trace    the same as one JSON object\nkube_lens summary < trace           what a trace comes to, as tables: terms, zones, nodes, evictions, totals\nkube_lens summary --json < trace    the same as one JSON object\nkube_lens summary --document        the tables of a document and, behind it, its trace, and how late pods were evicted\nkube_lens summary --document --json the same as one JSON object\nkube_lens lines --json < trace      each line of a trace as a JSON object on a line of its own, for jq\nkube_lens explain < document        why a document is refused, where, and what may stand there\nkube_lens explain --json < document the same as one JSON object\nkube_lens --help                    these lines\n\nExit status: 0 safe or told, 1 unsafe or refused, 2 no such command, 3 the input can't be read,\n4 the output can't be written, 5 memory ran out, 6 a word isn't UTF-8.\n";
 }
+
+-- the words are no command
+abbrev pub usage : Reply
+usage = edge.usage (codes "usage: kube_lens COMMAND (kube_lens --help tells them)\n")
 
 -- what the bytes of an input are answered
 abbrev pub IsReply : Asked → List ℕ → Reply → Type 0

@@ -2,7 +2,7 @@
 ghost use Rattle.kube_lens.specs.Outcome.{IsReply};
 
 use kube_base::NoMemory;
-use lens_edge::{Answer, Question};
+use run_edge::{Answer, Question};
 use std::alloc::Global;
 
 /// What is asked of an input, by the words after the program's name.

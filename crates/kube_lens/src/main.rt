@@ -1,16 +1,13 @@
 //! The program: the words after its name, standard input and standard output, and an exit status.
 #![tactic(auto)]
 
-ghost use Rattle.std.specs.Prelude.{◌≡◌};
-ghost use Rattle.kube_lens.specs.Exits.{exit_status_of};
-
 mod asked;
 mod command;
 mod running;
 
 use crate::running::run;
 use byte_edge::{StdSink, StdSource};
-use lens_edge::{Status, Verdict};
+use run_edge::exit_status;
 use std::io::ErrorKind;
 use std::process::ExitCode;
 use std::{env, io};
@@ -46,17 +43,4 @@ fn words(rt: &HostRuntime) -> io::Result<Vec<String>> {
         words.push(word)?;
     }
     Ok(words)
-}
-
-fn exit_status(status: Status) -> u8
-    ensures { result ≡ exit_status_of status }
-{
-    match status {
-        Status::Answered(Verdict::Done | Verdict::Safe) => 0,
-        Status::Answered(Verdict::Unsafe | Verdict::Refused) => 1,
-        Status::Answered(Verdict::Usage) => 2,
-        Status::SourceFault => 3,
-        Status::SinkFault => 4,
-        Status::OutOfMemory => 5,
-    }
 }

@@ -2,7 +2,7 @@
 ghost use Rattle.std.specs.Prelude.{◌≡◌, ◌≢◌, ◌⊎◌, ℕ, true, false, List, [], Some, None, Ok, map, string_bytes};
 ghost use Rattle.byte_edge.specs.Bytes.{Rose};
 ghost use Rattle.history.specs.Premise.{lease_premise};
-ghost use Rattle.lens_edge.specs.Outcome.{Ends, EndsAs, IsDone, Reply, Unread, usage};
+ghost use Rattle.run_edge.specs.Outcome.{Ends, EndsAs, IsDone, Reply, Unread};
 ghost use Rattle.script_reader.specs.declared.document.Document.{Document};
 ghost use Rattle.script_reader.specs.Documents.{doc_of};
 ghost use Rattle.script_reader.specs.Walk.{document_walk};
@@ -10,12 +10,12 @@ ghost use Rattle.lens_room.specs.declared.by_flags.flags.Flags.{Flags};
 ghost use Rattle.lens_room.specs.Described.{described};
 ghost use Rattle.lens_room.specs.Flags.{behind, flags_of};
 ghost use Rattle.kube_lens.specs.Commands.{command_of};
-ghost use Rattle.kube_lens.specs.Outcome.{IsOutcome, help, unread_reply};
+ghost use Rattle.kube_lens.specs.Outcome.{IsOutcome, help, unread_reply, usage};
 
 use crate::asked::Asked;
 use crate::command::{Command, command_in};
 use byte_edge::{Sink, Source};
-use lens_edge::{Status, Verdict, ask, tell, tell_usage};
+use run_edge::{Status, Verdict, ask, tell, tell_usage};
 use std::alloc::Global;
 
 /// Does what the words after the program's name say. Words that are no command are answered by a line on the usage, for which the source
@@ -68,7 +68,10 @@ pub fn run<S: Source, K: Sink>(
         Some(Command::Help) => tell(sink, Verdict::Done, help()),
         Some(Command::Flags) => lens_room::by_flags::run(alloc, words, sink),
         Some(Command::Asks(asked)) => ask(alloc, &asked, source, sink),
-        None => tell_usage(sink),
+        None => tell_usage(
+            sink,
+            b"usage: kube_lens COMMAND (kube_lens --help tells them)\n",
+        ),
     }
 }
 

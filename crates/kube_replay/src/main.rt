@@ -1,13 +1,11 @@
 //! The program: the words after its name, standard input and standard output, and an exit status.
 #![tactic(auto)]
 
-ghost use Rattle.std.specs.Prelude.{◌≡◌};
-ghost use Rattle.kube_replay.specs.Exits.{exit_status_of};
-
 use byte_edge::{StdSink, StdSource};
 use kube_base::Steps;
 use rate_policies::{full, partial};
-use replay_top::{Status, run};
+use replay_top::run;
+use run_edge::exit_status;
 use std::io::ErrorKind;
 use std::process::ExitCode;
 use std::sync::ledger::Blank;
@@ -53,17 +51,4 @@ fn words(rt: &HostRuntime) -> io::Result<Vec<String>> {
         words.push(word)?;
     }
     Ok(words)
-}
-
-fn exit_status(status: Status) -> u8
-    ensures { result ≡ exit_status_of status }
-{
-    match status {
-        Status::Done => 0,
-        Status::Refused => 1,
-        Status::Usage => 2,
-        Status::SourceFault => 3,
-        Status::SinkFault => 4,
-        Status::OutOfMemory => 5,
-    }
 }

@@ -2,9 +2,12 @@
 use Rattle.std.proofs.Common.{◌≡◌, ℕ, ◌+◌, ◌-◌, List, [], ◌++◌, length, take, drop, min, Option, refl, inl, inr, sym, ap, ◌∙◌, subst, arith, length-append, length-drop}
 use Rattle.std.proofs.lemmas.List.{take_min, drop_min, length-take}
 use Rattle.byte_edge.specs.Bytes.{Gave, Gives, Known, Over, Taken, Untold, over}
-use Rattle.replay_top.specs.Outcome.{Ends, IsWhole, Outcome}
-use Rattle.replay_top.specs.declared.status.Status.{Status}
-use Rattle.replay_top.specs.declared.status.Status.TheVariants.{Done, Refused, Usage, SourceFault, SinkFault, OutOfMemory}
+use Rattle.run_edge.specs.declared.status.Status.{Status}
+use Rattle.run_edge.specs.declared.status.Status.TheVariants.{Answered, SourceFault, SinkFault, OutOfMemory}
+use Rattle.run_edge.specs.declared.status.Verdict.{Verdict}
+use Rattle.run_edge.specs.Exits.{verdict_status}
+use Rattle.run_edge.specs.Outcome.{IsWhole, Outcome}
+use Rattle.replay_top.specs.Outcome.{Ends}
 use Rattle.kube_replay_c.specs.Calls.{EndsIn, Holds}
 use Rattle.kube_replay_c.specs.Exits.{exit_status_of}
 
@@ -72,16 +75,14 @@ ends-in o lent kept name before first now final from given put count status left
     held : (text : List ℕ) → Gives (Over kept first from) (Over name now given) text → Holds text before final put given
     held text gives = holds lent kept name before first now final from given put text same buffer none gives found counts
 
-    whole : (t : Status) → s ≡ t → IsWhole o left (Over kept first from) (Over name now given) t → EndsIn o before final put given status
-    whole t at w = inl (record { own = is ∙ ap exit_status_of (at ∙ w.status); holds = held o.text w.text })
+    whole : (v : Verdict) → s ≡ Answered v → IsWhole o left (Over kept first from) (Over name now given) v → EndsIn o before final put given status
+    whole v at w = inl (record { own = is ∙ ap exit_status_of at ∙ ap verdict_status w.verdict; holds = held o.reply.text w.text })
 
-    cut : status ≡ 5 → Gave (Over kept first from) (Over name now given) o.text → EndsIn o before final put given status
+    cut : status ≡ 5 → Gave (Over kept first from) (Over name now given) o.reply.text → EndsIn o before final put given status
     cut five g = inr (record { no_memory = five; said = g.1.front; rest = g.0; is = g.1.is; holds = held g.1.front g.1.gives })
 
     by_status : (t : Status) → s ≡ t → Ends o left (Over kept first from) (Over name now given) t → EndsIn o before final put given status
-    by_status Done at e = whole Done at e
-    by_status Refused at e = whole Refused at e
-    by_status Usage at e = whole Usage at e
+    by_status (Answered verdict) at e = whole verdict at e
     by_status SourceFault at e = absurd (read at)
     by_status SinkFault at e = cut (is ∙ ap exit_status_of at) e
     by_status OutOfMemory at e = cut (is ∙ ap exit_status_of at) e

@@ -1,8 +1,8 @@
 -- What a call leaves in its caller's memory.
 use Rattle.std.specs.Prelude.{◌≡◌, ◌⊎◌, ◌==◌, ℕ, ◌++◌, min, List, length, take, drop}
 use Rattle.std.specs.List.{slice_split}
-use Rattle.replay_top.specs.Outcome.{Outcome}
-use Rattle.kube_replay_c.specs.Exits.{exit_status_of}
+use Rattle.run_edge.specs.Exits.{verdict_status}
+use Rattle.run_edge.specs.Outcome.{Outcome}
 
 -- the words between the spaces, each of which is the byte 32
 abbrev pub words_in : List ℕ → List (List ℕ)
@@ -16,15 +16,15 @@ pub record Holds (text before after : List ℕ) (put whole : ℕ) : Type 0 where
 
 -- the run ended as it should: the status is its own, and the text all that it writes
 pub record EndsWhole (o : Outcome) (before after : List ℕ) (put whole status : ℕ) : Type 0 where
-  pub own : status ≡ exit_status_of o.status
-  pub holds : Holds o.text before after put whole
+  pub own : status ≡ verdict_status o.reply.verdict
+  pub holds : Holds o.reply.text before after put whole
 
 -- memory ran out: the text is a prefix of what it would have written
 pub record EndsCut (o : Outcome) (before after : List ℕ) (put whole status : ℕ) : Type 0 where
   pub no_memory : status ≡ 5
   pub said : List ℕ
   pub rest : List ℕ
-  pub is : said ++ rest ≡ o.text
+  pub is : said ++ rest ≡ o.reply.text
   pub holds : Holds said before after put whole
 
 abbrev pub EndsIn : Outcome → List ℕ → List ℕ → ℕ → ℕ → ℕ → Type 0

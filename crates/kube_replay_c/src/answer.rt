@@ -9,7 +9,8 @@ use crate::borrowed_source::BorrowedSource;
 use byte_edge::BorrowedSink;
 use kube_base::Steps;
 use rate_policies::{full, partial};
-use replay_top::{Status, run};
+use replay_top::run;
+use run_edge::{Status, Verdict};
 use std::alloc::Global;
 use std::sync::ledger::Blank;
 use zone_state::Policies;
@@ -70,9 +71,9 @@ fn exit_status(status: Status) -> u32
     ensures { result ≡ exit_status_of status }
 {
     match status {
-        Status::Done => 0,
-        Status::Refused => 1,
-        Status::Usage => 2,
+        Status::Answered(Verdict::Done | Verdict::Safe) => 0,
+        Status::Answered(Verdict::Unsafe | Verdict::Refused) => 1,
+        Status::Answered(Verdict::Usage) => 2,
         Status::SourceFault => 3,
         Status::SinkFault | Status::OutOfMemory => OUT_OF_MEMORY,
     }

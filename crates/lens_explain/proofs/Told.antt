@@ -1,8 +1,8 @@
 -- What is said of a document.
 use Rattle.std.proofs.Common.{◌≡◌, ℕ, Bool, List, Result, Ok, Err, IfOk}
 use Rattle.kube_base.specs.declared.memory.NoMemory.{NoMemory}
-use Rattle.lens_edge.specs.declared.answer.Answer.{Answer}
-use Rattle.lens_edge.specs.Outcome.{reply_of}
+use Rattle.run_edge.specs.declared.answer.Answer.{Answer}
+use Rattle.run_edge.specs.Outcome.{reply_of}
 use Rattle.lens_explain.specs.Replies.{IsRefused, refused}
 use Rattle.lens_explain.specs.declared.place.Shown.{Shown}
 use Rattle.lens_explain.specs.Places.{IsShownOf}

@@ -1,8 +1,8 @@
 -- What is said of a document.
 use Rattle.std.specs.Prelude.{◌≡◌, ℕ, Bool, List, ◌++◌, length, codes, decimal, Result, Ok, Err, if◌then◌else◌}
 use Rattle.std.specs.List.{AllZip, flat_map}
-use Rattle.lens_edge.specs.Outcome.{Reply, refusal_text}
-use Rattle.lens_edge.specs.declared.status.Verdict.TheVariants.{Done, Refused}
+use Rattle.run_edge.specs.Outcome.{Reply, refusal_text}
+use Rattle.run_edge.specs.declared.status.Verdict.TheVariants.{Done, Refused}
 use Rattle.lens_explain.specs.declared.place.Shown.{Shown}
 use Rattle.lens_explain.specs.declared.twice.Warning.{Warning}
 use Rattle.lens_explain.specs.Keys.{doubled}

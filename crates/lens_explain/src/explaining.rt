@@ -1,6 +1,6 @@
 // What is said of a document.
 ghost use Rattle.std.specs.Prelude.{◌≡◌, true, false, IfOk, map};
-ghost use Rattle.lens_edge.specs.Outcome.{reply_of};
+ghost use Rattle.run_edge.specs.Outcome.{reply_of};
 ghost use Rattle.lens_explain.specs.Replies as spec;
 ghost use Rattle.lens_explain.specs.Slips as slip_spec;
 ghost use Rattle.lens_explain.specs.Slips.{slip_of};
@@ -13,8 +13,8 @@ use crate::saying::why;
 use crate::slips::{Slip, add_unheard, is_unheard, slips};
 use crate::twice::{Warning, warnings};
 use kube_base::NoMemory;
-use lens_edge::{Answer, Verdict, refuse_as};
 use manifest_json::{ReadFault, Refusal};
+use run_edge::{Answer, Verdict, refuse_as};
 use script_reader::{Document, read_document};
 use std::alloc::Global;
 

@@ -1,8 +1,8 @@
 -- What is refused, without `--json` and with it.
 use Rattle.std.proofs.Common.{◌≡◌, ℕ, ◌==◌, Bool, true, false, List, codes, filter_map, Option, Some, None, Result, Ok, Err, if◌then◌else◌, refl, sym, subst}
 use Rattle.kube_base.specs.Times.{◌>>=◌}
-use Rattle.lens_edge.specs.Outcome.{Reply, refusal}
-use Rattle.lens_edge.specs.declared.status.Verdict.TheVariants.{Done}
+use Rattle.run_edge.specs.Outcome.{Reply, refusal}
+use Rattle.run_edge.specs.declared.status.Verdict.TheVariants.{Done}
 use Rattle.lens_summary.specs.Summary.{summary}
 use Rattle.lens_trace.specs.Judged.{judged_by}
 use Rattle.lens_trace.specs.Traces.{answer_by, answer_behind, answer_to, trace_reply}

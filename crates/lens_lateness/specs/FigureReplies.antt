@@ -1,6 +1,6 @@
 -- What a document and its trace are answered as one JSON object.
 use Rattle.std.specs.Prelude.{ℕ, List, Result, Ok, Err}
-use Rattle.lens_edge.specs.Outcome.{Reply, refusal}
+use Rattle.run_edge.specs.Outcome.{Reply, refusal}
 use Rattle.lens_trace.specs.Traces.{trace_reply}
 use Rattle.manifest_json.specs.declared.fault.Refusal.{Refusal}
 use Rattle.script_reader.specs.declared.document.Document.{Document}

@@ -6,8 +6,8 @@ use Rattle.serde_json.specs.Written.{compact_text}
 use Rattle.kube_base.specs.declared.numbers.Wall.{Wall}
 use Rattle.kube_base.specs.Times.{time_of}
 use Rattle.kube_objects.specs.Clocks.{store_wall}
-use Rattle.lens_edge.specs.Outcome.{Reply, refusal}
-use Rattle.lens_edge.specs.declared.status.Verdict.TheVariants.{Done}
+use Rattle.run_edge.specs.Outcome.{Reply, refusal}
+use Rattle.run_edge.specs.declared.status.Verdict.TheVariants.{Done}
 use Rattle.lens_json.specs.Members.{Named, object_of}
 use Rattle.lens_json.specs.Parts.{list_of}
 use Rattle.lens_summary.specs.FigureLines.{pod_members}

@@ -1,7 +1,7 @@
 -- What is refused: the same with `--json` as without.
 use Rattle.std.specs.Prelude.{◌≡◌, ℕ, List}
-use Rattle.lens_edge.specs.Outcome.{Reply}
-use Rattle.lens_edge.specs.declared.status.Verdict.TheVariants.{Refused}
+use Rattle.run_edge.specs.Outcome.{Reply}
+use Rattle.run_edge.specs.declared.status.Verdict.TheVariants.{Refused}
 use Rattle.lens_lateness.specs.FigureReplies.{figures_reply}
 use Rattle.lens_lateness.specs.Replies.{lateness_reply}
 

@@ -1,8 +1,8 @@
 -- What a document and its trace are answered.
 use Rattle.std.specs.Prelude.{ℕ, ◌==◌, ◌++◌, nat_le, List, [], length, codes, Option, Some, None, Result, Ok, Err, if◌then◌else◌}
-use Rattle.lens_edge.specs.Outcome.{Reply, refusal}
-use Rattle.lens_edge.specs.declared.status.Verdict.{Verdict}
-use Rattle.lens_edge.specs.declared.status.Verdict.TheVariants.{Done}
+use Rattle.run_edge.specs.Outcome.{Reply, refusal}
+use Rattle.run_edge.specs.declared.status.Verdict.{Verdict}
+use Rattle.run_edge.specs.declared.status.Verdict.TheVariants.{Done}
 use Rattle.lens_summary.specs.Summary.{summary_reply}
 use Rattle.lens_summary.specs.Tables.{Texts, table_text}
 use Rattle.manifest_json.specs.declared.fault.Refusal.{Refusal}

@@ -1,6 +1,6 @@
 // The answer to a document and its trace.
 ghost use Rattle.std.specs.Prelude.{◌≡◌, IfOk};
-ghost use Rattle.lens_edge.specs.Outcome.{reply_of};
+ghost use Rattle.run_edge.specs.Outcome.{reply_of};
 ghost use Rattle.script_reader.specs.Documents.{doc_of};
 ghost use Rattle.script_reader.specs.Lawful.{IsLawfulDoc};
 ghost use Rattle.lens_lateness.specs.Replies.{behind_if, lateness_reply, told};
@@ -11,9 +11,9 @@ use crate::table::tell_late;
 use crate::trace::trace_in;
 use document_laws::documents_are_lawful;
 use kube_base::NoMemory;
-use lens_edge::{Answer, Verdict, refuse, refuse_as};
 use lens_summary::summary_of;
 use manifest_json::ReadFault;
+use run_edge::{Answer, Verdict, refuse, refuse_as};
 use script_reader::{Document, read_document};
 use std::alloc::Global;
 

@@ -2,12 +2,12 @@
 use Rattle.std.proofs.Common.{◌≡◌, ℕ, true, false, List, Some, Ok, ap, ◌∙◌, subst}
 use Rattle.byte_edge.specs.Bytes.{Taken}
 use Rattle.history.specs.Premise.{lease_premise}
-use Rattle.lens_edge.specs.Outcome.{Ends, Reply, Unread, reply_of}
-use Rattle.lens_edge.specs.declared.answer.Answer.{Answer}
-use Rattle.lens_edge.specs.declared.status.Status.{Status}
-use Rattle.lens_edge.specs.declared.status.Status.TheVariants.{Answered}
-use Rattle.lens_edge.specs.declared.status.Verdict.{Verdict}
-use Rattle.lens_edge.specs.declared.status.Verdict.TheVariants.{Safe, Unsafe}
+use Rattle.run_edge.specs.Outcome.{Ends, Reply, Unread, reply_of}
+use Rattle.run_edge.specs.declared.answer.Answer.{Answer}
+use Rattle.run_edge.specs.declared.status.Status.{Status}
+use Rattle.run_edge.specs.declared.status.Status.TheVariants.{Answered}
+use Rattle.run_edge.specs.declared.status.Verdict.{Verdict}
+use Rattle.run_edge.specs.declared.status.Verdict.TheVariants.{Safe, Unsafe}
 use Rattle.lens_room.specs.Replies.{verdict_of}
 use Rattle.lens_room.specs.declared.by_flags.flags.Flags.{Flags}
 use Rattle.lens_room.specs.Described.{described}

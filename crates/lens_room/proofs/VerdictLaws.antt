@@ -1,6 +1,6 @@
 -- What a verdict says of a premise.
 use Rattle.std.proofs.Common.{◌≡◌, Bool, true, false, refl}
-use Rattle.lens_edge.specs.declared.status.Verdict.TheVariants.{Safe, Unsafe}
+use Rattle.run_edge.specs.declared.status.Verdict.TheVariants.{Safe, Unsafe}
 use Rattle.lens_room.specs.Replies.{verdict_of}
 
 pub verdict-safe : (b : Bool) → Safe ≡ verdict_of b → b ≡ true

@@ -1,7 +1,7 @@
 -- What words behind `margin` are answered.
 use Rattle.std.specs.Prelude.{ℕ, List, [], ◌++◌, codes, decimal, slice_get, Option, Some, None, unwrap_or, Result, Ok, Err, if◌then◌else◌}
-use Rattle.lens_edge.specs.Outcome.{Reply}
-use Rattle.lens_edge.specs.declared.status.Verdict.TheVariants.{Usage}
+use Rattle.run_edge.specs.Outcome.{Reply}
+use Rattle.run_edge.specs.declared.status.Verdict.TheVariants.{Usage}
 use Rattle.lens_room.specs.Lines.{margin_line, verdict_text}
 use Rattle.lens_room.specs.Replies.{verdict_of}
 use Rattle.lens_room.specs.declared.by_flags.flag.Flag.{Flag}

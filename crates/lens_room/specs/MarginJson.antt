@@ -4,7 +4,7 @@ use Rattle.serde_json.specs.Data.{Data, null, boolean, number, unsigned, negativ
 use Rattle.serde_json.specs.Written.{compact_text}
 use Rattle.history.specs.Premise.{lease_premise}
 use Rattle.kube_objects.specs.Document.{field, process_at}
-use Rattle.lens_edge.specs.Outcome.{Reply, refusal}
+use Rattle.run_edge.specs.Outcome.{Reply, refusal}
 use Rattle.lens_json.specs.Members.{Named, text, object_of}
 use Rattle.lens_margin.specs.declared.margin.Margin.{Margin}
 use Rattle.lens_margin.specs.Margins.{margin_of}

@@ -1,9 +1,9 @@
 -- What a document is answered.
 use Rattle.std.specs.Prelude.{Bool, true, false, Result, Ok, Err}
 use Rattle.history.specs.Premise.{lease_premise}
-use Rattle.lens_edge.specs.Outcome.{Reply, refusal}
-use Rattle.lens_edge.specs.declared.status.Verdict.{Verdict}
-use Rattle.lens_edge.specs.declared.status.Verdict.TheVariants.{Safe, Unsafe}
+use Rattle.run_edge.specs.Outcome.{Reply, refusal}
+use Rattle.run_edge.specs.declared.status.Verdict.{Verdict}
+use Rattle.run_edge.specs.declared.status.Verdict.TheVariants.{Safe, Unsafe}
 use Rattle.manifest_json.specs.declared.fault.Refusal.{Refusal}
 use Rattle.script_reader.specs.declared.document.Document.{Document}
 use Rattle.script_reader.specs.Documents.{doc_of}

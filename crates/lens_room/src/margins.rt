@@ -1,6 +1,6 @@
 // The margins of a document.
 ghost use Rattle.std.specs.Prelude.{◌≡◌, ℕ, List, Ok, IfOk};
-ghost use Rattle.lens_edge.specs.Outcome.{reply_of};
+ghost use Rattle.run_edge.specs.Outcome.{reply_of};
 ghost use Rattle.script_reader.specs.declared.document.Document.{Document};
 ghost use Rattle.script_reader.specs.Documents.{doc_of};
 ghost use Rattle.script_reader.specs.Lawful.{IsLawfulDoc, IsWellNamed};
@@ -11,8 +11,8 @@ ghost use Rattle.lens_room.specs.Replies.{margins, found, verdict_of};
 use crate::lines::add_lines;
 use document_laws::documents_are_lawful;
 use kube_base::NoMemory;
-use lens_edge::{Answer, Verdict, refuse_as};
 use manifest_json::ReadFault;
+use run_edge::{Answer, Verdict, refuse_as};
 use script_reader::{Document, lease_premise, read_document};
 use std::alloc::Global;
 

@@ -1,8 +1,8 @@
 -- The members of the answer, and its text.
 use Rattle.std.proofs.Common.{◌≡◌, ℕ, ◌+◌, List, [], ◌++◌, codes, ap, ◌∙◌}
 use Rattle.serde_json.specs.Written.{compact_text}
-use Rattle.lens_edge.specs.Outcome.{Reply}
-use Rattle.lens_edge.specs.declared.status.Verdict.TheVariants.{Done}
+use Rattle.run_edge.specs.Outcome.{Reply}
+use Rattle.run_edge.specs.declared.status.Verdict.TheVariants.{Done}
 use Rattle.lens_json.specs.Members.{Named, object_of}
 use Rattle.lens_terms.specs.declared.stretch.Stretch.{Stretch}
 use Rattle.lens_terms.specs.declared.term.Term.{Term}

@@ -1,7 +1,7 @@
 -- The tables of a trace, one behind the other.
 use Rattle.std.proofs.Common.{◌≡◌, ℕ, ◌+◌, List, [], ◌++◌, Option, ap, ◌∙◌}
-use Rattle.lens_edge.specs.Outcome.{Reply}
-use Rattle.lens_edge.specs.declared.status.Verdict.TheVariants.{Done}
+use Rattle.run_edge.specs.Outcome.{Reply}
+use Rattle.run_edge.specs.declared.status.Verdict.TheVariants.{Done}
 use Rattle.lens_summary.specs.Tables.{table_text}
 use Rattle.lens_terms.specs.declared.stretch.Stretch.{Stretch}
 use Rattle.lens_terms.specs.declared.term.Term.{Term}

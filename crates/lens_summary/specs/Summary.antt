@@ -1,7 +1,7 @@
 -- What `summary` answers: the tables of a trace.
 use Rattle.std.specs.Prelude.{ℕ, ◌+◌, ◌++◌, Bool, List, [], ◌∷◌, codes, decimal, Option, Some, None, if◌then◌else◌}
-use Rattle.lens_edge.specs.Outcome.{Reply}
-use Rattle.lens_edge.specs.declared.status.Verdict.TheVariants.{Done}
+use Rattle.run_edge.specs.Outcome.{Reply}
+use Rattle.run_edge.specs.declared.status.Verdict.TheVariants.{Done}
 use Rattle.lens_summary.specs.Cells.{beat_text}
 use Rattle.lens_summary.specs.Tables.{Texts, table_text}
 use Rattle.lens_terms.specs.declared.stretch.Stretch.{Stretch}

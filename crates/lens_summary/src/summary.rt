@@ -1,6 +1,6 @@
 // What a trace comes to.
 ghost use Rattle.std.specs.Prelude.{◌≡◌, ◌++◌, ◌≤◌, IfOk, OnOk, map};
-ghost use Rattle.lens_edge.specs.Outcome.{reply_of};
+ghost use Rattle.run_edge.specs.Outcome.{reply_of};
 ghost use Rattle.lens_summary.specs.Cells.{cell_text};
 ghost use Rattle.lens_summary.specs.Tables.{shown};
 ghost use Rattle.lens_terms.specs.Acting.{shown as stretch_shown};
@@ -17,9 +17,9 @@ use crate::row::{Row, add_row};
 use crate::subject::{Subject, tell_subject};
 use crate::totals::tell_totals;
 use kube_base::NoMemory;
-use lens_edge::{Answer, Verdict};
 use lens_terms::{Stretch, beats_of_two, overlap, stretches_of, terms_of};
 use lens_trace::{Telling, answer_on};
+use run_edge::{Answer, Verdict};
 use std::alloc::Global;
 use trace_lines::{Header, Line};
 

@@ -1,6 +1,6 @@
 -- What a text is answered, by its parts.
 use Rattle.std.proofs.Common.{◌≡◌, ℕ, List, codes, filter_map, Some, None, sym, ap, ◌∙◌}
-use Rattle.lens_edge.specs.Outcome.{refusal}
+use Rattle.run_edge.specs.Outcome.{refusal}
 use Rattle.lens_trace.specs.declared.judging.Judged.{Judged}
 use Rattle.lens_trace.specs.Judged.{judged_by}
 use Rattle.lens_trace.specs.Traces.{Tells, trace_reply, answer_to, answer_behind, answer_by}

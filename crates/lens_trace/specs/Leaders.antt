@@ -1,8 +1,8 @@
 -- What `leaders` answers: the terms of a trace, the spans in which nobody acts, and whether two ever act at once.
 use Rattle.std.specs.Prelude.{ℕ, ◌+◌, ◌++◌, List, codes, decimal, Option, Some, None}
 use Rattle.std.specs.List.{flat_map}
-use Rattle.lens_edge.specs.Outcome.{Reply}
-use Rattle.lens_edge.specs.declared.status.Verdict.TheVariants.{Safe, Unsafe}
+use Rattle.run_edge.specs.Outcome.{Reply}
+use Rattle.run_edge.specs.declared.status.Verdict.TheVariants.{Safe, Unsafe}
 use Rattle.lens_terms.specs.declared.closing.Closing.{Closing}
 use Rattle.lens_terms.specs.declared.closing.Ending.{Ending}
 use Rattle.lens_terms.specs.declared.closing.Ending.TheVariants.{End, Stop, Crash}

@@ -2,9 +2,9 @@
 use Rattle.std.specs.Prelude.{ℕ, ◌+◌, ◌++◌, List, [], ◌∷◌, codes, map, Option, Some, None}
 use Rattle.serde_json.specs.Data.{Data, null}
 use Rattle.serde_json.specs.Written.{compact_text}
-use Rattle.lens_edge.specs.Outcome.{Reply}
-use Rattle.lens_edge.specs.declared.status.Verdict.{Verdict}
-use Rattle.lens_edge.specs.declared.status.Verdict.TheVariants.{Safe, Unsafe}
+use Rattle.run_edge.specs.Outcome.{Reply}
+use Rattle.run_edge.specs.declared.status.Verdict.{Verdict}
+use Rattle.run_edge.specs.declared.status.Verdict.TheVariants.{Safe, Unsafe}
 use Rattle.lens_json.specs.Members.{Named, nat, text, object_of}
 use Rattle.lens_json.specs.Parts.{list_of}
 use Rattle.lens_terms.specs.declared.closing.Closing.{Closing}

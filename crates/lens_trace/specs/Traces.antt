@@ -1,6 +1,6 @@
 -- What a trace's text is answered, by what is told of traces.
 use Rattle.std.specs.Prelude.{ℕ, ◌++◌, List, codes, decimal, filter_map, Option, Some, None}
-use Rattle.lens_edge.specs.Outcome.{Reply, refusal}
+use Rattle.run_edge.specs.Outcome.{Reply, refusal}
 use Rattle.trace_audit.specs.Entries.{lines_of}
 use Rattle.trace_audit.specs.Verdict.{verdict}
 use Rattle.trace_lines.specs.Forms.{line_of}

@@ -1,6 +1,6 @@
 // The answer to a trace's text.
 ghost use Rattle.std.specs.Prelude.{◌≡◌, ◌≤◌, IfOk, map, filter_map};
-ghost use Rattle.lens_edge.specs.Outcome.{Reply, reply_of};
+ghost use Rattle.run_edge.specs.Outcome.{Reply, reply_of};
 ghost use Rattle.trace_audit.specs.Entries.{lines_of};
 ghost use Rattle.trace_lines.specs.Forms.{line_of};
 ghost use Rattle.trace_lines.specs.Reads.{seen};
@@ -10,7 +10,7 @@ ghost use Rattle.lens_trace.specs.Traces.{Tells};
 use crate::judging::{Judged, judge};
 use crate::reading::read_lines;
 use kube_base::NoMemory;
-use lens_edge::{Answer, refuse};
+use run_edge::{Answer, refuse};
 use std::alloc::Global;
 use trace_audit::BAD_TRACE;
 use trace_lines::{Header, Line, cut, read_header};

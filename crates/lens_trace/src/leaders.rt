@@ -1,7 +1,7 @@
 // Who leads, and when nobody does.
 ghost use Rattle.std.specs.Prelude.{◌≡◌, ◌++◌, ◌≤◌, IfOk, OnOk, Some, map, decimal};
 ghost use Rattle.std.specs.List.{flat_map};
-ghost use Rattle.lens_edge.specs.Outcome.{reply_of};
+ghost use Rattle.run_edge.specs.Outcome.{reply_of};
 ghost use Rattle.lens_terms.specs.Acting.{shown as stretch_shown};
 ghost use Rattle.lens_terms.specs.Terms.{shown};
 ghost use Rattle.lens_terms.specs.Together.{overlap as overlap_in};
@@ -12,10 +12,10 @@ ghost use Rattle.lens_trace.specs.Leaders as spec;
 
 use crate::answering::{Telling, answer_on};
 use kube_base::NoMemory;
-use lens_edge::{Answer, Verdict};
 use lens_terms::{
     Closing, Ending, Span, Stretch, Term, crossing, leaderless, overlap, stretches_of, terms_of,
 };
+use run_edge::{Answer, Verdict};
 use std::alloc::Global;
 use trace_lines::{Header, Line};
 use trace_writer::{add, add_number};

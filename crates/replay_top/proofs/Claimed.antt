@@ -2,20 +2,23 @@
 use Rattle.std.proofs.Common.{◌⊎◌, ℕ, List, Option, inl, inr}
 use Rattle.replay_top.specs.Claims.{AreSafe, Claims, IsSafe}
 use Rattle.replay_top.specs.Replays.{WhereGenerated}
+use Rattle.replay_top.specs.Timely.{IsTimely}
 
 pub either : {A B C : Type 0} → (A → C) → (B → C) → A ⊎ B → C
 either left right (inl a) = left a
 either left right (inr b) = right b
 
-pub claims-hold : (words : List (List ℕ)) (left : Option (List ℕ)) → AreSafe → WhereGenerated words IsSafe → Claims words left
-claims-hold words left safe generated =
+pub claims-hold : (words : List (List ℕ)) (left : Option (List ℕ)) → AreSafe → WhereGenerated words IsSafe → WhereGenerated words IsTimely → Claims words left
+claims-hold words left safe generated timely =
     record {
       holder = λ d replays premise. safe.holder replays.bytes d replays.read premise;
       exclusive = λ d replays premise. safe.exclusive replays.bytes d replays.read premise;
       spacing = λ d replays premise. safe.spacing replays.bytes d replays.read premise;
       not_early = λ d replays. safe.not_early d;
       prompt = λ d replays. safe.prompt d;
+      timely = λ d replays. safe.timely replays.bytes d replays.read;
       safe = generated;
+      timely_generated = timely;
       safe_state = λ d beat shows premise. record {
         holder = safe.holder shows.bytes d shows.read premise;
         exclusive = safe.exclusive shows.bytes d shows.read premise;
@@ -23,4 +26,5 @@ claims-hold words left safe generated =
         not_early = safe.not_early d;
         prompt = safe.prompt d;
       };
+      timely_state = λ d beat shows. safe.timely shows.bytes d shows.read;
     }

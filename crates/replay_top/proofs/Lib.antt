@@ -1,5 +1,4 @@
--- ---- words and numbers
-pub mod Asked
+-- ---- numbers
 pub mod Numbers
 -- ---- a text as it is written
 pub mod Added
@@ -9,9 +8,8 @@ pub mod Grown
 pub mod Counted
 pub mod Plain
 pub mod States
--- ---- the bytes that were taken, and how a run ends
-pub mod Readings
-pub mod Askings
+-- ---- how a run ends
 pub mod Endings
+pub mod Outcomes
 pub mod Bounded
 pub mod Claimed

@@ -1,5 +1,5 @@
 -- The objects that a world shows are the state, by their order and their look-ups; and how a state is answered.
-use Rattle.std.proofs.Common.{◌≡◌, ◌⊎◌, ◌<◌, ◌≤◌, ◌+◌, ℕ, Bool, true, false, cond, List, [], ◌∷◌, Option, Some, None, option_map, Result, Ok, Err, IfOk, Less, Equal, Greater, inl, inr, refl, sym, ap, ◌∙◌, subst, arith}
+use Rattle.std.proofs.Common.{◌≡◌, ◌⊎◌, ◌<◌, ◌≤◌, ◌+◌, ℕ, Bool, true, false, cond, List, [], ◌∷◌, Option, Some, None, option_map, Result, Ok, Err, IfOk, Less, Equal, Greater, inl, inr, refl, sym, ap, ◌∙◌, subst, arith, codes}
 use Rattle.std.proofs.lemmas.Bool.{false≢true, le-leb, lt-leb}
 use Rattle.std.proofs.lemmas.Bool.Decides.{nat_tests}
 use Rattle.std.proofs.lemmas.Cmp.{nat_cmp_total, on_total, then_total}
@@ -29,7 +29,8 @@ use Rattle.object_store.specs.StoreAnswers.{object_of}
 use Rattle.script_reader.specs.Lawful.{IsLawfulDoc, IsWellNamed}
 use Rattle.script_reader.specs.Walk.{numbers_of}
 use Rattle.script_reader.specs.declared.document.Document.{Document}
-use Rattle.replay_top.specs.Outcome.{done, of_whole, refused, state_answer}
+use Rattle.run_edge.specs.Outcome.{refusal}
+use Rattle.replay_top.specs.Replies.{done, state_answer}
 use Rattle.replay_top.specs.State.{state_text, and_stored, and_written, stored_after, stored_at}
 
 abbrev pub Items : Type 0
@@ -272,7 +273,7 @@ moved P {a} {a'} {b} {b'} {c} {c'} p q r holds = subst (λ x. P x b' c') p (subs
 -- ---- a beat within the document, and one after its end
 
 pub state-within : (d : Document) (b : ℕ) → b ≤ d.settings.end_beat.0 → state_answer d b ≡ done (state_text d b)
-state-within d b within = ap (λ t. cond t (done (state_text d b)) (refused (of_whole 34) [])) (le-leb b d.settings.end_beat.0 within)
+state-within d b within = ap (λ t. cond t (done (state_text d b)) (refusal 34 (codes "/"))) (le-leb b d.settings.end_beat.0 within)
 
-pub state-past : (d : Document) (b : ℕ) → d.settings.end_beat.0 < b → state_answer d b ≡ refused (of_whole 34) []
-state-past d b past = ap (λ t. cond t (done (state_text d b)) (refused (of_whole 34) [])) (lt-leb b d.settings.end_beat.0 past)
+pub state-past : (d : Document) (b : ℕ) → d.settings.end_beat.0 < b → state_answer d b ≡ refusal 34 (codes "/")
+state-past d b past = ap (λ t. cond t (done (state_text d b)) (refusal 34 (codes "/"))) (lt-leb b d.settings.end_beat.0 past)

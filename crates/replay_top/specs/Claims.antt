@@ -9,10 +9,12 @@ use Rattle.history.specs.Spacing.{Spacing}
 use Rattle.script_reader.specs.declared.document.Document.{Document}
 use Rattle.script_reader.specs.Documents.{doc_of}
 use Rattle.trace_audit.specs.Alone.{entries_in, OneActs}
-use Rattle.replay_top.specs.declared.task.Task.TheVariants.{Audit}
-use Rattle.replay_top.specs.Replays.{Replays, Shows, WhereGenerated, WhereReadUnderPremise, WhereReplayedUnderPremise}
+use Rattle.replay_top.specs.declared.asked.Asked.TheVariants.{Audit}
+use Rattle.replay_top.specs.declared.command.Command.TheVariants.{Asks}
+use Rattle.replay_top.specs.Commands.{command_of}
+use Rattle.replay_top.specs.Replays.{Replays, Shows, WhereGenerated, WhereRead, WhereReadUnderPremise, WhereReplayedUnderPremise}
 use Rattle.replay_top.specs.State.{ReadsBack}
-use Rattle.replay_top.specs.Tasks.{task_of}
+use Rattle.replay_top.specs.Timely.{IsTimely}
 
 -- whoever acts is the stored holder, only one identity acts at a beat, queued taints are spaced, and pods are evicted when they are due,
 -- no earlier and no later than by the first tick that reaches the store
@@ -23,13 +25,14 @@ pub record IsSafe (doc : Doc) : Type 0 where
   pub not_early : NotEarly doc
   pub prompt : Prompt doc
 
--- of every document that can be read, where its lease premise holds; the last two without it
+-- of every document that can be read, where its lease premise holds; the last three without it
 pub record AreSafe : Type 0 where
   pub holder : WhereReadUnderPremise Holder
   pub exclusive : WhereReadUnderPremise Exclusive
   pub spacing : WhereReadUnderPremise Spacing
   pub not_early : (d : Document) → NotEarly (doc_of d)
   pub prompt : (d : Document) → Prompt (doc_of d)
+  pub timely : WhereRead IsTimely
 
 -- of the history of the document that these words replay, show a state of, or generate, with these bytes in the source
 pub record Claims (words : List (List ℕ)) (left : Option (List ℕ)) : Type 0 where
@@ -43,14 +46,18 @@ pub record Claims (words : List (List ℕ)) (left : Option (List ℕ)) : Type 0 
   pub not_early : (d : Document) → Replays words left d → NotEarly (doc_of d)
   -- and by its first tick that reaches the store
   pub prompt : (d : Document) → Replays words left d → Prompt (doc_of d)
-  -- of a generated document all five always: its lease premise holds
+  -- how long nobody leads is bounded in calm spans, and always from below
+  pub timely : (d : Document) → Replays words left d → IsTimely (doc_of d)
+  -- of a generated document all of these always: its lease premise holds
   pub safe : WhereGenerated words IsSafe
-  -- of a document whose state is shown all five, where its lease premise holds
+  pub timely_generated : WhereGenerated words IsTimely
+  -- of a document whose state is shown all of these, the first five where its lease premise holds
   pub safe_state : (d : Document) (beat : Beat) → Shows words left d beat → lease_premise (doc_of d) ≡ true → IsSafe (doc_of d)
+  pub timely_state : (d : Document) (beat : Beat) → Shows words left d beat → IsTimely (doc_of d)
 
 -- of what was written whole
 pub record IsWell (words : List (List ℕ)) (left : Option (List ℕ)) : Type 0 where
   -- a state is read as what is stored after the beat
   pub reads_back : (d : Document) (beat : Beat) → Shows words left d beat → ReadsBack d beat.0
   -- in a trace that `audit` lets pass all acting lines of a beat are by one identity
-  pub alone : (bytes : List ℕ) → left ≡ Some bytes → task_of words ≡ Some Audit → OneActs (entries_in bytes)
+  pub alone : (bytes : List ℕ) → left ≡ Some bytes → command_of words ≡ Some (Asks Audit) → OneActs (entries_in bytes)

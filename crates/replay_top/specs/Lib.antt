@@ -1,5 +1,3 @@
-pub mod Answerings
-pub mod Audited
 pub mod Bounds
 pub mod Claims
 pub mod Commands
@@ -7,13 +5,12 @@ pub mod Counts
 pub mod Generated
 pub mod Names
 pub mod Outcome
-pub mod Questions
-pub mod Readings
 pub mod Replays
+pub mod Replies
 pub mod Runs
 pub mod Sizes
 pub mod Spoken
 pub mod State
 pub mod Summary
-pub mod Tasks
+pub mod Timely
 pub mod Traces

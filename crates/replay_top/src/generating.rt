@@ -9,22 +9,30 @@ ghost use Rattle.world_core.specs.Worlds.{at_of, end_of, IsReady, WorldStands};
 ghost use Rattle.replay_top.specs.Claims.{IsSafe};
 ghost use Rattle.replay_top.specs.Generated.{counted_line, counts_text, document_of, generated_line, sizes_text, whole_counts};
 ghost use Rattle.replay_top.specs.Outcome.{Ends, IsRunEnd, unread};
+ghost use Rattle.replay_top.specs.Replies.{done};
 ghost use Rattle.replay_top.specs.Runs.{Runs};
 ghost use Rattle.replay_top.specs.Sizes.{AreWithin};
+ghost use Rattle.replay_top.specs.Timely.{IsTimely};
 ghost use Rattle.replay_top.specs.declared.sizes.Sizes.{Sizes};
 
 use crate::counts::Counts;
 use crate::sizes::Sizes;
-use crate::status::Status;
 use crate::trace::{beat_at, next_of};
-use byte_edge::{Failed, Sink, give_all};
+use byte_edge::Sink;
+use calm_laws::takeovers_are_bounded;
 use document_laws::lawful_documents_are_sound;
 use eviction_laws::evictions_are_timely;
+use gap_laws::{gaps_last, others_wait};
 use itoa::Buffer;
 use kube_base::{NoMemory, Steps};
 use lease_laws::lease_is_safe;
+use run_edge::{Status, Verdict, tell};
+use settle_laws::calm_spans_settle;
+use silence_laws::silences_last;
 use spacing_laws::taints_are_spaced;
+use stay_laws::leaders_stay;
 use std::alloc::Global;
+use succession_laws::{leaders_act_on, successors_lead};
 use trace_writer::add;
 use world_core::World;
 use world_gen::{generate, generated_documents_are_lawful};
@@ -39,31 +47,38 @@ pub(crate) fn write_generated<K: Sink, L>(
     steps: &mut Steps<L>,
 ) -> Status
     requires { AreWithin sizes }
-    ensures text { (left : List ℕ) → Ends (unread (generated_line sizes) left) (Some left) (K.taken sink.old) (K.taken sink.new) result }
+    ensures text { (left : List ℕ) → Ends (unread (done (generated_line sizes)) left) (Some left) (K.taken sink.old) (K.taken sink.new) result }
     ensures ended { IsRunEnd result }
     ensures sink_fault { result ≡ Status.SinkFault → Rose (K.faults sink.old) (K.faults sink.new) }
     ensures counted { steps.new ≤ steps.old + standing_beats (document_of sizes) }
     ensures safe { IsSafe (document_of sizes) }
+    ensures timely { IsTimely (document_of sizes) }
 {
     generated_documents_are_safe();
     match line_of(alloc, sizes, policies, steps) {
-        Ok(text) => match give_all(sink, &text) {
-            Ok(()) => Status::Done,
-            Err(Failed) => Status::SinkFault,
-        },
+        Ok(text) => tell(sink, Verdict::Done, &text),
         Err(NoMemory) => Status::OutOfMemory,
     }
 }
 
 /// What was proved of every generated document, for which nothing is done.
 fn generated_documents_are_safe()
-    ensures { (sizes : Sizes) → AreWithin sizes → IsSafe (document_of sizes) }
+    ensures safe { (sizes : Sizes) → AreWithin sizes → IsSafe (document_of sizes) }
+    ensures timely { (sizes : Sizes) → AreWithin sizes → IsTimely (document_of sizes) }
 {
     generated_documents_are_lawful();
     lawful_documents_are_sound();
     lease_is_safe();
     taints_are_spaced();
     evictions_are_timely();
+    takeovers_are_bounded();
+    leaders_stay();
+    gaps_last();
+    others_wait();
+    calm_spans_settle();
+    silences_last();
+    successors_lead();
+    leaders_act_on();
 }
 
 /// The line of the generated document of these sizes, which is run.

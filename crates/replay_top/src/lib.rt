@@ -2,24 +2,20 @@
 //! some pods, or the one refusal, and from a seed to the line on the run of its document.
 #![tactic(auto)]
 
-mod asking;
+mod asked;
 mod auditing;
 mod buffer;
+mod checking;
 mod command;
 mod counts;
 mod generating;
 mod processes;
-mod question;
 mod reading;
 mod running;
 mod sizes;
 mod state;
-mod status;
 mod summary;
-mod task;
 mod trace;
-mod writing;
 
 pub use processes::process_names;
 pub use running::run;
-pub use status::Status;

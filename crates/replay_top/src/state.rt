@@ -11,19 +11,17 @@ ghost use Rattle.script_reader.specs.Lawful.{AreLawfulFrom, IsLawfulDoc, IsWellN
 ghost use Rattle.script_reader.specs.Walk.{numbers_of as numbers_in_order};
 ghost use Rattle.world_core.specs.Waits.{beat_of};
 ghost use Rattle.world_core.specs.Worlds.{at_of, end_of, names_of, IsReady, WorldStands};
-ghost use Rattle.replay_top.specs.Outcome.{Ends, state_answer};
-ghost use Rattle.replay_top.specs.Replays.{IsUndone};
+ghost use Rattle.replay_top.specs.Outcome.{Ends, IsUndone, unread};
+ghost use Rattle.replay_top.specs.Replies.{state_answer};
 ghost use Rattle.replay_top.specs.Runs.{IsNextUpTo, IsRunUpTo, Runs, StandsForNext};
 ghost use Rattle.replay_top.specs.State.{IsReadAgain, ReadsBack, line_of, state_text};
 
-use crate::running::refuse;
-use crate::status::Status;
 use crate::trace::{beat_at, next_of};
-use crate::writing::write;
 use byte_edge::Sink;
 use kube_base::{Beat, ListOf, Names, NoMemory, Steps};
 use kube_objects::{Items, Proc};
 use manifest_json::write_list;
+use run_edge::{Status, Verdict, tell, tell_refusal};
 use script_reader::Document;
 use std::alloc::Global;
 use trace_writer::add;
@@ -44,18 +42,18 @@ pub(crate) fn write_state<K: Sink, L>(
 ) -> Status
     requires lawful { IsLawfulDoc (doc_of document) }
     requires named { IsWellNamed document.names (doc_of document) }
-    ensures text { Ends (state_answer document last.0) (Some []) (K.taken sink.old) (K.taken sink.new) result }
-    ensures reads_back { result ≡ Status.Done → ReadsBack document last.0 }
+    ensures text { Ends (unread (state_answer document last.0) []) (Some []) (K.taken sink.old) (K.taken sink.new) result }
+    ensures reads_back { result ≡ Status.Answered Verdict.Done → ReadsBack document last.0 }
     ensures silent { result ≢ Status.SourceFault }
     ensures sink_fault { result ≡ Status.SinkFault → Rose (K.faults sink.old) (K.faults sink.new) }
     ensures undone { IsUndone result → steps.new ≡ steps.old }
     ensures counted { steps.new ≤ steps.old + standing_below (doc_of document) (last.0 + 1) }
 {
     if document.settings.end_beat.0 < last.0 {
-        return refuse(alloc, sink, PAST_END, b"/");
+        return tell_refusal(alloc, sink, PAST_END, b"/");
     }
     match text_after(alloc, document, last, policies, steps) {
-        Ok(text) => write(sink, &text),
+        Ok(text) => tell(sink, Verdict::Done, &text),
         Err(NoMemory) => Status::OutOfMemory,
     }
 }

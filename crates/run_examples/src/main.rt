@@ -4,7 +4,8 @@
 use byte_edge::{MemSink, MemSource};
 use kube_base::{NoMemory, Steps};
 use rate_policies::{full, partial};
-use replay_top::{Status, run};
+use replay_top::run;
+use run_edge::{Status, Verdict};
 use std::alloc::Global;
 use std::io::ErrorKind;
 use std::sync::ledger::Blank;
@@ -46,5 +47,5 @@ fn replays(alloc: Global, document: Vec<u8>, trace: &[u8]) -> Result<bool, NoMem
         &Policies::new(partial, full),
         &mut steps,
     );
-    Ok(ended == Status::Done && sink.held() == trace)
+    Ok(ended == Status::Answered(Verdict::Done) && sink.held() == trace)
 }

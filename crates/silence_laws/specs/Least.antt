@@ -42,11 +42,14 @@ pub record TakesAtLeast (doc : Doc) (near far e p time least : ℕ) : Type 0 whe
 
 -- where a leader in a calm falls silent at beat b, each lead of another identity from then on comes no sooner than the looks of each other
 -- candidate take at least, and three ways, after its last write: that came no earlier before b than its renewals come apart
-abbrev pub SilencesLast : Type 0
-SilencesLast =
-    (doc : Doc) (near far b e : ℕ) (q : Identity) → LeadsUntil doc near far b e q → (s : Bears doc near far b e q) → IsQuiet doc b e q.process
+abbrev pub SilenceLasts : Doc → Type 0
+SilenceLasts doc =
+    (near far b e : ℕ) (q : Identity) → LeadsUntil doc near far b e q → (s : Bears doc near far b e q) → IsQuiet doc b e q.process
     → (least : ℕ) → ((p : ℕ) → is_controller doc p ≡ true → (p ≡ q.process → ⊥) → TakesAtLeast doc near far e p (lease_duration doc q.process) least)
     → (k : ℕ) → IsLead doc b e q k → b + least + 3 * near ≤ k + s.renews.wait + 3 * far
+
+abbrev pub SilencesLast : Type 0
+SilencesLast = (doc : Doc) → SilenceLasts doc
 
 -- the same in whole beats, as a program finds it: each quotient rounded up
 abbrev pub takes_beats : (near far needed wait lasting : ℕ) → ℕ
@@ -60,15 +63,21 @@ pub record RunsWithin (doc : Doc) (e p slow fast : ℕ) : Type 0 where
 abbrev pub takes_least : Doc → (near far p slow fast time : ℕ) → ℕ
 takes_least doc near far p slow fast time = takes_beats near far (div_ceil (retry_period doc p) fast) (div_ceil (retry_period doc p) slow) (div_ceil time fast)
 
-abbrev pub SilencesAreTold : Type 0
-SilencesAreTold =
-    (doc : Doc) (near far b e : ℕ) (q : Identity) → LeadsUntil doc near far b e q → (s : Bears doc near far b e q) → IsQuiet doc b e q.process
+abbrev pub SilenceIsTold : Doc → Type 0
+SilenceIsTold doc =
+    (near far b e : ℕ) (q : Identity) → LeadsUntil doc near far b e q → (s : Bears doc near far b e q) → IsQuiet doc b e q.process
     → (slow fast : ℕ → ℕ) → ((p : ℕ) → is_controller doc p ≡ true → (p ≡ q.process → ⊥) → RunsWithin doc e p (slow p) (fast p))
     → (least : ℕ) → ((p : ℕ) → is_controller doc p ≡ true → (p ≡ q.process → ⊥) → least ≤ takes_least doc near far p (slow p) (fast p) (lease_duration doc q.process))
     → (k : ℕ) → IsLead doc b e q k → b + least + 3 * near ≤ k + s.renews.wait + 3 * far
 
+abbrev pub SilencesAreTold : Type 0
+SilencesAreTold = (doc : Doc) → SilenceIsTold doc
+
 -- and where it is stopped and its release is accepted, four ways after the stop or later
-abbrev pub ReleasesLast : Type 0
-ReleasesLast =
-    (doc : Doc) (near far b e : ℕ) (q : Identity) → LeadsUntil doc near far b e q → Bears doc near far b e q → IsStopped doc b e q → IsReleased doc near far b e q
+abbrev pub ReleaseLasts : Doc → Type 0
+ReleaseLasts doc =
+    (near far b e : ℕ) (q : Identity) → LeadsUntil doc near far b e q → Bears doc near far b e q → IsStopped doc b e q → IsReleased doc near far b e q
     → (k : ℕ) → IsLead doc b e q k → b + 4 * near ≤ k
+
+abbrev pub ReleasesLast : Type 0
+ReleasesLast = (doc : Doc) → ReleaseLasts doc

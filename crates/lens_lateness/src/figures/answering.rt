@@ -1,6 +1,6 @@
 // The answer to a trace beside its document.
 ghost use Rattle.std.specs.Prelude.{◌≡◌, ◌+◌, ◌≤◌, IfOk, map};
-ghost use Rattle.lens_edge.specs.Outcome.{reply_of};
+ghost use Rattle.run_edge.specs.Outcome.{reply_of};
 ghost use Rattle.lens_json.specs.Parts.{part_of};
 ghost use Rattle.lens_terms.specs.Acting.{shown as stretch_shown};
 ghost use Rattle.lens_terms.specs.Terms.{shown};
@@ -19,12 +19,12 @@ use crate::figures::objects::late_objects;
 use crate::input::document_end;
 use document_laws::documents_are_lawful;
 use kube_base::NoMemory;
-use lens_edge::{Answer, Verdict, refuse, refuse_as};
 use lens_json::{Part, What, add_parts};
 use lens_summary::figures::parts;
 use lens_terms::{Stretch, Term, stretches_of, terms_of};
 use lens_trace::{Telling, answer_on};
 use manifest_json::ReadFault;
+use run_edge::{Answer, Verdict, refuse, refuse_as};
 use script_reader::{Document, read_document};
 use skew_clock::Clock;
 use std::alloc::Global;

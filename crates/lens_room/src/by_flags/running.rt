@@ -2,7 +2,7 @@
 ghost use Rattle.std.specs.Prelude.{◌≡◌, ◌≢◌, ◌++◌, ℕ, true, false, List, Some, Ok, IfOk, OnOk, map, string_bytes};
 ghost use Rattle.byte_edge.specs.Bytes.{Rose};
 ghost use Rattle.history.specs.Premise.{lease_premise};
-ghost use Rattle.lens_edge.specs.Outcome.{Ends, Unread, reply_of};
+ghost use Rattle.run_edge.specs.Outcome.{Ends, Unread, reply_of};
 ghost use Rattle.lens_room.specs.declared.by_flags.flags.Flags.{Flags};
 ghost use Rattle.lens_room.specs.Described.{described};
 ghost use Rattle.lens_room.specs.Flags.{behind, flags_of};
@@ -20,7 +20,7 @@ use crate::by_flags::wrong::Wrong;
 use crate::margins::verdict_by;
 use byte_edge::Sink;
 use kube_base::NoMemory;
-use lens_edge::{Answer, Status, Verdict, tell};
+use run_edge::{Answer, Status, Verdict, tell};
 use std::alloc::Global;
 
 /// Writes the margin of the settings that the words behind the first one give, the greatest skew that they bear, and whether they are long

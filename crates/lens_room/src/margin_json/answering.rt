@@ -1,6 +1,6 @@
 // The answer to a document.
 ghost use Rattle.std.specs.Prelude.{◌≡◌, IfOk, map};
-ghost use Rattle.lens_edge.specs.Outcome.{reply_of};
+ghost use Rattle.run_edge.specs.Outcome.{reply_of};
 ghost use Rattle.lens_json.specs.Parts.{part_of};
 ghost use Rattle.script_reader.specs.Documents.{doc_of};
 ghost use Rattle.script_reader.specs.Lawful.{IsLawfulDoc, IsWellNamed};
@@ -11,9 +11,9 @@ use crate::margin_json::parts::controllers_in;
 use crate::margins::verdict_by;
 use document_laws::documents_are_lawful;
 use kube_base::NoMemory;
-use lens_edge::{Answer, refuse_as};
 use lens_json::{Part, Value, What, add_parts};
 use manifest_json::ReadFault;
+use run_edge::{Answer, refuse_as};
 use script_reader::{Document, lease_premise, read_document};
 use std::alloc::Global;
 use trace_writer::add;

@@ -1,6 +1,6 @@
 // The answer to a trace.
 ghost use Rattle.std.specs.Prelude.{◌≡◌, ◌+◌, ◌≤◌, IfOk, map};
-ghost use Rattle.lens_edge.specs.Outcome.{reply_of};
+ghost use Rattle.run_edge.specs.Outcome.{reply_of};
 ghost use Rattle.lens_json.specs.Parts.{part_of, what_of};
 ghost use Rattle.lens_terms.specs.Acting.{shown as stretch_shown};
 ghost use Rattle.lens_terms.specs.Terms.{shown};
@@ -13,10 +13,10 @@ use crate::figures::totals::totals_in;
 use crate::subject::Subject;
 use crate::summary::{overlap_line, premise_word};
 use kube_base::NoMemory;
-use lens_edge::{Answer, Verdict};
 use lens_json::{Object, Part, What, add_parts};
 use lens_terms::{Stretch, Term, beats_of_two, leaderless, stretches_of, terms_of};
 use lens_trace::{Telling, answer_on};
+use run_edge::{Answer, Verdict};
 use std::alloc::Global;
 use trace_lines::{Header, Line};
 use trace_writer::add;

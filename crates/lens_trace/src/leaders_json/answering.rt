@@ -1,6 +1,6 @@
 // The answer to a trace.
 ghost use Rattle.std.specs.Prelude.{◌≡◌, ◌≤◌, IfOk, map};
-ghost use Rattle.lens_edge.specs.Outcome.{reply_of};
+ghost use Rattle.run_edge.specs.Outcome.{reply_of};
 ghost use Rattle.lens_json.specs.Parts.{part_of};
 ghost use Rattle.lens_terms.specs.Acting.{shown as stretch_shown};
 ghost use Rattle.lens_terms.specs.Terms.{shown};
@@ -11,9 +11,9 @@ ghost use Rattle.lens_trace.specs.LeadersJson as spec;
 use crate::answering::{Telling, answer_on};
 use crate::leaders_json::parts::{overlap_in, spans_in, terms_in};
 use kube_base::NoMemory;
-use lens_edge::{Answer, Verdict};
 use lens_json::{Part, What, add_parts};
 use lens_terms::{Stretch, Term, leaderless, overlap, stretches_of, terms_of};
+use run_edge::{Answer, Verdict};
 use std::alloc::Global;
 use trace_lines::{Header, Line};
 use trace_writer::add;

@@ -1,6 +1,6 @@
 // The answer to a trace.
 ghost use Rattle.std.specs.Prelude.{◌≡◌, IfOk, map};
-ghost use Rattle.lens_edge.specs.Outcome.{reply_of};
+ghost use Rattle.run_edge.specs.Outcome.{reply_of};
 ghost use Rattle.trace_lines.specs.Reads.{seen};
 ghost use Rattle.lens_trace.specs.LineLaws.{OneObjectALine, MembersInOrder};
 ghost use Rattle.lens_trace.specs.Lines as spec;
@@ -9,7 +9,7 @@ use crate::answering::{Telling, answer_on};
 use crate::lines::header::add_header;
 use crate::lines::line::add_lines;
 use kube_base::NoMemory;
-use lens_edge::{Answer, Verdict};
+use run_edge::{Answer, Verdict};
 use std::alloc::Global;
 use trace_lines::{Header, Line};
 

@@ -1,10 +1,10 @@
 use Rattle.std.proofs.Common.{List, ℕ, [], Some, None, map, string_bytes, refl, sym, ap, subst, ◌∙◌, ◌≡◌}
-use Rattle.lens_edge.specs.Outcome.{Ends, Reply, Unread, usage}
-use Rattle.lens_edge.specs.declared.status.Verdict.TheVariants.{Done}
+use Rattle.run_edge.specs.Outcome.{Ends, Reply, Unread}
+use Rattle.run_edge.specs.declared.status.Verdict.TheVariants.{Done}
 use Rattle.lens_room.specs.Flags.{behind}
 use Rattle.lens_room.specs.FlagReplies.{answer_to}
 use Rattle.kube_lens.specs.Commands.{command_of}
-use Rattle.kube_lens.specs.Outcome.{help}
+use Rattle.kube_lens.specs.Outcome.{help, usage}
 use Rattle.kube_lens.specs.declared.asked.Asked.TheVariants.{Margin}
 use Rattle.kube_lens.specs.declared.command.Command.TheVariants.{Help, Flags, Asks}
 use Rattle.kube_lens.proofs.Commanded.{ends-commanded, ends-said, ends-unread, never-said}

@@ -1,5 +1,5 @@
 use Rattle.std.proofs.Common.{◌≡◌, IfOk, sym, subst}
-use Rattle.lens_edge.specs.Outcome.{reply_of}
+use Rattle.run_edge.specs.Outcome.{reply_of}
 use Rattle.lens_explain.specs.Places.{IsShownOf}
 use Rattle.lens_explain.specs.Replies.{refused}
 use Rattle.lens_explain.proofs.Parts.{shown-as}

@@ -1,5 +1,5 @@
 use Rattle.std.proofs.Common.{◌≡◌, IfOk, sym, ap, subst}
-use Rattle.lens_edge.specs.Outcome.{reply_of}
+use Rattle.run_edge.specs.Outcome.{reply_of}
 use Rattle.script_reader.specs.Documents.{doc_of}
 use Rattle.lens_margin.proofs.Numbers.{margin-law}
 use Rattle.lens_room.specs.Replies.{found}

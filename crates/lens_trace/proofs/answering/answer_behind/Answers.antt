@@ -1,5 +1,5 @@
 use Rattle.std.proofs.Common.{◌≡◌, IfOk, map, filter_map, sym, ap, subst, ◌∙◌}
-use Rattle.lens_edge.specs.Outcome.{reply_of}
+use Rattle.run_edge.specs.Outcome.{reply_of}
 use Rattle.trace_audit.specs.Entries.{lines_of}
 use Rattle.trace_lines.specs.Forms.{line_of}
 use Rattle.trace_lines.specs.Reads.{seen}

@@ -1,5 +1,5 @@
 use Rattle.std.proofs.Common.{◌≡◌, IfOk, sym, subst}
-use Rattle.lens_edge.specs.Outcome.{reply_of}
+use Rattle.run_edge.specs.Outcome.{reply_of}
 use Rattle.lens_trace.proofs.ReplyLaws.{reply-endless, reply-headless, reply-behind}
 use Rattle.lens_trace.proofs.answering.answer_on.Goals as goal
 

@@ -12,4 +12,15 @@ returns c =
           c.taints_are_spaced.ensures (doc_of d) premise (sound (doc_of d) (lawful bytes d read)) (lawful bytes d read).settings.secondary;
       not_early = λ d. c.evictions_are_timely.ensures.not_early (doc_of d);
       prompt = λ d. c.evictions_are_timely.ensures.prompt (doc_of d);
+      timely = λ bytes d read. record {
+        sound = sound (doc_of d) (lawful bytes d read);
+        takes_over = c.takeovers_are_bounded.ensures.told (doc_of d);
+        stays = c.leaders_stay.ensures (doc_of d);
+        gap = c.gaps_last.ensures (doc_of d);
+        waits = c.others_wait.ensures (doc_of d);
+        settles = c.calm_spans_settle.ensures.told (doc_of d);
+        silence = c.silences_last.ensures.told (doc_of d);
+        succeeds = c.successors_lead.ensures.told (doc_of d);
+        acts_on = c.leaders_act_on.ensures (doc_of d);
+      };
     }

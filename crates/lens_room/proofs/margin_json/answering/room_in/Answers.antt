@@ -1,5 +1,5 @@
 use Rattle.std.proofs.Common.{◌≡◌, IfOk, sym, ap, subst}
-use Rattle.lens_edge.specs.Outcome.{reply_of}
+use Rattle.run_edge.specs.Outcome.{reply_of}
 use Rattle.lens_room.specs.MarginJson.{found}
 use Rattle.lens_room.proofs.margin_json.answering.room_in.Goals as goal
 
