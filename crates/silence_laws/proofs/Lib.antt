@@ -15,4 +15,5 @@ pub mod Taken
 pub mod Recent
 pub mod Rival
 pub mod Lasted
+pub mod Leading
 pub mod Lasting

@@ -36,7 +36,7 @@ use Rattle.call_laws.proofs.Making.{MadeAs, MadeSend, MadeAnswer, HasStopped, Is
 use Rattle.call_laws.proofs.Placing.{in_own_beat, not_before}
 use Rattle.call_laws.proofs.Starting.{actor_is, sends_are_due}
 use Rattle.call_laws.proofs.Turning.{IsDue, IsTurnSend}
-use Rattle.takeover_laws.specs.Calm.{IsSteady, IsQuiet, IsInTime}
+use Rattle.takeover_laws.specs.Calm.{IsSteady, IsInTime}
 use Rattle.takeover_laws.proofs.Standing.{controllers_first}
 use Rattle.calm_laws.proofs.Asked.{IsWrite, next_is, asks_same, fails_not}
 use Rattle.calm_laws.proofs.Begun.{by_is}
@@ -46,7 +46,7 @@ use Rattle.silence_laws.specs.Silence.{LeadsUntil, Bears}
 use Rattle.silence_laws.proofs.Chain.{opens_of, Look}
 use Rattle.silence_laws.proofs.Kept.{Kept, kept_of}
 use Rattle.silence_laws.proofs.Looking.{ShowsIt, shows_it, asks_election}
-use Rattle.silence_laws.proofs.Owning.{IsOwn, IsForeign, sent_early}
+use Rattle.silence_laws.proofs.Owning.{IsQuietIn, IsOwn, IsForeign, sent_early}
 use Rattle.silence_laws.proofs.Recent.{mine, k, z_e, recent}
 use Rattle.silence_laws.proofs.Showing.{IsTold, told_by, ShownBy, shown_by}
 use Rattle.silence_laws.proofs.Taken.{first, won, rival, other, long_after, sent_before}
@@ -183,29 +183,29 @@ attempt_own doc q j h version lease is = by_test (doc.settings.fast_renew && lea
     by_test true is = by_shown (shown q h) refl is
     by_test false is = absurd (get_not is)
 
-module _ (doc : Doc) (near far b e : ℕ) (q : Identity) (l : LeadsUntil doc near far b e q) (s : Bears doc near far b e q) (quiet : IsQuiet doc b e q.process)
-    (f : IsForeign doc near far b e q l s quiet (first doc near far b e q l s quiet) (history doc (suc e))) where
+module _ (doc : Doc) (near far b e : ℕ) (q : Identity) (l : LeadsUntil doc near far b e q) (s : Bears doc near far b e q) (H : List Entry) (H_e : IsTail H (history doc (suc e))) (quiet : IsQuietIn b q.process H)
+    (f : IsForeign doc near far b e q l s H H_e quiet (first doc near far b e q l s H H_e quiet) H) where
   abbrev pub own : IsOwn doc q f.before
-  own = mine doc near far b e q l s quiet f
+  own = mine doc near far b e q l s H H_e quiet f
 
   abbrev pub kept : Kept f.before own.y
-  kept = k doc near far b e q l s quiet f
+  kept = k doc near far b e q l s H H_e quiet f
 
   abbrev pub w : Won doc f.x f.before
-  w = won doc near far b e q l s quiet f
+  w = won doc near far b e q l s H H_e quiet f
 
   abbrev pub c : Identity
   c = w.who
 
   pub low_e : IsTail f.before (history doc (suc e))
-  low_e = tail_trans f.before (f.x ∷ f.before) (history doc (suc e)) (inr (tail_all f.before)) f.position
+  low_e = tail_trans f.before (f.x ∷ f.before) (history doc (suc e)) (inr (tail_all f.before)) (tail_trans (f.x ∷ f.before) H (history doc (suc e)) f.position H_e)
 
   pub long : own.y.beat + s.renews.wait + 5 * far + 1 ≤ w.call.sent + near
-  long = long_after doc near far b e q l s quiet f
+  long = long_after doc near far b e q l s H H_e quiet f
 
   -- it is of another process
   pub elsewhere : c.process ≡ q.process → ⊥
-  elsewhere same = omega (arith, sent_early doc near far b e q l s quiet f.x f.before f.position w f.writes same, long, recent doc near far b e q l s quiet f, s.ways, s.one)
+  elsewhere same = omega (arith, sent_early doc near far b e q l s H H_e quiet f.x f.before f.position w f.writes same, long, recent doc near far b e q l s H H_e quiet f, s.ways, s.one)
 
   pub steady : IsSteady doc near far 0 e c.process
   steady = l.others c.process w.role elsewhere
@@ -223,16 +223,16 @@ module _ (doc : Doc) (near far b e : ℕ) (q : Identity) (l : LeadsUntil doc nea
   sent = sent_beat doc near far e c w.role steady w.f w.low w.call (Some f.x.beat) asked_e w.f_actor w.f_fact
 
   pub foreign : own.y.by ≡ Some c → ⊥
-  foreign by = rival doc near far b e q l s quiet f (some_is c q (sym by ∙ own.by))
+  foreign by = rival doc near far b e q l s H H_e quiet f (some_is c q (sym by ∙ own.by))
 
   pub others : is_other c own.lease.holder ≡ true
-  others = other doc near far b e q l s quiet f
+  others = other doc near far b e q l s H H_e quiet f
 
   key : key_of w.call.request ≡ election
   key = asks_election doc s.sound e s.end c w.role w.f w.call (Some f.x.beat) (in_head w.f w.low (history doc (suc e)) asked_e) w.f_actor w.f_fact
 
   made_answer : MadeAnswer doc f.x.beat f.x.step f.x.actor w.call w.reply w.comes w.wrote f.before
-  made_answer = subst (λ d. MadeAs doc f.x.beat f.x.step f.x.actor d f.before) w.fact (are_made doc (suc e) f.x f.before f.position)
+  made_answer = subst (λ d. MadeAs doc f.x.beat f.x.step f.x.actor d f.before) w.fact (are_made doc (suc e) f.x f.before (tail_trans (f.x ∷ f.before) H (history doc (suc e)) f.position H_e))
 
   update : IsUpdate w.call.request own.y
   update = accepted_update w.call.request w.reply f.before own.y key (made_answer.reply_is ∙ ap (λ (c : Call). answer c.request f.before) (sym made_answer.call_is)) own.top w.so
