@@ -17,3 +17,4 @@ pub mod Rival
 pub mod Lasted
 pub mod Leading
 pub mod Lasting
+pub mod Stopping

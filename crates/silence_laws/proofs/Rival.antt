@@ -55,13 +55,13 @@ use Rattle.silence_laws.proofs.Ways.{beat_before, sent_beat, sent_freely, IsWay,
 
 -- ---- an expiry in a beat
 
-record IsExpired (q : Identity) (h : List Entry) : Type 0 where
-  x : Entry
-  before : List Entry
-  position : IsTail (x ∷ before) h
-  actor : x.actor ≡ actor_of q
-  call : Call
-  fact : x.fact ≡ Expires call
+pub record IsExpired (q : Identity) (h : List Entry) : Type 0 where
+  pub x : Entry
+  pub before : List Entry
+  pub position : IsTail (x ∷ before) h
+  pub actor : x.actor ≡ actor_of q
+  pub call : Call
+  pub fact : x.fact ≡ Expires call
 
 expires_in : (k at : ℕ) (d : Fact) (c : Call) → expired_in k at d ≡ Some c → (call : Call) × (d ≡ Expires call)
 expires_in k at (Expires call) c is = (call, refl)
@@ -78,7 +78,7 @@ expires_in k at Ends c is = absurd (none_is c is)
 expires_in k at (Leads version) c is = absurd (none_is c is)
 expires_in k at (Ticks t) c is = absurd (none_is c is)
 
-expired_by : (q : Identity) (k : ℕ) (h : List Entry) → is_fast_call (just_expired q k h) ≡ true → IsExpired q h
+pub expired_by : (q : Identity) (k : ℕ) (h : List Entry) → is_fast_call (just_expired q k h) ≡ true → IsExpired q h
 expired_by q k [] is = absurd (false_is is)
 expired_by q k (x ∷ h) is = by_own (is_by q x.actor) refl is (λ below. expired_by q k h below)
   where
@@ -107,13 +107,13 @@ own_other q (holder.Proc id i) own_is other_is = by_test (is_same (record { proc
 -- ---- an accepted update
 
 -- a write that succeeds over a record is an update on its version
-record IsUpdate (r : Request) (y : Held) : Type 0 where
-  version : Version
-  lease : Lease
-  is : r ≡ Update election version lease
-  same : version.0 ≡ y.version.0
+pub record IsUpdate (r : Request) (y : Held) : Type 0 where
+  pub version : Version
+  pub lease : Lease
+  pub is : r ≡ Update election version lease
+  pub same : version.0 ≡ y.version.0
 
-accepted_update : (r : Request) (reply : Reply) (h : List Entry) (y : Held) → key_of r ≡ election → reply ≡ answer r h → stored election h ≡ Some y → succeeds r reply ≡ true → IsUpdate r y
+pub accepted_update : (r : Request) (reply : Reply) (h : List Entry) (y : Held) → key_of r ≡ election → reply ≡ answer r h → stored election h ≡ Some y → succeeds r reply ≡ true → IsUpdate r y
 accepted_update (Get key) reply h y key_is answered top so = absurd (false_is so)
 accepted_update (PostStatus name status at) reply h y key_is answered top so = absurd (false_is so)
 accepted_update (Create key l) reply h y key_is answered top so =
@@ -128,12 +128,12 @@ accepted_update (Update key v l) reply h y key_is answered top so =
 -- ---- what is asked for
 
 -- an update follows a Get that found the version, where the record doesn't block
-record IsFree (q : Identity) (m : Moment) (seen : ℕ) (reply : Reply) (version : Version) : Type 0 where
-  lease : Lease
-  found : reply ≡ Found version lease
-  free : is_blocked q m.now seen lease ≡ false
+pub record IsFree (q : Identity) (m : Moment) (seen : ℕ) (reply : Reply) (version : Version) : Type 0 where
+  pub lease : Lease
+  pub found : reply ≡ Found version lease
+  pub free : is_blocked q m.now seen lease ≡ false
 
-get_free : (q : Identity) (m : Moment) (seen : ℕ) (reply : Reply) (version : Version) (lease : Lease) → follow_get q m seen reply ≡ Asks (Update election version lease) → IsFree q m seen reply version
+pub get_free : (q : Identity) (m : Moment) (seen : ℕ) (reply : Reply) (version : Version) (lease : Lease) → follow_get q m seen reply ≡ Asks (Update election version lease) → IsFree q m seen reply version
 get_free q m seen Absent version lease is = absurd (create_not (asks_same (Create election (created q m)) (Update election version lease) is))
   where
     create_not : Create election (created q m) ≡ Update election version lease → ⊥
