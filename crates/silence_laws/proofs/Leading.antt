@@ -98,7 +98,7 @@ module _ (doc : Doc) (near far b e : ℕ) (q : Identity) (l : LeadsUntil doc nea
   pub before_e : IsTail lead.before (history doc (suc e))
   before_e = tail_trans lead.before (lead.x ∷ lead.before) (history doc (suc e)) (inr (tail_all lead.before)) lead.position
 
-  heard_e : IsTail (entry lead.x.beat 3 r (Delivers led.call led.reply true) ∷ led.before) (history doc (suc e))
+  pub heard_e : IsTail (entry lead.x.beat 3 r (Delivers led.call led.reply true) ∷ led.before) (history doc (suc e))
   heard_e = subst (λ g. IsTail g (history doc (suc e))) (led.is ∙ ap (λ p. entry lead.x.beat 3 p (Delivers led.call led.reply true) ∷ led.before) own) before_e
 
   pub S_e : IsTail led.before (history doc (suc e))

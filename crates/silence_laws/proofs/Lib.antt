@@ -18,3 +18,4 @@ pub mod Lasted
 pub mod Leading
 pub mod Lasting
 pub mod Stopping
+pub mod Released
