@@ -1,18 +1,13 @@
 -- The first write of somebody else after a leader has fallen silent comes no sooner than the looks at the leader's record take.
-use Rattle.std.proofs.Common.{◌≡◌, ◌⊎◌, ◌<◌, ◌≤◌, ℕ, zero, suc, ◌+◌, ◌-◌, ◌*◌, ◌&&◌, not, Bool, true, false, List, ◌∷◌, Option, Some, None, refl, sym, ap, ◌∙◌, subst, inl, inr, arith}
-use Rattle.std.proofs.lemmas.Bool.{eqb-true}
+use Rattle.std.proofs.Common.{◌≡◌, ◌<◌, ◌≤◌, ℕ, zero, suc, ◌+◌, ◌-◌, ◌*◌, true, false, List, ◌∷◌, Option, Some, None, refl, sym, ap, ◌∙◌, subst, inr, arith}
 use Rattle.kube_objects.specs.declared.call.Reply.TheVariants.{Found}
-use Rattle.kube_objects.specs.declared.lease.Lease.{Lease}
-use Rattle.kube_objects.specs.declared.object.Object.{Object}
-use Rattle.kube_objects.specs.declared.object.Object.TheVariants as object
 use Rattle.kube_objects.specs.Clocks.{local}
-use Rattle.kube_objects.specs.Document.{Doc, end_beat, is_controller, of_seconds, lease_duration, retry_period}
+use Rattle.kube_objects.specs.Document.{Doc, of_seconds, lease_duration, retry_period}
 use Rattle.kube_objects.specs.Elector.{leads, deadline, is_before, is_blocked, observed_at}
-use Rattle.kube_objects.specs.Entry.{Entry, Identity, Call, Stops, Ends, Delivers, entry}
+use Rattle.kube_objects.specs.Entry.{Entry, Identity, Stops, Ends, Delivers, entry}
 use Rattle.kube_objects.specs.Identities.{of_process}
 use Rattle.kube_objects.specs.Newest.{join, has, or_zero}
-use Rattle.kube_objects.specs.Process.{alive, life_says, life, gone, is_present, open_as}
-use Rattle.kube_objects.specs.Stored.{election, stored}
+use Rattle.kube_objects.specs.Process.{alive, life_says, life, gone, is_present}
 use Rattle.history.specs.History.{history, at_turn}
 use Rattle.history.specs.Safe.{Acts, IsHeldBy, IsStoredHolder}
 use Rattle.history_laws.specs.Tails.{In, IsTail}
@@ -20,9 +15,8 @@ use Rattle.history_laws.proofs.Plainly.{upper, none_is, true_is, false_is, and_r
 use Rattle.history_laws.proofs.Tailed.{tail_all, tail_trans, later_tail, turn_tail, before_turn}
 use Rattle.lease_laws.proofs.Claims.{is_holder, same_holder, term_of}
 use Rattle.lease_laws.proofs.Premises.{premise_from}
-use Rattle.span_laws.specs.Looks.{IsAtLeast}
-use Rattle.span_laws.specs.Spans.{IsEnough, IsNeeded}
-use Rattle.call_laws.proofs.Above.{Place, place_of}
+use Rattle.span_laws.specs.Spans.{IsNeeded}
+use Rattle.call_laws.proofs.Above.{place_of}
 use Rattle.call_laws.proofs.Making.{MadeAs, MadeEnd, are_made}
 use Rattle.call_laws.proofs.Placing.{in_own_beat, not_before}
 use Rattle.takeover_laws.specs.Calm.{IsSteady}
@@ -32,14 +26,14 @@ use Rattle.calm_laws.proofs.Life.{up_between, never_led}
 use Rattle.stay_laws.proofs.Won.{Won}
 use Rattle.silence_laws.specs.Least.{TakesAtLeast}
 use Rattle.silence_laws.specs.Silence.{LeadsUntil, Bears}
-use Rattle.silence_laws.proofs.Chain.{opens_of, Look}
+use Rattle.silence_laws.proofs.Chain.{opens_of}
 use Rattle.silence_laws.proofs.Chained.{IsOver, found_over}
 use Rattle.silence_laws.proofs.Kept.{Kept}
 use Rattle.silence_laws.proofs.Owning.{IsQuietIn, IsOwn, IsForeign}
 use Rattle.silence_laws.proofs.Recent.{z_e}
 use Rattle.silence_laws.proofs.Rival.{own, kept, w, c, low_e, steady, time, sent, foreign, others, long, asked_e, LastLook, last_look}
 use Rattle.silence_laws.proofs.Taken.{first, rival}
-use Rattle.silence_laws.proofs.Waiting.{IsCountedAfter, counted_after}
+use Rattle.silence_laws.proofs.Waiting.{counted_after}
 use Rattle.silence_laws.proofs.Ways.{IsWay, Went, went, sent_freely, request_way, beat_before}
 
 -- whose process has gone is down

@@ -1,38 +1,18 @@
 -- For how long nobody else comes to lead after a leader has fallen silent.
-use Rattle.std.proofs.Common.{◌≡◌, ◌⊎◌, ◌<◌, ◌≤◌, ℕ, suc, ◌+◌, ◌-◌, ◌*◌, Bool, true, false, List, ◌∷◌, Option, Some, None, refl, sym, ap, ◌∙◌, subst, inl, inr, ⊎_elim, arith}
-use Rattle.std.proofs.lemmas.Bool.{cases_lt, cases_eq, eq-eqb}
+use Rattle.std.proofs.Common.{◌≡◌, ◌⊎◌, ◌<◌, ◌≤◌, ℕ, suc, ◌+◌, ◌-◌, ◌*◌, true, ◌∷◌, Some, refl, sym, ap, ◌∙◌, inl, inr, ⊎_elim, arith}
 use Rattle.std.specs.Int.{div_ceil}
-use Rattle.kube_base.specs.declared.numbers.Version.{Version}
-use Rattle.kube_objects.specs.declared.call.Reply.{Reply}
-use Rattle.kube_objects.specs.declared.call.Reply.TheVariants.{Done}
-use Rattle.kube_objects.specs.declared.call.Request.{Request}
-use Rattle.kube_objects.specs.declared.call.Request.TheVariants.{Get, Create, Update, PostStatus}
-use Rattle.kube_objects.specs.declared.deed.Actor.{Actor}
-use Rattle.kube_objects.specs.Answers.{answer, written}
-use Rattle.kube_objects.specs.Document.{Doc, end_beat, is_controller, lease_duration, retry_period}
-use Rattle.kube_objects.specs.Elector.{succeeds, lead_says}
-use Rattle.kube_objects.specs.Entry.{Entry, Identity, Call, Fact, First, Event, Starts, Stops, Sends, Answers, Delivers, Expires, Leads, Ends, Crashes, Stalls, Ticks, actor_of, entry}
-use Rattle.kube_objects.specs.Identities.{is_by, of_process}
+use Rattle.kube_objects.specs.Document.{Doc, is_controller, lease_duration, retry_period}
+use Rattle.kube_objects.specs.Entry.{Entry, Identity, Stops, actor_of}
+use Rattle.kube_objects.specs.Identities.{of_process}
 use Rattle.kube_objects.specs.Newest.{has}
-use Rattle.kube_objects.specs.Process.{open_as}
-use Rattle.kube_objects.specs.Stored.{election, key_of, at_key, write_of}
-use Rattle.kube_objects.specs.Wire.{reply_delay}
+use Rattle.kube_objects.specs.Stored.{election, at_key, write_of}
 use Rattle.history.specs.History.{history}
 use Rattle.history_laws.specs.Tails.{In, IsTail}
-use Rattle.history_laws.proofs.Counting.{when_test, when_value}
-use Rattle.history_laws.proofs.Plainly.{some_is, none_is, false_is}
-use Rattle.history_laws.proofs.Tailed.{tail_all, tail_trans, in_tail, later_tail, same_head}
-use Rattle.gap_laws.proofs.Steps.{IsSuccess, success_is}
-use Rattle.call_laws.specs.Answering.{with_events}
-use Rattle.call_laws.proofs.Above.{in_head}
-use Rattle.call_laws.proofs.Placing.{in_own_beat, forces_stand}
+use Rattle.history_laws.proofs.Tailed.{tail_all, tail_trans, later_tail, same_head}
+use Rattle.call_laws.proofs.Placing.{in_own_beat}
 use Rattle.call_laws.proofs.Starting.{actor_is}
-use Rattle.takeover_laws.specs.Calm.{Passes, IsSteady, IsQuiet}
-use Rattle.takeover_laws.proofs.Rounds.{reply_passes}
-use Rattle.calm_laws.proofs.Asked.{IsWrite}
-use Rattle.calm_laws.proofs.Begun.{by_is}
-use Rattle.calm_laws.proofs.Origins.{Origin, origin}
-use Rattle.calm_laws.proofs.Replies.{wrote_by}
+use Rattle.takeover_laws.specs.Calm.{IsSteady, IsQuiet}
+use Rattle.calm_laws.proofs.Origins.{Origin}
 use Rattle.stay_laws.proofs.Won.{Won, is_won}
 use Rattle.span_laws.proofs.Quotients.{rounded_is, bounds_are_exact}
 use Rattle.silence_laws.specs.Least.{IsLead, TakesAtLeast, RunsWithin, SilencesLast, SilencesAreTold}
@@ -40,12 +20,10 @@ use Rattle.silence_laws.specs.Silence.{LeadsUntil, Bears}
 use Rattle.silence_laws.proofs.Chain.{opens_of}
 use Rattle.silence_laws.proofs.Lasted.{taken_late}
 use Rattle.silence_laws.proofs.Leading as leading
-use Rattle.silence_laws.proofs.Led.{LedBy, LeadsAs, leads_as}
-use Rattle.silence_laws.proofs.Looking.{asks_election}
+use Rattle.silence_laws.proofs.Led.{LedBy}
 use Rattle.silence_laws.proofs.Owning.{IsForeign, own_or_foreign, sent_early}
-use Rattle.silence_laws.proofs.Recent.{mine, recent}
+use Rattle.silence_laws.proofs.Recent.{recent}
 use Rattle.silence_laws.proofs.Rival.{w, elsewhere}
-use Rattle.silence_laws.proofs.Setting.{restrict}
 use Rattle.silence_laws.proofs.Taken.{first, first_e, ways, long_after, sent_before}
 use Rattle.silence_laws.proofs.Taken as taken
 use Rattle.silence_laws.proofs.Waiting.{history_below, beats_rise}

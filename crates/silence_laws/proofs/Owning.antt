@@ -1,6 +1,6 @@
 -- What a leader that falls silent wrote by calls of before: its own record.
-use Rattle.std.proofs.Common.{◌≡◌, ◌⊎◌, ◌<◌, ◌≤◌, ℕ, zero, suc, ◌+◌, ◌-◌, ◌*◌, ◌==◌, ◌&&◌, Bool, true, false, List, [], ◌∷◌, length, Option, Some, None, IfSome, refl, sym, ap, ◌∙◌, subst, inl, inr, ⊎_elim, arith}
-use Rattle.std.proofs.lemmas.Bool.{cases_lt, eqb-true}
+use Rattle.std.proofs.Common.{◌≡◌, ◌⊎◌, ◌<◌, ◌≤◌, ℕ, suc, ◌-◌, ◌==◌, ◌&&◌, Bool, true, false, List, [], ◌∷◌, length, Option, Some, None, IfSome, refl, sym, ap, ◌∙◌, subst, inl, inr, ⊎_elim, arith}
+use Rattle.std.proofs.lemmas.Bool.{cases_lt}
 use Rattle.kube_objects.specs.declared.call.Reply.{Reply}
 use Rattle.kube_objects.specs.declared.call.Reply.TheVariants.{Done, Found, Absent, Exists, Conflict, Unchanged}
 use Rattle.kube_objects.specs.declared.call.Request.{Request}
@@ -11,19 +11,19 @@ use Rattle.kube_objects.specs.declared.lease.Lease.{Lease}
 use Rattle.kube_objects.specs.declared.object.Object.{Object}
 use Rattle.kube_objects.specs.declared.object.Object.TheVariants as object
 use Rattle.kube_objects.specs.Answers.{answer, if_done, written}
-use Rattle.kube_objects.specs.Document.{Doc, processes, end_beat, is_controller, lease_seconds}
+use Rattle.kube_objects.specs.Document.{Doc, processes, lease_seconds}
 use Rattle.kube_objects.specs.Entry.{Entry, Identity, Call, Fact, First, Event, Starts, Stops, Sends, Answers, Delivers, Expires, Leads, Ends, Crashes, Stalls, Ticks, actor_of}
 use Rattle.kube_objects.specs.Identities.{identity_of, holder_of, is_by, of_process}
 use Rattle.kube_objects.specs.Keys.{key_eq}
 use Rattle.kube_objects.specs.Newest.{added, when, has, join}
 use Rattle.kube_objects.specs.Process.{is_stop, stops}
-use Rattle.kube_objects.specs.Stored.{Held, election, key_of, stored, last_write, holds, request_write, at_key, write_of, next_version}
+use Rattle.kube_objects.specs.Stored.{Held, election, stored, last_write, holds, request_write, at_key, write_of, next_version}
 use Rattle.kube_objects.specs.Wire.{request_arrival}
 use Rattle.history.specs.History.{history}
 use Rattle.history.specs.Premise.{greatest_below}
 use Rattle.history_laws.specs.Tails.{In, IsTail}
 use Rattle.history_laws.proofs.Plainly.{upper, false_is, true_is, and_left, and_right, same_self}
-use Rattle.history_laws.proofs.Tailed.{tail_all, tail_trans, tail_of_empty, in_tail, later_tail, same_head, same_rest}
+use Rattle.history_laws.proofs.Tailed.{tail_all, tail_trans, tail_of_empty, later_tail, same_head}
 use Rattle.lease_laws.proofs.EachKind.{top_stays}
 use Rattle.lease_laws.proofs.Histories.{turn_right}
 use Rattle.lease_laws.proofs.Invariant.{view, Fit, FitRequest, SentRight}

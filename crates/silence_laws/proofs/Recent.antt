@@ -1,23 +1,21 @@
 -- A leader's last record before it fell silent isn't old: else it had renewed it.
-use Rattle.std.proofs.Common.{◌≡◌, ◌⊎◌, ◌<◌, ◌≤◌, ℕ, zero, suc, ◌+◌, ◌-◌, ◌*◌, ◌&&◌, not, Bool, true, false, List, ◌∷◌, Option, Some, None, refl, sym, ap, ◌∙◌, subst, inl, inr, ⊎_elim, arith}
+use Rattle.std.proofs.Common.{◌≡◌, ◌⊎◌, ◌<◌, ◌≤◌, ℕ, suc, ◌+◌, ◌-◌, ◌*◌, not, true, List, ◌∷◌, Some, refl, sym, ap, ◌∙◌, subst, inl, inr, ⊎_elim, arith}
 use Rattle.std.proofs.lemmas.Bool.{cases_lt}
 use Rattle.kube_base.specs.declared.numbers.Version.{Version}
 use Rattle.kube_objects.specs.declared.call.Reply.{Reply}
 use Rattle.kube_objects.specs.declared.call.Reply.TheVariants.{Done}
 use Rattle.kube_objects.specs.declared.deed.Actor.{Actor}
 use Rattle.kube_objects.specs.declared.deed.Actor.TheVariants as actors
-use Rattle.kube_objects.specs.declared.object.Object.{Object}
 use Rattle.kube_objects.specs.Answers.{written}
 use Rattle.kube_objects.specs.Clocks.{local}
-use Rattle.kube_objects.specs.Document.{Doc, is_controller}
+use Rattle.kube_objects.specs.Document.{Doc}
 use Rattle.kube_objects.specs.Elector.{succeeds, is_before, deadline, in_term}
-use Rattle.kube_objects.specs.Entry.{Entry, Identity, Call, Fact, Stops, Sends, Answers, Delivers, actor_of, entry}
+use Rattle.kube_objects.specs.Entry.{Entry, Identity, Fact, Stops, Answers, Delivers, actor_of, entry}
 use Rattle.kube_objects.specs.Identities.{identity_of, of_process}
 use Rattle.kube_objects.specs.Newest.{has}
 use Rattle.kube_objects.specs.Pauses.{is_paused}
 use Rattle.kube_objects.specs.Process.{alive, is_present, open_as}
-use Rattle.kube_objects.specs.Stored.{election, at_key, write_of}
-use Rattle.kube_objects.specs.Wire.{Back, back_of}
+use Rattle.kube_objects.specs.Wire.{back_of}
 use Rattle.history.specs.History.{history, at_turn}
 use Rattle.history.specs.Safe.{Acts}
 use Rattle.history_laws.specs.Tails.{In, IsTail}
@@ -41,8 +39,8 @@ use Rattle.silence_laws.proofs.Kept.{Kept, kept_of}
 use Rattle.silence_laws.proofs.Owning.{IsQuietIn, IsOwn, IsForeign}
 use Rattle.silence_laws.proofs.Renewed.{done_of, Rewritten, renewed_by}
 use Rattle.silence_laws.proofs.Renewed as renewed
-use Rattle.silence_laws.proofs.Setting.{times_before, it_stays, its_time, some_b}
-use Rattle.silence_laws.proofs.Taken.{a, end_a, first, ways, first_writes, foreign_late, own, won, long_after}
+use Rattle.silence_laws.proofs.Setting.{times_before, it_stays, its_time}
+use Rattle.silence_laws.proofs.Taken.{a, first, ways, first_writes, own, long_after}
 use Rattle.silence_laws.proofs.Taken as taken
 use Rattle.silence_laws.proofs.Waiting.{history_below, beats_rise}
 use Rattle.silence_laws.proofs.Ways.{IsWay, sent_freely, beat_before, request_way, reply_way}

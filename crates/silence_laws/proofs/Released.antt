@@ -1,30 +1,28 @@
 -- After a leader's release nobody comes to lead before four messages have travelled.
 use Rattle.std.proofs.Common.{◌≡◌, ◌⊎◌, ◌<◌, ◌≤◌, ℕ, suc, ◌+◌, ◌-◌, ◌*◌, ◌==◌, Bool, true, false, List, [], ◌∷◌, Option, Some, None, refl, sym, ap, ◌∙◌, subst, inl, inr, ⊎_elim, arith}
-use Rattle.std.proofs.lemmas.Bool.{cases_lt, eq-eqb, eqb-true}
-use Rattle.kube_base.specs.declared.numbers.Version.{Version}
+use Rattle.std.proofs.lemmas.Bool.{eq-eqb, eqb-true}
 use Rattle.kube_objects.specs.declared.call.Reply.{Reply}
-use Rattle.kube_objects.specs.declared.call.Reply.TheVariants.{Found, Done}
-use Rattle.kube_objects.specs.declared.call.Request.{Request}
+use Rattle.kube_objects.specs.declared.call.Reply.TheVariants.{Done}
 use Rattle.kube_objects.specs.declared.call.Request.TheVariants.{Get, Update}
 use Rattle.kube_objects.specs.declared.key.Key.{Key}
 use Rattle.kube_objects.specs.declared.object.Object.{Object}
 use Rattle.kube_objects.specs.Answers.{answer}
 use Rattle.kube_objects.specs.Document.{Doc, is_controller}
-use Rattle.kube_objects.specs.Elector.{Asks, moment, observed_at, leads, follow, attempt, succeeds}
-use Rattle.kube_objects.specs.Entry.{Entry, Identity, Call, Release, Fact, First, Event, Starts, Stops, Sends, Answers, Delivers, Expires, Leads, Ends, Crashes, Stalls, Ticks, actor_of, entry}
+use Rattle.kube_objects.specs.Elector.{Asks, moment, observed_at, leads, follow}
+use Rattle.kube_objects.specs.Entry.{Entry, Identity, Call, Fact, First, Event, Starts, Stops, Sends, Answers, Delivers, Expires, Leads, Ends, Crashes, Stalls, Ticks, actor_of, entry}
 use Rattle.kube_objects.specs.Identities.{identity_of, of_process}
 use Rattle.kube_objects.specs.Keys.{key_eq}
 use Rattle.kube_objects.specs.Newest.{when, has, join}
 use Rattle.kube_objects.specs.Process.{alive, open_as, call_in}
 use Rattle.kube_objects.specs.Stored.{Held, election, key_of, request_write, at_key, write_of, stored, holds, last_write, next_version}
-use Rattle.kube_objects.specs.Wire.{Back, back_of}
+use Rattle.kube_objects.specs.Wire.{back_of}
 use Rattle.history.specs.History.{history}
 use Rattle.history_laws.specs.Tails.{In, IsTail}
 use Rattle.history_laws.proofs.Order.{entries_are_ordered}
 use Rattle.history_laws.proofs.Plainly.{upper, some_is, none_is, true_is, false_is}
-use Rattle.history_laws.proofs.Tailed.{tail_all, tail_trans, tail_of_empty, tails_meet, in_tail, later_tail, same_head, same_rest}
+use Rattle.history_laws.proofs.Tailed.{tail_all, tail_trans, tail_of_empty, tails_meet, in_tail, later_tail, same_head}
 use Rattle.lease_laws.proofs.EachKind.{top_stays}
-use Rattle.call_laws.proofs.Above.{Place, place_of, tail_length, in_head}
+use Rattle.call_laws.proofs.Above.{Place, place_of, in_head}
 use Rattle.call_laws.proofs.Making.{MadeAs, MadeSend, MadeAnswer, HasStopped, IsOpen, Replied, are_made}
 use Rattle.call_laws.proofs.Once.{answers_differ}
 use Rattle.call_laws.proofs.Placing.{in_own_beat}
@@ -48,12 +46,12 @@ use Rattle.silence_laws.proofs.Led.{LedBy}
 use Rattle.silence_laws.proofs.Looking.{asks_election}
 use Rattle.silence_laws.proofs.Owning.{IsQuietIn, IsForeign, own_or_foreign}
 use Rattle.silence_laws.proofs.Recent.{recent}
-use Rattle.silence_laws.proofs.Rival.{IsExpired, expired_by, IsUpdate, accepted_update, IsFree, get_free}
+use Rattle.silence_laws.proofs.Rival.{expired_by, IsUpdate, accepted_update, IsFree, get_free}
 use Rattle.silence_laws.proofs.Setting.{own_process}
 use Rattle.silence_laws.proofs.Stopping.{StoppedUp, stops_up, stays_down}
 use Rattle.silence_laws.proofs.Taken.{first, first_e, ways, long_after, sent_before}
 use Rattle.silence_laws.proofs.Taken as taken
-use Rattle.silence_laws.proofs.Waiting.{history_below, beats_rise, never_expires, IsCountedAfter, counted_after}
+use Rattle.silence_laws.proofs.Waiting.{history_below, beats_rise, never_expires, counted_after}
 use Rattle.silence_laws.proofs.Ways.{IsWay, Went, went, sent_at, request_way, reply_way, beat_before}
 
 abbrev call_or : Call → Fact → Call

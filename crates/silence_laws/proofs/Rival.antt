@@ -1,57 +1,48 @@
 -- Whoever writes first after a leader has fallen silent had looked at its record again and again, until it was over.
-use Rattle.std.proofs.Common.{◌≡◌, ◌⊎◌, ◌<◌, ◌≤◌, ℕ, zero, suc, ◌+◌, ◌-◌, ◌*◌, ◌==◌, ◌&&◌, not, nat_lt, Bool, true, false, cond, List, [], ◌∷◌, Option, Some, None, IfSome, refl, sym, ap, ◌∙◌, subst, inl, inr, ⊎_elim, arith}
-use Rattle.std.proofs.lemmas.Bool.{cases_lt, cases_eq, eq-eqb, eqb-true}
+use Rattle.std.proofs.Common.{◌≡◌, ◌⊎◌, ◌≤◌, ℕ, suc, ◌+◌, ◌-◌, ◌*◌, ◌==◌, ◌&&◌, not, Bool, true, false, cond, List, [], ◌∷◌, Option, Some, None, refl, sym, ap, ◌∙◌, subst, inl, inr, arith}
+use Rattle.std.proofs.lemmas.Bool.{eq-eqb, eqb-true}
 use Rattle.kube_base.specs.declared.numbers.Version.{Version}
 use Rattle.kube_objects.specs.declared.call.Reply.{Reply}
 use Rattle.kube_objects.specs.declared.call.Reply.TheVariants.{Found, Done, Absent, Exists, Conflict, Unchanged}
 use Rattle.kube_objects.specs.declared.call.Request.{Request}
 use Rattle.kube_objects.specs.declared.call.Request.TheVariants.{Get, Create, Update, PostStatus}
-use Rattle.kube_objects.specs.declared.deed.Actor.{Actor}
-use Rattle.kube_objects.specs.declared.deed.Actor.TheVariants as actors
 use Rattle.kube_objects.specs.declared.key.Key.{Key}
 use Rattle.kube_objects.specs.declared.lease.Lease.{Lease}
-use Rattle.kube_objects.specs.declared.object.Object.{Object}
-use Rattle.kube_objects.specs.declared.object.Object.TheVariants as object
 use Rattle.kube_objects.specs.declared.lease.Holder.{Holder}
 use Rattle.kube_objects.specs.declared.lease.Holder.TheVariants as holder
 use Rattle.kube_objects.specs.Answers.{answer_create, answer_update, answer}
 use Rattle.kube_objects.specs.Clocks.{local}
-use Rattle.kube_objects.specs.Document.{Doc, processes, end_beat, is_controller, of_seconds, lease_seconds, lease_duration, retry_period}
-use Rattle.kube_objects.specs.Elector.{Moment, moment, Follow, Fails, Asks, Shown, told, shows, shown, is_done, succeeds, updated, renewed, created, is_blocked, is_valid, observed_at, leads, follow_get, follow, follow_on, attempt_from, attempt, deadline, is_before}
+use Rattle.kube_objects.specs.Document.{Doc, is_controller}
+use Rattle.kube_objects.specs.Elector.{Moment, moment, Fails, Asks, Shown, told, shown, is_done, succeeds, updated, renewed, created, is_blocked, is_valid, observed_at, leads, follow_get, follow, attempt_from, attempt}
 use Rattle.kube_objects.specs.Entry.{Entry, Identity, Call, CallKind, Plain, Fast, Fact, First, Event, Starts, Stops, Sends, Answers, Delivers, Expires, Leads, Ends, Crashes, Stalls, Ticks, actor_of, entry}
-use Rattle.kube_objects.specs.Identities.{is_by, is_own, is_other, is_same, of_process}
-use Rattle.kube_objects.specs.Newest.{newest, when, join, has, or_zero}
-use Rattle.kube_objects.specs.Process.{alive, is_present, call_in}
+use Rattle.kube_objects.specs.Identities.{is_by, is_own, is_other, is_same}
+use Rattle.kube_objects.specs.Newest.{newest, when, join, has}
+use Rattle.kube_objects.specs.Process.{alive, call_in}
 use Rattle.kube_objects.specs.Stored.{Held, election, key_of, stored, next_version}
 use Rattle.kube_objects.specs.Turns.{expired_in, just_expired, is_fast_call}
-use Rattle.history.specs.History.{history, at_turn}
-use Rattle.history.specs.Safe.{Acts, IsHeldBy, IsStoredHolder}
+use Rattle.history.specs.History.{history}
 use Rattle.history_laws.specs.Tails.{In, IsTail}
-use Rattle.history_laws.proofs.Plainly.{upper, some_is, none_is, true_is, false_is, and_left, and_right, same_self}
-use Rattle.history_laws.proofs.Tailed.{tail_all, tail_trans, tail_of_empty, in_tail, later_tail, turn_tail, before_turn}
-use Rattle.lease_laws.proofs.Claims.{is_holder, same_holder}
-use Rattle.lease_laws.proofs.Premises.{premise_from}
+use Rattle.history_laws.proofs.Plainly.{upper, some_is, none_is, false_is, and_left}
+use Rattle.history_laws.proofs.Tailed.{tail_all, tail_trans, in_tail}
 use Rattle.call_laws.proofs.Above.{in_head}
 use Rattle.call_laws.proofs.Making.{MadeAs, MadeSend, MadeAnswer, HasStopped, IsOpen, Replied, are_made}
-use Rattle.call_laws.proofs.Placing.{in_own_beat, not_before}
 use Rattle.call_laws.proofs.Starting.{actor_is, sends_are_due}
 use Rattle.call_laws.proofs.Turning.{IsDue, IsTurnSend}
 use Rattle.takeover_laws.specs.Calm.{IsSteady, IsInTime}
-use Rattle.takeover_laws.proofs.Standing.{controllers_first}
 use Rattle.calm_laws.proofs.Asked.{IsWrite, next_is, asks_same, fails_not}
 use Rattle.calm_laws.proofs.Begun.{by_is}
 use Rattle.calm_laws.proofs.Origins.{Origin}
 use Rattle.stay_laws.proofs.Won.{Won}
 use Rattle.silence_laws.specs.Silence.{LeadsUntil, Bears}
-use Rattle.silence_laws.proofs.Chain.{opens_of, Look}
-use Rattle.silence_laws.proofs.Kept.{Kept, kept_of}
+use Rattle.silence_laws.proofs.Chain.{Look}
+use Rattle.silence_laws.proofs.Kept.{Kept}
 use Rattle.silence_laws.proofs.Looking.{ShowsIt, shows_it, asks_election}
 use Rattle.silence_laws.proofs.Owning.{IsQuietIn, IsOwn, IsForeign, sent_early}
-use Rattle.silence_laws.proofs.Recent.{mine, k, z_e, recent}
+use Rattle.silence_laws.proofs.Recent.{mine, k, recent}
 use Rattle.silence_laws.proofs.Showing.{IsTold, told_by, ShownBy, shown_by}
-use Rattle.silence_laws.proofs.Taken.{first, won, rival, other, long_after, sent_before}
-use Rattle.silence_laws.proofs.Waiting.{history_below, beats_rise, never_expires}
-use Rattle.silence_laws.proofs.Ways.{beat_before, sent_beat, sent_freely, IsWay, request_way}
+use Rattle.silence_laws.proofs.Taken.{first, won, rival, other, long_after}
+use Rattle.silence_laws.proofs.Waiting.{never_expires}
+use Rattle.silence_laws.proofs.Ways.{sent_beat}
 
 -- ---- an expiry in a beat
 

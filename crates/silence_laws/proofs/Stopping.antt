@@ -1,5 +1,5 @@
 -- Only a process that is up is stopped, and one that is stopped is down until it starts.
-use Rattle.std.proofs.Common.{◌≡◌, ◌≤◌, ◌<◌, ℕ, suc, Bool, true, false, List, [], ◌∷◌, Option, Some, None, refl, sym, ap, ◌∙◌, subst, inl, inr, arith}
+use Rattle.std.proofs.Common.{◌≡◌, ◌≤◌, ℕ, suc, true, List, [], ◌∷◌, Option, Some, None, refl, sym, ap, ◌∙◌, subst, inl, inr, arith}
 use Rattle.kube_objects.specs.declared.deed.Actor.{Actor}
 use Rattle.kube_objects.specs.declared.key.Key.{Key}
 use Rattle.kube_objects.specs.declared.object.Object.{Object}
@@ -11,7 +11,7 @@ use Rattle.kube_objects.specs.Newest.{join, has}
 use Rattle.kube_objects.specs.Process.{alive, life, life_says, born, gone}
 use Rattle.kube_objects.specs.Stamps.{stamped}
 use Rattle.history.specs.History.{put_all, history}
-use Rattle.history_laws.specs.Tails.{In, IsTail}
+use Rattle.history_laws.specs.Tails.{IsTail}
 use Rattle.history_laws.proofs.Plainly.{upper, false_is}
 use Rattle.history_laws.proofs.Tailed.{tail_all, tail_trans, tail_of_empty, same_head, same_rest}
 use Rattle.history_laws.proofs.Ticks.{walk_tick}

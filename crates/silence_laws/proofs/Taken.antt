@@ -1,46 +1,35 @@
 -- Somebody else comes to lead after a leader has fallen silent: by then the leader's record was taken over, and it wasn't old at the beat of the silence.
-use Rattle.std.proofs.Common.{◌≡◌, ◌⊎◌, ◌<◌, ◌≤◌, ℕ, zero, suc, ◌+◌, ◌-◌, ◌*◌, ◌&&◌, not, Bool, true, false, List, ◌∷◌, length, Option, Some, None, IfSome, refl, sym, ap, ◌∙◌, subst, inl, inr, ⊎_elim, arith}
+use Rattle.std.proofs.Common.{◌≡◌, ◌⊎◌, ◌<◌, ◌≤◌, ℕ, suc, ◌+◌, ◌-◌, ◌*◌, not, Bool, true, false, List, ◌∷◌, length, Some, IfSome, refl, sym, ap, ◌∙◌, subst, inr, ⊎_elim, arith}
 use Rattle.std.proofs.Math.Nat.{mul-le-mul_right}
-use Rattle.std.proofs.lemmas.Bool.{cases_lt, cases_eq, eq-eqb}
-use Rattle.kube_base.specs.declared.numbers.Version.{Version}
-use Rattle.kube_objects.specs.declared.call.Reply.{Reply}
+use Rattle.std.proofs.lemmas.Bool.{cases_lt}
 use Rattle.kube_objects.specs.declared.call.Reply.TheVariants.{Done}
-use Rattle.kube_objects.specs.declared.deed.Actor.{Actor}
-use Rattle.kube_objects.specs.declared.lease.Lease.{Lease}
-use Rattle.kube_objects.specs.declared.object.Object.TheVariants as object
 use Rattle.kube_objects.specs.Clocks.{local}
-use Rattle.kube_objects.specs.Document.{Doc, end_beat, is_controller, of_seconds, lease_seconds, lease_duration}
+use Rattle.kube_objects.specs.Document.{Doc, end_beat, is_controller, of_seconds, lease_duration}
 use Rattle.kube_objects.specs.Elector.{succeeds}
-use Rattle.kube_objects.specs.Entry.{Entry, Identity, Call, Sends, Answers, Delivers, actor_of, entry}
-use Rattle.kube_objects.specs.Identities.{identity_of, is_same, is_other, holder_of}
+use Rattle.kube_objects.specs.Entry.{Entry, Identity, Answers, actor_of}
+use Rattle.kube_objects.specs.Identities.{is_same, is_other}
 use Rattle.kube_objects.specs.Newest.{has, or_zero}
-use Rattle.kube_objects.specs.Process.{alive}
-use Rattle.kube_objects.specs.Stored.{Held, election, stored, at_key, write_of}
+use Rattle.kube_objects.specs.Stored.{election, at_key, write_of}
 use Rattle.kube_objects.specs.Wire.{back_of}
 use Rattle.history.specs.History.{history, whole_history}
 use Rattle.history.specs.Premise.{greatest_below}
-use Rattle.history_laws.specs.Tails.{In, IsTail}
-use Rattle.history_laws.proofs.Plainly.{true_is, none_is, same_is, same_self}
-use Rattle.history_laws.proofs.Tailed.{tail_all, tail_trans, tails_meet, later_tail, same_head}
+use Rattle.history_laws.specs.Tails.{IsTail}
+use Rattle.history_laws.proofs.Plainly.{same_is}
+use Rattle.history_laws.proofs.Tailed.{tail_all, tail_trans, later_tail}
 use Rattle.lease_laws.proofs.Premises.{rates_at_most}
 use Rattle.span_laws.proofs.Spans.{goes_most}
 use Rattle.gap_laws.proofs.Waits.{Waited, WaitedFor, Topped, Took, Waits}
 use Rattle.gap_laws.proofs.Histories.{whole_known}
-use Rattle.call_laws.proofs.Above.{in_head}
 use Rattle.call_laws.proofs.Placing.{in_own_beat}
-use Rattle.takeover_laws.specs.Calm.{IsSteady}
 use Rattle.calm_laws.proofs.Origins.{Origin}
-use Rattle.stay_laws.specs.Stays.{HasSuccess}
 use Rattle.stay_laws.proofs.Won.{Won, is_won}
 use Rattle.stay_laws.proofs.Rivals.{plainly}
 use Rattle.stay_laws.proofs.Sendings as sendings
 use Rattle.stay_laws.proofs.Written as wrote
 use Rattle.stay_laws.proofs.Renewing as renewing
 use Rattle.silence_laws.specs.Silence.{LeadsUntil, Bears}
-use Rattle.silence_laws.proofs.Setting.{calm_before, times_before, its_lead, it_stays, its_time, some_b, own_process}
-use Rattle.silence_laws.proofs.Kept.{Kept, kept_of}
-use Rattle.silence_laws.proofs.Owning.{IsQuietIn, IsOwn, AllOwn, IsForeign, own_since, sent_early}
-use Rattle.silence_laws.proofs.Waiting.{history_below, beats_rise}
+use Rattle.silence_laws.proofs.Setting.{calm_before, times_before, its_lead, it_stays, its_time, some_b}
+use Rattle.silence_laws.proofs.Owning.{IsQuietIn, IsOwn, IsForeign, own_since}
 use Rattle.silence_laws.proofs.Ways.{beat_before}
 
 module _ (doc : Doc) (near far b e : ℕ) (q : Identity) (l : LeadsUntil doc near far b e q) (s : Bears doc near far b e q) (H : List Entry) (H_e : IsTail H (history doc (suc e))) (quiet : IsQuietIn b q.process H) where
