@@ -1,5 +1,5 @@
 -- The looks of a candidate at another's record, one after the other.
-use Rattle.std.proofs.Common.{◌≡◌, ◌⊎◌, ◌<◌, ◌≤◌, ℕ, zero, suc, ◌+◌, ◌*◌, Bool, true, false, List, ◌∷◌, Option, Some, None, refl, sym, ap, ◌∙◌, subst, inl, inr, ⊎_elim, arith}
+use Rattle.std.proofs.Common.{◌≡◌, ◌⊎◌, ◌<◌, ◌≤◌, ℕ, suc, ◌+◌, ◌*◌, Bool, true, false, List, ◌∷◌, Option, Some, None, refl, sym, ap, ◌∙◌, subst, inl, inr, ⊎_elim, arith}
 use Rattle.std.proofs.lemmas.Bool.{eq-eqb, cases_lt}
 use Rattle.kube_objects.specs.declared.call.Reply.{Reply}
 use Rattle.kube_objects.specs.declared.call.Reply.TheVariants.{Found}
@@ -9,7 +9,7 @@ use Rattle.kube_objects.specs.declared.lease.Lease.{Lease}
 use Rattle.kube_objects.specs.declared.object.Object.TheVariants as object
 use Rattle.kube_objects.specs.Answers.{as_kind, lease_in, answer_get, answer, versioned}
 use Rattle.kube_objects.specs.Clocks.{local}
-use Rattle.kube_objects.specs.Document.{Doc, end_beat, is_controller, retry_period}
+use Rattle.kube_objects.specs.Document.{Doc, is_controller, retry_period}
 use Rattle.kube_objects.specs.Elector.{Fails, told, shows, shown, observed, leads, follow_on}
 use Rattle.kube_objects.specs.Entry.{Entry, Identity, Call, Fact, First, Event, Starts, Stops, Sends, Answers, Delivers, Expires, Leads, Ends, Crashes, Stalls, Ticks, actor_of, entry}
 use Rattle.kube_objects.specs.Identities.{is_by, of_process}
@@ -18,13 +18,11 @@ use Rattle.kube_objects.specs.Process.{alive, open_as, call_in}
 use Rattle.kube_objects.specs.Stored.{Held, election, stored}
 use Rattle.history.specs.History.{history}
 use Rattle.history.specs.Safe.{Acts}
-use Rattle.history.specs.Sound.{IsSound}
 use Rattle.history_laws.specs.Tails.{In, IsTail}
 use Rattle.history_laws.proofs.Plainly.{none_is, false_is, same_self}
 use Rattle.history_laws.proofs.Tailed.{tail_all, tail_trans, in_tail, tails_meet, later_tail, same_head}
 use Rattle.span_laws.specs.Spans.{RunsAtLeast, RunsAtMost, IsEnough, IsNeeded}
 use Rattle.span_laws.proofs.Spans.{readings_grow, readings_last}
-use Rattle.call_laws.specs.Answering.{with_events}
 use Rattle.call_laws.specs.Waiting.{Closes, IsClosed}
 use Rattle.call_laws.proofs.Above.{in_head}
 use Rattle.call_laws.proofs.Making.{MadeAs, MadeSend, HasStopped, IsOpen, are_made}
@@ -36,13 +34,13 @@ use Rattle.takeover_laws.specs.Calm.{IsSteady, IsInTime}
 use Rattle.takeover_laws.proofs.Asking.{candidates_ask}
 use Rattle.takeover_laws.proofs.Unasked.{Quiet, Asked, quiet_or_asked}
 use Rattle.takeover_laws.proofs.Writers.{since_low}
-use Rattle.calm_laws.proofs.Begun.{Begun, by_is}
+use Rattle.calm_laws.proofs.Begun.{by_is}
 use Rattle.calm_laws.proofs.Life.{up_between}
 use Rattle.calm_laws.proofs.Origins.{Origin, origin}
 use Rattle.silence_laws.proofs.Kept.{Kept, kept_of}
-use Rattle.silence_laws.proofs.Stepping.{low, due_at, Still, quiet_low, IsReached, first_gets}
-use Rattle.silence_laws.proofs.Waiting.{history_below, beats_rise, one_sending, IsCountedAfter, counted_after, says_done, never_expires}
-use Rattle.silence_laws.proofs.Ways.{IsFreely, sent_freely, beat_before, Went, went}
+use Rattle.silence_laws.proofs.Stepping.{low, quiet_low, IsReached, first_gets}
+use Rattle.silence_laws.proofs.Waiting.{history_below, beats_rise, one_sending, counted_after, says_done, never_expires}
+use Rattle.silence_laws.proofs.Ways.{sent_freely, beat_before, Went, went}
 
 some_none : {A : Type 0} (x : A) → Some x ≡ None → ⊥
 some_none x is = cc

@@ -1,17 +1,14 @@
 -- How long a candidate's looks at another's record take at least until one finds it over.
-use Rattle.std.proofs.Common.{◌≡◌, ◌⊎◌, ◌<◌, ◌≤◌, ℕ, zero, suc, ◌+◌, ◌-◌, ◌*◌, ◌==◌, ◌&&◌, nat_lt, Bool, true, false, cond, List, ◌∷◌, length, Option, Some, None, refl, sym, ap, ◌∙◌, subst, inl, inr, arith}
+use Rattle.std.proofs.Common.{◌≡◌, ◌⊎◌, ◌<◌, ◌≤◌, ℕ, zero, suc, ◌+◌, ◌-◌, ◌*◌, ◌==◌, ◌&&◌, Bool, true, false, cond, List, ◌∷◌, length, Option, Some, None, refl, sym, ap, ◌∙◌, subst, inl, inr, arith}
 use Rattle.std.proofs.Math.Nat.{mul-le-mul_right}
 use Rattle.std.proofs.lemmas.Bool.{ltb-false, eqb-true}
-use Rattle.kube_base.specs.declared.numbers.Version.{Version}
-use Rattle.kube_objects.specs.declared.call.Reply.{Reply}
 use Rattle.kube_objects.specs.declared.call.Reply.TheVariants.{Found}
-use Rattle.kube_objects.specs.declared.call.Request.{Request}
-use Rattle.kube_objects.specs.declared.call.Request.TheVariants.{Get, Update}
+use Rattle.kube_objects.specs.declared.call.Request.TheVariants.{Update}
 use Rattle.kube_objects.specs.declared.lease.Lease.{Lease}
 use Rattle.kube_objects.specs.declared.object.Object.TheVariants as object
 use Rattle.kube_objects.specs.Clocks.{local}
 use Rattle.kube_objects.specs.Document.{Doc, end_beat, is_controller, of_seconds, retry_period}
-use Rattle.kube_objects.specs.Elector.{Follow, Fails, Asks, moment, updated, is_blocked, is_valid, told, Shown, shows, shown, is_known, newly, observed, observed_at, leads, follow, follow_on}
+use Rattle.kube_objects.specs.Elector.{Fails, Asks, moment, updated, is_blocked, is_valid, told, Shown, shows, shown, is_known, newly, observed, observed_at, leads, follow, follow_on}
 use Rattle.kube_objects.specs.Entry.{Entry, Identity, Call, Fact, Delivers, actor_of, entry}
 use Rattle.kube_objects.specs.Identities.{is_other}
 use Rattle.kube_objects.specs.Newest.{only_if, or_zero}
@@ -21,7 +18,7 @@ use Rattle.history.specs.History.{history}
 use Rattle.history.specs.Safe.{Acts}
 use Rattle.history.specs.Sound.{IsSound}
 use Rattle.history_laws.specs.Tails.{IsTail}
-use Rattle.history_laws.proofs.Plainly.{upper, true_is, false_is, same_self}
+use Rattle.history_laws.proofs.Plainly.{upper, same_self}
 use Rattle.history_laws.proofs.Tailed.{tail_all, tail_trans}
 use Rattle.span_laws.specs.Looks.{IsAtLeast}
 use Rattle.span_laws.specs.Spans.{RunsAtLeast, RunsAtMost, IsEnough, IsNeeded}
@@ -30,7 +27,7 @@ use Rattle.call_laws.proofs.Above.{tail_length}
 use Rattle.call_laws.proofs.Making.{MadeAs, MadeDelivery, are_made}
 use Rattle.takeover_laws.specs.Calm.{IsSteady, IsInTime}
 use Rattle.calm_laws.proofs.Origins.{Origin}
-use Rattle.silence_laws.proofs.Chain.{Look, IsStep, step, looked, record_kept, beats_in, in_e}
+use Rattle.silence_laws.proofs.Chain.{Look, IsStep, step, looked, record_kept, beats_in}
 use Rattle.silence_laws.proofs.Kept.{Kept}
 use Rattle.silence_laws.proofs.Looking.{ShowsIt, shows_it}
 use Rattle.silence_laws.proofs.Showing.{IsTold, told_by, ShownBy, shown_by}

@@ -1,5 +1,5 @@
 -- The write of what is stored in the election Lease: it is stored at each position since.
-use Rattle.std.proofs.Common.{◌≡◌, ◌⊎◌, ◌<◌, ◌≤◌, ℕ, ◌+◌, List, [], ◌∷◌, length, Option, Some, None, refl, sym, ap, ◌∙◌, subst, inl, inr, ⊎_elim, arith}
+use Rattle.std.proofs.Common.{◌≡◌, ◌⊎◌, ◌≤◌, ◌+◌, List, [], ◌∷◌, length, Option, Some, None, refl, sym, ap, ◌∙◌, subst, inl, inr, ⊎_elim, arith}
 use Rattle.kube_base.specs.declared.numbers.Version.{Version}
 use Rattle.kube_objects.specs.declared.call.Reply.{Reply}
 use Rattle.kube_objects.specs.declared.call.Reply.TheVariants.{Found, Absent}
@@ -10,8 +10,8 @@ use Rattle.kube_objects.specs.declared.object.Object.TheVariants as object
 use Rattle.kube_objects.specs.Answers.{lease_in, versioned, as_kind, answer_get, answer}
 use Rattle.kube_objects.specs.Entry.{Entry}
 use Rattle.kube_objects.specs.Identities.{identity_of}
-use Rattle.kube_objects.specs.Newest.{added, has, join}
-use Rattle.kube_objects.specs.Stored.{Held, Write, election, stored, last_write, holds, at_key, write_of, writes, next_version}
+use Rattle.kube_objects.specs.Newest.{join}
+use Rattle.kube_objects.specs.Stored.{Held, election, stored, last_write, holds, at_key, write_of, writes, next_version}
 use Rattle.history_laws.specs.Tails.{IsTail}
 use Rattle.history_laws.proofs.Plainly.{upper, some_is, none_is}
 use Rattle.history_laws.proofs.Tailed.{tail_all, tail_trans, tails_meet, writes_tail, same_head, same_rest}

@@ -1,18 +1,13 @@
 -- The first write of somebody else after a leader has fallen silent comes no sooner than the looks at the leader's record take.
-use Rattle.std.proofs.Common.{◌≡◌, ◌⊎◌, ◌<◌, ◌≤◌, ℕ, zero, suc, ◌+◌, ◌-◌, ◌*◌, ◌&&◌, not, Bool, true, false, List, ◌∷◌, Option, Some, None, refl, sym, ap, ◌∙◌, subst, inl, inr, arith}
-use Rattle.std.proofs.lemmas.Bool.{eqb-true}
+use Rattle.std.proofs.Common.{◌≡◌, ◌<◌, ◌≤◌, ℕ, zero, suc, ◌+◌, ◌-◌, ◌*◌, true, false, List, ◌∷◌, Option, Some, None, refl, sym, ap, ◌∙◌, subst, inr, arith}
 use Rattle.kube_objects.specs.declared.call.Reply.TheVariants.{Found}
-use Rattle.kube_objects.specs.declared.lease.Lease.{Lease}
-use Rattle.kube_objects.specs.declared.object.Object.{Object}
-use Rattle.kube_objects.specs.declared.object.Object.TheVariants as object
 use Rattle.kube_objects.specs.Clocks.{local}
-use Rattle.kube_objects.specs.Document.{Doc, end_beat, is_controller, of_seconds, lease_duration, retry_period}
+use Rattle.kube_objects.specs.Document.{Doc, of_seconds, lease_duration, retry_period}
 use Rattle.kube_objects.specs.Elector.{leads, deadline, is_before, is_blocked, observed_at}
-use Rattle.kube_objects.specs.Entry.{Entry, Identity, Call, Stops, Ends, Delivers, entry}
+use Rattle.kube_objects.specs.Entry.{Entry, Identity, Stops, Ends, Delivers, entry}
 use Rattle.kube_objects.specs.Identities.{of_process}
 use Rattle.kube_objects.specs.Newest.{join, has, or_zero}
-use Rattle.kube_objects.specs.Process.{alive, life_says, life, gone, is_present, open_as}
-use Rattle.kube_objects.specs.Stored.{election, stored}
+use Rattle.kube_objects.specs.Process.{alive, life_says, life, gone, is_present}
 use Rattle.history.specs.History.{history, at_turn}
 use Rattle.history.specs.Safe.{Acts, IsHeldBy, IsStoredHolder}
 use Rattle.history_laws.specs.Tails.{In, IsTail}
@@ -20,26 +15,25 @@ use Rattle.history_laws.proofs.Plainly.{upper, none_is, true_is, false_is, and_r
 use Rattle.history_laws.proofs.Tailed.{tail_all, tail_trans, later_tail, turn_tail, before_turn}
 use Rattle.lease_laws.proofs.Claims.{is_holder, same_holder, term_of}
 use Rattle.lease_laws.proofs.Premises.{premise_from}
-use Rattle.span_laws.specs.Looks.{IsAtLeast}
-use Rattle.span_laws.specs.Spans.{IsEnough, IsNeeded}
-use Rattle.call_laws.proofs.Above.{Place, place_of}
+use Rattle.span_laws.specs.Spans.{IsNeeded}
+use Rattle.call_laws.proofs.Above.{place_of}
 use Rattle.call_laws.proofs.Making.{MadeAs, MadeEnd, are_made}
 use Rattle.call_laws.proofs.Placing.{in_own_beat, not_before}
-use Rattle.takeover_laws.specs.Calm.{IsSteady, IsQuiet}
+use Rattle.takeover_laws.specs.Calm.{IsSteady}
 use Rattle.takeover_laws.proofs.Fresh.{turn_leads}
 use Rattle.takeover_laws.proofs.Standing.{controllers_first}
 use Rattle.calm_laws.proofs.Life.{up_between, never_led}
 use Rattle.stay_laws.proofs.Won.{Won}
 use Rattle.silence_laws.specs.Least.{TakesAtLeast}
 use Rattle.silence_laws.specs.Silence.{LeadsUntil, Bears}
-use Rattle.silence_laws.proofs.Chain.{opens_of, Look}
+use Rattle.silence_laws.proofs.Chain.{opens_of}
 use Rattle.silence_laws.proofs.Chained.{IsOver, found_over}
 use Rattle.silence_laws.proofs.Kept.{Kept}
-use Rattle.silence_laws.proofs.Owning.{IsOwn, IsForeign}
+use Rattle.silence_laws.proofs.Owning.{IsQuietIn, IsOwn, IsForeign}
 use Rattle.silence_laws.proofs.Recent.{z_e}
 use Rattle.silence_laws.proofs.Rival.{own, kept, w, c, low_e, steady, time, sent, foreign, others, long, asked_e, LastLook, last_look}
 use Rattle.silence_laws.proofs.Taken.{first, rival}
-use Rattle.silence_laws.proofs.Waiting.{IsCountedAfter, counted_after}
+use Rattle.silence_laws.proofs.Waiting.{counted_after}
 use Rattle.silence_laws.proofs.Ways.{IsWay, Went, went, sent_freely, request_way, beat_before}
 
 -- whose process has gone is down
@@ -47,25 +41,25 @@ gone_is : (o : Option ℕ) (rest : Option (Option ℕ)) → has o ≡ true → j
 gone_is None rest is = absurd (false_is is)
 gone_is (Some i) rest is = refl
 
-module _ (doc : Doc) (near far b e : ℕ) (q : Identity) (l : LeadsUntil doc near far b e q) (s : Bears doc near far b e q) (quiet : IsQuiet doc b e q.process)
-    (f : IsForeign doc near far b e q l s quiet (first doc near far b e q l s quiet) (history doc (suc e))) where
+module _ (doc : Doc) (near far b e : ℕ) (q : Identity) (l : LeadsUntil doc near far b e q) (s : Bears doc near far b e q) (H : List Entry) (H_e : IsTail H (history doc (suc e))) (quiet : IsQuietIn b q.process H)
+    (f : IsForeign doc near far b e q l s H H_e quiet (first doc near far b e q l s H H_e quiet) H) where
   abbrev p : Identity
-  p = c doc near far b e q l s quiet f
+  p = c doc near far b e q l s H H_e quiet f
 
   abbrev won : Won doc f.x f.before
-  won = w doc near far b e q l s quiet f
+  won = w doc near far b e q l s H H_e quiet f
 
   abbrev mine : IsOwn doc q f.before
-  mine = own doc near far b e q l s quiet f
+  mine = own doc near far b e q l s H H_e quiet f
 
   abbrev k : Kept f.before mine.y
-  k = kept doc near far b e q l s quiet f
+  k = kept doc near far b e q l s H H_e quiet f
 
   abbrev passing : IsSteady doc near far 0 e p.process
-  passing = steady doc near far b e q l s quiet f
+  passing = steady doc near far b e q l s H H_e quiet f
 
-  abbrev L : LastLook doc near far b e q l s quiet f
-  L = last_look doc near far b e q l s quiet f
+  abbrev L : LastLook doc near far b e q l s H H_e quiet f
+  L = last_look doc near far b e q l s H H_e quiet f
 
   abbrev d : ℕ
   d = won.f.beat
@@ -74,16 +68,16 @@ module _ (doc : Doc) (near far b e : ℕ) (q : Identity) (l : LeadsUntil doc nea
   n = d - 1
 
   late : mine.y.beat + s.renews.wait + 5 * far + 1 ≤ d + near
-  late = omega (arith, long doc near far b e q l s quiet f, sent doc near far b e q l s quiet f)
+  late = omega (arith, long doc near far b e q l s H H_e quiet f, sent doc near far b e q l s H H_e quiet f)
 
   d_is : suc n ≡ d
   d_is = omega (arith, late, s.ways, s.one)
 
   f_e : f.x.beat ≤ e
-  f_e = beat_before doc e f.x f.before f.position
+  f_e = beat_before doc e f.x f.before (tail_trans (f.x ∷ f.before) H (history doc (suc e)) f.position H_e)
 
   asked : IsTail (won.f ∷ won.low) (history doc (suc e))
-  asked = asked_e doc near far b e q l s quiet f
+  asked = asked_e doc near far b e q l s H H_e quiet f
 
   d_e : d ≤ e
   d_e = beat_before doc e won.f won.low asked
@@ -92,13 +86,13 @@ module _ (doc : Doc) (near far b e : ℕ) (q : Identity) (l : LeadsUntil doc nea
   n_e = omega (arith, d_e)
 
   heard_e : IsTail (entry d 3 p (Delivers L.look.w (Found mine.y.version mine.lease) true) ∷ L.S) (history doc (suc e))
-  heard_e = tail_trans (entry d 3 p (Delivers L.look.w (Found mine.y.version mine.lease) true) ∷ L.S) f.before (history doc (suc e)) L.look.position (low_e doc near far b e q l s quiet f)
+  heard_e = tail_trans (entry d 3 p (Delivers L.look.w (Found mine.y.version mine.lease) true) ∷ L.S) f.before (history doc (suc e)) L.look.position (low_e doc near far b e q l s H H_e quiet f)
 
   S_t : IsTail L.S f.before
   S_t = tail_trans L.S (entry d 3 p (Delivers L.look.w (Found mine.y.version mine.lease) true) ∷ L.S) f.before (inr (tail_all L.S)) L.look.position
 
   S_e : IsTail L.S (history doc (suc e))
-  S_e = tail_trans L.S f.before (history doc (suc e)) S_t (low_e doc near far b e q l s quiet f)
+  S_e = tail_trans L.S f.before (history doc (suc e)) S_t (low_e doc near far b e q l s H H_e quiet f)
 
   -- before that look is the history of the beats before
   n_S : IsTail (history doc (suc n)) L.S
@@ -138,7 +132,7 @@ module _ (doc : Doc) (near far b e : ℕ) (q : Identity) (l : LeadsUntil doc nea
 
   -- it doesn't act in the beat before, as another's record is stored
   not_now : Acts doc p n → ⊥
-  not_now acting = rival doc near far b e q l s quiet f (same_holder p q mine.y.object held (subst (IsHeldBy q) (sym mine.object) mine.holder))
+  not_now acting = rival doc near far b e q l s H H_e quiet f (same_holder p q mine.y.object held (subst (IsHeldBy q) (sym mine.object) mine.holder))
     where
       turn : List Entry
       turn = at_turn doc p.process n
@@ -149,7 +143,7 @@ module _ (doc : Doc) (near far b e : ℕ) (q : Identity) (l : LeadsUntil doc nea
       z_turn : IsTail (k.z ∷ k.before) (at_turn doc p.process n)
       z_turn =
           tail_trans (k.z ∷ k.before) (history doc n) (at_turn doc p.process n)
-          (tail_trans (k.z ∷ k.before) (history doc (suc k.z.beat)) (history doc n) (in_own_beat doc (suc e) k.z k.before (z_e doc near far b e q l s quiet f)) (later_tail doc (suc k.z.beat) n (omega (arith, late, k.beat, s.ways, s.one))))
+          (tail_trans (k.z ∷ k.before) (history doc (suc k.z.beat)) (history doc n) (in_own_beat doc (suc e) k.z k.before (z_e doc near far b e q l s H H_e quiet f)) (later_tail doc (suc k.z.beat) n (omega (arith, late, k.beat, s.ways, s.one))))
           (before_turn doc p.process n)
 
       held : IsHeldBy p mine.y.object
@@ -181,7 +175,7 @@ module _ (doc : Doc) (near far b e : ℕ) (q : Identity) (l : LeadsUntil doc nea
 
   unled : (h : List Entry) → IsTail h (history doc (suc n)) → leads p h ≡ false
   unled =
-      never_led doc near far n e n p won.role (time doc near far b e q l s quiet f).deadline steady_n n_e
+      never_led doc near far n e n p won.role (time doc near far b e q l s H H_e quiet f).deadline steady_n n_e
       (λ j from to acting. let same : j ≡ n = omega (arith, from, to) in not_now (subst (Acts doc p) same acting)) (omega arith) alive_n
 
   idle : (j : ℕ) → j ≤ n → Acts doc p j → ⊥
@@ -221,5 +215,5 @@ module _ (doc : Doc) (near far b e : ℕ) (q : Identity) (l : LeadsUntil doc nea
       free : is_blocked p (local doc p.process d) (observed_at doc p (entry d 3 p (Delivers L.look.w (Found mine.y.version mine.lease) true) ∷ L.S)) mine.lease ≡ false
       free = subst (λ h. is_blocked p (local doc p.process d) (observed_at doc p h) mine.lease ≡ false) L.low L.free
 
-      over : IsOver doc near far e s.sound s.end s.one s.ways p won.role passing (time doc near far b e q l s quiet f) f.before (low_e doc near far b e q l s quiet f) mine.y mine.top mine.lease mine.object (foreign doc near far b e q l s quiet f) (others doc near far b e q l s quiet f) n n_e unled idle alive_n t.slow t.fast t.wait t.needed t.runs_least t.runs_most some t.wait_is t.needed_is t.lasting lasting_is d
-      over = found_over doc near far e s.sound s.end s.one s.ways p won.role passing (time doc near far b e q l s quiet f) f.before (low_e doc near far b e q l s quiet f) mine.y mine.top mine.lease mine.object (foreign doc near far b e q l s quiet f) (others doc near far b e q l s quiet f) n n_e unled idle alive_n t.slow t.fast t.wait t.needed t.runs_least t.runs_most some t.wait_is t.needed_is t.lasting lasting_is d L.S L.look (omega (arith, d_is)) free
+      over : IsOver doc near far e s.sound s.end s.one s.ways p won.role passing (time doc near far b e q l s H H_e quiet f) f.before (low_e doc near far b e q l s H H_e quiet f) mine.y mine.top mine.lease mine.object (foreign doc near far b e q l s H H_e quiet f) (others doc near far b e q l s H H_e quiet f) n n_e unled idle alive_n t.slow t.fast t.wait t.needed t.runs_least t.runs_most some t.wait_is t.needed_is t.lasting lasting_is d
+      over = found_over doc near far e s.sound s.end s.one s.ways p won.role passing (time doc near far b e q l s H H_e quiet f) f.before (low_e doc near far b e q l s H H_e quiet f) mine.y mine.top mine.lease mine.object (foreign doc near far b e q l s H H_e quiet f) (others doc near far b e q l s H H_e quiet f) n n_e unled idle alive_n t.slow t.fast t.wait t.needed t.runs_least t.runs_most some t.wait_is t.needed_is t.lasting lasting_is d L.S L.look (omega (arith, d_is)) free

@@ -15,4 +15,7 @@ pub mod Taken
 pub mod Recent
 pub mod Rival
 pub mod Lasted
+pub mod Leading
 pub mod Lasting
+pub mod Stopping
+pub mod Released

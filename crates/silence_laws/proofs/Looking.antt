@@ -7,12 +7,11 @@ use Rattle.kube_objects.specs.declared.call.Request.{Request}
 use Rattle.kube_objects.specs.declared.call.Request.TheVariants.{Get, Create, Update, PostStatus}
 use Rattle.kube_objects.specs.declared.key.Key.{Key}
 use Rattle.kube_objects.specs.declared.lease.Lease.{Lease}
-use Rattle.kube_objects.specs.declared.object.Object.{Object}
 use Rattle.kube_objects.specs.declared.object.Object.TheVariants as object
 use Rattle.kube_objects.specs.Answers.{answer_create, answer_update, answer, if_done, written}
 use Rattle.kube_objects.specs.Document.{Doc, processes, end_beat, is_controller}
 use Rattle.kube_objects.specs.Elector.{Shown, told, done_shows, found_shows}
-use Rattle.kube_objects.specs.Entry.{Entry, Identity, Call, Delivers, Sends, Answers, actor_of}
+use Rattle.kube_objects.specs.Entry.{Entry, Identity, Call, Sends, actor_of}
 use Rattle.kube_objects.specs.Identities.{identity_of}
 use Rattle.kube_objects.specs.Keys.{key_eq}
 use Rattle.kube_objects.specs.Newest.{added, when, has}

@@ -1,6 +1,6 @@
 -- What a leader that falls silent wrote by calls of before: its own record.
-use Rattle.std.proofs.Common.{◌≡◌, ◌⊎◌, ◌<◌, ◌≤◌, ℕ, zero, suc, ◌+◌, ◌-◌, ◌*◌, ◌==◌, ◌&&◌, Bool, true, false, List, [], ◌∷◌, length, Option, Some, None, IfSome, refl, sym, ap, ◌∙◌, subst, inl, inr, ⊎_elim, arith}
-use Rattle.std.proofs.lemmas.Bool.{cases_lt, eqb-true}
+use Rattle.std.proofs.Common.{◌≡◌, ◌⊎◌, ◌<◌, ◌≤◌, ℕ, suc, ◌-◌, ◌==◌, ◌&&◌, Bool, true, false, List, [], ◌∷◌, length, Option, Some, None, IfSome, refl, sym, ap, ◌∙◌, subst, inl, inr, ⊎_elim, arith}
+use Rattle.std.proofs.lemmas.Bool.{cases_lt}
 use Rattle.kube_objects.specs.declared.call.Reply.{Reply}
 use Rattle.kube_objects.specs.declared.call.Reply.TheVariants.{Done, Found, Absent, Exists, Conflict, Unchanged}
 use Rattle.kube_objects.specs.declared.call.Request.{Request}
@@ -11,19 +11,19 @@ use Rattle.kube_objects.specs.declared.lease.Lease.{Lease}
 use Rattle.kube_objects.specs.declared.object.Object.{Object}
 use Rattle.kube_objects.specs.declared.object.Object.TheVariants as object
 use Rattle.kube_objects.specs.Answers.{answer, if_done, written}
-use Rattle.kube_objects.specs.Document.{Doc, processes, end_beat, is_controller, lease_seconds}
+use Rattle.kube_objects.specs.Document.{Doc, processes, lease_seconds}
 use Rattle.kube_objects.specs.Entry.{Entry, Identity, Call, Fact, First, Event, Starts, Stops, Sends, Answers, Delivers, Expires, Leads, Ends, Crashes, Stalls, Ticks, actor_of}
 use Rattle.kube_objects.specs.Identities.{identity_of, holder_of, is_by, of_process}
 use Rattle.kube_objects.specs.Keys.{key_eq}
 use Rattle.kube_objects.specs.Newest.{added, when, has, join}
 use Rattle.kube_objects.specs.Process.{is_stop, stops}
-use Rattle.kube_objects.specs.Stored.{Held, election, key_of, stored, last_write, holds, request_write, at_key, write_of, next_version}
+use Rattle.kube_objects.specs.Stored.{Held, election, stored, last_write, holds, request_write, at_key, write_of, next_version}
 use Rattle.kube_objects.specs.Wire.{request_arrival}
 use Rattle.history.specs.History.{history}
 use Rattle.history.specs.Premise.{greatest_below}
 use Rattle.history_laws.specs.Tails.{In, IsTail}
 use Rattle.history_laws.proofs.Plainly.{upper, false_is, true_is, and_left, and_right, same_self}
-use Rattle.history_laws.proofs.Tailed.{tail_all, tail_trans, tail_of_empty, in_tail, later_tail, same_head, same_rest}
+use Rattle.history_laws.proofs.Tailed.{tail_all, tail_trans, tail_of_empty, later_tail, same_head}
 use Rattle.lease_laws.proofs.EachKind.{top_stays}
 use Rattle.lease_laws.proofs.Histories.{turn_right}
 use Rattle.lease_laws.proofs.Invariant.{view, Fit, FitRequest, SentRight}
@@ -32,7 +32,7 @@ use Rattle.call_laws.proofs.Above.{tail_length, in_head}
 use Rattle.call_laws.proofs.Making.{MadeAs, MadeAnswer, are_made}
 use Rattle.call_laws.proofs.Placing.{in_own_beat, messages_travel}
 use Rattle.call_laws.proofs.Starting.{actor_is}
-use Rattle.takeover_laws.specs.Calm.{IsSteady, IsQuiet, WritesElection}
+use Rattle.takeover_laws.specs.Calm.{IsSteady, WritesElection}
 use Rattle.takeover_laws.proofs.Rounds.{sent_is}
 use Rattle.calm_laws.proofs.Begun.{by_is}
 use Rattle.stay_laws.proofs.Won.{Won, is_won}
@@ -128,19 +128,26 @@ pub record IsOwnWrite (doc : Doc) (b : ℕ) (q : Identity) (x : Entry) : Type 0 
   pub holder : lease.holder ≡ holder_of q
   pub duration : lease.duration ≡ Some (lease_seconds doc q.process)
 
-module _ (doc : Doc) (near far b e : ℕ) (q : Identity) (l : LeadsUntil doc near far b e q) (s : Bears doc near far b e q) (quiet : IsQuiet doc b e q.process) where
+-- at the positions of a history no call of a process from beat b on writes the election Lease
+abbrev pub IsQuietIn : ℕ → ℕ → List Entry → Type 0
+IsQuietIn b p H = (x : Entry) → In x H → has (of_process p x.actor) ≡ true → WritesElection b x.fact → ⊥
+
+module _ (doc : Doc) (near far b e : ℕ) (q : Identity) (l : LeadsUntil doc near far b e q) (s : Bears doc near far b e q) (H : List Entry) (H_e : IsTail H (history doc (suc e))) (quiet : IsQuietIn b q.process H) where
   -- who writes the election Lease by a process that is quiet from beat b on sent the call before
-  pub sent_early : (x : Entry) (T : List Entry) → IsTail (x ∷ T) (history doc (suc e)) → (w : Won doc x T) → has (at_key election (write_of x.fact)) ≡ true → w.who.process ≡ q.process → w.call.sent < b
+  pub sent_early : (x : Entry) (T : List Entry) → IsTail (x ∷ T) H → (w : Won doc x T) → has (at_key election (write_of x.fact)) ≡ true → w.who.process ≡ q.process → w.call.sent < b
   sent_early x T at w writes mine = ⊎_elim (λ lt. lt) (λ le. absurd (silent le)) (cases_lt w.call.sent b)
     where
       silent : b ≤ w.call.sent → ⊥
       silent le =
-          quiet x (in_head x T (history doc (suc e)) at) (subst (λ p. has (of_process p x.actor) ≡ true) mine (own_process w.who x.actor w.actor))
+          quiet x (in_head x T H at) (subst (λ p. has (of_process p x.actor) ≡ true) mine (own_process w.who x.actor w.actor))
           (subst (WritesElection b) (sym w.fact) (le, ap (λ d. has (at_key election (write_of d))) (sym w.fact) ∙ writes))
 
-  module _ (x : Entry) (T : List Entry) (at : IsTail (x ∷ T) (history doc (suc e))) (some : 1 ≤ x.beat) (actor : x.actor ≡ actor_of q) (writes : has (at_key election (write_of x.fact)) ≡ true) where
+  module _ (x : Entry) (T : List Entry) (at : IsTail (x ∷ T) H) (some : 1 ≤ x.beat) (actor : x.actor ≡ actor_of q) (writes : has (at_key election (write_of x.fact)) ≡ true) where
+    at_e : IsTail (x ∷ T) (history doc (suc e))
+    at_e = tail_trans (x ∷ T) H (history doc (suc e)) at H_e
+
     w : Won doc x T
-    w = is_won doc s.sound e s.end x T at some writes
+    w = is_won doc s.sound e s.end x T at_e some writes
 
     mine : w.who ≡ q
     mine = actor_is w.who q (sym w.actor ∙ actor)
@@ -152,7 +159,7 @@ module _ (doc : Doc) (near far b e : ℕ) (q : Identity) (l : LeadsUntil doc nea
     early = sent_early x T at w writes (ap (λ (p : Identity). p.process) mine)
 
     asked_high : IsTail (w.f ∷ w.low) (history doc (suc e))
-    asked_high = tail_trans (w.f ∷ w.low) T (history doc (suc e)) w.asked (tail_trans T (x ∷ T) (history doc (suc e)) (inr (tail_all T)) at)
+    asked_high = tail_trans (w.f ∷ w.low) T (history doc (suc e)) w.asked (tail_trans T (x ∷ T) (history doc (suc e)) (inr (tail_all T)) at_e)
 
     sent : w.call.sent ≡ w.f.beat
     sent = (subst (λ o. IfSome o (λ s. (s.call.sent ≡ w.f.beat) × (s.arrives ≡ request_arrival s.who.process w.f.beat w.low))) (sent_is w.f w.who w.call (Some x.beat) w.f_actor w.f_fact) (messages_travel doc (suc e) w.f w.low asked_high).0).0
@@ -179,7 +186,7 @@ module _ (doc : Doc) (near far b e : ℕ) (q : Identity) (l : LeadsUntil doc nea
     wrote_is = made.written_is ∙ ap (λ (c : Call). written c.request T) (sym made.call_is)
       where
         made : MadeAnswer doc x.beat x.step x.actor w.call w.reply w.comes w.wrote T
-        made = subst (λ d. MadeAs doc x.beat x.step x.actor d T) w.fact (are_made doc (suc e) x T at)
+        made = subst (λ d. MadeAs doc x.beat x.step x.actor d T) w.fact (are_made doc (suc e) x T at_e)
 
     as_own : (lease : Lease) → at_key election (request_write w.call.request w.wrote) ≡ Some (Some (object.Lease lease)) → (lease.holder ≡ holder_of w.who) × (lease.duration ≡ Some (lease_seconds doc w.who.process)) → IsOwnWrite doc b q x
     as_own lease is fit = record {
@@ -217,17 +224,17 @@ module _ (doc : Doc) (near far b e : ℕ) (q : Identity) (l : LeadsUntil doc nea
   abbrev pub AllOwn : List Entry → List Entry → Type 0
   AllOwn low h = (x : Entry) (T : List Entry) → IsTail (x ∷ T) h → IsTail low T → has (at_key election (write_of x.fact)) ≡ true → x.actor ≡ actor_of q
 
-  pub own_since : (x : Entry) (T : List Entry) → 1 ≤ x.beat → has (at_key election (write_of x.fact)) ≡ true → x.actor ≡ actor_of q → (h : List Entry) → IsTail (x ∷ T) h → IsTail h (history doc (suc e)) → AllOwn (x ∷ T) h → IsOwn doc q h
+  pub own_since : (x : Entry) (T : List Entry) → 1 ≤ x.beat → has (at_key election (write_of x.fact)) ≡ true → x.actor ≡ actor_of q → (h : List Entry) → IsTail (x ∷ T) h → IsTail h H → AllOwn (x ∷ T) h → IsOwn doc q h
   own_since x T some writes actor [] low high all = absurd (tail_of_empty x T low)
   own_since x T some writes actor (z ∷ Z) (inl same) high all =
       let one = same_head x z T Z same in
       new_own z Z (subst (λ (y : Entry). y.actor ≡ actor_of q) one actor)
       (own_write z Z high (subst (λ (y : Entry). 1 ≤ y.beat) one some) (subst (λ (y : Entry). y.actor ≡ actor_of q) one actor) (subst (λ (y : Entry). has (at_key election (write_of y.fact)) ≡ true) one writes))
   own_since x T some writes actor (z ∷ Z) (inr below) high all =
-      by_write (at_key election (write_of z.fact)) refl (own_since x T some writes actor Z below (tail_trans Z (z ∷ Z) (history doc (suc e)) (inr (tail_all Z)) high) (λ f F at. all f F (inr at)))
+      by_write (at_key election (write_of z.fact)) refl (own_since x T some writes actor Z below (tail_trans Z (z ∷ Z) H (inr (tail_all Z)) high) (λ f F at. all f F (inr at)))
     where
       order : x.beat ≤ z.beat
-      order = beats_rise doc e z Z high x T below
+      order = beats_rise doc e z Z (tail_trans (z ∷ Z) H (history doc (suc e)) high H_e) x T below
 
       by_write : (o : Option (Option Object)) → at_key election (write_of z.fact) ≡ o → IsOwn doc q Z → IsOwn doc q (z ∷ Z)
       by_write None none o = record { y = o.y; top = top_stays z Z none ∙ o.top; by = o.by; lease = o.lease; object = o.object; holder = o.holder; duration = o.duration }

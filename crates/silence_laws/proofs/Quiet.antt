@@ -1,7 +1,6 @@
 -- Who is silent writes no election Lease.
 use Rattle.std.proofs.Common.{◌≡◌, ◌≤◌, ℕ, suc, true, List, ◌∷◌, Option, None, refl, sym, ap, ◌∙◌, subst, inr}
 use Rattle.kube_objects.specs.declared.call.Reply.{Reply}
-use Rattle.kube_objects.specs.declared.deed.Actor.{Actor}
 use Rattle.kube_objects.specs.declared.object.Object.{Object}
 use Rattle.kube_objects.specs.Document.{Doc}
 use Rattle.kube_objects.specs.Entry.{Entry, Call, Fact, First, Event, Starts, Stops, Sends, Answers, Delivers, Expires, Leads, Ends, Crashes, Stalls, Ticks, actor_of}
@@ -9,12 +8,12 @@ use Rattle.kube_objects.specs.Identities.{of_process}
 use Rattle.kube_objects.specs.InFlight.{is_due}
 use Rattle.kube_objects.specs.Newest.{has}
 use Rattle.history.specs.History.{history}
-use Rattle.history_laws.specs.Tails.{In, IsTail}
+use Rattle.history_laws.specs.Tails.{IsTail}
 use Rattle.history_laws.proofs.Plainly.{false_is}
 use Rattle.history_laws.proofs.Tailed.{tail_all, tail_trans, in_tail}
-use Rattle.call_laws.proofs.Above.{Place, place_of}
+use Rattle.call_laws.proofs.Above.{place_of}
 use Rattle.call_laws.proofs.Making.{MadeAs, MadeAnswer, are_made}
-use Rattle.takeover_laws.specs.Calm.{WritesElection, IsQuiet}
+use Rattle.takeover_laws.specs.Calm.{WritesElection}
 use Rattle.takeover_laws.proofs.Writers.{sends_of}
 use Rattle.silence_laws.specs.Silence.{IsSilent, SilentsAreQuiet}
 

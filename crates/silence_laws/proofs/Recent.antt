@@ -1,23 +1,21 @@
 -- A leader's last record before it fell silent isn't old: else it had renewed it.
-use Rattle.std.proofs.Common.{◌≡◌, ◌⊎◌, ◌<◌, ◌≤◌, ℕ, zero, suc, ◌+◌, ◌-◌, ◌*◌, ◌&&◌, not, Bool, true, false, List, ◌∷◌, Option, Some, None, refl, sym, ap, ◌∙◌, subst, inl, inr, ⊎_elim, arith}
+use Rattle.std.proofs.Common.{◌≡◌, ◌⊎◌, ◌<◌, ◌≤◌, ℕ, suc, ◌+◌, ◌-◌, ◌*◌, not, true, List, ◌∷◌, Some, refl, sym, ap, ◌∙◌, subst, inl, inr, ⊎_elim, arith}
 use Rattle.std.proofs.lemmas.Bool.{cases_lt}
 use Rattle.kube_base.specs.declared.numbers.Version.{Version}
 use Rattle.kube_objects.specs.declared.call.Reply.{Reply}
 use Rattle.kube_objects.specs.declared.call.Reply.TheVariants.{Done}
 use Rattle.kube_objects.specs.declared.deed.Actor.{Actor}
 use Rattle.kube_objects.specs.declared.deed.Actor.TheVariants as actors
-use Rattle.kube_objects.specs.declared.object.Object.{Object}
 use Rattle.kube_objects.specs.Answers.{written}
 use Rattle.kube_objects.specs.Clocks.{local}
-use Rattle.kube_objects.specs.Document.{Doc, is_controller}
+use Rattle.kube_objects.specs.Document.{Doc}
 use Rattle.kube_objects.specs.Elector.{succeeds, is_before, deadline, in_term}
-use Rattle.kube_objects.specs.Entry.{Entry, Identity, Call, Fact, Stops, Sends, Answers, Delivers, actor_of, entry}
+use Rattle.kube_objects.specs.Entry.{Entry, Identity, Fact, Stops, Answers, Delivers, actor_of, entry}
 use Rattle.kube_objects.specs.Identities.{identity_of, of_process}
 use Rattle.kube_objects.specs.Newest.{has}
 use Rattle.kube_objects.specs.Pauses.{is_paused}
 use Rattle.kube_objects.specs.Process.{alive, is_present, open_as}
-use Rattle.kube_objects.specs.Stored.{election, at_key, write_of}
-use Rattle.kube_objects.specs.Wire.{Back, back_of}
+use Rattle.kube_objects.specs.Wire.{back_of}
 use Rattle.history.specs.History.{history, at_turn}
 use Rattle.history.specs.Safe.{Acts}
 use Rattle.history_laws.specs.Tails.{In, IsTail}
@@ -27,7 +25,7 @@ use Rattle.history_laws.proofs.Tailed.{tail_all, tail_trans, tails_meet, later_t
 use Rattle.call_laws.proofs.Once.{answers_differ}
 use Rattle.call_laws.proofs.Placing.{in_own_beat}
 use Rattle.call_laws.proofs.Starting.{actor_is}
-use Rattle.takeover_laws.specs.Calm.{IsQuiet, IsInTime}
+use Rattle.takeover_laws.specs.Calm.{IsInTime}
 use Rattle.takeover_laws.specs.Rounds.{HasCounted}
 use Rattle.takeover_laws.proofs.Standing.{controllers_first}
 use Rattle.takeover_laws.proofs.Writers.{replies_count}
@@ -38,11 +36,11 @@ use Rattle.stay_laws.proofs.Won.{Won, is_won}
 use Rattle.silence_laws.specs.Silence.{LeadsUntil, Bears}
 use Rattle.silence_laws.proofs.Chain.{opens_of}
 use Rattle.silence_laws.proofs.Kept.{Kept, kept_of}
-use Rattle.silence_laws.proofs.Owning.{IsOwn, IsForeign}
+use Rattle.silence_laws.proofs.Owning.{IsQuietIn, IsOwn, IsForeign}
 use Rattle.silence_laws.proofs.Renewed.{done_of, Rewritten, renewed_by}
 use Rattle.silence_laws.proofs.Renewed as renewed
-use Rattle.silence_laws.proofs.Setting.{times_before, it_stays, its_time, some_b}
-use Rattle.silence_laws.proofs.Taken.{a, end_a, first, ways, first_writes, foreign_late, own, won, long_after}
+use Rattle.silence_laws.proofs.Setting.{times_before, it_stays, its_time}
+use Rattle.silence_laws.proofs.Taken.{a, first, ways, first_writes, own, long_after}
 use Rattle.silence_laws.proofs.Taken as taken
 use Rattle.silence_laws.proofs.Waiting.{history_below, beats_rise}
 use Rattle.silence_laws.proofs.Ways.{IsWay, sent_freely, beat_before, request_way, reply_way}
@@ -64,37 +62,37 @@ abbrev reply_of : Reply → Fact → Reply
 reply_of other (Answers call reply comes wrote) = reply
 reply_of other _ = other
 
-module _ (doc : Doc) (near far b e : ℕ) (q : Identity) (l : LeadsUntil doc near far b e q) (s : Bears doc near far b e q) (quiet : IsQuiet doc b e q.process)
-    (f : IsForeign doc near far b e q l s quiet (first doc near far b e q l s quiet) (history doc (suc e))) where
+module _ (doc : Doc) (near far b e : ℕ) (q : Identity) (l : LeadsUntil doc near far b e q) (s : Bears doc near far b e q) (H : List Entry) (H_e : IsTail H (history doc (suc e))) (quiet : IsQuietIn b q.process H)
+    (f : IsForeign doc near far b e q l s H H_e quiet (first doc near far b e q l s H H_e quiet) H) where
   abbrev pub mine : IsOwn doc q f.before
-  mine = own doc near far b e q l s quiet f
+  mine = own doc near far b e q l s H H_e quiet f
 
   abbrev pub k : Kept f.before mine.y
   k = kept_of f.before mine.y mine.top
 
   low_e : IsTail f.before (history doc (suc e))
-  low_e = tail_trans f.before (f.x ∷ f.before) (history doc (suc e)) (inr (tail_all f.before)) f.position
+  low_e = tail_trans f.before (f.x ∷ f.before) (history doc (suc e)) (inr (tail_all f.before)) (tail_trans (f.x ∷ f.before) H (history doc (suc e)) f.position H_e)
 
   pub z_e : IsTail (k.z ∷ k.before) (history doc (suc e))
   z_e = tail_trans (k.z ∷ k.before) f.before (history doc (suc e)) k.position low_e
 
   -- it is no older than the leader's first write
-  pub since : IsTail (first doc near far b e q l s quiet) (k.z ∷ k.before)
-  since = ⊎_elim (λ low. low) above (tails_meet (first doc near far b e q l s quiet) (k.z ∷ k.before) f.before f.since k.position)
+  pub since : IsTail (first doc near far b e q l s H H_e quiet) (k.z ∷ k.before)
+  since = ⊎_elim (λ low. low) above (tails_meet (first doc near far b e q l s H H_e quiet) (k.z ∷ k.before) f.before f.since k.position)
     where
-      above : IsTail (k.z ∷ k.before) (first doc near far b e q l s quiet) → IsTail (first doc near far b e q l s quiet) (k.z ∷ k.before)
+      above : IsTail (k.z ∷ k.before) (first doc near far b e q l s H H_e quiet) → IsTail (first doc near far b e q l s H H_e quiet) (k.z ∷ k.before)
       above (inl same) = subst (λ g. IsTail g (k.z ∷ k.before)) same (tail_all (k.z ∷ k.before))
-      above (inr below) = absurd (false_is (sym (ap has (k.alone (taken.o doc near far b e q l s quiet).e (taken.o doc near far b e q l s quiet).low below f.since)) ∙ first_writes doc near far b e q l s quiet))
+      above (inr below) = absurd (false_is (sym (ap has (k.alone (taken.o doc near far b e q l s H H_e quiet).e (taken.o doc near far b e q l s H H_e quiet).low below f.since)) ∙ first_writes doc near far b e q l s H H_e quiet))
 
   some : 1 ≤ k.z.beat
   some = by_place since
     where
-      written : 1 ≤ (taken.o doc near far b e q l s quiet).e.beat
-      written = let w = ways doc near far b e q l s quiet in omega (arith, w.sent_least, s.one)
+      written : 1 ≤ (taken.o doc near far b e q l s H H_e quiet).e.beat
+      written = let w = ways doc near far b e q l s H H_e quiet in omega (arith, w.sent_least, s.one)
 
-      by_place : IsTail (first doc near far b e q l s quiet) (k.z ∷ k.before) → 1 ≤ k.z.beat
-      by_place (inl same) = subst (λ (y : Entry). 1 ≤ y.beat) (same_head (taken.o doc near far b e q l s quiet).e k.z (taken.o doc near far b e q l s quiet).low k.before same) written
-      by_place (inr low) = omega (arith, written, beats_rise doc e k.z k.before z_e (taken.o doc near far b e q l s quiet).e (taken.o doc near far b e q l s quiet).low low)
+      by_place : IsTail (first doc near far b e q l s H H_e quiet) (k.z ∷ k.before) → 1 ≤ k.z.beat
+      by_place (inl same) = subst (λ (y : Entry). 1 ≤ y.beat) (same_head (taken.o doc near far b e q l s H H_e quiet).e k.z (taken.o doc near far b e q l s H H_e quiet).low k.before same) written
+      by_place (inr low) = omega (arith, written, beats_rise doc e k.z k.before z_e (taken.o doc near far b e q l s H H_e quiet).e (taken.o doc near far b e q l s H H_e quiet).low low)
 
   z_actor : k.z.actor ≡ actor_of q
   z_actor = by_identity q k.z.actor (sym k.by ∙ mine.by)
@@ -111,7 +109,7 @@ module _ (doc : Doc) (near far b e : ℕ) (q : Identity) (l : LeadsUntil doc nea
   f_actor : w.f.actor ≡ actor_of q
   f_actor = w.f_actor ∙ ap actor_of whose
 
-  unstopped : (x : Entry) → In x (history doc (suc (a doc near far b e q l s quiet))) → x.fact ≡ Stops → has (of_process q.process x.actor) ≡ true → ⊥
+  unstopped : (x : Entry) → In x (history doc (suc (a doc near far b e q l s H H_e quiet))) → x.fact ≡ Stops → has (of_process q.process x.actor) ≡ true → ⊥
   unstopped x stands fact own = never (l.steady.stops x stands fact own)
     where
       never : x.beat < 0 → ⊥
@@ -217,13 +215,13 @@ module _ (doc : Doc) (near far b e : ℕ) (q : Identity) (l : LeadsUntil doc nea
     again_since = subst (λ g. IsTail g again.before) (sym (same_answer (Done done.0) counted.before (renewed.o doc near far b e q l s y y_a hs) below)) again.since
 
     sooner : again.z.beat < f.x.beat
-    sooner = omega (arith, again.soon, given.most, k.beat, long_after doc near far b e q l s quiet f, taken.sent_before doc near far b e q l s quiet f, s.ways)
+    sooner = omega (arith, again.soon, given.most, k.beat, long_after doc near far b e q l s H H_e quiet f, taken.sent_before doc near far b e q l s H H_e quiet f, s.ways)
 
     pub never_old : ⊥
     never_old = false_is (sym (ap has (k.alone again.z again.before again_since there)) ∙ again.writes)
       where
         there : IsTail (again.z ∷ again.before) f.before
-        there = tail_trans (again.z ∷ again.before) (history doc (suc again.z.beat)) f.before again.position (history_below doc again.z.beat e f.x f.before f.position sooner (omega (arith, sooner, beat_before doc e f.x f.before f.position)))
+        there = tail_trans (again.z ∷ again.before) (history doc (suc again.z.beat)) f.before again.position (history_below doc again.z.beat e f.x f.before (tail_trans (f.x ∷ f.before) H (history doc (suc e)) f.position H_e) sooner (omega (arith, sooner, beat_before doc e f.x f.before (tail_trans (f.x ∷ f.before) H (history doc (suc e)) f.position H_e))))
 
   -- so it is recent
   pub recent : b ≤ mine.y.beat + s.renews.wait + 3 * far

@@ -1,7 +1,7 @@
 -- Up to the beat before it falls silent a leader renews its record: after each of its writes there is another one, a retry period and four ways
 -- later at most, if there was time to send it.
-use Rattle.std.proofs.Common.{◌≡◌, ◌⊎◌, ◌<◌, ◌≤◌, ℕ, suc, ◌+◌, ◌-◌, ◌*◌, ◌==◌, ◌&&◌, not, Bool, true, false, cond, List, [], ◌∷◌, Option, Some, None, IfSome, refl, sym, ap, ◌∙◌, subst, inl, inr, ⊎_elim, arith}
-use Rattle.std.proofs.lemmas.Bool.{cases_lt, eq-eqb}
+use Rattle.std.proofs.Common.{◌≡◌, ◌⊎◌, ◌<◌, ◌≤◌, ℕ, suc, ◌+◌, ◌-◌, ◌*◌, ◌&&◌, not, Bool, true, false, cond, List, [], ◌∷◌, Option, Some, None, refl, sym, ap, ◌∙◌, subst, inl, inr, ⊎_elim, arith}
+use Rattle.std.proofs.lemmas.Bool.{eq-eqb}
 use Rattle.kube_base.specs.declared.numbers.Version.{Version}
 use Rattle.kube_objects.specs.declared.call.Reply.{Reply}
 use Rattle.kube_objects.specs.declared.call.Reply.TheVariants.{Found, Done, Absent, Exists, Conflict, Unchanged}
@@ -12,39 +12,28 @@ use Rattle.kube_objects.specs.declared.object.Object.{Object}
 use Rattle.kube_objects.specs.declared.object.Object.TheVariants as object
 use Rattle.kube_objects.specs.Answers.{lease_in, versioned, answer_get, answer_over, as_kind, answer, written, written_over, if_done}
 use Rattle.kube_objects.specs.Clocks.{local}
-use Rattle.kube_objects.specs.Document.{Doc, end_beat, is_controller, renew_deadline}
-use Rattle.kube_objects.specs.Elector.{Moment, Follow, Fails, Asks, Succeeds, Shown, shown, moment, observed_at, is_valid, updated, renewed, follow_get, follow, follow_on, succeeds, leads, attempt_from, attempt}
-use Rattle.kube_objects.specs.Entry.{Entry, Identity, Call, CallKind, Plain, Fast, Fact, Sends, Answers, Delivers, actor_of, entry}
+use Rattle.kube_objects.specs.Document.{Doc, end_beat, renew_deadline}
+use Rattle.kube_objects.specs.Elector.{Moment, Follow, Fails, Asks, Succeeds, shown, moment, observed_at, is_valid, updated, renewed, follow_get, follow, follow_on, succeeds, leads, attempt_from, attempt}
+use Rattle.kube_objects.specs.Entry.{Entry, Identity, Call, CallKind, Plain, Fast, Sends, Answers, Delivers, actor_of, entry}
 use Rattle.kube_objects.specs.Identities.{is_own, is_other}
 use Rattle.kube_objects.specs.Newest.{has}
-use Rattle.kube_objects.specs.Process.{open_as, alive, is_present}
 use Rattle.kube_objects.specs.Stored.{Held, election, stored, next_version, at_key, write_of, request_write}
-use Rattle.kube_objects.specs.Turns.{react, with_reply}
-use Rattle.kube_objects.specs.Wire.{Sent, Back, back_of, next_call, request_arrival, request_delay, reply_arrival, sent_of}
-use Rattle.kube_objects.specs.Elector.{is_before, deadline}
-use Rattle.history.specs.History.{history, at_turn}
+use Rattle.kube_objects.specs.Turns.{react}
+use Rattle.kube_objects.specs.Wire.{Sent, next_call, request_arrival, reply_arrival}
+use Rattle.history.specs.History.{history}
 use Rattle.history.specs.Safe.{Acts}
 use Rattle.history.specs.Steps.{answered}
-use Rattle.history_laws.specs.Tails.{In, IsTail}
-use Rattle.history_laws.proofs.Counting.{present_is}
+use Rattle.history_laws.specs.Tails.{IsTail}
 use Rattle.history_laws.proofs.Order.{entries_are_earlier}
-use Rattle.history_laws.proofs.Plainly.{some_is, none_is, false_is, true_is, same_self, and_left}
-use Rattle.history_laws.proofs.Tailed.{tail_all, tail_trans, tails_meet, later_tail, before_turn, turn_tail, same_head, same_rest}
-use Rattle.lease_laws.proofs.Claims.{term_of}
+use Rattle.history_laws.proofs.Plainly.{false_is, same_self}
+use Rattle.history_laws.proofs.Tailed.{tail_all, tail_trans, later_tail}
 use Rattle.lease_laws.proofs.EachKind.{top_stays}
 use Rattle.call_laws.specs.Answering.{with_events, IsAnswered}
 use Rattle.call_laws.proofs.Above.{in_head}
 use Rattle.call_laws.proofs.Answering.{before_events, requests_are_answered}
-use Rattle.call_laws.proofs.Once.{answers_differ}
 use Rattle.call_laws.proofs.Placing.{in_own_beat}
-use Rattle.call_laws.proofs.Starting.{actor_is}
-use Rattle.takeover_laws.specs.Calm.{IsSteady, IsInTime}
-use Rattle.takeover_laws.specs.Rounds.{IsRound}
+use Rattle.takeover_laws.specs.Calm.{IsInTime}
 use Rattle.takeover_laws.proofs.Rounds.{sent_is, in_events}
-use Rattle.takeover_laws.proofs.Standing.{controllers_first}
-use Rattle.takeover_laws.proofs.Writers.{IsReacted, replies_react}
-use Rattle.calm_laws.proofs.Begun.{Begun}
-use Rattle.calm_laws.proofs.Life.{up_between}
 use Rattle.calm_laws.proofs.Origins.{Origin, origin, sends_differ}
 use Rattle.stay_laws.specs.Stays.{HasSuccess, Stays, LeadersStay, RenewsInTime}
 use Rattle.stay_laws.proofs.Given.{IsGiven}
@@ -55,13 +44,13 @@ use Rattle.stay_laws.proofs.Leading.{up_at, later}
 use Rattle.stay_laws.proofs.Trying.{HasTried, has_tried}
 use Rattle.stay_laws.proofs.Closing as closing
 use Rattle.stay_laws.proofs.Closing.{IsReplied, is_replied}
-use Rattle.stay_laws.proofs.Sendings.{IsFree, is_free, answer_high}
+use Rattle.stay_laws.proofs.Sendings.{IsFree, is_free}
 use Rattle.stay_laws.proofs.Sendings as sendings
 use Rattle.stay_laws.proofs.Succeeded.{IsSet}
 use Rattle.stay_laws.proofs.Written as wrote
 use Rattle.stay_laws.proofs.Renewing as renewing
 use Rattle.silence_laws.specs.Silence.{LeadsUntil, Bears}
-use Rattle.silence_laws.proofs.Setting.{IsWay, Arrives, request_arrives, calm_before, times_before, its_lead, it_stays}
+use Rattle.silence_laws.proofs.Setting.{IsWay, Arrives, request_arrives, calm_before, times_before}
 
 -- ---- a write above a position, or the same is stored
 

@@ -1,67 +1,58 @@
 -- Whoever writes first after a leader has fallen silent had looked at its record again and again, until it was over.
-use Rattle.std.proofs.Common.{◌≡◌, ◌⊎◌, ◌<◌, ◌≤◌, ℕ, zero, suc, ◌+◌, ◌-◌, ◌*◌, ◌==◌, ◌&&◌, not, nat_lt, Bool, true, false, cond, List, [], ◌∷◌, Option, Some, None, IfSome, refl, sym, ap, ◌∙◌, subst, inl, inr, ⊎_elim, arith}
-use Rattle.std.proofs.lemmas.Bool.{cases_lt, cases_eq, eq-eqb, eqb-true}
+use Rattle.std.proofs.Common.{◌≡◌, ◌⊎◌, ◌≤◌, ℕ, suc, ◌+◌, ◌-◌, ◌*◌, ◌==◌, ◌&&◌, not, Bool, true, false, cond, List, [], ◌∷◌, Option, Some, None, refl, sym, ap, ◌∙◌, subst, inl, inr, arith}
+use Rattle.std.proofs.lemmas.Bool.{eq-eqb, eqb-true}
 use Rattle.kube_base.specs.declared.numbers.Version.{Version}
 use Rattle.kube_objects.specs.declared.call.Reply.{Reply}
 use Rattle.kube_objects.specs.declared.call.Reply.TheVariants.{Found, Done, Absent, Exists, Conflict, Unchanged}
 use Rattle.kube_objects.specs.declared.call.Request.{Request}
 use Rattle.kube_objects.specs.declared.call.Request.TheVariants.{Get, Create, Update, PostStatus}
-use Rattle.kube_objects.specs.declared.deed.Actor.{Actor}
-use Rattle.kube_objects.specs.declared.deed.Actor.TheVariants as actors
 use Rattle.kube_objects.specs.declared.key.Key.{Key}
 use Rattle.kube_objects.specs.declared.lease.Lease.{Lease}
-use Rattle.kube_objects.specs.declared.object.Object.{Object}
-use Rattle.kube_objects.specs.declared.object.Object.TheVariants as object
 use Rattle.kube_objects.specs.declared.lease.Holder.{Holder}
 use Rattle.kube_objects.specs.declared.lease.Holder.TheVariants as holder
 use Rattle.kube_objects.specs.Answers.{answer_create, answer_update, answer}
 use Rattle.kube_objects.specs.Clocks.{local}
-use Rattle.kube_objects.specs.Document.{Doc, processes, end_beat, is_controller, of_seconds, lease_seconds, lease_duration, retry_period}
-use Rattle.kube_objects.specs.Elector.{Moment, moment, Follow, Fails, Asks, Shown, told, shows, shown, is_done, succeeds, updated, renewed, created, is_blocked, is_valid, observed_at, leads, follow_get, follow, follow_on, attempt_from, attempt, deadline, is_before}
+use Rattle.kube_objects.specs.Document.{Doc, is_controller}
+use Rattle.kube_objects.specs.Elector.{Moment, moment, Fails, Asks, Shown, told, shown, is_done, succeeds, updated, renewed, created, is_blocked, is_valid, observed_at, leads, follow_get, follow, attempt_from, attempt}
 use Rattle.kube_objects.specs.Entry.{Entry, Identity, Call, CallKind, Plain, Fast, Fact, First, Event, Starts, Stops, Sends, Answers, Delivers, Expires, Leads, Ends, Crashes, Stalls, Ticks, actor_of, entry}
-use Rattle.kube_objects.specs.Identities.{is_by, is_own, is_other, is_same, of_process}
-use Rattle.kube_objects.specs.Newest.{newest, when, join, has, or_zero}
-use Rattle.kube_objects.specs.Process.{alive, is_present, call_in}
+use Rattle.kube_objects.specs.Identities.{is_by, is_own, is_other, is_same}
+use Rattle.kube_objects.specs.Newest.{newest, when, join, has}
+use Rattle.kube_objects.specs.Process.{alive, call_in}
 use Rattle.kube_objects.specs.Stored.{Held, election, key_of, stored, next_version}
 use Rattle.kube_objects.specs.Turns.{expired_in, just_expired, is_fast_call}
-use Rattle.history.specs.History.{history, at_turn}
-use Rattle.history.specs.Safe.{Acts, IsHeldBy, IsStoredHolder}
+use Rattle.history.specs.History.{history}
 use Rattle.history_laws.specs.Tails.{In, IsTail}
-use Rattle.history_laws.proofs.Plainly.{upper, some_is, none_is, true_is, false_is, and_left, and_right, same_self}
-use Rattle.history_laws.proofs.Tailed.{tail_all, tail_trans, tail_of_empty, in_tail, later_tail, turn_tail, before_turn}
-use Rattle.lease_laws.proofs.Claims.{is_holder, same_holder}
-use Rattle.lease_laws.proofs.Premises.{premise_from}
+use Rattle.history_laws.proofs.Plainly.{upper, some_is, none_is, false_is, and_left}
+use Rattle.history_laws.proofs.Tailed.{tail_all, tail_trans, in_tail}
 use Rattle.call_laws.proofs.Above.{in_head}
 use Rattle.call_laws.proofs.Making.{MadeAs, MadeSend, MadeAnswer, HasStopped, IsOpen, Replied, are_made}
-use Rattle.call_laws.proofs.Placing.{in_own_beat, not_before}
 use Rattle.call_laws.proofs.Starting.{actor_is, sends_are_due}
 use Rattle.call_laws.proofs.Turning.{IsDue, IsTurnSend}
-use Rattle.takeover_laws.specs.Calm.{IsSteady, IsQuiet, IsInTime}
-use Rattle.takeover_laws.proofs.Standing.{controllers_first}
+use Rattle.takeover_laws.specs.Calm.{IsSteady, IsInTime}
 use Rattle.calm_laws.proofs.Asked.{IsWrite, next_is, asks_same, fails_not}
 use Rattle.calm_laws.proofs.Begun.{by_is}
 use Rattle.calm_laws.proofs.Origins.{Origin}
 use Rattle.stay_laws.proofs.Won.{Won}
 use Rattle.silence_laws.specs.Silence.{LeadsUntil, Bears}
-use Rattle.silence_laws.proofs.Chain.{opens_of, Look}
-use Rattle.silence_laws.proofs.Kept.{Kept, kept_of}
+use Rattle.silence_laws.proofs.Chain.{Look}
+use Rattle.silence_laws.proofs.Kept.{Kept}
 use Rattle.silence_laws.proofs.Looking.{ShowsIt, shows_it, asks_election}
-use Rattle.silence_laws.proofs.Owning.{IsOwn, IsForeign, sent_early}
-use Rattle.silence_laws.proofs.Recent.{mine, k, z_e, recent}
+use Rattle.silence_laws.proofs.Owning.{IsQuietIn, IsOwn, IsForeign, sent_early}
+use Rattle.silence_laws.proofs.Recent.{mine, k, recent}
 use Rattle.silence_laws.proofs.Showing.{IsTold, told_by, ShownBy, shown_by}
-use Rattle.silence_laws.proofs.Taken.{first, won, rival, other, long_after, sent_before}
-use Rattle.silence_laws.proofs.Waiting.{history_below, beats_rise, never_expires}
-use Rattle.silence_laws.proofs.Ways.{beat_before, sent_beat, sent_freely, IsWay, request_way}
+use Rattle.silence_laws.proofs.Taken.{first, won, rival, other, long_after}
+use Rattle.silence_laws.proofs.Waiting.{never_expires}
+use Rattle.silence_laws.proofs.Ways.{sent_beat}
 
 -- ---- an expiry in a beat
 
-record IsExpired (q : Identity) (h : List Entry) : Type 0 where
-  x : Entry
-  before : List Entry
-  position : IsTail (x ∷ before) h
-  actor : x.actor ≡ actor_of q
-  call : Call
-  fact : x.fact ≡ Expires call
+pub record IsExpired (q : Identity) (h : List Entry) : Type 0 where
+  pub x : Entry
+  pub before : List Entry
+  pub position : IsTail (x ∷ before) h
+  pub actor : x.actor ≡ actor_of q
+  pub call : Call
+  pub fact : x.fact ≡ Expires call
 
 expires_in : (k at : ℕ) (d : Fact) (c : Call) → expired_in k at d ≡ Some c → (call : Call) × (d ≡ Expires call)
 expires_in k at (Expires call) c is = (call, refl)
@@ -78,7 +69,7 @@ expires_in k at Ends c is = absurd (none_is c is)
 expires_in k at (Leads version) c is = absurd (none_is c is)
 expires_in k at (Ticks t) c is = absurd (none_is c is)
 
-expired_by : (q : Identity) (k : ℕ) (h : List Entry) → is_fast_call (just_expired q k h) ≡ true → IsExpired q h
+pub expired_by : (q : Identity) (k : ℕ) (h : List Entry) → is_fast_call (just_expired q k h) ≡ true → IsExpired q h
 expired_by q k [] is = absurd (false_is is)
 expired_by q k (x ∷ h) is = by_own (is_by q x.actor) refl is (λ below. expired_by q k h below)
   where
@@ -107,13 +98,13 @@ own_other q (holder.Proc id i) own_is other_is = by_test (is_same (record { proc
 -- ---- an accepted update
 
 -- a write that succeeds over a record is an update on its version
-record IsUpdate (r : Request) (y : Held) : Type 0 where
-  version : Version
-  lease : Lease
-  is : r ≡ Update election version lease
-  same : version.0 ≡ y.version.0
+pub record IsUpdate (r : Request) (y : Held) : Type 0 where
+  pub version : Version
+  pub lease : Lease
+  pub is : r ≡ Update election version lease
+  pub same : version.0 ≡ y.version.0
 
-accepted_update : (r : Request) (reply : Reply) (h : List Entry) (y : Held) → key_of r ≡ election → reply ≡ answer r h → stored election h ≡ Some y → succeeds r reply ≡ true → IsUpdate r y
+pub accepted_update : (r : Request) (reply : Reply) (h : List Entry) (y : Held) → key_of r ≡ election → reply ≡ answer r h → stored election h ≡ Some y → succeeds r reply ≡ true → IsUpdate r y
 accepted_update (Get key) reply h y key_is answered top so = absurd (false_is so)
 accepted_update (PostStatus name status at) reply h y key_is answered top so = absurd (false_is so)
 accepted_update (Create key l) reply h y key_is answered top so =
@@ -128,12 +119,12 @@ accepted_update (Update key v l) reply h y key_is answered top so =
 -- ---- what is asked for
 
 -- an update follows a Get that found the version, where the record doesn't block
-record IsFree (q : Identity) (m : Moment) (seen : ℕ) (reply : Reply) (version : Version) : Type 0 where
-  lease : Lease
-  found : reply ≡ Found version lease
-  free : is_blocked q m.now seen lease ≡ false
+pub record IsFree (q : Identity) (m : Moment) (seen : ℕ) (reply : Reply) (version : Version) : Type 0 where
+  pub lease : Lease
+  pub found : reply ≡ Found version lease
+  pub free : is_blocked q m.now seen lease ≡ false
 
-get_free : (q : Identity) (m : Moment) (seen : ℕ) (reply : Reply) (version : Version) (lease : Lease) → follow_get q m seen reply ≡ Asks (Update election version lease) → IsFree q m seen reply version
+pub get_free : (q : Identity) (m : Moment) (seen : ℕ) (reply : Reply) (version : Version) (lease : Lease) → follow_get q m seen reply ≡ Asks (Update election version lease) → IsFree q m seen reply version
 get_free q m seen Absent version lease is = absurd (create_not (asks_same (Create election (created q m)) (Update election version lease) is))
   where
     create_not : Create election (created q m) ≡ Update election version lease → ⊥
@@ -183,29 +174,29 @@ attempt_own doc q j h version lease is = by_test (doc.settings.fast_renew && lea
     by_test true is = by_shown (shown q h) refl is
     by_test false is = absurd (get_not is)
 
-module _ (doc : Doc) (near far b e : ℕ) (q : Identity) (l : LeadsUntil doc near far b e q) (s : Bears doc near far b e q) (quiet : IsQuiet doc b e q.process)
-    (f : IsForeign doc near far b e q l s quiet (first doc near far b e q l s quiet) (history doc (suc e))) where
+module _ (doc : Doc) (near far b e : ℕ) (q : Identity) (l : LeadsUntil doc near far b e q) (s : Bears doc near far b e q) (H : List Entry) (H_e : IsTail H (history doc (suc e))) (quiet : IsQuietIn b q.process H)
+    (f : IsForeign doc near far b e q l s H H_e quiet (first doc near far b e q l s H H_e quiet) H) where
   abbrev pub own : IsOwn doc q f.before
-  own = mine doc near far b e q l s quiet f
+  own = mine doc near far b e q l s H H_e quiet f
 
   abbrev pub kept : Kept f.before own.y
-  kept = k doc near far b e q l s quiet f
+  kept = k doc near far b e q l s H H_e quiet f
 
   abbrev pub w : Won doc f.x f.before
-  w = won doc near far b e q l s quiet f
+  w = won doc near far b e q l s H H_e quiet f
 
   abbrev pub c : Identity
   c = w.who
 
   pub low_e : IsTail f.before (history doc (suc e))
-  low_e = tail_trans f.before (f.x ∷ f.before) (history doc (suc e)) (inr (tail_all f.before)) f.position
+  low_e = tail_trans f.before (f.x ∷ f.before) (history doc (suc e)) (inr (tail_all f.before)) (tail_trans (f.x ∷ f.before) H (history doc (suc e)) f.position H_e)
 
   pub long : own.y.beat + s.renews.wait + 5 * far + 1 ≤ w.call.sent + near
-  long = long_after doc near far b e q l s quiet f
+  long = long_after doc near far b e q l s H H_e quiet f
 
   -- it is of another process
   pub elsewhere : c.process ≡ q.process → ⊥
-  elsewhere same = omega (arith, sent_early doc near far b e q l s quiet f.x f.before f.position w f.writes same, long, recent doc near far b e q l s quiet f, s.ways, s.one)
+  elsewhere same = omega (arith, sent_early doc near far b e q l s H H_e quiet f.x f.before f.position w f.writes same, long, recent doc near far b e q l s H H_e quiet f, s.ways, s.one)
 
   pub steady : IsSteady doc near far 0 e c.process
   steady = l.others c.process w.role elsewhere
@@ -223,16 +214,16 @@ module _ (doc : Doc) (near far b e : ℕ) (q : Identity) (l : LeadsUntil doc nea
   sent = sent_beat doc near far e c w.role steady w.f w.low w.call (Some f.x.beat) asked_e w.f_actor w.f_fact
 
   pub foreign : own.y.by ≡ Some c → ⊥
-  foreign by = rival doc near far b e q l s quiet f (some_is c q (sym by ∙ own.by))
+  foreign by = rival doc near far b e q l s H H_e quiet f (some_is c q (sym by ∙ own.by))
 
   pub others : is_other c own.lease.holder ≡ true
-  others = other doc near far b e q l s quiet f
+  others = other doc near far b e q l s H H_e quiet f
 
   key : key_of w.call.request ≡ election
   key = asks_election doc s.sound e s.end c w.role w.f w.call (Some f.x.beat) (in_head w.f w.low (history doc (suc e)) asked_e) w.f_actor w.f_fact
 
   made_answer : MadeAnswer doc f.x.beat f.x.step f.x.actor w.call w.reply w.comes w.wrote f.before
-  made_answer = subst (λ d. MadeAs doc f.x.beat f.x.step f.x.actor d f.before) w.fact (are_made doc (suc e) f.x f.before f.position)
+  made_answer = subst (λ d. MadeAs doc f.x.beat f.x.step f.x.actor d f.before) w.fact (are_made doc (suc e) f.x f.before (tail_trans (f.x ∷ f.before) H (history doc (suc e)) f.position H_e))
 
   update : IsUpdate w.call.request own.y
   update = accepted_update w.call.request w.reply f.before own.y key (made_answer.reply_is ∙ ap (λ (c : Call). answer c.request f.before) (sym made_answer.call_is)) own.top w.so

@@ -1,46 +1,30 @@
 -- Where a leader in a calm falls silent, what comes before is a calm, and it stays up to then.
-use Rattle.std.proofs.Common.{◌≡◌, ◌⊎◌, ◌<◌, ◌≤◌, ℕ, zero, suc, ◌+◌, ◌-◌, ◌*◌, ◌==◌, nat_lt, Bool, true, false, List, ◌∷◌, length, Option, Some, None, IfSome, refl, sym, ap, ◌∙◌, subst, inl, inr, ⊎_elim, arith}
-use Rattle.std.proofs.lemmas.Bool.{ltb-false, eq-eqb, eqb-true, cases_eq}
-use Rattle.kube_objects.specs.declared.call.Reply.{Reply}
+use Rattle.std.proofs.Common.{◌≡◌, ◌⊎◌, ◌<◌, ◌≤◌, ℕ, suc, ◌+◌, ◌-◌, ◌*◌, true, false, List, ◌∷◌, Option, Some, None, IfSome, refl, sym, ap, ◌∙◌, subst, inl, inr, ⊎_elim, arith}
+use Rattle.std.proofs.lemmas.Bool.{eq-eqb, cases_eq}
 use Rattle.kube_objects.specs.declared.deed.Actor.{Actor}
 use Rattle.kube_objects.specs.declared.deed.Actor.TheVariants as actors
 use Rattle.kube_objects.specs.declared.object.Object.{Object}
-use Rattle.kube_objects.specs.Document.{Doc, processes, end_beat, is_controller, renew_deadline}
+use Rattle.kube_objects.specs.Document.{Doc, is_controller}
 use Rattle.kube_objects.specs.Elector.{deadline}
 use Rattle.kube_objects.specs.Entry.{Entry, Identity, Call, Fact, First, Event, Starts, Stops, Sends, Answers, Delivers, Expires, Leads, Ends, Crashes, Stalls, Ticks, actor_of, entry}
 use Rattle.kube_objects.specs.Identities.{of_process}
-use Rattle.kube_objects.specs.Keys.{key_eq}
 use Rattle.kube_objects.specs.Newest.{when, or_else, has}
-use Rattle.kube_objects.specs.Process.{starts, alive}
-use Rattle.kube_objects.specs.Stored.{election, key_of}
-use Rattle.kube_objects.specs.Wire.{Sent, Back, sent_of, back_of, request_loss_of, request_delay_of, arrival, request_delay, reply_delay, request_arrival, reply_arrival}
-use Rattle.kube_objects.specs.Clocks.{local}
+use Rattle.kube_objects.specs.Wire.{Sent, Back, sent_of, back_of, request_loss_of, request_delay_of, arrival, request_delay, request_arrival}
 use Rattle.history.specs.History.{history}
-use Rattle.history.specs.Premise.{greatest_below}
-use Rattle.history.specs.Safe.{Acts}
 use Rattle.history_laws.specs.Tails.{In, IsTail}
-use Rattle.history_laws.proofs.Lives.{Over}
 use Rattle.history_laws.proofs.Order.{entries_are_earlier}
-use Rattle.history_laws.proofs.Plainly.{some_is, none_is, true_is, false_is}
-use Rattle.history_laws.proofs.Tailed.{tail_all, tail_trans, in_tail, later_tail}
-use Rattle.lease_laws.proofs.Claims.{exclusive}
-use Rattle.lease_laws.proofs.Histories.{turn_right}
-use Rattle.lease_laws.proofs.Invariant.{view, SentRight}
-use Rattle.lease_laws.proofs.Premises.{premise_from, rates_at_most}
+use Rattle.history_laws.proofs.Plainly.{some_is, none_is}
+use Rattle.history_laws.proofs.Tailed.{in_tail, later_tail}
 use Rattle.call_laws.specs.Answering.{with_events}
-use Rattle.call_laws.proofs.Above.{Above, in_head, place_of, next_above}
-use Rattle.call_laws.proofs.Making.{MadeAs, MadeSend, MadeAnswer, MadeEnd, HasStopped, IsOpen, are_made}
-use Rattle.call_laws.proofs.Once.{due_at}
-use Rattle.call_laws.proofs.Placing.{in_own_beat, from_beat, not_before, forces_stand, messages_travel}
+use Rattle.call_laws.proofs.Above.{place_of}
+use Rattle.call_laws.proofs.Making.{MadeAs, MadeSend, MadeAnswer, HasStopped, are_made}
+use Rattle.call_laws.proofs.Placing.{in_own_beat, forces_stand}
 use Rattle.call_laws.proofs.Starting.{actor_is}
 use Rattle.takeover_laws.specs.Acting.{AreInTime}
-use Rattle.takeover_laws.specs.Calm.{Passes, IsSteady, IsQuiet, IsCalm, IsInTime, AllBeats}
-use Rattle.takeover_laws.proofs.Fresh.{IsFresh, same_or_fresh, set_counted, over_stays, still_up}
-use Rattle.takeover_laws.proofs.Records.{asks_elsewhere}
-use Rattle.takeover_laws.proofs.Rounds.{Forces, reply_passes}
-use Rattle.takeover_laws.proofs.Standing.{controllers_first, unled}
+use Rattle.takeover_laws.specs.Calm.{Passes, IsSteady, IsCalm, IsInTime, AllBeats}
+use Rattle.takeover_laws.proofs.Rounds.{Forces}
 use Rattle.takeover_laws.proofs.Writers.{sends_of}
-use Rattle.stay_laws.specs.Stays.{HasSuccess, Stays}
+use Rattle.stay_laws.specs.Stays.{Stays}
 use Rattle.stay_laws.proofs.Staying.{leaders_stay}
 use Rattle.silence_laws.specs.Silence.{LeadsUntil, Bears}
 use Rattle.silence_laws.proofs.Led.{HasLed, acting_led}

@@ -1,5 +1,5 @@
 -- What was last shown to somebody, and the reply that showed it.
-use Rattle.std.proofs.Common.{◌≡◌, ◌&&◌, Bool, true, false, List, [], ◌∷◌, Option, Some, None, refl, ap, ◌∙◌, subst, inl, inr}
+use Rattle.std.proofs.Common.{◌≡◌, true, false, List, [], ◌∷◌, Option, Some, None, refl, ap, ◌∙◌, subst, inl, inr}
 use Rattle.kube_objects.specs.declared.call.Reply.{Reply}
 use Rattle.kube_objects.specs.declared.deed.Actor.{Actor}
 use Rattle.kube_objects.specs.Elector.{Shown, told, shows, shown, newly, observed}
@@ -7,7 +7,7 @@ use Rattle.kube_objects.specs.Entry.{Entry, Identity, Call, Fact, First, Event, 
 use Rattle.kube_objects.specs.Identities.{is_by}
 use Rattle.history_laws.specs.Tails.{IsTail}
 use Rattle.history_laws.proofs.Counting.{only_test, only_value}
-use Rattle.history_laws.proofs.Plainly.{upper, some_is, none_is}
+use Rattle.history_laws.proofs.Plainly.{upper, none_is}
 use Rattle.history_laws.proofs.Tailed.{tail_all, tail_trans, same_head, same_rest}
 use Rattle.calm_laws.proofs.Begun.{by_is}
 use Rattle.silence_laws.proofs.Kept.{not_below}

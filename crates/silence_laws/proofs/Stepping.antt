@@ -1,52 +1,28 @@
 -- From one look of a candidate at another's record to the next.
-use Rattle.std.proofs.Common.{◌≡◌, ◌⊎◌, ◌<◌, ◌≤◌, ℕ, suc, ◌+◌, ◌*◌, nat_lt, Bool, true, false, List, [], ◌∷◌, length, Option, Some, None, refl, sym, ap, ◌∙◌, subst, inl, inr, ⊎_elim, arith}
-use Rattle.std.proofs.lemmas.Bool.{ltb-false, eq-eqb, cases_lt}
+use Rattle.std.proofs.Common.{◌≡◌, ◌⊎◌, ◌≤◌, ℕ, ◌+◌, nat_lt, true, false, List, ◌∷◌, length, Option, Some, None, refl, sym, ap, ◌∙◌, subst, inl, inr, arith}
+use Rattle.std.proofs.lemmas.Bool.{ltb-false, eq-eqb}
 use Rattle.kube_objects.specs.declared.call.Reply.{Reply}
-use Rattle.kube_objects.specs.declared.call.Reply.TheVariants.{Found}
 use Rattle.kube_objects.specs.declared.call.Request.{Request}
 use Rattle.kube_objects.specs.declared.call.Request.TheVariants.{Get}
-use Rattle.kube_objects.specs.declared.deed.Actor.{Actor}
-use Rattle.kube_objects.specs.declared.lease.Lease.{Lease}
-use Rattle.kube_objects.specs.declared.object.Object.TheVariants as object
-use Rattle.kube_objects.specs.Answers.{as_kind, lease_in, answer_get, answer, versioned}
 use Rattle.kube_objects.specs.Clocks.{local}
-use Rattle.kube_objects.specs.Document.{Doc, end_beat, is_controller, retry_period}
-use Rattle.kube_objects.specs.Elector.{Follow, Fails, Asks, Shown, told, shows, shown, observed, leads, follow_on, timer_follow, timer_says, timer, attempt}
-use Rattle.kube_objects.specs.Entry.{Entry, Identity, Call, Fact, First, Event, Starts, Stops, Sends, Answers, Delivers, Expires, Leads, Ends, Crashes, Stalls, Ticks, actor_of, entry}
+use Rattle.kube_objects.specs.Document.{Doc, is_controller, retry_period}
+use Rattle.kube_objects.specs.Elector.{Follow, Fails, Asks, shown, observed, leads, follow_on, timer_follow, timer_says}
+use Rattle.kube_objects.specs.Entry.{Entry, Identity, Call, Fact, Stops, Sends, Delivers, actor_of, entry}
 use Rattle.kube_objects.specs.Identities.{is_by, of_process}
 use Rattle.kube_objects.specs.Newest.{newest, when, only_if, join, has, or_zero}
-use Rattle.kube_objects.specs.Process.{alive, open_as, last_call, call_in}
-use Rattle.kube_objects.specs.Stored.{Held, election, stored}
+use Rattle.kube_objects.specs.Process.{alive, last_call, call_in}
+use Rattle.kube_objects.specs.Stored.{election}
 use Rattle.kube_objects.specs.Turns.{expired_in, is_fast_call}
 use Rattle.history.specs.History.{history}
-use Rattle.history.specs.Safe.{Acts}
-use Rattle.history.specs.Sound.{IsSound}
 use Rattle.history_laws.specs.Tails.{In, IsTail}
-use Rattle.history_laws.proofs.Counting.{only_test}
-use Rattle.history_laws.proofs.Plainly.{upper, none_is, true_is, false_is, same_self}
-use Rattle.history_laws.proofs.Tailed.{tail_all, tail_trans, in_tail, tails_meet, later_tail, same_head, same_rest}
-use Rattle.span_laws.specs.Spans.{RunsAtLeast, RunsAtMost, IsEnough, IsNeeded}
-use Rattle.span_laws.proofs.Spans.{readings_grow, readings_last}
-use Rattle.call_laws.specs.Answering.{with_events}
-use Rattle.call_laws.specs.Waiting.{Closes, IsClosed}
-use Rattle.call_laws.proofs.Above.{tail_length, in_head}
+use Rattle.history_laws.proofs.Plainly.{upper, false_is, same_self}
+use Rattle.history_laws.proofs.Tailed.{tail_all, tail_trans, in_tail, same_head}
+use Rattle.call_laws.proofs.Above.{tail_length}
 use Rattle.call_laws.proofs.Making.{MadeAs, MadeSend, HasStopped, IsOpen, Replied, are_made}
-use Rattle.call_laws.proofs.Placing.{in_own_beat}
 use Rattle.call_laws.proofs.Starting.{sends_are_due, actor_is}
 use Rattle.call_laws.proofs.Turning.{IsDue, IsTurnSend}
-use Rattle.call_laws.proofs.Waiting.{calls_wait}
-use Rattle.takeover_laws.specs.Asking.{HasAsked}
-use Rattle.takeover_laws.specs.Calm.{IsSteady, IsInTime}
-use Rattle.takeover_laws.proofs.Asking.{candidates_ask}
-use Rattle.takeover_laws.proofs.Unasked.{Quiet, Asked, quiet_or_asked, attempt_gets}
-use Rattle.takeover_laws.proofs.Writers.{since_low}
-use Rattle.calm_laws.proofs.Begun.{Begun, by_is}
-use Rattle.calm_laws.proofs.Life.{up_between}
-use Rattle.calm_laws.proofs.Origins.{Origin, origin}
-use Rattle.silence_laws.proofs.Kept.{Kept, kept_of}
+use Rattle.takeover_laws.proofs.Unasked.{Quiet, attempt_gets}
 use Rattle.silence_laws.proofs.Looking.{k}
-use Rattle.silence_laws.proofs.Waiting.{history_below, beats_rise, one_sending, IsCountedAfter, counted_after, says_done, never_expires}
-use Rattle.silence_laws.proofs.Ways.{IsFreely, sent_freely, beat_before, IsWay, Went, went}
 
 no_ask_is : (request : Request) → Fails ≡ Asks request → ⊥
 no_ask_is request is = cc

@@ -1,5 +1,5 @@
 -- No call of a controller whose messages pass expires; and what waits was sent once.
-use Rattle.std.proofs.Common.{◌≡◌, ◌⊎◌, ◌<◌, ◌≤◌, ℕ, suc, ◌+◌, ◌-◌, ◌*◌, Bool, true, false, List, [], ◌∷◌, Option, Some, None, refl, sym, ap, ◌∙◌, subst, inl, inr, ⊎_elim, arith}
+use Rattle.std.proofs.Common.{◌≡◌, ◌⊎◌, ◌<◌, ◌≤◌, ℕ, suc, ◌+◌, ◌-◌, ◌*◌, true, List, ◌∷◌, Option, Some, None, refl, sym, ap, ◌∙◌, subst, inl, inr, ⊎_elim, arith}
 use Rattle.std.proofs.Math.Nat.{mul-le-mul_right}
 use Rattle.std.proofs.lemmas.Bool.{ltb-true, cases_lt}
 use Rattle.kube_objects.specs.Clocks.{local}
@@ -10,8 +10,8 @@ use Rattle.kube_objects.specs.Process.{alive, call_in, call_says, is_late}
 use Rattle.history.specs.History.{history}
 use Rattle.history_laws.specs.Tails.{IsTail}
 use Rattle.history_laws.proofs.Counting.{CountedFor, counted_is}
-use Rattle.history_laws.proofs.Plainly.{none_is, same_self}
-use Rattle.history_laws.proofs.Tailed.{tail_all, tail_trans, tails_meet, later_tail, same_head}
+use Rattle.history_laws.proofs.Plainly.{same_self}
+use Rattle.history_laws.proofs.Tailed.{tail_all, tail_trans, tails_meet, later_tail}
 use Rattle.span_laws.proofs.Spans.{goes_most}
 use Rattle.call_laws.proofs.Making.{MadeAs, MadeExpiry, MadeDelivery, are_made}
 use Rattle.call_laws.proofs.Placing.{in_own_beat}
@@ -22,7 +22,7 @@ use Rattle.takeover_laws.proofs.Writers.{replies_count}
 use Rattle.calm_laws.proofs.Begun.{Begun, begun_by}
 use Rattle.calm_laws.proofs.Life.{up_between}
 use Rattle.calm_laws.proofs.Origins.{sends_differ}
-use Rattle.silence_laws.proofs.Ways.{IsFreely, sent_freely, beat_before, sent_beat}
+use Rattle.silence_laws.proofs.Ways.{sent_freely, beat_before, sent_beat}
 
 -- the history before a beat stands below an entry of the beat or a later one
 pub history_below : (doc : Doc) (n e : ℕ) (x : Entry) (T : List Entry) → IsTail (x ∷ T) (history doc (suc e)) → n < x.beat → n ≤ e → IsTail (history doc (suc n)) T

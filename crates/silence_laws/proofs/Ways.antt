@@ -1,9 +1,8 @@
 -- How long a call of a controller was under way whose messages pass, and that it doesn't expire.
-use Rattle.std.proofs.Common.{◌≡◌, ◌⊎◌, ◌<◌, ◌≤◌, ℕ, suc, ◌+◌, Bool, true, false, List, ◌∷◌, Option, Some, None, IfSome, refl, sym, ap, ◌∙◌, subst, inl, inr, ⊎_elim, arith}
+use Rattle.std.proofs.Common.{◌≡◌, ◌⊎◌, ◌≤◌, ℕ, suc, ◌+◌, true, false, List, ◌∷◌, Option, Some, None, IfSome, sym, ap, ◌∙◌, subst, inl, inr, ⊎_elim, arith}
 use Rattle.kube_objects.specs.declared.call.Reply.{Reply}
-use Rattle.kube_objects.specs.declared.script.What.{What}
 use Rattle.kube_objects.specs.Document.{Doc, is_controller}
-use Rattle.kube_objects.specs.Entry.{Entry, Identity, Call, CallKind, Release, Sends, actor_of}
+use Rattle.kube_objects.specs.Entry.{Entry, Identity, Call, Release, Sends, actor_of}
 use Rattle.kube_objects.specs.Newest.{or_else}
 use Rattle.kube_objects.specs.Pauses.{resume, held_up}
 use Rattle.kube_objects.specs.Process.{alive, open_as, call_in}
@@ -13,7 +12,7 @@ use Rattle.history.specs.History.{history}
 use Rattle.history_laws.specs.Tails.{IsTail}
 use Rattle.history_laws.proofs.Order.{entries_are_earlier}
 use Rattle.history_laws.proofs.Plainly.{some_is, none_is}
-use Rattle.history_laws.proofs.Tailed.{tail_all, tail_trans}
+use Rattle.history_laws.proofs.Tailed.{tail_trans}
 use Rattle.call_laws.specs.Answering.{with_events}
 use Rattle.call_laws.proofs.Above.{in_head}
 use Rattle.call_laws.proofs.Making.{MadeAs, MadeSend, HasStopped, IsOpen, are_made}

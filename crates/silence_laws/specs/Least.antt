@@ -1,6 +1,6 @@
 -- How long nobody leads at least after a leader in a calm has fallen silent. Source: client-go, package `leaderelection`; profile.
 use Rattle.std.specs.Int.{div_ceil}
-use Rattle.std.specs.Prelude.{◌≡◌, ◌≤◌, ℕ, suc, ◌+◌, ◌*◌, true, cond, List, ◌∷◌, Some}
+use Rattle.std.specs.Prelude.{◌≡◌, ◌≤◌, ℕ, suc, ◌+◌, ◌*◌, true, List, ◌∷◌, Some}
 use Rattle.kube_base.specs.declared.numbers.Version.{Version}
 use Rattle.kube_objects.specs.Document.{Doc, is_controller, lease_duration, retry_period}
 use Rattle.kube_objects.specs.Elector.{lead_says}

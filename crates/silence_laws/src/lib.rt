@@ -2,7 +2,7 @@
 //! body.
 #![tactic(auto)]
 
-ghost use Rattle.silence_laws.specs.Least.{SilencesAreTold, SilencesLast};
+ghost use Rattle.silence_laws.specs.Least.{ReleasesLast, SilencesAreTold, SilencesLast};
 ghost use Rattle.silence_laws.specs.Silence.{SilentsAreQuiet};
 
 /// A process whose requests are all lost from a beat on, or that sends none, writes no election Lease from then on.
@@ -15,4 +15,10 @@ pub fn silents_are_quiet()
 pub fn silences_last()
     ensures last { SilencesLast }
     ensures told { SilencesAreTold }
+{}
+
+/// Where a leader in a calm is stopped and its release is accepted, nobody else comes to lead before four messages have travelled: the release,
+/// and the reply, the request and the reply by which another one finds that nobody holds the lease, and takes it.
+pub fn releases_last()
+    ensures { ReleasesLast }
 {}
