@@ -4,7 +4,7 @@ use Rattle.history.specs.Sound.{IsSound}
 use Rattle.calm_laws.specs.Bounds.{TakesOver}
 use Rattle.gap_laws.specs.Gaps.{GapLasts, OtherWaits}
 use Rattle.settle_laws.specs.Settles.{Settles}
-use Rattle.silence_laws.specs.Least.{SilenceIsTold}
+use Rattle.silence_laws.specs.Least.{ReleaseLasts, SilenceIsTold}
 use Rattle.stay_laws.specs.Stays.{LeaderStays}
 use Rattle.succession_laws.specs.Successions.{ActsOn, Succeeds}
 
@@ -24,6 +24,8 @@ pub record IsTimely (doc : Doc) : Type 0 where
   pub waits : OtherWaits doc
   -- after a leader in a calm falls silent nobody else leads for so many beats at least
   pub silence : SilenceIsTold doc
+  -- and after an accepted release for four messages
+  pub release : ReleaseLasts doc
   -- and by so many at most another does, and stays
   pub succeeds : Succeeds doc
   -- and the leader acts on for no longer than its retry period and renew deadline after its last success

@@ -28,7 +28,7 @@ use kube_base::{NoMemory, Steps};
 use lease_laws::lease_is_safe;
 use run_edge::{Status, Verdict, tell};
 use settle_laws::calm_spans_settle;
-use silence_laws::silences_last;
+use silence_laws::{releases_last, silences_last};
 use spacing_laws::taints_are_spaced;
 use stay_laws::leaders_stay;
 use std::alloc::Global;
@@ -77,6 +77,7 @@ fn generated_documents_are_safe()
     others_wait();
     calm_spans_settle();
     silences_last();
+    releases_last();
     successors_lead();
     leaders_act_on();
 }

@@ -34,7 +34,7 @@ use manifest_json::ReadFault;
 use run_edge::{Status, Verdict, ask, take_input, tell_refusal, tell_too_large, tell_usage};
 use script_reader::Document;
 use settle_laws::calm_spans_settle;
-use silence_laws::silences_last;
+use silence_laws::{releases_last, silences_last};
 use spacing_laws::taints_are_spaced;
 use stay_laws::leaders_stay;
 use std::alloc::Global;
@@ -107,6 +107,7 @@ fn documents_are_safe()
     others_wait();
     calm_spans_settle();
     silences_last();
+    releases_last();
     successors_lead();
     leaders_act_on();
 }

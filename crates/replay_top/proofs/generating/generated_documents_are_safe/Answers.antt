@@ -27,6 +27,7 @@ returns-clause-timely c s within =
       waits = c.others_wait.ensures doc;
       settles = c.calm_spans_settle.ensures.told doc;
       silence = c.silences_last.ensures.told doc;
+      release = c.releases_last.ensures doc;
       succeeds = c.successors_lead.ensures.told doc;
       acts_on = c.leaders_act_on.ensures doc;
     }
