@@ -30,7 +30,7 @@ use Rattle.call_laws.proofs.Starting.{actor_is}
 use Rattle.takeover_laws.proofs.Fresh.{next_start, over_stays, still_up}
 use Rattle.takeover_laws.proofs.Writers.{sends_of, since_low}
 use Rattle.heard_laws.specs.Heard.{tells_of}
-use Rattle.heard_laws.specs.Kubelet.{LivesFrom, IsTimely, LastWordsAreSoon, LastWordsAreLate}
+use Rattle.heard_laws.specs.Kubelet.{LivesFrom, IsAnsweredInTime, LastWordsAreSoon, LastWordsAreLate}
 use Rattle.heard_laws.proofs.Heard.{below_ordered, told_early}
 use Rattle.heard_laws.proofs.Requests.{AnswersSince, IsLeaseKey, TellsAlone, tells_alone, lease_key}
 use Rattle.heard_laws.proofs.Sending.{by_is, KubeletSends, sends_as, none_stays, stays_up}
@@ -213,7 +213,7 @@ module _ (doc : Doc) (sound : IsSound doc) (near far s l : ℕ) (q : Identity) (
           let two = with_answers doc s in
           turns_add doc s q.process born_at (three_steps doc s (history doc s)) (three_adds doc s born_at two (two_adds doc s born_at one lives.stands))
 
-  module _ (e : ℕ) (timely : IsTimely doc far s e q) (one : 1 ≤ near) (alone : TellsAlone doc s e q name) (leases : IsLeaseKey doc e name) (end : l + far ≤ e) (slow enough most : ℕ) (slowly : RunsAtLeast doc q.process s l slow) (is_enough : IsEnough slow (round_period doc) enough)
+  module _ (e : ℕ) (timely : IsAnsweredInTime doc far s e q) (one : 1 ≤ near) (alone : TellsAlone doc s e q name) (leases : IsLeaseKey doc e name) (end : l + far ≤ e) (slow enough most : ℕ) (slowly : RunsAtLeast doc q.process s l slow) (is_enough : IsEnough slow (round_period doc) enough)
       (enough_most : enough ≤ most) (far_most : 6 * far ≤ most) where
     alone_here : TellsAlone doc s e q (node_of doc q.process)
     alone_here = subst (TellsAlone doc s e q) (sym lives.node) alone

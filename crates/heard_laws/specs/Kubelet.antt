@@ -38,7 +38,7 @@ pub record LivesFrom (doc : Doc) (near far s last : ℕ) (q : Identity) (name : 
   pub dead : alive q.process (with_events doc (suc last)) ≡ Some q.incarnation → ⊥
 
 -- two messages take no longer than its call timeout on its clock
-pub record IsTimely (doc : Doc) (far s e : ℕ) (q : Identity) : Type 0 where
+pub record IsAnsweredInTime (doc : Doc) (far s e : ℕ) (q : Identity) : Type 0 where
   pub fast : ℕ
   pub runs : RunsAtMost doc q.process s e fast
   pub timeout : (2 * far) * fast ≤ call_timeout doc q.process
@@ -69,6 +69,6 @@ LastWordsAreSoon =
 abbrev pub LastWordsAreLate : Type 0
 LastWordsAreLate =
     (doc : Doc) (near far s last e v : ℕ) (q : Identity) (name : ℕ) → IsSound doc → 1 ≤ near → LivesFrom doc near far s last q name → s + 4 * far ≤ last
-    → IsTimely doc far s e q → IsLeftAlone doc s e q name → PutsAreOfKind doc e → last + far ≤ e
+    → IsAnsweredInTime doc far s e q → IsLeftAlone doc s e q name → PutsAreOfKind doc e → last + far ≤ e
     → (slow enough most : ℕ) → RunsAtLeast doc q.process s last slow → IsEnough slow (round_period doc) enough → enough ≤ most → 6 * far ≤ most
     → IsLastTold doc name v e → suc last + 5 * near ≤ v + 4 * far + most
