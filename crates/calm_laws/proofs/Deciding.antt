@@ -162,7 +162,7 @@ passes doc near far p k =
         (loses_requests p h ≡ false) × ((loses_replies p h ≡ false) × ((near ≤ request_delay p h) × ((request_delay p h ≤ far)
         × ((near ≤ reply_delay p h) × ((reply_delay p h ≤ far) × (is_paused doc p k ≡ false))))))
 
-steady : (doc : Doc) (near far a e p : ℕ) → Decided (IsSteady doc near far a e p)
+pub steady : (doc : Doc) (near far a e p : ℕ) → Decided (IsSteady doc near far a e p)
 steady doc near far a e p =
     as_record Parts (IsSteady doc near far a e p)
     (λ s. record { passes = s.0; crashes = s.1.0; stops = s.1.1.0; ends = s.1.1.1 })

@@ -9,7 +9,7 @@ use Rattle.kube_objects.specs.declared.deed.Actor.{Actor}
 use Rattle.kube_objects.specs.declared.key.Key.{Key}
 use Rattle.kube_objects.specs.declared.key.Kind.TheVariants as kind
 use Rattle.kube_objects.specs.Clocks.{local}
-use Rattle.kube_objects.specs.Document.{Doc, processes, end_beat, is_controller, call_timeout, retry_period}
+use Rattle.kube_objects.specs.Document.{Doc, processes, is_controller, call_timeout, retry_period}
 use Rattle.kube_objects.specs.Elector.{Follow, Fails, Asks, Succeeds, is_fast, lead_says, leads, follow_on, timer_follow, timer_says, timer}
 use Rattle.kube_objects.specs.Entry.{Entry, Identity, Call, Release, Fact, First as FirstPut, Event as Happens, Starts, Stops, Sends, Answers, Delivers, Expires, Leads, Ends, Crashes, Stalls, Ticks, actor_of, entry}
 use Rattle.kube_objects.specs.Identities.{is_by}
@@ -20,7 +20,7 @@ use Rattle.kube_objects.specs.Stored.{election, key_of, stored}
 use Rattle.kube_objects.specs.Wire.{next_call, request_arrival}
 use Rattle.kube_objects.proofs.Clocks.{local_up}
 use Rattle.history.specs.History.{history, at_turn}
-use Rattle.history.specs.Sound.{IsSound}
+use Rattle.history.specs.Safe.{Acts}
 use Rattle.history.specs.Steps.{restart, turn}
 use Rattle.history_laws.specs.Tails.{In, IsTail}
 use Rattle.history_laws.proofs.Counting.{CountedFor, counted_is, only_test, only_value, when_test, when_value}
@@ -36,7 +36,6 @@ use Rattle.call_laws.proofs.Answering.{events_position}
 use Rattle.call_laws.proofs.Making.{MadeAs, MadeDelivery, MadeExpiry, MadeSend, HasStopped, IsOpen, are_made}
 use Rattle.call_laws.proofs.Placing.{in_own_beat, not_before, messages_travel}
 use Rattle.call_laws.proofs.Starting.{actor_is}
-use Rattle.takeover_laws.specs.Acting.{AreInTime, NobodyActs}
 use Rattle.takeover_laws.specs.Calm.{IsSteady, IsCalm, IsInTime}
 use Rattle.takeover_laws.specs.Rounds.{HasCounted}
 use Rattle.takeover_laws.proofs.Rounds.{sent_is}
@@ -45,6 +44,7 @@ use Rattle.takeover_laws.proofs.Writers.{Sending, sending_of, since_low, replies
 use Rattle.calm_laws.specs.Bounds.{LastsFor}
 use Rattle.calm_laws.proofs.Asked.{IsWrite, Reason, InTurn, AfterReply, reason_key, reason_of}
 use Rattle.calm_laws.proofs.Begun.{Begun, begun_by, by_is, waits_between, Timed, timed_by}
+use Rattle.calm_laws.proofs.Kept.{IsKept}
 use Rattle.calm_laws.proofs.Life.{up_between, restart_adds, restart_same, turn_unset}
 use Rattle.calm_laws.proofs.Looks.{object_of, has_lease, LookIn, failed_look, looked, none_looks}
 use Rattle.calm_laws.proofs.Origins.{Origin, origin}
@@ -58,23 +58,21 @@ no_kind h = cc
 abbrev whole_entry : ℕ → ℕ → Actor → Fact → Entry
 whole_entry beat step who d = record { beat = beat; step = step; actor = who; fact = d }
 
-entry_is : (x : Entry) (step : ℕ) (q : Identity) (d : Fact) → x.step ≡ step → x.actor ≡ actor_of q → x.fact ≡ d → x ≡ entry x.beat step q d
+pub entry_is : (x : Entry) (step : ℕ) (q : Identity) (d : Fact) → x.step ≡ step → x.actor ≡ actor_of q → x.fact ≡ d → x ≡ entry x.beat step q d
 entry_is x step q d at by is =
     ap (λ (s : ℕ). whole_entry x.beat s x.actor x.fact) at ∙ ap (λ who. whole_entry x.beat step who x.fact) by ∙ ap (λ d. whole_entry x.beat step (actor_of q) d) is
 
-module _ (doc : Doc) (near far a e n : ℕ) (sound : IsSound doc) (calm : IsCalm doc near far a e) (time : AreInTime doc near far a e) (one : 1 ≤ near) (ways : near ≤ far) (end : e ≤ end_beat doc) (within : n ≤ e)
-    (none : NobodyActs doc near far a e n) (q : Identity) (role : is_controller doc q.process ≡ true) (steady : IsSteady doc near far a e q.process)
-    (led : (h : List Entry) → IsTail h (history doc (suc n)) → leads q h ≡ false) (lasting : ℕ) (lasts : LastsFor lasting (object_of (stored election (history doc (a + far)))))
+module _ (doc : Doc) (near far a settled e n : ℕ) (calm : IsCalm doc near far a e) (one : 1 ≤ near) (ways : near ≤ far) (ordered : a ≤ settled) (within : n ≤ e)
+    (kept : IsKept doc far settled n) (q : Identity) (role : is_controller doc q.process ≡ true) (steady : IsSteady doc near far a e q.process) (my_time : IsInTime doc far a e q.process)
+    (idle : (k : ℕ) → a ≤ k → k ≤ n → Acts doc q k → ⊥)
+    (led : (h : List Entry) → IsTail h (history doc (suc n)) → leads q h ≡ false) (lasting : ℕ) (lasts : LastsFor lasting (object_of (stored election (history doc (settled + far)))))
     (slow fast wait needed : ℕ) (runs_least : RunsAtLeast doc q.process (a - 1) e slow) (runs_most : RunsAtMost doc q.process (a - 1) e fast)
     (waits : 1 ≤ retry_period doc q.process) (wait_is : IsEnough slow (retry_period doc q.process) wait) (needed_is : IsNeeded fast (retry_period doc q.process) needed)
     (lost : ℕ) (lost_is : call_timeout doc q.process < suc lost * slow)
     (enough most : ℕ) (enough_is : IsEnough slow lasting enough) (most_is : IsGreatest (needed + 2 * near) (wait + 2 * far) enough most)
-    (G : ℕ) (after_lost : a + lost + wait ≤ G) (after_ways : a + 4 * far + wait ≤ G + 1) (room : G + most + 4 * far ≤ n) where
-  my_time : IsInTime doc far a e q.process
-  my_time = time q.process role steady
-
-  lease : HasLease (stored election (history doc (a + far)))
-  lease = has_lease lasting (stored election (history doc (a + far))) lasts
+    (G : ℕ) (after_lost : a + lost + wait ≤ G) (after_ways : settled + 4 * far + wait ≤ G + 1) (room : G + most + 4 * far ≤ n) where
+  lease : HasLease (stored election (history doc (settled + far)))
+  lease = has_lease lasting (stored election (history doc (settled + far))) lasts
 
   some_wait : 1 ≤ wait
   some_wait = by_wait wait wait_is
@@ -87,27 +85,27 @@ module _ (doc : Doc) (near far a e n : ℕ) (sound : IsSound doc) (calm : IsCalm
   into m le h at = tail_trans h (history doc (suc m)) (history doc (suc n)) at (later_tail doc (suc m) (suc n) (omega (arith, le)))
 
   stays : (start : List Entry) → IsTail (with_events doc a) start → alive q.process start ≡ Some q.incarnation → (h : List Entry) → IsTail start h → IsTail h (history doc (suc n)) → alive q.process h ≡ Some q.incarnation
-  stays start after up h low high = persists doc near far a e n q role my_time.deadline steady within (none q role steady) (omega (arith, after_lost, room)) start h after low high up
+  stays start after up h low high = persists doc near far a e n q role my_time.deadline steady within idle (omega (arith, after_lost, room)) start h after low high up
 
   -- a look that comes in time is followed by acting
-  close : (start : List Entry) (after : IsTail (with_events doc a) start) (up : alive q.process start ≡ Some q.incarnation) (o : ℕ) → a + 2 * far ≤ o → o ≤ G + 2 * far
-      → LookIn doc near far a e n sound calm time one ways end within none q role steady led lasting lasts start after (stays start after up) o → ⊥
+  close : (start : List Entry) (after : IsTail (with_events doc a) start) (up : alive q.process start ≡ Some q.incarnation) (o : ℕ) → settled + 2 * far ≤ o → o ≤ G + 2 * far
+      → LookIn doc near far a settled e n calm one ways ordered within kept q role steady my_time idle led lasting lasts start after (stays start after up) o → ⊥
   close start after up o late soon look =
-      none_looks doc near far a e n sound calm time one ways end within none q role steady led lasting lasts start after (stays start after up)
+      none_looks doc near far a settled e n calm one ways ordered within kept q role steady my_time idle led lasting lasts start after (stays start after up)
       slow fast wait needed runs_least runs_most waits wait_is needed_is o late (look (omega (arith, soon, room))) enough most enough_is most_is (omega (arith, soon, room))
 
   -- a Get that it sends by beat G comes to one
   asked : (x : Entry) (T : List Entry) (call : Call) (arrives : Option ℕ) → IsTail (x ∷ T) (history doc (suc n)) → x.actor ≡ actor_of q → x.fact ≡ Sends call arrives → call.request ≡ Get election
-      → IsTail (with_events doc a) T → alive q.process T ≡ Some q.incarnation → a + 2 * far ≤ x.beat → x.beat ≤ G → ⊥
+      → IsTail (with_events doc a) T → alive q.process T ≡ Some q.incarnation → settled + 2 * far ≤ x.beat → x.beat ≤ G → ⊥
   asked x T call arrives at actor fact get after up late to =
-      by_look (looked doc near far a e n sound calm time one ways end within none q role steady led lasting lasts T after (stays T after up) x T call arrives at actor fact get (tail_all T) late (omega (arith, to, room)))
+      by_look (looked doc near far a settled e n calm one ways ordered within kept q role steady my_time idle led lasting lasts T after (stays T after up) x T call arrives at actor fact get (tail_all T) late (omega (arith, to, room)))
     where
-      by_look : (r : ℕ) × (x.beat + 2 * near ≤ r) × (r ≤ x.beat + 2 * far) × LookIn doc near far a e n sound calm time one ways end within none q role steady led lasting lasts T after (stays T after up) r → ⊥
+      by_look : (r : ℕ) × (x.beat + 2 * near ≤ r) × (r ≤ x.beat + 2 * far) × LookIn doc near far a settled e n calm one ways ordered within kept q role steady my_time idle led lasting lasts T after (stays T after up) r → ⊥
       by_look r = close T after up r.0 (omega (arith, r.1, late)) (omega (arith, r.2, to)) r.3
 
   -- whatever it sends by then, two ways after the calm began, comes to one or to acting
   sent : (x : Entry) (T : List Entry) (call : Call) (arrives : Option ℕ) → IsTail (x ∷ T) (history doc (suc n)) → x.actor ≡ actor_of q → x.fact ≡ Sends call arrives → open_as call.kind call ≡ Some call
-      → alive q.process T ≡ Some q.incarnation → a + 2 * far ≤ x.beat → x.beat ≤ G → ⊥
+      → alive q.process T ≡ Some q.incarnation → settled + 2 * far ≤ x.beat → x.beat ≤ G → ⊥
   sent x T call arrives at actor fact opens up late to = by_reason reason.0
     where
       high : IsTail T (history doc (suc n))
@@ -117,7 +115,7 @@ module _ (doc : Doc) (near far a e n : ℕ) (sound : IsSound doc) (calm : IsCalm
       reason = reason_of doc (suc n) q role x T call arrives at actor fact (led T high) opens
 
       after : IsTail (with_events doc a) T
-      after = since_low doc a n x T at (omega (arith, late)) reason.1
+      after = since_low doc a n x T at (omega (arith, late, ordered)) reason.1
 
       by_reason : Reason doc x.beat q call.request T → ⊥
       by_reason (InTurn get) = asked x T call arrives at actor fact get after up late to
@@ -127,7 +125,7 @@ module _ (doc : Doc) (near far a e n : ℕ) (sound : IsSound doc) (calm : IsCalm
           is_key = reason_key doc x.beat q call.request T (AfterReply f)
 
           writes : IsWrite call.request → ⊥
-          writes write = no_late_write doc near far a e n sound calm time one ways end within none q role steady led lease x T call arrives at actor fact reason.1 f write late (omega (arith, to, room))
+          writes write = no_late_write doc near far a settled e n calm one ways ordered within kept q role steady led lease x T call arrives at actor fact reason.1 f write late (omega (arith, to, room))
 
           by_request : (request : Request) → call.request ≡ request → ⊥
           by_request (Get k) is = asked x T call arrives at actor fact (is ∙ ap Get (sym (ap key_of is) ∙ is_key)) after up late to
@@ -353,7 +351,7 @@ module _ (doc : Doc) (near far a e n : ℕ) (sound : IsSound doc) (calm : IsCalm
         → follow_on doc q x.beat w.kind w.request reply (x ∷ T) ≡ Fails → ⊥
     reply_failed w reply made mine fact late failed = by_request w.request refl
       where
-        y_late : a + 4 * far ≤ x.beat
+        y_late : settled + 4 * far ≤ x.beat
         y_late = omega (arith, late, after_ways)
 
         whose : made.b.who ≡ q
@@ -369,13 +367,13 @@ module _ (doc : Doc) (near far a e n : ℕ) (sound : IsSound doc) (calm : IsCalm
         o = origin doc (suc n) q x T w reply at_n mine fact
 
         is_key : key_of w.request ≡ election
-        is_key = key doc near far a e n sound calm time one ways end within none q role steady led lease w reply T x.beat o high
+        is_key = key doc near far a settled e n calm one ways ordered within kept q role steady led lease w reply T x.beat o high
 
         some_beat : 1 ≤ x.beat
         some_beat = omega (arith, y_late, one, ways)
 
         after : IsTail (with_events doc a) T
-        after = tail_trans (with_events doc a) (history doc (suc a)) T (events_position doc a) (beats_low (suc a) (omega arith) (omega (arith, y_late, one, ways)))
+        after = tail_trans (with_events doc a) (history doc (suc a)) T (events_position doc a) (beats_low (suc a) (omega arith) (omega (arith, y_late, ordered, one, ways)))
 
         whole : x ≡ entry x.beat 3 q (Delivers w reply true)
         whole = entry_is x 3 q (Delivers w reply true) made.step_is mine fact
@@ -383,7 +381,7 @@ module _ (doc : Doc) (near far a e n : ℕ) (sound : IsSound doc) (calm : IsCalm
         look : w.request ≡ Get election → ⊥
         look get =
             close T after up_t x.beat (omega (arith, y_late)) (omega (arith, upto))
-            (λ le. failed_look doc near far a e n sound calm time one ways end within none q role steady led lasting lasts T after (stays T after up_t) w reply T x.beat get (tail_all T)
+            (λ le. failed_look doc near far a settled e n calm one ways ordered within kept q role steady my_time idle led lasting lasts T after (stays T after up_t) w reply T x.beat get (tail_all T)
             (subst (λ z. IsTail (z ∷ T) (history doc (suc x.beat))) whole (in_own_beat doc (suc n) x T at_n)) (omega (arith, y_late)) le
             (ap (λ z. follow_on doc q x.beat w.kind w.request reply (z ∷ T)) (sym whole) ∙ failed))
 
@@ -393,8 +391,12 @@ module _ (doc : Doc) (near far a e n : ℕ) (sound : IsSound doc) (calm : IsCalm
           where
             from : a ≤ o.begun.f.beat
             from =
-                sent_since doc near far a e n sound calm time one ways end within none q role steady led lease w reply T x.beat o high
-                (answered_late doc near far a e n sound calm time one ways end within none q role steady led lease w reply T x.beat o high (omega (arith, y_late)) (omega (arith, upto, room)))
+                omega (
+                  arith,
+                  ordered,
+                  sent_since doc near far a settled e n calm one ways ordered within kept q role steady led lease w reply T x.beat o high
+                      (answered_late doc near far a settled e n calm one ways ordered within kept q role steady led lease w reply T x.beat o high (omega (arith, y_late)) (omega (arith, upto, room))),
+                )
 
             f_high : IsTail (o.begun.f ∷ o.begun.before) (history doc (suc G))
             f_high = tail_trans (o.begun.f ∷ o.begun.before) (x ∷ T) (history doc (suc G)) (inr o.begun.position) at

@@ -3,9 +3,12 @@ pub mod Begun
 pub mod Origins
 pub mod Turning
 pub mod Asked
+pub mod Kept
 pub mod Replies
 pub mod Life
 pub mod Looks
+pub mod Changes
 pub mod First
 pub mod Deciding
+pub mod Restarts
 pub mod Bounded

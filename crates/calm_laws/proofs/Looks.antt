@@ -12,7 +12,7 @@ use Rattle.kube_objects.specs.declared.object.Object.{Object}
 use Rattle.kube_objects.specs.declared.object.Object.TheVariants as object
 use Rattle.kube_objects.specs.Answers.{lease_in, versioned, as_kind, answer_get, answer}
 use Rattle.kube_objects.specs.Clocks.{local}
-use Rattle.kube_objects.specs.Document.{Doc, end_beat, is_controller, of_seconds, retry_period}
+use Rattle.kube_objects.specs.Document.{Doc, is_controller, of_seconds, retry_period}
 use Rattle.kube_objects.specs.Elector.{Moment, moment, Follow, Fails, Asks, Succeeds, is_blocked, is_valid, updated, created, follow_get, follow, follow_on, leads, Shown, told, shows, shown, is_known, newly, found_shows, observed, observed_at}
 use Rattle.kube_objects.specs.Entry.{Entry, Identity, Call, Plain, Sends, Delivers, actor_of, entry}
 use Rattle.kube_objects.specs.Identities.{is_other}
@@ -23,7 +23,7 @@ use Rattle.kube_objects.specs.Turns.{react}
 use Rattle.kube_objects.specs.Wire.{next_call, request_arrival}
 use Rattle.kube_objects.proofs.Clocks.{local_up}
 use Rattle.history.specs.History.{history}
-use Rattle.history.specs.Sound.{IsSound}
+use Rattle.history.specs.Safe.{Acts}
 use Rattle.history_laws.specs.Tails.{In, IsTail}
 use Rattle.history_laws.proofs.Order.{entries_are_earlier}
 use Rattle.history_laws.proofs.Plainly.{upper, true_is, and_left, and_right, same_self}
@@ -36,13 +36,13 @@ use Rattle.call_laws.specs.Answering.{with_events, with_answers}
 use Rattle.call_laws.proofs.Answering.{before_events}
 use Rattle.call_laws.proofs.Above.{next_above, in_head}
 use Rattle.call_laws.proofs.Placing.{from_beat, in_own_beat, not_before}
-use Rattle.takeover_laws.specs.Acting.{AreInTime, NobodyActs}
 use Rattle.takeover_laws.specs.Asking.{HasAsked}
 use Rattle.takeover_laws.specs.Calm.{IsSteady, IsCalm, IsInTime}
 use Rattle.takeover_laws.proofs.Asking.{candidates_ask}
 use Rattle.takeover_laws.proofs.Writers.{IsReacted, replies_react}
 use Rattle.calm_laws.specs.Bounds.{LastsFor}
 use Rattle.calm_laws.proofs.Asked.{IsWrite, asks_same, fails_not}
+use Rattle.calm_laws.proofs.Kept.{IsKept}
 use Rattle.calm_laws.proofs.Origins.{Origin, origin}
 use Rattle.calm_laws.proofs.Replies.{HasLease, answered_late, shows_stored, no_late_write, seen_stays}
 
@@ -69,7 +69,7 @@ get_writes q m seen Exists r is = absurd (fails_not r is)
 get_writes q m seen (Conflict version) r is = absurd (fails_not r is)
 get_writes q m seen Unchanged r is = absurd (fails_not r is)
 
-get_no_success : (q : Identity) (m : Moment) (seen : ℕ) (reply : Reply) (v : Version) → follow_get q m seen reply ≡ Succeeds v → ⊥
+pub get_no_success : (q : Identity) (m : Moment) (seen : ℕ) (reply : Reply) (v : Version) → follow_get q m seen reply ≡ Succeeds v → ⊥
 get_no_success q m seen Absent v is = asks_succeeds (Create election (created q m)) v is
 get_no_success q m seen (Found version lease) v is = by_test (is_blocked q m.now seen lease) is
   where
@@ -136,18 +136,16 @@ seen_upto q o (x ∷ h) all = by_shows (shows q x.actor x.fact) (seen_upto q o h
 
 -- ---- looks
 
-module _ (doc : Doc) (near far a e n : ℕ) (sound : IsSound doc) (calm : IsCalm doc near far a e) (time : AreInTime doc near far a e) (one : 1 ≤ near) (ways : near ≤ far) (end : e ≤ end_beat doc) (within : n ≤ e)
-    (none : NobodyActs doc near far a e n) (q : Identity) (role : is_controller doc q.process ≡ true) (steady : IsSteady doc near far a e q.process)
-    (led : (h : List Entry) → IsTail h (history doc (suc n)) → leads q h ≡ false) (lasting : ℕ) (lasts : LastsFor lasting (object_of (stored election (history doc (a + far)))))
+module _ (doc : Doc) (near far a settled e n : ℕ) (calm : IsCalm doc near far a e) (one : 1 ≤ near) (ways : near ≤ far) (ordered : a ≤ settled) (within : n ≤ e)
+    (kept : IsKept doc far settled n) (q : Identity) (role : is_controller doc q.process ≡ true) (steady : IsSteady doc near far a e q.process) (my_time : IsInTime doc far a e q.process)
+    (idle : (k : ℕ) → a ≤ k → k ≤ n → Acts doc q k → ⊥)
+    (led : (h : List Entry) → IsTail h (history doc (suc n)) → leads q h ≡ false) (lasting : ℕ) (lasts : LastsFor lasting (object_of (stored election (history doc (settled + far)))))
     (start : List Entry) (after : IsTail (with_events doc a) start) (up : (h : List Entry) → IsTail start h → IsTail h (history doc (suc n)) → alive q.process h ≡ Some q.incarnation) where
-  abbrev lease : HasLease (stored election (history doc (a + far)))
-  lease = has_lease lasting (stored election (history doc (a + far))) lasts
+  abbrev lease : HasLease (stored election (history doc (settled + far)))
+  lease = has_lease lasting (stored election (history doc (settled + far))) lasts
 
   abbrev pub there_is : Reply
-  there_is = answer_get (as_kind lease_in (stored election (history doc (a + far))))
-
-  my_time : IsInTime doc far a e q.process
-  my_time = time q.process role steady
+  there_is = answer_get (as_kind lease_in (stored election (history doc (settled + far))))
 
   -- a Get of it was answered with what is stored, and its attempt failed
   pub record Look (r : ℕ) : Type 0 where
@@ -165,7 +163,7 @@ module _ (doc : Doc) (near far a e n : ℕ) (sound : IsSound doc) (calm : IsCalm
   LookIn r = r + 2 * far ≤ n → Look r
 
   pub failed_look : (w : Call) (reply : Reply) (before : List Entry) (r : ℕ) → w.request ≡ Get election → IsTail start before → IsTail (entry r 3 q (Delivers w reply true) ∷ before) (history doc (suc r))
-      → a + 2 * far ≤ r → r + 2 * far ≤ n → follow_on doc q r w.kind w.request reply (entry r 3 q (Delivers w reply true) ∷ before) ≡ Fails → Look r
+      → settled + 2 * far ≤ r → r + 2 * far ≤ n → follow_on doc q r w.kind w.request reply (entry r 3 q (Delivers w reply true) ∷ before) ≡ Fails → Look r
   failed_look w reply before r get low at late to failed = record { w = w; get = get; reply = reply; shows_it = shows_it; before = before; low = low; position = at; failed = failed }
     where
       there : IsTail (entry r 3 q (Delivers w reply true) ∷ before) (history doc (suc n))
@@ -184,22 +182,22 @@ module _ (doc : Doc) (near far a e n : ℕ) (sound : IsSound doc) (calm : IsCalm
 
       shows_it : reply ≡ there_is
       shows_it =
-          shows_stored doc near far a e n sound calm time one ways end within none q role steady led lease w reply before r o high get
-          (answered_late doc near far a e n sound calm time one ways end within none q role steady led lease w reply before r o high late (omega (arith, to)))
+          shows_stored doc near far a settled e n calm one ways ordered within kept q role steady led lease w reply before r o high get
+          (answered_late doc near far a settled e n calm one ways ordered within kept q role steady led lease w reply before r o high late (omega (arith, to)))
           (omega (arith, upto, to))
 
   -- a Get that it sends comes to one
   pub looked : (x : Entry) (T : List Entry) (call : Call) (arrives : Option ℕ) → IsTail (x ∷ T) (history doc (suc n)) → x.actor ≡ actor_of q → x.fact ≡ Sends call arrives → call.request ≡ Get election → IsTail start T
-      → a + 2 * far ≤ x.beat → x.beat + 2 * far ≤ n → (r : ℕ) × (x.beat + 2 * near ≤ r) × (r ≤ x.beat + 2 * far) × LookIn r
+      → settled + 2 * far ≤ x.beat → x.beat + 2 * far ≤ n → (r : ℕ) × (x.beat + 2 * near ≤ r) × (r ≤ x.beat + 2 * far) × LookIn r
   looked x T call arrives at actor fact get low late to = (r, omega (arith, s.round.least, s.round.comes_least), omega (arith, s.round.most, s.round.comes_most), look)
     where
       s : IsReacted doc near far q call arrives x.beat
-      s = replies_react doc near far a e n q role steady my_time one within x T call arrives at actor fact (omega (arith, late)) to (λ h below above. up h (tail_trans start T h low below) above)
+      s = replies_react doc near far a e n q role steady my_time one within x T call arrives at actor fact (omega (arith, late, ordered)) to (λ h below above. up h (tail_trans start T h low below) above)
 
       r : ℕ
       r = s.round.comes
 
-      later : a + 2 * far ≤ r
+      later : settled + 2 * far ≤ r
       later = omega (arith, late, s.round.least, s.round.comes_least)
 
       reply : Reply
@@ -226,7 +224,7 @@ module _ (doc : Doc) (near far a e n : ℕ) (sound : IsSound doc) (calm : IsCalm
           by_follow Fails is position = failed_look call reply s.before r get below position later time_left is
           by_follow (Succeeds version) is position = absurd (get_no_success q (moment doc q r) (observed_at doc q here) reply version (get_follow (Succeeds version) is))
           by_follow (Asks request) is position =
-              absurd (no_late_write doc near far a e n sound calm time one ways end within none q role steady led lease
+              absurd (no_late_write doc near far a settled e n calm one ways ordered within kept q role steady led lease
               (entry r 3 q (Sends (next_call q r Plain request here) (request_arrival q.process r here))) here (next_call q r Plain request here) (request_arrival q.process r here)
               (tail_trans _ (history doc (suc r)) (history doc (suc n)) position (later_tail doc (suc r) (suc n) (omega (arith, time_left)))) refl refl (omega arith)
               (record { waiting = call; reply = reply; before = s.before; is = refl; follows = is })
@@ -269,11 +267,11 @@ module _ (doc : Doc) (near far a e n : ℕ) (sound : IsSound doc) (calm : IsCalm
     too_late : (r next : ℕ) → r + (needed + 2 * near) ≤ next → next ≤ r + (wait + 2 * far) → n < next + 2 * far → Next r
     too_late r next least most lt = record { next = next; least = least; most = most; look = λ le. absurd (omega (arith, lt, le)) }
 
-    pub next_after : (r : ℕ) → a + 2 * far ≤ r → r + 2 * far ≤ n → Look r → Next r
+    pub next_after : (r : ℕ) → settled + 2 * far ≤ r → r + 2 * far ≤ n → Look r → Next r
     next_after r late to s = ⊎_elim (λ lt. too_late r (r + (wait + 2 * far)) (omega (arith, few, ways)) (omega arith) (omega (arith, lt))) asked (cases_lt n (r + wait))
       where
         few : needed ≤ wait
-        few = needed_least r (omega (arith, late)) (omega (arith, to, within, one, ways))
+        few = needed_least r (omega (arith, late, ordered)) (omega (arith, to, within, one, ways))
 
         here : List Entry
         here = entry r 3 q (Delivers s.w s.reply true) ∷ s.before
@@ -289,9 +287,9 @@ module _ (doc : Doc) (near far a e n : ℕ) (sound : IsSound doc) (calm : IsCalm
 
             h : HasAsked doc q (local doc q.process r + retry_period doc q.process) here (history doc (suc k))
             h =
-                candidates_ask doc near far a e n r k q role my_time.deadline steady within (none q role steady) (omega (arith, late)) s.w s.reply s.before (tail_trans (with_events doc a) start s.before after s.low) at
+                candidates_ask doc near far a e n r k q role my_time.deadline steady within idle (omega (arith, late, ordered)) s.w s.reply s.before (tail_trans (with_events doc a) start s.before after s.low) at
                 (up s.before s.low (tail_trans s.before here (history doc (suc n)) (inr (tail_all s.before)) at)) s.failed (omega (arith, some_wait)) le
-                (readings_grow doc q.process (a - 1) e slow (retry_period doc q.process) wait runs_least wait_is r k (omega (arith, late)) (omega arith) (omega (arith, le, within)))
+                (readings_grow doc q.process (a - 1) e slow (retry_period doc q.process) wait runs_least wait_is r k (omega (arith, late, ordered)) (omega arith) (omega (arith, le, within)))
 
             upto : h.x.beat ≤ k
             upto = ⊎_elim (λ lt. omega (arith, lt)) (λ first. omega (arith, first.0)) (entries_are_earlier doc (suc k) h.x (in_head h.x h.before (history doc (suc k)) h.position))
@@ -303,7 +301,7 @@ module _ (doc : Doc) (near far a e n : ℕ) (sound : IsSound doc) (calm : IsCalm
             from = (next_above (λ y. r ≤ y.beat) (history doc r) h.before (history doc (suc k)) h.x (from_beat doc r (suc k) (omega arith)) below h.position).0
 
             since : r + needed ≤ h.x.beat
-            since = readings_last doc q.process (a - 1) e fast (retry_period doc q.process) needed runs_most needed_is r h.x.beat (omega (arith, late)) from (omega (arith, upto, le, within)) h.reached
+            since = readings_last doc q.process (a - 1) e fast (retry_period doc q.process) needed runs_most needed_is r h.x.beat (omega (arith, late, ordered)) from (omega (arith, upto, le, within)) h.reached
 
             by_time : (n < h.x.beat + 2 * far) ⊎ (h.x.beat + 2 * far ≤ n) → Next r
             by_time (inl lt) = too_late r (h.x.beat + 2 * far) (omega (arith, since, ways)) (omega (arith, upto)) (omega (arith, lt))
@@ -316,13 +314,13 @@ module _ (doc : Doc) (near far a e n : ℕ) (sound : IsSound doc) (calm : IsCalm
 
     -- ---- the looks that begin with one at beat o
 
-    module _ (o : ℕ) (late : a + 2 * far ≤ o) (first : Look o) (enough most : ℕ) (enough_is : IsEnough slow lasting enough) (most_is : IsGreatest (needed + 2 * near) (wait + 2 * far) enough most) (room : o + most + 2 * far ≤ n) where
+    module _ (o : ℕ) (late : settled + 2 * far ≤ o) (first : Look o) (enough most : ℕ) (enough_is : IsEnough slow lasting enough) (most_is : IsGreatest (needed + 2 * near) (wait + 2 * far) enough most) (room : o + most + 2 * far ≤ n) where
       abbrev low : List Entry
       low = entry o 3 q (Delivers first.w first.reply true) ∷ first.before
 
       blocked : (r : ℕ) (s : Look r) → Blocked q (moment doc q r) (observed_at doc q (entry r 3 q (Delivers s.w s.reply true) ∷ s.before)) there_is lasting
       blocked r s =
-          blocked_by q (moment doc q r) seen lasting (stored election (history doc (a + far))) lasts
+          blocked_by q (moment doc q r) seen lasting (stored election (history doc (settled + far))) lasts
           (ap (λ reply. follow q (moment doc q r) seen s.w.kind (Get election) reply) (sym s.shows_it) ∙ ap (λ request. follow q (moment doc q r) seen s.w.kind request s.reply) (sym s.get) ∙ s.failed)
         where
           seen : ℕ
@@ -348,7 +346,7 @@ module _ (doc : Doc) (near far a e n : ℕ) (sound : IsSound doc) (calm : IsCalm
         where
           later : o < r → or_zero (observed q (entry r 3 q (Delivers s.w s.reply true) ∷ s.before)) ≤ o
           later lt =
-              (seen_stays doc near far a e n sound calm time one ways end within none q role steady led lease b.version b.lease b.found o r late (omega (arith, to)) (omega (arith, from)) low
+              (seen_stays doc near far a settled e n calm one ways ordered within kept q role steady led lease b.version b.lease b.found o r late (omega (arith, to)) (omega (arith, from)) low
               (entry r 3 q (Delivers s.w s.reply true) ∷ s.before)
               (inr (not_before doc o (suc o) (entry o 3 q (Delivers first.w first.reply true)) first.before (omega arith) first.position (omega arith) (omega arith)))
               seen_first
@@ -376,5 +374,5 @@ module _ (doc : Doc) (near far a e n : ℕ) (sound : IsSound doc) (calm : IsCalm
 
       pub none_looks : ⊥
       none_looks =
-          look_comes doc q.process (a - 1) e slow lasting enough (needed + 2 * near) (wait + 2 * far) o runs_least enough_is (omega (arith, late)) (omega (arith, one))
+          look_comes doc q.process (a - 1) e slow lasting enough (needed + 2 * near) (wait + 2 * far) o runs_least enough_is (omega (arith, late, ordered)) (omega (arith, one))
           (λ r from bound. omega (arith, most_is (r - o) bound, room, from, within)) LookIn ⊥ step (λ le. first)

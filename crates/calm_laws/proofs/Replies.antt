@@ -9,16 +9,15 @@ use Rattle.kube_objects.specs.declared.call.Request.TheVariants.{Get, Create, Up
 use Rattle.kube_objects.specs.declared.lease.Lease.{Lease}
 use Rattle.kube_objects.specs.declared.object.Object.TheVariants as object
 use Rattle.kube_objects.specs.Answers.{lease_in, versioned, as_kind, answer_get, answer, if_done, written}
-use Rattle.kube_objects.specs.Document.{Doc, end_beat, is_controller}
+use Rattle.kube_objects.specs.Document.{Doc, is_controller}
 use Rattle.kube_objects.specs.Elector.{Moment, moment, Fails, Asks, follow_get, follow, is_blocked, updated, created, leads, Shown, told, done_shows, found_shows, shows, shown, newly, observed, observed_at}
 use Rattle.kube_objects.specs.Entry.{Entry, Identity, Call, Fact, First, Event, Starts, Stops, Sends, Answers, Delivers, Expires, Leads, Ends, Crashes, Stalls, Ticks, actor_of, entry}
 use Rattle.kube_objects.specs.Identities.{is_by}
 use Rattle.kube_objects.specs.Keys.{key_eq}
 use Rattle.kube_objects.specs.Newest.{when, has, or_zero}
 use Rattle.kube_objects.specs.Stored.{Held, election, key_of, request_write, at_key, stored}
-use Rattle.kube_objects.specs.Wire.{back_of, reply_delay, request_arrival}
+use Rattle.kube_objects.specs.Wire.{sent_of, back_of, request_delay, reply_delay, request_arrival}
 use Rattle.history.specs.History.{history}
-use Rattle.history.specs.Sound.{IsSound}
 use Rattle.history_laws.specs.Tails.{In, IsTail}
 use Rattle.history_laws.proofs.Counting.{only_test, only_value}
 use Rattle.history_laws.proofs.Order.{entries_are_earlier}
@@ -28,14 +27,12 @@ use Rattle.call_laws.specs.Answering.{with_events}
 use Rattle.call_laws.proofs.Above.{next_above, in_head}
 use Rattle.call_laws.proofs.Making.{Replied}
 use Rattle.call_laws.proofs.Placing.{from_beat, in_own_beat, not_before, forces_stand, messages_travel}
-use Rattle.takeover_laws.specs.Acting.{AreInTime, NobodyActs}
 use Rattle.takeover_laws.specs.Calm.{Passes, IsSteady, IsCalm, WritesElection}
 use Rattle.takeover_laws.specs.Taking.{FitsStored}
-use Rattle.takeover_laws.proofs.Records.{no_write, record_stays}
-use Rattle.takeover_laws.proofs.Rounds.{reply_passes, sent_is}
-use Rattle.takeover_laws.proofs.Taking.{takeovers_end_in_acting}
-use Rattle.calm_laws.proofs.Asked.{IsWrite, IsNext, next_is, asks_same, fails_not, reason_key, reason_of}
+use Rattle.takeover_laws.proofs.Rounds.{request_passes, reply_passes, sent_is}
+use Rattle.calm_laws.proofs.Asked.{IsWrite, IsNext, Reason, next_is, asks_same, fails_not, reason_key, reason_of}
 use Rattle.calm_laws.proofs.Begun.{by_is}
+use Rattle.calm_laws.proofs.Kept.{IsKept, no_takeover}
 use Rattle.calm_laws.proofs.Origins.{Origin, origin}
 
 -- ---- what is stored as a Lease
@@ -54,7 +51,7 @@ fits_of q m seen (Some x) r lease is = by_test (is_blocked q m.now seen lease.0)
     by_test false is = subst (FitsStored (Some x)) (asks_same (Update election x.version (updated q m lease.0)) r is) (refl, refl)
 
 -- a write that was answered with a version wrote
-wrote_by : (r : Request) (h : List Entry) (version : Version) → IsWrite r → key_of r ≡ election → answer r h ≡ Done version → has (at_key election (request_write r (written r h))) ≡ true
+pub wrote_by : (r : Request) (h : List Entry) (version : Version) → IsWrite r → key_of r ≡ election → answer r h ≡ Done version → has (at_key election (request_write r (written r h))) ≡ true
 wrote_by (Create key lease) h version w is done =
     ap (λ reply. has (at_key election (request_write (Create key lease) (if_done reply (object.Lease lease))))) done ∙ ap (λ k. has (when (key_eq k election) (Some (object.Lease lease)))) is
 wrote_by (Update key given lease) h version w is done =
@@ -62,11 +59,11 @@ wrote_by (Update key given lease) h version w is done =
 wrote_by (Get key) h version w is done = absurd w
 wrote_by (PostStatus name status at) h version w is done = absurd w
 
-module _ (doc : Doc) (near far a e n : ℕ) (sound : IsSound doc) (calm : IsCalm doc near far a e) (time : AreInTime doc near far a e) (one : 1 ≤ near) (ways : near ≤ far) (end : e ≤ end_beat doc) (within : n ≤ e)
-    (none : NobodyActs doc near far a e n) (q : Identity) (role : is_controller doc q.process ≡ true) (steady : IsSteady doc near far a e q.process)
-    (led : (h : List Entry) → IsTail h (history doc (suc n)) → leads q h ≡ false) (lease : HasLease (stored election (history doc (a + far)))) where
+module _ (doc : Doc) (near far a settled e n : ℕ) (calm : IsCalm doc near far a e) (one : 1 ≤ near) (ways : near ≤ far) (ordered : a ≤ settled) (within : n ≤ e)
+    (kept : IsKept doc far settled n) (q : Identity) (role : is_controller doc q.process ≡ true) (steady : IsSteady doc near far a e q.process)
+    (led : (h : List Entry) → IsTail h (history doc (suc n)) → leads q h ≡ false) (lease : HasLease (stored election (history doc (settled + far)))) where
   abbrev pub stored_reply : Reply
-  stored_reply = answer_get (as_kind lease_in (stored election (history doc (a + far))))
+  stored_reply = answer_get (as_kind lease_in (stored election (history doc (settled + far))))
 
   -- ---- where a reply to it is from
 
@@ -93,8 +90,8 @@ module _ (doc : Doc) (near far a e n : ℕ) (sound : IsSound doc) (calm : IsCalm
     earlier z Z at lt = in_head z Z (history doc a) (tail_trans (z ∷ Z) (history doc (suc z.beat)) (history doc a) (in_own_beat doc (suc n) z Z at) (later_tail doc (suc z.beat) a (omega (arith, lt))))
 
     -- a reply that comes two ways after the calm began was given one way after it, or later
-    pub answered_late : a + 2 * far ≤ y → y ≤ n → a + far ≤ o.e.beat
-    answered_late late to = ⊎_elim (λ lt. absurd (early lt)) (λ from. ⊎_elim (λ lt. absurd (soon from lt)) (λ le. le) (cases_lt o.e.beat (a + far))) (cases_lt o.e.beat a)
+    pub answered_late : settled + 2 * far ≤ y → y ≤ n → settled + far ≤ o.e.beat
+    answered_late late to = ⊎_elim (λ lt. absurd (early lt)) (λ from. ⊎_elim (λ lt. absurd (soon from lt)) (λ le. le) (cases_lt o.e.beat (settled + far))) (cases_lt o.e.beat a)
       where
         back_is : back_of o.e.actor o.e.fact ≡ Some (record { who = q; call = w; reply = reply; comes = Some y })
         back_is = ap (λ d. back_of o.e.actor d) o.fact ∙ ap (λ who. back_of who (Answers w reply (Some y) (written w.request o.low))) o.actor
@@ -102,9 +99,9 @@ module _ (doc : Doc) (near far a e n : ℕ) (sound : IsSound doc) (calm : IsCalm
         early : o.e.beat < a → ⊥
         early lt =
             let come : y < a + far = subst (λ o. IfSome o (λ b. key_eq (key_of b.call.request) election ≡ true → IfSome b.comes (λ m. m < a + far))) back_is (calm.replies o.e (earlier o.e o.low position lt)) key_is in
-            omega (arith, come, late)
+            omega (arith, come, late, ordered)
 
-        soon : a ≤ o.e.beat → o.e.beat < a + far → ⊥
+        soon : a ≤ o.e.beat → o.e.beat < settled + far → ⊥
         soon from lt = omega (arith, comes, passes.reply_most, late, lt)
           where
             passes : Passes doc near far q.process o.e.beat
@@ -117,34 +114,53 @@ module _ (doc : Doc) (near far a e n : ℕ) (sound : IsSound doc) (calm : IsCalm
                 (steady.passes (o.e.beat + reply_delay q.process (with_events doc o.e.beat)) (omega (arith, from)) (omega (arith, passes.reply_most, lt, late, to, within))).awake)
                 ∙ o.comes_is)
 
+    answered_by : o.e.beat ≤ n
+    answered_by = ⊎_elim (λ lt. omega (arith, lt)) (λ first. omega (arith, first.0)) (entries_are_earlier doc (suc n) o.e (in_head o.e o.low (history doc (suc n)) position))
+
+    asked_in : Reason doc o.begun.f.beat q w.request o.begun.before × (3 ≤ o.begun.f.step)
+    asked_in = reason_of doc (suc n) q role o.begun.f o.begun.before w o.begun.arrives sending o.begun.actor o.begun.fact (led o.begun.before before_sending) o.begun.opens
+
     -- so its request was sent in the calm
-    pub sent_since : a + far ≤ o.e.beat → a ≤ o.begun.f.beat
-    sent_since late = ⊎_elim (λ lt. absurd (early lt)) (λ le. le) (cases_lt o.begun.f.beat a)
+    pub sent_since : settled + far ≤ o.e.beat → settled ≤ o.begun.f.beat
+    sent_since late = ⊎_elim (λ lt. absurd (early lt)) (λ from. ⊎_elim (λ lt. absurd (soon from lt)) (λ le. le) (cases_lt o.begun.f.beat settled)) (cases_lt o.begun.f.beat a)
       where
+        travels : IfSome (sent_of o.begun.f.actor o.begun.f.fact) (λ s. (s.call.sent ≡ o.begun.f.beat) × (s.arrives ≡ request_arrival s.who.process o.begun.f.beat o.begun.before))
+        travels = (messages_travel doc (suc n) o.begun.f o.begun.before sending).0
+
+        soon : a ≤ o.begun.f.beat → o.begun.f.beat < settled → ⊥
+        soon from lt = omega (arith, arrives, passes.request_most, late, lt)
+          where
+            passes : Passes doc near far q.process o.begun.f.beat
+            passes = steady.passes o.begun.f.beat from (omega (arith, lt, late, answered_by, within))
+
+            arrives : o.e.beat ≡ o.begun.f.beat + request_delay q.process (with_events doc o.begun.f.beat)
+            arrives =
+                some_is o.e.beat (o.begun.f.beat + request_delay q.process (with_events doc o.begun.f.beat))
+                (sym o.arrives
+                ∙ (subst (λ p. IfSome p (λ s. (s.call.sent ≡ o.begun.f.beat) × (s.arrives ≡ request_arrival s.who.process o.begun.f.beat o.begun.before))) (sent_is o.begun.f q w o.begun.arrives o.begun.actor o.begun.fact) travels).1
+                ∙ request_passes doc near far q.process o.begun.f.beat o.begun.before passes (forces_stand doc (suc n) o.begun.f o.begun.before sending (omega (arith, asked_in.1))))
+
         early : o.begun.f.beat < a → ⊥
         early lt =
             let there = subst (λ o. IfSome o (λ s. key_eq (key_of s.call.request) election ≡ true → IfSome s.arrives (λ m. m < a + far)))
             (sent_is o.begun.f q w o.begun.arrives o.begun.actor o.begun.fact) (calm.requests o.begun.f (earlier o.begun.f o.begun.before sending lt)) key_is in
             let come : o.e.beat < a + far = subst (λ o. IfSome o (λ m. m < a + far)) o.arrives there in
-            omega (arith, come, late)
-
-    answered_by : o.e.beat ≤ n
-    answered_by = ⊎_elim (λ lt. omega (arith, lt)) (λ first. omega (arith, first.0)) (entries_are_earlier doc (suc n) o.e (in_head o.e o.low (history doc (suc n)) position))
+            omega (arith, come, late, ordered)
 
     -- a Get shows what is stored
-    pub shows_stored : w.request ≡ Get election → a + far ≤ o.e.beat → o.e.beat + far ≤ n → reply ≡ stored_reply
+    pub shows_stored : w.request ≡ Get election → settled + far ≤ o.e.beat → o.e.beat + far ≤ n → reply ≡ stored_reply
     shows_stored get late to =
         o.reply_is ∙ ap (λ r. answer r o.low) get
         ∙ ap (λ x. answer_get (as_kind lease_in x))
-        (record_stays doc near far a e n sound calm end within one ways time none o.e.beat late to o.low
-        (not_before doc (a + far) (suc n) o.e o.low (omega (arith, late, answered_by)) position late (omega (arith, o.step)))
+        (kept.stays o.e.beat late to o.low
+        (not_before doc (settled + far) (suc n) o.e o.low (omega (arith, late, answered_by)) position late (omega (arith, o.step)))
         (tail_trans o.low (o.e ∷ o.low) (history doc (suc o.e.beat)) (inr (tail_all o.low)) (in_own_beat doc (suc n) o.e o.low position)))
 
     -- no write of it is accepted
-    pub no_success : (version : Version) → IsWrite w.request → a + far ≤ o.e.beat → o.e.beat + far ≤ n → reply ≡ Done version → ⊥
+    pub no_success : (version : Version) → IsWrite w.request → settled + far ≤ o.e.beat → o.e.beat + far ≤ n → reply ≡ Done version → ⊥
     no_success version write late to done =
-        no_write doc near far a e n sound calm end within one ways time none o.e o.low q position o.actor role
-        (subst (WritesElection a) (sym o.fact) (omega (arith, sent, sent_since late), wrote_by w.request o.low version write key (sym o.reply_is ∙ done))) to
+        kept.no_write o.e o.low q position o.actor role
+        (subst (WritesElection settled) (sym o.fact) (omega (arith, sent, sent_since late), wrote_by w.request o.low version write key (sym o.reply_is ∙ done))) to
       where
         sent : w.sent ≡ o.begun.f.beat
         sent = (subst (λ p. IfSome p (λ s. (s.call.sent ≡ o.begun.f.beat) × (s.arrives ≡ request_arrival s.who.process o.begun.f.beat o.begun.before)))
@@ -153,9 +169,9 @@ module _ (doc : Doc) (near far a e n : ℕ) (sound : IsSound doc) (calm : IsCalm
   -- ---- a write after a Get ends in acting
 
   pub no_late_write : (x : Entry) (T : List Entry) (call : Call) (arrives : Option ℕ) → IsTail (x ∷ T) (history doc (suc n)) → x.actor ≡ actor_of q → x.fact ≡ Sends call arrives → 3 ≤ x.step
-      → (f : Replied doc x.beat q call.request T) → IsWrite call.request → a + 2 * far ≤ x.beat → x.beat + 2 * far ≤ n → ⊥
+      → (f : Replied doc x.beat q call.request T) → IsWrite call.request → settled + 2 * far ≤ x.beat → x.beat + 2 * far ≤ n → ⊥
   no_late_write x T call arrives at actor fact step f write late to =
-      takeovers_end_in_acting doc near far a e n sound calm time one ways end within none q role steady (suc n) x T call arrives at actor fact (omega (arith, step)) (omega (arith, late)) to (omega (arith, late)) fits
+      no_takeover doc near far a settled e n kept ordered one ways within q role steady (suc n) x T call arrives at actor fact (omega (arith, step)) (omega (arith, late)) to (omega (arith, late)) fits
     where
       y : ℕ
       y = x.beat
@@ -178,7 +194,7 @@ module _ (doc : Doc) (near far a e n : ℕ) (sound : IsSound doc) (calm : IsCalm
       get : f.waiting.request ≡ Get election
       get = (next.written write).1 ∙ ap Get (sym (ap key_of (next.written write).1) ∙ key f.waiting f.reply f.before x.beat o high)
 
-      given : a + far ≤ o.e.beat
+      given : settled + far ≤ o.e.beat
       given = answered_late f.waiting f.reply f.before x.beat o high late (omega (arith, to))
 
       upto : o.e.beat ≤ x.beat
@@ -190,15 +206,15 @@ module _ (doc : Doc) (near far a e n : ℕ) (sound : IsSound doc) (calm : IsCalm
       shows_it : f.reply ≡ stored_reply
       shows_it = shows_stored f.waiting f.reply f.before x.beat o high get given (omega (arith, upto, to))
 
-      fits : FitsStored (stored election (history doc (a + far))) call.request
+      fits : FitsStored (stored election (history doc (settled + far))) call.request
       fits =
-          fits_of q (moment doc q x.beat) (observed_at doc q T) (stored election (history doc (a + far))) call.request lease
+          fits_of q (moment doc q x.beat) (observed_at doc q T) (stored election (history doc (settled + far))) call.request lease
           (ap (λ reply. follow q (moment doc q x.beat) (observed_at doc q T) f.waiting.kind (Get election) reply) (sym shows_it)
           ∙ ap (λ r. follow q (moment doc q x.beat) (observed_at doc q T) f.waiting.kind r f.reply) (sym get) ∙ f.follows)
 
   -- ---- what it was shown stays
 
-  module _ (version : Version) (record_is : Lease) (found : stored_reply ≡ Found version record_is) (o r : ℕ) (late : a + 2 * far ≤ o) (to : r + far ≤ n) (ord : o ≤ suc r) where
+  module _ (version : Version) (record_is : Lease) (found : stored_reply ≡ Found version record_is) (o r : ℕ) (late : settled + 2 * far ≤ o) (to : r + far ≤ n) (ord : o ≤ suc r) where
     abbrev pub Seen : List Entry → Type 0
     Seen h = (shown q h ≡ Some (version, record_is)) × (or_zero (observed q h) ≤ o)
 
@@ -221,7 +237,7 @@ module _ (doc : Doc) (near far a e n : ℕ) (sound : IsSound doc) (calm : IsCalm
             from_it : Origin doc q w reply Z z.beat
             from_it = origin doc (suc n) q z Z w reply at_n actor fact
 
-            given : a + far ≤ from_it.e.beat
+            given : settled + far ≤ from_it.e.beat
             given = answered_late w reply Z z.beat from_it high (omega (arith, late, from)) (omega (arith, upto, to))
 
             soon : from_it.e.beat + far ≤ n

@@ -77,9 +77,12 @@ abbrev pub takeover_bound : Doc → (near far p later slow fast time : ℕ) → 
 takeover_bound doc near far p later slow fast time =
     takeover_beats near far later (call_timeout doc p / slow) (div_ceil (retry_period doc p) slow) (div_ceil (retry_period doc p) fast) (div_ceil time slow)
 
-abbrev pub TakeoversAreTold : Type 0
-TakeoversAreTold =
-    (doc : Doc) (near far a e : ℕ) → IsSound doc → IsCalm doc near far a e → AreInTime doc near far a e → 1 ≤ near → near ≤ far → e ≤ end_beat doc
+abbrev pub TakesOver : Doc → Type 0
+TakesOver doc =
+    (near far a e : ℕ) → IsSound doc → IsCalm doc near far a e → AreInTime doc near far a e → 1 ≤ near → near ≤ far → e ≤ end_beat doc
     → (p later slow fast : ℕ) → IsCandidate doc near far a e p later slow fast → 1 ≤ slow → 1 ≤ fast
     → (time : ℕ) → LastsFor time (early_record a (history doc (a + far)))
     → a + takeover_bound doc near far p later slow fast time ≤ e → SomebodyActs doc near far a e (a + takeover_bound doc near far p later slow fast time)
+
+abbrev pub TakeoversAreTold : Type 0
+TakeoversAreTold = (doc : Doc) → TakesOver doc

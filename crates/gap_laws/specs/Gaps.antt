@@ -41,13 +41,16 @@ pub record IsTakenFrom (q : Identity) (before : List Entry) (y : Held) (lease : 
 
 -- whoever comes to lead at beat k by a write over the record of somebody else, which was written at beat w and isn't given up, does so no sooner
 -- than the record's duration takes on its own clock since then, and the way of a reply, of a request and of a reply
-abbrev pub GapsLast : Type 0
-GapsLast =
-    (doc : Doc) → IsSound doc → (q : Identity) → is_controller doc q.process ≡ true
+abbrev pub GapLasts : Doc → Type 0
+GapLasts doc =
+    IsSound doc → (q : Identity) → is_controller doc q.process ≡ true
     → (e : Entry) (earlier before : List Entry) (version : Version) → IsTail (e ∷ earlier) (whole_history doc) → lead_says q e.actor e.fact ≡ Some version → IsWriteOf version earlier before
     → (y : Held) (lease : Lease) → IsTakenFrom q before y lease
     → (fast needed : ℕ) → RunsAtMost doc q.process y.beat e.beat fast → IsNeeded fast (of_seconds (or_zero lease.duration)) needed
     → (y.beat + needed + 3 ≤ e.beat) × ((least : ℕ) → IsDelayed doc q.process y.beat least → y.beat + needed + 3 * least ≤ e.beat)
+
+abbrev pub GapsLast : Type 0
+GapsLast = (doc : Doc) → GapLasts doc
 
 -- from a position of the history on no write of p is accepted that gives up its lead
 abbrev pub KeepsLead : Doc → Identity → List Entry → Type 0
@@ -58,10 +61,13 @@ KeepsLead doc p from =
 -- under the lease premise: where p acts at beat j and gives up no lead from then on, nobody else acts at a beat k before its lease duration has
 -- passed on every controller's clock, and three messages have, since its last success can have been sent: its call timeout, retry period and
 -- renew deadline on its own clock before j, and its longest pause
-abbrev pub OthersWait : Type 0
-OthersWait =
-    (doc : Doc) → lease_premise doc ≡ true → IsSound doc → (p q : Identity) (j k : ℕ) → k ≤ end_beat doc → j ≤ k → Acts doc p j → Acts doc q k → (p ≡ q → ⊥)
+abbrev pub OtherWaits : Doc → Type 0
+OtherWaits doc =
+    lease_premise doc ≡ true → IsSound doc → (p q : Identity) (j k : ℕ) → k ≤ end_beat doc → j ≤ k → Acts doc p j → Acts doc q k → (p ≡ q → ⊥)
     → KeepsLead doc p (at_turn doc p.process j)
     → (slow lasts : ℕ) → RunsAtLeast doc p.process 0 j slow → IsEnough slow (call_timeout doc p.process + retry_period doc p.process + renew_deadline doc p.process) lasts
     → (fast needed : ℕ) → ((c : ℕ) → is_controller doc c ≡ true → RunsAtMost doc c 0 k fast) → IsNeeded fast (lease_duration doc p.process) needed
     → j + needed + 5 ≤ k + lasts + longest doc p.process
+
+abbrev pub OthersWait : Type 0
+OthersWait = (doc : Doc) → OtherWaits doc

@@ -1,1 +1,13 @@
-
+pub mod Won
+pub mod Rivals
+pub mod Reacting
+pub mod Leading
+pub mod Idle
+pub mod Trying
+pub mod Closing
+pub mod Sendings
+pub mod Given
+pub mod Succeeded
+pub mod Written
+pub mod Renewing
+pub mod Staying

@@ -47,8 +47,11 @@ pub record Stays (doc : Doc) (q : Identity) (j e : ℕ) : Type 0 where
   pub alone : (x : Entry) (before : List Entry) → IsTail (x ∷ before) (history doc (suc e)) → j ≤ x.beat → has (at_key election (write_of x.fact)) ≡ true → x.actor ≡ actor_of q
 
 -- in a calm span, a steady leader whose renewals are in time stays from each success on that a call of the span had
-abbrev pub LeadersStay : Type 0
-LeadersStay =
-    (doc : Doc) (near far a e : ℕ) → IsSound doc → IsCalm doc near far a e → AreInTime doc near far a e → 1 ≤ near → near ≤ far → e ≤ end_beat doc
+abbrev pub LeaderStays : Doc → Type 0
+LeaderStays doc =
+    (near far a e : ℕ) → IsSound doc → IsCalm doc near far a e → AreInTime doc near far a e → 1 ≤ near → near ≤ far → e ≤ end_beat doc
     → (q : Identity) → is_controller doc q.process ≡ true → IsSteady doc near far a e q.process → RenewsInTime doc near far a e q
     → (j : ℕ) → HasSuccess doc q a j → Stays doc q j e
+
+abbrev pub LeadersStay : Type 0
+LeadersStay = (doc : Doc) → LeaderStays doc

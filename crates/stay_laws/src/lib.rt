@@ -3,8 +3,9 @@
 
 ghost use Rattle.stay_laws.specs.Stays.{LeadersStay};
 
-/// In a calm span, whoever had a success by a call of the span, and renews in time, acts at each beat from then on, and nobody else writes the
-/// election Lease.
+/// In a calm span, a leader that had a success by a call of the span, its lead or a renewal, acts at each beat from then on, and nobody else
+/// writes the election Lease. Four ways of a message take no longer than its renew deadline, and its retry period with five ways takes less
+/// than its lease duration on each steady controller's clock.
 pub fn leaders_stay()
     ensures { LeadersStay }
 {}

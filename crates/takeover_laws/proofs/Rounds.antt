@@ -28,7 +28,7 @@ use Rattle.takeover_laws.specs.Rounds.{IsRound, RoundsAreShort}
 abbrev pub Forces : Doc → ℕ → List Entry → Type 0
 Forces doc k h = ((f : What → Option ℕ) → in_force f h ≡ in_force f (with_events doc k)) × ((f : What → Option Bool) → in_force f h ≡ in_force f (with_events doc k))
 
-request_passes : (doc : Doc) (near far p k : ℕ) (h : List Entry) → Passes doc near far p k → Forces doc k h → request_arrival p k h ≡ Some (k + request_delay p (with_events doc k))
+pub request_passes : (doc : Doc) (near far p k : ℕ) (h : List Entry) → Passes doc near far p k → Forces doc k h → request_arrival p k h ≡ Some (k + request_delay p (with_events doc k))
 request_passes doc near far p k h passes force =
     ap (λ b. arrival b k (request_delay p h)) (ap (or_else false) (force.1 (request_loss_of p)) ∙ passes.requests)
     ∙ ap (λ n. Some (k + n)) (ap (or_else 1) (force.0 (request_delay_of p)))

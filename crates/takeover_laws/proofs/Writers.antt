@@ -117,7 +117,7 @@ won_fresh doc q k call reply version h lasts so = by_led (leads q h) refl
     }
 
 -- what the reply that counts brings about
-delivers : (doc : Doc) (q : Identity) (k : ℕ) (call : Call) (b : Back) (h : List Entry) → is_controller doc q.process ≡ true → b.who ≡ q → (call.number == b.call.number) ≡ true → is_late doc q k call ≡ false → Waits doc k q call h
+pub delivers : (doc : Doc) (q : Identity) (k : ℕ) (call : Call) (b : Back) (h : List Entry) → is_controller doc q.process ≡ true → b.who ≡ q → (call.number == b.call.number) ≡ true → is_late doc q k call ≡ false → Waits doc k q call h
     → delivered doc k b h ≡ react k q (leads q (with_reply k q call b.reply h)) (follow_on doc q k call.kind call.request b.reply (with_reply k q call b.reply h)) (with_reply k q call b.reply h)
 delivers doc q k call b h role mine number timely w =
     ap (λ p. deliver_as doc k p b.call b.reply (counted doc p k b.call.number h) h) mine
@@ -132,7 +132,7 @@ delivers doc q k call b h role mine number timely w =
         ∙ ap (λ t. when (t && not (is_late doc q k call)) call) number
         ∙ ap (λ t. when (not t) call) timely
 
-follow_adds : (k : ℕ) (q : Identity) (led : Bool) (f : Follow) (h : List Entry) → IsTail h (react k q led f h)
+pub follow_adds : (k : ℕ) (q : Identity) (led : Bool) (f : Follow) (h : List Entry) → IsTail h (react k q led f h)
 follow_adds k q led Fails h = tail_all h
 follow_adds k q led (Asks request) h = inr (tail_all h)
 follow_adds k q true (Succeeds version) h = tail_all h
@@ -210,7 +210,7 @@ module _ (doc : Doc) (near far a e n : ℕ) (q : Identity) (role : is_controller
     (within : n ≤ e) (one : 1 ≤ near) where
   -- ---- no call is late before its reply can come
 
-  timely : (call : Call) (j y : ℕ) → call.sent ≡ j → a ≤ j → j ≤ y → y ≤ j + 2 * far → y ≤ e → is_late doc q y call ≡ false
+  pub timely : (call : Call) (j y : ℕ) → call.sent ≡ j → a ≤ j → j ≤ y → y ≤ j + 2 * far → y ≤ e → is_late doc q y call ≡ false
   timely call j y sent from le most to = by_test (is_late doc q y call) refl
     where
       least : local doc q.process y ≤ local doc q.process call.sent + call_timeout doc q.process

@@ -1,0 +1,11 @@
+pub mod Written
+pub mod Words
+pub mod Said
+pub mod Heard
+pub mod Sending
+pub mod Requests
+pub mod Replied
+pub mod Closing
+pub mod Idle
+pub mod Chain
+pub mod Dead

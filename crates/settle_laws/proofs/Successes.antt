@@ -1,0 +1,216 @@
+-- Successes: who comes to lead does so by one, and one of a call that was sent before a calm comes early in it.
+use Rattle.std.proofs.Common.{◌≡◌, ◌<◌, ◌≤◌, ℕ, suc, ◌+◌, ◌*◌, true, List, [], ◌∷◌, length, Option, Some, IfSome, refl, sym, ap, ◌∙◌, subst, inl, inr, ⊎_elim, arith}
+use Rattle.std.proofs.lemmas.Bool.{cases_lt}
+use Rattle.kube_base.specs.declared.numbers.Version.{Version}
+use Rattle.kube_objects.specs.declared.call.Reply.{Reply}
+use Rattle.kube_objects.specs.declared.call.Reply.TheVariants.{Found, Done, Absent, Exists, Conflict, Unchanged}
+use Rattle.kube_objects.specs.declared.call.Request.{Request}
+use Rattle.kube_objects.specs.declared.call.Request.TheVariants.{Get, Create, Update, PostStatus}
+use Rattle.kube_objects.specs.declared.deed.Actor.{Actor}
+use Rattle.kube_objects.specs.declared.key.Key.{Key}
+use Rattle.kube_objects.specs.declared.object.Object.{Object}
+use Rattle.kube_objects.specs.Answers.{written}
+use Rattle.kube_objects.specs.Clocks.{store_wall, whole_second}
+use Rattle.kube_objects.specs.Document.{Doc, processes, end_beat, is_controller}
+use Rattle.kube_objects.specs.Elector.{Moment, Succeeds, follow_write, follow, follow_on, succeeds}
+use Rattle.kube_objects.specs.Entry.{Entry, Identity, Call, CallKind, Plain, Fast, Release, Fact, First, Sends, Answers, Delivers, Leads, actor_of, entry, script_entry}
+use Rattle.kube_objects.specs.Keys.{key_eq}
+use Rattle.kube_objects.specs.Stamps.{stamped}
+use Rattle.kube_objects.specs.Stored.{election, key_of}
+use Rattle.kube_objects.specs.Wire.{back_of, request_arrival, reply_delay}
+use Rattle.history.specs.History.{put_all, history}
+use Rattle.history.specs.Premise.{greatest_below}
+use Rattle.history.specs.Sound.{IsSound}
+use Rattle.history_laws.specs.Tails.{In, IsTail}
+use Rattle.history_laws.proofs.Plainly.{some_is}
+use Rattle.history_laws.proofs.Tailed.{tail_all, tail_trans, tail_of_empty, same_head, same_rest, later_tail}
+use Rattle.history_laws.proofs.Ticks.{walk_tick}
+use Rattle.history_laws.proofs.Walk.{Keeps, after_reply, stopped_at, walk_history}
+use Rattle.lease_laws.proofs.Histories.{turn_right}
+use Rattle.lease_laws.proofs.Invariant.{Asked, SentRight, view}
+use Rattle.lease_laws.proofs.Premises.{rates_at_most}
+use Rattle.call_laws.specs.Answering.{with_events}
+use Rattle.call_laws.proofs.Above.{in_head}
+use Rattle.call_laws.proofs.Placing.{in_own_beat, forces_stand, messages_travel}
+use Rattle.takeover_laws.specs.Calm.{Passes, IsSteady, IsCalm}
+use Rattle.takeover_laws.proofs.Rounds.{reply_passes, sent_is}
+use Rattle.calm_laws.proofs.Looks.{get_no_success}
+use Rattle.calm_laws.proofs.Origins.{Origin, origin}
+
+-- ---- what a controller asked for
+
+abbrev pub high_of : Doc → ℕ
+high_of doc = greatest_below doc (length doc.controllers)
+
+-- what the lease theorem knows of its request
+pub asked_of : (doc : Doc) → IsSound doc → (n : ℕ) → n ≤ end_beat doc → (q : Identity) → is_controller doc q.process ≡ true → (f : Entry) (T : List Entry) (call : Call) (arrives : Option ℕ) → IsTail (f ∷ T) (history doc (suc n))
+    → f.actor ≡ actor_of q → f.fact ≡ Sends call arrives → Asked doc (high_of doc) (view (history doc (suc n))) q call.sent call.request
+asked_of doc sound n end q role f T call arrives at actor fact =
+    let right = (turn_right doc (high_of doc) (rates_at_most doc) sound (processes doc) n end).entries f (in_head f T (history doc (suc n)) at) in
+    let sent : SentRight doc (high_of doc) n (view (history doc (suc n))) (record { who = q; call = call; arrives = arrives }) =
+    subst (λ o. IfSome o (SentRight doc (high_of doc) n (view (history doc (suc n))))) (sent_is f q call arrives actor fact) right.0 in
+    sent.may.controller role
+
+-- ---- what a success is
+
+reply_done : (reply : Reply) (key : Key) (lease : _) → succeeds (Create key lease) reply ≡ true → (version : Version) × (reply ≡ Done version)
+reply_done (Done version) key lease is = (version, refl)
+reply_done Absent key lease is = absurd (cc)
+reply_done (Found version l) key lease is = absurd (cc)
+reply_done Exists key lease is = absurd (cc)
+reply_done (Conflict version) key lease is = absurd (cc)
+reply_done Unchanged key lease is = absurd (cc)
+
+pub done_of : (r : Request) (reply : Reply) → succeeds r reply ≡ true → (version : Version) × (reply ≡ Done version)
+done_of (Create key lease) reply is = reply_done reply key lease is
+done_of (Update key given lease) reply is = reply_done reply key lease is
+done_of (Get key) reply is = absurd (cc)
+done_of (PostStatus name status at) reply is = absurd (cc)
+
+write_succeeds : (kind : CallKind) (key : Key) (lease : _) (reply : Reply) (v : Version) → follow_write kind reply ≡ Succeeds v → succeeds (Create key lease) reply ≡ true
+write_succeeds kind key lease (Done version) v is = refl
+write_succeeds Plain key lease Absent v is = absurd (cc)
+write_succeeds Plain key lease (Found version l) v is = absurd (cc)
+write_succeeds Plain key lease Exists v is = absurd (cc)
+write_succeeds Plain key lease (Conflict version) v is = absurd (cc)
+write_succeeds Plain key lease Unchanged v is = absurd (cc)
+write_succeeds Fast key lease Absent v is = absurd (cc)
+write_succeeds Fast key lease (Found version l) v is = absurd (cc)
+write_succeeds Fast key lease Exists v is = absurd (cc)
+write_succeeds Fast key lease (Conflict version) v is = absurd (cc)
+write_succeeds Fast key lease Unchanged v is = absurd (cc)
+write_succeeds Release key lease Absent v is = absurd (cc)
+write_succeeds Release key lease (Found version l) v is = absurd (cc)
+write_succeeds Release key lease Exists v is = absurd (cc)
+write_succeeds Release key lease (Conflict version) v is = absurd (cc)
+write_succeeds Release key lease Unchanged v is = absurd (cc)
+
+-- what a reply is followed by says so
+pub follow_succeeds : (q : Identity) (m : Moment) (seen : ℕ) (kind : CallKind) (r : Request) (reply : Reply) (v : Version) → follow q m seen kind r reply ≡ Succeeds v → succeeds r reply ≡ true
+follow_succeeds q m seen kind (Get key) reply v is = absurd (get_no_success q m seen reply v is)
+follow_succeeds q m seen kind (Create key lease) reply v is = write_succeeds kind key lease reply v is
+follow_succeeds q m seen kind (Update key given lease) reply v is = write_succeeds kind key lease reply v is
+follow_succeeds q m seen kind (PostStatus name status at) reply v is = absurd (cc)
+
+-- ---- who comes to lead
+
+-- by the counted reply that was delivered last
+pub record Comes (doc : Doc) (k : ℕ) (who : Actor) (version : Version) (T : List Entry) : Type 0 where
+  pub q : Identity
+  pub by : who ≡ actor_of q
+  pub w : Call
+  pub reply : Reply
+  pub low : List Entry
+  pub is : T ≡ entry k 3 q (Delivers w reply true) ∷ low
+  pub follows : follow_on doc q k w.kind w.request reply T ≡ Succeeds version
+
+abbrev pub ComesBy : Doc → ℕ → Actor → Fact → List Entry → Type 0
+ComesBy doc k who (Leads version) T = Comes doc k who version T
+ComesBy doc k who _ T = Unit {0}
+
+abbrev AllCome : Doc → List Entry → Type 0
+AllCome doc h = (x : Entry) (before : List Entry) → IsTail (x ∷ before) h → ComesBy doc x.beat x.actor x.fact before
+
+more : (doc : Doc) (x : Entry) (h : List Entry) → ComesBy doc x.beat x.actor x.fact h → AllCome doc h → AllCome doc (x ∷ h)
+more doc x h new s e before (inl is) =
+    subst (λ (e : Entry). ComesBy doc e.beat e.actor e.fact before) (sym (same_head e x before h is)) (subst (ComesBy doc x.beat x.actor x.fact) (sym (same_rest e x before h is)) new)
+more doc x h new s e before (inr at) = s e before at
+
+come_keeps : (doc : Doc) → Keeps doc (λ k step h. AllCome doc h)
+come_keeps doc = record {
+  on = λ k step h s. s;
+  next = λ k s. s;
+  event = λ k w h scripted s. more doc _ h tt s;
+  starts = λ k step p h s. more doc _ h tt s;
+  crashes = λ k p i h up s. more doc _ h tt s;
+  stalls = λ k id beats i h scripted up s. more doc _ h tt s;
+  stops = λ k id i h scripted up s. more doc _ h tt s;
+  releases = λ k id i before request scripted up awake is was s. more doc _ (stopped_at k id i before) tt s;
+  answers = λ k x h at s. more doc _ h tt s;
+  ignores = λ k b h coming is s. more doc _ h tt s;
+  counts = λ k b waiting h coming is s. more doc _ h tt s;
+  follows = λ k b waiting h request coming is role follows was s. more doc _ (after_reply k b waiting h) tt s;
+  leads = λ k b waiting h version coming is role follows was s.
+      more doc _ (after_reply k b waiting h) (record { q = b.who; by = refl; w = waiting; reply = b.reply; low = h; is = refl; follows = follows }) s;
+  asks = λ k b waiting h request coming is role asked was s. more doc _ (after_reply k b waiting h) tt s;
+  turns = record {
+    restarts = λ k p h s. more doc _ h tt s;
+    expires = λ k p i call h up waits late s. more doc _ h tt s;
+    ends = λ k p i at h role up is before s. more doc _ h tt s;
+    polls = λ k p i h role up awake waits s. more doc _ h tt s;
+    attempts = λ k p i h role up awake waits s. more doc _ h tt s;
+    seeks = λ k p i call h role up awake expired late s. more doc _ h tt s;
+    posts = λ k p i h role up awake none s. more doc _ h tt s;
+    ticks = λ k q h acting s. walk_tick doc k q (AllCome doc) (λ t g made s. more doc _ g tt s) h s;
+  };
+}
+
+puts_come : (doc : Doc) (xs : List (Key × Object)) (h : List Entry) → AllCome doc h → AllCome doc (put_all doc xs h)
+puts_come doc [] h s = s
+puts_come doc (x ∷ xs) h s =
+    let e = script_entry 0 0 (First x.0 (stamped (whole_second (store_wall doc 0)) x.1)) in
+    puts_come doc xs (e ∷ h) (more doc e h tt s)
+
+pub leads_come : (doc : Doc) (k : ℕ) (x : Entry) (before : List Entry) → IsTail (x ∷ before) (history doc k) → ComesBy doc x.beat x.actor x.fact before
+leads_come doc k = walk_history doc (λ k step h. AllCome doc h) (come_keeps doc) (puts_come doc doc.objects [] (λ x before at. absurd (tail_of_empty x before at))) k
+
+-- ---- a reply to a call of before the calm comes within two ways of its beginning
+
+module _ (doc : Doc) (near far a e n : ℕ) (sound : IsSound doc) (calm : IsCalm doc near far a e) (one : 1 ≤ far) (end : n ≤ end_beat doc) (room : a + 2 * far ≤ e)
+    (q : Identity) (role : is_controller doc q.process ≡ true) (steady : IsSteady doc near far a e q.process)
+    (x : Entry) (T : List Entry) (w : Call) (reply : Reply) (at : IsTail (x ∷ T) (history doc (suc n))) (actor : x.actor ≡ actor_of q) (fact : x.fact ≡ Delivers w reply true) (early : w.sent < a) where
+  abbrev pub o : Origin doc q w reply T x.beat
+  o = origin doc (suc n) q x T w reply at actor fact
+
+  high : IsTail T (history doc (suc n))
+  high = tail_trans T (x ∷ T) (history doc (suc n)) (inr (tail_all T)) at
+
+  sending : IsTail (o.begun.f ∷ o.begun.before) (history doc (suc n))
+  sending = tail_trans (o.begun.f ∷ o.begun.before) T (history doc (suc n)) o.begun.position high
+
+  answering : IsTail (o.e ∷ o.low) (history doc (suc n))
+  answering = tail_trans (o.e ∷ o.low) T (history doc (suc n)) o.answered high
+
+  key_is : key_eq (key_of w.request) election ≡ true
+  key_is = ap (λ k. key_eq k election) (asked_of doc sound n end q role o.begun.f o.begun.before w o.begun.arrives sending o.begun.actor o.begun.fact).key
+
+  pub sent : w.sent ≡ o.begun.f.beat
+  sent = (subst (λ p. IfSome p (λ s. (s.call.sent ≡ o.begun.f.beat) × (s.arrives ≡ request_arrival s.who.process o.begun.f.beat o.begun.before)))
+      (sent_is o.begun.f q w o.begun.arrives o.begun.actor o.begun.fact) (messages_travel doc (suc n) o.begun.f o.begun.before sending).0).0
+
+  earlier : (z : Entry) (Z : List Entry) → IsTail (z ∷ Z) (history doc (suc n)) → z.beat < a → In z (history doc a)
+  earlier z Z at lt = in_head z Z (history doc a) (tail_trans (z ∷ Z) (history doc (suc z.beat)) (history doc a) (in_own_beat doc (suc n) z Z at) (later_tail doc (suc z.beat) a (omega (arith, lt))))
+
+  answered : o.e.beat < a + far
+  answered =
+      let there = subst (λ o. IfSome o (λ s. key_eq (key_of s.call.request) election ≡ true → IfSome s.arrives (λ m. m < a + far)))
+      (sent_is o.begun.f q w o.begun.arrives o.begun.actor o.begun.fact) (calm.requests o.begun.f (earlier o.begun.f o.begun.before sending (omega (arith, early, sent)))) key_is in
+      subst (λ o. IfSome o (λ m. m < a + far)) o.arrives there
+
+  back_is : back_of o.e.actor o.e.fact ≡ Some (record { who = q; call = w; reply = reply; comes = Some x.beat })
+  back_is = ap (λ d. back_of o.e.actor d) o.fact ∙ ap (λ who. back_of who (Answers w reply (Some x.beat) (written w.request o.low))) o.actor
+
+  -- given before the calm it comes within one
+  comes_soon : o.e.beat < a → x.beat < a + far
+  comes_soon lt = subst (λ o. IfSome o (λ b. key_eq (key_of b.call.request) election ≡ true → IfSome b.comes (λ m. m < a + far))) back_is (calm.replies o.e (earlier o.e o.low answering lt)) key_is
+
+  -- and given in it after one
+  pub comes_after : a ≤ o.e.beat → (o.e.beat + near ≤ x.beat) × (x.beat ≤ o.e.beat + far)
+  comes_after from = (omega (arith, comes, passes.reply_least), omega (arith, comes, passes.reply_most))
+    where
+      passes : Passes doc near far q.process o.e.beat
+      passes = steady.passes o.e.beat from (omega (arith, answered, room))
+
+      comes : o.e.beat + reply_delay q.process (with_events doc o.e.beat) ≡ x.beat
+      comes =
+          some_is (o.e.beat + reply_delay q.process (with_events doc o.e.beat)) x.beat
+          (sym (reply_passes doc near far q.process o.e.beat o.low passes (forces_stand doc (suc n) o.e o.low answering (omega (arith, o.step)))
+          (steady.passes (o.e.beat + reply_delay q.process (with_events doc o.e.beat)) (omega (arith, from)) (omega (arith, passes.reply_most, answered, room))).awake)
+          ∙ o.comes_is)
+
+  pub comes_early : x.beat < a + 2 * far
+  comes_early = ⊎_elim (λ lt. omega (arith, comes_soon lt, one)) (λ from. omega (arith, (comes_after from).1, answered)) (cases_lt o.e.beat a)
+
+  -- one that comes at the last of these beats was given in the calm
+  pub answered_in : a + far ≤ x.beat → a ≤ o.e.beat
+  answered_in late = ⊎_elim (λ lt. absurd (omega (arith, late, comes_soon lt))) (λ le. le) (cases_lt o.e.beat a)

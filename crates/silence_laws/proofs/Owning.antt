@@ -1,0 +1,276 @@
+-- What a leader that falls silent wrote by calls of before: its own record.
+use Rattle.std.proofs.Common.{◌≡◌, ◌⊎◌, ◌<◌, ◌≤◌, ℕ, zero, suc, ◌+◌, ◌-◌, ◌*◌, ◌==◌, ◌&&◌, Bool, true, false, List, [], ◌∷◌, length, Option, Some, None, IfSome, refl, sym, ap, ◌∙◌, subst, inl, inr, ⊎_elim, arith}
+use Rattle.std.proofs.lemmas.Bool.{cases_lt, eqb-true}
+use Rattle.kube_objects.specs.declared.call.Reply.{Reply}
+use Rattle.kube_objects.specs.declared.call.Reply.TheVariants.{Done, Found, Absent, Exists, Conflict, Unchanged}
+use Rattle.kube_objects.specs.declared.call.Request.{Request}
+use Rattle.kube_objects.specs.declared.call.Request.TheVariants.{Get, Create, Update, PostStatus}
+use Rattle.kube_objects.specs.declared.deed.Actor.{Actor}
+use Rattle.kube_objects.specs.declared.deed.Actor.TheVariants as actors
+use Rattle.kube_objects.specs.declared.lease.Lease.{Lease}
+use Rattle.kube_objects.specs.declared.object.Object.{Object}
+use Rattle.kube_objects.specs.declared.object.Object.TheVariants as object
+use Rattle.kube_objects.specs.Answers.{answer, if_done, written}
+use Rattle.kube_objects.specs.Document.{Doc, processes, end_beat, is_controller, lease_seconds}
+use Rattle.kube_objects.specs.Entry.{Entry, Identity, Call, Fact, First, Event, Starts, Stops, Sends, Answers, Delivers, Expires, Leads, Ends, Crashes, Stalls, Ticks, actor_of}
+use Rattle.kube_objects.specs.Identities.{identity_of, holder_of, is_by, of_process}
+use Rattle.kube_objects.specs.Keys.{key_eq}
+use Rattle.kube_objects.specs.Newest.{added, when, has, join}
+use Rattle.kube_objects.specs.Process.{is_stop, stops}
+use Rattle.kube_objects.specs.Stored.{Held, election, key_of, stored, last_write, holds, request_write, at_key, write_of, next_version}
+use Rattle.kube_objects.specs.Wire.{request_arrival}
+use Rattle.history.specs.History.{history}
+use Rattle.history.specs.Premise.{greatest_below}
+use Rattle.history_laws.specs.Tails.{In, IsTail}
+use Rattle.history_laws.proofs.Plainly.{upper, false_is, true_is, and_left, and_right, same_self}
+use Rattle.history_laws.proofs.Tailed.{tail_all, tail_trans, tail_of_empty, in_tail, later_tail, same_head, same_rest}
+use Rattle.lease_laws.proofs.EachKind.{top_stays}
+use Rattle.lease_laws.proofs.Histories.{turn_right}
+use Rattle.lease_laws.proofs.Invariant.{view, Fit, FitRequest, SentRight}
+use Rattle.lease_laws.proofs.Premises.{rates_at_most}
+use Rattle.call_laws.proofs.Above.{tail_length, in_head}
+use Rattle.call_laws.proofs.Making.{MadeAs, MadeAnswer, are_made}
+use Rattle.call_laws.proofs.Placing.{in_own_beat, messages_travel}
+use Rattle.call_laws.proofs.Starting.{actor_is}
+use Rattle.takeover_laws.specs.Calm.{IsSteady, IsQuiet, WritesElection}
+use Rattle.takeover_laws.proofs.Rounds.{sent_is}
+use Rattle.calm_laws.proofs.Begun.{by_is}
+use Rattle.stay_laws.proofs.Won.{Won, is_won}
+use Rattle.silence_laws.specs.Silence.{LeadsUntil, Bears}
+use Rattle.silence_laws.proofs.Setting.{own_process}
+use Rattle.silence_laws.proofs.Waiting.{beats_rise}
+
+-- ---- no stops
+
+-- which entries are stops
+stop_is : (d : Fact) → is_stop d ≡ true → d ≡ Stops
+stop_is Stops is = refl
+stop_is (First key object) is = absurd (false_is is)
+stop_is (Event w version) is = absurd (false_is is)
+stop_is (Sends call arrives) is = absurd (false_is is)
+stop_is (Answers call reply comes wrote) is = absurd (false_is is)
+stop_is (Delivers call reply counted) is = absurd (false_is is)
+stop_is (Expires call) is = absurd (false_is is)
+stop_is (Ticks t) is = absurd (false_is is)
+stop_is Starts is = absurd (false_is is)
+stop_is Crashes is = absurd (false_is is)
+stop_is (Stalls beats) is = absurd (false_is is)
+stop_is Ends is = absurd (false_is is)
+stop_is (Leads version) is = absurd (false_is is)
+
+-- an entry of an identity is one of its process
+by_process : (q : Identity) (who : Actor) → is_by q who ≡ true → has (of_process q.process who) ≡ true
+by_process q actors.Script is = absurd (false_is is)
+by_process q (actors.Proc id i) is = ap (λ b. has (when b i)) (and_left (id.0 == q.process) (i == q.incarnation) is)
+
+-- a process that is steady from beat 0 on isn't stopped
+never_stopped : (doc : Doc) (near far e : ℕ) (r : Identity) → IsSteady doc near far 0 e r.process → (h : List Entry) → IsTail h (history doc (suc e)) → stops r h ≡ 0
+never_stopped doc near far e r steady [] at = refl
+never_stopped doc near far e r steady (x ∷ T) at =
+    by_stop (is_stop x.fact && is_by r x.actor) refl ∙ never_stopped doc near far e r steady T (tail_trans T (x ∷ T) (history doc (suc e)) (inr (tail_all T)) at)
+  where
+    by_stop : (b : Bool) → (is_stop x.fact && is_by r x.actor) ≡ b → added b (stops r T) ≡ stops r T
+    by_stop true is = absurd (omega (arith, steady.stops x (in_head x T (history doc (suc e)) at) (stop_is x.fact (and_left (is_stop x.fact) (is_by r x.actor) is)) (by_process r x.actor (and_right (is_stop x.fact) (is_by r x.actor) is))))
+    by_stop false is = refl
+
+-- ---- who writes
+
+-- what a request that is accepted leaves at the election Lease
+abbrev Leased : Request → Option (Option Object) → Type 0
+Leased (Create key lease) o = o ≡ Some (Some (object.Lease lease))
+Leased (Update key given lease) o = o ≡ Some (Some (object.Lease lease))
+Leased _ o = ⊥
+
+when_there : (t : Bool) (y : Object) → has (when t (Some y)) ≡ true → when t (Some y) ≡ Some (Some y)
+when_there true y is = refl
+when_there false y is = absurd (false_is is)
+
+leased : (r : Request) (h : List Entry) → has (at_key election (request_write r (written r h))) ≡ true → Leased r (at_key election (request_write r (written r h)))
+leased (Get key) h is = absurd (false_is is)
+leased (Create key lease) h is = by_reply (answer (Create key lease) h) is
+  where
+    by_reply : (reply : Reply) → has (at_key election (request_write (Create key lease) (if_done reply (object.Lease lease)))) ≡ true → at_key election (request_write (Create key lease) (if_done reply (object.Lease lease))) ≡ Some (Some (object.Lease lease))
+    by_reply (Done version) is = when_there (key_eq key election) (object.Lease lease) is
+    by_reply Absent is = absurd (false_is is)
+    by_reply (Found version l) is = absurd (false_is is)
+    by_reply Exists is = absurd (false_is is)
+    by_reply (Conflict version) is = absurd (false_is is)
+    by_reply Unchanged is = absurd (false_is is)
+leased (Update key given lease) h is = by_reply (answer (Update key given lease) h) is
+  where
+    by_reply : (reply : Reply) → has (at_key election (request_write (Update key given lease) (if_done reply (object.Lease lease)))) ≡ true → at_key election (request_write (Update key given lease) (if_done reply (object.Lease lease))) ≡ Some (Some (object.Lease lease))
+    by_reply (Done version) is = when_there (key_eq key election) (object.Lease lease) is
+    by_reply Absent is = absurd (false_is is)
+    by_reply (Found version l) is = absurd (false_is is)
+    by_reply Exists is = absurd (false_is is)
+    by_reply (Conflict version) is = absurd (false_is is)
+    by_reply Unchanged is = absurd (false_is is)
+leased (PostStatus name status at) h is = by_written (written (PostStatus name status at) h) is
+  where
+    by_written : (o : Option Object) → has (at_key election (request_write (PostStatus name status at) o)) ≡ true → ⊥
+    by_written None is = false_is is
+    by_written (Some x) is = false_is is
+
+-- its own record, that is stored
+pub record IsOwn (doc : Doc) (q : Identity) (h : List Entry) : Type 0 where
+  pub y : Held
+  pub top : stored election h ≡ Some y
+  pub by : y.by ≡ Some q
+  pub lease : Lease
+  pub object : y.object ≡ object.Lease lease
+  pub holder : lease.holder ≡ holder_of q
+  pub duration : lease.duration ≡ Some (lease_seconds doc q.process)
+
+-- an accepted write of it, by a call that was sent before beat b
+pub record IsOwnWrite (doc : Doc) (b : ℕ) (q : Identity) (x : Entry) : Type 0 where
+  pub lease : Lease
+  pub writes : at_key election (write_of x.fact) ≡ Some (Some (object.Lease lease))
+  pub holder : lease.holder ≡ holder_of q
+  pub duration : lease.duration ≡ Some (lease_seconds doc q.process)
+
+module _ (doc : Doc) (near far b e : ℕ) (q : Identity) (l : LeadsUntil doc near far b e q) (s : Bears doc near far b e q) (quiet : IsQuiet doc b e q.process) where
+  -- who writes the election Lease by a process that is quiet from beat b on sent the call before
+  pub sent_early : (x : Entry) (T : List Entry) → IsTail (x ∷ T) (history doc (suc e)) → (w : Won doc x T) → has (at_key election (write_of x.fact)) ≡ true → w.who.process ≡ q.process → w.call.sent < b
+  sent_early x T at w writes mine = ⊎_elim (λ lt. lt) (λ le. absurd (silent le)) (cases_lt w.call.sent b)
+    where
+      silent : b ≤ w.call.sent → ⊥
+      silent le =
+          quiet x (in_head x T (history doc (suc e)) at) (subst (λ p. has (of_process p x.actor) ≡ true) mine (own_process w.who x.actor w.actor))
+          (subst (WritesElection b) (sym w.fact) (le, ap (λ d. has (at_key election (write_of d))) (sym w.fact) ∙ writes))
+
+  module _ (x : Entry) (T : List Entry) (at : IsTail (x ∷ T) (history doc (suc e))) (some : 1 ≤ x.beat) (actor : x.actor ≡ actor_of q) (writes : has (at_key election (write_of x.fact)) ≡ true) where
+    w : Won doc x T
+    w = is_won doc s.sound e s.end x T at some writes
+
+    mine : w.who ≡ q
+    mine = actor_is w.who q (sym w.actor ∙ actor)
+
+    wrote : has (at_key election (request_write w.call.request w.wrote)) ≡ true
+    wrote = ap (λ d. has (at_key election (write_of d))) (sym w.fact) ∙ writes
+
+    early : w.call.sent < b
+    early = sent_early x T at w writes (ap (λ (p : Identity). p.process) mine)
+
+    asked_high : IsTail (w.f ∷ w.low) (history doc (suc e))
+    asked_high = tail_trans (w.f ∷ w.low) T (history doc (suc e)) w.asked (tail_trans T (x ∷ T) (history doc (suc e)) (inr (tail_all T)) at)
+
+    sent : w.call.sent ≡ w.f.beat
+    sent = (subst (λ o. IfSome o (λ s. (s.call.sent ≡ w.f.beat) × (s.arrives ≡ request_arrival s.who.process w.f.beat w.low))) (sent_is w.f w.who w.call (Some x.beat) w.f_actor w.f_fact) (messages_travel doc (suc e) w.f w.low asked_high).0).0
+
+    -- as its request fits its sender, so does what it writes
+    right : SentRight doc (greatest_below doc (length doc.controllers)) (b - 1) (view (history doc (suc (b - 1)))) (record { who = w.who; call = w.call; arrives = Some x.beat })
+    right =
+        subst (λ o. IfSome o (SentRight doc (greatest_below doc (length doc.controllers)) (b - 1) (view (history doc (suc (b - 1)))))) (sent_is w.f w.who w.call (Some x.beat) w.f_actor w.f_fact)
+        ((turn_right doc (greatest_below doc (length doc.controllers)) (rates_at_most doc) s.sound (processes doc) (b - 1) (omega (arith, l.within, s.end))).entries w.f there).0
+      where
+        there : In w.f (history doc (suc (b - 1)))
+        there =
+            in_head w.f w.low (history doc (suc (b - 1)))
+            (tail_trans (w.f ∷ w.low) (history doc (suc w.f.beat)) (history doc (suc (b - 1))) (in_own_beat doc (suc e) w.f w.low asked_high) (later_tail doc (suc w.f.beat) (suc (b - 1)) (omega (arith, early, sent))))
+
+    fits : FitRequest doc (view (history doc (suc (b - 1)))) w.who w.call.request
+    fits = (right.may.controller w.role).fit
+
+    own : (lease : Lease) → Fit doc (view (history doc (suc (b - 1)))) w.who lease → (lease.holder ≡ holder_of w.who) × (lease.duration ≡ Some (lease_seconds doc w.who.process))
+    own lease (inl fit) = fit
+    own lease (inr free) = absurd (omega (arith, free.1, never_stopped doc near far (b - 1) w.who (subst (λ (q : Identity). IsSteady doc near far 0 (b - 1) q.process) (sym mine) l.steady) (history doc (suc (b - 1))) (tail_all (history doc (suc (b - 1))))))
+
+    wrote_is : w.wrote ≡ written w.call.request T
+    wrote_is = made.written_is ∙ ap (λ (c : Call). written c.request T) (sym made.call_is)
+      where
+        made : MadeAnswer doc x.beat x.step x.actor w.call w.reply w.comes w.wrote T
+        made = subst (λ d. MadeAs doc x.beat x.step x.actor d T) w.fact (are_made doc (suc e) x T at)
+
+    as_own : (lease : Lease) → at_key election (request_write w.call.request w.wrote) ≡ Some (Some (object.Lease lease)) → (lease.holder ≡ holder_of w.who) × (lease.duration ≡ Some (lease_seconds doc w.who.process)) → IsOwnWrite doc b q x
+    as_own lease is fit = record {
+      lease = lease;
+      writes = ap (λ d. at_key election (write_of d)) w.fact ∙ is;
+      holder = fit.0 ∙ ap holder_of mine;
+      duration = fit.1 ∙ ap (λ (p : Identity). Some (lease_seconds doc p.process)) mine;
+    }
+
+    by_request : (r : Request) (o : Option (Option Object)) → Leased r o → FitRequest doc (view (history doc (suc (b - 1)))) w.who r → at_key election (request_write w.call.request w.wrote) ≡ o → IsOwnWrite doc b q x
+    by_request (Create key lease) o is fit same = as_own lease (same ∙ is) (own lease fit)
+    by_request (Update key given lease) o is fit same = as_own lease (same ∙ is) (own lease fit)
+    by_request (Get key) o is fit same = absurd is
+    by_request (PostStatus name status at) o is fit same = absurd is
+
+    pub own_write : IsOwnWrite doc b q x
+    own_write =
+        by_request w.call.request (at_key election (request_write w.call.request (written w.call.request T)))
+        (leased w.call.request T (subst (λ o. has (at_key election (request_write w.call.request o)) ≡ true) wrote_is wrote)) fits (ap (λ o. at_key election (request_write w.call.request o)) wrote_is)
+
+  -- ---- what is stored where all writes since one are its own
+
+  new_own : (x : Entry) (T : List Entry) → x.actor ≡ actor_of q → IsOwnWrite doc b q x → IsOwn doc q (x ∷ T)
+  new_own x T actor i = record {
+    y = record { version = next_version T; object = object.Lease i.lease; beat = x.beat; by = identity_of x.actor };
+    top = ap (λ o. join (upper (holds T x.beat x.actor o) (last_write election T))) i.writes;
+    by = ap identity_of actor;
+    lease = i.lease;
+    object = refl;
+    holder = i.holder;
+    duration = i.duration;
+  }
+
+  -- each election write above a position is its own
+  abbrev pub AllOwn : List Entry → List Entry → Type 0
+  AllOwn low h = (x : Entry) (T : List Entry) → IsTail (x ∷ T) h → IsTail low T → has (at_key election (write_of x.fact)) ≡ true → x.actor ≡ actor_of q
+
+  pub own_since : (x : Entry) (T : List Entry) → 1 ≤ x.beat → has (at_key election (write_of x.fact)) ≡ true → x.actor ≡ actor_of q → (h : List Entry) → IsTail (x ∷ T) h → IsTail h (history doc (suc e)) → AllOwn (x ∷ T) h → IsOwn doc q h
+  own_since x T some writes actor [] low high all = absurd (tail_of_empty x T low)
+  own_since x T some writes actor (z ∷ Z) (inl same) high all =
+      let one = same_head x z T Z same in
+      new_own z Z (subst (λ (y : Entry). y.actor ≡ actor_of q) one actor)
+      (own_write z Z high (subst (λ (y : Entry). 1 ≤ y.beat) one some) (subst (λ (y : Entry). y.actor ≡ actor_of q) one actor) (subst (λ (y : Entry). has (at_key election (write_of y.fact)) ≡ true) one writes))
+  own_since x T some writes actor (z ∷ Z) (inr below) high all =
+      by_write (at_key election (write_of z.fact)) refl (own_since x T some writes actor Z below (tail_trans Z (z ∷ Z) (history doc (suc e)) (inr (tail_all Z)) high) (λ f F at. all f F (inr at)))
+    where
+      order : x.beat ≤ z.beat
+      order = beats_rise doc e z Z high x T below
+
+      by_write : (o : Option (Option Object)) → at_key election (write_of z.fact) ≡ o → IsOwn doc q Z → IsOwn doc q (z ∷ Z)
+      by_write None none o = record { y = o.y; top = top_stays z Z none ∙ o.top; by = o.by; lease = o.lease; object = o.object; holder = o.holder; duration = o.duration }
+      by_write (Some o) is old =
+          let mine = all z Z (inl refl) below (ap has is) in
+          new_own z Z mine (own_write z Z high (omega (arith, some, order)) mine (ap has is))
+
+  -- or there is a first one by somebody else
+  pub record IsForeign (low h : List Entry) : Type 0 where
+    pub x : Entry
+    pub before : List Entry
+    pub position : IsTail (x ∷ before) h
+    pub since : IsTail low before
+    pub writes : has (at_key election (write_of x.fact)) ≡ true
+    pub other : x.actor ≡ actor_of q → ⊥
+    pub own : AllOwn low before
+
+  foreign_more : (low : List Entry) (x : Entry) (h : List Entry) → IsForeign low h → IsForeign low (x ∷ h)
+  foreign_more low x h s = record { x = s.x; before = s.before; position = inr s.position; since = s.since; writes = s.writes; other = s.other; own = s.own }
+
+  none_above : (low : List Entry) → AllOwn low low
+  none_above low x T at below writes = absurd (longer (tail_length (x ∷ T) low at) (tail_length low T below))
+    where
+      longer : length (x ∷ T) ≤ length low → length low ≤ length T → ⊥
+      longer a b = omega (arith, a, b)
+
+  pub own_or_foreign : (low h : List Entry) → IsTail low h → AllOwn low h ⊎ IsForeign low h
+  own_or_foreign low [] at = inl (λ x T high below. absurd (tail_of_empty x T high))
+  own_or_foreign low (x ∷ h) (inl same) = inl (subst (AllOwn low) same (none_above low))
+  own_or_foreign low (x ∷ h) (inr at) = by_rest (own_or_foreign low h at)
+    where
+      kept : AllOwn low h → (has (at_key election (write_of x.fact)) ≡ true → x.actor ≡ actor_of q) → AllOwn low (x ∷ h)
+      kept all own z Z (inl same) below writes =
+          let one = same_head z x Z h same in
+          ap (λ (z : Entry). z.actor) one ∙ own (subst (λ (z : Entry). has (at_key election (write_of z.fact)) ≡ true) one writes)
+      kept all own z Z (inr at) below writes = all z Z at below writes
+
+      fresh : AllOwn low h → (o : Option (Option Object)) → at_key election (write_of x.fact) ≡ o → (b : Bool) → is_by q x.actor ≡ b → AllOwn low (x ∷ h) ⊎ IsForeign low (x ∷ h)
+      fresh all None none b by = inl (kept all (λ writes. absurd (false_is (sym (ap has none) ∙ writes))))
+      fresh all (Some o) is true mine = inl (kept all (λ writes. by_is q x.actor mine))
+      fresh all (Some o) is false other =
+          inr (record { x = x; before = h; position = inl refl; since = at; writes = ap has is; other = λ mine. true_is (sym (ap (is_by q) mine ∙ same_self q) ∙ other); own = all })
+
+      by_rest : AllOwn low h ⊎ IsForeign low h → AllOwn low (x ∷ h) ⊎ IsForeign low (x ∷ h)
+      by_rest (inr s) = inr (foreign_more low x h s)
+      by_rest (inl all) = fresh all (at_key election (write_of x.fact)) refl (is_by q x.actor) refl

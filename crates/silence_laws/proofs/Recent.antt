@@ -1,0 +1,230 @@
+-- A leader's last record before it fell silent isn't old: else it had renewed it.
+use Rattle.std.proofs.Common.{◌≡◌, ◌⊎◌, ◌<◌, ◌≤◌, ℕ, zero, suc, ◌+◌, ◌-◌, ◌*◌, ◌&&◌, not, Bool, true, false, List, ◌∷◌, Option, Some, None, refl, sym, ap, ◌∙◌, subst, inl, inr, ⊎_elim, arith}
+use Rattle.std.proofs.lemmas.Bool.{cases_lt}
+use Rattle.kube_base.specs.declared.numbers.Version.{Version}
+use Rattle.kube_objects.specs.declared.call.Reply.{Reply}
+use Rattle.kube_objects.specs.declared.call.Reply.TheVariants.{Done}
+use Rattle.kube_objects.specs.declared.deed.Actor.{Actor}
+use Rattle.kube_objects.specs.declared.deed.Actor.TheVariants as actors
+use Rattle.kube_objects.specs.declared.object.Object.{Object}
+use Rattle.kube_objects.specs.Answers.{written}
+use Rattle.kube_objects.specs.Clocks.{local}
+use Rattle.kube_objects.specs.Document.{Doc, is_controller}
+use Rattle.kube_objects.specs.Elector.{succeeds, is_before, deadline, in_term}
+use Rattle.kube_objects.specs.Entry.{Entry, Identity, Call, Fact, Stops, Sends, Answers, Delivers, actor_of, entry}
+use Rattle.kube_objects.specs.Identities.{identity_of, of_process}
+use Rattle.kube_objects.specs.Newest.{has}
+use Rattle.kube_objects.specs.Pauses.{is_paused}
+use Rattle.kube_objects.specs.Process.{alive, is_present, open_as}
+use Rattle.kube_objects.specs.Stored.{election, at_key, write_of}
+use Rattle.kube_objects.specs.Wire.{Back, back_of}
+use Rattle.history.specs.History.{history, at_turn}
+use Rattle.history.specs.Safe.{Acts}
+use Rattle.history_laws.specs.Tails.{In, IsTail}
+use Rattle.history_laws.proofs.Counting.{present_is}
+use Rattle.history_laws.proofs.Plainly.{some_is, none_is, false_is, and_left, and_right}
+use Rattle.history_laws.proofs.Tailed.{tail_all, tail_trans, tails_meet, later_tail, turn_tail, before_turn, same_head}
+use Rattle.call_laws.proofs.Once.{answers_differ}
+use Rattle.call_laws.proofs.Placing.{in_own_beat}
+use Rattle.call_laws.proofs.Starting.{actor_is}
+use Rattle.takeover_laws.specs.Calm.{IsQuiet, IsInTime}
+use Rattle.takeover_laws.specs.Rounds.{HasCounted}
+use Rattle.takeover_laws.proofs.Standing.{controllers_first}
+use Rattle.takeover_laws.proofs.Writers.{replies_count}
+use Rattle.calm_laws.proofs.Life.{up_between}
+use Rattle.calm_laws.proofs.Origins.{Origin, origin}
+use Rattle.stay_laws.specs.Stays.{HasSuccess}
+use Rattle.stay_laws.proofs.Won.{Won, is_won}
+use Rattle.silence_laws.specs.Silence.{LeadsUntil, Bears}
+use Rattle.silence_laws.proofs.Chain.{opens_of}
+use Rattle.silence_laws.proofs.Kept.{Kept, kept_of}
+use Rattle.silence_laws.proofs.Owning.{IsOwn, IsForeign}
+use Rattle.silence_laws.proofs.Renewed.{done_of, Rewritten, renewed_by}
+use Rattle.silence_laws.proofs.Renewed as renewed
+use Rattle.silence_laws.proofs.Setting.{times_before, it_stays, its_time, some_b}
+use Rattle.silence_laws.proofs.Taken.{a, end_a, first, ways, first_writes, foreign_late, own, won, long_after}
+use Rattle.silence_laws.proofs.Taken as taken
+use Rattle.silence_laws.proofs.Waiting.{history_below, beats_rise}
+use Rattle.silence_laws.proofs.Ways.{IsWay, sent_freely, beat_before, request_way, reply_way}
+
+-- who acts is up at its turn
+pub acting_up : (doc : Doc) (q : Identity) (k : ℕ) → Acts doc q k → alive q.process (at_turn doc q.process k) ≡ Some q.incarnation
+acting_up doc q k acting =
+    present_is (alive q.process g) q.incarnation
+    (and_left (is_present (alive q.process g) q.incarnation) (is_before (local doc q.process k) (deadline doc q g)) (and_right (not (is_paused doc q.process k)) (in_term doc q k g) acting.1))
+  where
+    g : List Entry
+    g = at_turn doc q.process k
+
+by_identity : (q : Identity) (who : Actor) → identity_of who ≡ Some q → who ≡ actor_of q
+by_identity q actors.Script is = absurd (none_is q is)
+by_identity q (actors.Proc id i) is = ap actor_of (some_is (record { process = id.0; incarnation = i }) q is)
+
+abbrev reply_of : Reply → Fact → Reply
+reply_of other (Answers call reply comes wrote) = reply
+reply_of other _ = other
+
+module _ (doc : Doc) (near far b e : ℕ) (q : Identity) (l : LeadsUntil doc near far b e q) (s : Bears doc near far b e q) (quiet : IsQuiet doc b e q.process)
+    (f : IsForeign doc near far b e q l s quiet (first doc near far b e q l s quiet) (history doc (suc e))) where
+  abbrev pub mine : IsOwn doc q f.before
+  mine = own doc near far b e q l s quiet f
+
+  abbrev pub k : Kept f.before mine.y
+  k = kept_of f.before mine.y mine.top
+
+  low_e : IsTail f.before (history doc (suc e))
+  low_e = tail_trans f.before (f.x ∷ f.before) (history doc (suc e)) (inr (tail_all f.before)) f.position
+
+  pub z_e : IsTail (k.z ∷ k.before) (history doc (suc e))
+  z_e = tail_trans (k.z ∷ k.before) f.before (history doc (suc e)) k.position low_e
+
+  -- it is no older than the leader's first write
+  pub since : IsTail (first doc near far b e q l s quiet) (k.z ∷ k.before)
+  since = ⊎_elim (λ low. low) above (tails_meet (first doc near far b e q l s quiet) (k.z ∷ k.before) f.before f.since k.position)
+    where
+      above : IsTail (k.z ∷ k.before) (first doc near far b e q l s quiet) → IsTail (first doc near far b e q l s quiet) (k.z ∷ k.before)
+      above (inl same) = subst (λ g. IsTail g (k.z ∷ k.before)) same (tail_all (k.z ∷ k.before))
+      above (inr below) = absurd (false_is (sym (ap has (k.alone (taken.o doc near far b e q l s quiet).e (taken.o doc near far b e q l s quiet).low below f.since)) ∙ first_writes doc near far b e q l s quiet))
+
+  some : 1 ≤ k.z.beat
+  some = by_place since
+    where
+      written : 1 ≤ (taken.o doc near far b e q l s quiet).e.beat
+      written = let w = ways doc near far b e q l s quiet in omega (arith, w.sent_least, s.one)
+
+      by_place : IsTail (first doc near far b e q l s quiet) (k.z ∷ k.before) → 1 ≤ k.z.beat
+      by_place (inl same) = subst (λ (y : Entry). 1 ≤ y.beat) (same_head (taken.o doc near far b e q l s quiet).e k.z (taken.o doc near far b e q l s quiet).low k.before same) written
+      by_place (inr low) = omega (arith, written, beats_rise doc e k.z k.before z_e (taken.o doc near far b e q l s quiet).e (taken.o doc near far b e q l s quiet).low low)
+
+  z_actor : k.z.actor ≡ actor_of q
+  z_actor = by_identity q k.z.actor (sym k.by ∙ mine.by)
+
+  w : Won doc k.z k.before
+  w = is_won doc s.sound e s.end k.z k.before z_e some (ap has k.write)
+
+  whose : w.who ≡ q
+  whose = actor_is w.who q (sym w.actor ∙ z_actor)
+
+  asked_e : IsTail (w.f ∷ w.low) (history doc (suc e))
+  asked_e = tail_trans (w.f ∷ w.low) (k.z ∷ k.before) (history doc (suc e)) (inr w.asked) z_e
+
+  f_actor : w.f.actor ≡ actor_of q
+  f_actor = w.f_actor ∙ ap actor_of whose
+
+  unstopped : (x : Entry) → In x (history doc (suc (a doc near far b e q l s quiet))) → x.fact ≡ Stops → has (of_process q.process x.actor) ≡ true → ⊥
+  unstopped x stands fact own = never (l.steady.stops x stands fact own)
+    where
+      never : x.beat < 0 → ⊥
+      never lt = omega (arith, lt)
+
+  -- where there was time, its reply came and it renewed the record
+  module _ (old : mine.y.beat + s.renews.wait + 3 * far < b) where
+    asked_a : IsTail (w.f ∷ w.low) (history doc (suc (b - 1)))
+    asked_a =
+        tail_trans (w.f ∷ w.low) (history doc (suc k.z.beat)) (history doc (suc (b - 1))) (tail_trans (w.f ∷ w.low) (k.z ∷ k.before) (history doc (suc k.z.beat)) (inr w.asked) (in_own_beat doc (suc e) k.z k.before z_e))
+        (later_tail doc (suc k.z.beat) (suc (b - 1)) (omega (arith, old, k.beat)))
+
+    opens : open_as w.call.kind w.call ≡ Some w.call
+    opens = opens_of doc (b - 1) q l.role unstopped w.f w.low w.call (Some k.z.beat) asked_a f_actor w.f_fact
+
+    way : IsWay near far w.f.beat k.z.beat
+    way = request_way doc near far (b - 1) q l.role l.steady w.f w.low w.call k.z.beat asked_a f_actor w.f_fact opens
+
+    abbrev n : ℕ
+    n = w.f.beat + 2 * far
+
+    n_soon : n + 1 ≤ b - 1
+    n_soon = omega (arith, way.least, old, k.beat, s.one, s.ways)
+
+    my_time : IsInTime doc far 0 (b - 1) q.process
+    my_time = times_before doc near far b e q l s q.process l.role l.steady
+
+    up : (h : List Entry) → IsTail w.low h → IsTail h (history doc (suc n)) → alive q.process h ≡ Some q.incarnation
+    up h low high =
+        up_between doc (suc (b - 1)) q w.low h turn low
+        (tail_trans h (history doc (b - 1)) turn (tail_trans h (history doc (suc n)) (history doc (b - 1)) high (later_tail doc (suc n) (b - 1) (omega (arith, n_soon)))) (before_turn doc q.process (b - 1)))
+        (turn_tail doc q.process (b - 1) (omega (arith, controllers_first doc q.process l.role)))
+        (sent_freely doc (suc e) q l.role w.f w.low w.call (Some k.z.beat) asked_e f_actor w.f_fact opens).up
+        (acting_up doc q (b - 1) ((it_stays doc near far b e q l s).acts (b - 1) (its_time doc near far b e q l s) (omega arith)))
+      where
+        turn : List Entry
+        turn = at_turn doc q.process (b - 1)
+
+    counted : HasCounted doc q w.call (w.f.beat + 2 * near) (w.f.beat + 2 * far)
+    counted =
+        replies_count doc near far 0 (b - 1) n q l.role l.steady my_time s.one (omega (arith, n_soon)) w.f w.low w.call (Some k.z.beat)
+        (tail_trans (w.f ∷ w.low) (history doc (suc w.f.beat)) (history doc (suc n)) (in_own_beat doc (suc e) w.f w.low asked_e) (later_tail doc (suc w.f.beat) (suc n) (omega arith))) f_actor w.f_fact (omega arith) (omega arith) up
+
+    abbrev y : ℕ
+    y = counted.at
+
+    y_a : y ≤ b - 1
+    y_a = omega (arith, counted.most, n_soon)
+
+    y_e : y ≤ e
+    y_e = omega (arith, y_a, l.within)
+
+    abbrev heard : Entry
+    heard = entry y 3 q (Delivers w.call counted.reply true)
+
+    into : (h : List Entry) → IsTail h (history doc (suc y)) → IsTail h (history doc (suc e))
+    into h high = tail_trans h (history doc (suc y)) (history doc (suc e)) high (later_tail doc (suc y) (suc e) (omega (arith, y_e)))
+
+    -- an answer to its call is that write
+    same_answer : (reply : Reply) (S : List Entry) (o : Origin doc q w.call reply S y) → IsTail S (history doc (suc e)) → k.z ∷ k.before ≡ o.e ∷ o.low
+    same_answer reply S o high =
+        answers_differ doc (suc e) k.z o.e k.before o.low (record { who = w.who; call = w.call; reply = w.reply; comes = w.comes }) (record { who = q; call = w.call; reply = reply; comes = Some y }) z_e
+        (tail_trans (o.e ∷ o.low) S (history doc (suc e)) o.answered high)
+        (ap (λ d. back_of k.z.actor d) w.fact ∙ ap (λ who. back_of who (Answers w.call w.reply w.comes w.wrote)) w.actor)
+        (ap (λ d. back_of o.e.actor d) o.fact ∙ ap (λ who. back_of who (Answers w.call reply (Some y) (written w.call.request o.low))) o.actor) whose refl
+
+    below : IsTail counted.before (history doc (suc e))
+    below = into counted.before (tail_trans counted.before (heard ∷ counted.before) (history doc (suc y)) (inr (tail_all counted.before)) counted.position)
+
+    o : Origin doc q w.call counted.reply counted.before y
+    o = origin doc (suc y) q heard counted.before w.call counted.reply counted.position refl refl
+
+    one : k.z ∷ k.before ≡ o.e ∷ o.low
+    one = same_answer counted.reply counted.before o below
+
+    reply_is : counted.reply ≡ w.reply
+    reply_is = sym (ap (reply_of w.reply) o.fact) ∙ sym (ap (λ (x : Entry). reply_of w.reply x.fact) (same_head k.z o.e k.before o.low one)) ∙ ap (reply_of w.reply) w.fact
+
+    done : (version : Version) × (w.reply ≡ Done version)
+    done = done_of w.call.request w.reply w.so
+
+    abbrev hs : HasSuccess doc q 0 y
+    hs = record {
+      call = w.call;
+      version = done.0;
+      before = counted.before;
+      position = subst (λ reply. IsTail (entry y 3 q (Delivers w.call reply true) ∷ counted.before) (history doc (suc y))) (reply_is ∙ done.1) counted.position;
+      since = omega arith;
+      success = sym (ap (succeeds w.call.request) done.1) ∙ w.so;
+    }
+
+    given : IsWay near far k.z.beat y
+    given =
+        subst (λ (x : Entry). IsWay near far x.beat y) (sym (same_head k.z o.e k.before o.low one))
+        (reply_way doc near far (b - 1) q l.role l.steady o.e o.low
+        (tail_trans (o.e ∷ o.low) (history doc (suc y)) (history doc (suc (b - 1))) (tail_trans (o.e ∷ o.low) (heard ∷ counted.before) (history doc (suc y)) (inr o.answered) counted.position) (later_tail doc (suc y) (suc (b - 1)) (omega (arith, y_a))))
+        o.step y y_a o.comes_is)
+
+    again : Rewritten doc near far b e q l s y y_a hs (y + s.renews.wait + 3 * far)
+    again = renewed_by doc near far b e q l s y y_a hs (omega (arith, given.most, old, k.beat))
+
+    again_since : IsTail (k.z ∷ k.before) again.before
+    again_since = subst (λ g. IsTail g again.before) (sym (same_answer (Done done.0) counted.before (renewed.o doc near far b e q l s y y_a hs) below)) again.since
+
+    sooner : again.z.beat < f.x.beat
+    sooner = omega (arith, again.soon, given.most, k.beat, long_after doc near far b e q l s quiet f, taken.sent_before doc near far b e q l s quiet f, s.ways)
+
+    pub never_old : ⊥
+    never_old = false_is (sym (ap has (k.alone again.z again.before again_since there)) ∙ again.writes)
+      where
+        there : IsTail (again.z ∷ again.before) f.before
+        there = tail_trans (again.z ∷ again.before) (history doc (suc again.z.beat)) f.before again.position (history_below doc again.z.beat e f.x f.before f.position sooner (omega (arith, sooner, beat_before doc e f.x f.before f.position)))
+
+  -- so it is recent
+  pub recent : b ≤ mine.y.beat + s.renews.wait + 3 * far
+  recent = ⊎_elim (λ lt. absurd (never_old lt)) (λ le. le) (cases_lt (mine.y.beat + s.renews.wait + 3 * far) b)

@@ -1,0 +1,210 @@
+-- Where a leader in a calm falls silent, what comes before is a calm, and it stays up to then.
+use Rattle.std.proofs.Common.{◌≡◌, ◌⊎◌, ◌<◌, ◌≤◌, ℕ, zero, suc, ◌+◌, ◌-◌, ◌*◌, ◌==◌, nat_lt, Bool, true, false, List, ◌∷◌, length, Option, Some, None, IfSome, refl, sym, ap, ◌∙◌, subst, inl, inr, ⊎_elim, arith}
+use Rattle.std.proofs.lemmas.Bool.{ltb-false, eq-eqb, eqb-true, cases_eq}
+use Rattle.kube_objects.specs.declared.call.Reply.{Reply}
+use Rattle.kube_objects.specs.declared.deed.Actor.{Actor}
+use Rattle.kube_objects.specs.declared.deed.Actor.TheVariants as actors
+use Rattle.kube_objects.specs.declared.object.Object.{Object}
+use Rattle.kube_objects.specs.Document.{Doc, processes, end_beat, is_controller, renew_deadline}
+use Rattle.kube_objects.specs.Elector.{deadline}
+use Rattle.kube_objects.specs.Entry.{Entry, Identity, Call, Fact, First, Event, Starts, Stops, Sends, Answers, Delivers, Expires, Leads, Ends, Crashes, Stalls, Ticks, actor_of, entry}
+use Rattle.kube_objects.specs.Identities.{of_process}
+use Rattle.kube_objects.specs.Keys.{key_eq}
+use Rattle.kube_objects.specs.Newest.{when, or_else, has}
+use Rattle.kube_objects.specs.Process.{starts, alive}
+use Rattle.kube_objects.specs.Stored.{election, key_of}
+use Rattle.kube_objects.specs.Wire.{Sent, Back, sent_of, back_of, request_loss_of, request_delay_of, arrival, request_delay, reply_delay, request_arrival, reply_arrival}
+use Rattle.kube_objects.specs.Clocks.{local}
+use Rattle.history.specs.History.{history}
+use Rattle.history.specs.Premise.{greatest_below}
+use Rattle.history.specs.Safe.{Acts}
+use Rattle.history_laws.specs.Tails.{In, IsTail}
+use Rattle.history_laws.proofs.Lives.{Over}
+use Rattle.history_laws.proofs.Order.{entries_are_earlier}
+use Rattle.history_laws.proofs.Plainly.{some_is, none_is, true_is, false_is}
+use Rattle.history_laws.proofs.Tailed.{tail_all, tail_trans, in_tail, later_tail}
+use Rattle.lease_laws.proofs.Claims.{exclusive}
+use Rattle.lease_laws.proofs.Histories.{turn_right}
+use Rattle.lease_laws.proofs.Invariant.{view, SentRight}
+use Rattle.lease_laws.proofs.Premises.{premise_from, rates_at_most}
+use Rattle.call_laws.specs.Answering.{with_events}
+use Rattle.call_laws.proofs.Above.{Above, in_head, place_of, next_above}
+use Rattle.call_laws.proofs.Making.{MadeAs, MadeSend, MadeAnswer, MadeEnd, HasStopped, IsOpen, are_made}
+use Rattle.call_laws.proofs.Once.{due_at}
+use Rattle.call_laws.proofs.Placing.{in_own_beat, from_beat, not_before, forces_stand, messages_travel}
+use Rattle.call_laws.proofs.Starting.{actor_is}
+use Rattle.takeover_laws.specs.Acting.{AreInTime}
+use Rattle.takeover_laws.specs.Calm.{Passes, IsSteady, IsQuiet, IsCalm, IsInTime, AllBeats}
+use Rattle.takeover_laws.proofs.Fresh.{IsFresh, same_or_fresh, set_counted, over_stays, still_up}
+use Rattle.takeover_laws.proofs.Records.{asks_elsewhere}
+use Rattle.takeover_laws.proofs.Rounds.{Forces, reply_passes}
+use Rattle.takeover_laws.proofs.Standing.{controllers_first, unled}
+use Rattle.takeover_laws.proofs.Writers.{sends_of}
+use Rattle.stay_laws.specs.Stays.{HasSuccess, Stays}
+use Rattle.stay_laws.proofs.Staying.{leaders_stay}
+use Rattle.silence_laws.specs.Silence.{LeadsUntil, Bears}
+use Rattle.silence_laws.proofs.Led.{HasLed, acting_led}
+
+-- ---- parts of a span
+
+restrict_beats : (doc : Doc) (d e p : ℕ) (fact : Fact) (at : ℕ → Type 0) → d ≤ e → AllBeats doc e p fact at → AllBeats doc d p fact at
+restrict_beats doc d e p fact at le all x stands = all x (in_tail x (history doc (suc d)) (history doc (suc e)) (later_tail doc (suc d) (suc e) (omega (arith, le))) stands)
+
+pub restrict : (doc : Doc) (near far a d e p : ℕ) → d ≤ e → IsSteady doc near far a e p → IsSteady doc near far a d p
+restrict doc near far a d e p le s = record {
+  passes = λ k from to. s.passes k from (omega (arith, to, le));
+  crashes = restrict_beats doc d e p Crashes (λ k. k ≤ a) le s.crashes;
+  stops = restrict_beats doc d e p Stops (λ k. k < a) le s.stops;
+  ends = restrict_beats doc d e p Ends (λ k. k ≡ a → ⊥) le s.ends;
+}
+
+pub restrict_time : (doc : Doc) (far a b d e p : ℕ) → a ≤ b → d ≤ e → IsInTime doc far a e p → IsInTime doc far b d p
+restrict_time doc far a b d e p from le s = record { fast = s.fast; runs = λ j since to. s.runs j (omega (arith, since, from)) (omega (arith, to, le)); timeout = s.timeout; deadline = s.deadline }
+
+-- ---- messages as facts
+
+-- the facts of an answer
+record IsAnswer (who : Actor) (d : Fact) (b : Back) : Type 0 where
+  wrote : Option Object
+  by : who ≡ actor_of b.who
+  fact : d ≡ Answers b.call b.reply b.comes wrote
+
+answer_facts : (who : Actor) (d : Fact) (b : Back) → back_of who d ≡ Some b → IsAnswer who d b
+answer_facts actors.Script (Answers call reply comes wrote) b is = absurd (none_is b is)
+answer_facts (actors.Proc id i) (Answers call reply comes wrote) b is =
+    let e = some_is (record { who = record { process = id.0; incarnation = i }; call = call; reply = reply; comes = comes }) b is in
+    record { wrote = wrote; by = ap (λ (b : Back). actor_of b.who) e; fact = ap (λ (b : Back). Answers b.call b.reply b.comes wrote) e }
+answer_facts who (Sends call arrives) b is = absurd (none_is b is)
+answer_facts who (First key object) b is = absurd (none_is b is)
+answer_facts who (Event w version) b is = absurd (none_is b is)
+answer_facts who (Delivers call reply counted) b is = absurd (none_is b is)
+answer_facts who (Expires call) b is = absurd (none_is b is)
+answer_facts who (Ticks t) b is = absurd (none_is b is)
+answer_facts who Starts b is = absurd (none_is b is)
+answer_facts who Crashes b is = absurd (none_is b is)
+answer_facts who Stops b is = absurd (none_is b is)
+answer_facts who (Stalls beats) b is = absurd (none_is b is)
+answer_facts who Ends b is = absurd (none_is b is)
+answer_facts who (Leads version) b is = absurd (none_is b is)
+
+-- what holds of each value that is there
+each_some : {A : Type 0} (o : Option A) (P : A → Type 0) → ((a : A) → o ≡ Some a → P a) → IfSome o P
+each_some None P all = tt
+each_some (Some a) P all = all a refl
+
+-- an actor's process
+pub own_process : (q : Identity) (who : Actor) → who ≡ actor_of q → has (of_process q.process who) ≡ true
+own_process q who by = ap (λ who. has (of_process q.process who)) by ∙ ap (λ b. has (when b q.incarnation)) (eq-eqb q.process q.process refl)
+
+-- ---- when a message of a steady process arrives
+
+-- a request that is sent at a beat arrives one way later
+pub record IsWay (near far from to : ℕ) : Type 0 where
+  pub least : from + near ≤ to
+  pub most : to ≤ from + far
+
+pub record Arrives (near far from : ℕ) (arrives : Option ℕ) : Type 0 where
+  pub at : ℕ
+  pub is : arrives ≡ Some at
+  pub way : IsWay near far from at
+
+request_passes : (doc : Doc) (near far p k : ℕ) (h : List Entry) → Passes doc near far p k → Forces doc k h → request_arrival p k h ≡ Some (k + request_delay p (with_events doc k))
+request_passes doc near far p k h passes force =
+    ap (λ b. arrival b k (request_delay p h)) (ap (or_else false) (force.1 (request_loss_of p)) ∙ passes.requests)
+    ∙ ap (λ n. Some (k + n)) (ap (or_else 1) (force.0 (request_delay_of p)))
+
+module _ (doc : Doc) (near far e p : ℕ) (steady : IsSteady doc near far 0 e p) where
+  -- a controller's request isn't lost
+  pub request_arrives : (m : ℕ) (x : Entry) (T : List Entry) (who : Identity) (call : Call) (arrives : Option ℕ) → IsTail (x ∷ T) (history doc m) → is_controller doc p ≡ true → who.process ≡ p → x.actor ≡ actor_of who → x.fact ≡ Sends call arrives → x.beat ≤ e
+      → Arrives near far x.beat arrives
+  request_arrives m x T who call arrives stands role mine actor fact to = by_step made.step_is
+    where
+      made : MadeSend doc x.beat x.step x.actor call arrives T
+      made = subst (λ d. MadeAs doc x.beat x.step x.actor d T) fact (are_made doc m x T stands)
+
+      whose : made.q ≡ who
+      whose = actor_is made.q who (sym made.by ∙ actor)
+
+      process : made.q.process ≡ p
+      process = ap (λ (q : Identity). q.process) whose ∙ mine
+
+      passes : Passes doc near far p x.beat
+      passes = steady.passes x.beat (omega arith) to
+
+      sent : 2 ≤ x.step → Arrives near far x.beat arrives
+      sent late = record {
+        at = x.beat + request_delay p (with_events doc x.beat);
+        is = made.arrives_is ∙ ap (λ p. request_arrival p x.beat T) process ∙ request_passes doc near far p x.beat T passes (forces_stand doc m x T stands late);
+        way = record { least = omega (arith, passes.request_least); most = omega (arith, passes.request_most) };
+      }
+
+      stopped : HasStopped x.beat made.q made.kind T → ⊥
+      stopped s = omega (arith, steady.stops stop there refl (ap (λ b. has (when b made.q.incarnation)) (eq-eqb made.q.process p process)))
+        where
+          stop : Entry
+          stop = entry x.beat 1 made.q Stops
+
+          there : In stop (history doc (suc e))
+          there =
+              in_tail stop (history doc (suc x.beat)) (history doc (suc e)) (later_tail doc (suc x.beat) (suc e) (omega (arith, to)))
+              (in_tail stop (x ∷ T) (history doc (suc x.beat)) (in_own_beat doc m x T stands) (inr (subst (In stop) (sym s.is) (inl refl))))
+
+      by_step : (x.step ≡ 1) ⊎ ((x.step ≡ 3) ⊎ (x.step ≡ 4)) → Arrives near far x.beat arrives
+      by_step (inr (inl three)) = sent (omega (arith, three))
+      by_step (inr (inr four)) = sent (omega (arith, four))
+      by_step (inl one) = absurd (⊎_elim stopped (λ free. omega (arith, free.2, one)) (made.free (ap (is_controller doc) process ∙ role)))
+
+  pub request_way : (m : ℕ) (x : Entry) (T : List Entry) (who : Identity) (call : Call) (arrives : Option ℕ) → IsTail (x ∷ T) (history doc m) → is_controller doc p ≡ true → who.process ≡ p → x.actor ≡ actor_of who → x.fact ≡ Sends call arrives → x.beat ≤ e
+      → (at : ℕ) → arrives ≡ Some at → IsWay near far x.beat at
+  request_way m x T who call arrives stands role mine actor fact to at is =
+      let r = request_arrives m x T who call arrives stands role mine actor fact to in
+      subst (IsWay near far x.beat) (some_is r.at at (sym r.is ∙ is)) r.way
+
+-- ---- the situation
+
+module _ (doc : Doc) (near far b e : ℕ) (q : Identity) (l : LeadsUntil doc near far b e q) (s : Bears doc near far b e q) where
+  pub some_b : 1 ≤ b
+  some_b = omega (arith, l.long, s.one, s.ways)
+
+  -- nothing is on its way as beat 0 begins
+  abbrev none_yet : (x : Entry) → In x (history doc 0) → (1 ≤ x.step) → ⊥
+  none_yet x stands step = ⊎_elim (λ lt. omega (arith, lt)) (λ first. omega (arith, first.1, step)) (entries_are_earlier doc 0 x stands)
+
+  pub calm_before : IsCalm doc near far 0 (b - 1)
+  calm_before = record {
+    each = λ p role. ⊎_elim (λ same. inl (subst (IsSteady doc near far 0 (b - 1)) (sym same) l.steady)) (λ other. inl (restrict doc near far 0 (b - 1) e p (omega (arith, l.within)) (l.others p role other))) (cases_eq p q.process);
+    requests = λ x stands. each_some (sent_of x.actor x.fact) _ (λ m is key. absurd (no_request x stands m is));
+    replies = λ x stands. each_some (back_of x.actor x.fact) _ (λ m is key. absurd (no_reply x stands m is));
+  }
+    where
+      no_request : (x : Entry) → In x (history doc 0) → (m : Sent) → sent_of x.actor x.fact ≡ Some m → ⊥
+      no_request x stands m is = none_yet x stands (⊎_elim (λ one. omega (arith, one)) (λ more. ⊎_elim (λ three. omega (arith, three)) (λ four. omega (arith, four)) more) made.step_is)
+        where
+          made : MadeSend doc x.beat x.step x.actor m.call m.arrives (place_of x (history doc 0) stands).before
+          made =
+              subst (λ d. MadeAs doc x.beat x.step x.actor d (place_of x (history doc 0) stands).before) (sends_of x.actor x.fact m is).1
+              (are_made doc 0 x (place_of x (history doc 0) stands).before (place_of x (history doc 0) stands).position)
+
+      no_reply : (x : Entry) → In x (history doc 0) → (m : Back) → back_of x.actor x.fact ≡ Some m → ⊥
+      no_reply x stands m is = none_yet x stands (omega (arith, made.step_is))
+        where
+          facts : IsAnswer x.actor x.fact m
+          facts = answer_facts x.actor x.fact m is
+
+          made : MadeAnswer doc x.beat x.step x.actor m.call m.reply m.comes facts.wrote (place_of x (history doc 0) stands).before
+          made =
+              subst (λ d. MadeAs doc x.beat x.step x.actor d (place_of x (history doc 0) stands).before) facts.fact
+              (are_made doc 0 x (place_of x (history doc 0) stands).before (place_of x (history doc 0) stands).position)
+
+  pub times_before : AreInTime doc near far 0 (b - 1)
+  times_before p role steady = restrict_time doc far 0 0 (b - 1) e p (omega arith) (omega (arith, l.within)) (s.calls p role)
+
+  -- the leader's first success, and that it stays up to b
+  pub its_lead : HasLed doc q (b - 3 * far)
+  its_lead = acting_led doc q (b - 3 * far) l.acts
+
+  pub it_stays : Stays doc q its_lead.j (b - 1)
+  it_stays = leaders_stay doc near far 0 (b - 1) s.sound calm_before times_before s.one s.ways (omega (arith, l.within, s.end)) q l.role l.steady s.renews its_lead.j its_lead.success
+
+  pub its_time : its_lead.j ≤ b - 1
+  its_time = omega (arith, its_lead.to, s.one, s.ways)

@@ -1,0 +1,176 @@
+-- Somebody else comes to lead after a leader has fallen silent: by then the leader's record was taken over, and it wasn't old at the beat of the silence.
+use Rattle.std.proofs.Common.{◌≡◌, ◌⊎◌, ◌<◌, ◌≤◌, ℕ, zero, suc, ◌+◌, ◌-◌, ◌*◌, ◌&&◌, not, Bool, true, false, List, ◌∷◌, length, Option, Some, None, IfSome, refl, sym, ap, ◌∙◌, subst, inl, inr, ⊎_elim, arith}
+use Rattle.std.proofs.Math.Nat.{mul-le-mul_right}
+use Rattle.std.proofs.lemmas.Bool.{cases_lt, cases_eq, eq-eqb}
+use Rattle.kube_base.specs.declared.numbers.Version.{Version}
+use Rattle.kube_objects.specs.declared.call.Reply.{Reply}
+use Rattle.kube_objects.specs.declared.call.Reply.TheVariants.{Done}
+use Rattle.kube_objects.specs.declared.deed.Actor.{Actor}
+use Rattle.kube_objects.specs.declared.lease.Lease.{Lease}
+use Rattle.kube_objects.specs.declared.object.Object.TheVariants as object
+use Rattle.kube_objects.specs.Clocks.{local}
+use Rattle.kube_objects.specs.Document.{Doc, end_beat, is_controller, of_seconds, lease_seconds, lease_duration}
+use Rattle.kube_objects.specs.Elector.{succeeds}
+use Rattle.kube_objects.specs.Entry.{Entry, Identity, Call, Sends, Answers, Delivers, actor_of, entry}
+use Rattle.kube_objects.specs.Identities.{identity_of, is_same, is_other, holder_of}
+use Rattle.kube_objects.specs.Newest.{has, or_zero}
+use Rattle.kube_objects.specs.Process.{alive}
+use Rattle.kube_objects.specs.Stored.{Held, election, stored, at_key, write_of}
+use Rattle.kube_objects.specs.Wire.{back_of}
+use Rattle.history.specs.History.{history, whole_history}
+use Rattle.history.specs.Premise.{greatest_below}
+use Rattle.history_laws.specs.Tails.{In, IsTail}
+use Rattle.history_laws.proofs.Plainly.{true_is, none_is, same_is, same_self}
+use Rattle.history_laws.proofs.Tailed.{tail_all, tail_trans, tails_meet, later_tail, same_head}
+use Rattle.lease_laws.proofs.Premises.{rates_at_most}
+use Rattle.span_laws.proofs.Spans.{goes_most}
+use Rattle.gap_laws.proofs.Waits.{Waited, WaitedFor, Topped, Took, Waits}
+use Rattle.gap_laws.proofs.Histories.{whole_known}
+use Rattle.call_laws.proofs.Above.{in_head}
+use Rattle.call_laws.proofs.Placing.{in_own_beat}
+use Rattle.takeover_laws.specs.Calm.{IsSteady, IsQuiet}
+use Rattle.calm_laws.proofs.Origins.{Origin}
+use Rattle.stay_laws.specs.Stays.{HasSuccess}
+use Rattle.stay_laws.proofs.Won.{Won, is_won}
+use Rattle.stay_laws.proofs.Given.{IsGiven}
+use Rattle.stay_laws.proofs.Rivals.{plainly}
+use Rattle.stay_laws.proofs.Sendings as sendings
+use Rattle.stay_laws.proofs.Written as wrote
+use Rattle.stay_laws.proofs.Renewing as renewing
+use Rattle.silence_laws.proofs.Renewed as renewed
+use Rattle.silence_laws.specs.Silence.{LeadsUntil, Bears}
+use Rattle.silence_laws.proofs.Setting.{calm_before, times_before, its_lead, it_stays, its_time, some_b, own_process}
+use Rattle.silence_laws.proofs.Kept.{Kept, kept_of}
+use Rattle.silence_laws.proofs.Owning.{IsOwn, AllOwn, IsForeign, own_since, sent_early}
+use Rattle.silence_laws.proofs.Waiting.{history_below, beats_rise}
+use Rattle.silence_laws.proofs.Ways.{beat_before}
+
+module _ (doc : Doc) (near far b e : ℕ) (q : Identity) (l : LeadsUntil doc near far b e q) (s : Bears doc near far b e q) (quiet : IsQuiet doc b e q.process) where
+  abbrev pub a : ℕ
+  a = b - 1
+
+  pub end_a : a ≤ end_beat doc
+  end_a = omega (arith, l.within, s.end)
+
+  abbrev pub j : ℕ
+  j = (its_lead doc near far b e q l s).j
+
+  pub j_to : j ≤ a
+  j_to = its_time doc near far b e q l s
+
+  pub j_early : j + 3 * far ≤ b
+  j_early = omega (arith, (its_lead doc near far b e q l s).to, l.long)
+
+  -- the write by which it came to lead
+  abbrev pub o : Origin doc q (its_lead doc near far b e q l s).success.call (Done (its_lead doc near far b e q l s).success.version) (its_lead doc near far b e q l s).success.before j
+  o = renewed.o doc near far b e q l s j j_to (its_lead doc near far b e q l s).success
+
+  pub ways : sendings.IsWay near far o.begun.f.beat o.e.beat j
+  ways = renewed.ways doc near far b e q l s j j_to (its_lead doc near far b e q l s).success
+
+  abbrev given : IsGiven doc near far 0 q j
+  given = renewed.g doc near far b e q l s j j_to (its_lead doc near far b e q l s).success
+
+  abbrev pub first : List Entry
+  first = o.e ∷ o.low
+
+  first_a : IsTail first (history doc (suc a))
+  first_a = wrote.write_high doc near far 0 a s.sound (calm_before doc near far b e q l s) (times_before doc near far b e q l s) s.one end_a q l.role l.steady s.renews j j_to given
+
+  pub first_e : IsTail first (history doc (suc e))
+  first_e = tail_trans first (history doc (suc a)) (history doc (suc e)) first_a (later_tail doc (suc a) (suc e) (omega (arith, l.within)))
+
+  pub first_writes : has (at_key election (write_of o.e.fact)) ≡ true
+  first_writes = wrote.writes doc near far 0 a s.sound (calm_before doc near far b e q l s) (times_before doc near far b e q l s) s.one end_a q l.role l.steady s.renews j j_to given
+
+  -- a write of somebody else above it comes at b or later
+  pub foreign_late : (f : IsForeign doc near far b e q l s quiet first (history doc (suc e))) → b ≤ f.x.beat
+  foreign_late f = ⊎_elim (λ lt. absurd (early lt)) (λ le. le) (cases_lt f.x.beat b)
+    where
+      early : f.x.beat < b → ⊥
+      early lt = ⊎_elim late soon (cases_lt f.x.beat j)
+        where
+          in_beat : IsTail (f.x ∷ f.before) (history doc (suc f.x.beat))
+          in_beat = in_own_beat doc (suc e) f.x f.before f.position
+
+          late : f.x.beat < j → ⊥
+          late less =
+              f.other (wrote.its_writes doc near far 0 a s.sound (calm_before doc near far b e q l s) (times_before doc near far b e q l s) s.one end_a q l.role l.steady s.renews j j_to given
+              (renewing.acts_now doc near far 0 a s.sound (calm_before doc near far b e q l s) (times_before doc near far b e q l s) s.one end_a q l.role l.steady s.renews j j_to given)
+              j (omega arith) j_to (omega (arith, ways.comes_most)) f.x f.before (tail_trans (f.x ∷ f.before) (history doc (suc f.x.beat)) (history doc (suc j)) in_beat (later_tail doc (suc f.x.beat) (suc j) (omega (arith, less)))) f.since f.writes)
+
+          soon : j ≤ f.x.beat → ⊥
+          soon le =
+              f.other ((it_stays doc near far b e q l s).alone f.x f.before (tail_trans (f.x ∷ f.before) (history doc (suc f.x.beat)) (history doc (suc a)) in_beat (later_tail doc (suc f.x.beat) (suc a) (omega (arith, lt)))) le f.writes)
+
+  -- ---- the first write of somebody else, and the record over which it comes
+
+  module _ (f : IsForeign doc near far b e q l s quiet first (history doc (suc e))) where
+    low_e : IsTail f.before (history doc (suc e))
+    low_e = tail_trans f.before (f.x ∷ f.before) (history doc (suc e)) (inr (tail_all f.before)) f.position
+
+    late : b ≤ f.x.beat
+    late = foreign_late f
+
+    some : 1 ≤ o.e.beat
+    some = omega (arith, ways.sent_least, s.one)
+
+    pub own : IsOwn doc q f.before
+    own = own_since doc near far b e q l s quiet o.e o.low some first_writes o.actor f.before f.since low_e f.own
+
+    pub won : Won doc f.x f.before
+    won = is_won doc s.sound e s.end f.x f.before f.position (omega (arith, late, some_b doc near far b e q l s)) f.writes
+
+    pub rival : won.who ≡ q → ⊥
+    rival same = f.other (won.actor ∙ ap actor_of same)
+
+    back_is : back_of f.x.actor f.x.fact ≡ Some (record { who = won.who; call = won.call; reply = won.reply; comes = won.comes })
+    back_is = ap (λ d. back_of f.x.actor d) won.fact ∙ ap (λ who. back_of who (Answers won.call won.reply won.comes won.wrote)) won.actor
+
+    known : Waits doc plainly (end_beat doc) (whole_history doc)
+    known = whole_known doc s.sound (greatest_below doc (length doc.controllers)) (rates_at_most doc) plainly (λ x h at from late. (omega arith, omega arith))
+
+    -- it waited for the record's duration since it was shown it
+    took : Took doc plainly (record { who = won.who; call = won.call; reply = won.reply; comes = won.comes }) f.x.beat f.before
+    took =
+        (subst (λ o. IfSome o (λ b. is_controller doc b.who.process ≡ true → succeeds b.call.request b.reply ≡ true → Topped doc f.x f.before × Took doc plainly b f.x.beat f.before)) back_is
+        (known.answers f.x f.before (tail_trans (f.x ∷ f.before) (history doc (suc e)) (whole_history doc) f.position (later_tail doc (suc e) (suc (end_beat doc)) (omega (arith, s.end))))) won.role won.so).1
+
+    base : (own.y.beat ≤ won.call.sent) × WaitedFor doc plainly won.who won.call.sent own.y
+    base = subst (λ o. IfSome o (λ y. (y.beat ≤ won.call.sent) × WaitedFor doc plainly won.who won.call.sent y)) own.top took.base
+
+    differs : (b : Bool) → is_same q won.who ≡ b → is_same q won.who ≡ false
+    differs true is = absurd (rival (sym (same_is q won.who is)))
+    differs false is = is
+
+    pub other : is_other won.who own.lease.holder ≡ true
+    other = ap (is_other won.who) own.holder ∙ ap not (differs (is_same q won.who) refl)
+
+    waited : Waited doc plainly won.who won.call.sent own.y own.lease
+    waited = base.1 own.lease own.object other
+
+    over : local doc won.who.process waited.seen + lease_duration doc q.process ≤ local doc won.who.process won.call.sent
+    over = subst (λ o. local doc won.who.process waited.seen + of_seconds (or_zero o) ≤ local doc won.who.process won.call.sent) own.duration waited.over
+
+    f_upto : f.x.beat ≤ e
+    f_upto = beat_before doc e f.x f.before f.position
+
+    -- for so long that it sent the call long after the record was written
+    pub long_after : own.y.beat + s.renews.wait + 5 * far + 1 ≤ won.call.sent + near
+    long_after = ⊎_elim (λ lt. absurd (too_soon lt)) (λ le. le) (cases_lt (won.call.sent + near) (own.y.beat + s.renews.wait + 5 * far + 1))
+      where
+        too_soon : won.call.sent + near < own.y.beat + s.renews.wait + 5 * far + 1 → ⊥
+        too_soon lt =
+            omega (
+              arith,
+              over,
+              goes_most doc won.who.process 0 e s.fastest (s.clocks won.who.process won.role) waited.seen won.call.sent (omega arith) waited.before (omega (arith, took.after.0, f_upto)),
+              mul-le-mul_right s.fastest beats,
+              s.lasts,
+            )
+          where
+            beats : won.call.sent - waited.seen ≤ s.renews.wait + 5 * far - near
+            beats = omega (arith, lt, waited.late.0)
+
+    pub sent_before : won.call.sent < f.x.beat
+    sent_before = took.after.0

@@ -1,0 +1,128 @@
+-- How long a call of a controller was under way whose messages pass, and that it doesn't expire.
+use Rattle.std.proofs.Common.{◌≡◌, ◌⊎◌, ◌<◌, ◌≤◌, ℕ, suc, ◌+◌, Bool, true, false, List, ◌∷◌, Option, Some, None, IfSome, refl, sym, ap, ◌∙◌, subst, inl, inr, ⊎_elim, arith}
+use Rattle.kube_objects.specs.declared.call.Reply.{Reply}
+use Rattle.kube_objects.specs.declared.script.What.{What}
+use Rattle.kube_objects.specs.Document.{Doc, is_controller}
+use Rattle.kube_objects.specs.Entry.{Entry, Identity, Call, CallKind, Release, Sends, actor_of}
+use Rattle.kube_objects.specs.Newest.{or_else}
+use Rattle.kube_objects.specs.Pauses.{resume, held_up}
+use Rattle.kube_objects.specs.Process.{alive, open_as, call_in}
+use Rattle.kube_objects.specs.Wire.{request_delay_of, reply_delay_of, request_loss_of, reply_loss_of, request_delay, reply_delay, arrival, request_arrival, reply_arrival}
+use Rattle.kube_objects.proofs.Pauses.{resume_later}
+use Rattle.history.specs.History.{history}
+use Rattle.history_laws.specs.Tails.{IsTail}
+use Rattle.history_laws.proofs.Order.{entries_are_earlier}
+use Rattle.history_laws.proofs.Plainly.{some_is, none_is}
+use Rattle.history_laws.proofs.Tailed.{tail_all, tail_trans}
+use Rattle.call_laws.specs.Answering.{with_events}
+use Rattle.call_laws.proofs.Above.{in_head}
+use Rattle.call_laws.proofs.Making.{MadeAs, MadeSend, HasStopped, IsOpen, are_made}
+use Rattle.call_laws.proofs.Placing.{forces_stand, messages_travel}
+use Rattle.call_laws.proofs.Starting.{actor_is}
+use Rattle.takeover_laws.specs.Calm.{Passes, IsSteady}
+use Rattle.takeover_laws.proofs.Rounds.{Forces, reply_passes, sent_is}
+use Rattle.calm_laws.proofs.Origins.{Origin}
+
+-- ---- a request that waits for a reply is sent after the events of its beat, by one who is up and has no other
+
+not_open : (c : Call) → open_as Release c ≡ Some c → ⊥
+not_open c is = none_is c is
+
+pub record IsFreely (q : Identity) (x : Entry) (T : List Entry) : Type 0 where
+  pub step : 3 ≤ x.step
+  pub up : alive q.process T ≡ Some q.incarnation
+  pub idle : call_in q T ≡ None
+
+pub sent_freely : (doc : Doc) (m : ℕ) (q : Identity) → is_controller doc q.process ≡ true → (x : Entry) (T : List Entry) (call : Call) (arrives : Option ℕ) → IsTail (x ∷ T) (history doc m) → x.actor ≡ actor_of q → x.fact ≡ Sends call arrives
+    → open_as call.kind call ≡ Some call → IsFreely q x T
+sent_freely doc m q role x T call arrives at actor fact opens = by_free (made.free role_made)
+  where
+    made : MadeSend doc x.beat x.step x.actor call arrives T
+    made = subst (λ d. MadeAs doc x.beat x.step x.actor d T) fact (are_made doc m x T at)
+
+    mine : made.q ≡ q
+    mine = actor_is made.q q (sym made.by ∙ actor)
+
+    role_made : is_controller doc made.q.process ≡ true
+    role_made = ap (λ (p : Identity). is_controller doc p.process) mine ∙ role
+
+    by_free : HasStopped x.beat made.q made.kind T ⊎ ((alive made.q.process T ≡ Some made.q.incarnation) × (call_in made.q T ≡ None) × (3 ≤ x.step) × IsOpen made.kind) → IsFreely q x T
+    by_free (inr free) = record { step = free.2; up = subst (λ (q : Identity). alive q.process T ≡ Some q.incarnation) mine free.0; idle = ap (λ q. call_in q T) (sym mine) ∙ free.1 }
+    by_free (inl stopped) = absurd (not_open call (subst (λ kind. open_as kind call ≡ Some call) (ap (λ (c : Call). c.kind) made.call_is ∙ stopped.kind_is) opens))
+
+-- an entry of the history before a beat is of an earlier one
+pub beat_before : (doc : Doc) (m : ℕ) (x : Entry) (T : List Entry) → IsTail (x ∷ T) (history doc (suc m)) → x.beat ≤ m
+beat_before doc m x T at = ⊎_elim (λ lt. omega (arith, lt)) (λ first. omega (arith, first.0)) (entries_are_earlier doc (suc m) x (in_head x T (history doc (suc m)) at))
+
+-- a call tells the beat at which it was sent
+pub sent_at : (doc : Doc) (m : ℕ) (q : Identity) (x : Entry) (T : List Entry) (call : Call) (arrives : Option ℕ) → IsTail (x ∷ T) (history doc m) → x.actor ≡ actor_of q → x.fact ≡ Sends call arrives → call.sent ≡ x.beat
+sent_at doc m q x T call arrives at actor fact = (subst (λ o. IfSome o (λ s. (s.call.sent ≡ x.beat) × (s.arrives ≡ request_arrival s.who.process x.beat T))) (sent_is x q call arrives actor fact) (messages_travel doc m x T at).0).0
+
+-- ---- ways
+
+requests_pass : (doc : Doc) (near far p k : ℕ) (h : List Entry) → Passes doc near far p k → Forces doc k h → request_arrival p k h ≡ Some (k + request_delay p (with_events doc k))
+requests_pass doc near far p k h passes force =
+    ap (λ b. arrival b k (request_delay p h)) (ap (or_else false) (force.1 (request_loss_of p)) ∙ passes.requests)
+    ∙ ap (λ n. Some (k + n)) (ap (or_else 1) (force.0 (request_delay_of p)))
+
+replies_resume : (doc : Doc) (near far p k : ℕ) (h : List Entry) → Passes doc near far p k → Forces doc k h → reply_arrival doc p k h ≡ Some (resume doc p (k + reply_delay p (with_events doc k)))
+replies_resume doc near far p k h passes force =
+    ap (λ b. held_up doc p (arrival b k (reply_delay p h))) (ap (or_else false) (force.1 (reply_loss_of p)) ∙ passes.replies)
+    ∙ ap (λ n. Some (resume doc p (k + n))) (ap (or_else 1) (force.0 (reply_delay_of p)))
+
+-- a request that is sent at a beat arrives one way later
+pub record IsWay (near far from to : ℕ) : Type 0 where
+  pub least : from + near ≤ to
+  pub most : to ≤ from + far
+
+module _ (doc : Doc) (near far e : ℕ) (q : Identity) (role : is_controller doc q.process ≡ true) (steady : IsSteady doc near far 0 e q.process) where
+  pub request_way : (x : Entry) (T : List Entry) (call : Call) (k : ℕ) → IsTail (x ∷ T) (history doc (suc e)) → x.actor ≡ actor_of q → x.fact ≡ Sends call (Some k) → open_as call.kind call ≡ Some call → IsWay near far x.beat k
+  request_way x T call k at actor fact opens = record { least = omega (arith, same, passes.request_least); most = omega (arith, same, passes.request_most) }
+    where
+      step : 3 ≤ x.step
+      step = (sent_freely doc (suc e) q role x T call (Some k) at actor fact opens).step
+
+      passes : Passes doc near far q.process x.beat
+      passes = steady.passes x.beat (omega arith) (beat_before doc e x T at)
+
+      same : k ≡ x.beat + request_delay q.process (with_events doc x.beat)
+      same =
+          some_is k (x.beat + request_delay q.process (with_events doc x.beat))
+          ((subst (λ o. IfSome o (λ s. (s.call.sent ≡ x.beat) × (s.arrives ≡ request_arrival s.who.process x.beat T))) (sent_is x q call (Some k) actor fact) (messages_travel doc (suc e) x T at).0).1
+          ∙ requests_pass doc near far q.process x.beat T passes (forces_stand doc (suc e) x T at (omega (arith, step))))
+
+  pub sent_beat : (x : Entry) (T : List Entry) (call : Call) (arrives : Option ℕ) → IsTail (x ∷ T) (history doc (suc e)) → x.actor ≡ actor_of q → x.fact ≡ Sends call arrives → call.sent ≡ x.beat
+  sent_beat x T call arrives at actor fact = (subst (λ o. IfSome o (λ s. (s.call.sent ≡ x.beat) × (s.arrives ≡ request_arrival s.who.process x.beat T))) (sent_is x q call arrives actor fact) (messages_travel doc (suc e) x T at).0).0
+
+  -- a reply that comes in the span comes one way after its giving
+  pub reply_way : (x : Entry) (T : List Entry) → IsTail (x ∷ T) (history doc (suc e)) → x.step ≡ 2 → (y : ℕ) → y ≤ e → reply_arrival doc q.process x.beat T ≡ Some y → IsWay near far x.beat y
+  reply_way x T at step y to comes = record { least = omega (arith, same, passes.reply_least); most = omega (arith, same, passes.reply_most) }
+    where
+      passes : Passes doc near far q.process x.beat
+      passes = steady.passes x.beat (omega arith) (beat_before doc e x T at)
+
+      m : ℕ
+      m = x.beat + reply_delay q.process (with_events doc x.beat)
+
+      force : Forces doc x.beat T
+      force = forces_stand doc (suc e) x T at (omega (arith, step))
+
+      resumed : resume doc q.process m ≡ y
+      resumed = some_is (resume doc q.process m) y (sym (replies_resume doc near far q.process x.beat T passes force) ∙ comes)
+
+      within : m ≤ e
+      within = omega (arith, resumed, resume_later doc q.process m, to)
+
+      same : m ≡ y
+      same = some_is m y (sym (reply_passes doc near far q.process x.beat T passes force (steady.passes m (omega arith) within).awake) ∙ comes)
+
+  -- a call whose reply counts in the span
+  pub record Went (from at to : ℕ) : Type 0 where
+    pub request : IsWay near far from at
+    pub reply : IsWay near far at to
+
+  pub went : (w : Call) (reply : Reply) (S : List Entry) (y : ℕ) → (o : Origin doc q w reply S y) → IsTail S (history doc (suc e)) → y ≤ e → Went o.begun.f.beat o.e.beat y
+  went w reply S y o at to = record {
+    request = request_way o.begun.f o.begun.before w o.e.beat (tail_trans (o.begun.f ∷ o.begun.before) S (history doc (suc e)) o.begun.position at) o.begun.actor (o.begun.fact ∙ ap (Sends w) o.arrives) o.begun.opens;
+    reply = reply_way o.e o.low (tail_trans (o.e ∷ o.low) S (history doc (suc e)) o.answered at) o.step y to o.comes_is;
+  }

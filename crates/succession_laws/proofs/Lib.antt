@@ -1,0 +1,12 @@
+pub mod Looks
+pub mod First
+pub mod Led
+pub mod Setting
+pub mod Records
+pub mod Blocking
+pub mod Timely
+pub mod Turns
+pub mod Ordered
+pub mod Edge
+pub mod Following
+pub mod Lingering
