@@ -1,7 +1,8 @@
 """The rows of try-all: each test that needs no proof, with what it needs and how long it took.
 
-How long is in seconds of the processor, as most tests take on a machine that has nothing else to do; those that wait take longer. A row without
-a number wasn't timed, and takes more than a minute.
+How long is in seconds of the processor, as most tests take on a machine that has nothing else to do; those that wait take longer. Of the two that wait
+for a browser most of the time it is in seconds of the clock, beside work on all processors. A row without a number wasn't timed, and takes more than a
+minute.
 """
 import functools
 import os
@@ -109,27 +110,27 @@ ROWS = [
     test('lateness', [REPLAY, LENS], 2, script='lens_lateness'),
     test('explain', [REPLAY, LENS], 21, script='lens_explain'),
     test('json', [REPLAY, LENS], 13, script='lens_json'),
-    test('leads', [REPLAY, LENS, CHROMIUM], None),
-    test('sweep', [REPLAY], None),
-    Row('dask', ['tools/test/test_dask.py'], [DASK, REPLAY], None, module='distributed'),
+    test('leads', [REPLAY, LENS, CHROMIUM], 50),
+    test('sweep', [REPLAY], 15),
+    Row('dask', ['tools/test/test_dask.py'], [DASK, REPLAY], 90, module='distributed'),
     Row('launcher', ['bench/launcher_check.sh', 'proved'], [REPLAY, LENS], 13),
     Row('launcher-hints', ['bench/launcher_check.sh', 'hints'], [], 8),
     Row('limits', ['bench/limits.py'], [REPLAY], 9),
-    Row('pages', ['tools/check-docs'], [REPLAY, LENS, program('jq', 'jq')], None),
-    Row('site', ['tools/site'], [MKDOCS], None, module='mkdocs'),
-    Row('site-search', ['tools/test/test_site.py'], [file('out/site/index.html', 'tools/site'), CHROMIUM], None),
-    Row('browser', ['view/test_timeline.py'], [CHROMIUM], None),
-    Row('playground', ['play/test_server.py'], [REPLAY, LENS], 6),
-    Row('playground-page', ['play/test_playground.py'], [REPLAY, LENS, CHROMIUM], None),
-    Row('kubectl', ['plugin/test_kubectl_replay.py'], [program('kubectl', 'kubernetes-client'), REPLAY, LENS], None),
+    Row('pages', ['tools/check-docs'], [REPLAY, LENS, program('jq', 'jq')], 40),
+    Row('site', ['tools/site'], [MKDOCS], 5, module='mkdocs'),
+    Row('site-search', ['tools/test/test_site.py'], [file('out/site/index.html', 'tools/site'), CHROMIUM], 3),
+    Row('browser', ['view/test_timeline.py'], [CHROMIUM], 169),
+    Row('playground', ['play/test_server.py'], [REPLAY, LENS], 9),
+    Row('playground-page', ['play/test_playground.py'], [REPLAY, LENS, CHROMIUM], 163),
+    Row('kubectl', ['plugin/test_kubectl_replay.py'], [program('kubectl', 'kubernetes-client'), REPLAY, LENS], 151),
     Row('python', ['-m', 'pytest', '-q'], [PYTEST, REPLAY], 10, 'python', 'pytest'),
-    Row('go', ['go', 'test', './...'], [program('go', 'golang-go'), COMPILER, SHARED], None, 'go'),
+    Row('go', ['go', 'test', './...'], [program('go', 'golang-go'), COMPILER, SHARED], 4, 'go'),
     Row('c-library', ['bench/library_check.py', '--program', 'crates/kube_replay/out/kube_replay'], [COMPILER, SHARED, REPLAY], 7),
     Row('c-valgrind', ['bench/library_check.py', '--valgrind', '--count', '100'], [COMPILER, SHARED, program('valgrind', 'valgrind')], 2),
     Row('conformance', ['conformance/run.py'], [REPLAY], 24),
-    Row('hostile-edges', ['bench/hostile/edges.py'], [REPLAY], None),
-    Row('hostile-damaged', ['bench/hostile/damaged.py', '--count', '2000'], [REPLAY], None),
-    Row('hostile-memory', ['bench/hostile/memory.py', '--part', 'calls'], [REPLAY, COMPILER], None),
+    Row('hostile-edges', ['bench/hostile/edges.py'], [REPLAY], 60),
+    Row('hostile-damaged', ['bench/hostile/damaged.py', '--count', '2000'], [REPLAY], 10),
+    Row('hostile-memory', ['bench/hostile/memory.py', '--part', 'calls'], [REPLAY, COMPILER], 60),
     Row('hostile-space', ['bench/hostile/memory.py', '--part', 'space'], [REPLAY], None),
     Row('hostile-worst', ['bench/hostile/worst.py'], [REPLAY], None),
     test('package', [ROOT, REPLAY, LENS, program('dpkg-deb', 'dpkg'), program('mmdebstrap', 'mmdebstrap'), program('man', 'man-db'),
