@@ -3,6 +3,7 @@ use Rattle.kube_objects.specs.Document.{Doc}
 use Rattle.history.specs.Sound.{IsSound}
 use Rattle.calm_laws.specs.Bounds.{TakesOver}
 use Rattle.gap_laws.specs.Gaps.{GapLasts, OtherWaits}
+use Rattle.release_laws.specs.Releases.{ReleaseIsTold}
 use Rattle.settle_laws.specs.Settles.{Settles}
 use Rattle.silence_laws.specs.Least.{ReleaseLasts, SilenceIsTold}
 use Rattle.stay_laws.specs.Stays.{LeaderStays}
@@ -26,6 +27,8 @@ pub record IsTimely (doc : Doc) : Type 0 where
   pub silence : SilenceIsTold doc
   -- and after an accepted release for four messages
   pub release : ReleaseLasts doc
+  -- by so many at most another does then, and stays
+  pub release_followed : ReleaseIsTold doc
   -- and by so many at most another does, and stays
   pub succeeds : Succeeds doc
   -- and the leader acts on for no longer than its retry period and renew deadline after its last success

@@ -26,6 +26,7 @@ use gap_laws::{gaps_last, others_wait};
 use itoa::Buffer;
 use kube_base::{NoMemory, Steps};
 use lease_laws::lease_is_safe;
+use release_laws::releases_are_followed;
 use run_edge::{Status, Verdict, tell};
 use settle_laws::calm_spans_settle;
 use silence_laws::{releases_last, silences_last};
@@ -79,6 +80,7 @@ fn generated_documents_are_safe()
     silences_last();
     releases_last();
     successors_lead();
+    releases_are_followed();
     leaders_act_on();
 }
 

@@ -31,6 +31,7 @@ use gap_laws::{gaps_last, others_wait};
 use kube_base::Steps;
 use lease_laws::lease_is_safe;
 use manifest_json::ReadFault;
+use release_laws::releases_are_followed;
 use run_edge::{Status, Verdict, ask, take_input, tell_refusal, tell_too_large, tell_usage};
 use script_reader::Document;
 use settle_laws::calm_spans_settle;
@@ -109,6 +110,7 @@ fn documents_are_safe()
     silences_last();
     releases_last();
     successors_lead();
+    releases_are_followed();
     leaders_act_on();
 }
 

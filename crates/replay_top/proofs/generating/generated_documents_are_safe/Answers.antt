@@ -28,6 +28,7 @@ returns-clause-timely c s within =
       settles = c.calm_spans_settle.ensures.told doc;
       silence = c.silences_last.ensures.told doc;
       release = c.releases_last.ensures doc;
+      release_followed = c.releases_are_followed.ensures.told doc;
       succeeds = c.successors_lead.ensures.told doc;
       acts_on = c.leaders_act_on.ensures doc;
     }

@@ -21,6 +21,7 @@ returns c =
         settles = c.calm_spans_settle.ensures.told (doc_of d);
         silence = c.silences_last.ensures.told (doc_of d);
         release = c.releases_last.ensures (doc_of d);
+        release_followed = c.releases_are_followed.ensures.told (doc_of d);
         succeeds = c.successors_lead.ensures.told (doc_of d);
         acts_on = c.leaders_act_on.ensures (doc_of d);
       };
