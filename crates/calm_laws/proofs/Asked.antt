@@ -86,7 +86,7 @@ pub reason_key : (doc : Doc) (k : ℕ) (q : Identity) (request : Request) (h : L
 reason_key doc k q request h (InTurn is) = ap key_of is
 reason_key doc k q request h (AfterReply f) = (next_is q _ _ f.waiting.kind f.waiting.request f.reply request f.follows).key
 
-not_open : (c : Call) → open_as Release c ≡ Some c → ⊥
+pub not_open : (c : Call) → open_as Release c ≡ Some c → ⊥
 not_open c is = none_is c is
 
 pub reason_of : (doc : Doc) (m : ℕ) (q : Identity) → is_controller doc q.process ≡ true → (x : Entry) (T : List Entry) (call : Call) (arrives : Option ℕ) → IsTail (x ∷ T) (history doc m) → x.actor ≡ actor_of q → x.fact ≡ Sends call arrives

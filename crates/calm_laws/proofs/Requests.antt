@@ -34,7 +34,7 @@ more doc x h new s e before (inl is) =
 more doc x h new s e before (inr at) = s e before at
 
 -- a kubelet is no controller
-no_kubelet : (doc : Doc) (p q : Identity) (A : Type 0) → is_controller doc p.process ≡ false → actor_of p ≡ actor_of q → is_controller doc q.process ≡ true → A
+pub no_kubelet : (doc : Doc) (p q : Identity) (A : Type 0) → is_controller doc p.process ≡ false → actor_of p ≡ actor_of q → is_controller doc q.process ≡ true → A
 no_kubelet doc p q A other by role = absurd (true_is (sym role ∙ ap (λ (p : Identity). is_controller doc p.process) (sym (actor_is p q by)) ∙ other))
 
 asks_keeps : (doc : Doc) → Keeps doc (λ k step h. Asks doc h)

@@ -28,6 +28,7 @@ use Rattle.call_laws.proofs.Answering.{deliveries_position}
 use Rattle.call_laws.proofs.Placing.{within_answers, in_own_beat}
 use Rattle.call_laws.proofs.Starting.{actor_is}
 use Rattle.takeover_laws.proofs.Deliveries.{deliveries_add}
+use Rattle.takeover_laws.proofs.Asking.{call_or, reply_or}
 
 -- ---- an entry of step 3 is among the deliveries of its beat
 
@@ -99,14 +100,6 @@ is_delivery _ = false
 abbrev is_counted : Fact → Bool
 is_counted (Delivers call reply counted) = counted
 is_counted _ = false
-
-abbrev call_or : Call → Fact → Call
-call_or c (Delivers d reply counted) = d
-call_or c _ = c
-
-abbrev reply_or : Reply → Fact → Reply
-reply_or r (Delivers d reply counted) = reply
-reply_or r _ = r
 
 -- what comes above the reply is no delivery
 reply_stands : (k : ℕ) (q : Identity) (led : Bool) (f : Follow) (R : List Entry) (x : Entry) (T : List Entry) → is_delivery x.fact ≡ true → IsTail (x ∷ T) (react k q led f R) → IsTail (x ∷ T) R
