@@ -105,7 +105,7 @@ pub record HasLead (q : Identity) (h : List Entry) : Type 0 where
   pub actor : x.actor ≡ actor_of q
   pub fact : x.fact ≡ Leads version
 
-lead_in : (q : Identity) (h : List Entry) → leads q h ≡ true → HasLead q h
+pub lead_in : (q : Identity) (h : List Entry) → leads q h ≡ true → HasLead q h
 lead_in q [] is = absurd (false_is is)
 lead_in q (e ∷ h) is = cases (λ is. lead_in q h is) e.actor e.fact refl refl is
   where

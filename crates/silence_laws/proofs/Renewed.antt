@@ -1,6 +1,6 @@
 -- Up to the beat before it falls silent a leader renews its record: after each of its writes there is another one, a retry period and four ways
 -- later at most, if there was time to send it.
-use Rattle.std.proofs.Common.{◌≡◌, ◌⊎◌, ◌<◌, ◌≤◌, ℕ, suc, ◌+◌, ◌-◌, ◌*◌, ◌&&◌, not, Bool, true, false, cond, List, [], ◌∷◌, Option, Some, None, refl, sym, ap, ◌∙◌, subst, inl, inr, ⊎_elim, arith}
+use Rattle.std.proofs.Common.{◌≡◌, ◌⊎◌, ◌<◌, ◌≤◌, ℕ, suc, ◌+◌, ◌-◌, ◌*◌, ◌&&◌, not, true, cond, List, [], ◌∷◌, Option, Some, None, refl, sym, ap, ◌∙◌, subst, inl, inr, ⊎_elim, arith}
 use Rattle.std.proofs.lemmas.Bool.{eq-eqb}
 use Rattle.kube_base.specs.declared.numbers.Version.{Version}
 use Rattle.kube_objects.specs.declared.call.Reply.{Reply}
@@ -10,12 +10,12 @@ use Rattle.kube_objects.specs.declared.call.Request.TheVariants.{Get, Create, Up
 use Rattle.kube_objects.specs.declared.lease.Lease.{Lease}
 use Rattle.kube_objects.specs.declared.object.Object.{Object}
 use Rattle.kube_objects.specs.declared.object.Object.TheVariants as object
-use Rattle.kube_objects.specs.Answers.{lease_in, versioned, answer_get, answer_over, as_kind, answer, written, written_over, if_done}
+use Rattle.kube_objects.specs.Answers.{lease_in, answer_over, answer, written, written_over, if_done}
 use Rattle.kube_objects.specs.Clocks.{local}
 use Rattle.kube_objects.specs.Document.{Doc, end_beat, renew_deadline}
-use Rattle.kube_objects.specs.Elector.{Moment, Follow, Fails, Asks, Succeeds, shown, moment, observed_at, is_valid, updated, renewed, follow_get, follow, follow_on, succeeds, leads, attempt_from, attempt}
-use Rattle.kube_objects.specs.Entry.{Entry, Identity, Call, CallKind, Plain, Fast, Sends, Answers, Delivers, actor_of, entry}
-use Rattle.kube_objects.specs.Identities.{is_own, is_other}
+use Rattle.kube_objects.specs.Elector.{Moment, Asks, moment, observed_at, updated, follow, follow_on, succeeds, leads, attempt}
+use Rattle.kube_objects.specs.Entry.{Entry, Identity, Call, Plain, Sends, Answers, Delivers, actor_of, entry}
+use Rattle.kube_objects.specs.Identities.{is_other}
 use Rattle.kube_objects.specs.Newest.{has}
 use Rattle.kube_objects.specs.Stored.{Held, election, stored, next_version, at_key, write_of, request_write}
 use Rattle.kube_objects.specs.Turns.{react}
@@ -35,9 +35,8 @@ use Rattle.call_laws.proofs.Placing.{in_own_beat}
 use Rattle.takeover_laws.specs.Calm.{IsInTime}
 use Rattle.takeover_laws.proofs.Rounds.{sent_is, in_events}
 use Rattle.calm_laws.proofs.Origins.{Origin, origin, sends_differ}
-use Rattle.stay_laws.specs.Stays.{HasSuccess, Stays, LeadersStay, RenewsInTime}
+use Rattle.stay_laws.specs.Stays.{HasSuccess}
 use Rattle.stay_laws.proofs.Given.{IsGiven}
-use Rattle.stay_laws.proofs.Won.{Won}
 use Rattle.stay_laws.proofs.Rivals.{Own}
 use Rattle.stay_laws.proofs.Reacting.{replies_follow}
 use Rattle.stay_laws.proofs.Leading.{up_at, later}
@@ -49,8 +48,10 @@ use Rattle.stay_laws.proofs.Sendings as sendings
 use Rattle.stay_laws.proofs.Succeeded.{IsSet}
 use Rattle.stay_laws.proofs.Written as wrote
 use Rattle.stay_laws.proofs.Renewing as renewing
+use Rattle.stay_laws.proofs.Renewing.{get_found, own_asks, attempt_is}
 use Rattle.silence_laws.specs.Silence.{LeadsUntil, Bears}
-use Rattle.silence_laws.proofs.Setting.{IsWay, Arrives, request_arrives, calm_before, times_before}
+use Rattle.silence_laws.proofs.Setting.{Arrives, request_arrives, calm_before, times_before}
+use Rattle.silence_laws.proofs.Ways.{IsWay}
 
 -- ---- a write above a position, or the same is stored
 
@@ -73,39 +74,12 @@ same_or_above g (x ∷ T) (inr at) = by_write (at_key election (write_of x.fact)
 
 -- ---- requests and replies
 
--- a leader that was shown a version of its own asks for the record, or renews it on that version
-attempt_is : (doc : Doc) (q : Identity) (k : ℕ) (h : List Entry) (version : Version) (lease : Lease) → shown q h ≡ Some (version, lease)
-    → ((attempt doc q k h).1 ≡ Get election) ⊎ ((next : Lease) × ((attempt doc q k h).1 ≡ Update election version next))
-attempt_is doc q k h version lease is = by_test (doc.settings.fast_renew && leads q h)
-  where
-    m : Moment
-    m = moment doc q k
-
-    Either : CallKind × Request → Type 0
-    Either a = (a.1 ≡ Get election) ⊎ ((next : Lease) × (a.1 ≡ Update election version next))
-
-    by_own : (b : Bool) → Either (cond b (Fast, Update election version (renewed q m lease)) (Plain, Get election))
-    by_own true = inr (renewed q m lease, refl)
-    by_own false = inl refl
-
-    by_test : (b : Bool) → Either (cond b (attempt_from q m (observed_at doc q h) (shown q h)) (Plain, Get election))
-    by_test true = subst (λ o. Either (attempt_from q m (observed_at doc q h) o)) (sym is) (by_own (is_own q lease.holder && is_valid m.now (observed_at doc q h) lease))
-    by_test false = inl refl
-
 -- an update on the version that is stored writes
 update_writes : (h : List Entry) (x : Held) (version : Version) (lease : Lease) → stored election h ≡ Some x → x.version ≡ version
     → has (at_key election (request_write (Update election version lease) (written (Update election version lease) h))) ≡ true
 update_writes h x version lease top same =
     ap (λ o. has (at_key election (request_write (Update election version lease) (written_over o (Update election version lease) (answer_over (next_version h) o (Update election version lease)))))) top
     ∙ ap (λ b. has (at_key election (request_write (Update election version lease) (if_done (cond b (Done (next_version h)) (Conflict x.version)) (object.Lease lease))))) (eq-eqb x.version.0 version.0 (ap (λ (v : Version). v.0) same))
-
--- a Get finds a stored Lease
-get_found : (h : List Entry) (x : Held) (lease : Lease) → stored election h ≡ Some x → lease_in x.object ≡ Some lease → answer (Get election) h ≡ Found x.version lease
-get_found h x lease top is = ap (λ o. answer_get (as_kind lease_in o)) top ∙ ap (λ l. answer_get (versioned x.version l)) is
-
--- and one's own is renewed
-own_asks : (q : Identity) (m : Moment) (seen : ℕ) (version : Version) (lease : Lease) → is_other q lease.holder ≡ false → follow_get q m seen (Found version lease) ≡ Asks (Update election version (updated q m lease))
-own_asks q m seen version lease own = ap (λ b. cond (b && is_valid m.now seen lease) Fails (Asks (Update election version (updated q m lease)))) own
 
 -- what succeeds is done
 pub done_of : (r : Request) (reply : Reply) → succeeds r reply ≡ true → (version : Version) × (reply ≡ Done version)
@@ -129,13 +103,6 @@ done_of (Update key given lease) reply so = by_reply reply so
     by_reply Exists so = absurd (false_is so)
     by_reply (Conflict version) so = absurd (false_is so)
     by_reply Unchanged so = absurd (false_is so)
-
--- a reaction has the reply below it
-reacted_on : (k : ℕ) (q : Identity) (led : Bool) (f : Follow) (h : List Entry) → IsTail h (react k q led f h)
-reacted_on k q led Fails h = tail_all h
-reacted_on k q led (Asks request) h = inr (tail_all h)
-reacted_on k q true (Succeeds version) h = tail_all h
-reacted_on k q false (Succeeds version) h = inr (tail_all h)
 
 module _ (doc : Doc) (near far b e : ℕ) (q : Identity) (l : LeadsUntil doc near far b e q) (s : Bears doc near far b e q) where
   abbrev pub a : ℕ
