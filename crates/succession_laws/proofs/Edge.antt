@@ -38,7 +38,8 @@ use Rattle.silence_laws.proofs.Kept.{not_below}
 use Rattle.succession_laws.proofs.Ordered.{AreAnswered, ordered}
 use Rattle.succession_laws.proofs.Records.{IsIts, is_its, entries_rise}
 use Rattle.silence_laws.proofs.Renewed.{WroteAbove, same_or_above}
-use Rattle.silence_laws.proofs.Setting.{IsWay, request_way}
+use Rattle.silence_laws.proofs.Setting.{request_way}
+use Rattle.silence_laws.proofs.Ways.{IsWay}
 use Rattle.succession_laws.proofs.Timely.{first, first_low, writer_is_its}
 use Rattle.succession_laws.proofs.Turns.{SendsPlainly, sends_plainly}
 

@@ -1,61 +1,20 @@
 -- Whoever has come to lead has had a success by which it did.
-use Rattle.std.proofs.Common.{◌≡◌, ◌≤◌, ℕ, suc, Bool, true, false, List, [], ◌∷◌, refl, sym, ap, ◌∙◌, subst, inl, inr, ⊎_elim, arith}
-use Rattle.kube_base.specs.declared.numbers.Version.{Version}
+use Rattle.std.proofs.Common.{◌≡◌, ◌≤◌, ℕ, suc, true, List, [], ◌∷◌, sym, ap, ◌∙◌, subst, inr, ⊎_elim, arith}
 use Rattle.kube_objects.specs.declared.call.Reply.{Reply}
 use Rattle.kube_objects.specs.declared.call.Reply.TheVariants.{Done}
-use Rattle.kube_objects.specs.declared.deed.Actor.{Actor}
 use Rattle.kube_objects.specs.Document.{Doc}
-use Rattle.kube_objects.specs.Elector.{lead_says, leads, succeeds}
-use Rattle.kube_objects.specs.Entry.{Entry, Identity, Fact, First, Event, Starts, Stops, Sends, Answers, Delivers, Expires, Leads, Ends, Crashes, Stalls, Ticks, actor_of, entry}
-use Rattle.kube_objects.specs.Newest.{newest, when, has}
-use Rattle.kube_objects.specs.Identities.{is_by}
+use Rattle.kube_objects.specs.Elector.{leads, succeeds}
+use Rattle.kube_objects.specs.Entry.{Entry, Identity, Delivers, entry}
 use Rattle.history.specs.History.{history}
 use Rattle.history_laws.specs.Tails.{IsTail}
 use Rattle.history_laws.proofs.Order.{entries_are_earlier}
-use Rattle.history_laws.proofs.Plainly.{upper, false_is}
 use Rattle.history_laws.proofs.Tailed.{tail_all, tail_trans}
 use Rattle.gap_laws.proofs.Steps.{IsSuccess, success_is}
 use Rattle.call_laws.proofs.Above.{in_head}
 use Rattle.call_laws.proofs.Placing.{in_own_beat}
 use Rattle.call_laws.proofs.Starting.{actor_is}
-use Rattle.calm_laws.proofs.Begun.{by_is}
 use Rattle.settle_laws.proofs.Successes.{Comes, ComesBy, leads_come}
-use Rattle.silence_laws.proofs.Led.{HasLed}
-
--- a lead of an identity
-pub record HasLead (q : Identity) (h : List Entry) : Type 0 where
-  pub x : Entry
-  pub before : List Entry
-  pub version : Version
-  pub position : IsTail (x ∷ before) h
-  pub actor : x.actor ≡ actor_of q
-  pub fact : x.fact ≡ Leads version
-
-lead_in : (q : Identity) (h : List Entry) → leads q h ≡ true → HasLead q h
-lead_in q [] is = absurd (false_is is)
-lead_in q (e ∷ h) is = cases (λ is. lead_in q h is) e.actor e.fact refl refl is
-  where
-    older : HasLead q h → HasLead q (e ∷ h)
-    older s = record { x = s.x; before = s.before; version = s.version; position = inr s.position; actor = s.actor; fact = s.fact }
-
-    cases : (leads q h ≡ true → HasLead q h) → (who : Actor) (d : Fact) → e.actor ≡ who → e.fact ≡ d → has (upper (lead_says q who d) (newest (λ e T. lead_says q e.actor e.fact) h)) ≡ true → HasLead q (e ∷ h)
-    cases on who (Leads version) actor fact is = by_own (is_by q who) refl
-      where
-        by_own : (b : Bool) → is_by q who ≡ b → HasLead q (e ∷ h)
-        by_own true mine = record { x = e; before = h; version = version; position = inl refl; actor = actor ∙ by_is q who mine; fact = fact }
-        by_own false other = older (on (subst (λ b. has (upper (when b version) (newest (λ e T. lead_says q e.actor e.fact) h)) ≡ true) other is))
-    cases on who (First key object) actor fact is = older (on is)
-    cases on who (Event w version) actor fact is = older (on is)
-    cases on who Starts actor fact is = older (on is)
-    cases on who Crashes actor fact is = older (on is)
-    cases on who Stops actor fact is = older (on is)
-    cases on who (Stalls beats) actor fact is = older (on is)
-    cases on who (Sends call arrives) actor fact is = older (on is)
-    cases on who (Answers call reply comes wrote) actor fact is = older (on is)
-    cases on who (Delivers call reply counted) actor fact is = older (on is)
-    cases on who (Expires call) actor fact is = older (on is)
-    cases on who Ends actor fact is = older (on is)
-    cases on who (Ticks t) actor fact is = older (on is)
+use Rattle.silence_laws.proofs.Led.{HasLed, HasLead, lead_in}
 
 pub leads_led : (doc : Doc) (q : Identity) (k : ℕ) (g : List Entry) → IsTail g (history doc (suc k)) → leads q g ≡ true → HasLed doc q k
 leads_led doc q k g high leads_it = from_lead (lead_in q g leads_it)

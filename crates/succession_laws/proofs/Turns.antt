@@ -14,11 +14,10 @@ use Rattle.kube_objects.specs.Stamps.{stamped}
 use Rattle.kube_objects.specs.Stored.{election}
 use Rattle.history.specs.History.{put_all, history}
 use Rattle.history_laws.specs.Tails.{IsTail}
-use Rattle.history_laws.proofs.Plainly.{true_is}
 use Rattle.history_laws.proofs.Tailed.{tail_of_empty, same_head}
 use Rattle.history_laws.proofs.Ticks.{walk_tick}
 use Rattle.history_laws.proofs.Walk.{after_reply, stopped_at, Keeps, walk_history}
-use Rattle.call_laws.proofs.Starting.{actor_is}
+use Rattle.calm_laws.proofs.Requests.{no_kubelet}
 
 -- what is sent is no renewal without a Get, and in a turn it is a Get
 abbrev pub SendsPlainly : Doc → ℕ → Actor → Fact → Type 0
@@ -31,10 +30,6 @@ Plainly doc h = (x : Entry) (before : List Entry) → IsTail (x ∷ before) h �
 more : (doc : Doc) (x : Entry) (h : List Entry) → SendsPlainly doc x.step x.actor x.fact → Plainly doc h → Plainly doc (x ∷ h)
 more doc x h new s e before (inl is) = subst (λ (e : Entry). SendsPlainly doc e.step e.actor e.fact) (sym (same_head e x before h is)) new
 more doc x h new s e before (inr at) = s e before at
-
--- a kubelet is no controller
-no_kubelet : (doc : Doc) (p q : Identity) (A : Type 0) → is_controller doc p.process ≡ false → actor_of p ≡ actor_of q → is_controller doc q.process ≡ true → A
-no_kubelet doc p q A other by role = absurd (true_is (sym role ∙ ap (λ (p : Identity). is_controller doc p.process) (sym (actor_is p q by)) ∙ other))
 
 module _ (doc : Doc) (slowly : doc.settings.fast_renew ≡ false) where
   attempt_plain : (q : Identity) (k : ℕ) (h : List Entry) → attempt doc q k h ≡ (Plain, Get election)
