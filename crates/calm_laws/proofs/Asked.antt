@@ -15,7 +15,7 @@ use Rattle.history_laws.specs.Tails.{IsTail}
 use Rattle.history_laws.proofs.Plainly.{none_is}
 use Rattle.call_laws.proofs.Making.{MadeAs, MadeSend, HasStopped, IsOpen, Replied, are_made}
 use Rattle.call_laws.proofs.Starting.{actor_is}
-use Rattle.calm_laws.proofs.Requests.{AsksInTurn, asks_in_turn}
+use Rattle.calm_laws.proofs.Requests.{asks_in_turn}
 
 -- ---- what follows a reply
 
@@ -106,7 +106,7 @@ reason_of doc m q role x T call arrives at actor fact unled opens = by_step made
     request = sym (ap (λ (c : Call). c.request) made.call_is)
 
     by_step : (x.step ≡ 1) ⊎ ((x.step ≡ 3) ⊎ (x.step ≡ 4)) → Reason doc x.beat q call.request T × (3 ≤ x.step)
-    by_step (inr (inr four)) = (InTurn (subst (λ d. AsksInTurn doc x.step x.actor d T) fact (asks_in_turn doc m x T at) four q actor role unled), omega (arith, four))
+    by_step (inr (inr four)) = (InTurn (asks_in_turn doc m x T q call arrives at actor fact four role unled), omega (arith, four))
     by_step (inr (inl three)) = (AfterReply (subst (λ r. Replied doc x.beat q r T) request (subst (λ p. Replied doc x.beat p made.request T) mine (made.replied role_made three))), omega (arith, three))
     by_step (inl one) = absurd (by_free (made.free role_made))
       where

@@ -481,7 +481,7 @@ module _ (doc : Doc) (near far a e n : ℕ) (one : 1 ≤ near) (ways : near ≤ 
               ⊎_elim (λ lt. no_old s.call r (in_beat r r_high) b G low_r from_a lt (omega (arith, room)))
               (λ le. waited s.call r (in_beat r r_high) b low_r from_a (beat_by b.f b.before f_high) le) (cases_lt (b.f.beat + 2 * far) G)
       by_turn (inr (inl s)) =
-          asked x s.above call arrives at_x refl refl (asks_in_turn doc (suc n) x s.above at_x refl q refl role (led s.above (tail_trans s.above (x ∷ s.above) (history doc (suc n)) (inr (tail_all s.above)) at_x)))
+          asked x s.above call arrives at_x refl refl (asks_in_turn doc (suc n) x s.above q call arrives at_x refl refl refl role (led s.above (tail_trans s.above (x ∷ s.above) (history doc (suc n)) (inr (tail_all s.above)) at_x)))
           (tail_trans (with_events doc a) r s.above low_0 s.low)
           (stays r low_0 up s.above s.low (tail_trans s.above (x ∷ s.above) (history doc (suc n)) (inr (tail_all s.above)) at_x))
           (omega (arith, after, some, some_wait)) (omega arith) (λ y reply before least most delivered. omega (arith, least, after, some_wait))
