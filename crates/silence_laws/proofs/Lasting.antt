@@ -1,5 +1,5 @@
 -- For how long nobody else comes to lead after a leader has fallen silent.
-use Rattle.std.proofs.Common.{◌≡◌, ◌⊎◌, ◌<◌, ◌≤◌, ℕ, suc, ◌+◌, ◌-◌, ◌*◌, true, ◌∷◌, Some, refl, sym, ap, ◌∙◌, inl, inr, ⊎_elim, arith}
+use Rattle.std.proofs.Common.{◌≡◌, ◌<◌, ◌≤◌, ℕ, suc, ◌+◌, ◌-◌, ◌*◌, true, ◌∷◌, Some, refl, sym, ap, ◌∙◌, inl, inr, ⊎_elim, arith}
 use Rattle.std.specs.Int.{div_ceil}
 use Rattle.kube_objects.specs.Document.{Doc, is_controller, lease_duration, retry_period}
 use Rattle.kube_objects.specs.Entry.{Entry, Identity, Stops, actor_of}
@@ -20,7 +20,7 @@ use Rattle.silence_laws.specs.Silence.{LeadsUntil, Bears}
 use Rattle.silence_laws.proofs.Chain.{opens_of}
 use Rattle.silence_laws.proofs.Lasted.{taken_late}
 use Rattle.silence_laws.proofs.Leading as leading
-use Rattle.silence_laws.proofs.Led.{LedBy}
+use Rattle.calm_laws.proofs.Added.{LedBy}
 use Rattle.silence_laws.proofs.Owning.{IsForeign, own_or_foreign, sent_early}
 use Rattle.silence_laws.proofs.Recent.{recent}
 use Rattle.silence_laws.proofs.Rival.{w, elsewhere}

@@ -1,5 +1,5 @@
 -- What a leader that falls silent wrote by calls of before: its own record.
-use Rattle.std.proofs.Common.{◌≡◌, ◌⊎◌, ◌<◌, ◌≤◌, ℕ, suc, ◌-◌, ◌==◌, ◌&&◌, Bool, true, false, List, [], ◌∷◌, length, Option, Some, None, IfSome, refl, sym, ap, ◌∙◌, subst, inl, inr, ⊎_elim, arith}
+use Rattle.std.proofs.Common.{◌≡◌, ◌⊎◌, ◌<◌, ◌≤◌, ℕ, suc, ◌-◌, ◌&&◌, Bool, true, false, List, [], ◌∷◌, length, Option, Some, None, IfSome, refl, sym, ap, ◌∙◌, subst, inl, inr, ⊎_elim, arith}
 use Rattle.std.proofs.lemmas.Bool.{cases_lt}
 use Rattle.kube_objects.specs.declared.call.Reply.{Reply}
 use Rattle.kube_objects.specs.declared.call.Reply.TheVariants.{Done, Found, Absent, Exists, Conflict, Unchanged}
@@ -15,7 +15,7 @@ use Rattle.kube_objects.specs.Identities.{identity_of, holder_of, is_by, of_proc
 use Rattle.kube_objects.specs.Keys.{key_eq}
 use Rattle.kube_objects.specs.Newest.{added, when, has, join}
 use Rattle.kube_objects.specs.Process.{is_stop, stops}
-use Rattle.kube_objects.specs.Stored.{Held, election, stored, last_write, holds, request_write, at_key, write_of, next_version}
+use Rattle.kube_objects.specs.Stored.{key_of, Held, election, stored, last_write, holds, request_write, at_key, write_of, next_version}
 use Rattle.kube_objects.specs.Wire.{request_arrival}
 use Rattle.history.specs.History.{history}
 use Rattle.history.specs.Premise.{greatest_below}
@@ -63,26 +63,18 @@ pub when_there : (t : Bool) (y : Object) → has (when t (Some y)) ≡ true → 
 when_there true y is = refl
 when_there false y is = absurd (false_is is)
 
+leased_by : (r : Request) (lease : Lease) (reply : Reply) → has (at_key election (request_write r (if_done reply (object.Lease lease)))) ≡ true → at_key election (request_write r (if_done reply (object.Lease lease))) ≡ Some (Some (object.Lease lease))
+leased_by r lease (Done version) is = when_there (key_eq (key_of r) election) (object.Lease lease) is
+leased_by r lease Absent is = absurd (false_is is)
+leased_by r lease (Found version l) is = absurd (false_is is)
+leased_by r lease Exists is = absurd (false_is is)
+leased_by r lease (Conflict version) is = absurd (false_is is)
+leased_by r lease Unchanged is = absurd (false_is is)
+
 pub leased : (r : Request) (h : List Entry) → has (at_key election (request_write r (written r h))) ≡ true → Leased r (at_key election (request_write r (written r h)))
 leased (Get key) h is = absurd (false_is is)
-leased (Create key lease) h is = by_reply (answer (Create key lease) h) is
-  where
-    by_reply : (reply : Reply) → has (at_key election (request_write (Create key lease) (if_done reply (object.Lease lease)))) ≡ true → at_key election (request_write (Create key lease) (if_done reply (object.Lease lease))) ≡ Some (Some (object.Lease lease))
-    by_reply (Done version) is = when_there (key_eq key election) (object.Lease lease) is
-    by_reply Absent is = absurd (false_is is)
-    by_reply (Found version l) is = absurd (false_is is)
-    by_reply Exists is = absurd (false_is is)
-    by_reply (Conflict version) is = absurd (false_is is)
-    by_reply Unchanged is = absurd (false_is is)
-leased (Update key given lease) h is = by_reply (answer (Update key given lease) h) is
-  where
-    by_reply : (reply : Reply) → has (at_key election (request_write (Update key given lease) (if_done reply (object.Lease lease)))) ≡ true → at_key election (request_write (Update key given lease) (if_done reply (object.Lease lease))) ≡ Some (Some (object.Lease lease))
-    by_reply (Done version) is = when_there (key_eq key election) (object.Lease lease) is
-    by_reply Absent is = absurd (false_is is)
-    by_reply (Found version l) is = absurd (false_is is)
-    by_reply Exists is = absurd (false_is is)
-    by_reply (Conflict version) is = absurd (false_is is)
-    by_reply Unchanged is = absurd (false_is is)
+leased (Create key lease) h is = leased_by (Create key lease) lease (answer (Create key lease) h) is
+leased (Update key given lease) h is = leased_by (Update key given lease) lease (answer (Update key given lease) h) is
 leased (PostStatus name status at) h is = by_written (written (PostStatus name status at) h) is
   where
     by_written : (o : Option Object) → has (at_key election (request_write (PostStatus name status at) o)) ≡ true → ⊥

@@ -1,5 +1,5 @@
 -- After a leader's release nobody comes to lead before four messages have travelled.
-use Rattle.std.proofs.Common.{◌≡◌, ◌⊎◌, ◌<◌, ◌≤◌, ℕ, suc, ◌+◌, ◌-◌, ◌*◌, ◌==◌, Bool, true, false, List, [], ◌∷◌, Option, Some, None, refl, sym, ap, ◌∙◌, subst, inl, inr, ⊎_elim, arith}
+use Rattle.std.proofs.Common.{◌≡◌, ◌⊎◌, ◌<◌, ◌≤◌, ℕ, suc, ◌+◌, ◌*◌, ◌==◌, Bool, true, false, List, [], ◌∷◌, Option, Some, None, refl, sym, ap, ◌∙◌, subst, inl, inr, ⊎_elim, arith}
 use Rattle.std.proofs.lemmas.Bool.{eq-eqb, eqb-true}
 use Rattle.kube_objects.specs.declared.call.Reply.{Reply}
 use Rattle.kube_objects.specs.declared.call.Reply.TheVariants.{Done}
@@ -42,13 +42,13 @@ use Rattle.silence_laws.specs.Silence.{LeadsUntil, Bears, IsStopped, IsReleased}
 use Rattle.silence_laws.proofs.Chain.{opens_of}
 use Rattle.silence_laws.proofs.Kept.{Kept, kept_of, IsFound, found_kept, not_below}
 use Rattle.silence_laws.proofs.Leading as leading
-use Rattle.silence_laws.proofs.Led.{LedBy}
+use Rattle.calm_laws.proofs.Added.{LedBy, StoppedUp, stops_up}
 use Rattle.silence_laws.proofs.Looking.{asks_election}
 use Rattle.silence_laws.proofs.Owning.{IsQuietIn, IsForeign, own_or_foreign}
 use Rattle.silence_laws.proofs.Recent.{recent}
 use Rattle.silence_laws.proofs.Rival.{expired_by, IsUpdate, accepted_update, IsFree, get_free}
 use Rattle.silence_laws.proofs.Setting.{own_process}
-use Rattle.silence_laws.proofs.Stopping.{StoppedUp, stops_up, stays_down}
+use Rattle.silence_laws.proofs.Stopping.{stays_down}
 use Rattle.silence_laws.proofs.Taken.{first, first_e, ways, long_after, sent_before}
 use Rattle.silence_laws.proofs.Taken as taken
 use Rattle.silence_laws.proofs.Waiting.{history_below, beats_rise, never_expires, counted_after}

@@ -1,6 +1,6 @@
 -- Up to the beat before it falls silent a leader renews its record: after each of its writes there is another one, a retry period and four ways
 -- later at most, if there was time to send it.
-use Rattle.std.proofs.Common.{◌≡◌, ◌⊎◌, ◌<◌, ◌≤◌, ℕ, suc, ◌+◌, ◌-◌, ◌*◌, ◌&&◌, not, true, cond, List, [], ◌∷◌, Option, Some, None, refl, sym, ap, ◌∙◌, subst, inl, inr, ⊎_elim, arith}
+use Rattle.std.proofs.Common.{◌≡◌, ◌⊎◌, ◌<◌, ◌≤◌, ℕ, suc, ◌+◌, ◌-◌, ◌*◌, not, true, cond, List, [], ◌∷◌, Option, Some, None, refl, sym, ap, ◌∙◌, subst, inl, inr, ⊎_elim, arith}
 use Rattle.std.proofs.lemmas.Bool.{eq-eqb}
 use Rattle.kube_base.specs.declared.numbers.Version.{Version}
 use Rattle.kube_objects.specs.declared.call.Reply.{Reply}
@@ -13,7 +13,7 @@ use Rattle.kube_objects.specs.declared.object.Object.TheVariants as object
 use Rattle.kube_objects.specs.Answers.{lease_in, answer_over, answer, written, written_over, if_done}
 use Rattle.kube_objects.specs.Clocks.{local}
 use Rattle.kube_objects.specs.Document.{Doc, end_beat, renew_deadline}
-use Rattle.kube_objects.specs.Elector.{Moment, Asks, moment, observed_at, updated, follow, follow_on, succeeds, leads, attempt}
+use Rattle.kube_objects.specs.Elector.{is_done, Moment, Asks, moment, observed_at, updated, follow, follow_on, succeeds, leads, attempt}
 use Rattle.kube_objects.specs.Entry.{Entry, Identity, Call, Plain, Sends, Answers, Delivers, actor_of, entry}
 use Rattle.kube_objects.specs.Identities.{is_other}
 use Rattle.kube_objects.specs.Newest.{has}
@@ -82,27 +82,19 @@ update_writes h x version lease top same =
     ∙ ap (λ b. has (at_key election (request_write (Update election version lease) (if_done (cond b (Done (next_version h)) (Conflict x.version)) (object.Lease lease))))) (eq-eqb x.version.0 version.0 (ap (λ (v : Version). v.0) same))
 
 -- what succeeds is done
+done_by : (reply : Reply) → is_done reply ≡ true → (version : Version) × (reply ≡ Done version)
+done_by (Done version) so = (version, refl)
+done_by Absent so = absurd (false_is so)
+done_by (Found version l) so = absurd (false_is so)
+done_by Exists so = absurd (false_is so)
+done_by (Conflict version) so = absurd (false_is so)
+done_by Unchanged so = absurd (false_is so)
+
 pub done_of : (r : Request) (reply : Reply) → succeeds r reply ≡ true → (version : Version) × (reply ≡ Done version)
 done_of (Get key) reply so = absurd (false_is so)
 done_of (PostStatus name status at) reply so = absurd (false_is so)
-done_of (Create key lease) reply so = by_reply reply so
-  where
-    by_reply : (reply : Reply) → succeeds (Create key lease) reply ≡ true → (version : Version) × (reply ≡ Done version)
-    by_reply (Done version) so = (version, refl)
-    by_reply Absent so = absurd (false_is so)
-    by_reply (Found version l) so = absurd (false_is so)
-    by_reply Exists so = absurd (false_is so)
-    by_reply (Conflict version) so = absurd (false_is so)
-    by_reply Unchanged so = absurd (false_is so)
-done_of (Update key given lease) reply so = by_reply reply so
-  where
-    by_reply : (reply : Reply) → succeeds (Update key given lease) reply ≡ true → (version : Version) × (reply ≡ Done version)
-    by_reply (Done version) so = (version, refl)
-    by_reply Absent so = absurd (false_is so)
-    by_reply (Found version l) so = absurd (false_is so)
-    by_reply Exists so = absurd (false_is so)
-    by_reply (Conflict version) so = absurd (false_is so)
-    by_reply Unchanged so = absurd (false_is so)
+done_of (Create key lease) reply so = done_by reply so
+done_of (Update key given lease) reply so = done_by reply so
 
 module _ (doc : Doc) (near far b e : ℕ) (q : Identity) (l : LeadsUntil doc near far b e q) (s : Bears doc near far b e q) where
   abbrev pub a : ℕ
