@@ -48,7 +48,6 @@ use Rattle.takeover_laws.proofs.Writers.{sends_of}
 use Rattle.heard_laws.specs.Heard.{is_about, tells_of}
 use Rattle.heard_laws.specs.Kubelet.{IsLeftAlone, PutsAreOfKind}
 use Rattle.heard_laws.proofs.Sending.{by_is}
-use Rattle.calm_laws.proofs.Asked.{fails_not}
 use Rattle.outage_laws.proofs.Marked.{other_node}
 
 -- the answer to a call that was sent at beat s or later
@@ -71,6 +70,9 @@ TellsAlone doc s e q name =
 
 asks_same : (a b : Request) → Asks a ≡ Asks b → a ≡ b
 asks_same a b is = cc
+
+fails_not : (r : Request) → Fails ≡ Asks r → ⊥
+fails_not r is = cc
 
 succeeds_not : (r : Request) → {v : _} → Succeeds v ≡ Asks r → ⊥
 succeeds_not r is = cc
