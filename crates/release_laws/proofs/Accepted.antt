@@ -1,5 +1,5 @@
 -- A leader in a calm was stopped and its release was accepted: below it stands the leader's own record, and above it the released one.
-use Rattle.std.proofs.Common.{◌≡◌, ◌⊎◌, ◌<◌, ◌≤◌, ℕ, suc, ◌+◌, ◌*◌, ◌==◌, true, List, [], ◌∷◌, length, Option, Some, None, IfSome, refl, sym, ap, ◌∙◌, subst, inl, inr, ⊎_elim, arith}
+use Rattle.std.proofs.Common.{◌≡◌, ◌<◌, ◌≤◌, ℕ, suc, ◌+◌, ◌*◌, true, List, [], ◌∷◌, length, Option, Some, None, IfSome, refl, sym, ap, ◌∙◌, subst, inl, inr, ⊎_elim, arith}
 use Rattle.std.proofs.lemmas.Bool.{cases_eq}
 use Rattle.kube_objects.specs.declared.call.Reply.{Reply}
 use Rattle.kube_objects.specs.declared.call.Reply.TheVariants.{Done, Found, Absent, Exists, Conflict, Unchanged}
@@ -122,7 +122,7 @@ module _ (doc : Doc) (near far b e : ℕ) (q : Identity) (l : LeadsUntil doc nea
   released = entry rel.at 2 q (Answers rel.call (Done rel.version) rel.comes (Some rel.object)) ∷ R
 
   frees : Frees rel.call.request
-  frees = releases_free doc (suc e) (entry b 1 q (Sends rel.call (Some rel.at))) F F_e rel.kind
+  frees = releases_free doc (suc e) (entry b 1 q (Sends rel.call (Some rel.at))) F q rel.call (Some rel.at) F_e refl refl rel.kind
 
   left : IsFreed rel.object
   left = freed rel.call.request R rel.object frees (made.written_is ∙ ap (λ (c : Call). written c.request R) (sym made.call_is))

@@ -1,13 +1,13 @@
 -- After a leader was stopped and its release was accepted another controller comes to lead in time, and stays.
-use Rattle.std.proofs.Common.{◌≡◌, ◌⊎◌, ◌<◌, ◌≤◌, ℕ, zero, suc, ◌+◌, ◌-◌, ◌*◌, Bool, true, false, List, ◌∷◌, Option, Some, None, refl, sym, ap, ◌∙◌, inr, ⊎_elim, arith}
+use Rattle.std.proofs.Common.{◌≡◌, ◌<◌, ◌≤◌, ℕ, zero, suc, ◌+◌, ◌-◌, ◌*◌, Bool, true, false, List, ◌∷◌, Option, Some, None, refl, sym, ap, ◌∙◌, inr, ⊎_elim, arith}
 use Rattle.std.specs.Int.{div_ceil}
 use Rattle.std.proofs.lemmas.Bool.{cases_lt}
 use Rattle.kube_objects.specs.declared.call.Reply.{Reply}
 use Rattle.kube_objects.specs.declared.call.Reply.TheVariants.{Done}
 use Rattle.kube_objects.specs.declared.call.Request.TheVariants.{Get}
 use Rattle.kube_objects.specs.Answers.{lease_in, as_kind, answer_get, answer, written}
-use Rattle.kube_objects.specs.Document.{Doc, processes, is_controller, retry_period}
-use Rattle.kube_objects.specs.Elector.{moment, follow_get, follow, leads, observed_at, deadline}
+use Rattle.kube_objects.specs.Document.{Doc, is_controller, retry_period}
+use Rattle.kube_objects.specs.Elector.{moment, follow_get, follow, leads, observed_at}
 use Rattle.kube_objects.specs.Entry.{Entry, Identity, Call, Answers, Sends, Delivers, actor_of, entry}
 use Rattle.kube_objects.specs.Identities.{identity}
 use Rattle.kube_objects.specs.Newest.{has}
@@ -18,17 +18,13 @@ use Rattle.history.specs.History.{history, at_turn}
 use Rattle.history.specs.Safe.{Acts}
 use Rattle.history_laws.specs.Tails.{IsTail}
 use Rattle.history_laws.proofs.Plainly.{true_is}
-use Rattle.history_laws.proofs.Tailed.{tail_all, tail_trans, later_tail, turn_tail, before_turn}
+use Rattle.history_laws.proofs.Tailed.{tail_all, tail_trans, later_tail}
 use Rattle.span_laws.specs.Spans.{IsEnough}
-use Rattle.call_laws.specs.Answering.{with_events}
-use Rattle.call_laws.proofs.Answering.{events_position}
 use Rattle.call_laws.proofs.Placing.{in_own_beat, not_before}
 use Rattle.takeover_laws.specs.Calm.{IsSteady}
 use Rattle.takeover_laws.specs.Rounds.{IsRound}
 use Rattle.takeover_laws.specs.Taking.{FitsStored}
 use Rattle.takeover_laws.proofs.Rounds.{rounds_in}
-use Rattle.takeover_laws.proofs.Standing.{controllers_first, persists}
-use Rattle.calm_laws.proofs.Life.{never_led, restart_same}
 use Rattle.calm_laws.proofs.Origins.{Origin, origin}
 use Rattle.stay_laws.specs.Stays.{HasSuccess}
 use Rattle.stay_laws.proofs.Staying.{leaders_stay}
@@ -37,14 +33,14 @@ use Rattle.silence_laws.specs.Silence.{LeadsUntil, Bears, IsStopped, IsReleased}
 use Rattle.silence_laws.proofs.Ways as ways_of
 use Rattle.silence_laws.proofs.Ways.{reply_way}
 use Rattle.succession_laws.proofs.First.{none_first}
-use Rattle.silence_laws.proofs.Led.{HasLed, acting_led}
-use Rattle.succession_laws.proofs.Led.{leads_led}
+use Rattle.silence_laws.proofs.Led.{HasLed, acting_led, leads_led}
 use Rattle.calm_laws.proofs.Asked.{IsWrite}
 use Rattle.span_laws.proofs.Quotients.{rounded_is}
 use Rattle.span_laws.specs.Looks.{IsGreatest}
 use Rattle.succession_laws.specs.Successions.{RepliesCome, IsRival, IsFollowed}
 use Rattle.succession_laws.proofs.Following.{fits_of, fits_writes}
 use Rattle.succession_laws.proofs.Others.{Another, another}
+use Rattle.succession_laws.proofs.Others as others
 use Rattle.release_laws.specs.Releases.{OthersRenewAround, ReleasesAreFollowed, ReleasesAreTold}
 use Rattle.release_laws.proofs.Accepted.{R, IsFree, released, is_free, lasts, none_writes, same_since}
 use Rattle.release_laws.proofs.Answered.{meets, Late, late_write}
@@ -159,22 +155,11 @@ module _ (doc : Doc) (near far b e : ℕ) (q : Identity) (l : LeadsUntil doc nea
     idle_ends : ((r : Identity) → is_controller doc r.process ≡ true → (r.process ≡ q.process → ⊥) → (k : ℕ) → k ≤ n → Acts doc r k → ⊥) → ⊥
     idle_ends idle = by_up (alive p S) refl
       where
-        first_p : p < processes doc
-        first_p = controllers_first doc p rival.role
-
-        s_high : IsTail S (history doc (suc b))
-        s_high = turn_tail doc (suc p) b (omega (arith, first_p))
-
-        s_low : IsTail (with_events doc 0) S
-        s_low =
-            tail_trans (with_events doc 0) (history doc b) S
-            (tail_trans (with_events doc 0) (history doc 1) (history doc b) (events_position doc 0) (later_tail doc 1 b (omega (arith, l.long, a_way)))) (before_turn doc (suc p) b)
-
         with_identity : (i : ℕ) → alive p S ≡ Some i → ⊥
         with_identity i up =
-            none_first doc near far e n s.one s.ways within c rival.role (l.others p rival.role rival.other) (s.calls p rival.role) none led_not 0 top (lasts doc near far b e q l s stop rel) (b + 2 * far) (omega (arith, a_way))
+            none_first doc near far e n s.one s.ways within c rival.role (l.others p rival.role rival.other) (s.calls p rival.role) (others.none doc near far b e q l s p rival.role rival.other n within (omega arith) idle i up) led_not 0 top (lasts doc near far b e q l s stop rel) (b + 2 * far) (omega (arith, a_way))
             (given c rival.role rival.other n within idle led_not) (no_writes c rival.role rival.other n within idle led_not) slow fast wait 0 b (omega arith) rival.runs_least rival.runs_most (s.waits p rival.role) wait_is (λ m le. omega arith) 0 0 (omega arith) greatest
-            G (omega (arith, some_wait, a_way)) (omega (arith, some_wait, a_way)) (omega (arith, a_way, some_wait)) (ap (alive p) (restart_same doc G p i (at_turn doc p G) there) ∙ there)
+            G (omega (arith, some_wait, a_way)) (omega (arith, some_wait, a_way)) (omega (arith, a_way, some_wait)) (others.there doc near far b e q l s p rival.role rival.other n within (omega arith) idle i up G (omega (arith, a_way, some_wait)) (omega (arith, a_way, some_wait)))
           where
             c : Identity
             c = identity p i
@@ -186,22 +171,8 @@ module _ (doc : Doc) (near far b e : ℕ) (q : Identity) (l : LeadsUntil doc nea
             greatest : IsGreatest (0 + 2 * near) (wait + 2 * far) 0 0
             greatest beats at_most = omega (arith, at_most.0 0 (omega arith))
 
-            none : (k : ℕ) → 0 ≤ k → k ≤ n → Acts doc c k → ⊥
-            none k from to = idle c rival.role rival.other k to
-
-            late : (h : List Entry) → IsTail S h → IsTail h (history doc (suc n)) → alive p h ≡ Some i
-            late h low high = persists doc near far 0 e n c rival.role (s.calls p rival.role).deadline (l.others p rival.role rival.other) within none (omega arith) S h s_low low high up
-
             led_not : (h : List Entry) → IsTail h (history doc (suc n)) → leads c h ≡ false
-            led_not =
-                never_led doc near far 0 e n c rival.role (s.calls p rival.role).deadline (l.others p rival.role rival.other) within none (omega arith)
-                (late (history doc (suc n)) (tail_trans S (history doc (suc b)) (history doc (suc n)) s_high (later_tail doc (suc b) (suc n) (omega arith))) (tail_all (history doc (suc n))))
-
-            there : alive p (at_turn doc p G) ≡ Some i
-            there =
-                late (at_turn doc p G)
-                (tail_trans S (history doc G) (at_turn doc p G) (tail_trans S (history doc (suc b)) (history doc G) s_high (later_tail doc (suc b) G (omega (arith, some_wait, a_way)))) (before_turn doc p G))
-                (tail_trans (at_turn doc p G) (history doc (suc G)) (history doc (suc n)) (turn_tail doc p G (omega (arith, first_p))) (later_tail doc (suc G) (suc n) (omega (arith, a_way, some_wait))))
+            led_not = others.led_not doc near far b e q l s p rival.role rival.other n within (omega arith) idle i up
 
         by_up : (o : Option ℕ) → alive p S ≡ o → ⊥
         by_up None is = true_is (sym rival.up ∙ ap has is)

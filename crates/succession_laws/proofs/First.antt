@@ -1,5 +1,5 @@
 -- The first look of a candidate, where its messages pass from beat 0 on.
-use Rattle.std.proofs.Common.{◌≡◌, ◌⊎◌, ◌<◌, ◌≤◌, ℕ, suc, ◌+◌, ◌-◌, ◌*◌, ◌&&◌, true, false, List, ◌∷◌, Option, Some, sym, ◌∙◌, subst, inr, ⊎_elim, arith, []}
+use Rattle.std.proofs.Common.{◌≡◌, ◌≤◌, ℕ, suc, ◌+◌, ◌*◌, true, false, List, ◌∷◌, Option, Some, sym, ◌∙◌, subst, inr, arith}
 use Rattle.kube_base.specs.declared.numbers.Version.{Version}
 use Rattle.kube_objects.specs.Answers.{lease_in, as_kind, answer_get}
 use Rattle.kube_objects.specs.Document.{Doc, is_controller, retry_period}

@@ -11,8 +11,8 @@ use Rattle.kube_objects.specs.declared.key.Key.{Key}
 use Rattle.kube_objects.specs.declared.lease.Lease.{Lease}
 use Rattle.kube_objects.specs.declared.object.Object.TheVariants as object
 use Rattle.kube_objects.specs.Answers.{lease_in, versioned, as_kind, answer_get, answer, answer_over, written, written_over, if_done}
-use Rattle.kube_objects.specs.Document.{Doc, processes, is_controller, lease_duration, retry_period}
-use Rattle.kube_objects.specs.Elector.{Moment, moment, Fails, Asks, is_blocked, updated, follow_get, follow, follow_on, leads, observed_at, acts, deadline}
+use Rattle.kube_objects.specs.Document.{Doc, is_controller, lease_duration, retry_period}
+use Rattle.kube_objects.specs.Elector.{Moment, moment, Fails, Asks, is_blocked, updated, follow_get, follow, follow_on, leads, observed_at}
 use Rattle.kube_objects.specs.Entry.{Entry, Identity, Call, Answers, Sends, Delivers, actor_of, entry}
 use Rattle.kube_objects.specs.Identities.{identity}
 use Rattle.kube_objects.specs.Newest.{has}
@@ -24,25 +24,21 @@ use Rattle.history.specs.Safe.{Acts}
 use Rattle.history_laws.specs.Tails.{IsTail}
 use Rattle.history_laws.proofs.Order.{entries_are_earlier}
 use Rattle.history_laws.proofs.Plainly.{true_is}
-use Rattle.history_laws.proofs.Tailed.{tail_all, tail_trans, later_tail, turn_tail, before_turn}
+use Rattle.history_laws.proofs.Tailed.{tail_all, tail_trans, later_tail}
 use Rattle.span_laws.specs.Looks.{IsGreatest}
 use Rattle.span_laws.specs.Quotients.{most_beats}
 use Rattle.span_laws.proofs.Quotients.{rounded_is, bounds_are_exact}
 use Rattle.span_laws.specs.Spans.{IsEnough, IsNeeded}
-use Rattle.call_laws.specs.Answering.{with_events}
 use Rattle.call_laws.proofs.Above.{in_head}
-use Rattle.call_laws.proofs.Answering.{events_position}
 use Rattle.call_laws.proofs.Placing.{in_own_beat, not_before}
 use Rattle.call_laws.proofs.Starting.{actor_is}
 use Rattle.takeover_laws.specs.Calm.{IsSteady, IsQuiet, IsInTime}
 use Rattle.takeover_laws.specs.Rounds.{IsRound}
 use Rattle.takeover_laws.specs.Taking.{FitsStored}
 use Rattle.takeover_laws.proofs.Rounds.{rounds_in}
-use Rattle.takeover_laws.proofs.Standing.{controllers_first, persists}
 use Rattle.takeover_laws.proofs.Writers.{Sending, sending_of}
 use Rattle.calm_laws.specs.Bounds.{LastsFor}
 use Rattle.calm_laws.proofs.Asked.{IsWrite, IsNext, next_is, asks_same, fails_not, Reason, InTurn, AfterReply, reason_of}
-use Rattle.calm_laws.proofs.Life.{never_led, restart_same}
 use Rattle.calm_laws.proofs.Looks.{object_of}
 use Rattle.calm_laws.proofs.Origins.{Origin, origin}
 use Rattle.stay_laws.specs.Stays.{HasSuccess}
@@ -57,14 +53,14 @@ use Rattle.succession_laws.specs.Successions.{OthersRenew, RepliesCome, IsRival,
 use Rattle.succession_laws.proofs.Blocking.{blocked}
 use Rattle.succession_laws.proofs.Edge.{edge}
 use Rattle.succession_laws.proofs.First.{none_first}
-use Rattle.silence_laws.proofs.Led.{HasLed, acting_led}
-use Rattle.succession_laws.proofs.Led.{leads_led}
+use Rattle.silence_laws.proofs.Led.{HasLed, acting_led, leads_led}
 use Rattle.succession_laws.proofs.Records.{OfIt, same_since, no_foreign, lasts_for}
 use Rattle.silence_laws.proofs.Setting.{calm_before, times_before, restrict}
 use Rattle.succession_laws.proofs.Setting.{idle_before, calm_since, times_since, others_since}
 use Rattle.succession_laws.proofs.Timely.{first, first_low, timely, of_it}
 use Rattle.succession_laws.proofs.Timely as in_time
 use Rattle.succession_laws.proofs.Others.{Another, another}
+use Rattle.succession_laws.proofs.Others as others
 
 -- a write that follows a Get that showed what is stored fits it
 pub fits_of : (q : Identity) (m : Moment) (seen : ℕ) (y : Held) (lease : Lease) (r : Request) → y.object ≡ object.Lease lease → follow_get q m seen (answer_get (as_kind lease_in (Some y))) ≡ Asks r → FitsStored (Some y) r
@@ -335,22 +331,11 @@ module _ (doc : Doc) (near far b e : ℕ) (q : Identity) (l : LeadsUntil doc nea
     idle_ends : ((r : Identity) → is_controller doc r.process ≡ true → (r.process ≡ q.process → ⊥) → (k : ℕ) → k ≤ n → Acts doc r k → ⊥) → ⊥
     idle_ends idle = by_up (alive p S) refl
       where
-        first_p : p < processes doc
-        first_p = controllers_first doc p rival.role
-
-        s_high : IsTail S (history doc (suc b))
-        s_high = turn_tail doc (suc p) b (omega (arith, first_p))
-
-        s_low : IsTail (with_events doc 0) S
-        s_low =
-            tail_trans (with_events doc 0) (history doc b) S
-            (tail_trans (with_events doc 0) (history doc 1) (history doc b) (events_position doc 0) (later_tail doc 1 b (omega (arith, l.long, a_way)))) (before_turn doc (suc p) b)
-
         with_identity : (i : ℕ) → alive p S ≡ Some i → ⊥
         with_identity i up =
-            none_first doc near far e n s.one s.ways within c rival.role (steady c rival.role rival.other) (my_time c rival.role rival.other) none led_not (lease_duration doc q.process) (top c rival.role rival.other n within idle led_not room K late_K) lasts K (omega (arith, a_way, rest_least))
+            none_first doc near far e n s.one s.ways within c rival.role (steady c rival.role rival.other) (my_time c rival.role rival.other) (others.none doc near far b e q l s p rival.role rival.other n within (omega arith) idle i up) led_not (lease_duration doc q.process) (top c rival.role rival.other n within idle led_not room K late_K) lasts K (omega (arith, a_way, rest_least))
             (given c rival.role rival.other n within idle led_not room K late_K) (no_writes c rival.role rival.other n within idle led_not room K late_K) slow fast wait needed b (omega (arith, a_way, rest_least)) rival.runs_least rival.runs_most (s.waits p rival.role) wait_is needed_is enough most enough_is most_is
-            G (omega (arith, some_wait, a_way, rest_least)) (omega (arith, some_wait, a_way, rest_least)) (omega (arith, a_way, rest_least, some_wait)) (ap (alive p) (restart_same doc G p i (at_turn doc p G) there) ∙ there)
+            G (omega (arith, some_wait, a_way, rest_least)) (omega (arith, some_wait, a_way, rest_least)) (omega (arith, a_way, rest_least, some_wait)) (others.there doc near far b e q l s p rival.role rival.other n within (omega arith) idle i up G (omega (arith, a_way, rest_least, some_wait)) (omega (arith, a_way, rest_least, some_wait)))
           where
             c : Identity
             c = identity p i
@@ -361,25 +346,11 @@ module _ (doc : Doc) (near far b e : ℕ) (q : Identity) (l : LeadsUntil doc nea
             room : b + 3 * far ≤ n
             room = omega (arith, a_way, rest_least)
 
-            none : (k : ℕ) → 0 ≤ k → k ≤ n → Acts doc c k → ⊥
-            none k from to = idle c rival.role rival.other k to
-
-            late : (h : List Entry) → IsTail S h → IsTail h (history doc (suc n)) → alive p h ≡ Some i
-            late h low high = persists doc near far 0 e n c rival.role (s.calls p rival.role).deadline (l.others p rival.role rival.other) within none (omega arith) S h s_low low high up
-
             led_not : (h : List Entry) → IsTail h (history doc (suc n)) → leads c h ≡ false
-            led_not =
-                never_led doc near far 0 e n c rival.role (s.calls p rival.role).deadline (l.others p rival.role rival.other) within none (omega arith)
-                (late (history doc (suc n)) (tail_trans S (history doc (suc b)) (history doc (suc n)) s_high (later_tail doc (suc b) (suc n) (omega arith))) (tail_all (history doc (suc n))))
+            led_not = others.led_not doc near far b e q l s p rival.role rival.other n within (omega arith) idle i up
 
             lasts : LastsFor (lease_duration doc q.process) (object_of (top c rival.role rival.other n within idle led_not room K late_K))
             lasts = lasts_for doc q (history doc (b + far)) (of_top c rival.role rival.other n within idle led_not room K late_K)
-
-            there : alive p (at_turn doc p G) ≡ Some i
-            there =
-                late (at_turn doc p G)
-                (tail_trans S (history doc G) (at_turn doc p G) (tail_trans S (history doc (suc b)) (history doc G) s_high (later_tail doc (suc b) G (omega (arith, some_wait, a_way, rest_least)))) (before_turn doc p G))
-                (tail_trans (at_turn doc p G) (history doc (suc G)) (history doc (suc n)) (turn_tail doc p G (omega (arith, first_p))) (later_tail doc (suc G) (suc n) (omega (arith, a_way, rest_least, some_wait))))
 
         by_up : (o : Option ℕ) → alive p S ≡ o → ⊥
         by_up None is = true_is (sym rival.up ∙ ap has is)

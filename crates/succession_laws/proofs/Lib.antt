@@ -1,5 +1,4 @@
 pub mod First
-pub mod Led
 pub mod Since
 pub mod Setting
 pub mod Others
