@@ -1,5 +1,5 @@
 -- The numbers hold.
-use Rattle.std.proofs.Common.{◌≡◌, ◌⊎◌, ◌<◌, ◌≤◌, ℕ, zero, suc, ◌+◌, ◌-◌, ◌*◌, ◌&&◌, Bool, true, false, List, [], ◌∷◌, length, Option, Some, None, refl, sym, ap, ◌∙◌, subst, inl, inr, ⊎_elim, arith}
+use Rattle.std.proofs.Common.{◌≡◌, ◌<◌, ◌≤◌, ℕ, suc, ◌+◌, ◌-◌, ◌*◌, ◌&&◌, true, false, List, [], ◌∷◌, length, Option, Some, None, refl, sym, ap, ◌∙◌, subst, inl, inr, ⊎_elim, arith}
 use Rattle.std.specs.Int.{div_ceil}
 use Rattle.std.proofs.lemmas.Bool.{ltb-true, cases_lt}
 use Rattle.kube_objects.specs.declared.script.Proc.{Proc}
@@ -13,15 +13,14 @@ use Rattle.history_laws.proofs.Plainly.{some_is, and_left, and_right, and_both}
 use Rattle.span_laws.proofs.Quotients.{rounded_is}
 use Rattle.call_laws.specs.Answering.{with_events}
 use Rattle.call_laws.proofs.Answering.{events_position}
-use Rattle.takeover_laws.specs.Acting.{ActsBetween, AreInTime}
-use Rattle.takeover_laws.specs.Calm.{IsSteady, IsQuiet, IsCalm}
+use Rattle.takeover_laws.specs.Acting.{AreInTime}
+use Rattle.takeover_laws.specs.Calm.{IsQuiet, IsCalm}
 use Rattle.calm_laws.specs.Bounds.{SomebodyActs, IsCandidate, LastsFor, early_record, takeover_bound}
 use Rattle.calm_laws.proofs.Bounded.{takeovers_are_told}
-use Rattle.stay_laws.specs.Stays.{Stays}
-use Rattle.settle_laws.specs.Settles.{AreRenewed, EndsInBeats, AllLastFor, IsSettled, settle_bound}
+use Rattle.settle_laws.specs.Settles.{EndsInBeats, AllLastFor, IsSettled, settle_bound}
 use Rattle.settle_laws.proofs.Settled.{settling_is_told}
 use Rattle.silence_laws.specs.Silence.{LeadsUntil, Bears, IsStopped}
-use Rattle.silence_laws.specs.Least.{IsLead, RunsWithin, takes_least, last_renewal}
+use Rattle.silence_laws.specs.Least.{IsLead, takes_least, last_renewal}
 use Rattle.silence_laws.proofs.Lasting.{silences_are_told}
 use Rattle.silence_laws.proofs.Released.{releases_last}
 use Rattle.succession_laws.specs.Successions.{IsRival, IsFollowed, Hears, succession_bound}
@@ -33,17 +32,16 @@ use Rattle.document_laws.proofs.SoundDocuments.{sound-document}
 use Rattle.script_reader.specs.Lawful.{IsLawfulDoc}
 use Rattle.lens_bounds.specs.declared.calm.Calm.{Calm}
 use Rattle.lens_bounds.specs.declared.elections.Handover.{Handover}
-use Rattle.lens_bounds.specs.declared.elections.Span.{Span}
 use Rattle.lens_bounds.specs.Documents.{calm_of}
-use Rattle.lens_bounds.specs.Elections.{retry, gets, crash_least, crash_most, stop_most, acts_on, own_term, leads, stays_from, longest_term, longest_lease, handed_over, others, followers, replies_count, renews, outlasts, stays_by, lead, stay}
-use Rattle.bounds_laws.specs.Undisturbed.{far_of, IsUndisturbed, LeadsUndisturbed, IsOther, GivesUp, IsWell, MayFollow, LeadsWell, StaysWell}
-use Rattle.bounds_laws.specs.Elections.{millis, bounds_of, CrashesAreBounded, StopsAreBounded, ActsAreBounded, LeadsAreBounded, StaysAreBounded}
+use Rattle.lens_bounds.specs.Elections.{retry, gets, acts_on, own_term, longest_term, longest_lease, handed_over, others, followers, replies_count, renews, outlasts, stays_by, lead, stay}
+use Rattle.bounds_laws.specs.Undisturbed.{far_of, LeadsUndisturbed, IsOther, GivesUp, IsWell, MayFollow, LeadsWell, StaysWell}
+use Rattle.bounds_laws.specs.Elections.{CrashesAreBounded, StopsAreBounded, ActsAreBounded, LeadsAreBounded, StaysAreBounded}
 use Rattle.bounds_laws.proofs.Reaching.{Standing, at_place}
 use Rattle.bounds_laws.proofs.Steady.{steady, undisturbed, runs_least, runs_most, some_far, reply_within}
-use Rattle.bounds_laws.proofs.Settings.{some_slow, some_fast, waits, in_time, counts_of, all_in_time, all_renew, bears, others_renew, others_renew_around}
+use Rattle.bounds_laws.proofs.Settings.{some_slow, some_fast, waits, in_time, counts_of, all_renew, bears, others_renew, others_renew_around}
 use Rattle.bounds_laws.proofs.Replies.{replies_come, released}
 use Rattle.bounds_laws.proofs.Folding.{IsWithin, other_within, alone, term_within, lease_within}
-use Rattle.bounds_laws.proofs.Telling.{IsSpan, crash_is, stop_is, acts_on_is, leads_is, stays_from_is, millis_most, millis_least, enough_beats, least_looks_is, crash_most_is, stop_most_is, leads_beats, stays_from_beats}
+use Rattle.bounds_laws.proofs.Telling.{crash_is, stop_is, acts_on_is, leads_is, stays_from_is, millis_most, millis_least, enough_beats, least_looks_is, crash_most_is, stop_most_is, leads_beats, stays_from_beats}
 
 -- a controller's longest term without a success
 term_is : (doc : Doc) (p : ℕ) (x : Proc) → process_at doc p ≡ Some x → retry_period doc p + renew_deadline doc p ≡ of_millis (own_term x)

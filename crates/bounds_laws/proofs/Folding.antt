@@ -1,11 +1,11 @@
 -- The bounds over all that may follow a leader are over each of them.
-use Rattle.std.proofs.Common.{◌≡◌, ◌≤◌, ℕ, zero, suc, ◌+◌, ◌*◌, ◌==◌, max, Bool, true, false, List, [], ◌∷◌, length, slice_get, Option, Some, None, refl, sym, ap, ◌∙◌, subst, arith}
+use Rattle.std.proofs.Common.{◌≡◌, ◌≤◌, ℕ, zero, suc, ◌+◌, ◌==◌, Bool, true, false, List, [], ◌∷◌, length, slice_get, Option, Some, None, refl, ap, ◌∙◌, subst, arith}
 use Rattle.std.proofs.lemmas.Bool.{eqb-true}
 use Rattle.kube_objects.specs.declared.script.Proc.{Proc}
 use Rattle.history_laws.proofs.Plainly.{some_is, none_is}
 use Rattle.lens_bounds.specs.declared.calm.Calm.{Calm}
 use Rattle.lens_bounds.specs.declared.elections.Handover.{Handover}
-use Rattle.lens_bounds.specs.Elections.{handed_over, either, or_either, with_other, others_from, own_term, longest_term, longest_lease}
+use Rattle.lens_bounds.specs.Elections.{handed_over, either, with_other, others_from, own_term, longest_term, longest_lease}
 
 -- the bounds of one are within those of all
 pub record IsWithin (a h : Handover) : Type 0 where

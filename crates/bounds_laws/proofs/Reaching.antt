@@ -1,5 +1,5 @@
 -- The delays and rates of a document's controllers are within the reach that is read from it.
-use Rattle.std.proofs.Common.{◌≡◌, ◌⊎◌, ◌<◌, ◌≤◌, ℕ, zero, suc, ◌+◌, ◌*◌, ◌==◌, nat_lt, nat_le, Bool, true, false, List, [], ◌∷◌, ◌++◌, length, slice_get, Option, Some, None, IfSome, refl, sym, ap, ◌∙◌, subst, inl, inr, arith}
+use Rattle.std.proofs.Common.{◌≡◌, ◌<◌, ◌≤◌, ℕ, zero, suc, ◌==◌, nat_lt, nat_le, Bool, true, false, List, [], ◌∷◌, ◌++◌, length, slice_get, Option, Some, None, IfSome, refl, sym, ap, ◌∙◌, subst, inl, inr, arith}
 use Rattle.std.proofs.lemmas.Bool.{eqb-true, ltb-true}
 use Rattle.kube_objects.specs.declared.script.Event.{Event}
 use Rattle.kube_objects.specs.declared.script.Proc.{Proc}
@@ -7,7 +7,7 @@ use Rattle.kube_base.specs.declared.numbers.ProcId.{ProcId}
 use Rattle.kube_objects.specs.declared.script.What.{What}
 use Rattle.kube_objects.specs.declared.script.What.TheVariants.{Rate, Delay, Loss, Crash, Start, Stop, Watch, Ready, Pause, Put, Remove}
 use Rattle.kube_objects.specs.Clocks.{rate_of, last_rate, rate}
-use Rattle.kube_objects.specs.Document.{Doc, field, process_at, first_rate, is_controller}
+use Rattle.kube_objects.specs.Document.{Doc, field, first_rate, is_controller}
 use Rattle.kube_objects.specs.Newest.{when, only_if, or_else}
 use Rattle.kube_objects.specs.Wire.{request_delay_of, reply_delay_of}
 use Rattle.history_laws.proofs.Plainly.{some_is, none_is}

@@ -1,20 +1,20 @@
 -- Replies to a process that is awake come within the document's greatest delay, and so does the release of a stop.
-use Rattle.std.proofs.Common.{◌≡◌, ◌⊎◌, ◌<◌, ◌≤◌, ℕ, suc, ◌+◌, ◌==◌, Bool, true, false, List, ◌∷◌, Option, Some, None, IfSome, refl, sym, ap, ◌∙◌, subst, inr, ⊎_elim, arith}
+use Rattle.std.proofs.Common.{◌≡◌, ◌<◌, ◌≤◌, ℕ, suc, ◌+◌, ◌==◌, Bool, true, false, List, ◌∷◌, Option, Some, None, IfSome, refl, sym, subst, inr, ⊎_elim, arith}
 use Rattle.std.proofs.lemmas.Bool.{eqb-true}
 use Rattle.kube_objects.specs.declared.deed.Actor.{Actor}
 use Rattle.kube_objects.specs.declared.deed.Actor.TheVariants as actors
 use Rattle.kube_objects.specs.Document.{Doc, is_controller}
-use Rattle.kube_objects.specs.Entry.{Entry, Identity, Fact, First, Event, Starts, Stops, Sends, Answers, Delivers, Expires, Leads, Ends, Crashes, Stalls, Ticks, actor_of, entry}
+use Rattle.kube_objects.specs.Entry.{Entry, Identity, Fact, First, Event, Starts, Stops, Sends, Answers, Delivers, Expires, Leads, Ends, Crashes, Stalls, Ticks, entry}
 use Rattle.kube_objects.specs.Identities.{of_process}
 use Rattle.kube_objects.specs.Newest.{when, has, or_else}
 use Rattle.kube_objects.specs.Pauses.{pause_end, is_paused, resume, held_up}
 use Rattle.kube_objects.specs.Wire.{back_of, arrival, request_arrival, reply_arrival, request_delay, reply_delay, loses_requests, loses_replies}
 use Rattle.history.specs.History.{history}
-use Rattle.history_laws.specs.Tails.{In, IsTail}
+use Rattle.history_laws.specs.Tails.{IsTail}
 use Rattle.history_laws.proofs.Order.{entries_are_earlier}
 use Rattle.history_laws.proofs.Plainly.{some_is, none_is, false_is, true_is}
 use Rattle.history_laws.proofs.Tailed.{tail_all, tail_trans}
-use Rattle.call_laws.proofs.Above.{Place, place_of, in_head}
+use Rattle.call_laws.proofs.Above.{Place, place_of}
 use Rattle.call_laws.proofs.Making.{MadeAs, are_made}
 use Rattle.call_laws.proofs.Placing.{messages_travel}
 use Rattle.takeover_laws.proofs.Rounds.{sent_is}

@@ -1,15 +1,14 @@
 -- What a document's settings bear, where whoever leads stays.
-use Rattle.std.proofs.Common.{◌≡◌, ◌<◌, ◌≤◌, ℕ, zero, suc, ◌+◌, ◌-◌, ◌*◌, ◌&&◌, nat_lt, nat_le, Bool, true, false, List, [], ◌∷◌, All, length, slice_get, Option, Some, None, refl, sym, ap, ◌∙◌, subst, arith}
+use Rattle.std.proofs.Common.{◌≡◌, ◌<◌, ◌≤◌, ℕ, zero, suc, ◌+◌, ◌-◌, ◌*◌, ◌&&◌, Bool, true, List, [], ◌∷◌, All, slice_get, Some, sym, ap, ◌∙◌, subst, arith}
 use Rattle.std.specs.Int.{div_ceil}
 use Rattle.std.specs.List.{list_all}
 use Rattle.std.proofs.lemmas.Bool.{leb-true, ltb-true}
 use Rattle.std.proofs.lemmas.List.Elements.{All-head, All-tail}
 use Rattle.kube_objects.specs.declared.script.Proc.{Proc}
-use Rattle.kube_objects.specs.Document.{Doc, end_beat, field, process_at, is_controller, of_millis, of_seconds, lease_duration, call_timeout, retry_period, renew_deadline}
+use Rattle.kube_objects.specs.Document.{Doc, end_beat, field, is_controller, of_millis, of_seconds, lease_duration, retry_period, renew_deadline}
 use Rattle.kube_objects.specs.Entry.{Identity}
 use Rattle.history.specs.Premise.{lease_premise}
 use Rattle.history_laws.proofs.Plainly.{some_is, none_is, and_left, and_right}
-use Rattle.span_laws.specs.Spans.{IsEnough}
 use Rattle.span_laws.proofs.Quotients.{rounded_is}
 use Rattle.takeover_laws.specs.Calm.{IsInTime}
 use Rattle.stay_laws.specs.Stays.{RenewsInTime}

@@ -1,5 +1,5 @@
 -- An undisturbed controller of a document is steady, with the delays that the document sets, and its clock goes as the document has it.
-use Rattle.std.proofs.Common.{◌≡◌, ◌⊎◌, ◌<◌, ◌≤◌, ℕ, suc, ◌+◌, ◌*◌, ◌==◌, Bool, true, false, List, [], ◌∷◌, Option, Some, None, IfSome, refl, sym, subst, inl, inr, arith}
+use Rattle.std.proofs.Common.{◌≡◌, ◌≤◌, ℕ, suc, ◌==◌, Bool, true, false, List, [], ◌∷◌, Option, Some, None, IfSome, sym, subst, inl, inr, arith}
 use Rattle.std.proofs.Math.Nat.{mul-le-mul_left}
 use Rattle.kube_objects.specs.declared.deed.Actor.{Actor}
 use Rattle.kube_objects.specs.declared.script.Event.{Event}
@@ -22,9 +22,9 @@ use Rattle.call_laws.proofs.Making.{MadeAs, are_made}
 use Rattle.takeover_laws.specs.Calm.{Passes, IsSteady}
 use Rattle.script_reader.specs.Lawful.{IsLawfulDoc, IsLawfulWhat, AreLawfulFrom}
 use Rattle.lens_bounds.specs.Documents.{reach_of, calm_of}
-use Rattle.lens_bounds.proofs.Reaches.{IsSome, reach-some}
+use Rattle.lens_bounds.proofs.Reaches.{reach-some}
 use Rattle.bounds_laws.specs.Undisturbed.{far_of, IsHeard, IsUndisturbed}
-use Rattle.bounds_laws.proofs.Reaching.{Has, Runs, event_within, rate_within}
+use Rattle.bounds_laws.proofs.Reaching.{Has, event_within, rate_within}
 
 -- ---- what is in force is what an event of the script says
 

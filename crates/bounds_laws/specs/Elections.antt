@@ -1,5 +1,5 @@
 -- The numbers that a document's bounds on a leader tell hold of its history. Source: profile.
-use Rattle.std.specs.Prelude.{◌≡◌, ◌≤◌, ℕ, suc, ◌+◌, ◌-◌, ◌*◌, true, false, Some}
+use Rattle.std.specs.Prelude.{◌≡◌, ◌≤◌, ℕ, ◌+◌, ◌-◌, ◌*◌, true, false, Some}
 use Rattle.kube_objects.specs.declared.script.Proc.{Proc}
 use Rattle.kube_objects.specs.Document.{Doc, end_beat, process_at, is_controller, of_seconds}
 use Rattle.kube_objects.specs.Entry.{Identity}
