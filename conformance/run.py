@@ -1,12 +1,13 @@
 #!/usr/bin/env python3
 """Compares the program with recorded answers of Kubernetes 1.20.2 and of client-go 0.36.4, and with what real control planes did.
 
-    conformance/run.py [--exe COMMAND] [SET ..]
+    conformance/run.py [--exe COMMAND] [--lens COMMAND] [SET ..]
 
-COMMAND is the program without its command word; else it is the built one, crates/kube_replay/out/kube_replay. Ends with 1 where a
-count isn't that of counts.json, where a rule of docs/profile.md doesn't say how it is known, where a kind of difference has no rule
-there that names its set or scenario, or where a table of docs/upstream.md isn't the one that is printed here; else with 0. With sets
-it looks at these alone. --write writes counts.json and the tables in place of comparing them.
+COMMAND is the program without its command word; else it is the built one, crates/kube_replay/out/kube_replay, and behind --lens
+crates/kube_lens/out/kube_lens, which tells how long nobody leads after a crash. Ends with 1 where a count isn't that of counts.json,
+where a rule of docs/profile.md doesn't say how it is known, where a kind of difference has no rule there that names its set or
+scenario, where a recorded crash lies out of the bounds, or where a table of docs/upstream.md isn't the one that is printed here;
+else with 0. With sets it looks at these alone. --write writes counts.json and the tables in place of comparing them.
 """
 import argparse
 import functools
@@ -15,7 +16,7 @@ import os
 import sys
 import time
 
-from beside import grid, page, plane, plane_tables, release_tables, tables, wave_tables
+from beside import bounds, grid, page, plane, plane_tables, release_tables, tables, wave_tables
 from beside.fast_elections import SETTINGS
 from beside.profile import Profile
 from beside.program import NoAnswer, Program
@@ -24,6 +25,7 @@ from beside.tally import row_of
 
 ROOT = os.path.dirname(TOP)
 BUILT = os.path.join(ROOT, "crates/kube_replay/out/kube_replay")
+BUILT_LENS = os.path.join(ROOT, "crates/kube_lens/out/kube_lens")
 PAGE = os.path.join(ROOT, "docs/upstream.md")
 
 
@@ -56,7 +58,16 @@ def of_sets(names, program, profile, is_written):
     return counts, faults
 
 
-def of_planes(program, profile):
+def of_crashes(lens, found, scenario_of):
+    """The table of the crashes beside their bounds, and those out of them."""
+    crashes = bounds.Crashes(lens, found, scenario_of)
+    if not crashes.are_told:
+        print("kube_lens bounds tells nothing of a crash, so the table of bounds isn't compared", flush=True)
+        return {}, []
+    return {"bounds": crashes.table()}, crashes.faults()
+
+
+def of_planes(program, lens, profile):
     """The tables of the scenarios, and what no row names."""
     scenario_of = functools.lru_cache(None)(plane.Scenario)
     names = (*plane.NAMES, *plane.NEW_NAMES)
@@ -70,7 +81,8 @@ def of_planes(program, profile):
     for version, some in (("", plane.NAMES), (" 0.36", plane.NEW_NAMES)):
         tables_of = of_plane(of_names(found, some), of_names(stalled, some), scenario_of, program)
         made.update({name + version: lines for name, lines in tables_of.items()})
-    return made, [*plane_tables.faults(found, profile), *plane_tables.stall_faults(stalled)]
+    bounded, out_of_them = of_crashes(lens, found, scenario_of)
+    return {**made, **bounded}, [*plane_tables.faults(found, profile), *plane_tables.stall_faults(stalled), *out_of_them]
 
 
 def of_names(found, names):
@@ -117,17 +129,20 @@ def of_page(made, is_written):
 def main():
     parser = argparse.ArgumentParser(description=__doc__, formatter_class=argparse.RawDescriptionHelpFormatter)
     parser.add_argument("--exe", default=BUILT)
+    parser.add_argument("--lens", default=BUILT_LENS)
     parser.add_argument("--write", action="store_true")
     parser.add_argument("sets", nargs="*", metavar="SET", help=", ".join(SETS))
     given = parser.parse_args()
     if given.exe == BUILT and not os.path.exists(BUILT):
         sys.exit("conformance: the program isn't built; README.md tells how, or name one by --exe")
+    if not given.sets and given.lens == BUILT_LENS and not os.path.exists(BUILT_LENS):
+        sys.exit("conformance: kube_lens isn't built; README.md tells how, or name one by --lens")
     begin = time.monotonic()
     program, profile = Program(given.exe), Profile(os.path.join(ROOT, "docs/profile.md"))
     counts, faults = of_sets(given.sets or SETS, program, profile, given.write)
     faults += profile.faults()
     if not given.sets:
-        made, unnamed = of_planes(program, profile)
+        made, unnamed = of_planes(program, bounds.Lens(given.lens), profile)
         made.update(of_answers(counts, program))
         faults += [*unnamed, *grid.faults(), *of_page(made, given.write)]
     for fault in faults:

@@ -1,6 +1,7 @@
 """The answers: a document of the cluster, its replay, and what kube_lens says of them."""
 import json
 import os
+import re
 import subprocess
 
 import network
@@ -9,6 +10,8 @@ from lists import Unread
 from words import cluster_words
 
 MOST_BYTES = 16_777_216
+# How the answers on the settings end where they say no; `safe` is the last of both.
+NO = {'margin': rb'(unsafe|"safe":false})\s*$', 'bounds': rb'(may-end|"stays":false,"safe":(true|false)})\s*$'}
 
 
 class Answers:
@@ -41,10 +44,12 @@ class Answers:
             file.write(data)
         return path
 
-    def margin(self, document):
-        done = programs.run([*programs.program('kube_lens'), 'margin', *['--json'] * self.given.json], document)
-        unsafe = done.returncode == 1 and done.stdout.rstrip().endswith((b'unsafe', b'"safe":false}'))
-        return (1, done.stdout) if unsafe else (0, self.answered(done))
+    def of_settings(self, document):
+        """What `margin` or `bounds` tells of the document, and 1 where it ends with a no."""
+        command = self.given.command
+        done = programs.run([*programs.program('kube_lens'), command, *['--json'] * self.given.json], document)
+        is_no = done.returncode == 1 and done.stdout and re.search(NO[command], done.stdout)
+        return (1, done.stdout) if is_no else (0, self.answered(done))
 
     def run(self, document):
         """The tables of the run, and its page where one is wanted."""

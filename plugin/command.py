@@ -35,7 +35,7 @@ def answer(given, folder):
         return 0, document
     if given.command == 'play':
         return answers.play(document), b''
-    return answers.margin(document) if given.command == 'margin' else answers.run(document)
+    return answers.run(document) if given.command in words.RUNS else answers.of_settings(document)
 
 
 def main(given):

@@ -33,9 +33,12 @@ PLACE = {}
 MANIFEST = 'spec:\n  containers:\n  - command:\n' + ''.join('    - %s\n' % word for word in test_objects.MANAGER)
 LISTS = re.compile(r'/api/v1/(namespaces/[a-z-]+/)?(nodes|pods)(\?|$)|/apis/coordination\.k8s\.io/v1/(namespaces/[a-z-]+/)?leases(\?|$)')
 # Each command with the words of tools/from-cluster for the pipeline, where these can say it.
-COMMANDS = {('margin',): [], ('kill-leader',): ['--kill-leader', '@60s'], ('kill-node', 'worker-002', '--at', '90s'): ['--kill', 'worker-002@90s'],
+COMMANDS = {('margin',): [], ('bounds',): [], ('kill-leader',): ['--kill-leader', '@60s'], ('kill-node', 'worker-002', '--at', '90s'): ['--kill', 'worker-002@90s'],
             ('kill-zone', 'eu-1b'): ['--kill-zone', 'eu-1b@60s'], ('freeze-leader', '45s', '--for', '5m'): ['--stall', '@60s+45s', '--for', '5m'],
             ('slow-network', '2s', '--clock', 'cp-1=1.02'): ['--clock', 'cp-1=1.02']}
+
+
+OF_SETTINGS = (('margin',), ('bounds',))
 
 
 def run(words, read=None, **more):
@@ -102,8 +105,8 @@ class Pipeline(Replay):
                 made = self.document(words, command)
                 status, told, said = self.call(*command)
                 data = json.dumps(made).encode()
-                if command == ('margin',):
-                    wanted = subprocess.run([*shlex.split(PLACE['KUBE_LENS_PROGRAM']), 'margin'], input=data, stdout=subprocess.PIPE, check=False)
+                if command in OF_SETTINGS:
+                    wanted = subprocess.run([*shlex.split(PLACE['KUBE_LENS_PROGRAM']), *command], input=data, stdout=subprocess.PIPE, check=False)
                     self.assertEqual((status, told), (wanted.returncode, wanted.stdout.decode()), said)
                     continue
                 trace = run([*shlex.split(PLACE['KUBE_REPLAY_PROGRAM']), 'replay'], data)
@@ -195,6 +198,19 @@ class Defaults(Replay):
         self.assertEqual(self.call('margin', '--kubernetes', '1.36', '--leader-elect-lease-duration=18s')[0], 0)
 
 
+    def test_bounds(self):
+        """A pass of 5 s from 40 s of silence on, a token of 10 s, and what pods tolerate. A leader may end where a renewal takes longer than it waits."""
+        status, told, _ = self.call('bounds')
+        self.assertEqual((status, told.splitlines()[0], told.splitlines()[-1]), (0, 'delay=100ms..100ms', 'stays'))
+        tolerated = [int(re.search(r'toleration=(\d+)s', line)[1]) for line in told.splitlines() if line.startswith('pods gone ')]
+        pods = [each for each in json.loads(self.answer('bounds', '--document'))['objects']['items'] if each['kind'] == 'Pod']
+        times = {one['tolerationSeconds'] for each in pods for one in each['spec'].get('tolerations', []) if one.get('key', '').endswith('unreachable')}
+        self.assertLessEqual(times, set(tolerated))
+        status, told, _ = self.call('bounds', '--json', '--leader-elect-renew-deadline=300ms', '--leader-elect-retry-period=100ms')
+        found = json.loads(told)
+        self.assertEqual((status, found['stays'], found['delayMillis']), (1, False, 100))
+
+
 class Words(Replay):
     """kubectl's rules and flags, and the plugin's own words."""
 
@@ -207,7 +223,7 @@ class Words(Replay):
 
     def test_wrong_words(self):
         for words, said in ((['kill'], 'invalid choice'), (['kill-node'], 'takes a NODE'), (['kill-leader', 'x'], 'takes no further word: x'), (['margin', '--at', '3s'], 'margin takes no --at'),
-                            (['margin', '--pods'], 'unrecognized'), (['kill-leader', '--chunk-size', 'x'], 'invalid int'), (['kill-leader', '--chunk-size=-1'], '0 or more'),
+                            (['margin', '--pods'], 'unrecognized'), (['bounds', '--for', '3m'], 'bounds takes no --for'), (['kill-leader', '--chunk-size', 'x'], 'invalid int'), (['kill-leader', '--chunk-size=-1'], '0 or more'),
                             (['freeze-leader', 'long'], 'long is no duration'), (['slow-network', '2'], '2 is no duration'), (['kill-leader', '--at', 'noon'], 'noon is no duration'),
                             (['margin', '--request-timeout=soon'], 'soon is no duration')):
             status, told, heard = self.call(*words)

@@ -8,6 +8,7 @@ import cluster_flags
 Command = collections.namedtuple('Command', 'takes event told')
 COMMANDS = {
     'margin': Command(None, None, 'how much room each lease leaves, and whether two can lead at once'),
+    'bounds': Command(None, None, 'how long nobody leads after a crash, and when the pods of a dead node are gone: at least and at most'),
     'kill-leader': Command(None, '--kill-leader=@{at}', 'the controller that leads dies'),
     'kill-node': Command('NODE', '--kill={of}@{at}', 'the kubelet of a node dies'),
     'kill-zone': Command('ZONE', '--kill-zone={of}@{at}', 'the kubelets of a zone die (also REGION/ZONE), and the controllers there'),
@@ -15,7 +16,7 @@ COMMANDS = {
     'slow-network': Command('TIME', None, 'each request to the API server and each reply takes so long, as 2s'),
     'play': Command(None, None, 'opens the playground with this cluster'),
 }
-RUNS = [name for name in COMMANDS if name not in ('margin', 'play')]
+RUNS = [name for name in COMMANDS if name not in ('margin', 'bounds', 'play')]
 KUBECTL = ('kubeconfig', 'context', 'cluster', 'user', 'server', 'token', 'as', 'as-group', 'as-uid', 'certificate-authority', 'client-certificate',
            'client-key', 'tls-server-name', 'cache-dir')
 # The options of tools/from-cluster that are handed on, but for those of kube-controller-manager.

@@ -123,10 +123,11 @@ def frame(top, title, label, xs, ys, of=''):
     return out
 
 
-def lines(plan, question, rows, top, across, by):
-    """The answer against the value of one path, a line for each value of the other, if there is one. `never` stands at the top."""
+def lines(plan, question, rows, top, across, by, bounds=None):
+    """The answer against the value of one path, a line for each value of the other, if there is one. `never` stands at the top. Bounds, at least and
+    at most, are lines too."""
     values = [row[question] for row in rows]
-    greatest = max([value for value in values if number(value)] + [0])
+    greatest = max([value for value in values if number(value)] + [most for _, most in filter(None, bounds or [])] + [0])
     heights = steps(0, greatest or 1, 5)
     foot, head = top + HEIGHT - BOTTOM, top + TOP
     high = max(heights[-1], greatest)
@@ -134,10 +135,32 @@ def lines(plan, question, rows, top, across, by):
     xs = Scale([run[across] for run in plan['runs']], LEFT + 8, WIDTH - RIGHT - 8)
     out = frame(top, questions.title(question), plan['axes'][across], xs, [(y(value), short(value)) for value in heights], plan['of'])
     groups = list(dict.fromkeys(run[by] for run in plan['runs'])) if by is not None else [None]
+    out += bound_lines([xs(run[across]) for run in plan['runs']], [run[by] for run in plan['runs']] if by is not None else None, bounds, y)
     for place, group in enumerate(groups):
         points = [(xs(run[across]), row) for run, row in zip(plan['runs'], rows) if by is None or run[by] == group]
         out += one_line(points, question, y, place, foot, head, plan['drawn'][across])
     return out + (legend(plan['axes'][by], groups, head) if by is not None else []) + notes(rows, question, foot)
+
+
+def bound_lines(xs, groups, bounds, y):
+    """Both bounds of the runs of each group, dashed, in the group's colour where groups differ, with their numbers where they are the same all along."""
+    if not bounds or not any(bounds):
+        return []
+    if not groups or len(set(bounds)) == 1:
+        groups = [None] * len(xs)
+    out, order = [], list(dict.fromkeys(groups))
+    for place, group in enumerate(order):
+        points = sorted((x, bound) for x, bound, of in zip(xs, bounds, groups) if of == group and bound)
+        for side, words in enumerate(('at least', 'at most')):
+            path = 'L'.join('%.1f %.1f' % (x, y(bound[side])) for x, bound in points)
+            colour = COLOURS[place] if len(order) > 1 else '#16202b'
+            out.append('<path d="M%s" fill="none" stroke="%s" stroke-dasharray="5 3"/>' % (path, colour))
+            if len(order) == 1 and len({bound for _, bound in points}) == 1:
+                label = '%s %s, proved' % (words, short(points[0][1][side]))
+                out.append(text(WIDTH - RIGHT - 4, y(points[0][1][side]) + (13, -4)[side], label, 'end'))
+    if len(order) > 1 or len({bound for bound in bounds if bound}) > 1:
+        out.append(text(WIDTH - 8, y(0) + 20, 'dashed: after a crash, proved', 'end', ' fill="#5c6773"'))
+    return out
 
 
 def legend(path, groups, head):
@@ -232,7 +255,7 @@ def shown(value, per):
     return value / per if number(value) and per != 1 else value if number(value) else plain(value)
 
 
-def picture(plan, asked, rows):
+def picture(plan, asked, rows, bounds=None):
     axes_of = [axis_of(plan['document'], path) for path in plan['paths']]
     of = ', '.join([plan.get('name') or '', *(setting.rpartition('/')[2] for setting in plan.get('set', []))]).strip(', ')
     plan = {**plan, 'axes': [words for words, _ in axes_of], 'of': of,
@@ -242,5 +265,6 @@ def picture(plan, asked, rows):
            ' font-family="DejaVu Sans, Verdana, sans-serif" font-size="12" fill="#16202b">',
            '<rect width="100%" height="100%" fill="#fff"/>']
     for i, question in enumerate(asked):
-        out += lines(plan, question, rows, i * HEIGHT, *place) if place else cells(plan, question, rows, i * HEIGHT)
+        some = bounds if question == 'failover' else None
+        out += lines(plan, question, rows, i * HEIGHT, *place, some) if place else cells(plan, question, rows, i * HEIGHT)
     return '\n'.join(out + ['</svg>', ''])

@@ -59,6 +59,8 @@ $(tell_command "$called margin < DOCUMENT" 'how much room each lease leaves, the
 $(tell_command "$called margin --json < DOCUMENT" '')
 $(tell_command '' 'the same as one JSON object')
 $(tell_command "$called margin --lease 15s ..." 'the same of flags: --lease --renew --retry --timeout --skew --beat --json')
+$(tell_command "$called bounds < DOCUMENT" 'how long nobody leads and a dead node'"'"'s pods stay, at least and at most; with --json as one JSON object')
+$(tell_command "$called bounds --timeout 5s ..." 'the same of flags: those of margin, --wait --delay --least-delay --grace --monitor --node-lease ...')
 $(tell_command "$called leaders < TRACE" 'who led from when to when, when nobody did, and whether two did at once')
 $(tell_command "$called leaders --json < TRACE" 'the same as one JSON object')
 $(tell_command "$called summary < TRACE" 'what a trace comes to, as tables: terms, zones, nodes, evictions, totals')

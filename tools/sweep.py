@@ -13,7 +13,8 @@
 `all` and `replay` with --dask ADDRESS replay on the workers of the Dask scheduler there; --dask local starts workers of its own.
 PATH is /settings/KEY, /controllers/NAME/KEY, /kubelets/NODE/KEY, /events/PLACE/KEY, or of what is stored /objects/Node/NAME/.. and
 /objects/Pod/NAMESPACE/NAME/.. with the keys of the manifest behind; `*` for a name or a place is each of them. VALUES is FROM..TO, FROM..TO..STEP, a list A,B,C, or random:FROM..TO:COUNT. --set PATH=VALUE changes the document for all runs. A sweep that was
-broken off goes on where it stopped, by the same command. docs/pictures.md tells more.
+broken off goes on where it stopped, by the same command. To `failover` the picture has how long nobody leads after a crash, at least and at most, as
+kube_lens tells of the documents, where it is built. docs/pictures.md tells more.
 """
 import argparse
 import csv
@@ -37,6 +38,9 @@ from sweep_folder import run_path, write_whole
 from sweep_paths import Wrong, changed, read_value, read_values, split_setting
 
 TOP = os.path.dirname(os.path.dirname(os.path.realpath(__file__)))
+sys.path.append(os.path.join(TOP, 'view'))
+from crash_bounds import CrashBounds
+
 # The built program: of these sources, or where the package installs it.
 PLACES = [os.path.join(TOP, 'crates', 'kube_replay', 'out', 'kube_replay'), '/usr/libexec/kube-replay/kube_replay']
 MOST_RUNS = 1_000_000
@@ -254,6 +258,14 @@ def load(path):
         return json.load(file)
 
 
+def bounds_of(plan, asked):
+    """Of each run the bounds of a crash, None where there are none; nothing where they aren't drawn."""
+    bounds = CrashBounds()
+    if 'failover' not in asked or not bounds.words or not chart.axes(plan):
+        return None
+    return [bounds.of_any(changed(plan['document'], zip(plan['paths'], values))) for values in plan['runs']]
+
+
 def write_table(folder, ask=(), known=None):
     """Writes the table and the picture. The answers that are known, by the number of their run, are taken as they are."""
     plan, known = read_plan(folder), known or {}
@@ -272,7 +284,7 @@ def write_table(folder, ask=(), known=None):
         for number, (values, row) in enumerate(zip(plan['runs'], rows)):
             table.writerow([number, *map(plain, values), row['premise'], row['outcome'], *(text(row[question]) for question in asked)])
     os.replace(path + '.part', path)
-    write_whole(os.path.join(folder, 'answers.svg'), chart.picture(plan, asked, rows))
+    write_whole(os.path.join(folder, 'answers.svg'), chart.picture(plan, asked, rows, bounds_of(plan, asked)))
     for part in glob.glob(os.path.join(glob.escape(folder), 'runs', '*.part')):
         os.remove(part)
     print(path, os.path.join(folder, 'answers.svg'))

@@ -5,6 +5,9 @@ import os
 import re
 import sys
 
+sys.path.append(os.path.dirname(os.path.abspath(__file__)))
+from crash_bounds import CrashBounds
+
 PAGE = os.path.join(os.path.dirname(os.path.abspath(__file__)), 'timeline.html')
 CLOCK_KEYS = ('name', 'ratePpm', 'offsetMillis')
 
@@ -39,7 +42,12 @@ def reduced(document, title):
                if event['type'] == 'put' and event['object'].get('kind') == 'Pod']
     return {'title': title, 'settings': {key: settings[key] for key in ('epoch', 'beatMillis') if key in settings},
             'controllers': [{key: each[key] for key in CLOCK_KEYS if key in each} for each in document['controllers']],
-            'objects': {'items': [reduced_object(item) for item in shown]}, 'events': events}
+            'objects': {'items': [reduced_object(item) for item in shown]}, 'events': events, 'bounds': bounds(document)}
+
+
+def bounds(document):
+    """How long nobody leads at most after a crash of each controller, if it led for some time before, where kube_lens is built and tells it."""
+    return [{'name': name, 'crashMostMillis': most, 'ledMillis': led} for name, (_, most, led) in CrashBounds().of_each(document).items()]
 
 
 def read_document(path):

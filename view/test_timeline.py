@@ -381,6 +381,31 @@ def test_pauses(browser, folder, pictures):
     same('the document tells what is down too', spans(), [[[0, 5]], [[2, 10]]])
 
 
+def test_bounds(browser, folder, pictures):
+    """A span without a leader tells how long it lasts at most, where it begins with a crash and the page was made beside kube_lens."""
+    trace, document = example('leader-crashes')
+    stand_in = os.path.join(folder, 'lens')
+    with open(stand_in, 'w') as file:
+        file.write("""#!/bin/sh\ncat > /dev/null\necho '{"delayMillis":100,"controllers":[{"name":"cp-east-1","crashLeastMillis":13400,"crashMostMillis":17800},'"""
+                   """'{"name":"cp-east-2","crashLeastMillis":null,"crashMostMillis":null}]}'\n""")
+    os.chmod(stand_in, 0o755)
+    os.environ['KUBE_LENS_PROGRAM'] = stand_in
+    try:
+        page = page_of(folder, trace, document)
+    finally:
+        del os.environ['KUBE_LENS_PROGRAM']
+    browser.open(page)
+    told = lambda: browser.run("""(() => { const lane = timeline.model.leaderLane, { from, to, kinds, labels } = lane.spans.base;
+      return from.map((_, i) => { timeline.showSpan(lane, { from: from[i], to: to[i], kind: kinds[i], label: labels && labels[i] });
+        return document.getElementById('details').textContent; }); })()""")
+    most = ', at most 17.8 s by these settings in a calm span'
+    found = [text for text in told() if most in text]
+    same('spans that tell a bound', len(found), 1)
+    true('that of the crash', 'nobody leads' in found[0] and ', for 16.4 s' + most in found[0])
+    open_trace(browser, folder, trace)
+    same('no bound without the document', [text for text in told() if 'at most' in text], [])
+
+
 def columns(browser, y, left, right):
     """Which of the pixels of a row aren't the background's."""
     return browser.run('''(() => {
@@ -610,8 +635,8 @@ def test_pictures(browser, folder, pictures):
     browser.call('Emulation.setEmulatedVisionDeficiency', type='none')
 
 
-TESTS = [test_traces, test_moves, test_search, test_looks, test_wrong_text, test_lateness, test_pauses, test_bands, test_edges, test_helps,
-         test_large, test_pictures]
+TESTS = [test_traces, test_moves, test_search, test_looks, test_wrong_text, test_lateness, test_pauses, test_bounds, test_bands, test_edges,
+         test_helps, test_large, test_pictures]
 
 
 def main():

@@ -80,16 +80,22 @@ def key_of_group(name, pair):
     return pair.what.split("-")[0], pair.observed is None, pair.foretold, *rows_of(name, pair)
 
 
+def takeovers(pairs, scenario):
+    """Each signal that ended a leader, with when the next led, there and here."""
+    leads = [pair for pair in pairs if pair.what.startswith("lead")]
+    for signal in ending_signals(scenario):
+        there = next((pair.observed for pair in leads if pair.observed is not None and pair.observed > signal["at"]), None)
+        here = next((pair.foretold for pair in leads if pair.foretold is not None and pair.foretold > signal["at"]), None)
+        if None not in (there, here):
+            yield signal, there, here
+
+
 def kills(found, scenario_of):
     """How long nobody led after each signal that ended a leader."""
     rows = []
     for name, it in found.items():
-        for signal in ending_signals(scenario_of(name)) if it else []:
-            leads = [pair for pair in it if pair.what.startswith("lead")]
-            there = next((pair.observed for pair in leads if pair.observed is not None and pair.observed > signal["at"]), None)
-            here = next((pair.foretold for pair in leads if pair.foretold is not None and pair.foretold > signal["at"]), None)
-            if None not in (there, here):
-                rows.append((name, signal["sig"], gap(there, signal), "fitted" if name in FITTED else gap(here, signal)))
+        for signal, there, here in takeovers(it, scenario_of(name)) if it else []:
+            rows.append((name, signal["sig"], gap(there, signal), "fitted" if name in FITTED else gap(here, signal)))
     return table(("Scenario", "Signal", "Nobody led, observed", "Foretold"), rows)
 
 

@@ -1,12 +1,14 @@
 #!/usr/bin/env python3
 """What the hunt is wanted to find, and not to find. It runs outside the gate; with the shared library, on one idle core, some minutes.
 
-    PYTHONPATH=python python3 python/trials/hunts.py [two-leaders] [no-two-leaders] [failover]
+    PYTHONPATH=python python3 python/trials/hunts.py [two-leaders] [no-two-leaders] [failover] [bounded]
 
 - two-leaders: from the settings of examples/uneven-clocks, within 60 s of processor time, a script of at most four events with two leaders.
 - no-two-leaders: with the longer lease of examples/uneven-clocks-longer-lease, which rules them out, none in 100,000 scripts.
 - failover: with default settings, a crash and delays of up to 5 beats, a script that keeps everybody from leading at least as long as the
   worst of a sweep over every beat of the crash with all delays at 5.
+- bounded: with the same delays and a crash of a leader that has led for a while, in 100,000 scripts none above the 227 beats that
+  `kube_lens bounds` tells of them, and one that is within a tenth of that.
 
 The exit status is 1 where one of them fails.
 """
@@ -25,6 +27,8 @@ from kube_replay.hunt import MEASURES, Found, Hunt, Run, read_bounds
 TOP = Path(__file__).resolve().parents[2]
 HUNTS = TOP / 'docs' / 'hunt'
 LONG = 3_600.0
+# Beats without a leader after a crash with delays of 1 to 5 beats and default settings, by `kube_lens bounds`.
+AT_MOST = 227
 
 
 def load(path: Path) -> Any:
@@ -87,7 +91,20 @@ def failover(measure: str = 'failover') -> bool:
     return found is not None and found.value >= worst
 
 
-TRIALS: dict[str, Callable[[], bool]] = {'two-leaders': two_leaders, 'no-two-leaders': no_two_leaders, 'failover': failover}
+def bounded(scripts: int = 100_000) -> bool:
+    """No failover above the bound, and one that is near it."""
+    hunt = hunt_of('failover', load(HUNTS / 'three-controllers.json'), 'calm-crash', scripts, LONG)
+    begin, found = time.process_time(), hunt.run()
+    print(f'bounded: {told(found)}; {hunt.tried} scripts, {time.process_time() - begin:.1f} s of processor time')
+    return found is not None and 0.9 * AT_MOST <= found.value <= AT_MOST
+
+
+TRIALS: dict[str, Callable[[], bool]] = {
+    'two-leaders': two_leaders,
+    'no-two-leaders': no_two_leaders,
+    'failover': failover,
+    'bounded': bounded,
+}
 
 
 def main() -> int:

@@ -1,24 +1,26 @@
 -- The words that are commands.
 use Rattle.std.specs.Prelude.{ℕ, ◌&&◌, ◌||◌, Bool, List, [], ◌∷◌, codes, Option, Some, None, if◌then◌else◌}
 use Rattle.std.specs.Str.{bytes_eq}
-use Rattle.kube_lens.specs.declared.asked.Asked.TheVariants.{Margin, MarginJson, Leaders, LeadersJson, Summary, SummaryJson, Lateness, LatenessJson, Lines, Explain, ExplainJson}
+use Rattle.kube_lens.specs.declared.asked.Asked.TheVariants.{Margin, MarginJson, Bounds, BoundsJson, Leaders, LeadersJson, Summary, SummaryJson, Lateness, LatenessJson, Lines, Explain, ExplainJson}
 use Rattle.kube_lens.specs.declared.command.Command.{Command}
-use Rattle.kube_lens.specs.declared.command.Command.TheVariants.{Help, Flags, Asks}
+use Rattle.kube_lens.specs.declared.command.Command.TheVariants.{Help, Flags, BoundsFlags, Asks}
 
 -- one word
 abbrev pub by_word : List ℕ → Option Command
 by_word word =
     if bytes_eq word (codes "margin") then Some (Asks Margin)
+    else if bytes_eq word (codes "bounds") then Some (Asks Bounds)
     else if bytes_eq word (codes "leaders") then Some (Asks Leaders)
     else if bytes_eq word (codes "summary") then Some (Asks Summary)
     else if bytes_eq word (codes "explain") then Some (Asks Explain)
     else if bytes_eq word (codes "--help") then Some Help
     else None
 
--- whatever stands behind the word: behind `margin` flags
+-- whatever stands behind the word: behind `margin` and `bounds` flags
 abbrev pub by_flags : List ℕ → Option Command
 by_flags word =
     if bytes_eq word (codes "margin") then Some Flags
+    else if bytes_eq word (codes "bounds") then Some BoundsFlags
     else if bytes_eq word (codes "--help") then Some Help
     else None
 
@@ -26,6 +28,7 @@ by_flags word =
 abbrev pub as_json : List ℕ → Option Command
 as_json word =
     if bytes_eq word (codes "margin") then Some (Asks MarginJson)
+    else if bytes_eq word (codes "bounds") then Some (Asks BoundsJson)
     else if bytes_eq word (codes "leaders") then Some (Asks LeadersJson)
     else if bytes_eq word (codes "summary") then Some (Asks SummaryJson)
     else if bytes_eq word (codes "explain") then Some (Asks ExplainJson)

@@ -12,6 +12,10 @@ pub enum Asked {
     Margin,
     /// The same as one JSON object.
     MarginJson,
+    /// How long nobody leads in a document's calm spans, and how long a dead node's pods stay.
+    Bounds,
+    /// The same as one JSON object.
+    BoundsJson,
     /// Who led in a trace, and when nobody did.
     Leaders,
     /// The same as one JSON object.
@@ -39,6 +43,8 @@ impl Question for Asked {
         match *self {
             Asked::Margin => lens_room::margins_in(alloc, input),
             Asked::MarginJson => lens_room::margin_json::room_in(alloc, input),
+            Asked::Bounds => lens_calm::bounds_in(alloc, input),
+            Asked::BoundsJson => lens_calm::json_in(alloc, input),
             Asked::Leaders => lens_trace::leaders_in(alloc, input),
             Asked::LeadersJson => lens_trace::leaders_json::leaders_in(alloc, input),
             Asked::Summary => lens_summary::summary_of(alloc, input),

@@ -11,6 +11,8 @@ pub enum Command {
     Help,
     /// The margin of the lease that flags describe, in lines or as one JSON object.
     Flags,
+    /// The bounds of the settings that flags describe, in lines or as one JSON object.
+    BoundsFlags,
     /// The input is answered.
     Asks(Asked),
 }
@@ -34,6 +36,8 @@ fn by_word(word: &str) -> Option<Command>
 {
     if word == "margin" {
         Some(Command::Asks(Asked::Margin))
+    } else if word == "bounds" {
+        Some(Command::Asks(Asked::Bounds))
     } else if word == "leaders" {
         Some(Command::Asks(Asked::Leaders))
     } else if word == "summary" {
@@ -66,6 +70,8 @@ fn as_json(word: &str) -> Option<Command>
 {
     if word == "margin" {
         Some(Command::Asks(Asked::MarginJson))
+    } else if word == "bounds" {
+        Some(Command::Asks(Asked::BoundsJson))
     } else if word == "leaders" {
         Some(Command::Asks(Asked::LeadersJson))
     } else if word == "summary" {
@@ -101,12 +107,14 @@ fn are_both(one: &str, other: &str) -> bool
     }
 }
 
-/// The command that takes whatever stands behind it: that of `margin` are flags.
+/// The command that takes whatever stands behind it: that of `margin` and `bounds` are flags.
 fn by_flags(word: &str) -> Option<Command>
     ensures { result ≡ by_flags word.now }
 {
     if word == "margin" {
         Some(Command::Flags)
+    } else if word == "bounds" {
+        Some(Command::BoundsFlags)
     } else if word == "--help" {
         Some(Command::Help)
     } else {

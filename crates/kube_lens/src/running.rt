@@ -67,6 +67,7 @@ pub fn run<S: Source, K: Sink>(
     match command_in(words) {
         Some(Command::Help) => tell(sink, Verdict::Done, help()),
         Some(Command::Flags) => lens_room::by_flags::run(alloc, words, sink),
+        Some(Command::BoundsFlags) => lens_calm::run(alloc, words, sink),
         Some(Command::Asks(asked)) => ask(alloc, &asked, source, sink),
         None => tell_usage(
             sink,
@@ -83,6 +84,9 @@ fn help() -> &'static [u8]
 kube_lens margin < document         for each controller what its lease has to outlast, and what is left\n\
 kube_lens margin --json < document  the same as one JSON object\n\
 kube_lens margin --lease 15s ..     the same of flags: --lease --renew --retry --timeout --skew --beat --json\n\
+kube_lens bounds < document         how long nobody leads and a dead node's pods stay, at least and at most\n\
+kube_lens bounds --json < document  the same as one JSON object\n\
+kube_lens bounds --timeout 5s ..    the same of flags: those of margin, --wait --delay --least-delay --grace ..\n\
 kube_lens leaders < trace           who led from when to when, when nobody did, and whether two did at once\n\
 kube_lens leaders --json < trace    the same as one JSON object\n\
 kube_lens summary < trace           what a trace comes to, as tables: terms, zones, nodes, evictions, totals\n\

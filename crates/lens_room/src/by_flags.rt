@@ -11,9 +11,11 @@ mod running;
 mod wrong;
 
 pub use duration::{Reading, Stage, durations_are_sums, millis_of};
-pub use flag::Flag;
+pub use flag::{Flag, flag_by, is, value_of, whole_seconds, within};
 pub use flags::Flags;
-pub use given::{Given, read_flags};
-pub use margin::{flags_margin, greatest_skew, is_safe};
-pub use running::run;
+pub use given::{Given, read_flags, rule};
+pub use lines::{add_wrong, name_of, origin, values_of, word_at};
+pub use margin::{flags_margin, greatest_skew, is_safe, slowest_controller};
+pub use object::is_renew_deadline;
+pub use running::{behind, run};
 pub use wrong::Wrong;

@@ -7,4 +7,4 @@ mod lines;
 pub mod margin_json;
 mod margins;
 
-pub use margins::margins_in;
+pub use margins::{margins_in, verdict_by};

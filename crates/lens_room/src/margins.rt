@@ -47,7 +47,7 @@ fn margins_of(alloc: Global, document: &Document) -> Result<Answer, NoMemory>
 }
 
 /// What a run comes to where all leases are long enough, or some aren't.
-pub(crate) fn verdict_by(safe: bool) -> Verdict
+pub fn verdict_by(safe: bool) -> Verdict
     ensures { result ≡ verdict_of safe }
 {
     if safe { Verdict::Safe } else { Verdict::Unsafe }

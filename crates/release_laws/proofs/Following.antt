@@ -41,7 +41,7 @@ use Rattle.succession_laws.specs.Successions.{RepliesCome, IsRival, IsFollowed}
 use Rattle.succession_laws.proofs.Following.{fits_of, fits_writes}
 use Rattle.succession_laws.proofs.Others.{Another, another}
 use Rattle.succession_laws.proofs.Others as others
-use Rattle.release_laws.specs.Releases.{OthersRenewAround, ReleasesAreFollowed, ReleasesAreTold}
+use Rattle.release_laws.specs.Releases.{OthersRenewAround, ReleasesAreFollowed, ReleasesAreTold, release_bound}
 use Rattle.release_laws.proofs.Accepted.{R, IsFree, released, is_free, lasts, none_writes, same_since}
 use Rattle.release_laws.proofs.Answered.{meets, Late, late_write}
 use Rattle.release_laws.proofs.Setting.{none_succeeds, idle_upto, others_since, calm_since, times_since}
@@ -267,4 +267,6 @@ releases_are_followed doc near far b e q l s stop rel replies renew p slow fast 
 -- in whole beats
 pub releases_are_told : ReleasesAreTold
 releases_are_told doc near far b e q l s stop rel replies renew p slow fast rival some within =
-    releases_are_followed doc near far b e q l s stop rel replies renew p slow fast (div_ceil (retry_period doc p) slow) rival (rounded_is slow (retry_period doc p) some).0 within
+    let same : b + div_ceil (retry_period doc p) slow + (6 * far - 1) ≡ b + release_bound doc far p slow = omega arith in
+    subst (λ n. IsFollowed doc b n e q) same
+    (releases_are_followed doc near far b e q l s stop rel replies renew p slow fast (div_ceil (retry_period doc p) slow) rival (rounded_is slow (retry_period doc p) some).0 (omega (arith, within)))

@@ -24,7 +24,7 @@ pub enum Flag {
 }
 
 /// The flag of this name, its own or kube-controller-manager's.
-pub(crate) fn flag_by(name: &[u8]) -> Option<Flag>
+pub fn flag_by(name: &[u8]) -> Option<Flag>
     ensures { result ≡ spec.flag_by name.now }
 {
     if is(name, b"--lease") || is(name, b"--leader-elect-lease-duration") {
@@ -52,14 +52,15 @@ fn other_flag_by(name: &[u8]) -> Option<Flag>
     }
 }
 
-pub(crate) fn is(text: &[u8], word: &[u8]) -> bool
+/// Whether a text is this word.
+pub fn is(text: &[u8], word: &[u8]) -> bool
     ensures { result ≡ spec.is text.now word.now }
 {
     text == word
 }
 
 /// The number that a flag's text gives: seconds of a lease, parts per million of a skew, and else milliseconds.
-pub(crate) fn value_of(flag: Flag, text: &[u8]) -> Option<u32>
+pub fn value_of(flag: Flag, text: &[u8]) -> Option<u32>
     ensures value { result ≡ spec.value_of flag text.now }
     ensures range { IfSome result (λ n. spec.IsInRange flag n) }
 {
@@ -73,7 +74,7 @@ pub(crate) fn value_of(flag: Flag, text: &[u8]) -> Option<u32>
 }
 
 /// A number of at least one and at most `most`.
-fn within(most: u64, number: u64) -> Option<u32>
+pub fn within(most: u64, number: u64) -> Option<u32>
     requires { most < 2 ^ 32 }
     ensures value { result ≡ spec.within most number }
     ensures range { IfSome result (λ n. (1 ≤ n) × (n ≤ most)) }
@@ -86,7 +87,7 @@ fn within(most: u64, number: u64) -> Option<u32>
 }
 
 /// The seconds of a duration in milliseconds that has none beside them.
-fn whole_seconds(millis: u64) -> Option<u64>
+pub fn whole_seconds(millis: u64) -> Option<u64>
     ensures { result ≡ spec.whole_seconds millis }
 {
     if millis % 1000 == 0 {

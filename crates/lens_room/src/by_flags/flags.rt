@@ -21,7 +21,7 @@ pub struct Flags {
 
 impl Flags {
     /// Those that stand where no flag does.
-    pub(crate) fn standard() -> Flags
+    pub fn standard() -> Flags
         ensures { result ≡ spec.standard }
     {
         Flags {
@@ -36,7 +36,7 @@ impl Flags {
     }
 
     /// With the value of a flag in the place of what it was.
-    pub(crate) fn with(self, flag: Flag, value: u32) -> Flags
+    pub fn with(self, flag: Flag, value: u32) -> Flags
         ensures { result ≡ spec.with_value flag value self }
     {
         match flag {

@@ -106,7 +106,7 @@ fn valued(place: usize, flags: Flags, flag: Flag, text: &[u8]) -> Result<Given, 
 }
 
 /// The settings, where they fit each other.
-fn rule(flags: Flags) -> Result<Flags, Wrong>
+pub fn rule(flags: Flags) -> Result<Flags, Wrong>
     requires { AreInRange flags }
     ensures flags { result ≡ spec.ruled flags }
     ensures ranges { IfOk result (λ flags. AreInRange flags) }

@@ -46,7 +46,8 @@ fn add_taken(text: &mut Vec<u8>, flags: &Flags) -> Result<(), NoMemory>
     add(text, b"ppm")
 }
 
-fn origin(timeout: Option<u32>) -> &'static [u8]
+/// Where a call timeout is the renew deadline, the words that say so.
+pub fn origin(timeout: Option<u32>) -> &'static [u8]
     ensures { result.now ≡ spec.origin_text timeout }
 {
     match timeout {
@@ -86,7 +87,8 @@ pub(crate) fn add_usage(text: &mut Vec<u8>, words: &[String], wrong: Wrong) -> R
     add(text, b"\n")
 }
 
-fn add_wrong(text: &mut Vec<u8>, words: &[String], wrong: Wrong) -> Result<(), NoMemory>
+/// Adds what is wrong with the words.
+pub fn add_wrong(text: &mut Vec<u8>, words: &[String], wrong: Wrong) -> Result<(), NoMemory>
     ensures { OnOk result (text.new.items ≡ text.old.items ++ spec.wrong_text (map string_bytes words.now) wrong) }
 {
     match wrong {
@@ -120,7 +122,8 @@ fn add_unknown(text: &mut Vec<u8>, word: &[u8]) -> Result<(), NoMemory>
     add(text, word)
 }
 
-fn word_at(words: &[String], place: usize) -> &[u8]
+/// The word at a place, and nothing where none is.
+pub fn word_at(words: &[String], place: usize) -> &[u8]
     ensures { result.now ≡ spec.word_at (map string_bytes words.now) place }
 {
     match words.get(place) {
@@ -129,7 +132,8 @@ fn word_at(words: &[String], place: usize) -> &[u8]
     }
 }
 
-fn name_of(flag: Flag) -> &'static [u8]
+/// A flag's own name.
+pub fn name_of(flag: Flag) -> &'static [u8]
     ensures { result.now ≡ spec.name_text flag }
 {
     match flag {
@@ -143,7 +147,7 @@ fn name_of(flag: Flag) -> &'static [u8]
 }
 
 /// What a flag takes, up to the word that it doesn't.
-fn values_of(flag: Flag) -> &'static [u8]
+pub fn values_of(flag: Flag) -> &'static [u8]
     ensures { result.now ≡ spec.values_text flag }
 {
     match flag {

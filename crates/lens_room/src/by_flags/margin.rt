@@ -24,7 +24,8 @@ pub fn flags_margin(flags: &Flags) -> Margin
     )
 }
 
-fn slowest_controller(flags: &Flags) -> Proc
+/// The slowest controller that these settings allow.
+pub fn slowest_controller(flags: &Flags) -> Proc
     requires { AreInRange flags.now }
     ensures { result ≡ controller flags.now 0 (slow flags.now) }
 {

@@ -61,7 +61,7 @@ fn members(
 }
 
 /// Whether a timeout is the renew deadline, as none is given.
-fn is_renew_deadline(timeout: Option<u32>) -> bool
+pub fn is_renew_deadline(timeout: Option<u32>) -> bool
     ensures { result ≡ spec.is_renew_deadline timeout }
 {
     match timeout {

@@ -47,7 +47,7 @@ pub fn run<K: Sink>(alloc: Global, words: &Vec<String>, sink: &mut K) -> Status
 }
 
 /// The words behind the first one.
-fn behind(words: &Vec<String>) -> &[String]
+pub fn behind(words: &Vec<String>) -> &[String]
     ensures { map string_bytes result.now ≡ behind (map string_bytes words.now.items) }
 {
     match words.as_slice() {

@@ -1,12 +1,13 @@
 use Rattle.std.proofs.Common.{List, ℕ, [], Some, None, map, string_bytes, refl, sym, ap, subst, ◌∙◌, ◌≡◌}
 use Rattle.run_edge.specs.Outcome.{Ends, Reply, Unread}
 use Rattle.run_edge.specs.declared.status.Verdict.TheVariants.{Done}
+use Rattle.lens_calm.specs.Answers as bounds_flags
 use Rattle.lens_room.specs.Flags.{behind}
 use Rattle.lens_room.specs.FlagReplies.{answer_to}
 use Rattle.kube_lens.specs.Commands.{command_of}
 use Rattle.kube_lens.specs.Outcome.{help, usage}
 use Rattle.kube_lens.specs.declared.asked.Asked.TheVariants.{Margin}
-use Rattle.kube_lens.specs.declared.command.Command.TheVariants.{Help, Flags, Asks}
+use Rattle.kube_lens.specs.declared.command.Command.TheVariants.{Help, Flags, BoundsFlags, Asks}
 use Rattle.kube_lens.proofs.Commanded.{ends-commanded, ends-said, ends-unread, never-said}
 use Rattle.kube_lens.proofs.PremiseLaws.{safe-premise, unsafe-premise}
 use Rattle.kube_lens.proofs.running.run.Goals as goal
@@ -30,6 +31,15 @@ returns-in-Some-Flags-clause-text g c bytes told =
     let after = g.K.Sink.taken c.run.new.sink in
     let found : Some Flags ≡ command_of words = ap Some (sym c.in-Some-Flags.field-0-is) ∙ sym c.in-Some-Flags.is ∙ c.command_in.ensures in
     ends-commanded words bytes (Some Flags) left before after c.run.result found (ends-unread (answer_to (behind words)) bytes left before after c.run.result told (c.run.ensures.text bytes))
+
+pub returns-in-Some-BoundsFlags-clause-text : goal.returns-in-Some-BoundsFlags-clause-text
+returns-in-Some-BoundsFlags-clause-text g c bytes told =
+    let words : List (List ℕ) = map string_bytes c.args.words.now.items in
+    let left = g.S.Source.left c.args.source.now in
+    let before = g.K.Sink.taken c.args.sink.now in
+    let after = g.K.Sink.taken c.run-2.new.sink in
+    let found : Some BoundsFlags ≡ command_of words = ap Some (sym c.in-Some-BoundsFlags.field-0-is) ∙ sym c.in-Some-BoundsFlags.is ∙ c.command_in.ensures in
+    ends-commanded words bytes (Some BoundsFlags) left before after c.run-2.result found (ends-unread (bounds_flags.answer_to (behind words)) bytes left before after c.run-2.result told (c.run-2.ensures.text bytes))
 
 pub returns-in-Some-Flags-clause-flags_safe : goal.returns-in-Some-Flags-clause-flags_safe
 returns-in-Some-Flags-clause-flags_safe g c flags command read is = c.run.ensures.safe flags read is
@@ -91,6 +101,12 @@ returns-in-Some-Flags-clause-unread g c reply is =
     let words : List (List ℕ) = map string_bytes c.args.words.now.items in
     let found : Some Flags ≡ command_of words = ap Some (sym c.in-Some-Flags.field-0-is) ∙ sym c.in-Some-Flags.is ∙ c.command_in.ensures in
     (refl, refl, ends-said words (Some Flags) (answer_to (behind words)) reply (g.K.Sink.taken c.args.sink.now) (g.K.Sink.taken c.run.new.sink) c.run.result found refl is (c.run.ensures.text []))
+
+pub returns-in-Some-BoundsFlags-clause-unread : goal.returns-in-Some-BoundsFlags-clause-unread
+returns-in-Some-BoundsFlags-clause-unread g c reply is =
+    let words : List (List ℕ) = map string_bytes c.args.words.now.items in
+    let found : Some BoundsFlags ≡ command_of words = ap Some (sym c.in-Some-BoundsFlags.field-0-is) ∙ sym c.in-Some-BoundsFlags.is ∙ c.command_in.ensures in
+    (refl, refl, ends-said words (Some BoundsFlags) (bounds_flags.answer_to (behind words)) reply (g.K.Sink.taken c.args.sink.now) (g.K.Sink.taken c.run-2.new.sink) c.run-2.result found refl is (c.run-2.ensures.text []))
 
 pub returns-in-Some-Asks-clause-unread : goal.returns-in-Some-Asks-clause-unread
 returns-in-Some-Asks-clause-unread g c reply is =

@@ -1,0 +1,2 @@
+-- ---- the reach of a document
+pub mod Reaches

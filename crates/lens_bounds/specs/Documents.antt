@@ -1,0 +1,98 @@
+-- What a document's processes and events let messages and clocks do. Source: profile.
+use Rattle.std.specs.Prelude.{ℕ, ◌*◌, min, max, nat_lt, not, Bool, true, false, List, [], ◌∷◌, length, None}
+use Rattle.kube_objects.specs.declared.script.Event.{Event}
+use Rattle.kube_objects.specs.declared.script.Proc.{Proc}
+use Rattle.kube_objects.specs.declared.script.What.{What}
+use Rattle.kube_objects.specs.declared.script.What.TheVariants.{Rate, Delay, Loss, Crash, Start, Stop, Watch, Ready, Pause, Put, Remove}
+use Rattle.kube_objects.specs.Document.{Doc, beat_micros}
+use Rattle.lens_bounds.specs.declared.calm.Calm.{Calm}
+use Rattle.lens_bounds.specs.declared.outages.Outage.{Outage}
+use Rattle.lens_bounds.specs.declared.reach.Reach.{Reach}
+
+-- one way takes a beat where no event says else
+abbrev pub nothing : Reach
+nothing = record { far = 1; least = 4294967295; greatest = 0 }
+
+abbrev pub with_rate : ℕ → Reach → Reach
+with_rate ppm r = record { far = r.far; least = min ppm r.least; greatest = max ppm r.greatest }
+
+abbrev pub with_delay : ℕ → ℕ → Reach → Reach
+with_delay requests replies r = record { far = max requests (max replies r.far); least = r.least; greatest = r.greatest }
+
+abbrev pub with_processes : List Proc → Reach → Reach
+with_processes [] r = r
+with_processes (p ∷ ps) r = with_processes ps (with_rate p.rate_ppm r)
+
+-- whether a process is one of so many controllers, or a kubelet
+abbrev pub is_meant : ℕ → Bool → ℕ → Bool
+is_meant count true p = nat_lt p count
+is_meant count false p = not (nat_lt p count)
+
+abbrev pub rate_if : Bool → ℕ → Reach → Reach
+rate_if true ppm r = with_rate ppm r
+rate_if false ppm r = r
+
+abbrev pub delay_if : Bool → ℕ → ℕ → Reach → Reach
+delay_if true requests replies r = with_delay requests replies r
+delay_if false requests replies r = r
+
+abbrev pub with_event : ℕ → Bool → What → Reach → Reach
+with_event count controllers (Rate id ppm) r = rate_if (is_meant count controllers id.0) ppm r
+with_event count controllers (Delay id requests replies) r = delay_if (is_meant count controllers id.0) requests replies r
+with_event count controllers (Loss id requests replies) r = r
+with_event count controllers (Crash id) r = r
+with_event count controllers (Start id) r = r
+with_event count controllers (Stop id) r = r
+with_event count controllers (Watch id on) r = r
+with_event count controllers (Ready id status) r = r
+with_event count controllers (Pause id beats) r = r
+with_event count controllers (Put key object) r = r
+with_event count controllers (Remove key) r = r
+
+abbrev pub with_events : ℕ → Bool → List Event → Reach → Reach
+with_events count controllers [] r = r
+with_events count controllers (e ∷ es) r = with_events count controllers es (with_event count controllers e.what r)
+
+abbrev pub processes_of : Doc → Bool → List Proc
+processes_of doc true = doc.controllers
+processes_of doc false = doc.kubelets
+
+-- the greatest delay, and the least and greatest rate, that the document sets for its controllers, or for its kubelets
+unfoldable pub reach_of : Doc → Bool → Reach
+reach_of doc controllers = with_events (length doc.controllers) controllers doc.events (with_processes (processes_of doc controllers) nothing)
+
+-- calm spans with these delays and clocks
+abbrev pub calm_with : Doc → Reach → Calm
+calm_with doc r = record {
+  beat_millis = doc.settings.beat_millis;
+  near = 1;
+  far = r.far;
+  slow = beat_micros doc * r.least;
+  fast = beat_micros doc * r.greatest;
+  wait_millis = None;
+  fast_renew = doc.settings.fast_renew;
+}
+
+abbrev pub calm_of : Doc → Calm
+calm_of doc = calm_with doc (reach_of doc true)
+
+abbrev pub with_far : ℕ → Reach → Reach
+with_far far r = record { far = max far r.far; least = r.least; greatest = r.greatest }
+
+-- for nodes the delays of kubelets count too
+abbrev pub outage_with : Doc → Reach → Reach → Outage
+outage_with doc own posts = record {
+  calm = calm_with doc (with_far posts.far own);
+  kubelets = nat_lt 0 (length doc.kubelets);
+  posts_slow = beat_micros doc * posts.least;
+  posts_fast = beat_micros doc * posts.greatest;
+  timeout_millis = doc.settings.call_timeout_millis;
+  monitor_millis = doc.settings.monitor_period_millis;
+  grace_millis = doc.settings.grace_period_millis;
+  node_lease_seconds = doc.settings.node_lease_duration_seconds;
+  rate = doc.settings.primary_rate;
+  ahead = 0;
+}
+
+abbrev pub outage_of : Doc → Outage
+outage_of doc = outage_with doc (reach_of doc true) (reach_of doc false)

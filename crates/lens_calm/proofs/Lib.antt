@@ -1,0 +1,4 @@
+-- ---- texts
+pub mod Texts
+-- ---- how a run by flags ends
+pub mod Endings
