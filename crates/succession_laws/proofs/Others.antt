@@ -20,7 +20,6 @@ use Rattle.call_laws.specs.Answering.{with_events}
 use Rattle.call_laws.proofs.Answering.{events_position}
 use Rattle.calm_laws.proofs.Life.{never_led, restart_same}
 use Rattle.silence_laws.specs.Silence.{LeadsUntil, Bears}
-use Rattle.succession_laws.proofs.Others.{Another, another}
 use Rattle.history.specs.Steps.{restart}
 
 module _ (doc : Doc) (b n : ℕ) (q : Identity) where
