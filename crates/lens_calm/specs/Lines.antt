@@ -39,8 +39,11 @@ abbrev pub marked_if : Option Marked → List ℕ
 marked_if None = codes " none"
 marked_if (Some m) = marked_text m
 
+unfoldable pub latest_text : Tainted → List ℕ
+latest_text t = millis_text (codes " at-most=") t.most ++ millis_text (codes " at-most-with-token=") t.with_token
+
 unfoldable pub tainted_text : Tainted → List ℕ
-tainted_text t = since_text t.least ++ millis_text (codes " at-most=") t.most ++ millis_text (codes " at-most-with-token=") t.with_token
+tainted_text t = since_text t.least ++ latest_text t
 
 abbrev pub tainted_if : Option Tainted → List ℕ
 tainted_if None = codes " none"
@@ -85,8 +88,11 @@ unknown_line m = codes "node unknown" ++ marked_if m ++ codes "\n"
 unfoldable pub tainted_line : ℕ → Option Tainted → List ℕ
 tainted_line ahead t = codes "node tainted ahead=" ++ decimal ahead ++ tainted_if t ++ codes "\n"
 
+unfoldable pub tolerating_text : ℕ → List ℕ
+tolerating_text seconds = codes "pods gone toleration=" ++ decimal seconds ++ codes "s"
+
 unfoldable pub gone_line : ℕ → Option Tainted → List ℕ
-gone_line seconds t = codes "pods gone toleration=" ++ decimal seconds ++ codes "s" ++ tainted_if t ++ codes "\n"
+gone_line seconds t = tolerating_text seconds ++ tainted_if t ++ codes "\n"
 
 -- whether a leader stays
 abbrev pub stays_text : Bool → List ℕ

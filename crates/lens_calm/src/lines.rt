@@ -91,13 +91,20 @@ fn add_mark(text: &mut Vec<u8>, marked: Option<Marked>) -> Result<(), NoMemory>
     }
 }
 
+#[tactic(auto, unfolding(crate::specs::Lines::latest_text))]
+fn add_latest(text: &mut Vec<u8>, tainted: Tainted) -> Result<(), NoMemory>
+    ensures { OnOk result (text.new.items ≡ text.old.items ++ spec.latest_text tainted) }
+{
+    add_millis(text, b" at-most=", tainted.most)?;
+    add_millis(text, b" at-most-with-token=", tainted.with_token)
+}
+
 #[tactic(auto, unfolding(crate::specs::Lines::tainted_text))]
 fn add_whole_taint(text: &mut Vec<u8>, tainted: Tainted) -> Result<(), NoMemory>
     ensures { OnOk result (text.new.items ≡ text.old.items ++ spec.tainted_text tainted) }
 {
     add_since(text, tainted.least)?;
-    add_millis(text, b" at-most=", tainted.most)?;
-    add_millis(text, b" at-most-with-token=", tainted.with_token)
+    add_latest(text, tainted)
 }
 
 fn add_taint(text: &mut Vec<u8>, tainted: Option<Tainted>) -> Result<(), NoMemory>
@@ -220,6 +227,15 @@ pub(crate) fn add_tainted(
     add(text, b"\n")
 }
 
+#[tactic(auto, unfolding(crate::specs::Lines::tolerating_text))]
+fn add_tolerating(text: &mut Vec<u8>, seconds: u64) -> Result<(), NoMemory>
+    ensures { OnOk result (text.new.items ≡ text.old.items ++ spec.tolerating_text seconds) }
+{
+    add(text, b"pods gone toleration=")?;
+    add_decimal(text, u128::from(seconds))?;
+    add(text, b"s")
+}
+
 #[tactic(auto, unfolding(crate::specs::Lines::gone_line))]
 pub(crate) fn add_gone(
     text: &mut Vec<u8>,
@@ -228,9 +244,7 @@ pub(crate) fn add_gone(
 ) -> Result<(), NoMemory>
     ensures { OnOk result (text.new.items ≡ text.old.items ++ spec.gone_line seconds gone) }
 {
-    add(text, b"pods gone toleration=")?;
-    add_decimal(text, u128::from(seconds))?;
-    add(text, b"s")?;
+    add_tolerating(text, seconds)?;
     add_taint(text, gone)?;
     add(text, b"\n")
 }
