@@ -16,6 +16,10 @@ use Rattle.lens_calm.specs.Settings.{near_of, far_of}
 unfoldable pub millis_text : List ℕ → ℕ → List ℕ
 millis_text label n = label ++ decimal n ++ codes "ms"
 
+-- or seconds
+unfoldable pub seconds_text : List ℕ → ℕ → List ℕ
+seconds_text label n = label ++ decimal n ++ codes "s"
+
 abbrev pub most_if : Option ℕ → List ℕ
 most_if None = codes " none"
 most_if (Some n) = millis_text (codes " at-most=") n
@@ -88,11 +92,8 @@ unknown_line m = codes "node unknown" ++ marked_if m ++ codes "\n"
 unfoldable pub tainted_line : ℕ → Option Tainted → List ℕ
 tainted_line ahead t = codes "node tainted ahead=" ++ decimal ahead ++ tainted_if t ++ codes "\n"
 
-unfoldable pub tolerating_text : ℕ → List ℕ
-tolerating_text seconds = codes "pods gone toleration=" ++ decimal seconds ++ codes "s"
-
 unfoldable pub gone_line : ℕ → Option Tainted → List ℕ
-gone_line seconds t = tolerating_text seconds ++ tainted_if t ++ codes "\n"
+gone_line seconds t = seconds_text (codes "pods gone toleration=") seconds ++ tainted_if t ++ codes "\n"
 
 -- whether a leader stays
 abbrev pub stays_text : Bool → List ℕ

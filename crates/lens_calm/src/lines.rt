@@ -28,6 +28,16 @@ pub(crate) fn add_millis(text: &mut Vec<u8>, label: &[u8], millis: u128) -> Resu
     add(text, b"ms")
 }
 
+/// Adds a label and so many seconds.
+#[tactic(auto, unfolding(crate::specs::Lines::seconds_text))]
+fn add_seconds(text: &mut Vec<u8>, label: &[u8], seconds: u128) -> Result<(), NoMemory>
+    ensures { OnOk result (text.new.items ≡ text.old.items ++ spec.seconds_text label.now seconds) }
+{
+    add(text, label)?;
+    add_decimal(text, seconds)?;
+    add(text, b"s")
+}
+
 fn add_most(text: &mut Vec<u8>, millis: Option<u128>) -> Result<(), NoMemory>
     ensures { OnOk result (text.new.items ≡ text.old.items ++ spec.most_if millis) }
 {
@@ -227,15 +237,6 @@ pub(crate) fn add_tainted(
     add(text, b"\n")
 }
 
-#[tactic(auto, unfolding(crate::specs::Lines::tolerating_text))]
-fn add_tolerating(text: &mut Vec<u8>, seconds: u64) -> Result<(), NoMemory>
-    ensures { OnOk result (text.new.items ≡ text.old.items ++ spec.tolerating_text seconds) }
-{
-    add(text, b"pods gone toleration=")?;
-    add_decimal(text, u128::from(seconds))?;
-    add(text, b"s")
-}
-
 #[tactic(auto, unfolding(crate::specs::Lines::gone_line))]
 pub(crate) fn add_gone(
     text: &mut Vec<u8>,
@@ -244,7 +245,7 @@ pub(crate) fn add_gone(
 ) -> Result<(), NoMemory>
     ensures { OnOk result (text.new.items ≡ text.old.items ++ spec.gone_line seconds gone) }
 {
-    add_tolerating(text, seconds)?;
+    add_seconds(text, b"pods gone toleration=", u128::from(seconds))?;
     add_taint(text, gone)?;
     add(text, b"\n")
 }
