@@ -85,13 +85,15 @@ spread_members c =
 abbrev pub gone_list : Outage → List ℕ → List Named
 gone_list o seconds = (codes "gone", list_of (gone_objects o seconds)) ∷ []
 
-abbrev pub nodes_members : Outage → List ℕ → List Named
+unfoldable pub nodes_members : Outage → List ℕ → List Named
 nodes_members o seconds = node_members 0 (until_unknown o) (until_tainted o) ++ gone_list o seconds
+
+unfoldable pub leaders_members : Document → List Named
+leaders_members d = (codes "controllers", list_of (members_below d (length d.controllers))) ∷ []
 
 abbrev pub document_members : Document → Bool → List Named
 document_members d safe =
-    spread_members (calm_of (doc_of d)) ++ (codes "controllers", list_of (members_below d (length d.controllers)))
-    ∷ (nodes_members (outage_of (doc_of d)) (times_in d) ++ end_members (stays_in d) safe)
+    spread_members (calm_of (doc_of d)) ++ leaders_members d ++ nodes_members (outage_of (doc_of d)) (times_in d) ++ end_members (stays_in d) safe
 
 unfoldable pub document_json : Document → Bool → List ℕ
 document_json d safe = compact_text (object_of (document_members d safe)) ++ codes "\n"

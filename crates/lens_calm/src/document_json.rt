@@ -68,9 +68,8 @@ fn parts<'a>(
     ensures { IfOk result (λ parts. map part_of parts.items ≡ spec.document_members document.now safe) }
 {
     let times = times_of(alloc, document)?;
-    let leaders = leaders_in(alloc, document)?;
     let mut parts = spread_parts(alloc, calm_of(document))?;
-    add_part(&mut parts, b"controllers", What::List(leaders))?;
+    add_leaders(&mut parts, alloc, document)?;
     add_nodes(&mut parts, alloc, outage_of(document), &times)?;
     add_all(&mut parts, end_parts(alloc, stays, safe)?)?;
     Ok(parts)
@@ -89,6 +88,21 @@ fn spread_parts<'a>(alloc: Global, c: Calm) -> Result<Vec<Part<'a>>, NoMemory>
     Ok(parts)
 }
 
+#[tactic(auto, unfolding(crate::specs::Documents::leaders_members))]
+fn add_leaders<'a>(
+    parts: &mut Vec<Part<'a>>,
+    alloc: Global,
+    document: &'a Document,
+) -> Result<(), NoMemory>
+    requires lawful { IsLawfulDoc (doc_of document.now) }
+    requires named { IsWellNamed document.now.names (doc_of document.now) }
+    ensures { OnOk result (map part_of parts.new.items ≡ map part_of parts.old.items ++ spec.leaders_members document.now) }
+{
+    let leaders = leaders_in(alloc, document)?;
+    add_part(parts, b"controllers", What::List(leaders))
+}
+
+#[tactic(auto, unfolding(crate::specs::Documents::nodes_members))]
 fn add_nodes<'a>(
     parts: &mut Vec<Part<'a>>,
     alloc: Global,
