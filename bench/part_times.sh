@@ -9,7 +9,7 @@
 # is put into a copy of the crates that it needs, proved there, built and run. That takes some minutes where earlier checks are kept on
 # the machine.
 top=$(cd "$(dirname "$0")/.." && pwd) || exit 1
-uses="kube_base kube_objects leader_elector object_store watch_cache node_health zone_state term_state controller_core rate_policies"
+uses="kube_base kube_objects leader_elector object_store watch_cache node_health zone_state term_state controller_core"
 room=$(mktemp -d) || exit 1
 trap 'rm -rf "$room"' EXIT
 mkdir -p "$room/crates/part_times/src" || exit 1

@@ -1,6 +1,7 @@
 """The crates of this repository by crates.txt, and what each costs by the table of docs/gate.md."""
 import os
 import re
+import sys
 from dataclasses import dataclass
 
 TOP = os.path.dirname(os.path.dirname(os.path.abspath(__file__)))
@@ -144,3 +145,11 @@ def rows(found):
         lines.append(f'| `{name}` | {" | ".join(cells)} | {each.all:.1f} |')
     lines.append(f'| all | {total.proof:.1f} | {total.tests:.1f} | {total.wrong:.1f} | {total.programs:.1f} | {total.all:.1f} |')
     return '\n'.join(lines)
+
+
+def end(main):
+    """Ends the process by what a tool's main returns, or by naming a crate that crates.txt doesn't name."""
+    try:
+        sys.exit(main())
+    except Unknown as fault:
+        sys.exit(str(fault))

@@ -16,8 +16,26 @@ FIRST_LINE = re.compile(r'trace 1 beat=([1-9][0-9]{0,3}) end=([0-9]{1,9}) premis
 Kind = TypeVar('Kind', bound=Line)
 
 
+class _Stretch:
+    """What goes from a first beat to a last one, both among its own."""
+
+    first_beat: int
+    last_beat: int
+    beat_millis: int
+
+    @property
+    def beats(self) -> int:
+        """How many beats it has."""
+        return self.last_beat + 1 - self.first_beat
+
+    @property
+    def seconds(self) -> float:
+        """How long it is, in seconds."""
+        return self.beats * self.beat_millis / 1000
+
+
 @dataclass(frozen=True)
-class Term:
+class Term(_Stretch):
     """From the beat at which an identity leads to the beat before its `End`, `Crash` or `Stop`, or to the last beat of the trace.
 
     Both beats belong to the term. `ended_by` is the line that ends it, None where it goes on to the end.
@@ -30,35 +48,15 @@ class Term:
     lead: Lead
     ended_by: Line | None
 
-    @property
-    def beats(self) -> int:
-        """How many beats it has."""
-        return self.last_beat + 1 - self.first_beat
-
-    @property
-    def seconds(self) -> float:
-        """How long it is, in seconds."""
-        return self.beats * self.beat_millis / 1000
-
 
 @dataclass(frozen=True)
-class Span:
+class Span(_Stretch):
     """Beats in which the same number of controllers act as the leader, from the first to the last, both among them."""
 
     first_beat: int
     last_beat: int
     leaders: int
     beat_millis: int
-
-    @property
-    def beats(self) -> int:
-        """How many beats it has."""
-        return self.last_beat + 1 - self.first_beat
-
-    @property
-    def seconds(self) -> float:
-        """How long it is, in seconds."""
-        return self.beats * self.beat_millis / 1000
 
 
 class Trace(Sequence[Line]):

@@ -15,7 +15,7 @@ use Rattle.history_laws.specs.Tails.{IsTail}
 use Rattle.history_laws.proofs.Plainly.{none_is}
 use Rattle.call_laws.proofs.Making.{MadeAs, MadeSend, HasStopped, IsOpen, Replied, are_made}
 use Rattle.call_laws.proofs.Starting.{actor_is}
-use Rattle.calm_laws.proofs.Requests.{AsksInTurn, asks_in_turn}
+use Rattle.calm_laws.proofs.Requests.{asks_in_turn}
 
 -- ---- what follows a reply
 
@@ -86,7 +86,7 @@ pub reason_key : (doc : Doc) (k : ℕ) (q : Identity) (request : Request) (h : L
 reason_key doc k q request h (InTurn is) = ap key_of is
 reason_key doc k q request h (AfterReply f) = (next_is q _ _ f.waiting.kind f.waiting.request f.reply request f.follows).key
 
-not_open : (c : Call) → open_as Release c ≡ Some c → ⊥
+pub not_open : (c : Call) → open_as Release c ≡ Some c → ⊥
 not_open c is = none_is c is
 
 pub reason_of : (doc : Doc) (m : ℕ) (q : Identity) → is_controller doc q.process ≡ true → (x : Entry) (T : List Entry) (call : Call) (arrives : Option ℕ) → IsTail (x ∷ T) (history doc m) → x.actor ≡ actor_of q → x.fact ≡ Sends call arrives
@@ -106,7 +106,7 @@ reason_of doc m q role x T call arrives at actor fact unled opens = by_step made
     request = sym (ap (λ (c : Call). c.request) made.call_is)
 
     by_step : (x.step ≡ 1) ⊎ ((x.step ≡ 3) ⊎ (x.step ≡ 4)) → Reason doc x.beat q call.request T × (3 ≤ x.step)
-    by_step (inr (inr four)) = (InTurn (subst (λ d. AsksInTurn doc x.step x.actor d T) fact (asks_in_turn doc m x T at) four q actor role unled), omega (arith, four))
+    by_step (inr (inr four)) = (InTurn (asks_in_turn doc m x T q call arrives at actor fact four role unled), omega (arith, four))
     by_step (inr (inl three)) = (AfterReply (subst (λ r. Replied doc x.beat q r T) request (subst (λ p. Replied doc x.beat p made.request T) mine (made.replied role_made three))), omega (arith, three))
     by_step (inl one) = absurd (by_free (made.free role_made))
       where

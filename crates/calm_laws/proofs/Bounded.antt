@@ -1,16 +1,19 @@
 -- In a calm it isn't so that nobody acts by the bound.
 use Rattle.std.proofs.Common.{◌≡◌, ◌<◌, ◌≤◌, ℕ, suc, ◌+◌, ◌-◌, ◌*◌, ◌/◌, max, nat_lt, Bool, true, false, List, [], ◌∷◌, Option, Some, None, refl, sym, ap, ◌∙◌, subst, inr, ⊎_elim, arith}
 use Rattle.std.proofs.lemmas.Nat.{le-div}
+use Rattle.std.proofs.Math.Nat.{mul-le-mul_right}
 use Rattle.std.specs.Int.{div_ceil}
 use Rattle.std.proofs.lemmas.Bool.{ltb-false, cases_lt}
 use Rattle.kube_objects.specs.Document.{Doc, processes, end_beat, is_controller, call_timeout, retry_period}
 use Rattle.kube_objects.specs.Elector.{leads}
-use Rattle.kube_objects.specs.Entry.{Entry}
+use Rattle.kube_objects.specs.Clocks.{local}
+use Rattle.kube_objects.proofs.Clocks.{local_up}
+use Rattle.kube_objects.specs.Entry.{Entry, Identity, Call}
 use Rattle.kube_objects.specs.Identities.{identity}
 use Rattle.kube_objects.specs.Newest.{has}
 use Rattle.kube_objects.specs.Pauses.{is_paused}
-use Rattle.kube_objects.specs.Process.{alive}
-use Rattle.kube_objects.specs.Stored.{election, stored}
+use Rattle.kube_objects.specs.Process.{alive, is_late}
+use Rattle.kube_objects.specs.Stored.{Held, election, stored}
 use Rattle.history.specs.History.{history, at_turn}
 use Rattle.history.specs.Safe.{Acts}
 use Rattle.history.specs.Sound.{IsSound}
@@ -22,6 +25,7 @@ use Rattle.history_laws.proofs.Tailed.{tail_all, tail_trans, later_tail, two_add
 use Rattle.span_laws.specs.Looks.{IsGreatest}
 use Rattle.span_laws.specs.Quotients.{most_beats}
 use Rattle.span_laws.specs.Spans.{IsEnough}
+use Rattle.span_laws.proofs.Spans.{goes_least}
 use Rattle.span_laws.proofs.Quotients.{rounded_is, bounds_are_exact}
 use Rattle.call_laws.specs.Answering.{with_events, with_answers}
 use Rattle.call_laws.proofs.Above.{in_head}
@@ -36,7 +40,8 @@ use Rattle.calm_laws.proofs.Deciding.{somebody_or_nobody}
 use Rattle.calm_laws.proofs.First.{none_first}
 use Rattle.calm_laws.proofs.Kept.{IsKept}
 use Rattle.calm_laws.proofs.Life.{never_led}
-use Rattle.calm_laws.proofs.Looks.{object_of}
+use Rattle.calm_laws.proofs.Looks.{object_of, has_lease}
+use Rattle.calm_laws.proofs.Replies.{HasLease, gets_show, writes_fail, none_written}
 use Rattle.calm_laws.proofs.Restarts.{up_restarted}
 
 -- ---- the record that was there before
@@ -104,10 +109,43 @@ module _ (doc : Doc) (near far a settled e n : ℕ) (calm : IsCalm doc near far 
   awake : is_paused doc p G ≡ false
   awake = (c.steady.passes G (omega arith) (omega (arith, room, within))).awake
 
+  abbrev q : Identity
+  q = identity p i
+
+  abbrev top : Option Held
+  top = stored election (history doc (settled + far))
+
+  lease : HasLease top
+  lease = has_lease lasting top lasts
+
+  -- a call that was sent before the calm is late once its timeout is over
+  overdue : (call : Call) (k : ℕ) → call.sent < a → G ≤ k + wait → k ≤ n → is_late doc q k call ≡ true
+  overdue call k before from to = by_test (is_late doc q k call) refl
+    where
+      sent_low : local doc p call.sent ≤ local doc p (a - 1)
+      sent_low = local_up doc p call.sent (a - 1) (omega (arith, before))
+
+      goes : local doc p (a - 1) + (k - (a - 1)) * slow ≤ local doc p k
+      goes = goes_least doc p (a - 1) e slow c.runs_least (a - 1) k (omega arith) (omega (arith, from, lost_by)) (omega (arith, to, within))
+
+      long : suc lost * slow ≤ (k - (a - 1)) * slow
+      long = mul-le-mul_right slow beats
+        where
+          beats : suc lost ≤ k - (a - 1)
+          beats = omega (arith, before, from, lost_by)
+
+      by_test : (t : Bool) → is_late doc q k call ≡ t → is_late doc q k call ≡ true
+      by_test true is = is
+      by_test false is = absurd (omega (arith, sent_low, goes, long, b.lost_is, ltb-false (local doc p call.sent + call_timeout doc p) (local doc p k) is))
+
   pub no_candidate : ⊥
   no_candidate =
-      none_first doc near far a settled e n calm one ways ordered within kept (identity p i) c.role c.steady my_time idle led lasting lasts slow fast wait needed c.runs_least c.runs_most c.waits b.wait_is b.needed_is lost b.lost_is
-      enough most enough_is most_is G (omega (arith, lost_by)) (omega (arith, ways_by)) (omega (arith, room)) (up_restarted doc p i G c.role awake stays (up (at_turn doc (suc p) G) s_low g_high))
+      none_first doc near far a e n one ways within q c.role c.steady my_time idle led lasting top lasts (settled + 4 * far) (omega (arith, ordered, one, ways))
+      (gets_show doc near far a settled e n calm one ways ordered within kept q c.role c.steady led lease)
+      (writes_fail doc near far a settled e n calm one ways ordered within kept q c.role c.steady led lease)
+      (none_written doc near far a settled e n calm one ways ordered within kept q c.role c.steady led lease)
+      slow fast wait needed (a - 1) (omega (arith, ordered)) c.runs_least c.runs_most c.waits b.wait_is b.needed_is
+      enough most enough_is most_is G (omega (arith, ways_by)) (omega (arith, lost_by)) (omega (arith, room)) overdue (up_restarted doc p i G c.role awake stays (up (at_turn doc (suc p) G) s_low g_high))
 
 -- ---- the law
 

@@ -1,13 +1,9 @@
--- The first look of a candidate: what it had begun before the calm is over in time, and then it asks.
+-- The first look of a candidate at a record that it is shown from a beat on comes in time, and is followed by acting.
 use Rattle.std.proofs.Common.{◌≡◌, ◌⊎◌, ◌<◌, ◌≤◌, ℕ, zero, suc, ◌+◌, ◌-◌, ◌*◌, ◌&&◌, not, Bool, true, false, List, ◌∷◌, Option, Some, None, IfSome, refl, sym, ap, ◌∙◌, subst, inl, inr, ⊎_elim, arith}
 use Rattle.std.proofs.Math.Nat.{mul-le-mul_right}
-use Rattle.std.proofs.lemmas.Bool.{ltb-true, ltb-false, cases_lt}
-use Rattle.kube_objects.specs.declared.call.Reply.{Reply}
-use Rattle.kube_objects.specs.declared.call.Request.{Request}
-use Rattle.kube_objects.specs.declared.call.Request.TheVariants.{Get, Create, Update, PostStatus}
-use Rattle.kube_objects.specs.declared.deed.Actor.{Actor}
-use Rattle.kube_objects.specs.declared.key.Key.{Key}
-use Rattle.kube_objects.specs.declared.key.Kind.TheVariants as kind
+use Rattle.std.proofs.lemmas.Bool.{ltb-true, cases_lt}
+use Rattle.kube_objects.proofs.Clocks.{local_up}
+use Rattle.kube_objects.specs.Answers.{lease_in, as_kind, answer_get}
 use Rattle.kube_objects.specs.Clocks.{local}
 use Rattle.kube_objects.specs.Document.{Doc, processes, is_controller, call_timeout, retry_period}
 use Rattle.kube_objects.specs.Elector.{Follow, Fails, Asks, Succeeds, is_fast, lead_says, leads, follow_on, timer_follow, timer_says, timer}
@@ -16,64 +12,68 @@ use Rattle.kube_objects.specs.Identities.{is_by}
 use Rattle.kube_objects.specs.Newest.{newest, when, has}
 use Rattle.kube_objects.specs.Pauses.{is_paused}
 use Rattle.kube_objects.specs.Process.{open_as, alive, call_in, is_late}
-use Rattle.kube_objects.specs.Stored.{election, key_of, stored}
+use Rattle.kube_objects.specs.Stored.{election, key_of, Held}
 use Rattle.kube_objects.specs.Wire.{next_call, request_arrival}
-use Rattle.kube_objects.proofs.Clocks.{local_up}
+use Rattle.kube_base.specs.declared.numbers.Version.{Version}
+use Rattle.kube_objects.specs.declared.call.Reply.TheVariants.{Done}
+use Rattle.kube_objects.specs.declared.call.Reply.{Reply}
+use Rattle.kube_objects.specs.declared.call.Request.{Request}
+use Rattle.kube_objects.specs.declared.call.Request.TheVariants.{Get, Create, Update, PostStatus}
+use Rattle.kube_objects.specs.declared.deed.Actor.{Actor}
+use Rattle.kube_objects.specs.declared.key.Key.{Key}
+use Rattle.kube_objects.specs.declared.key.Kind.TheVariants as kind
 use Rattle.history.specs.History.{history, at_turn}
 use Rattle.history.specs.Safe.{Acts}
 use Rattle.history.specs.Steps.{restart, turn}
-use Rattle.history_laws.specs.Tails.{In, IsTail}
 use Rattle.history_laws.proofs.Counting.{CountedFor, counted_is, only_test, only_value, when_test, when_value}
 use Rattle.history_laws.proofs.Order.{entries_are_earlier}
 use Rattle.history_laws.proofs.Plainly.{upper, some_is, none_is, true_is, and_left, same_is, same_self}
 use Rattle.history_laws.proofs.Tailed.{tail_all, tail_trans, tails_meet, later_tail, turn_tail, before_turn}
+use Rattle.history_laws.specs.Tails.{In, IsTail}
+use Rattle.span_laws.proofs.Spans.{goes_most, readings_grow}
 use Rattle.span_laws.specs.Looks.{IsGreatest}
 use Rattle.span_laws.specs.Spans.{RunsAtLeast, RunsAtMost, IsEnough, IsNeeded}
-use Rattle.span_laws.proofs.Spans.{goes_least, goes_most, readings_grow}
-use Rattle.call_laws.specs.Answering.{with_events}
 use Rattle.call_laws.proofs.Above.{in_head}
 use Rattle.call_laws.proofs.Answering.{events_position}
 use Rattle.call_laws.proofs.Making.{MadeAs, MadeDelivery, MadeExpiry, MadeSend, HasStopped, IsOpen, are_made}
 use Rattle.call_laws.proofs.Placing.{in_own_beat, not_before, messages_travel}
 use Rattle.call_laws.proofs.Starting.{actor_is}
-use Rattle.takeover_laws.specs.Calm.{IsSteady, IsCalm, IsInTime}
-use Rattle.takeover_laws.specs.Rounds.{HasCounted}
+use Rattle.call_laws.specs.Answering.{with_events}
 use Rattle.takeover_laws.proofs.Rounds.{sent_is}
 use Rattle.takeover_laws.proofs.Standing.{controllers_first, persists}
-use Rattle.takeover_laws.proofs.Writers.{Sending, sending_of, since_low, replies_count}
-use Rattle.calm_laws.specs.Bounds.{LastsFor}
-use Rattle.calm_laws.proofs.Asked.{IsWrite, Reason, InTurn, AfterReply, reason_key, reason_of}
+use Rattle.takeover_laws.proofs.Writers.{since_low, replies_count}
+use Rattle.takeover_laws.specs.Calm.{IsSteady, IsInTime}
+use Rattle.takeover_laws.specs.Rounds.{HasCounted}
+use Rattle.calm_laws.proofs.Asked.{IsWrite, reason_key, reason_of}
 use Rattle.calm_laws.proofs.Begun.{Begun, begun_by, by_is, waits_between, Timed, timed_by}
-use Rattle.calm_laws.proofs.Kept.{IsKept}
 use Rattle.calm_laws.proofs.Life.{up_between, restart_adds, restart_same, turn_unset}
-use Rattle.calm_laws.proofs.Looks.{object_of, has_lease, LookIn, failed_look, looked, none_looks}
+use Rattle.calm_laws.proofs.Looks.{object_of, key, LookIn, Looked, failed_look, looked, none_looks}
 use Rattle.calm_laws.proofs.Origins.{Origin, origin}
-use Rattle.calm_laws.proofs.Replies.{HasLease, key, answered_late, sent_since, no_late_write}
 use Rattle.calm_laws.proofs.Requests.{asks_in_turn}
 use Rattle.calm_laws.proofs.Turning.{Turned, turned}
+use Rattle.calm_laws.specs.Bounds.{LastsFor}
 
-no_kind : kind.Node ≡ kind.Lease → ⊥
+pub no_kind : kind.Node ≡ kind.Lease → ⊥
 no_kind h = cc
 
-abbrev whole_entry : ℕ → ℕ → Actor → Fact → Entry
+abbrev pub whole_entry : ℕ → ℕ → Actor → Fact → Entry
 whole_entry beat step who d = record { beat = beat; step = step; actor = who; fact = d }
 
 pub entry_is : (x : Entry) (step : ℕ) (q : Identity) (d : Fact) → x.step ≡ step → x.actor ≡ actor_of q → x.fact ≡ d → x ≡ entry x.beat step q d
 entry_is x step q d at by is =
     ap (λ (s : ℕ). whole_entry x.beat s x.actor x.fact) at ∙ ap (λ who. whole_entry x.beat step who x.fact) by ∙ ap (λ d. whole_entry x.beat step (actor_of q) d) is
 
-module _ (doc : Doc) (near far a settled e n : ℕ) (calm : IsCalm doc near far a e) (one : 1 ≤ near) (ways : near ≤ far) (ordered : a ≤ settled) (within : n ≤ e)
-    (kept : IsKept doc far settled n) (q : Identity) (role : is_controller doc q.process ≡ true) (steady : IsSteady doc near far a e q.process) (my_time : IsInTime doc far a e q.process)
-    (idle : (k : ℕ) → a ≤ k → k ≤ n → Acts doc q k → ⊥)
-    (led : (h : List Entry) → IsTail h (history doc (suc n)) → leads q h ≡ false) (lasting : ℕ) (lasts : LastsFor lasting (object_of (stored election (history doc (settled + far)))))
-    (slow fast wait needed : ℕ) (runs_least : RunsAtLeast doc q.process (a - 1) e slow) (runs_most : RunsAtMost doc q.process (a - 1) e fast)
+module _ (doc : Doc) (near far a e n : ℕ) (one : 1 ≤ near) (ways : near ≤ far) (within : n ≤ e) (q : Identity) (role : is_controller doc q.process ≡ true)
+    (steady : IsSteady doc near far a e q.process) (my_time : IsInTime doc far a e q.process) (none : (k : ℕ) → a ≤ k → k ≤ n → Acts doc q k → ⊥) (led : (h : List Entry) → IsTail h (history doc (suc n)) → leads q h ≡ false)
+    (lasting : ℕ) (top : Option Held) (lasts : LastsFor lasting (object_of top)) (K : ℕ) (some : a < K)
+    (given : (w : Call) (reply : Reply) (T : List Entry) (y : ℕ) → (o : Origin doc q w reply T y) → IsTail T (history doc (suc n)) → w.request ≡ Get election → K ≤ y → y + far ≤ n → o.e.beat + far ≤ n → reply ≡ answer_get (as_kind lease_in top))
+    (refused : (w : Call) (reply : Reply) (T : List Entry) (y : ℕ) → (o : Origin doc q w reply T y) → IsTail T (history doc (suc n)) → IsWrite w.request → K ≤ y → y + far ≤ n → o.e.beat + far ≤ n → (version : Version) → reply ≡ Done version → ⊥)
+    (no_writes : (x : Entry) (T : List Entry) (call : Call) (arrives : Option ℕ) → IsTail (x ∷ T) (history doc (suc n)) → x.actor ≡ actor_of q → x.fact ≡ Sends call arrives → open_as call.kind call ≡ Some call → IsWrite call.request → K ≤ x.beat + 2 * far → x.beat + 2 * far ≤ n → ⊥)
+    (slow fast wait needed from : ℕ) (low_from : from ≤ K) (runs_least : RunsAtLeast doc q.process from e slow) (runs_most : RunsAtMost doc q.process from e fast)
     (waits : 1 ≤ retry_period doc q.process) (wait_is : IsEnough slow (retry_period doc q.process) wait) (needed_is : IsNeeded fast (retry_period doc q.process) needed)
-    (lost : ℕ) (lost_is : call_timeout doc q.process < suc lost * slow)
     (enough most : ℕ) (enough_is : IsEnough slow lasting enough) (most_is : IsGreatest (needed + 2 * near) (wait + 2 * far) enough most)
-    (G : ℕ) (after_lost : a + lost + wait ≤ G) (after_ways : settled + 4 * far + wait ≤ G + 1) (room : G + most + 4 * far ≤ n) where
-  lease : HasLease (stored election (history doc (settled + far)))
-  lease = has_lease lasting (stored election (history doc (settled + far))) lasts
-
+    (G : ℕ) (after : K + wait ≤ G + 1) (low_wait : from + wait ≤ G) (room : G + most + 4 * far ≤ n)
+    (overdue : (call : Call) (k : ℕ) → call.sent < a → G ≤ k + wait → k ≤ n → is_late doc q k call ≡ true) where
   some_wait : 1 ≤ wait
   some_wait = by_wait wait wait_is
     where
@@ -85,53 +85,24 @@ module _ (doc : Doc) (near far a settled e n : ℕ) (calm : IsCalm doc near far 
   into m le h at = tail_trans h (history doc (suc m)) (history doc (suc n)) at (later_tail doc (suc m) (suc n) (omega (arith, le)))
 
   stays : (start : List Entry) → IsTail (with_events doc a) start → alive q.process start ≡ Some q.incarnation → (h : List Entry) → IsTail start h → IsTail h (history doc (suc n)) → alive q.process h ≡ Some q.incarnation
-  stays start after up h low high = persists doc near far a e n q role my_time.deadline steady within idle (omega (arith, after_lost, room)) start h after low high up
+  stays start low up h below above = persists doc near far a e n q role my_time.deadline steady within none (omega (arith, some, after, some_wait, room)) start h low below above up
 
   -- a look that comes in time is followed by acting
-  close : (start : List Entry) (after : IsTail (with_events doc a) start) (up : alive q.process start ≡ Some q.incarnation) (o : ℕ) → settled + 2 * far ≤ o → o ≤ G + 2 * far
-      → LookIn doc near far a settled e n calm one ways ordered within kept q role steady my_time idle led lasting lasts start after (stays start after up) o → ⊥
-  close start after up o late soon look =
-      none_looks doc near far a settled e n calm one ways ordered within kept q role steady my_time idle led lasting lasts start after (stays start after up)
-      slow fast wait needed runs_least runs_most waits wait_is needed_is o late (look (omega (arith, soon, room))) enough most enough_is most_is (omega (arith, soon, room))
+  close : (start : List Entry) (low : IsTail (with_events doc a) start) (up : alive q.process start ≡ Some q.incarnation) (o : ℕ) → K ≤ o → o ≤ G + 2 * far
+      → LookIn doc near far a e n one ways within q role steady my_time none led lasting top lasts K some given refused no_writes start low (stays start low up) o → ⊥
+  close start low up o late soon look =
+      none_looks doc near far a e n one ways within q role steady my_time none led lasting top lasts K some given refused no_writes start low (stays start low up)
+      slow fast wait needed from low_from runs_least runs_most waits wait_is needed_is o late (look (omega (arith, soon, room))) enough most enough_is most_is (omega (arith, soon, room))
 
-  -- a Get that it sends by beat G comes to one
+  -- a Get that it sends by beat G comes to one, where its reply comes late enough
   asked : (x : Entry) (T : List Entry) (call : Call) (arrives : Option ℕ) → IsTail (x ∷ T) (history doc (suc n)) → x.actor ≡ actor_of q → x.fact ≡ Sends call arrives → call.request ≡ Get election
-      → IsTail (with_events doc a) T → alive q.process T ≡ Some q.incarnation → settled + 2 * far ≤ x.beat → x.beat ≤ G → ⊥
-  asked x T call arrives at actor fact get after up late to =
-      by_look (looked doc near far a settled e n calm one ways ordered within kept q role steady my_time idle led lasting lasts T after (stays T after up) x T call arrives at actor fact get (tail_all T) late (omega (arith, to, room)))
+      → IsTail (with_events doc a) T → alive q.process T ≡ Some q.incarnation → a ≤ x.beat → x.beat ≤ G
+      → ((y : ℕ) (reply : Reply) (before : List Entry) → x.beat + 2 * near ≤ y → y ≤ x.beat + 2 * far → IsTail (entry y 3 q (Delivers call reply true) ∷ before) (history doc (suc y)) → K ≤ y) → ⊥
+  asked x T call arrives at actor fact get low up since_a to late =
+      by_look (looked doc near far a e n one ways within q role steady my_time none led lasting top lasts K some given refused no_writes T low (stays T low up) x T call arrives at actor fact get (tail_all T) since_a (omega (arith, to, room)))
     where
-      by_look : (r : ℕ) × (x.beat + 2 * near ≤ r) × (r ≤ x.beat + 2 * far) × LookIn doc near far a settled e n calm one ways ordered within kept q role steady my_time idle led lasting lasts T after (stays T after up) r → ⊥
-      by_look r = close T after up r.0 (omega (arith, r.1, late)) (omega (arith, r.2, to)) r.3
-
-  -- whatever it sends by then, two ways after the calm began, comes to one or to acting
-  sent : (x : Entry) (T : List Entry) (call : Call) (arrives : Option ℕ) → IsTail (x ∷ T) (history doc (suc n)) → x.actor ≡ actor_of q → x.fact ≡ Sends call arrives → open_as call.kind call ≡ Some call
-      → alive q.process T ≡ Some q.incarnation → settled + 2 * far ≤ x.beat → x.beat ≤ G → ⊥
-  sent x T call arrives at actor fact opens up late to = by_reason reason.0
-    where
-      high : IsTail T (history doc (suc n))
-      high = tail_trans T (x ∷ T) (history doc (suc n)) (inr (tail_all T)) at
-
-      reason : Reason doc x.beat q call.request T × (3 ≤ x.step)
-      reason = reason_of doc (suc n) q role x T call arrives at actor fact (led T high) opens
-
-      after : IsTail (with_events doc a) T
-      after = since_low doc a n x T at (omega (arith, late, ordered)) reason.1
-
-      by_reason : Reason doc x.beat q call.request T → ⊥
-      by_reason (InTurn get) = asked x T call arrives at actor fact get after up late to
-      by_reason (AfterReply f) = by_request call.request refl
-        where
-          is_key : key_of call.request ≡ election
-          is_key = reason_key doc x.beat q call.request T (AfterReply f)
-
-          writes : IsWrite call.request → ⊥
-          writes write = no_late_write doc near far a settled e n calm one ways ordered within kept q role steady led lease x T call arrives at actor fact reason.1 f write late (omega (arith, to, room))
-
-          by_request : (request : Request) → call.request ≡ request → ⊥
-          by_request (Get k) is = asked x T call arrives at actor fact (is ∙ ap Get (sym (ap key_of is) ∙ is_key)) after up late to
-          by_request (Create k l) is = writes (subst IsWrite (sym is) tt)
-          by_request (Update k v l) is = writes (subst IsWrite (sym is) tt)
-          by_request (PostStatus name status at) is = no_kind (ap (λ (k : Key). k.kind) (sym (ap key_of is) ∙ is_key))
+      by_look : Looked doc near far a e n one ways within q role steady my_time none led lasting top lasts K some given refused no_writes T low (stays T low up) x.beat call → ⊥
+      by_look r = let since : K ≤ r.at = late r.at r.reply r.before r.least r.most r.position in close T low up r.at since (omega (arith, r.most, to)) (r.look since)
 
   -- ---- a call that waits for longer than a round
 
@@ -143,8 +114,8 @@ module _ (doc : Doc) (near far a settled e n : ℕ) (calm : IsCalm doc near far 
     sent_at =
         (subst (λ p. IfSome p (λ s. (s.call.sent ≡ b.f.beat) × (s.arrives ≡ request_arrival s.who.process b.f.beat b.before))) (sent_is b.f q call b.arrives b.actor b.fact) (messages_travel doc (suc n) b.f b.before position).0).0
 
-    up_sent : alive q.process b.before ≡ Some q.incarnation
-    up_sent = by_free (made.free (ap (λ (p : Identity). is_controller doc p.process) mine ∙ role))
+    free : (alive q.process b.before ≡ Some q.incarnation) × (3 ≤ b.f.step)
+    free = by_free (made.free (ap (λ (p : Identity). is_controller doc p.process) mine ∙ role))
       where
         made : MadeSend doc b.f.beat b.f.step b.f.actor call b.arrives b.before
         made = subst (λ d. MadeAs doc b.f.beat b.f.step b.f.actor d b.before) b.fact (are_made doc (suc n) b.f b.before position)
@@ -152,16 +123,35 @@ module _ (doc : Doc) (near far a settled e n : ℕ) (calm : IsCalm doc near far 
         mine : made.q ≡ q
         mine = actor_is made.q q (sym made.by ∙ b.actor)
 
-        by_free : HasStopped b.f.beat made.q made.kind b.before ⊎ ((alive made.q.process b.before ≡ Some made.q.incarnation) × (call_in made.q b.before ≡ None) × (3 ≤ b.f.step) × IsOpen made.kind) → alive q.process b.before ≡ Some q.incarnation
-        by_free (inr free) = subst (λ (p : Identity). alive p.process b.before ≡ Some p.incarnation) mine free.0
+        by_free : HasStopped b.f.beat made.q made.kind b.before ⊎ ((alive made.q.process b.before ≡ Some made.q.incarnation) × (call_in made.q b.before ≡ None) × (3 ≤ b.f.step) × IsOpen made.kind)
+            → (alive q.process b.before ≡ Some q.incarnation) × (3 ≤ b.f.step)
+        by_free (inr free) = (subst (λ (p : Identity). alive p.process b.before ≡ Some p.incarnation) mine free.0, free.2)
         by_free (inl stopped) = absurd (not_open (subst (λ kind. open_as kind call ≡ Some call) (ap (λ (c : Call). c.kind) made.call_is ∙ stopped.kind_is) b.opens))
           where
             not_open : open_as Release call ≡ Some call → ⊥
             not_open is = none_is call is
 
-    -- one that was sent in the calm was answered
+    up_sent : alive q.process b.before ≡ Some q.incarnation
+    up_sent = free.0
+
+    low_sent : a ≤ b.f.beat → IsTail (with_events doc a) b.before
+    low_sent from_a = since_low doc a n b.f b.before position from_a free.1
+
+    -- no reply to it has counted
+    unanswered : (y : ℕ) (reply : Reply) (before : List Entry) → IsTail (entry y 3 q (Delivers call reply true) ∷ before) T → b.f.beat < y → y ≤ n → ⊥
+    unanswered y reply before in_t lt to = none_is None (sym (b.alone del before in_t after_it) ∙ ap (λ t. when t None) (same_self q))
+      where
+        del : Entry
+        del = entry y 3 q (Delivers call reply true)
+
+        after_it : IsTail (b.f ∷ b.before) before
+        after_it =
+            tail_trans (b.f ∷ b.before) (history doc (suc b.f.beat)) before (in_own_beat doc (suc n) b.f b.before position)
+            (not_before doc (suc b.f.beat) (suc n) del before (omega (arith, lt, to)) (tail_trans (del ∷ before) T (history doc (suc n)) in_t high) lt (omega arith))
+
+    -- so a reply to it has time left, where it was sent since beat a
     pub no_old : (y : ℕ) → IsTail (history doc y) T → a ≤ b.f.beat → b.f.beat + 2 * far < y → y ≤ suc n → ⊥
-    no_old y low from lt to = by_count (replies_count doc near far a e m q role steady my_time one (omega (arith, lt, to, within)) b.f b.before call b.arrives sending b.actor b.fact from (omega arith) still)
+    no_old y low from_a lt to = by_count (replies_count doc near far a e m q role steady my_time one (omega (arith, lt, to, within)) b.f b.before call b.arrives sending b.actor b.fact from_a (omega arith) still)
       where
         m : ℕ
         m = b.f.beat + 2 * far
@@ -169,50 +159,44 @@ module _ (doc : Doc) (near far a settled e n : ℕ) (calm : IsCalm doc near far 
         sending : IsTail (b.f ∷ b.before) (history doc (suc m))
         sending = tail_trans (b.f ∷ b.before) (history doc (suc b.f.beat)) (history doc (suc m)) (in_own_beat doc (suc n) b.f b.before position) (later_tail doc (suc b.f.beat) (suc m) (omega arith))
 
-        s : (s : Sending doc a n q call b.arrives) × (s.f ≡ b.f) × (s.before ≡ b.before)
-        s = sending_of doc near far a e n q role steady my_time within one call b.arrives b.f b.before position b.actor b.fact (omega (arith, sent_at, from))
-
         still : (h : List Entry) → IsTail b.before h → IsTail h (history doc (suc m)) → alive q.process h ≡ Some q.incarnation
-        still h below above =
-            stays b.before (since_low doc a n b.f b.before position from (subst (λ (f : Entry). 3 ≤ f.step) s.1 s.0.step)) up_sent h below (into m (omega (arith, lt, to)) h above)
+        still h below above = stays b.before (low_sent from_a) up_sent h below (into m (omega (arith, lt, to)) h above)
 
         by_count : HasCounted doc q call (b.f.beat + 2 * near) (b.f.beat + 2 * far) → ⊥
-        by_count c = none_is None (sym (b.alone del c.before in_t after_it) ∙ ap (λ t. when t None) (same_self q))
-          where
-            del : Entry
-            del = entry c.at 3 q (Delivers call c.reply true)
+        by_count c =
+            unanswered c.at c.reply c.before
+            (tail_trans _ (history doc y) T (tail_trans _ (history doc (suc c.at)) (history doc y) c.position (later_tail doc (suc c.at) y (omega (arith, c.most, lt)))) low)
+            (omega (arith, c.least, one)) (omega (arith, c.most, lt, to))
 
-            in_t : IsTail (del ∷ c.before) T
-            in_t = tail_trans (del ∷ c.before) (history doc y) T (tail_trans (del ∷ c.before) (history doc (suc c.at)) (history doc y) c.position (later_tail doc (suc c.at) y (omega (arith, c.most, lt)))) low
+    -- it asks for the election Lease
+    pub asks_election : key_of call.request ≡ election
+    asks_election =
+        reason_key doc b.f.beat q call.request b.before
+        (reason_of doc (suc n) q role b.f b.before call b.arrives position b.actor b.fact (led b.before (tail_trans b.before (b.f ∷ b.before) (history doc (suc n)) (inr (tail_all b.before)) position)) b.opens).0
 
-            after_it : IsTail (b.f ∷ b.before) c.before
-            after_it =
-                tail_trans (b.f ∷ b.before) (history doc (suc b.f.beat)) c.before (in_own_beat doc (suc n) b.f b.before position)
-                (not_before doc (suc b.f.beat) (suc c.at) del c.before (omega (arith, c.least)) c.position (omega (arith, c.least, one)) (omega arith))
-
-    -- one that was sent before is late once its timeout is over
-    pub late_by : (k : ℕ) → b.f.beat < a → a + lost ≤ k → k ≤ n → is_late doc q k call ≡ true
-    late_by k before from to = by_test (is_late doc q k call) refl
+    -- one that waits as beat G begins, and can't be closed before, comes to a look, or isn't sent
+    pub waited : IsTail (history doc G) T → a ≤ b.f.beat → b.f.beat ≤ G → G ≤ b.f.beat + 2 * far → ⊥
+    waited low from_a upto late = by_request call.request refl
       where
-        sent_low : local doc q.process call.sent ≤ local doc q.process (a - 1)
-        sent_low = local_up doc q.process call.sent (a - 1) (omega (arith, sent_at, before))
+        writes : IsWrite call.request → ⊥
+        writes write = no_writes b.f b.before call b.arrives position b.actor b.fact b.opens write (omega (arith, late, after, some_wait)) (omega (arith, upto, room))
 
-        goes : local doc q.process (a - 1) + (k - (a - 1)) * slow ≤ local doc q.process k
-        goes = goes_least doc q.process (a - 1) e slow runs_least (a - 1) k (omega arith) (omega (arith, from)) (omega (arith, to, within))
+        look : call.request ≡ Get election → ⊥
+        look get =
+            asked b.f b.before call b.arrives position b.actor b.fact get (low_sent from_a) up_sent from_a upto
+            (λ y reply before least most at. ⊎_elim
+            (λ lt. absurd (unanswered y reply before (tail_trans _ (history doc G) T (tail_trans _ (history doc (suc y)) (history doc G) at (later_tail doc (suc y) G lt)) low) (omega (arith, least, one)) (omega (arith, lt, room))))
+            (λ le. omega (arith, le, after, some_wait)) (cases_lt y G))
 
-        long : suc lost * slow ≤ (k - (a - 1)) * slow
-        long = mul-le-mul_right slow beats
-          where
-            beats : suc lost ≤ k - (a - 1)
-            beats = omega (arith, before, from)
+        by_request : (request : Request) → call.request ≡ request → ⊥
+        by_request (Get k) is = look (is ∙ ap Get (sym (ap key_of is) ∙ asks_election))
+        by_request (Create k l) is = writes (subst IsWrite (sym is) tt)
+        by_request (Update k v l) is = writes (subst IsWrite (sym is) tt)
+        by_request (PostStatus name status at) is = no_kind (ap (λ (k : Key). k.kind) (sym (ap key_of is) ∙ asks_election))
 
-        by_test : (t : Bool) → is_late doc q k call ≡ t → is_late doc q k call ≡ true
-        by_test true is = is
-        by_test false is = absurd (omega (arith, sent_low, goes, long, lost_is, ltb-false (local doc q.process call.sent + call_timeout doc q.process) (local doc q.process k) is))
-
-    -- so it has expired by the end of that beat
-    pub no_lost : (k : ℕ) → b.f.beat < a → a + lost ≤ k → k < n → alive q.process T ≡ Some q.incarnation → IsTail (history doc (suc k)) T → ⊥
-    no_lost k before from lt up_t low = by_turn (turned doc k q g role awake (ap (alive q.process) same ∙ up_g) (turn_unset doc q k (led g (tail_trans g T (history doc (suc n)) g_low high))))
+    -- one that was sent before has expired by the end of a beat at which it is late
+    pub no_lost : (k : ℕ) → b.f.beat < a → a ≤ k → k < n → is_late doc q k call ≡ true → alive q.process T ≡ Some q.incarnation → IsTail (history doc (suc k)) T → ⊥
+    no_lost k before from lt is_overdue up_t low = by_turn (turned doc k q g role awake (ap (alive q.process) same ∙ up_g) (turn_unset doc q k (led g (tail_trans g T (history doc (suc n)) g_low high))))
       where
         g : List Entry
         g = at_turn doc q.process k
@@ -246,7 +230,7 @@ module _ (doc : Doc) (near far a settled e n : ℕ) (calm : IsCalm doc near far 
         by_turn : Turned doc k q (restart doc k q.process g) (turn doc k q.process g) → ⊥
         by_turn (inl s) =
             let c : s.call ≡ call = some_is s.call call (sym s.waits ∙ waits_between q call T b (restart doc k q.process g) f_restart (subst (λ h. IsTail h T) (sym same) g_low)) in
-            true_is (sym (late_by k before from (omega (arith, lt))) ∙ ap (λ c. is_late doc q k c) (sym c) ∙ s.timely)
+            true_is (sym is_overdue ∙ ap (λ c. is_late doc q k c) (sym c) ∙ s.timely)
         by_turn (inr (inr s)) =
             true_is (sym (ap has (waits_between q call T b s.above (tail_trans (b.f ∷ b.before) (restart doc k q.process g) s.above f_restart s.low) (tail_trans s.above (turn doc k q.process g) T s.position turn_low))) ∙ s.idle)
         by_turn (inr (inl s)) =
@@ -261,17 +245,17 @@ module _ (doc : Doc) (near far a settled e n : ℕ) (calm : IsCalm doc near far 
   recent : (y : ℕ) → local doc q.process G < local doc q.process y + retry_period doc q.process → G < y + wait
   recent y lt = ⊎_elim (λ less. less) (λ le. absurd (over le)) (cases_lt G (y + wait))
     where
-      from : (z : ℕ) → a - 1 ≤ z → z + wait ≤ G → local doc q.process z + retry_period doc q.process ≤ local doc q.process G
-      from z low le = readings_grow doc q.process (a - 1) e slow (retry_period doc q.process) wait runs_least wait_is z G low le (omega (arith, room, within))
+      grows : (z : ℕ) → from ≤ z → z + wait ≤ G → local doc q.process z + retry_period doc q.process ≤ local doc q.process G
+      grows z low le = readings_grow doc q.process from e slow (retry_period doc q.process) wait runs_least wait_is z G low le (omega (arith, room, within))
 
       over : y + wait ≤ G → ⊥
-      over le = ⊎_elim early late (cases_lt y (a - 1))
+      over le = ⊎_elim early late (cases_lt y from)
         where
-          early : y < a - 1 → ⊥
-          early less = omega (arith, lt, local_up doc q.process y (a - 1) (omega (arith, less)), from (a - 1) (omega arith) (omega (arith, after_lost)))
+          early : y < from → ⊥
+          early less = omega (arith, lt, local_up doc q.process y from (omega (arith, less)), grows from (omega arith) (omega (arith, low_wait)))
 
-          late : a - 1 ≤ y → ⊥
-          late low = omega (arith, lt, from y low le)
+          late : from ≤ y → ⊥
+          late low = omega (arith, lt, grows y low le)
 
   -- in the history with beat G
   in_beat : (h : List Entry) → IsTail h (history doc (suc G)) → IsTail h (history doc (suc n))
@@ -292,10 +276,10 @@ module _ (doc : Doc) (near far a settled e n : ℕ) (calm : IsCalm doc near far 
 
     -- it comes after the beats before its own
     beats_low : (y : ℕ) → 1 ≤ y → y ≤ x.beat → IsTail (history doc y) T
-    beats_low y some le = by_place (tails_meet (history doc y) (x ∷ T) (history doc (suc n)) (later_tail doc y (suc n) (omega (arith, le, upto, room))) at_n)
+    beats_low y first_beat le = by_place (tails_meet (history doc y) (x ∷ T) (history doc (suc n)) (later_tail doc y (suc n) (omega (arith, le, upto, room))) at_n)
       where
         within_y : In x (history doc y) → ⊥
-        within_y stands = ⊎_elim (λ lt. omega (arith, lt, le)) (λ first. omega (arith, first.0, le, some)) (entries_are_earlier doc y x stands)
+        within_y stands = ⊎_elim (λ lt. omega (arith, lt, le)) (λ first. omega (arith, first.0, le, first_beat)) (entries_are_earlier doc y x stands)
 
         by_place : IsTail (history doc y) (x ∷ T) ⊎ IsTail (x ∷ T) (history doc y) → IsTail (history doc y) T
         by_place (inl (inl is)) = absurd (within_y (subst (In x) (sym is) (inl refl)))
@@ -315,14 +299,16 @@ module _ (doc : Doc) (near far a settled e n : ℕ) (calm : IsCalm doc near far 
         up_t = subst (λ (p : Identity). alive p.process T ≡ Some p.incarnation) whose made.up
 
         some_beat : 1 ≤ x.beat
-        some_beat = omega (arith, late, after_lost)
+        some_beat = omega (arith, late, after, some)
 
         before : b.f.beat < a → ⊥
         before lt = by_beat x.beat refl
           where
             by_beat : (y : ℕ) → x.beat ≡ y → ⊥
-            by_beat zero is = omega (arith, is, late, after_lost, lt)
-            by_beat (suc k) is = no_lost c T high b k lt (omega (arith, is, late, after_lost)) (omega (arith, is, upto, room, one, ways)) up_t (beats_low (suc k) (omega arith) (omega (arith, is)))
+            by_beat zero is = omega (arith, is, late, after, some)
+            by_beat (suc k) is =
+                no_lost c T high b k lt (omega (arith, is, late, after, some)) (omega (arith, is, upto, room, one, ways))
+                (overdue c k (omega (arith, lt, sent_at c T high b)) (omega (arith, is, late)) (omega (arith, is, upto, room))) up_t (beats_low (suc k) (omega arith) (omega (arith, is)))
 
         since : a ≤ b.f.beat → ⊥
         since from = ⊎_elim (λ lt. no_old c T high b x.beat (beats_low x.beat some_beat (omega arith)) from lt (omega (arith, upto, room))) in_time (cases_lt (b.f.beat + 2 * far) x.beat)
@@ -351,8 +337,8 @@ module _ (doc : Doc) (near far a settled e n : ℕ) (calm : IsCalm doc near far 
         → follow_on doc q x.beat w.kind w.request reply (x ∷ T) ≡ Fails → ⊥
     reply_failed w reply made mine fact late failed = by_request w.request refl
       where
-        y_late : settled + 4 * far ≤ x.beat
-        y_late = omega (arith, late, after_ways)
+        y_late : K ≤ x.beat
+        y_late = omega (arith, late, after)
 
         whose : made.b.who ≡ q
         whose = actor_is made.b.who q (sym made.by ∙ mine)
@@ -367,49 +353,42 @@ module _ (doc : Doc) (near far a settled e n : ℕ) (calm : IsCalm doc near far 
         o = origin doc (suc n) q x T w reply at_n mine fact
 
         is_key : key_of w.request ≡ election
-        is_key = key doc near far a settled e n calm one ways ordered within kept q role steady led lease w reply T x.beat o high
+        is_key = key doc near far a e n one ways within q role steady my_time none led lasting top lasts K some given refused no_writes w reply T x.beat o high
 
         some_beat : 1 ≤ x.beat
-        some_beat = omega (arith, y_late, one, ways)
+        some_beat = omega (arith, y_late, some)
 
-        after : IsTail (with_events doc a) T
-        after = tail_trans (with_events doc a) (history doc (suc a)) T (events_position doc a) (beats_low (suc a) (omega arith) (omega (arith, y_late, ordered, one, ways)))
+        low : IsTail (with_events doc a) T
+        low = tail_trans (with_events doc a) (history doc (suc a)) T (events_position doc a) (beats_low (suc a) (omega arith) (omega (arith, y_late, some)))
 
         whole : x ≡ entry x.beat 3 q (Delivers w reply true)
         whole = entry_is x 3 q (Delivers w reply true) made.step_is mine fact
 
         look : w.request ≡ Get election → ⊥
         look get =
-            close T after up_t x.beat (omega (arith, y_late)) (omega (arith, upto))
-            (λ le. failed_look doc near far a settled e n calm one ways ordered within kept q role steady my_time idle led lasting lasts T after (stays T after up_t) w reply T x.beat get (tail_all T)
-            (subst (λ z. IsTail (z ∷ T) (history doc (suc x.beat))) whole (in_own_beat doc (suc n) x T at_n)) (omega (arith, y_late)) le
+            close T low up_t x.beat y_late (omega (arith, upto))
+            (λ le. failed_look doc near far a e n one ways within q role steady my_time none led lasting top lasts K some given refused no_writes T low (stays T low up_t) w reply T x.beat get (tail_all T)
+            (subst (λ z. IsTail (z ∷ T) (history doc (suc x.beat))) whole (in_own_beat doc (suc n) x T at_n)) y_late le
             (ap (λ z. follow_on doc q x.beat w.kind w.request reply (z ∷ T)) (sym whole) ∙ failed))
 
-        -- a write that was refused was sent after a look
-        refused : IsWrite w.request → ⊥
-        refused write = ⊎_elim (λ lt. no_old w T high o.begun x.beat (beats_low x.beat some_beat (omega arith)) from lt (omega (arith, upto, room))) recently (cases_lt (o.begun.f.beat + 2 * far) x.beat)
-          where
-            from : a ≤ o.begun.f.beat
-            from =
-                omega (
-                  arith,
-                  ordered,
-                  sent_since doc near far a settled e n calm one ways ordered within kept q role steady led lease w reply T x.beat o high
-                      (answered_late doc near far a settled e n calm one ways ordered within kept q role steady led lease w reply T x.beat o high (omega (arith, y_late)) (omega (arith, upto, room))),
-                )
+        -- its call wasn't sent before beat a: it would be late
+        since_a : a ≤ o.begun.f.beat
+        since_a = ⊎_elim (λ lt. absurd (true_is (sym (overdue w x.beat (omega (arith, lt, sent_at w T high o.begun)) (omega (arith, late)) (omega (arith, upto, room))) ∙ subst (λ p. is_late doc p x.beat w ≡ false) whose counts.timely))) (λ le. le) (cases_lt o.begun.f.beat a)
 
+        -- no write of it was refused
+        not_refused : IsWrite w.request → ⊥
+        not_refused write =
+            ⊎_elim (λ lt. no_old w T high o.begun x.beat (beats_low x.beat some_beat (omega arith)) since_a lt (omega (arith, upto, room)))
+            (λ le. no_writes o.begun.f o.begun.before w o.begun.arrives (in_beat (o.begun.f ∷ o.begun.before) f_high) o.begun.actor o.begun.fact o.begun.opens write (omega (arith, le, y_late)) (omega (arith, beat_by o.begun.f o.begun.before f_high, room)))
+            (cases_lt (o.begun.f.beat + 2 * far) x.beat)
+          where
             f_high : IsTail (o.begun.f ∷ o.begun.before) (history doc (suc G))
             f_high = tail_trans (o.begun.f ∷ o.begun.before) (x ∷ T) (history doc (suc G)) (inr o.begun.position) at
 
-            recently : x.beat ≤ o.begun.f.beat + 2 * far → ⊥
-            recently le =
-                sent o.begun.f o.begun.before w o.begun.arrives (in_beat (o.begun.f ∷ o.begun.before) f_high) o.begun.actor o.begun.fact o.begun.opens (up_sent w T high o.begun)
-                (omega (arith, le, y_late)) (beat_by o.begun.f o.begun.before f_high)
-
         by_request : (request : Request) → w.request ≡ request → ⊥
         by_request (Get k) is = look (is ∙ ap Get (sym (ap key_of is) ∙ is_key))
-        by_request (Create k l) is = refused (subst IsWrite (sym is) tt)
-        by_request (Update k v l) is = refused (subst IsWrite (sym is) tt)
+        by_request (Create k l) is = not_refused (subst IsWrite (sym is) tt)
+        by_request (Update k v l) is = not_refused (subst IsWrite (sym is) tt)
         by_request (PostStatus name status at) is = no_kind (ap (λ (k : Key). k.kind) (sym (ap key_of is) ∙ is_key))
 
     not_set : (t : ℕ) → None ≡ Some t → ⊥
@@ -474,11 +453,13 @@ module _ (doc : Doc) (near far a settled e n : ℕ) (calm : IsCalm doc near far 
       low_r : IsTail (history doc G) r
       low_r = tail_trans (history doc G) g r (before_turn doc q.process G) (restart_adds doc G q.process g)
 
-      after : IsTail (with_events doc a) r
-      after = tail_trans (with_events doc a) (history doc G) r (tail_trans (with_events doc a) (history doc (suc a)) (history doc G) (events_position doc a) (later_tail doc (suc a) G (omega (arith, after_lost, some_wait)))) low_r
+      low_0 : IsTail (with_events doc a) r
+      low_0 =
+          tail_trans (with_events doc a) (history doc G) r
+          (tail_trans (with_events doc a) (history doc (suc a)) (history doc G) (events_position doc a) (later_tail doc (suc a) G (omega (arith, after, some, some_wait)))) low_r
 
       awake : is_paused doc q.process G ≡ false
-      awake = (steady.passes G (omega (arith, after_lost)) (omega (arith, room, within))).awake
+      awake = (steady.passes G (omega (arith, after, some, some_wait)) (omega (arith, room, within))).awake
 
       by_turn : Turned doc G q r (turn doc G q.process g) → ⊥
       by_turn (inl s) = ⊎_elim before since (cases_lt b.f.beat a)
@@ -493,18 +474,17 @@ module _ (doc : Doc) (near far a settled e n : ℕ) (calm : IsCalm doc near far 
           f_high = tail_trans (b.f ∷ b.before) r (history doc (suc G)) b.position r_high
 
           before : b.f.beat < a → ⊥
-          before lt = true_is (sym (late_by s.call r (in_beat r r_high) b G lt (omega (arith, after_lost)) (omega (arith, room))) ∙ s.timely)
+          before lt = true_is (sym (overdue s.call G (omega (arith, lt, sent_at s.call r (in_beat r r_high) b)) (omega arith) (omega (arith, room))) ∙ s.timely)
 
           since : a ≤ b.f.beat → ⊥
-          since from =
-              ⊎_elim (λ lt. no_old s.call r (in_beat r r_high) b G low_r from lt (omega (arith, room)))
-              (λ le. sent b.f b.before s.call b.arrives (in_beat (b.f ∷ b.before) f_high) b.actor b.fact b.opens (up_sent s.call r (in_beat r r_high) b) (omega (arith, le, after_ways, some_wait)) (beat_by b.f b.before f_high))
-              (cases_lt (b.f.beat + 2 * far) G)
+          since from_a =
+              ⊎_elim (λ lt. no_old s.call r (in_beat r r_high) b G low_r from_a lt (omega (arith, room)))
+              (λ le. waited s.call r (in_beat r r_high) b low_r from_a (beat_by b.f b.before f_high) le) (cases_lt (b.f.beat + 2 * far) G)
       by_turn (inr (inl s)) =
-          asked x s.above call arrives at_x refl refl (asks_in_turn doc (suc n) x s.above at_x refl q refl role (led s.above (tail_trans s.above (x ∷ s.above) (history doc (suc n)) (inr (tail_all s.above)) at_x)))
-          (tail_trans (with_events doc a) r s.above after s.low)
-          (stays r after up s.above s.low (tail_trans s.above (x ∷ s.above) (history doc (suc n)) (inr (tail_all s.above)) at_x))
-          (omega (arith, after_ways, some_wait)) (omega arith)
+          asked x s.above call arrives at_x refl refl (asks_in_turn doc (suc n) x s.above q call arrives at_x refl refl refl role (led s.above (tail_trans s.above (x ∷ s.above) (history doc (suc n)) (inr (tail_all s.above)) at_x)))
+          (tail_trans (with_events doc a) r s.above low_0 s.low)
+          (stays r low_0 up s.above s.low (tail_trans s.above (x ∷ s.above) (history doc (suc n)) (inr (tail_all s.above)) at_x))
+          (omega (arith, after, some, some_wait)) (omega arith) (λ y reply before least most delivered. omega (arith, least, after, some_wait))
         where
           call : Call
           call = next_call q G s.kind s.request s.above

@@ -1,16 +1,10 @@
 -- While no election write is accepted what is stored stays, and a write on it is accepted.
-use Rattle.std.proofs.Common.{◌≡◌, ◌≤◌, ℕ, suc, ◌+◌, ◌*◌, true, cond, List, ◌∷◌, Option, Some, None, IfSome, refl, sym, ap, ◌∙◌, subst, inr, arith}
-use Rattle.std.proofs.lemmas.Bool.{eq-eqb}
-use Rattle.kube_base.specs.declared.numbers.Version.{Version}
-use Rattle.kube_objects.specs.declared.call.Reply.TheVariants.{Done, Conflict}
-use Rattle.kube_objects.specs.declared.call.Request.{Request}
-use Rattle.kube_objects.specs.declared.call.Request.TheVariants.{Get, Create, Update, PostStatus}
-use Rattle.kube_objects.specs.declared.object.Object.TheVariants as object
-use Rattle.kube_objects.specs.Answers.{answer, answer_over, written, written_over, if_done}
+use Rattle.std.proofs.Common.{◌≡◌, ◌≤◌, ℕ, suc, ◌+◌, ◌*◌, true, List, ◌∷◌, Option, IfSome, refl, ◌∙◌, subst, inr, arith}
+use Rattle.kube_objects.specs.Answers.{answer, written}
 use Rattle.kube_objects.specs.Document.{Doc, is_controller}
 use Rattle.kube_objects.specs.Entry.{Entry, Identity, Call, Sends, Answers, actor_of, entry}
 use Rattle.kube_objects.specs.Newest.{has}
-use Rattle.kube_objects.specs.Stored.{Held, election, request_write, at_key, stored, next_version}
+use Rattle.kube_objects.specs.Stored.{election, request_write, at_key, stored}
 use Rattle.kube_objects.specs.Wire.{request_arrival, reply_arrival}
 use Rattle.history.specs.History.{history}
 use Rattle.history_laws.specs.Tails.{IsTail}
@@ -22,28 +16,13 @@ use Rattle.takeover_laws.specs.Calm.{IsSteady, WritesElection}
 use Rattle.takeover_laws.specs.Rounds.{IsRound}
 use Rattle.takeover_laws.specs.Taking.{FitsStored}
 use Rattle.takeover_laws.proofs.Rounds.{rounds_in, sent_is}
+use Rattle.takeover_laws.proofs.Taking.{fits_writes}
 
 -- no election write by a call that was sent at a beat or later is accepted in time for its reply, and what is stored one way after that beat stays
 -- stored, but for the last way
 pub record IsKept (doc : Doc) (far settled n : ℕ) : Type 0 where
   pub no_write : (x : Entry) (T : List Entry) (q : Identity) → IsTail (x ∷ T) (history doc (suc n)) → x.actor ≡ actor_of q → is_controller doc q.process ≡ true → WritesElection settled x.fact → x.beat + far ≤ n → ⊥
   pub stays : (m : ℕ) → settled + far ≤ m → m + far ≤ n → (g : List Entry) → IsTail (history doc (settled + far)) g → IsTail g (history doc (suc m)) → stored election g ≡ stored election (history doc (settled + far))
-
--- a request that fits what is stored is accepted
-fits_writes : (r : Request) (h : List Entry) (o : Option Held) → stored election h ≡ o → FitsStored o r → has (at_key election (request_write r (written r h))) ≡ true
-fits_writes (Update key version lease) h (Some x) is fits =
-    subst (λ key. has (at_key election (request_write (Update key version lease) (written (Update key version lease) h))) ≡ true) (sym fits.0)
-    (ap (λ o. has (at_key election (request_write (Update election version lease) (written_over o (Update election version lease) (answer_over (next_version h) o (Update election version lease)))))) is
-    ∙ ap (λ b. has (at_key election (request_write (Update election version lease) (if_done (cond b (Done (next_version h)) (Conflict x.version)) (object.Lease lease))))) (eq-eqb x.version.0 version.0 (ap (λ (v : Version). v.0) (sym fits.1))))
-fits_writes (Create key lease) h None is fits =
-    subst (λ key. has (at_key election (request_write (Create key lease) (written (Create key lease) h))) ≡ true) (sym fits)
-    (ap (λ o. has (at_key election (request_write (Create election lease) (written_over o (Create election lease) (answer_over (next_version h) o (Create election lease)))))) is)
-fits_writes (Update key version lease) h None is fits = absurd fits
-fits_writes (Create key lease) h (Some x) is fits = absurd fits
-fits_writes (Get key) h None is fits = absurd fits
-fits_writes (Get key) h (Some x) is fits = absurd fits
-fits_writes (PostStatus name status at) h None is fits = absurd fits
-fits_writes (PostStatus name status at) h (Some x) is fits = absurd fits
 
 -- so none is sent
 pub no_takeover : (doc : Doc) (near far a settled e n : ℕ) → IsKept doc far settled n → a ≤ settled → 1 ≤ near → near ≤ far → n ≤ e

@@ -1,3 +1,4 @@
+pub mod Added
 pub mod Requests
 pub mod Begun
 pub mod Origins

@@ -61,7 +61,7 @@ pub record IsAnswer (who : Actor) (d : Fact) (b : Back) : Type 0 where
   pub by : who ≡ actor_of b.who
   pub fact : d ≡ Answers b.call b.reply b.comes wrote
 
-answer_facts : (who : Actor) (d : Fact) (b : Back) → back_of who d ≡ Some b → IsAnswer who d b
+pub answer_facts : (who : Actor) (d : Fact) (b : Back) → back_of who d ≡ Some b → IsAnswer who d b
 answer_facts actors.Script (Answers call reply comes wrote) b is = absurd (none_is b is)
 answer_facts (actors.Proc id i) (Answers call reply comes wrote) b is =
     let e = some_is (record { who = record { process = id.0; incarnation = i }; call = call; reply = reply; comes = comes }) b is in

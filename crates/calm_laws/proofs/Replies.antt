@@ -1,37 +1,35 @@
 -- What is shown to a candidate in a calm, and what it asks for then.
-use Rattle.std.proofs.Common.{◌≡◌, ◌<◌, ◌≤◌, ℕ, suc, ◌+◌, ◌*◌, Bool, true, false, cond, List, [], ◌∷◌, Option, Some, None, IfSome, refl, sym, ap, ◌∙◌, subst, inl, inr, ⊎_elim, arith}
-use Rattle.std.proofs.lemmas.Bool.{eq-eqb, cases_lt}
+use Rattle.std.proofs.Common.{◌≡◌, ◌<◌, ◌≤◌, ℕ, suc, ◌+◌, ◌*◌, Bool, true, false, cond, List, [], ◌∷◌, Option, Some, None, IfSome, refl, sym, ap, ◌∙◌, subst, inr, ⊎_elim, arith}
+use Rattle.std.proofs.lemmas.Bool.{cases_lt}
 use Rattle.kube_base.specs.declared.numbers.Version.{Version}
 use Rattle.kube_objects.specs.declared.call.Reply.{Reply}
-use Rattle.kube_objects.specs.declared.call.Reply.TheVariants.{Found, Done, Absent, Exists, Conflict, Unchanged}
+use Rattle.kube_objects.specs.declared.call.Reply.TheVariants.{Done}
 use Rattle.kube_objects.specs.declared.call.Request.{Request}
 use Rattle.kube_objects.specs.declared.call.Request.TheVariants.{Get, Create, Update, PostStatus}
 use Rattle.kube_objects.specs.declared.lease.Lease.{Lease}
 use Rattle.kube_objects.specs.declared.object.Object.TheVariants as object
 use Rattle.kube_objects.specs.Answers.{lease_in, versioned, as_kind, answer_get, answer, if_done, written}
 use Rattle.kube_objects.specs.Document.{Doc, is_controller}
-use Rattle.kube_objects.specs.Elector.{Moment, moment, Fails, Asks, follow_get, follow, is_blocked, updated, created, leads, Shown, told, done_shows, found_shows, shows, shown, newly, observed, observed_at}
-use Rattle.kube_objects.specs.Entry.{Entry, Identity, Call, Fact, First, Event, Starts, Stops, Sends, Answers, Delivers, Expires, Leads, Ends, Crashes, Stalls, Ticks, actor_of, entry}
-use Rattle.kube_objects.specs.Identities.{is_by}
+use Rattle.kube_objects.specs.Elector.{Moment, moment, Fails, Asks, follow_get, follow, is_blocked, updated, created, leads, observed_at}
+use Rattle.kube_objects.specs.Entry.{Entry, Identity, Call, Sends, Answers, Delivers, actor_of, entry}
 use Rattle.kube_objects.specs.Keys.{key_eq}
-use Rattle.kube_objects.specs.Newest.{when, has, or_zero}
+use Rattle.kube_objects.specs.Newest.{when, has}
+use Rattle.kube_objects.specs.Process.{open_as}
 use Rattle.kube_objects.specs.Stored.{Held, election, key_of, request_write, at_key, stored}
 use Rattle.kube_objects.specs.Wire.{sent_of, back_of, request_delay, reply_delay, request_arrival}
 use Rattle.history.specs.History.{history}
 use Rattle.history_laws.specs.Tails.{In, IsTail}
-use Rattle.history_laws.proofs.Counting.{only_test, only_value}
 use Rattle.history_laws.proofs.Order.{entries_are_earlier}
-use Rattle.history_laws.proofs.Plainly.{upper, some_is, none_is}
+use Rattle.history_laws.proofs.Plainly.{some_is}
 use Rattle.history_laws.proofs.Tailed.{tail_all, tail_trans, later_tail}
 use Rattle.call_laws.specs.Answering.{with_events}
-use Rattle.call_laws.proofs.Above.{next_above, in_head}
+use Rattle.call_laws.proofs.Above.{in_head}
 use Rattle.call_laws.proofs.Making.{Replied}
-use Rattle.call_laws.proofs.Placing.{from_beat, in_own_beat, not_before, forces_stand, messages_travel}
+use Rattle.call_laws.proofs.Placing.{in_own_beat, not_before, forces_stand, messages_travel}
 use Rattle.takeover_laws.specs.Calm.{Passes, IsSteady, IsCalm, WritesElection}
 use Rattle.takeover_laws.specs.Taking.{FitsStored}
 use Rattle.takeover_laws.proofs.Rounds.{request_passes, reply_passes, sent_is}
-use Rattle.calm_laws.proofs.Asked.{IsWrite, IsNext, Reason, next_is, asks_same, fails_not, reason_key, reason_of}
-use Rattle.calm_laws.proofs.Begun.{by_is}
+use Rattle.calm_laws.proofs.Asked.{IsWrite, IsNext, Reason, next_is, asks_same, fails_not, reason_key, reason_of, InTurn, AfterReply}
 use Rattle.calm_laws.proofs.Kept.{IsKept, no_takeover}
 use Rattle.calm_laws.proofs.Origins.{Origin, origin}
 
@@ -212,95 +210,24 @@ module _ (doc : Doc) (near far a settled e n : ℕ) (calm : IsCalm doc near far 
           (ap (λ reply. follow q (moment doc q x.beat) (observed_at doc q T) f.waiting.kind (Get election) reply) (sym shows_it)
           ∙ ap (λ r. follow q (moment doc q x.beat) (observed_at doc q T) f.waiting.kind r f.reply) (sym get) ∙ f.follows)
 
-  -- ---- what it was shown stays
+  -- ---- so from four ways after the calm began on
 
-  module _ (version : Version) (record_is : Lease) (found : stored_reply ≡ Found version record_is) (o r : ℕ) (late : settled + 2 * far ≤ o) (to : r + far ≤ n) (ord : o ≤ suc r) where
-    abbrev pub Seen : List Entry → Type 0
-    Seen h = (shown q h ≡ Some (version, record_is)) × (or_zero (observed q h) ≤ o)
+  -- its Gets show what is stored
+  pub gets_show : (w : Call) (reply : Reply) (T : List Entry) (y : ℕ) (o : Origin doc q w reply T y) → IsTail T (history doc (suc n)) → w.request ≡ Get election → settled + 4 * far ≤ y → y + far ≤ n → o.e.beat + far ≤ n → reply ≡ stored_reply
+  gets_show w reply T y o high get late to soon = shows_stored w reply T y o high get (answered_late w reply T y o high (omega (arith, late)) (omega (arith, to))) soon
 
-    -- what is shown is that
-    same_shown : (z : Entry) (Z : List Entry) (s : Shown) → IsTail (z ∷ Z) (history doc (suc r)) → o ≤ z.beat → shows q z.actor z.fact ≡ Some s → s ≡ (version, record_is)
-    same_shown z Z s at from is = cases z.fact refl is
-      where
-        at_n : IsTail (z ∷ Z) (history doc (suc n))
-        at_n = tail_trans (z ∷ Z) (history doc (suc r)) (history doc (suc n)) at (later_tail doc (suc r) (suc n) (omega (arith, to)))
+  -- its writes are refused
+  pub writes_fail : (w : Call) (reply : Reply) (T : List Entry) (y : ℕ) (o : Origin doc q w reply T y) → IsTail T (history doc (suc n)) → IsWrite w.request → settled + 4 * far ≤ y → y + far ≤ n → o.e.beat + far ≤ n → (version : Version) → reply ≡ Done version → ⊥
+  writes_fail w reply T y o high write late to soon version done = no_success w reply T y o high version write (answered_late w reply T y o high (omega (arith, late)) (omega (arith, to))) soon done
 
-        high : IsTail Z (history doc (suc n))
-        high = tail_trans Z (z ∷ Z) (history doc (suc n)) (inr (tail_all Z)) at_n
+  -- and it sends none
+  pub none_written : (x : Entry) (T : List Entry) (call : Call) (arrives : Option ℕ) → IsTail (x ∷ T) (history doc (suc n)) → x.actor ≡ actor_of q → x.fact ≡ Sends call arrives → open_as call.kind call ≡ Some call → IsWrite call.request
+      → settled + 4 * far ≤ x.beat + 2 * far → x.beat + 2 * far ≤ n → ⊥
+  none_written x T call arrives at actor fact opens write late to = by_reason reason.0
+    where
+      reason : Reason doc x.beat q call.request T × (3 ≤ x.step)
+      reason = reason_of doc (suc n) q role x T call arrives at actor fact (led T (tail_trans T (x ∷ T) (history doc (suc n)) (inr (tail_all T)) at)) opens
 
-        upto : z.beat ≤ r
-        upto = ⊎_elim (λ lt. omega (arith, lt)) (λ first. omega (arith, first.0)) (entries_are_earlier doc (suc r) z (in_head z Z (history doc (suc r)) at))
-
-        counts : (w : Call) (reply : Reply) → z.actor ≡ actor_of q → z.fact ≡ Delivers w reply true → told w.request reply ≡ Some s → s ≡ (version, record_is)
-        counts w reply actor fact told_is = by_request w.request refl told_is
-          where
-            from_it : Origin doc q w reply Z z.beat
-            from_it = origin doc (suc n) q z Z w reply at_n actor fact
-
-            given : settled + far ≤ from_it.e.beat
-            given = answered_late w reply Z z.beat from_it high (omega (arith, late, from)) (omega (arith, upto, to))
-
-            soon : from_it.e.beat + far ≤ n
-            soon =
-                let le : from_it.e.beat ≤ r =
-                ⊎_elim (λ lt. omega (arith, lt)) (λ first. omega (arith, first.0))
-                (entries_are_earlier doc (suc r) from_it.e (in_head from_it.e from_it.low (history doc (suc r)) (tail_trans (from_it.e ∷ from_it.low) Z (history doc (suc r)) from_it.answered (tail_trans Z (z ∷ Z) (history doc (suc r)) (inr (tail_all Z)) at)))) in
-                omega (arith, le, to)
-
-            done : (l : Lease) (b : Reply) → reply ≡ b → IsWrite w.request → done_shows l b ≡ Some s → s ≡ (version, record_is)
-            done l (Done v) is write shows_it = absurd (no_success w reply Z z.beat from_it high v write given soon is)
-            done l Absent is write shows_it = absurd (none_is s shows_it)
-            done l (Found v m) is write shows_it = absurd (none_is s shows_it)
-            done l Exists is write shows_it = absurd (none_is s shows_it)
-            done l (Conflict v) is write shows_it = absurd (none_is s shows_it)
-            done l Unchanged is write shows_it = absurd (none_is s shows_it)
-
-            by_request : (request : Request) → w.request ≡ request → told request reply ≡ Some s → s ≡ (version, record_is)
-            by_request (Get k) is shows_it =
-                let get : w.request ≡ Get election = is ∙ ap Get (sym (ap key_of is) ∙ key w reply Z z.beat from_it high) in
-                some_is s (version, record_is) (sym shows_it ∙ ap found_shows (shows_stored w reply Z z.beat from_it high get given soon ∙ found))
-            by_request (Create k l) is shows_it = done l reply refl (subst IsWrite (sym is) tt) shows_it
-            by_request (Update k v l) is shows_it = done l reply refl (subst IsWrite (sym is) tt) shows_it
-            by_request (PostStatus name status at) is shows_it = absurd (none_is s shows_it)
-
-        cases : (d : Fact) → z.fact ≡ d → shows q z.actor d ≡ Some s → s ≡ (version, record_is)
-        cases (Delivers w reply true) fact is =
-            counts w reply (by_is q z.actor (only_test (is_by q z.actor) (told w.request reply) s is)) fact (only_value (is_by q z.actor) (told w.request reply) s is)
-        cases (Delivers w reply false) fact is = absurd (none_is s is)
-        cases (Sends w arrives) fact is = absurd (none_is s is)
-        cases (First k object) fact is = absurd (none_is s is)
-        cases (Event w v) fact is = absurd (none_is s is)
-        cases (Answers w reply comes wrote) fact is = absurd (none_is s is)
-        cases (Expires w) fact is = absurd (none_is s is)
-        cases (Ticks t) fact is = absurd (none_is s is)
-        cases Starts fact is = absurd (none_is s is)
-        cases Crashes fact is = absurd (none_is s is)
-        cases Stops fact is = absurd (none_is s is)
-        cases (Stalls beats) fact is = absurd (none_is s is)
-        cases Ends fact is = absurd (none_is s is)
-        cases (Leads v) fact is = absurd (none_is s is)
-
-    one_more : (z : Entry) (Z : List Entry) → IsTail (z ∷ Z) (history doc (suc r)) → o ≤ z.beat → Seen Z → Seen (z ∷ Z)
-    one_more z Z at from s = by_shows (shows q z.actor z.fact) refl
-      where
-        known : (x : Shown) → x ≡ (version, record_is) → newly (Some x) (shown q Z) z.beat ≡ None
-        known x is =
-            ap (λ (x : Shown). newly (Some x) (shown q Z) z.beat) is ∙ ap (λ old. newly (Some (version, record_is)) old z.beat) s.0
-            ∙ ap (λ b. cond b None (Some z.beat)) (eq-eqb version.0 version.0 refl)
-
-        by_shows : (p : Option Shown) → shows q z.actor z.fact ≡ p → Seen (z ∷ Z)
-        by_shows None is = (ap (λ p. upper p (shown q Z)) is ∙ s.0, subst (λ m. m ≤ o) (sym (ap (λ p. or_zero (upper (newly p (shown q Z) z.beat) (observed q Z))) is)) s.1)
-        by_shows (Some x) is =
-            let same = same_shown z Z x at from is in (
-              ap (λ p. upper p (shown q Z)) is ∙ ap Some same,
-              subst (λ m. m ≤ o) (sym (ap (λ p. or_zero (upper (newly p (shown q Z) z.beat) (observed q Z))) is ∙ ap (λ b. or_zero (upper b (observed q Z))) (known x same))) s.1,
-            )
-
-    pub seen_stays : (low h : List Entry) → IsTail (history doc o) low → Seen low → IsTail low h → IsTail h (history doc (suc r)) → Seen h
-    seen_stays low [] since s at high = subst Seen at s
-    seen_stays low (z ∷ Z) since s (inl is) high = subst Seen is s
-    seen_stays low (z ∷ Z) since s (inr at) high =
-        one_more z Z high (next_above (λ y. o ≤ y.beat) (history doc o) Z (history doc (suc r)) z (from_beat doc o (suc r) ord) below high).0 (seen_stays low Z since s at (tail_trans Z (z ∷ Z) (history doc (suc r)) (inr (tail_all Z)) high))
-      where
-        below : IsTail (history doc o) Z
-        below = tail_trans (history doc o) low Z since at
+      by_reason : Reason doc x.beat q call.request T → ⊥
+      by_reason (InTurn get) = subst IsWrite get write
+      by_reason (AfterReply f) = no_late_write x T call arrives at actor fact reason.1 f write (omega (arith, late)) to

@@ -12,13 +12,12 @@ use kube_base::{Name, Names, NoMemory};
 use kube_objects::{Deed, Deeds};
 use manifest_json::ReadFault;
 use naming_laws::deeds_are_writable;
-use rate_policies::{full, partial};
 use replay_top::process_names;
 use script_reader::{Document, lease_premise, read_document};
 use std::alloc::Global;
 use trace_writer::{Settings1, WriteFault, write_deed, write_first};
 use world_core::deeds_of;
-use zone_state::Policies;
+use zone_state::{Policies, full, partial};
 
 /// Whether this is the trace of a document where each beat is done, whether or not it has an entry.
 pub(crate) fn is_trace(alloc: Global, document: &str, trace: &str) -> Result<bool, NoMemory> {

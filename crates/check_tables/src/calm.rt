@@ -4,12 +4,11 @@ ghost use Rattle.replay_top.specs.Outcome.{outcome};
 
 use byte_edge::{CalmSink, CalmSource};
 use kube_base::Steps;
-use rate_policies::{full, partial};
 use replay_top::run;
 use run_edge::Status;
 use std::alloc::Global;
 use std::sync::ledger::Blank;
-use zone_state::Policies;
+use zone_state::{Policies, full, partial};
 
 /// How a run ends where neither its source nor its sink can fail: as the words and the bytes say, or for want of memory.
 pub(crate) fn ends_calmly(alloc: Global, words: &Vec<String>, bytes: Vec<u8>) -> Status

@@ -2,12 +2,11 @@
 use crate::calm::ends_calmly;
 use byte_edge::{MemSink, MemSource};
 use kube_base::{NoMemory, Steps};
-use rate_policies::{full, partial};
 use replay_top::run;
 use run_edge::{Status, Verdict};
 use std::alloc::Global;
 use std::sync::ledger::Blank;
-use zone_state::Policies;
+use zone_state::{Policies, full, partial};
 
 /// What is given to a run beside its words: the bytes of the source, how many it gives at once and its calls that fail;
 /// the room of the sink, and how many bytes it takes at once.

@@ -34,7 +34,7 @@ versioned_is n v x None is = absurd (none_is (v, x) is)
 versioned_is n v x (Some y) is = ap (λ z. z.0) (some_is (n, y) (v, x) is)
 
 -- what was seen with the version that is stored is what is stored
-stored_as_seen : {A : Type 0} (f : Object → Option A) (q : Identity) (key : Key) (h : List Entry) (v : Version) (x : A)
+pub stored_as_seen : {A : Type 0} (f : Object → Option A) (q : Identity) (key : Key) (h : List Entry) (v : Version) (x : A)
     → as_kind f (seen q key h) ≡ Some (v, x) → (y : Held) → stored key h ≡ Some y → y.version.0 ≡ v.0 → as_kind f (stored key h) ≡ Some (v, x)
 stored_as_seen f q key h v x sees y stores is = by_seen (seen q key h) refl sees
   where

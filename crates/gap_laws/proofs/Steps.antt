@@ -29,6 +29,7 @@ use Rattle.history_laws.proofs.Plainly.{upper, for_new, if_some, same_is, same_s
 use Rattle.history_laws.proofs.Walk.{Coming, after_reply}
 use Rattle.lease_laws.proofs.Invariant.{view, OnTop, Wrote, Saw, Within, Asked, AnswerRight, SentRight, BackRight, NumberedIn, Inv}
 use Rattle.lease_laws.proofs.Pauses.{within_success}
+use Rattle.lease_laws.proofs.Steps.{no_ask, no_success, asks_is}
 use Rattle.gap_laws.proofs.Waits.{Slow, Late, late_early, is_release, Arrives, Waited, WaitedFor, BaseWaited, SentWell, Took, Answered, Topped, TopsOrPut, Success, LedFrom, TermFrom, Waits, each_position, position, Moves, moved, more_success}
 
 -- ---- what any entry leaves
@@ -360,15 +361,6 @@ keep_leads doc w high k h b waiting version inv r so s =
     term p role true is = subst (λ p. TermFrom doc w p k (x ∷ g) (local doc p.process k + renew_deadline doc p.process)) (same_is b.who p is) (k, omega arith, more_success w b.who k x g success, within)
 
 -- ---- what is asked
-
-asks_is : (a b : Request) → Asks a ≡ Asks b → a ≡ b
-asks_is a b is = cc
-
-no_ask : (request : Request) → Fails ≡ Asks request → ⊥
-no_ask request is = cc
-
-no_success : (version : Version) (request : Request) → Succeeds version ≡ Asks request → ⊥
-no_success version request is = cc
 
 one_lease : (y : Held) (a b : Lease) → y.object ≡ object.Lease a → y.object ≡ object.Lease b → b ≡ a
 one_lease y a b x z = one (sym z ∙ x)

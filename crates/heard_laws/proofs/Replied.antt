@@ -1,19 +1,17 @@
 -- A reply to a kubelet whose messages pass counts, and what follows it is sent.
-use Rattle.std.proofs.Common.{◌≡◌, ◌∙◌, ◌≤◌, ℕ, suc, ◌+◌, ◌*◌, ◌-◌, ◌==◌, ◌&&◌, not, Bool, true, false, List, ◌∷◌, Option, Some, None, refl, sym, ap, subst, inl, inr, ⊎_elim, arith}
+use Rattle.std.proofs.Common.{◌≡◌, ◌∙◌, ◌≤◌, ℕ, suc, ◌+◌, ◌*◌, ◌-◌, ◌==◌, ◌&&◌, Bool, true, false, List, ◌∷◌, Option, Some, None, refl, sym, ap, subst, inl, inr, ⊎_elim, arith}
+use Rattle.kube_objects.specs.declared.call.Reply.{Reply}
 use Rattle.std.proofs.Math.Nat.{mul-le-mul_right}
 use Rattle.std.proofs.lemmas.Bool.{ltb-true, ltb-false, eq-eqb, eqb-true}
 use Rattle.kube_objects.specs.declared.call.Request.{Request}
-use Rattle.kube_objects.specs.declared.deed.Actor.{Actor}
-use Rattle.kube_objects.specs.declared.deed.Actor.TheVariants as actors
 use Rattle.kube_objects.specs.Answers.{answer, written}
 use Rattle.kube_objects.specs.Clocks.{local}
 use Rattle.kube_objects.specs.Document.{Doc, is_controller, call_timeout}
-use Rattle.kube_objects.specs.Entry.{Entry, Identity, Call, Fact, First as FirstPut, Event as Happens, Starts, Crashes, Stops, Stalls, Ends, Sends, Answers, Delivers, Expires, Leads, Ticks, actor_of, entry}
-use Rattle.kube_objects.specs.Identities.{is_same, is_by, of_process}
+use Rattle.kube_objects.specs.Entry.{Entry, Identity, Call, Sends, Answers, Delivers, actor_of, entry}
+use Rattle.kube_objects.specs.Identities.{is_same, is_by}
 use Rattle.kube_objects.specs.InFlight.{is_due, replies_due}
 use Rattle.kube_objects.specs.Kubelet.{next_request, send_next}
-use Rattle.kube_objects.specs.Newest.{when, only_if, has}
-use Rattle.kube_objects.specs.Process.{alive, call_in, is_present, is_late, answered_call, counted}
+use Rattle.kube_objects.specs.Process.{alive, call_in, is_late, counted}
 use Rattle.kube_objects.specs.Turns.{with_reply}
 use Rattle.kube_objects.specs.Wire.{Back, back_of, reply_arrival}
 use Rattle.kube_objects.proofs.Clocks.{local_up}
@@ -24,23 +22,23 @@ use Rattle.history_laws.specs.Order.{IsWithin}
 use Rattle.history_laws.specs.Tails.{In, IsTail}
 use Rattle.history_laws.proofs.Counting.{counted_is}
 use Rattle.history_laws.proofs.Order.{entries_are_ordered}
-use Rattle.history_laws.proofs.Plainly.{some_is, false_is, and_left, and_right, and_both, same_is, same_self}
+use Rattle.history_laws.proofs.Plainly.{some_is, and_left, and_right, and_both, same_is, same_self}
 use Rattle.history_laws.proofs.Tailed.{tail_all, tail_trans, in_tail, later_tail, two_adds, same_head}
 use Rattle.history_laws.proofs.Walk.{Coming}
 use Rattle.span_laws.specs.Spans.{RunsAtMost}
 use Rattle.span_laws.proofs.Spans.{goes_most}
 use Rattle.call_laws.specs.Answering.{with_events, with_answers}
-use Rattle.call_laws.specs.Waiting.{Closes, IsClosed}
+use Rattle.call_laws.specs.Waiting.{IsClosed}
 use Rattle.call_laws.proofs.Above.{in_head, place_of}
 use Rattle.call_laws.proofs.Answering.{before_events, answers_position, deliveries_position}
-use Rattle.call_laws.proofs.Making.{MadeAs, are_made}
+use Rattle.call_laws.proofs.Making.{are_made, MadeDelivery, MadeExpiry}
 use Rattle.call_laws.proofs.Once.{answers_differ, due_at}
 use Rattle.call_laws.proofs.Placing.{in_own_beat, within_answers}
 use Rattle.takeover_laws.specs.Calm.{IsSteady}
 use Rattle.takeover_laws.specs.Rounds.{IsRound}
 use Rattle.takeover_laws.proofs.Deliveries.{Waits, First, first_for, delivered_adds, deliveries_add, all_coming, any_coming}
 use Rattle.takeover_laws.proofs.Rounds.{rounds_in, in_answers}
-use Rattle.takeover_laws.proofs.Writers.{since_low}
+use Rattle.takeover_laws.proofs.Writers.{since_low, closed_by, waits_count}
 use Rattle.heard_laws.proofs.Heard.{below_ordered}
 use Rattle.heard_laws.proofs.Sending.{KubeletSends, sends_as, waits_on, stays_up}
 
@@ -49,16 +47,8 @@ delivers : (doc : Doc) (q : Identity) (k : ℕ) (call : Call) (b : Back) (h : Li
     → delivered doc k b h ≡ send_next k q (next_request doc q k call.request b.reply) (with_reply k q call b.reply h)
 delivers doc q k call b h role mine number timely w =
     ap (λ p. deliver_as doc k p b.call b.reply (counted doc p k b.call.number h) h) mine
-    ∙ ap (λ o. deliver_as doc k q b.call b.reply o h) counts
+    ∙ ap (λ o. deliver_as doc k q b.call b.reply o h) (waits_count doc q k call b.call.number h number timely w)
     ∙ ap (λ t. react_as doc k q call b.reply t (with_reply k q call b.reply h)) role
-  where
-    counts : counted doc q k b.call.number h ≡ Some call
-    counts =
-        ap (λ o. only_if (is_present o q.incarnation) (answered_call doc q k b.call.number (call_in q h))) w.up
-        ∙ ap (λ t. only_if t (answered_call doc q k b.call.number (call_in q h))) (eq-eqb q.incarnation q.incarnation refl)
-        ∙ ap (λ o. answered_call doc q k b.call.number o) w.call_is
-        ∙ ap (λ t. when (t && not (is_late doc q k call)) call) number
-        ∙ ap (λ t. when (not t) call) timely
 
 pub next_low : (k : ℕ) (q : Identity) (o : Option Request) (h : List Entry) → IsTail h (send_next k q o h)
 next_low k q None h = tail_all h
@@ -147,7 +137,9 @@ module _ (doc : Doc) (sound : IsSound doc) (near far s l e : ℕ) (q : Identity)
 
     -- it still waits as the replies of the beat come
     unclosed : IsClosed q call (x ∷ T) two → ⊥
-    unclosed c = cases c.e.actor c.e.fact refl refl (are_made doc (suc l) c.e c.before position) c.closes
+    unclosed c =
+        closed_by q call c.e c.before doc ⊥ (are_made doc (suc l) c.e c.before position) c.closes delivers_it expires_it
+        (λ fact own. omega (arith, since, steady.stops c.e (in_head c.e c.before (history doc (suc l)) position) fact own))
       where
         position : IsTail (c.e ∷ c.before) (history doc (suc l))
         position = tail_trans (c.e ∷ c.before) two (history doc (suc l)) c.position at_two
@@ -166,16 +158,16 @@ module _ (doc : Doc) (sound : IsSound doc) (near far s l e : ℕ) (q : Identity)
             ⊎_elim (λ lt. omega (arith, lt, from)) (λ here. omega (arith, here.0, from))
             (below_ordered c.e c.before (history doc (suc l)) position (entries_are_ordered doc (suc l)) x (in_tail x (x ∷ T) c.before c.since (inl refl)))
 
-        cases : (who : Actor) (d : Fact) → c.e.actor ≡ who → c.e.fact ≡ d → MadeAs doc c.e.beat c.e.step who d c.before → Closes q call who d → ⊥
-        cases who (Delivers w reply true) actor fact made closes =
+        delivers_it : (w : Call) (reply : Reply) → c.e.fact ≡ Delivers w reply true → MadeDelivery doc c.e.beat c.e.step c.e.actor w reply c.before → is_by q c.e.actor ≡ true → w ≡ call → ⊥
+        delivers_it w reply fact made own same =
             let counts = counted_is doc made.b.who c.e.beat made.b.call.number c.before w made.counted_is in
-            let mine : made.b.who ≡ q = same_is made.b.who q (sym (ap (is_by q) made.by) ∙ closes.0) in
-            let b = same_back c.before made.coming.e made.b beneath made.coming.stands made.coming.is mine (sym counts.number ∙ ap (λ (c : Call). c.number) closes.1) in
+            let mine : made.b.who ≡ q = same_is made.b.who q (sym (ap (is_by q) made.by) ∙ own) in
+            let b = same_back c.before made.coming.e made.b beneath made.coming.stands made.coming.is mine (sym counts.number ∙ ap (λ (c : Call). c.number) same) in
             let beat : c.e.beat ≡ y = some_is c.e.beat y (sym (due_at c.e.beat made.b.comes made.coming.now) ∙ ap (λ (b : Back). b.comes) b ∙ r.comes_is) in
             ⊎_elim (λ lt. omega (arith, lt, beat)) (λ here. omega (arith, here.1, made.step_is)) early
-        cases who (Expires w) actor fact made closes =
-            let mine : made.q ≡ q = same_is made.q q (sym (ap (is_by q) made.by) ∙ closes.0) in
-            let late : is_late doc q c.e.beat call ≡ true = subst (λ p. is_late doc p c.e.beat call ≡ true) mine (subst (λ w. is_late doc made.q c.e.beat w ≡ true) closes.1 made.late) in
+
+        expires_it : (made : MadeExpiry doc c.e.beat c.e.actor call c.before) → made.q ≡ q → is_late doc q c.e.beat call ≡ true → ⊥
+        expires_it made mine late =
             let on_time = timely call x.beat y sent_beat from (omega (arith, r.least, r.comes_least)) (omega (arith, r.most, r.comes_most)) (omega (arith, comes, within)) in
             omega (
               arith,
@@ -183,22 +175,6 @@ module _ (doc : Doc) (sound : IsSound doc) (near far s l e : ℕ) (q : Identity)
               ltb-false (local doc q.process call.sent + call_timeout doc q.process) (local doc q.process y) on_time,
               local_up doc q.process c.e.beat y upto,
             )
-        cases who Stops actor fact made closes = omega (arith, since, steady.stops c.e (in_head c.e c.before (history doc (suc l)) position) fact (ap (λ who. has (of_process q.process who)) actor ∙ by_process who closes))
-          where
-            by_process : (who : Actor) → is_by q who ≡ true → has (of_process q.process who) ≡ true
-            by_process actors.Script is = absurd (false_is is)
-            by_process (actors.Proc id i) is = ap (λ b. has (when b i)) (and_left (id.0 == q.process) (i == q.incarnation) is)
-        cases who (FirstPut key object) actor fact made closes = elim closes [ ]
-        cases who (Happens w version) actor fact made closes = elim closes [ ]
-        cases who Starts actor fact made closes = elim closes [ ]
-        cases who Crashes actor fact made closes = elim closes [ ]
-        cases who Ends actor fact made closes = elim closes [ ]
-        cases who (Stalls beats) actor fact made closes = elim closes [ ]
-        cases who (Sends w arrives) actor fact made closes = elim closes [ ]
-        cases who (Answers w reply at_beat wrote) actor fact made closes = elim closes [ ]
-        cases who (Delivers w reply false) actor fact made closes = elim closes [ ]
-        cases who (Leads version) actor fact made closes = elim closes [ ]
-        cases who (Ticks tick) actor fact made closes = elim closes [ ]
 
     waiting : Waits doc y q call two
     waiting = record {

@@ -48,7 +48,7 @@ use Rattle.takeover_laws.proofs.Writers.{sends_of}
 use Rattle.heard_laws.specs.Heard.{is_about, tells_of}
 use Rattle.heard_laws.specs.Kubelet.{IsLeftAlone, PutsAreOfKind}
 use Rattle.heard_laws.proofs.Sending.{by_is}
-use Rattle.heard_laws.proofs.Words.{other_node}
+use Rattle.outage_laws.proofs.Marked.{other_node}
 
 -- the answer to a call that was sent at beat s or later
 abbrev pub AnswersSince : ℕ → Fact → Type 0
@@ -77,6 +77,20 @@ fails_not r is = cc
 succeeds_not : (r : Request) → {v : _} → Succeeds v ≡ Asks r → ⊥
 succeeds_not r is = cc
 
+-- what follows a write
+undone_key : (next : Request) (kind : CallKind) → not_done kind ≡ Asks next → key_of next ≡ election
+undone_key next Plain is = absurd (fails_not next is)
+undone_key next Fast is = sym (ap key_of (asks_same (Get election) next is))
+undone_key next Release is = absurd (fails_not next is)
+
+write_key : (next : Request) (kind : CallKind) (reply : Reply) → follow_write kind reply ≡ Asks next → key_of next ≡ election
+write_key next kind (Done version) is = absurd (succeeds_not next is)
+write_key next kind (Found version lease) is = undone_key next kind is
+write_key next kind Absent is = undone_key next kind is
+write_key next kind Exists is = undone_key next kind is
+write_key next kind (Conflict version) is = undone_key next kind is
+write_key next kind Unchanged is = undone_key next kind is
+
 -- a controller asks for the election Lease
 follow_key : (q : Identity) (m : Moment) (seen : ℕ) (kind : CallKind) (request : Request) (reply : Reply) (next : Request) → follow q m seen kind request reply ≡ Asks next → key_of next ≡ election
 follow_key q m seen kind (PostStatus name status at) reply next is = absurd (fails_not next is)
@@ -90,34 +104,8 @@ follow_key q m seen kind (Get key) (Done version) next is = absurd (fails_not ne
 follow_key q m seen kind (Get key) Exists next is = absurd (fails_not next is)
 follow_key q m seen kind (Get key) (Conflict version) next is = absurd (fails_not next is)
 follow_key q m seen kind (Get key) Unchanged next is = absurd (fails_not next is)
-follow_key q m seen kind (Create key lease) reply next is = write_key kind reply is
-  where
-    undone : (kind : CallKind) → not_done kind ≡ Asks next → key_of next ≡ election
-    undone Plain is = absurd (fails_not next is)
-    undone Fast is = sym (ap key_of (asks_same (Get election) next is))
-    undone Release is = absurd (fails_not next is)
-
-    write_key : (kind : CallKind) (reply : Reply) → follow_write kind reply ≡ Asks next → key_of next ≡ election
-    write_key kind (Done version) is = absurd (succeeds_not next is)
-    write_key kind (Found version lease) is = undone kind is
-    write_key kind Absent is = undone kind is
-    write_key kind Exists is = undone kind is
-    write_key kind (Conflict version) is = undone kind is
-    write_key kind Unchanged is = undone kind is
-follow_key q m seen kind (Update key given lease) reply next is = write_key kind reply is
-  where
-    undone : (kind : CallKind) → not_done kind ≡ Asks next → key_of next ≡ election
-    undone Plain is = absurd (fails_not next is)
-    undone Fast is = sym (ap key_of (asks_same (Get election) next is))
-    undone Release is = absurd (fails_not next is)
-
-    write_key : (kind : CallKind) (reply : Reply) → follow_write kind reply ≡ Asks next → key_of next ≡ election
-    write_key kind (Done version) is = absurd (succeeds_not next is)
-    write_key kind (Found version lease) is = undone kind is
-    write_key kind Absent is = undone kind is
-    write_key kind Exists is = undone kind is
-    write_key kind (Conflict version) is = undone kind is
-    write_key kind Unchanged is = undone kind is
+follow_key q m seen kind (Create key lease) reply next is = write_key next kind reply is
+follow_key q m seen kind (Update key given lease) reply next is = write_key next kind reply is
 
 attempt_key : (doc : Doc) (q : Identity) (k : ℕ) (h : List Entry) → key_of (attempt doc q k h).1 ≡ election
 attempt_key doc q k h = by_test (doc.settings.fast_renew && leads q h)

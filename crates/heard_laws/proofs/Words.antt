@@ -17,7 +17,7 @@ use Rattle.kube_objects.specs.Entry.{Entry, Identity, Fact, First, Event, Starts
 use Rattle.kube_objects.specs.Health.{node_heartbeat, ready_heartbeat}
 use Rattle.kube_objects.specs.Keys.{key_eq}
 use Rattle.kube_objects.specs.Newest.{when, only_if, has, join}
-use Rattle.kube_objects.specs.Seen.{seen, is_pod}
+use Rattle.kube_objects.specs.Seen.{is_pod}
 use Rattle.kube_objects.specs.Stamps.{stamped}
 use Rattle.kube_objects.specs.Stored.{Held, Write, node_key, node_lease, at_key, write_of, tick_write, try_write, node_write, holds, last_write, stored, next_version}
 use Rattle.kube_objects.specs.Tries.{as_answer}
@@ -25,13 +25,13 @@ use Rattle.kube_objects.specs.Wire.{loses_requests}
 use Rattle.history.specs.Evictions.{stored_node}
 use Rattle.history.specs.History.{put_all, history}
 use Rattle.history_laws.specs.Tails.{IsTail}
-use Rattle.history_laws.proofs.Plainly.{upper, none_is, false_is, true_is}
+use Rattle.history_laws.proofs.Plainly.{upper, false_is, true_is}
 use Rattle.history_laws.proofs.Walk.{Keeps, walk_history}
-use Rattle.eviction_laws.proofs.Cache.{same_version}
-use Rattle.eviction_laws.proofs.Early.{versioned_is}
+use Rattle.eviction_laws.proofs.Early.{stored_as_seen}
 use Rattle.eviction_laws.proofs.KeyNames.{key_is, key_self}
 use Rattle.heard_laws.specs.Heard.{is_about, tells_of}
 use Rattle.heard_laws.proofs.Written.{IsOver, WritesOver, over_tick}
+use Rattle.outage_laws.proofs.Marked.{other_node}
 
 -- ---- keys
 
@@ -51,13 +51,6 @@ pod_is_none pod key kind other = by_test (key_eq pod key) refl
   where
     by_test : (b : Bool) → key_eq pod key ≡ b → b ≡ false
     by_test true is = absurd (true_is (sym kind ∙ ap (λ (key : Key). is_pod key.kind) (key_is pod key is) ∙ other))
-    by_test false is = refl
-
-pub other_node : (x name : ℕ) → (x ≡ name → ⊥) → key_eq (node_key x) (node_key name) ≡ false
-other_node x name differs = by_test (key_eq (node_key x) (node_key name)) refl
-  where
-    by_test : (b : Bool) → key_eq (node_key x) (node_key name) ≡ b → b ≡ false
-    by_test true is = absurd (differs (ap (λ (key : Key). key.name) (key_is (node_key x) (node_key name) is)))
     by_test false is = refl
 
 -- ---- what is told of a node
@@ -92,17 +85,6 @@ unwritten name x h node lease =
     }
 
 -- ---- the writes of ticks
-
--- what was seen with the version that is stored is what is stored
-stored_as_seen : {A : Type 0} (f : Object → Option A) (q : Identity) (key : Key) (h : List Entry) (v : Version) (x : A)
-    → as_kind f (seen q key h) ≡ Some (v, x) → (y : Held) → stored key h ≡ Some y → y.version.0 ≡ v.0 → as_kind f (stored key h) ≡ Some (v, x)
-stored_as_seen f q key h v x sees y stores is = by_seen (seen q key h) refl sees
-  where
-    by_seen : (o : Option Held) → seen q key h ≡ o → as_kind f o ≡ Some (v, x) → as_kind f (stored key h) ≡ Some (v, x)
-    by_seen None sees that = absurd (none_is (v, x) that)
-    by_seen (Some s) sees that =
-        let same : s ≡ y = same_version q key h s y sees stores (is ∙ ap (λ (v : Version). v.0) (sym (versioned_is s.version v x (f s.object) that))) in
-        ap (as_kind f) (stores ∙ ap Some (sym same)) ∙ that
 
 -- an accepted try is over what is stored
 abbrev IfAccepted : Option Answer → Type 0 → Type 0

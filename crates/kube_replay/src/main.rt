@@ -3,14 +3,13 @@
 
 use byte_edge::{StdSink, StdSource};
 use kube_base::Steps;
-use rate_policies::{full, partial};
 use replay_top::run;
 use run_edge::exit_status;
 use std::io::ErrorKind;
 use std::process::ExitCode;
 use std::sync::ledger::Blank;
 use std::{env, io};
-use zone_state::Policies;
+use zone_state::{Policies, full, partial};
 
 /// Want of memory while the arguments are gathered.
 const OUT_OF_MEMORY: u8 = 5;

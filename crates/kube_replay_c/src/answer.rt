@@ -8,12 +8,11 @@ ghost use Rattle.kube_replay_c.specs.Exits.{exit_status_of};
 use crate::borrowed_source::BorrowedSource;
 use byte_edge::BorrowedSink;
 use kube_base::Steps;
-use rate_policies::{full, partial};
 use replay_top::run;
 use run_edge::{Status, Verdict};
 use std::alloc::Global;
 use std::sync::ledger::Blank;
-use zone_state::Policies;
+use zone_state::{Policies, full, partial};
 
 /// Want of memory. It is the exit status of `Status::OutOfMemory`, and of a text that no memory could hold.
 pub(crate) const OUT_OF_MEMORY: u32 = 5;

@@ -1,11 +1,15 @@
--- How long nobody leads, at least and at most, in beats: the formulas of the laws on calm spans. Source: profile.
+-- How long nobody leads, at least and at most, in beats: the bounds of the laws on calm spans, in their own words. Source: profile.
 use Rattle.std.specs.Int.{div_ceil}
 use Rattle.std.specs.List.{list_all}
-use Rattle.std.specs.Prelude.{ℕ, suc, ◌+◌, ◌-◌, ◌*◌, ◌/◌, ◌==◌, ◌&&◌, ◌≤◌, nat_le, nat_lt, min, max, Bool, true, false, List, [], ◌∷◌, Option, Some, None, unwrap_or, if◌then◌else◌}
+use Rattle.std.specs.Prelude.{ℕ, suc, ◌+◌, ◌-◌, ◌*◌, ◌/◌, ◌==◌, ◌&&◌, ◌≤◌, nat_le, nat_lt, min, max, Bool, true, false, List, [], ◌∷◌, Option, Some, None, unwrap_or}
 use Rattle.kube_objects.specs.declared.script.Proc.{Proc}
 use Rattle.kube_objects.specs.Document.{of_seconds, of_millis}
-use Rattle.span_laws.specs.Quotients.{most_beats, least_beats}
+use Rattle.span_laws.specs.Quotients.{most_beats}
 use Rattle.calm_laws.specs.Bounds.{takeover_beats}
+use Rattle.settle_laws.specs.Settles.{settle_beats}
+use Rattle.silence_laws.specs.Least.{renewal_ways, takes_beats}
+use Rattle.succession_laws.specs.Successions.{ways_after, succession_beats}
+use Rattle.release_laws.specs.Releases.{release_beats}
 use Rattle.lens_bounds.specs.declared.calm.Calm.{Calm}
 use Rattle.lens_bounds.specs.declared.elections.Election.{Election}
 use Rattle.lens_bounds.specs.declared.elections.Handover.{Handover}
@@ -53,7 +57,7 @@ abbrev pub most_looks : Calm → Proc → ℕ → ℕ
 most_looks c p seconds = most_beats (near_step c p) (far_step c p) (enough c (of_seconds seconds))
 
 abbrev pub least_looks : Calm → Proc → ℕ → ℕ
-least_looks c p seconds = least_beats (near_step c p) (far_step c p) (needed c (of_seconds seconds))
+least_looks c p seconds = takes_beats c.near c.far (least_retry c p) (wait c p) (needed c (of_seconds seconds))
 
 -- ---- premises
 
@@ -84,20 +88,21 @@ stay c ps = list_all (stays_by c) ps
 
 -- after the leader crashes, the other leads no sooner than in so many beats, and no later. A leader that renews without a Get does so sooner
 abbrev pub gets : Calm → ℕ
-gets c = if c.fast_renew then c.far else 3 * c.far
+gets c = renewal_ways c.fast_renew c.far
 
 abbrev pub crash_least : Calm → Proc → Proc → ℕ
 crash_least c leader p = least_looks c p leader.lease_seconds + 3 * c.near - (retry c leader + gets c)
 
 abbrev pub crash_most : Calm → Proc → Proc → ℕ
-crash_most c leader p = most_looks c p leader.lease_seconds + wait c p + 6 * c.far + (if c.fast_renew then 1 else 0) - 2
+crash_most c leader p =
+    succession_beats c.near c.far (wait c p) (least_retry c p) (enough c (of_seconds leader.lease_seconds)) (ways_after c.fast_renew c.far)
 
 -- after it stops, and its release is accepted
 abbrev pub stop_least : Calm → ℕ
 stop_least c = 4 * c.near
 
 abbrev pub stop_most : Calm → Proc → ℕ
-stop_most c p = wait c p + 6 * c.far - 1
+stop_most c p = release_beats c.far (wait c p)
 
 -- a leader that is cut off acts on for so long
 abbrev pub acts_on : Calm → ℕ → ℕ
@@ -107,7 +112,7 @@ acts_on c millis = 2 * c.far + enough c (of_millis millis) - 1
 abbrev pub own_term : Proc → ℕ
 own_term p = p.retry_millis + p.renew_millis
 
--- from the beginning of a calm the other leads by then, where a lease of so many seconds blocks it, and leaders of before are gone by beat old
+-- from the beginning of a calm the other leads by then, where a lease of so many seconds blocks it, and it is free of what it had begun by beat old
 abbrev pub leads_by : Calm → ℕ → ℕ → Proc → ℕ
 leads_by c old seconds p =
     takeover_beats c.near c.far 0 (max (of_millis p.timeout_millis / c.slow) old) (wait c p) (least_retry c p) (enough c (of_seconds seconds))
@@ -117,7 +122,8 @@ leads c leader p = leads_by c 0 leader.lease_seconds p
 
 -- by then one of them leads that stays: the longest term of before is over, and so is the longest lease
 abbrev pub stays_from : Calm → ℕ → ℕ → Proc → ℕ
-stays_from c term seconds p = leads_by c (acts_on c term + 4 * c.far - 1) seconds p
+stays_from c term seconds p =
+    settle_beats c.near c.far (acts_on c term) (acts_on c term) (of_millis p.timeout_millis / c.slow) (wait c p) (least_retry c p) (enough c (of_seconds seconds))
 
 -- ---- of all that may follow a leader
 

@@ -1,6 +1,7 @@
 // The bounds on elections.
 ghost use Rattle.std.specs.Prelude.{◌≡◌, ◌*◌, ◌≤◌, IfSome};
 ghost use Rattle.std.specs.Option.{ForSome};
+ghost use Rattle.succession_laws.specs.Successions.{ways_after};
 ghost use Rattle.lens_bounds.specs.Elections as spec;
 ghost use Rattle.lens_bounds.specs.Elections.{IsCalm};
 
@@ -177,14 +178,22 @@ fn crash_least(c: Calm, leader: Proc, p: Proc) -> u128
     over.saturating_sub(retry(c, leader) + gets(c))
 }
 
+fn last_ways(c: Calm) -> u128
+    requires { IsCalm c }
+    ensures is { result ≡ ways_after c.fast_renew c.far }
+    ensures few { result ≤ 26000000000 }
+{
+    let ways = 6 * u128::from(c.far);
+    if c.fast_renew { ways - 1 } else { ways - 2 }
+}
+
 /// After a crash of the leader the other one leads no later than in so many beats.
 pub fn crash_most(c: Calm, leader: Proc, p: Proc) -> u128
     requires { IsCalm c }
     ensures is { result ≡ spec.crash_most c leader p }
     ensures few { result ≤ 100000000000000000000000000000000000 }
 {
-    let over = most_looks(c, p, leader.lease_seconds) + wait(c, p) + 6 * u128::from(c.far);
-    (over + u128::from(c.fast_renew)).saturating_sub(2)
+    most_looks(c, p, leader.lease_seconds) + wait(c, p) + last_ways(c)
 }
 
 fn stop_most(c: Calm, p: Proc) -> u128

@@ -111,7 +111,7 @@ pub record Markable (q : Identity) (name a : ℕ) (held : Held) (node : Node) (h
   pub here : stored (node_key name) h ≡ Some held
   pub is : node_in held.object ≡ Some node
 
-other_node : (x name : ℕ) → (x ≡ name → ⊥) → key_eq (node_key x) (node_key name) ≡ false
+pub other_node : (x name : ℕ) → (x ≡ name → ⊥) → key_eq (node_key x) (node_key name) ≡ false
 other_node x name differs = by_test (key_eq (node_key x) (node_key name)) refl
   where
     by_test : (b : Bool) → key_eq (node_key x) (node_key name) ≡ b → b ≡ false

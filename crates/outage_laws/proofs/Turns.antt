@@ -1,97 +1,29 @@
 -- From one tick of an attended leader to the next one.
-use Rattle.std.proofs.Common.{◌≡◌, ◌≤◌, ◌<◌, ℕ, zero, suc, ◌+◌, ◌-◌, ◌&&◌, ◌==◌, not, nat_lt, Bool, true, false, List, ◌∷◌, length, length-append, Option, Some, None, refl, sym, ap, ◌∙◌, subst, arith}
+use Rattle.std.proofs.Common.{◌≡◌, ◌≤◌, ◌<◌, ℕ, zero, suc, ◌+◌, ◌-◌, ◌&&◌, ◌==◌, Bool, true, false, List, ◌∷◌, length, length-append, refl, sym, ap, ◌∙◌, subst, arith}
 use Rattle.std.specs.Prelude.{if◌then◌else◌}
-use Rattle.std.proofs.lemmas.Bool.{eq-eqb, eqb-true, ltb-true}
-use Rattle.kube_objects.specs.Clocks.{local}
+use Rattle.std.proofs.lemmas.Bool.{eqb-true, ltb-true}
 use Rattle.kube_objects.specs.Document.{Doc, processes}
-use Rattle.kube_objects.specs.Elector.{deadline, is_before, timer, in_term, acts}
-use Rattle.kube_objects.specs.Entry.{Entry, Identity, Call, Expires, Ends, Ticks, actor_of, entry}
+use Rattle.kube_objects.specs.Elector.{acts}
+use Rattle.kube_objects.specs.Entry.{Entry, Identity, Ticks, actor_of, entry}
 use Rattle.kube_objects.specs.Identities.{identity, is_by}
-use Rattle.kube_objects.specs.InForce.{watches}
-use Rattle.kube_objects.specs.Newest.{has}
-use Rattle.kube_objects.specs.Pauses.{is_paused}
-use Rattle.kube_objects.specs.Process.{alive, is_present, call_in, is_late}
 use Rattle.kube_objects.specs.Tick.{tick}
-use Rattle.kube_objects.specs.Turns.{expire_call, end_term, just_expired, is_fast_call, attempt_if, try}
-use Rattle.kube_objects.specs.Wire.{loses_requests}
 use Rattle.history.specs.Evictions.{after_turn}
 use Rattle.history.specs.History.{three_steps, history, at_turn}
-use Rattle.history.specs.Steps.{step_one, step_two, if_up, restart_if, restart, expire, finish, attempts, elector_turn, controller_turn, kubelet_turn, unpaused_turn, turn, turns}
-use Rattle.history_laws.proofs.Counting.{present_is}
-use Rattle.history_laws.proofs.Plainly.{and_left, and_right, and_both, not_true, false_is}
+use Rattle.history.specs.Steps.{step_one, step_two, if_up, restart, expire, finish, attempts, elector_turn, controller_turn, kubelet_turn, unpaused_turn, turn, turns}
 use Rattle.history_laws.proofs.Ticks.{walk_tick}
 use Rattle.history_laws.proofs.Walk.{Ticking, KeepsTurn, Keeps, all_turns, walk_to_tick, walk_turn, walk_one, walk_two, walk_three}
 use Rattle.row_laws.specs.Keys.{is_ticking}
 use Rattle.outage_laws.specs.Attended.{IsAttended}
-
--- up, before the deadline, watching and heard
-pub record Ready (doc : Doc) (q : Identity) (k : ℕ) (h : List Entry) : Type 0 where
-  pub up : alive q.process h ≡ Some q.incarnation
-  pub at : ℕ
-  pub leads : deadline doc q h ≡ Some at
-  pub before : nat_lt (local doc q.process k) at ≡ true
-  pub awake : is_paused doc q.process k ≡ false
-  pub watching : watches doc q.process h ≡ true
-  pub passing : loses_requests q.process h ≡ false
+use Rattle.eviction_laws.proofs.Turns.{Ready, ready_at, still, ready_restart, ready_expire, ready_finish, ready_attempts}
 
 module _ (doc : Doc) (q : Identity) (k : ℕ) where
-  ready_at : (h : List Entry) → acts doc q k h ≡ true → watches doc q.process h ≡ true → loses_requests q.process h ≡ false → Ready doc q k h
-  ready_at h acting watching passing = by_deadline (deadline doc q h) refl (and_right (is_present (alive q.process h) q.incarnation) (is_before (local doc q.process k) (deadline doc q h)) (and_right (not (is_paused doc q.process k)) (in_term doc q k h) acting))
-    where
-      by_deadline : (o : Option ℕ) → deadline doc q h ≡ o → is_before (local doc q.process k) o ≡ true → Ready doc q k h
-      by_deadline None is before = absurd (false_is before)
-      by_deadline (Some at) is before = record {
-        up = present_is (alive q.process h) q.incarnation (and_left (is_present (alive q.process h) q.incarnation) (is_before (local doc q.process k) (deadline doc q h)) (and_right (not (is_paused doc q.process k)) (in_term doc q k h) acting));
-        at = at;
-        leads = is;
-        before = before;
-        awake = not_true (is_paused doc q.process k) (and_left (not (is_paused doc q.process k)) (in_term doc q k h) acting);
-        watching = watching;
-        passing = passing;
-      }
-
-  still : (h : List Entry) → Ready doc q k h → acts doc q k h ≡ true
-  still h s =
-      and_both (not (is_paused doc q.process k)) (in_term doc q k h) (ap not s.awake)
-      (subst (λ o. (is_present o q.incarnation && is_before (local doc q.process k) (deadline doc q h)) ≡ true) (sym s.up)
-      (subst (λ b. (b && is_before (local doc q.process k) (deadline doc q h)) ≡ true) (sym (eq-eqb q.incarnation q.incarnation refl))
-      (subst (λ o. is_before (local doc q.process k) o ≡ true) (sym s.leads) s.before)))
-
-  ready_restart : (h : List Entry) → Ready doc q k h → Ready doc q k (restart doc k q.process h)
-  ready_restart h s = subst (λ o. Ready doc q k (restart_if doc k q.process o h)) (sym s.up) s
-
-  ready_expire : (h : List Entry) → Ready doc q k h → Ready doc q k (expire doc k q.process h)
-  ready_expire h s = subst (λ o. Ready doc q k (if_up q.process (λ q T. expire_call doc k q (call_in q T) T) o h)) (sym s.up) (by_call (call_in q h))
-    where
-      by_late : (call : Call) (b : Bool) → Ready doc q k (if b then entry k 4 q (Expires call) ∷ h else h)
-      by_late call true = record { up = s.up; at = s.at; leads = s.leads; before = s.before; awake = s.awake; watching = s.watching; passing = s.passing }
-      by_late call false = s
-
-      by_call : (o : Option Call) → Ready doc q k (expire_call doc k q o h)
-      by_call None = s
-      by_call (Some call) = by_late call (is_late doc q k call)
-
-  ready_finish : (h : List Entry) → Ready doc q k h → Ready doc q k (finish doc k q.process h)
-  ready_finish h s =
-      subst (λ o. Ready doc q k (if_up q.process (λ q T. end_term doc k q (deadline doc q T) T) o h)) (sym s.up)
-      (subst (λ o. Ready doc q k (end_term doc k q o h)) (sym s.leads)
-      (subst (λ b. Ready doc q k (if b then h else entry k 4 q Ends ∷ h)) (sym s.before) s))
-
-  ready_attempts : (h : List Entry) → Ready doc q k h → Ready doc q k (attempts doc k q.process h)
-  ready_attempts h s = subst (λ o. Ready doc q k (if_up q.process (try doc k) o h)) (sym s.up) (by_test (is_fast_call (just_expired q k h)) (not (has (call_in q h)) && not (nat_lt (local doc q.process k) (timer doc q h))))
-    where
-      by_test : (a b : Bool) → Ready doc q k (attempt_if doc k q a b h)
-      by_test true b = record { up = s.up; at = s.at; leads = s.leads; before = s.before; awake = s.awake; watching = s.watching; passing = s.passing }
-      by_test false true = record { up = s.up; at = s.at; leads = s.leads; before = s.before; awake = s.awake; watching = s.watching; passing = s.passing }
-      by_test false false = s
-
   pub ready : IsAttended doc q k → Ready doc q k (elector_turn doc k q.process (at_turn doc q.process k))
   ready (acting, watching, passing) =
       let h0 = at_turn doc q.process k in
       let h1 = restart doc k q.process h0 in
       let h2 = expire doc k q.process h1 in
       let h3 = finish doc k q.process h2 in
-      ready_attempts h3 (ready_finish h2 (ready_expire h1 (ready_restart h0 (ready_at h0 acting.1 watching passing))))
+      ready_attempts doc q k h3 (ready_finish doc q k h2 (ready_expire doc q k h1 (ready_restart doc q k h0 (ready_at doc q k h0 acting.1 watching passing))))
 
   -- its turn is that of its elector, and the tick
   pub turn_is : IsAttended doc q k → after_turn doc q.process k ≡ tick doc k q (elector_turn doc k q.process (at_turn doc q.process k))
@@ -102,7 +34,7 @@ module _ (doc : Doc) (q : Identity) (k : ℕ) where
       ap (λ b. if b then h0 else unpaused_turn doc k q.process h0) s.awake
       ∙ ap (λ b. if b then controller_turn doc k q.process h0 else kubelet_turn doc k q.process h0) attended.0.0
       ∙ ap (λ o. if_up q.process (λ q T. if (acts doc q k T) then tick doc k q T else T) o h) s.up
-      ∙ ap (λ b. if b then tick doc k q h else h) (still h s)
+      ∙ ap (λ b. if b then tick doc k q h else h) (still doc q k h s)
 
 -- ---- what no entry of the leader's ticks keeps
 

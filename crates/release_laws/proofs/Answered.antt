@@ -5,7 +5,6 @@ use Rattle.kube_objects.specs.declared.call.Reply.{Reply}
 use Rattle.kube_objects.specs.declared.call.Reply.TheVariants.{Done}
 use Rattle.kube_objects.specs.declared.call.Request.{Request}
 use Rattle.kube_objects.specs.declared.call.Request.TheVariants.{Get}
-use Rattle.kube_objects.specs.declared.key.Key.{Key}
 use Rattle.kube_objects.specs.Answers.{answer, written}
 use Rattle.kube_objects.specs.Document.{Doc, is_controller}
 use Rattle.kube_objects.specs.Elector.{Fails, Asks, moment, observed_at, leads, follow_on}
@@ -32,19 +31,17 @@ use Rattle.stay_laws.proofs.Closing.{within_below}
 use Rattle.silence_laws.specs.Silence.{LeadsUntil, Bears, IsStopped, IsReleased}
 use Rattle.silence_laws.proofs.Kept.{not_below}
 use Rattle.silence_laws.proofs.Looking.{asks_election}
-use Rattle.silence_laws.proofs.Setting.{IsWay, request_way}
+use Rattle.silence_laws.proofs.Setting.{request_way}
 use Rattle.silence_laws.proofs.Waiting.{beats_rise}
 use Rattle.silence_laws.proofs.Ways as ways_of
-use Rattle.silence_laws.proofs.Ways.{reply_way, beat_before}
+use Rattle.silence_laws.proofs.Ways.{reply_way, beat_before, IsWay}
 use Rattle.succession_laws.proofs.Blocking.{blocked}
 use Rattle.succession_laws.proofs.Ordered.{AreAnswered, ordered}
 use Rattle.succession_laws.proofs.Records.{OfIt}
 use Rattle.succession_laws.proofs.Timely.{timely}
 use Rattle.succession_laws.proofs.Timely as in_time
+use Rattle.succession_laws.proofs.Following.{no_get}
 use Rattle.release_laws.proofs.Accepted.{F, F_e, R, R_e, released, first_low, of_it}
-
-no_get : (r : Request) (key : Key) → r ≡ Get key → IsWrite r → ⊥
-no_get r key is write = subst IsWrite is write
 
 module _ (doc : Doc) (near far b e : ℕ) (q : Identity) (l : LeadsUntil doc near far b e q) (s : Bears doc near far b e q) (stop : IsStopped doc b e q) (rel : IsReleased doc near far b e q)
     (c : Identity) (role : is_controller doc c.process ≡ true) (other : c.process ≡ q.process → ⊥) where

@@ -1,42 +1,30 @@
 -- After a leader was stopped and its release was accepted another controller comes to lead in time, and stays.
-use Rattle.std.proofs.Common.{◌≡◌, ◌⊎◌, ◌<◌, ◌≤◌, ℕ, zero, suc, ◌+◌, ◌-◌, ◌*◌, not, Bool, true, false, cond, List, ◌∷◌, Option, Some, None, refl, sym, ap, ◌∙◌, subst, inl, inr, ⊎_elim, arith}
+use Rattle.std.proofs.Common.{◌≡◌, ◌<◌, ◌≤◌, ℕ, zero, suc, ◌+◌, ◌-◌, ◌*◌, Bool, true, false, List, ◌∷◌, Option, Some, None, refl, sym, ap, ◌∙◌, subst, inr, ⊎_elim, arith}
 use Rattle.std.specs.Int.{div_ceil}
-use Rattle.std.proofs.lemmas.Bool.{eq-eqb, cases_eq, cases_lt}
-use Rattle.kube_base.specs.declared.numbers.Version.{Version}
+use Rattle.std.proofs.lemmas.Bool.{cases_lt}
 use Rattle.kube_objects.specs.declared.call.Reply.{Reply}
-use Rattle.kube_objects.specs.declared.call.Reply.TheVariants.{Done, Conflict}
-use Rattle.kube_objects.specs.declared.call.Request.{Request}
-use Rattle.kube_objects.specs.declared.call.Request.TheVariants.{Get, Create, Update, PostStatus}
-use Rattle.kube_objects.specs.declared.lease.Lease.{Lease}
-use Rattle.kube_objects.specs.declared.object.Object.TheVariants as object
-use Rattle.kube_objects.specs.Answers.{lease_in, versioned, as_kind, answer_get, answer, answer_over, written, written_over, if_done}
-use Rattle.kube_objects.specs.Clocks.{local}
-use Rattle.kube_objects.specs.Document.{Doc, processes, is_controller, retry_period}
-use Rattle.kube_objects.specs.Elector.{Moment, moment, Fails, Asks, is_blocked, updated, follow_get, follow, leads, observed_at, acts, in_term, is_before, deadline}
+use Rattle.kube_objects.specs.declared.call.Reply.TheVariants.{Done}
+use Rattle.kube_objects.specs.declared.call.Request.TheVariants.{Get}
+use Rattle.kube_objects.specs.Answers.{lease_in, as_kind, answer_get, answer, written}
+use Rattle.kube_objects.specs.Document.{Doc, is_controller, retry_period}
+use Rattle.kube_objects.specs.Elector.{moment, follow_get, follow, leads, observed_at}
 use Rattle.kube_objects.specs.Entry.{Entry, Identity, Call, Answers, Sends, Delivers, actor_of, entry}
 use Rattle.kube_objects.specs.Identities.{identity}
 use Rattle.kube_objects.specs.Newest.{has}
-use Rattle.kube_objects.specs.Pauses.{is_paused}
-use Rattle.kube_objects.specs.Process.{alive, is_present}
-use Rattle.kube_objects.specs.Stored.{Held, election, request_write, at_key, write_of, stored, next_version}
+use Rattle.kube_objects.specs.Process.{alive}
+use Rattle.kube_objects.specs.Stored.{Held, election, at_key, write_of, stored}
 use Rattle.kube_objects.specs.Wire.{reply_arrival}
 use Rattle.history.specs.History.{history, at_turn}
 use Rattle.history.specs.Safe.{Acts}
 use Rattle.history_laws.specs.Tails.{IsTail}
-use Rattle.history_laws.proofs.Counting.{present_is}
-use Rattle.history_laws.proofs.Plainly.{true_is, false_is, and_left, and_right}
-use Rattle.history_laws.proofs.Tailed.{tail_all, tail_trans, later_tail, turn_tail, before_turn}
+use Rattle.history_laws.proofs.Plainly.{true_is}
+use Rattle.history_laws.proofs.Tailed.{tail_all, tail_trans, later_tail}
 use Rattle.span_laws.specs.Spans.{IsEnough}
-use Rattle.call_laws.specs.Answering.{with_events}
-use Rattle.call_laws.proofs.Answering.{events_position}
 use Rattle.call_laws.proofs.Placing.{in_own_beat, not_before}
 use Rattle.takeover_laws.specs.Calm.{IsSteady}
 use Rattle.takeover_laws.specs.Rounds.{IsRound}
 use Rattle.takeover_laws.specs.Taking.{FitsStored}
-use Rattle.takeover_laws.proofs.Acting.{Searched, search}
 use Rattle.takeover_laws.proofs.Rounds.{rounds_in}
-use Rattle.takeover_laws.proofs.Standing.{controllers_first, persists}
-use Rattle.calm_laws.proofs.Life.{never_led, restart_same}
 use Rattle.calm_laws.proofs.Origins.{Origin, origin}
 use Rattle.stay_laws.specs.Stays.{HasSuccess}
 use Rattle.stay_laws.proofs.Staying.{leaders_stay}
@@ -45,35 +33,19 @@ use Rattle.silence_laws.specs.Silence.{LeadsUntil, Bears, IsStopped, IsReleased}
 use Rattle.silence_laws.proofs.Ways as ways_of
 use Rattle.silence_laws.proofs.Ways.{reply_way}
 use Rattle.succession_laws.proofs.First.{none_first}
-use Rattle.silence_laws.proofs.Led.{HasLed, acting_led}
-use Rattle.succession_laws.proofs.Led.{leads_led}
-use Rattle.calm_laws.proofs.Asked.{IsWrite, asks_same, fails_not}
+use Rattle.silence_laws.proofs.Led.{HasLed, acting_led, leads_led}
+use Rattle.calm_laws.proofs.Asked.{IsWrite}
 use Rattle.span_laws.proofs.Quotients.{rounded_is}
 use Rattle.span_laws.specs.Looks.{IsGreatest}
 use Rattle.succession_laws.specs.Successions.{RepliesCome, IsRival, IsFollowed}
-use Rattle.release_laws.specs.Releases.{OthersRenewAround, ReleasesAreFollowed, ReleasesAreTold}
+use Rattle.succession_laws.proofs.Following.{fits_of, fits_writes}
+use Rattle.succession_laws.proofs.Others.{Another, another}
+use Rattle.succession_laws.proofs.Others as others
+use Rattle.release_laws.specs.Releases.{OthersRenewAround, ReleasesAreFollowed, ReleasesAreTold, release_bound}
 use Rattle.release_laws.proofs.Accepted.{R, IsFree, released, is_free, lasts, none_writes, same_since}
 use Rattle.release_laws.proofs.Answered.{meets, Late, late_write}
 use Rattle.release_laws.proofs.Setting.{none_succeeds, idle_upto, others_since, calm_since, times_since}
 use Rattle.silence_laws.proofs.Waiting.{beats_rise}
-
--- a write that follows a Get that showed what is stored fits it
-fits_of : (q : Identity) (m : Moment) (seen : ℕ) (y : Held) (lease : Lease) (r : Request) → y.object ≡ object.Lease lease → follow_get q m seen (answer_get (as_kind lease_in (Some y))) ≡ Asks r → FitsStored (Some y) r
-fits_of q m seen y lease r object_is is = by_test (is_blocked q m.now seen lease) (ap (λ o. follow_get q m seen (answer_get (versioned y.version (lease_in o)))) (sym object_is) ∙ is)
-  where
-    by_test : (b : Bool) → cond b Fails (Asks (Update election y.version (updated q m lease))) ≡ Asks r → FitsStored (Some y) r
-    by_test true is = absurd (fails_not r is)
-    by_test false is = subst (FitsStored (Some y)) (asks_same (Update election y.version (updated q m lease)) r is) (refl, refl)
-
--- what fits what is stored is accepted
-fits_writes : (r : Request) (h : List Entry) (y : Held) → stored election h ≡ Some y → FitsStored (Some y) r → has (at_key election (request_write r (written r h))) ≡ true
-fits_writes (Update key version lease) h y is fits =
-    subst (λ key. has (at_key election (request_write (Update key version lease) (written (Update key version lease) h))) ≡ true) (sym fits.0)
-    (ap (λ o. has (at_key election (request_write (Update election version lease) (written_over o (Update election version lease) (answer_over (next_version h) o (Update election version lease)))))) is
-    ∙ ap (λ b. has (at_key election (request_write (Update election version lease) (if_done (cond b (Done (next_version h)) (Conflict y.version)) (object.Lease lease))))) (eq-eqb y.version.0 version.0 (ap (λ (v : Version). v.0) (sym fits.1))))
-fits_writes (Create key lease) h y is fits = absurd fits
-fits_writes (Get key) h y is fits = absurd fits
-fits_writes (PostStatus name status at) h y is fits = absurd fits
 
 module _ (doc : Doc) (near far b e : ℕ) (q : Identity) (l : LeadsUntil doc near far b e q) (s : Bears doc near far b e q) (stop : IsStopped doc b e q) (rel : IsReleased doc near far b e q) where
   abbrev above : List Entry
@@ -183,22 +155,11 @@ module _ (doc : Doc) (near far b e : ℕ) (q : Identity) (l : LeadsUntil doc nea
     idle_ends : ((r : Identity) → is_controller doc r.process ≡ true → (r.process ≡ q.process → ⊥) → (k : ℕ) → k ≤ n → Acts doc r k → ⊥) → ⊥
     idle_ends idle = by_up (alive p S) refl
       where
-        first_p : p < processes doc
-        first_p = controllers_first doc p rival.role
-
-        s_high : IsTail S (history doc (suc b))
-        s_high = turn_tail doc (suc p) b (omega (arith, first_p))
-
-        s_low : IsTail (with_events doc 0) S
-        s_low =
-            tail_trans (with_events doc 0) (history doc b) S
-            (tail_trans (with_events doc 0) (history doc 1) (history doc b) (events_position doc 0) (later_tail doc 1 b (omega (arith, l.long, a_way)))) (before_turn doc (suc p) b)
-
         with_identity : (i : ℕ) → alive p S ≡ Some i → ⊥
         with_identity i up =
-            none_first doc near far e n s.one s.ways within c rival.role (l.others p rival.role rival.other) (s.calls p rival.role) none led_not 0 top (lasts doc near far b e q l s stop rel) (b + 2 * far) (omega (arith, a_way))
+            none_first doc near far e n s.one s.ways within c rival.role (l.others p rival.role rival.other) (s.calls p rival.role) (others.none doc near far b e q l s p rival.role rival.other n within (omega arith) idle i up) led_not 0 top (lasts doc near far b e q l s stop rel) (b + 2 * far) (omega (arith, a_way))
             (given c rival.role rival.other n within idle led_not) (no_writes c rival.role rival.other n within idle led_not) slow fast wait 0 b (omega arith) rival.runs_least rival.runs_most (s.waits p rival.role) wait_is (λ m le. omega arith) 0 0 (omega arith) greatest
-            G (omega (arith, some_wait, a_way)) (omega (arith, some_wait, a_way)) (omega (arith, a_way, some_wait)) (ap (alive p) (restart_same doc G p i (at_turn doc p G) there) ∙ there)
+            G (omega (arith, some_wait, a_way)) (omega (arith, some_wait, a_way)) (omega (arith, a_way, some_wait)) (others.there doc near far b e q l s p rival.role rival.other n within (omega arith) idle i up G (omega (arith, a_way, some_wait)) (omega (arith, a_way, some_wait)))
           where
             c : Identity
             c = identity p i
@@ -210,99 +171,14 @@ module _ (doc : Doc) (near far b e : ℕ) (q : Identity) (l : LeadsUntil doc nea
             greatest : IsGreatest (0 + 2 * near) (wait + 2 * far) 0 0
             greatest beats at_most = omega (arith, at_most.0 0 (omega arith))
 
-            none : (k : ℕ) → 0 ≤ k → k ≤ n → Acts doc c k → ⊥
-            none k from to = idle c rival.role rival.other k to
-
-            late : (h : List Entry) → IsTail S h → IsTail h (history doc (suc n)) → alive p h ≡ Some i
-            late h low high = persists doc near far 0 e n c rival.role (s.calls p rival.role).deadline (l.others p rival.role rival.other) within none (omega arith) S h s_low low high up
-
             led_not : (h : List Entry) → IsTail h (history doc (suc n)) → leads c h ≡ false
-            led_not =
-                never_led doc near far 0 e n c rival.role (s.calls p rival.role).deadline (l.others p rival.role rival.other) within none (omega arith)
-                (late (history doc (suc n)) (tail_trans S (history doc (suc b)) (history doc (suc n)) s_high (later_tail doc (suc b) (suc n) (omega arith))) (tail_all (history doc (suc n))))
-
-            there : alive p (at_turn doc p G) ≡ Some i
-            there =
-                late (at_turn doc p G)
-                (tail_trans S (history doc G) (at_turn doc p G) (tail_trans S (history doc (suc b)) (history doc G) s_high (later_tail doc (suc b) G (omega (arith, some_wait, a_way)))) (before_turn doc p G))
-                (tail_trans (at_turn doc p G) (history doc (suc G)) (history doc (suc n)) (turn_tail doc p G (omega (arith, first_p))) (later_tail doc (suc G) (suc n) (omega (arith, a_way, some_wait))))
+            led_not = others.led_not doc near far b e q l s p rival.role rival.other n within (omega arith) idle i up
 
         by_up : (o : Option ℕ) → alive p S ≡ o → ⊥
         by_up None is = true_is (sym rival.up ∙ ap has is)
         by_up (Some i) is = with_identity i is
 
-    -- ---- who acts then
-
-    abbrev acting : ℕ → ℕ → Option ℕ → Bool
-    acting r k None = false
-    acting r k (Some i) = acts doc (identity r i) k (at_turn doc r k)
-
-    acts_as : (r : Identity) (k : ℕ) → Acts doc r k → acting r.process k (alive r.process (at_turn doc r.process k)) ≡ true
-    acts_as r k is = ap (acting r.process k) up ∙ is.1
-      where
-        g : List Entry
-        g = at_turn doc r.process k
-
-        up : alive r.process g ≡ Some r.incarnation
-        up =
-            present_is (alive r.process g) r.incarnation
-            (and_left (is_present (alive r.process g) r.incarnation) (is_before (local doc r.process k) (deadline doc r g)) (and_right (not (is_paused doc r.process k)) (in_term doc r k g) is.1))
-
-    record Another : Type 0 where
-      r : Identity
-      role : is_controller doc r.process ≡ true
-      other : r.process ≡ q.process → ⊥
-      k : ℕ
-      from : b ≤ k
-      to : k ≤ n
-      acting_is : Acts doc r k
-
-    abbrev NoneBelow : ℕ → Type 0
-    NoneBelow m = (r : Identity) → r.process < m → is_controller doc r.process ≡ true → (r.process ≡ q.process → ⊥) → (k : ℕ) → b ≤ k → k ≤ n → Acts doc r k → ⊥
-
-    one_more : (m : ℕ) → NoneBelow m → Another ⊎ NoneBelow (suc m)
-    one_more m none = by_process (cases_eq m q.process)
-      where
-        None_of : Type 0
-        None_of = (r : Identity) → r.process ≡ m → is_controller doc r.process ≡ true → (r.process ≡ q.process → ⊥) → (k : ℕ) → b ≤ k → k ≤ n → Acts doc r k → ⊥
-
-        with_none : None_of → NoneBelow (suc m)
-        with_none here r lt role other k from to is = ⊎_elim (λ less. none r less role other k from to is) (λ ge. here r (omega (arith, lt, ge)) role other k from to is) (cases_lt r.process m)
-
-        found : is_controller doc m ≡ true → (m ≡ q.process → ⊥) → (k : ℕ) → b ≤ k → k ≤ n → (o : Option ℕ) → acting m k o ≡ true → Another
-        found role other k from to None is = absurd (false_is is)
-        found role other k from to (Some i) is = record { r = identity m i; role = role; other = other; k = k; from = from; to = to; acting_is = (role, is) }
-
-        by_search : is_controller doc m ≡ true → (m ≡ q.process → ⊥) → Searched (λ k. acting m k (alive m (at_turn doc m k))) b n → Another ⊎ NoneBelow (suc m)
-        by_search role other (inl f) = inl (found role other f.k f.from f.to (alive m (at_turn doc m f.k)) f.is)
-        by_search role other (inr never) = inr (with_none (λ r is role_r other_r k from to acts_r. never k from to (subst (λ m. acting m k (alive m (at_turn doc m k)) ≡ true) is (acts_as r k acts_r))))
-
-        by_role : (t : Bool) → is_controller doc m ≡ t → (m ≡ q.process → ⊥) → Another ⊎ NoneBelow (suc m)
-        by_role true role other = by_search role other (search (λ k. acting m k (alive m (at_turn doc m k))) b n)
-        by_role false role other = inr (with_none (λ r is role_r other_r k from to acts_r. true_is (sym role_r ∙ ap (is_controller doc) is ∙ role)))
-
-        by_process : (m ≡ q.process) ⊎ (m ≡ q.process → ⊥) → Another ⊎ NoneBelow (suc m)
-        by_process (inl same) = inr (with_none (λ r is role_r other_r k from to acts_r. other_r (is ∙ same)))
-        by_process (inr other) = by_role (is_controller doc m) refl other
-
-    up_to : (m : ℕ) → Another ⊎ NoneBelow m
-    up_to zero = inr (λ r lt. absurd (omega (arith, lt)))
-    up_to (suc m) = by_below (up_to m)
-      where
-        by_below : Another ⊎ NoneBelow m → Another ⊎ NoneBelow (suc m)
-        by_below (inl another) = inl another
-        by_below (inr none) = one_more m none
-
     module _ (renew : OthersRenewAround doc near far b e q) (replies : RepliesCome doc far (suc b) q.process) where
-      another : Another
-      another = by_search (up_to (processes doc))
-        where
-          by_search : Another ⊎ NoneBelow (processes doc) → Another
-          by_search (inl found) = found
-          by_search (inr none) =
-              absurd (idle_ends (λ r role other k to acts_r. ⊎_elim (λ lt. idle_upto doc near far b e q l s renew r role other k (omega (arith, lt)) acts_r)
-              (λ from. none r (controllers_first doc r.process role) role other k from to acts_r) (cases_lt k b)))
-
       pub followed : IsFollowed doc b n e q
       followed = record {
         c = r;
@@ -311,12 +187,12 @@ module _ (doc : Doc) (near far b e : ℕ) (q : Identity) (l : LeadsUntil doc nea
         to = omega (arith, led_r.to, x.to);
         success = record { call = hs.call; version = hs.version; before = hs.before; position = hs.position; since = omega (arith, since); success = hs.success };
         stays =
-            leaders_stay doc near far (suc b) e s.sound (calm_since doc near far b e q l s renew stop rel replies room) (times_since doc near far b e q l s renew stop rel replies room) s.one s.ways s.end r x.role
+            leaders_stay doc near far (suc b) e s.sound (calm_since doc near far b e q l s renew stop rel replies room) (times_since doc near far b e q l s renew) s.one s.ways s.end r x.role
             (others_since doc near far b e q l s renew r.process x.role x.other) (renew.after r x.role x.other) led_r.j success;
       }
         where
-          x : Another
-          x = another
+          x : Another doc b n q
+          x = another doc b n q idle_ends (λ r role other k lt. idle_upto doc near far b e q l s renew r role other k (omega (arith, lt)))
 
           r : Identity
           r = x.r
@@ -391,4 +267,6 @@ releases_are_followed doc near far b e q l s stop rel replies renew p slow fast 
 -- in whole beats
 pub releases_are_told : ReleasesAreTold
 releases_are_told doc near far b e q l s stop rel replies renew p slow fast rival some within =
-    releases_are_followed doc near far b e q l s stop rel replies renew p slow fast (div_ceil (retry_period doc p) slow) rival (rounded_is slow (retry_period doc p) some).0 within
+    let same : b + div_ceil (retry_period doc p) slow + (6 * far - 1) ≡ b + release_bound doc far p slow = omega arith in
+    subst (λ n. IsFollowed doc b n e q) same
+    (releases_are_followed doc near far b e q l s stop rel replies renew p slow fast (div_ceil (retry_period doc p) slow) rival (rounded_is slow (retry_period doc p) some).0 (omega (arith, within)))

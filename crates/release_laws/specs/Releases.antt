@@ -26,11 +26,17 @@ abbrev pub ReleasesAreFollowed : Type 0
 ReleasesAreFollowed = (doc : Doc) → ReleaseIsFollowed doc
 
 -- the same bound in whole beats, as a program finds it: the quotient is rounded up
+abbrev pub release_beats : (far wait : ℕ) → ℕ
+release_beats far wait = wait + (6 * far - 1)
+
+abbrev pub release_bound : Doc → (far p slow : ℕ) → ℕ
+release_bound doc far p slow = release_beats far (div_ceil (retry_period doc p) slow)
+
 abbrev pub ReleaseIsTold : Doc → Type 0
 ReleaseIsTold doc =
     (near far b e : ℕ) (q : Identity) → LeadsUntil doc near far b e q → Bears doc near far b e q → IsStopped doc b e q → IsReleased doc near far b e q → RepliesCome doc far (suc b) q.process
     → OthersRenewAround doc near far b e q → (p slow fast : ℕ) → IsRival doc b e q p slow fast → 1 ≤ slow
-    → b + div_ceil (retry_period doc p) slow + (6 * far - 1) ≤ e → IsFollowed doc b (b + div_ceil (retry_period doc p) slow + (6 * far - 1)) e q
+    → b + release_bound doc far p slow ≤ e → IsFollowed doc b (b + release_bound doc far p slow) e q
 
 abbrev pub ReleasesAreTold : Type 0
 ReleasesAreTold = (doc : Doc) → ReleaseIsTold doc

@@ -3,14 +3,13 @@
 
 use byte_edge::{MemSink, MemSource};
 use kube_base::{NoMemory, Steps};
-use rate_policies::{full, partial};
 use replay_top::run;
 use run_edge::{Status, Verdict};
 use std::alloc::Global;
 use std::io::ErrorKind;
 use std::sync::ledger::Blank;
 use std::{env, fs, io};
-use zone_state::Policies;
+use zone_state::{Policies, full, partial};
 
 /// How many bytes a source gives, and a sink takes, at once.
 const CHUNK: usize = 100;

@@ -19,6 +19,7 @@ use Rattle.call_laws.proofs.Making.{MadeAs, are_made}
 use Rattle.call_laws.proofs.Placing.{in_own_beat}
 use Rattle.call_laws.proofs.Starting.{actor_is}
 use Rattle.takeover_laws.specs.Calm.{IsSteady}
+use Rattle.takeover_laws.proofs.Asking.{call_or}
 use Rattle.calm_laws.proofs.Deciding.{Decided, steady}
 use Rattle.calm_laws.proofs.First.{entry_is}
 use Rattle.stay_laws.specs.Stays.{HasSuccess}
@@ -33,10 +34,6 @@ pub record SomebodySucceeds (doc : Doc) (near far a e n : ℕ) : Type 0 where
 
 abbrev pub NobodySucceeds : Doc → ℕ → ℕ → ℕ → ℕ → ℕ → Type 0
 NobodySucceeds doc near far a e n = (q : Identity) → is_controller doc q.process ≡ true → IsSteady doc near far a e q.process → (j : ℕ) → j ≤ n → HasSuccess doc q a j → ⊥
-
-abbrev call_or : Call → Fact → Call
-call_or c (Delivers d reply counted) = d
-call_or c _ = c
 
 -- which version it is doesn't matter
 done_succeeds : (r : Request) (v u : Version) → succeeds r (Done v) ≡ succeeds r (Done u)

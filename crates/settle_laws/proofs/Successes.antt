@@ -1,31 +1,25 @@
 -- Successes: who comes to lead does so by one, and one of a call that was sent before a calm comes early in it.
-use Rattle.std.proofs.Common.{◌≡◌, ◌<◌, ◌≤◌, ℕ, suc, ◌+◌, ◌*◌, true, List, [], ◌∷◌, length, Option, Some, IfSome, refl, sym, ap, ◌∙◌, subst, inl, inr, ⊎_elim, arith}
+use Rattle.std.proofs.Common.{◌≡◌, ◌<◌, ◌≤◌, ℕ, suc, ◌+◌, ◌*◌, true, List, [], ◌∷◌, length, Option, Some, IfSome, refl, sym, ap, ◌∙◌, subst, inr, ⊎_elim, arith}
 use Rattle.std.proofs.lemmas.Bool.{cases_lt}
 use Rattle.kube_base.specs.declared.numbers.Version.{Version}
 use Rattle.kube_objects.specs.declared.call.Reply.{Reply}
 use Rattle.kube_objects.specs.declared.call.Reply.TheVariants.{Found, Done, Absent, Exists, Conflict, Unchanged}
 use Rattle.kube_objects.specs.declared.call.Request.{Request}
 use Rattle.kube_objects.specs.declared.call.Request.TheVariants.{Get, Create, Update, PostStatus}
-use Rattle.kube_objects.specs.declared.deed.Actor.{Actor}
 use Rattle.kube_objects.specs.declared.key.Key.{Key}
-use Rattle.kube_objects.specs.declared.object.Object.{Object}
 use Rattle.kube_objects.specs.Answers.{written}
-use Rattle.kube_objects.specs.Clocks.{store_wall, whole_second}
 use Rattle.kube_objects.specs.Document.{Doc, processes, end_beat, is_controller}
-use Rattle.kube_objects.specs.Elector.{Moment, Succeeds, follow_write, follow, follow_on, succeeds}
-use Rattle.kube_objects.specs.Entry.{Entry, Identity, Call, CallKind, Plain, Fast, Release, Fact, First, Sends, Answers, Delivers, Leads, actor_of, entry, script_entry}
+use Rattle.kube_objects.specs.Elector.{Moment, Succeeds, follow_write, follow, succeeds}
+use Rattle.kube_objects.specs.Entry.{Entry, Identity, Call, CallKind, Plain, Fast, Release, Sends, Answers, Delivers, actor_of}
 use Rattle.kube_objects.specs.Keys.{key_eq}
-use Rattle.kube_objects.specs.Stamps.{stamped}
 use Rattle.kube_objects.specs.Stored.{election, key_of}
 use Rattle.kube_objects.specs.Wire.{back_of, request_arrival, reply_delay}
-use Rattle.history.specs.History.{put_all, history}
+use Rattle.history.specs.History.{history}
 use Rattle.history.specs.Premise.{greatest_below}
 use Rattle.history.specs.Sound.{IsSound}
 use Rattle.history_laws.specs.Tails.{In, IsTail}
 use Rattle.history_laws.proofs.Plainly.{some_is}
-use Rattle.history_laws.proofs.Tailed.{tail_all, tail_trans, tail_of_empty, same_head, same_rest, later_tail}
-use Rattle.history_laws.proofs.Ticks.{walk_tick}
-use Rattle.history_laws.proofs.Walk.{Keeps, after_reply, stopped_at, walk_history}
+use Rattle.history_laws.proofs.Tailed.{tail_all, tail_trans, later_tail}
 use Rattle.lease_laws.proofs.Histories.{turn_right}
 use Rattle.lease_laws.proofs.Invariant.{Asked, SentRight, view}
 use Rattle.lease_laws.proofs.Premises.{rates_at_most}
@@ -91,68 +85,6 @@ follow_succeeds q m seen kind (Get key) reply v is = absurd (get_no_success q m 
 follow_succeeds q m seen kind (Create key lease) reply v is = write_succeeds kind key lease reply v is
 follow_succeeds q m seen kind (Update key given lease) reply v is = write_succeeds kind key lease reply v is
 follow_succeeds q m seen kind (PostStatus name status at) reply v is = absurd (cc)
-
--- ---- who comes to lead
-
--- by the counted reply that was delivered last
-pub record Comes (doc : Doc) (k : ℕ) (who : Actor) (version : Version) (T : List Entry) : Type 0 where
-  pub q : Identity
-  pub by : who ≡ actor_of q
-  pub w : Call
-  pub reply : Reply
-  pub low : List Entry
-  pub is : T ≡ entry k 3 q (Delivers w reply true) ∷ low
-  pub follows : follow_on doc q k w.kind w.request reply T ≡ Succeeds version
-
-abbrev pub ComesBy : Doc → ℕ → Actor → Fact → List Entry → Type 0
-ComesBy doc k who (Leads version) T = Comes doc k who version T
-ComesBy doc k who _ T = Unit {0}
-
-abbrev AllCome : Doc → List Entry → Type 0
-AllCome doc h = (x : Entry) (before : List Entry) → IsTail (x ∷ before) h → ComesBy doc x.beat x.actor x.fact before
-
-more : (doc : Doc) (x : Entry) (h : List Entry) → ComesBy doc x.beat x.actor x.fact h → AllCome doc h → AllCome doc (x ∷ h)
-more doc x h new s e before (inl is) =
-    subst (λ (e : Entry). ComesBy doc e.beat e.actor e.fact before) (sym (same_head e x before h is)) (subst (ComesBy doc x.beat x.actor x.fact) (sym (same_rest e x before h is)) new)
-more doc x h new s e before (inr at) = s e before at
-
-come_keeps : (doc : Doc) → Keeps doc (λ k step h. AllCome doc h)
-come_keeps doc = record {
-  on = λ k step h s. s;
-  next = λ k s. s;
-  event = λ k w h scripted s. more doc _ h tt s;
-  starts = λ k step p h s. more doc _ h tt s;
-  crashes = λ k p i h up s. more doc _ h tt s;
-  stalls = λ k id beats i h scripted up s. more doc _ h tt s;
-  stops = λ k id i h scripted up s. more doc _ h tt s;
-  releases = λ k id i before request scripted up awake is was s. more doc _ (stopped_at k id i before) tt s;
-  answers = λ k x h at s. more doc _ h tt s;
-  ignores = λ k b h coming is s. more doc _ h tt s;
-  counts = λ k b waiting h coming is s. more doc _ h tt s;
-  follows = λ k b waiting h request coming is role follows was s. more doc _ (after_reply k b waiting h) tt s;
-  leads = λ k b waiting h version coming is role follows was s.
-      more doc _ (after_reply k b waiting h) (record { q = b.who; by = refl; w = waiting; reply = b.reply; low = h; is = refl; follows = follows }) s;
-  asks = λ k b waiting h request coming is role asked was s. more doc _ (after_reply k b waiting h) tt s;
-  turns = record {
-    restarts = λ k p h s. more doc _ h tt s;
-    expires = λ k p i call h up waits late s. more doc _ h tt s;
-    ends = λ k p i at h role up is before s. more doc _ h tt s;
-    polls = λ k p i h role up awake waits s. more doc _ h tt s;
-    attempts = λ k p i h role up awake waits s. more doc _ h tt s;
-    seeks = λ k p i call h role up awake expired late s. more doc _ h tt s;
-    posts = λ k p i h role up awake none s. more doc _ h tt s;
-    ticks = λ k q h acting s. walk_tick doc k q (AllCome doc) (λ t g made s. more doc _ g tt s) h s;
-  };
-}
-
-puts_come : (doc : Doc) (xs : List (Key × Object)) (h : List Entry) → AllCome doc h → AllCome doc (put_all doc xs h)
-puts_come doc [] h s = s
-puts_come doc (x ∷ xs) h s =
-    let e = script_entry 0 0 (First x.0 (stamped (whole_second (store_wall doc 0)) x.1)) in
-    puts_come doc xs (e ∷ h) (more doc e h tt s)
-
-pub leads_come : (doc : Doc) (k : ℕ) (x : Entry) (before : List Entry) → IsTail (x ∷ before) (history doc k) → ComesBy doc x.beat x.actor x.fact before
-leads_come doc k = walk_history doc (λ k step h. AllCome doc h) (come_keeps doc) (puts_come doc doc.objects [] (λ x before at. absurd (tail_of_empty x before at))) k
 
 -- ---- a reply to a call of before the calm comes within two ways of its beginning
 

@@ -27,8 +27,9 @@ use Rattle.takeover_laws.proofs.Fresh.{turn_counted, turn_leads, past_ends, over
 use Rattle.takeover_laws.proofs.Standing.{controllers_first}
 use Rattle.calm_laws.proofs.Begun.{by_is}
 use Rattle.calm_laws.proofs.Restarts.{turn_adds}
+use Rattle.calm_laws.proofs.Added.{AddedAs, added}
 use Rattle.settle_laws.proofs.Pausing.{can_most}
-use Rattle.settle_laws.proofs.Successes.{ComesBy, leads_come, follow_succeeds}
+use Rattle.settle_laws.proofs.Successes.{follow_succeeds}
 
 -- each success of a controller comes by a beat
 abbrev pub SucceedsBy : Doc → ℕ → Identity → ℕ → Type 0
@@ -47,20 +48,20 @@ module _ (doc : Doc) (a e n : ℕ) (end : e ≤ end_beat doc) (within : n ≤ e)
   abbrev IsEarly : ℕ → ℕ → Type 0
   IsEarly beat t = (beat ≤ last) × (t ≤ bound)
 
-  set_by : (x : Entry) (T : List Entry) → IsTail (x ∷ T) (history doc (suc n)) → (who : Actor) (d : Fact) → x.actor ≡ who → x.fact ≡ d → MadeAs doc x.beat x.step who d T → ComesBy doc x.beat who d T → (led : Bool) (t : ℕ) → deadline_says doc q x.beat who led d ≡ Some t → IsEarly x.beat t
+  set_by : (x : Entry) (T : List Entry) → IsTail (x ∷ T) (history doc (suc n)) → (who : Actor) (d : Fact) → x.actor ≡ who → x.fact ≡ d → MadeAs doc x.beat x.step who d T → AddedAs doc x d T → (led : Bool) (t : ℕ) → deadline_says doc q x.beat who led d ≡ Some t → IsEarly x.beat t
   set_by x T at who (Leads version) actor fact made comes led t is = (by, omega (arith, t_is, local_up doc q.process x.beat last by))
     where
       t_is : local doc q.process x.beat + renew_deadline doc q.process ≡ t
       t_is = when_value (is_by q who) (local doc q.process x.beat + renew_deadline doc q.process) t is
 
       mine : comes.q ≡ q
-      mine = actor_is comes.q q (sym comes.by ∙ by_is q who (when_test (is_by q who) (local doc q.process x.beat + renew_deadline doc q.process) t is))
+      mine = actor_is comes.q q (sym comes.by ∙ actor ∙ by_is q who (when_test (is_by q who) (local doc q.process x.beat + renew_deadline doc q.process) t is))
 
       by : x.beat ≤ last
       by =
-          success_by (entry x.beat 3 comes.q (Delivers comes.w comes.reply true)) comes.low comes.w comes.reply
+          success_by (entry x.beat 3 comes.q (Delivers comes.call comes.reply true)) comes.before comes.call comes.reply
           (subst (λ g. IsTail g (history doc (suc n))) comes.is (tail_trans T (x ∷ T) (history doc (suc n)) (inr (tail_all T)) at))
-          refl (ap actor_of mine) refl (follow_succeeds comes.q _ _ comes.w.kind comes.w.request comes.reply version comes.follows)
+          refl (ap actor_of mine) refl (follow_succeeds comes.q _ _ comes.call.kind comes.call.request comes.reply version comes.follows)
   set_by x T at who (Delivers w reply true) actor fact made comes led t is = (by, omega (arith, t_is, can))
     where
       test : (is_by q who && (led && succeeds w.request reply)) ≡ true
@@ -94,7 +95,7 @@ module _ (doc : Doc) (a e n : ℕ) (end : e ≤ end_beat doc) (within : n ≤ e)
   set_by x T at who Ends actor fact made comes led t is = absurd (none_is t is)
 
   says_by : (x : Entry) (T : List Entry) → IsTail (x ∷ T) (history doc (suc n)) → (t : ℕ) → deadline_says doc q x.beat x.actor (leads q T) x.fact ≡ Some t → IsEarly x.beat t
-  says_by x T at t is = set_by x T at x.actor x.fact refl refl (are_made doc (suc n) x T at) (leads_come doc (suc n) x T at) (leads q T) t is
+  says_by x T at t is = set_by x T at x.actor x.fact refl refl (are_made doc (suc n) x T at) (added doc (suc n) x T at) (leads q T) t is
 
   pub deadline_by : (h : List Entry) → IsTail h (history doc (suc n)) → (t : ℕ) → deadline doc q h ≡ Some t → t ≤ bound
   deadline_by [] at t is = absurd (none_is t is)

@@ -1,5 +1,5 @@
 -- For how long nobody else comes to lead after a leader has fallen silent.
-use Rattle.std.proofs.Common.{◌≡◌, ◌⊎◌, ◌<◌, ◌≤◌, ℕ, suc, ◌+◌, ◌-◌, ◌*◌, true, ◌∷◌, Some, refl, sym, ap, ◌∙◌, inl, inr, ⊎_elim, arith}
+use Rattle.std.proofs.Common.{◌≡◌, ◌<◌, ◌≤◌, ℕ, suc, ◌+◌, ◌-◌, ◌*◌, true, ◌∷◌, Some, refl, sym, ap, ◌∙◌, inl, inr, ⊎_elim, arith}
 use Rattle.std.specs.Int.{div_ceil}
 use Rattle.kube_objects.specs.Document.{Doc, is_controller, lease_duration, retry_period}
 use Rattle.kube_objects.specs.Entry.{Entry, Identity, Stops, actor_of}
@@ -15,14 +15,14 @@ use Rattle.takeover_laws.specs.Calm.{IsSteady, IsQuiet}
 use Rattle.calm_laws.proofs.Origins.{Origin}
 use Rattle.stay_laws.proofs.Won.{Won, is_won}
 use Rattle.span_laws.proofs.Quotients.{rounded_is, bounds_are_exact}
-use Rattle.silence_laws.specs.Least.{IsLead, TakesAtLeast, RunsWithin, SilencesLast, SilencesAreTold}
+use Rattle.silence_laws.specs.Least.{last_renewal, IsLead, TakesAtLeast, RunsWithin, SilencesLast, SilencesAreTold}
 use Rattle.silence_laws.specs.Silence.{LeadsUntil, Bears}
 use Rattle.silence_laws.proofs.Chain.{opens_of}
 use Rattle.silence_laws.proofs.Lasted.{taken_late}
 use Rattle.silence_laws.proofs.Leading as leading
-use Rattle.silence_laws.proofs.Led.{LedBy}
+use Rattle.calm_laws.proofs.Added.{LedBy}
 use Rattle.silence_laws.proofs.Owning.{IsForeign, own_or_foreign, sent_early}
-use Rattle.silence_laws.proofs.Recent.{recent}
+use Rattle.silence_laws.proofs.Recent.{recent, recent_enough}
 use Rattle.silence_laws.proofs.Rival.{w, elsewhere}
 use Rattle.silence_laws.proofs.Taken.{first, first_e, ways, long_after, sent_before}
 use Rattle.silence_laws.proofs.Taken as taken
@@ -135,12 +135,12 @@ module _ (doc : Doc) (near far b e : ℕ) (q : Identity) (l : LeadsUntil doc nea
 
   -- ---- the number of beats
 
-  pub lasts : (least : ℕ) → ((p : ℕ) → is_controller doc p ≡ true → (p ≡ q.process → ⊥) → TakesAtLeast doc near far e p (lease_duration doc q.process) least) → b + least + 3 * near ≤ k + s.renews.wait + 3 * far
+  pub lasts : (least : ℕ) → ((p : ℕ) → is_controller doc p ≡ true → (p ≡ q.process → ⊥) → TakesAtLeast doc near far e p (lease_duration doc q.process) least) → b + least + 3 * near ≤ k + s.renews.wait + last_renewal doc far
   lasts least takes =
       omega (
         arith,
         lead.at,
-        recent doc near far b e q l s (history doc (suc e)) (tail_all (history doc (suc e))) quiet f,
+        recent_enough doc near far b e q l s (history doc (suc e)) (tail_all (history doc (suc e))) quiet f,
         taken_late doc near far b e q l s (history doc (suc e)) (tail_all (history doc (suc e))) quiet f least (takes (w doc near far b e q l s (history doc (suc e)) (tail_all (history doc (suc e))) quiet f).who.process (w doc near far b e q l s (history doc (suc e)) (tail_all (history doc (suc e))) quiet f).role (elsewhere doc near far b e q l s (history doc (suc e)) (tail_all (history doc (suc e))) quiet f)),
         no_later,
         way.least,

@@ -1,5 +1,5 @@
 -- The write by which somebody else comes to lead after a leader has fallen silent.
-use Rattle.std.proofs.Common.{◌≡◌, ◌⊎◌, ◌<◌, ◌≤◌, ℕ, suc, ◌+◌, ◌-◌, true, ◌∷◌, Some, refl, sym, ap, ◌∙◌, subst, inr, ⊎_elim, arith}
+use Rattle.std.proofs.Common.{◌≡◌, ◌<◌, ◌≤◌, ℕ, suc, ◌+◌, ◌-◌, true, ◌∷◌, Some, refl, sym, ap, ◌∙◌, subst, inr, ⊎_elim, arith}
 use Rattle.std.proofs.lemmas.Bool.{cases_lt, cases_eq}
 use Rattle.kube_base.specs.declared.numbers.Version.{Version}
 use Rattle.kube_objects.specs.declared.call.Reply.{Reply}
@@ -31,7 +31,7 @@ use Rattle.calm_laws.proofs.Origins.{Origin, origin}
 use Rattle.calm_laws.proofs.Replies.{wrote_by}
 use Rattle.silence_laws.specs.Least.{IsLead}
 use Rattle.silence_laws.specs.Silence.{LeadsUntil, Bears}
-use Rattle.silence_laws.proofs.Led.{LedBy, LeadsAs, leads_as}
+use Rattle.calm_laws.proofs.Added.{LedBy, leads_by}
 use Rattle.silence_laws.proofs.Looking.{asks_election}
 use Rattle.silence_laws.proofs.Rival.{w}
 use Rattle.silence_laws.proofs.Setting.{restrict}
@@ -69,7 +69,7 @@ module _ (doc : Doc) (near far b e : ℕ) (q : Identity) (l : LeadsUntil doc nea
   facts = lead_facts r lead.x.actor lead.x.fact lead.version lead.leads
 
   pub led : LedBy doc lead.x lead.version lead.before
-  led = subst (λ d. LeadsAs doc lead.x d lead.before) facts.1 (leads_as doc (suc e) lead.x lead.before lead.position)
+  led = leads_by doc (suc e) lead.x lead.before lead.version lead.position facts.1
 
   own : led.q ≡ r
   own = actor_is led.q r (sym led.by ∙ facts.0)

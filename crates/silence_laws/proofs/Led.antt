@@ -4,95 +4,29 @@ use Rattle.kube_base.specs.declared.numbers.Version.{Version}
 use Rattle.kube_objects.specs.declared.call.Reply.{Reply}
 use Rattle.kube_objects.specs.declared.call.Reply.TheVariants.{Done}
 use Rattle.kube_objects.specs.declared.deed.Actor.{Actor}
-use Rattle.kube_objects.specs.declared.key.Key.{Key}
-use Rattle.kube_objects.specs.declared.object.Object.{Object}
-use Rattle.kube_objects.specs.Clocks.{local, store_wall, whole_second}
-use Rattle.kube_objects.specs.Document.{Doc, is_controller}
-use Rattle.kube_objects.specs.Elector.{Succeeds, follow_on, lead_says, leads, deadline, is_before, succeeds}
-use Rattle.kube_objects.specs.Entry.{Entry, Identity, Call, Fact, First, Event, Starts, Stops, Sends, Answers, Delivers, Expires, Leads, Ends, Crashes, Stalls, Ticks, actor_of, entry, script_entry}
+use Rattle.kube_objects.specs.Clocks.{local}
+use Rattle.kube_objects.specs.Document.{Doc}
+use Rattle.kube_objects.specs.Elector.{lead_says, leads, deadline, is_before, succeeds}
+use Rattle.kube_objects.specs.Entry.{Entry, Identity, Fact, First, Event, Starts, Stops, Sends, Answers, Delivers, Expires, Leads, Ends, Crashes, Stalls, Ticks, actor_of, entry}
 use Rattle.kube_objects.specs.Newest.{newest, when, has}
 use Rattle.kube_objects.specs.Process.{alive, is_present}
 use Rattle.kube_objects.specs.Identities.{is_by}
-use Rattle.kube_objects.specs.Stamps.{stamped}
-use Rattle.history.specs.History.{put_all, history, at_turn}
+use Rattle.history.specs.History.{history, at_turn}
 use Rattle.history.specs.Safe.{Acts}
 use Rattle.history_laws.specs.Tails.{IsTail}
 use Rattle.history_laws.proofs.Order.{entries_are_earlier}
 use Rattle.history_laws.proofs.Plainly.{upper, and_right, false_is}
-use Rattle.history_laws.proofs.Tailed.{tail_all, tail_trans, tail_of_empty, same_head, same_rest, turn_tail}
-use Rattle.history_laws.proofs.Ticks.{walk_tick}
-use Rattle.history_laws.proofs.Walk.{after_reply, stopped_at, Keeps, walk_history}
+use Rattle.history_laws.proofs.Tailed.{tail_all, tail_trans, turn_tail}
 use Rattle.lease_laws.proofs.Claims.{term_of}
 use Rattle.gap_laws.proofs.Steps.{IsSuccess, success_is}
 use Rattle.call_laws.proofs.Above.{in_head}
 use Rattle.call_laws.proofs.Placing.{in_own_beat}
 use Rattle.call_laws.proofs.Starting.{actor_is}
 use Rattle.calm_laws.proofs.Begun.{by_is}
+use Rattle.calm_laws.proofs.Added.{LedBy, leads_by}
 use Rattle.takeover_laws.proofs.Fresh.{turn_leads}
 use Rattle.takeover_laws.proofs.Standing.{controllers_first}
 use Rattle.stay_laws.specs.Stays.{HasSuccess}
-
--- a lead stands on the counted reply by which it came about
-pub record LedBy (doc : Doc) (x : Entry) (version : Version) (h : List Entry) : Type 0 where
-  pub q : Identity
-  pub by : x.actor ≡ actor_of q
-  pub role : is_controller doc q.process ≡ true
-  pub call : Call
-  pub reply : Reply
-  pub before : List Entry
-  pub is : h ≡ entry x.beat 3 q (Delivers call reply true) ∷ before
-  pub follows : follow_on doc q x.beat call.kind call.request reply h ≡ Succeeds version
-
-abbrev pub LeadsAs : Doc → Entry → Fact → List Entry → Type 0
-LeadsAs doc x (Leads version) h = LedBy doc x version h
-LeadsAs doc x _ h = Unit {0}
-
-abbrev Lead : Doc → List Entry → Type 0
-Lead doc h = (x : Entry) (before : List Entry) → IsTail (x ∷ before) h → LeadsAs doc x x.fact before
-
-more : (doc : Doc) (x : Entry) (h : List Entry) → LeadsAs doc x x.fact h → Lead doc h → Lead doc (x ∷ h)
-more doc x h new s e before (inl is) =
-    subst (λ (e : Entry). LeadsAs doc e e.fact before) (sym (same_head e x before h is))
-    (subst (λ g. LeadsAs doc x x.fact g) (sym (same_rest e x before h is)) new)
-more doc x h new s e before (inr at) = s e before at
-
-lead_keeps : (doc : Doc) → Keeps doc (λ k step h. Lead doc h)
-lead_keeps doc = record {
-  on = λ k step h s. s;
-  next = λ k s. s;
-  event = λ k w h scripted s. more doc _ h tt s;
-  starts = λ k step p h s. more doc _ h tt s;
-  crashes = λ k p i h up s. more doc _ h tt s;
-  stalls = λ k id beats i h scripted up s. more doc _ h tt s;
-  stops = λ k id i h scripted up s. more doc _ h tt s;
-  releases = λ k id i before request scripted up awake is was s. more doc _ (stopped_at k id i before) tt s;
-  answers = λ k x h at s. more doc _ h tt s;
-  ignores = λ k b h coming is s. more doc _ h tt s;
-  counts = λ k b waiting h coming is s. more doc _ h tt s;
-  follows = λ k b waiting h request coming is role follows was s. more doc _ (after_reply k b waiting h) tt s;
-  leads = λ k b waiting h version coming is role follows was s.
-      more doc (entry k 3 b.who (Leads version)) (after_reply k b waiting h) (record { q = b.who; by = refl; role = role; call = waiting; reply = b.reply; before = h; is = refl; follows = follows }) s;
-  asks = λ k b waiting h request coming is role asked was s. more doc _ (after_reply k b waiting h) tt s;
-  turns = record {
-    restarts = λ k p h s. more doc _ h tt s;
-    expires = λ k p i call h up waits late s. more doc _ h tt s;
-    ends = λ k p i at h role up is before s. more doc _ h tt s;
-    polls = λ k p i h role up awake waits s. more doc _ h tt s;
-    attempts = λ k p i h role up awake waits s. more doc _ h tt s;
-    seeks = λ k p i call h role up awake expired late s. more doc _ h tt s;
-    posts = λ k p i h role up awake none s. more doc _ h tt s;
-    ticks = λ k q h acting s. walk_tick doc k q (Lead doc) (λ t g made s. more doc _ g tt s) h s;
-  };
-}
-
-puts_lead : (doc : Doc) (xs : List (Key × Object)) (h : List Entry) → Lead doc h → Lead doc (put_all doc xs h)
-puts_lead doc [] h s = s
-puts_lead doc (x ∷ xs) h s =
-    let e = script_entry 0 0 (First x.0 (stamped (whole_second (store_wall doc 0)) x.1)) in
-    puts_lead doc xs (e ∷ h) (more doc e h tt s)
-
-pub leads_as : (doc : Doc) (k : ℕ) (x : Entry) (before : List Entry) → IsTail (x ∷ before) (history doc k) → LeadsAs doc x x.fact before
-leads_as doc k = walk_history doc (λ k step h. Lead doc h) (lead_keeps doc) (puts_lead doc doc.objects [] (λ x before at. absurd (tail_of_empty x before at))) k
 
 -- ---- from acting to the success
 
@@ -105,7 +39,7 @@ pub record HasLead (q : Identity) (h : List Entry) : Type 0 where
   pub actor : x.actor ≡ actor_of q
   pub fact : x.fact ≡ Leads version
 
-lead_in : (q : Identity) (h : List Entry) → leads q h ≡ true → HasLead q h
+pub lead_in : (q : Identity) (h : List Entry) → leads q h ≡ true → HasLead q h
 lead_in q [] is = absurd (false_is is)
 lead_in q (e ∷ h) is = cases (λ is. lead_in q h is) e.actor e.fact refl refl is
   where
@@ -137,19 +71,10 @@ pub record HasLed (doc : Doc) (q : Identity) (k : ℕ) : Type 0 where
   pub to : j ≤ k
   pub success : HasSuccess doc q 0 j
 
-pub acting_led : (doc : Doc) (q : Identity) (k : ℕ) → Acts doc q k → HasLed doc q k
-acting_led doc q k acting = from_lead (lead_in q g (turn_leads doc q q.process k (set (deadline doc q g) (and_right (is_present (alive q.process g) q.incarnation) (is_before (local doc q.process k) (deadline doc q g)) (term_of doc q k g acting.1)))))
+-- who leads in a history has had a success
+pub leads_led : (doc : Doc) (q : Identity) (k : ℕ) (g : List Entry) → IsTail g (history doc (suc k)) → leads q g ≡ true → HasLed doc q k
+leads_led doc q k g high is = from_lead (lead_in q g is)
   where
-    g : List Entry
-    g = at_turn doc q.process k
-
-    set : (o : Option ℕ) → is_before (local doc q.process k) o ≡ true → has o ≡ true
-    set None is = absurd (false_is is)
-    set (Some at) is = refl
-
-    high : IsTail g (history doc (suc k))
-    high = turn_tail doc q.process k (omega (arith, controllers_first doc q.process acting.0))
-
     from_lead : HasLead q g → HasLed doc q k
     from_lead s = record {
       j = s.x.beat;
@@ -170,7 +95,7 @@ acting_led doc q k acting = from_lead (lead_in q g (turn_leads doc q q.process k
         at = tail_trans (s.x ∷ s.before) g (history doc (suc k)) s.position high
 
         led : LedBy doc s.x s.version s.before
-        led = subst (λ d. LeadsAs doc s.x d s.before) s.fact (leads_as doc (suc k) s.x s.before at)
+        led = leads_by doc (suc k) s.x s.before s.version at s.fact
 
         won : IsSuccess led.call.request led.reply s.version
         won = success_is doc s.x.beat s.before led.q led.call.kind led.call.request led.reply s.version led.follows
@@ -186,3 +111,17 @@ acting_led doc q k acting = from_lead (lead_in q g (turn_leads doc q q.process k
 
         upto : s.x.beat ≤ k
         upto = ⊎_elim (λ lt. omega (arith, lt)) (λ first. omega (arith, first.0)) (entries_are_earlier doc (suc k) s.x (in_head s.x s.before (history doc (suc k)) at))
+
+-- and so has who acts
+pub acting_led : (doc : Doc) (q : Identity) (k : ℕ) → Acts doc q k → HasLed doc q k
+acting_led doc q k acting = leads_led doc q k g high (turn_leads doc q q.process k (set (deadline doc q g) (and_right (is_present (alive q.process g) q.incarnation) (is_before (local doc q.process k) (deadline doc q g)) (term_of doc q k g acting.1))))
+  where
+    g : List Entry
+    g = at_turn doc q.process k
+
+    set : (o : Option ℕ) → is_before (local doc q.process k) o ≡ true → has o ≡ true
+    set None is = absurd (false_is is)
+    set (Some at) is = refl
+
+    high : IsTail g (history doc (suc k))
+    high = turn_tail doc q.process k (omega (arith, controllers_first doc q.process acting.0))

@@ -2,6 +2,7 @@ pub mod Quiet
 pub mod Kept
 pub mod Showing
 pub mod Looking
+pub mod Seen
 pub mod Ways
 pub mod Waiting
 pub mod Stepping

@@ -84,11 +84,11 @@ accepted_update key given l h v is done = record {
     by_stored (Some x) done = by_test (x.version.0 == given.0) x.version done
 
 -- a reply that shows a version is that of a Get that found it, or of a write that was accepted
-data Telling (r : Request) (reply : Reply) (s : Shown) (h : List Entry) : Type 0 where
+pub data Telling (r : Request) (reply : Reply) (s : Shown) (h : List Entry) : Type 0 where
   ByGet : (get : r ≡ Get election) (found : reply ≡ Found s.0 s.1) → Telling r reply s h
   ByWrite : (accepted : IsAccepted r h s.0) → Telling r reply s h
 
-telling : (r : Request) (reply : Reply) (s : Shown) (h : List Entry) → key_of r ≡ election → reply ≡ answer r h → told r reply ≡ Some s → Telling r reply s h
+pub telling : (r : Request) (reply : Reply) (s : Shown) (h : List Entry) → key_of r ≡ election → reply ≡ answer r h → told r reply ≡ Some s → Telling r reply s h
 telling (Get key) reply s h is answered tells = by_reply reply tells refl
   where
     by_reply : (x : Reply) → found_shows x ≡ Some s → reply ≡ x → Telling (Get key) reply s h

@@ -1,23 +1,21 @@
 -- What a leader that falls silent wrote by calls of before: its own record.
-use Rattle.std.proofs.Common.{◌≡◌, ◌⊎◌, ◌<◌, ◌≤◌, ℕ, suc, ◌-◌, ◌==◌, ◌&&◌, Bool, true, false, List, [], ◌∷◌, length, Option, Some, None, IfSome, refl, sym, ap, ◌∙◌, subst, inl, inr, ⊎_elim, arith}
+use Rattle.std.proofs.Common.{◌≡◌, ◌⊎◌, ◌<◌, ◌≤◌, ℕ, suc, ◌-◌, ◌&&◌, Bool, true, false, List, [], ◌∷◌, length, Option, Some, None, IfSome, refl, sym, ap, ◌∙◌, subst, inl, inr, ⊎_elim, arith}
 use Rattle.std.proofs.lemmas.Bool.{cases_lt}
 use Rattle.kube_objects.specs.declared.call.Reply.{Reply}
 use Rattle.kube_objects.specs.declared.call.Reply.TheVariants.{Done, Found, Absent, Exists, Conflict, Unchanged}
 use Rattle.kube_objects.specs.declared.call.Request.{Request}
 use Rattle.kube_objects.specs.declared.call.Request.TheVariants.{Get, Create, Update, PostStatus}
-use Rattle.kube_objects.specs.declared.deed.Actor.{Actor}
-use Rattle.kube_objects.specs.declared.deed.Actor.TheVariants as actors
 use Rattle.kube_objects.specs.declared.lease.Lease.{Lease}
 use Rattle.kube_objects.specs.declared.object.Object.{Object}
 use Rattle.kube_objects.specs.declared.object.Object.TheVariants as object
 use Rattle.kube_objects.specs.Answers.{answer, if_done, written}
 use Rattle.kube_objects.specs.Document.{Doc, processes, lease_seconds}
-use Rattle.kube_objects.specs.Entry.{Entry, Identity, Call, Fact, First, Event, Starts, Stops, Sends, Answers, Delivers, Expires, Leads, Ends, Crashes, Stalls, Ticks, actor_of}
+use Rattle.kube_objects.specs.Entry.{Entry, Identity, Call, actor_of}
 use Rattle.kube_objects.specs.Identities.{identity_of, holder_of, is_by, of_process}
 use Rattle.kube_objects.specs.Keys.{key_eq}
 use Rattle.kube_objects.specs.Newest.{added, when, has, join}
 use Rattle.kube_objects.specs.Process.{is_stop, stops}
-use Rattle.kube_objects.specs.Stored.{Held, election, stored, last_write, holds, request_write, at_key, write_of, next_version}
+use Rattle.kube_objects.specs.Stored.{key_of, Held, election, stored, last_write, holds, request_write, at_key, write_of, next_version}
 use Rattle.kube_objects.specs.Wire.{request_arrival}
 use Rattle.history.specs.History.{history}
 use Rattle.history.specs.Premise.{greatest_below}
@@ -34,37 +32,17 @@ use Rattle.call_laws.proofs.Placing.{in_own_beat, messages_travel}
 use Rattle.call_laws.proofs.Starting.{actor_is}
 use Rattle.takeover_laws.specs.Calm.{IsSteady, WritesElection}
 use Rattle.takeover_laws.proofs.Rounds.{sent_is}
+use Rattle.takeover_laws.proofs.Writers.{by_process}
 use Rattle.calm_laws.proofs.Begun.{by_is}
-use Rattle.stay_laws.proofs.Won.{Won, is_won}
+use Rattle.stay_laws.proofs.Won.{Won, is_won, stop_is}
 use Rattle.silence_laws.specs.Silence.{LeadsUntil, Bears}
 use Rattle.silence_laws.proofs.Setting.{own_process}
 use Rattle.silence_laws.proofs.Waiting.{beats_rise}
 
 -- ---- no stops
 
--- which entries are stops
-stop_is : (d : Fact) → is_stop d ≡ true → d ≡ Stops
-stop_is Stops is = refl
-stop_is (First key object) is = absurd (false_is is)
-stop_is (Event w version) is = absurd (false_is is)
-stop_is (Sends call arrives) is = absurd (false_is is)
-stop_is (Answers call reply comes wrote) is = absurd (false_is is)
-stop_is (Delivers call reply counted) is = absurd (false_is is)
-stop_is (Expires call) is = absurd (false_is is)
-stop_is (Ticks t) is = absurd (false_is is)
-stop_is Starts is = absurd (false_is is)
-stop_is Crashes is = absurd (false_is is)
-stop_is (Stalls beats) is = absurd (false_is is)
-stop_is Ends is = absurd (false_is is)
-stop_is (Leads version) is = absurd (false_is is)
-
--- an entry of an identity is one of its process
-by_process : (q : Identity) (who : Actor) → is_by q who ≡ true → has (of_process q.process who) ≡ true
-by_process q actors.Script is = absurd (false_is is)
-by_process q (actors.Proc id i) is = ap (λ b. has (when b i)) (and_left (id.0 == q.process) (i == q.incarnation) is)
-
 -- a process that is steady from beat 0 on isn't stopped
-never_stopped : (doc : Doc) (near far e : ℕ) (r : Identity) → IsSteady doc near far 0 e r.process → (h : List Entry) → IsTail h (history doc (suc e)) → stops r h ≡ 0
+pub never_stopped : (doc : Doc) (near far e : ℕ) (r : Identity) → IsSteady doc near far 0 e r.process → (h : List Entry) → IsTail h (history doc (suc e)) → stops r h ≡ 0
 never_stopped doc near far e r steady [] at = refl
 never_stopped doc near far e r steady (x ∷ T) at =
     by_stop (is_stop x.fact && is_by r x.actor) refl ∙ never_stopped doc near far e r steady T (tail_trans T (x ∷ T) (history doc (suc e)) (inr (tail_all T)) at)
@@ -76,35 +54,27 @@ never_stopped doc near far e r steady (x ∷ T) at =
 -- ---- who writes
 
 -- what a request that is accepted leaves at the election Lease
-abbrev Leased : Request → Option (Option Object) → Type 0
+abbrev pub Leased : Request → Option (Option Object) → Type 0
 Leased (Create key lease) o = o ≡ Some (Some (object.Lease lease))
 Leased (Update key given lease) o = o ≡ Some (Some (object.Lease lease))
 Leased _ o = ⊥
 
-when_there : (t : Bool) (y : Object) → has (when t (Some y)) ≡ true → when t (Some y) ≡ Some (Some y)
+pub when_there : (t : Bool) (y : Object) → has (when t (Some y)) ≡ true → when t (Some y) ≡ Some (Some y)
 when_there true y is = refl
 when_there false y is = absurd (false_is is)
 
-leased : (r : Request) (h : List Entry) → has (at_key election (request_write r (written r h))) ≡ true → Leased r (at_key election (request_write r (written r h)))
+leased_by : (r : Request) (lease : Lease) (reply : Reply) → has (at_key election (request_write r (if_done reply (object.Lease lease)))) ≡ true → at_key election (request_write r (if_done reply (object.Lease lease))) ≡ Some (Some (object.Lease lease))
+leased_by r lease (Done version) is = when_there (key_eq (key_of r) election) (object.Lease lease) is
+leased_by r lease Absent is = absurd (false_is is)
+leased_by r lease (Found version l) is = absurd (false_is is)
+leased_by r lease Exists is = absurd (false_is is)
+leased_by r lease (Conflict version) is = absurd (false_is is)
+leased_by r lease Unchanged is = absurd (false_is is)
+
+pub leased : (r : Request) (h : List Entry) → has (at_key election (request_write r (written r h))) ≡ true → Leased r (at_key election (request_write r (written r h)))
 leased (Get key) h is = absurd (false_is is)
-leased (Create key lease) h is = by_reply (answer (Create key lease) h) is
-  where
-    by_reply : (reply : Reply) → has (at_key election (request_write (Create key lease) (if_done reply (object.Lease lease)))) ≡ true → at_key election (request_write (Create key lease) (if_done reply (object.Lease lease))) ≡ Some (Some (object.Lease lease))
-    by_reply (Done version) is = when_there (key_eq key election) (object.Lease lease) is
-    by_reply Absent is = absurd (false_is is)
-    by_reply (Found version l) is = absurd (false_is is)
-    by_reply Exists is = absurd (false_is is)
-    by_reply (Conflict version) is = absurd (false_is is)
-    by_reply Unchanged is = absurd (false_is is)
-leased (Update key given lease) h is = by_reply (answer (Update key given lease) h) is
-  where
-    by_reply : (reply : Reply) → has (at_key election (request_write (Update key given lease) (if_done reply (object.Lease lease)))) ≡ true → at_key election (request_write (Update key given lease) (if_done reply (object.Lease lease))) ≡ Some (Some (object.Lease lease))
-    by_reply (Done version) is = when_there (key_eq key election) (object.Lease lease) is
-    by_reply Absent is = absurd (false_is is)
-    by_reply (Found version l) is = absurd (false_is is)
-    by_reply Exists is = absurd (false_is is)
-    by_reply (Conflict version) is = absurd (false_is is)
-    by_reply Unchanged is = absurd (false_is is)
+leased (Create key lease) h is = leased_by (Create key lease) lease (answer (Create key lease) h) is
+leased (Update key given lease) h is = leased_by (Update key given lease) lease (answer (Update key given lease) h) is
 leased (PostStatus name status at) h is = by_written (written (PostStatus name status at) h) is
   where
     by_written : (o : Option Object) → has (at_key election (request_write (PostStatus name status at) o)) ≡ true → ⊥

@@ -1,20 +1,21 @@
 -- A leader's last record before it fell silent isn't old: else it had renewed it.
-use Rattle.std.proofs.Common.{◌≡◌, ◌⊎◌, ◌<◌, ◌≤◌, ℕ, suc, ◌+◌, ◌-◌, ◌*◌, not, true, List, ◌∷◌, Some, refl, sym, ap, ◌∙◌, subst, inl, inr, ⊎_elim, arith}
+use Rattle.std.proofs.Common.{◌≡◌, ◌⊎◌, ◌<◌, ◌≤◌, ℕ, zero, suc, ◌+◌, ◌-◌, ◌*◌, not, Bool, true, false, cond, List, ◌∷◌, Some, refl, sym, ap, ◌∙◌, subst, inl, inr, ⊎_elim, arith}
 use Rattle.std.proofs.lemmas.Bool.{cases_lt}
 use Rattle.kube_base.specs.declared.numbers.Version.{Version}
 use Rattle.kube_objects.specs.declared.call.Reply.{Reply}
 use Rattle.kube_objects.specs.declared.call.Reply.TheVariants.{Done}
 use Rattle.kube_objects.specs.declared.deed.Actor.{Actor}
 use Rattle.kube_objects.specs.declared.deed.Actor.TheVariants as actors
-use Rattle.kube_objects.specs.Answers.{written}
+use Rattle.kube_objects.specs.Answers.{answer, written}
 use Rattle.kube_objects.specs.Clocks.{local}
-use Rattle.kube_objects.specs.Document.{Doc}
-use Rattle.kube_objects.specs.Elector.{succeeds, is_before, deadline, in_term}
+use Rattle.kube_objects.specs.Document.{Doc, retry_period}
+use Rattle.kube_objects.specs.Elector.{succeeds, leads, follow_on, is_before, deadline, in_term}
 use Rattle.kube_objects.specs.Entry.{Entry, Identity, Fact, Stops, Answers, Delivers, actor_of, entry}
 use Rattle.kube_objects.specs.Identities.{identity_of, of_process}
 use Rattle.kube_objects.specs.Newest.{has}
 use Rattle.kube_objects.specs.Pauses.{is_paused}
 use Rattle.kube_objects.specs.Process.{alive, is_present, open_as}
+use Rattle.kube_objects.specs.Turns.{react}
 use Rattle.kube_objects.specs.Wire.{back_of}
 use Rattle.history.specs.History.{history, at_turn}
 use Rattle.history.specs.Safe.{Acts}
@@ -26,18 +27,20 @@ use Rattle.call_laws.proofs.Once.{answers_differ}
 use Rattle.call_laws.proofs.Placing.{in_own_beat}
 use Rattle.call_laws.proofs.Starting.{actor_is}
 use Rattle.takeover_laws.specs.Calm.{IsInTime}
-use Rattle.takeover_laws.specs.Rounds.{HasCounted}
+use Rattle.takeover_laws.specs.Rounds.{IsRound}
+use Rattle.takeover_laws.proofs.Rounds.{rounds_in}
 use Rattle.takeover_laws.proofs.Standing.{controllers_first}
-use Rattle.takeover_laws.proofs.Writers.{replies_count}
+use Rattle.takeover_laws.proofs.Writers.{Sending, sending_of, IsReacted, reacted, follow_adds}
 use Rattle.calm_laws.proofs.Life.{up_between}
 use Rattle.calm_laws.proofs.Origins.{Origin, origin}
 use Rattle.stay_laws.specs.Stays.{HasSuccess}
 use Rattle.stay_laws.proofs.Won.{Won, is_won}
+use Rattle.silence_laws.specs.Least.{last_renewal}
 use Rattle.silence_laws.specs.Silence.{LeadsUntil, Bears}
 use Rattle.silence_laws.proofs.Chain.{opens_of}
 use Rattle.silence_laws.proofs.Kept.{Kept, kept_of}
 use Rattle.silence_laws.proofs.Owning.{IsQuietIn, IsOwn, IsForeign}
-use Rattle.silence_laws.proofs.Renewed.{done_of, Rewritten, renewed_by}
+use Rattle.silence_laws.proofs.Renewed.{done_of, Rewritten, renewed_by, renewed_at_once}
 use Rattle.silence_laws.proofs.Renewed as renewed
 use Rattle.silence_laws.proofs.Setting.{times_before, it_stays, its_time}
 use Rattle.silence_laws.proofs.Taken.{a, first, ways, first_writes, own, long_after}
@@ -116,7 +119,15 @@ module _ (doc : Doc) (near far b e : ℕ) (q : Identity) (l : LeadsUntil doc nea
       never lt = omega (arith, lt)
 
   -- where there was time, its reply came and it renewed the record
-  module _ (old : mine.y.beat + s.renews.wait + 3 * far < b) where
+  module _ (old : mine.y.beat + s.renews.wait + far < b) where
+    -- it waits for a beat or more
+    some_wait : 1 ≤ s.renews.wait
+    some_wait = by_wait s.renews.wait s.renews.wait_is
+      where
+        by_wait : (j : ℕ) → retry_period doc q.process ≤ j * s.renews.slow → 1 ≤ j
+        by_wait zero le = absurd (omega (arith, le, s.waits q.process l.role))
+        by_wait (suc j) le = omega arith
+
     asked_a : IsTail (w.f ∷ w.low) (history doc (suc (b - 1)))
     asked_a =
         tail_trans (w.f ∷ w.low) (history doc (suc k.z.beat)) (history doc (suc (b - 1))) (tail_trans (w.f ∷ w.low) (k.z ∷ k.before) (history doc (suc k.z.beat)) (inr w.asked) (in_own_beat doc (suc e) k.z k.before z_e))
@@ -129,10 +140,10 @@ module _ (doc : Doc) (near far b e : ℕ) (q : Identity) (l : LeadsUntil doc nea
     way = request_way doc near far (b - 1) q l.role l.steady w.f w.low w.call k.z.beat asked_a f_actor w.f_fact opens
 
     abbrev n : ℕ
-    n = w.f.beat + 2 * far
+    n = k.z.beat + far
 
     n_soon : n + 1 ≤ b - 1
-    n_soon = omega (arith, way.least, old, k.beat, s.one, s.ways)
+    n_soon = omega (arith, old, k.beat, some_wait)
 
     my_time : IsInTime doc far 0 (b - 1) q.process
     my_time = times_before doc near far b e q l s q.process l.role l.steady
@@ -148,22 +159,54 @@ module _ (doc : Doc) (near far b e : ℕ) (q : Identity) (l : LeadsUntil doc nea
         turn : List Entry
         turn = at_turn doc q.process (b - 1)
 
-    counted : HasCounted doc q w.call (w.f.beat + 2 * near) (w.f.beat + 2 * far)
-    counted =
-        replies_count doc near far 0 (b - 1) n q l.role l.steady my_time s.one (omega (arith, n_soon)) w.f w.low w.call (Some k.z.beat)
-        (tail_trans (w.f ∷ w.low) (history doc (suc w.f.beat)) (history doc (suc n)) (in_own_beat doc (suc e) w.f w.low asked_e) (later_tail doc (suc w.f.beat) (suc n) (omega arith))) f_actor w.f_fact (omega arith) (omega arith) up
+    asked_n : IsTail (w.f ∷ w.low) (history doc (suc n))
+    asked_n = tail_trans (w.f ∷ w.low) (history doc (suc w.f.beat)) (history doc (suc n)) (in_own_beat doc (suc e) w.f w.low asked_e) (later_tail doc (suc w.f.beat) (suc n) (omega (arith, way.least)))
+
+    -- its reply counts one way after the write
+    sending : (t : Sending doc 0 n q w.call (Some k.z.beat)) × (t.f ≡ w.f) × (t.before ≡ w.low)
+    sending = sending_of doc near far 0 (b - 1) n q l.role l.steady my_time (omega (arith, n_soon)) s.one w.call (Some k.z.beat) w.f w.low asked_n f_actor w.f_fact (omega arith)
+
+    abbrev sent : Sending doc 0 n q w.call (Some k.z.beat)
+    sent = sending.0
+
+    sent_beat : sent.f.beat ≡ w.f.beat
+    sent_beat = ap (λ (x : Entry). x.beat) sending.1
+
+    round : IsRound doc near far q w.call (Some k.z.beat) sent.f.beat
+    round =
+        rounds_in doc near far 0 (b - 1) q l.steady s.one (suc n) sent.f sent.before w.call (Some k.z.beat) sent.position sent.actor sent.fact (omega (arith, sent.step)) sent.from
+        (omega (arith, sent_beat, way.least, n_soon)) (λ at is most. omega (arith, some_is k.z.beat at is, n_soon))
+
+    soon : round.comes ≤ n
+    soon = omega (arith, round.comes_most, some_is k.z.beat round.at round.arrives_is)
+
+    told : IsReacted doc near far q w.call (Some k.z.beat) sent.f.beat
+    told =
+        reacted doc near far 0 (b - 1) n q l.role l.steady my_time (omega (arith, n_soon)) s.one w.call (Some k.z.beat) sent round soon
+        (λ h below above. up h (subst (λ g. IsTail g h) sending.2 below) above)
 
     abbrev y : ℕ
-    y = counted.at
+    y = told.round.comes
+
+    abbrev reply : Reply
+    reply = answer w.call.request told.round.before
+
+    y_n : y ≤ n
+    y_n = omega (arith, told.round.comes_most, some_is k.z.beat told.round.at told.round.arrives_is)
 
     y_a : y ≤ b - 1
-    y_a = omega (arith, counted.most, n_soon)
+    y_a = omega (arith, y_n, n_soon)
 
     y_e : y ≤ e
     y_e = omega (arith, y_a, l.within)
 
     abbrev heard : Entry
-    heard = entry y 3 q (Delivers w.call counted.reply true)
+    heard = entry y 3 q (Delivers w.call reply true)
+
+    heard_at : IsTail (heard ∷ told.before) (history doc (suc y))
+    heard_at =
+        tail_trans (heard ∷ told.before) (react y q (leads q (heard ∷ told.before)) (follow_on doc q y w.call.kind w.call.request reply (heard ∷ told.before)) (heard ∷ told.before)) (history doc (suc y))
+        (follow_adds y q (leads q (heard ∷ told.before)) (follow_on doc q y w.call.kind w.call.request reply (heard ∷ told.before)) (heard ∷ told.before)) told.position
 
     into : (h : List Entry) → IsTail h (history doc (suc y)) → IsTail h (history doc (suc e))
     into h high = tail_trans h (history doc (suc y)) (history doc (suc e)) high (later_tail doc (suc y) (suc e) (omega (arith, y_e)))
@@ -176,16 +219,16 @@ module _ (doc : Doc) (near far b e : ℕ) (q : Identity) (l : LeadsUntil doc nea
         (ap (λ d. back_of k.z.actor d) w.fact ∙ ap (λ who. back_of who (Answers w.call w.reply w.comes w.wrote)) w.actor)
         (ap (λ d. back_of o.e.actor d) o.fact ∙ ap (λ who. back_of who (Answers w.call reply (Some y) (written w.call.request o.low))) o.actor) whose refl
 
-    below : IsTail counted.before (history doc (suc e))
-    below = into counted.before (tail_trans counted.before (heard ∷ counted.before) (history doc (suc y)) (inr (tail_all counted.before)) counted.position)
+    below : IsTail told.before (history doc (suc e))
+    below = into told.before (tail_trans told.before (heard ∷ told.before) (history doc (suc y)) (inr (tail_all told.before)) heard_at)
 
-    o : Origin doc q w.call counted.reply counted.before y
-    o = origin doc (suc y) q heard counted.before w.call counted.reply counted.position refl refl
+    o : Origin doc q w.call reply told.before y
+    o = origin doc (suc y) q heard told.before w.call reply heard_at refl refl
 
     one : k.z ∷ k.before ≡ o.e ∷ o.low
-    one = same_answer counted.reply counted.before o below
+    one = same_answer reply told.before o below
 
-    reply_is : counted.reply ≡ w.reply
+    reply_is : reply ≡ w.reply
     reply_is = sym (ap (reply_of w.reply) o.fact) ∙ sym (ap (λ (x : Entry). reply_of w.reply x.fact) (same_head k.z o.e k.before o.low one)) ∙ ap (reply_of w.reply) w.fact
 
     done : (version : Version) × (w.reply ≡ Done version)
@@ -195,8 +238,8 @@ module _ (doc : Doc) (near far b e : ℕ) (q : Identity) (l : LeadsUntil doc nea
     hs = record {
       call = w.call;
       version = done.0;
-      before = counted.before;
-      position = subst (λ reply. IsTail (entry y 3 q (Delivers w.call reply true) ∷ counted.before) (history doc (suc y))) (reply_is ∙ done.1) counted.position;
+      before = told.before;
+      position = subst (λ reply. IsTail (entry y 3 q (Delivers w.call reply true) ∷ told.before) (history doc (suc y))) (reply_is ∙ done.1) heard_at;
       since = omega arith;
       success = sym (ap (succeeds w.call.request) done.1) ∙ w.so;
     }
@@ -205,24 +248,38 @@ module _ (doc : Doc) (near far b e : ℕ) (q : Identity) (l : LeadsUntil doc nea
     given =
         subst (λ (x : Entry). IsWay near far x.beat y) (sym (same_head k.z o.e k.before o.low one))
         (reply_way doc near far (b - 1) q l.role l.steady o.e o.low
-        (tail_trans (o.e ∷ o.low) (history doc (suc y)) (history doc (suc (b - 1))) (tail_trans (o.e ∷ o.low) (heard ∷ counted.before) (history doc (suc y)) (inr o.answered) counted.position) (later_tail doc (suc y) (suc (b - 1)) (omega (arith, y_a))))
+        (tail_trans (o.e ∷ o.low) (history doc (suc y)) (history doc (suc (b - 1))) (tail_trans (o.e ∷ o.low) (heard ∷ told.before) (history doc (suc y)) (inr o.answered) heard_at) (later_tail doc (suc y) (suc (b - 1)) (omega (arith, y_a))))
         o.step y y_a o.comes_is)
 
-    again : Rewritten doc near far b e q l s y y_a hs (y + s.renews.wait + 3 * far)
-    again = renewed_by doc near far b e q l s y y_a hs (omega (arith, given.most, old, k.beat))
-
-    again_since : IsTail (k.z ∷ k.before) again.before
-    again_since = subst (λ g. IsTail g again.before) (sym (same_answer (Done done.0) counted.before (renewed.o doc near far b e q l s y y_a hs) below)) again.since
-
-    sooner : again.z.beat < f.x.beat
-    sooner = omega (arith, again.soon, given.most, k.beat, long_after doc near far b e q l s H H_e quiet f, taken.sent_before doc near far b e q l s H H_e quiet f, s.ways)
-
-    pub never_old : ⊥
-    never_old = false_is (sym (ap has (k.alone again.z again.before again_since there)) ∙ again.writes)
+    -- another write of its own soon after isn't there
+    never_again : (soon : ℕ) → soon ≤ y + s.renews.wait + 3 * far → Rewritten doc near far b e q l s y y_a hs soon → ⊥
+    never_again soon few again = false_is (sym (ap has (k.alone again.z again.before again_since there)) ∙ again.writes)
       where
+        again_since : IsTail (k.z ∷ k.before) again.before
+        again_since = subst (λ g. IsTail g again.before) (sym (same_answer (Done done.0) told.before (renewed.o doc near far b e q l s y y_a hs) below)) again.since
+
+        f_e : IsTail (f.x ∷ f.before) (history doc (suc e))
+        f_e = tail_trans (f.x ∷ f.before) H (history doc (suc e)) f.position H_e
+
+        sooner : again.z.beat < f.x.beat
+        sooner = omega (arith, again.soon, few, given.most, k.beat, long_after doc near far b e q l s H H_e quiet f, taken.sent_before doc near far b e q l s H H_e quiet f, s.ways)
+
         there : IsTail (again.z ∷ again.before) f.before
-        there = tail_trans (again.z ∷ again.before) (history doc (suc again.z.beat)) f.before again.position (history_below doc again.z.beat e f.x f.before (tail_trans (f.x ∷ f.before) H (history doc (suc e)) f.position H_e) sooner (omega (arith, sooner, beat_before doc e f.x f.before (tail_trans (f.x ∷ f.before) H (history doc (suc e)) f.position H_e))))
+        there = tail_trans (again.z ∷ again.before) (history doc (suc again.z.beat)) f.before again.position (history_below doc again.z.beat e f.x f.before f_e sooner (omega (arith, sooner, beat_before doc e f.x f.before f_e)))
+
+    never_old : mine.y.beat + s.renews.wait + 3 * far < b → ⊥
+    never_old older = never_again (y + s.renews.wait + 3 * far) (omega arith) (renewed_by doc near far b e q l s y y_a hs (omega (arith, given.most, older, k.beat)))
+
+    never_quick : doc.settings.fast_renew ≡ true → ⊥
+    never_quick quick = never_again (y + s.renews.wait + far) (omega arith) (renewed_at_once doc near far b e q l s y y_a hs quick (omega (arith, given.most, old, k.beat)))
 
   -- so it is recent
   pub recent : b ≤ mine.y.beat + s.renews.wait + 3 * far
-  recent = ⊎_elim (λ lt. absurd (never_old lt)) (λ le. le) (cases_lt (mine.y.beat + s.renews.wait + 3 * far) b)
+  recent = ⊎_elim (λ lt. absurd (never_old (omega (arith, lt)) lt)) (λ le. le) (cases_lt (mine.y.beat + s.renews.wait + 3 * far) b)
+
+  pub recent_enough : b ≤ mine.y.beat + s.renews.wait + last_renewal doc far
+  recent_enough = by_way doc.settings.fast_renew refl
+    where
+      by_way : (t : Bool) → doc.settings.fast_renew ≡ t → b ≤ mine.y.beat + s.renews.wait + cond t far (3 * far)
+      by_way true quick = ⊎_elim (λ lt. absurd (never_quick lt quick)) (λ le. le) (cases_lt (mine.y.beat + s.renews.wait + far) b)
+      by_way false slow = recent

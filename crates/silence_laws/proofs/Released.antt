@@ -1,5 +1,5 @@
 -- After a leader's release nobody comes to lead before four messages have travelled.
-use Rattle.std.proofs.Common.{◌≡◌, ◌⊎◌, ◌<◌, ◌≤◌, ℕ, suc, ◌+◌, ◌-◌, ◌*◌, ◌==◌, Bool, true, false, List, [], ◌∷◌, Option, Some, None, refl, sym, ap, ◌∙◌, subst, inl, inr, ⊎_elim, arith}
+use Rattle.std.proofs.Common.{◌≡◌, ◌⊎◌, ◌<◌, ◌≤◌, ℕ, suc, ◌+◌, ◌*◌, ◌==◌, Bool, true, false, List, [], ◌∷◌, Option, Some, None, refl, sym, ap, ◌∙◌, subst, inl, inr, ⊎_elim, arith}
 use Rattle.std.proofs.lemmas.Bool.{eq-eqb, eqb-true}
 use Rattle.kube_objects.specs.declared.call.Reply.{Reply}
 use Rattle.kube_objects.specs.declared.call.Reply.TheVariants.{Done}
@@ -42,24 +42,24 @@ use Rattle.silence_laws.specs.Silence.{LeadsUntil, Bears, IsStopped, IsReleased}
 use Rattle.silence_laws.proofs.Chain.{opens_of}
 use Rattle.silence_laws.proofs.Kept.{Kept, kept_of, IsFound, found_kept, not_below}
 use Rattle.silence_laws.proofs.Leading as leading
-use Rattle.silence_laws.proofs.Led.{LedBy}
+use Rattle.calm_laws.proofs.Added.{LedBy, StoppedUp, stops_up}
 use Rattle.silence_laws.proofs.Looking.{asks_election}
 use Rattle.silence_laws.proofs.Owning.{IsQuietIn, IsForeign, own_or_foreign}
 use Rattle.silence_laws.proofs.Recent.{recent}
 use Rattle.silence_laws.proofs.Rival.{expired_by, IsUpdate, accepted_update, IsFree, get_free}
 use Rattle.silence_laws.proofs.Setting.{own_process}
-use Rattle.silence_laws.proofs.Stopping.{StoppedUp, stops_up, stays_down}
+use Rattle.silence_laws.proofs.Stopping.{stays_down}
 use Rattle.silence_laws.proofs.Taken.{first, first_e, ways, long_after, sent_before}
 use Rattle.silence_laws.proofs.Taken as taken
 use Rattle.silence_laws.proofs.Waiting.{history_below, beats_rise, never_expires, counted_after}
 use Rattle.silence_laws.proofs.Ways.{IsWay, Went, went, sent_at, request_way, reply_way, beat_before}
 
-abbrev call_or : Call → Fact → Call
+abbrev pub call_or : Call → Fact → Call
 call_or c (Sends d arrives) = d
 call_or c _ = c
 
 -- of two entries right above one position
-one_above : (x y : Entry) (T U h : List Entry) → IsTail (x ∷ T) h → IsTail (y ∷ U) h → T ≡ U → x ∷ T ≡ y ∷ U
+pub one_above : (x y : Entry) (T U h : List Entry) → IsTail (x ∷ T) h → IsTail (y ∷ U) h → T ≡ U → x ∷ T ≡ y ∷ U
 one_above x y T U h at_x at_y same = ⊎_elim under over (tails_meet (x ∷ T) (y ∷ U) h at_x at_y)
   where
     under : IsTail (x ∷ T) (y ∷ U) → x ∷ T ≡ y ∷ U
@@ -70,7 +70,7 @@ one_above x y T U h at_x at_y same = ⊎_elim under over (tails_meet (x ∷ T) (
     over (inl is) = sym is
     over (inr low) = absurd (not_below y U (subst (IsTail (y ∷ U)) same low))
 
-process_is : (p : ℕ) (q : Identity) → has (of_process p (actor_of q)) ≡ true → q.process ≡ p
+pub process_is : (p : ℕ) (q : Identity) → has (of_process p (actor_of q)) ≡ true → q.process ≡ p
 process_is p q own = by_test (q.process == p) refl own
   where
     by_test : (t : Bool) → (q.process == p) ≡ t → has (when t q.incarnation) ≡ true → q.process ≡ p
@@ -78,15 +78,15 @@ process_is p q own = by_test (q.process == p) refl own
     by_test false is own = absurd (false_is own)
 
 -- the facts of a write from a beat on
-record IsAnswering (b : ℕ) (d : Fact) : Type 0 where
-  call : Call
-  reply : Reply
-  comes : Option ℕ
-  wrote : Option Object
-  fact : d ≡ Answers call reply comes wrote
-  since : b ≤ call.sent
+pub record IsAnswering (b : ℕ) (d : Fact) : Type 0 where
+  pub call : Call
+  pub reply : Reply
+  pub comes : Option ℕ
+  pub wrote : Option Object
+  pub fact : d ≡ Answers call reply comes wrote
+  pub since : b ≤ call.sent
 
-answering : (b : ℕ) (d : Fact) → WritesElection b d → IsAnswering b d
+pub answering : (b : ℕ) (d : Fact) → WritesElection b d → IsAnswering b d
 answering b (Answers call reply comes wrote) is = record { call = call; reply = reply; comes = comes; wrote = wrote; fact = refl; since = is.0 }
 answering b (First key object) is = absurd is
 answering b (Event w version) is = absurd is
@@ -156,19 +156,16 @@ module _ (doc : Doc) (near far b e : ℕ) (q : Identity) (l : LeadsUntil doc nea
   module _ (stop : IsStopped doc b e q) (rel : IsReleased doc near far b e q) where
     -- ---- the stop and the release
 
-    abbrev S : Entry
-    S = entry b 1 q Stops
-
     b_e : IsTail (history doc (suc b)) (history doc (suc e))
     b_e = later_tail doc (suc b) (suc e) (omega (arith, l.within))
 
-    abbrev U : List Entry
+    abbrev pub U : List Entry
     U = (place_of (entry b 1 q Stops) (history doc (suc b)) stop.stop).before
 
     S_e : IsTail (entry b 1 q Stops ∷ U) (history doc (suc e))
     S_e = tail_trans (entry b 1 q Stops ∷ U) (history doc (suc b)) (history doc (suc e)) (place_of (entry b 1 q Stops) (history doc (suc b)) stop.stop).position b_e
 
-    mine : (x : Entry) (who : Identity) → x.actor ≡ actor_of who → who.process ≡ q.process → has (of_process q.process x.actor) ≡ true
+    pub mine : (x : Entry) (who : Identity) → x.actor ≡ actor_of who → who.process ≡ q.process → has (of_process q.process x.actor) ≡ true
     mine x who by same = subst (λ p. has (of_process p x.actor) ≡ true) same (own_process who x.actor by)
 
     -- its process is down from then on
@@ -234,50 +231,43 @@ module _ (doc : Doc) (near far b e : ℕ) (q : Identity) (l : LeadsUntil doc nea
         by_free (inl stopped) =
             stopped.is ∙ one_stop (entry x.beat 1 made.q Stops) stopped.before made.q (subst (λ h. IsTail h (history doc (suc e))) stopped.is T_e) late refl refl whose
 
-    abbrev F : List Entry
+    abbrev pub F : List Entry
     F = (place_of (entry b 1 q (Sends rel.call (Some rel.at))) (history doc (suc b)) rel.send).before
 
-    F_e : IsTail (entry b 1 q (Sends rel.call (Some rel.at)) ∷ F) (history doc (suc e))
+    pub F_e : IsTail (entry b 1 q (Sends rel.call (Some rel.at)) ∷ F) (history doc (suc e))
     F_e = tail_trans (entry b 1 q (Sends rel.call (Some rel.at)) ∷ F) (history doc (suc b)) (history doc (suc e)) (place_of (entry b 1 q (Sends rel.call (Some rel.at))) (history doc (suc b)) rel.send).position b_e
 
-    abbrev ra : Entry
-    ra = entry rel.at 2 q (Answers rel.call (Done rel.version) rel.comes (Some rel.object))
-
-    abbrev R : List Entry
+    abbrev pub R : List Entry
     R = (place_of (entry rel.at 2 q (Answers rel.call (Done rel.version) rel.comes (Some rel.object))) (history doc (suc e)) rel.accepted).before
 
-    R_e : IsTail (entry rel.at 2 q (Answers rel.call (Done rel.version) rel.comes (Some rel.object)) ∷ R) (history doc (suc e))
+    pub R_e : IsTail (entry rel.at 2 q (Answers rel.call (Done rel.version) rel.comes (Some rel.object)) ∷ R) (history doc (suc e))
     R_e = (place_of (entry rel.at 2 q (Answers rel.call (Done rel.version) rel.comes (Some rel.object))) (history doc (suc e)) rel.accepted).position
 
-    low_e : IsTail R (history doc (suc e))
+    pub low_e : IsTail R (history doc (suc e))
     low_e = tail_trans R (entry rel.at 2 q (Answers rel.call (Done rel.version) rel.comes (Some rel.object)) ∷ R) (history doc (suc e)) (inr (tail_all R)) R_e
 
-    release_writes : has (at_key election (request_write rel.call.request (Some rel.object))) ≡ true
-    release_writes =
-        ap (λ k. has (when (key_eq k election) (Some rel.object)))
-        (asks_election doc s.sound e s.end q l.role (entry b 1 q (Sends rel.call (Some rel.at))) rel.call (Some rel.at) (in_head (entry b 1 q (Sends rel.call (Some rel.at))) F (history doc (suc e)) F_e) refl refl)
+    -- what its process sends from b on is the release
+    pub sent_release : (x : Entry) (T : List Entry) (who : Identity) (call : Call) (arrives : Option ℕ) → IsTail (x ∷ T) (history doc (suc e)) → b ≤ x.beat → x.actor ≡ actor_of who → who.process ≡ q.process → x.fact ≡ Sends call arrives
+        → x ∷ T ≡ entry b 1 q (Sends rel.call (Some rel.at)) ∷ F
+    sent_release x T who call arrives at late by same fact =
+        one_above x (entry b 1 q (Sends rel.call (Some rel.at))) T F (history doc (suc e)) at F_e
+        (sent_after x T who call arrives at late by same fact ∙ sym (sent_after (entry b 1 q (Sends rel.call (Some rel.at))) F q rel.call (Some rel.at) F_e (omega arith) refl refl refl))
 
-    -- before its release is accepted its process writes by calls of before alone
-    quiet : IsQuietIn b q.process R
-    quiet x stands own writes = not_below (entry rel.at 2 q (Answers rel.call (Done rel.version) rel.comes (Some rel.object))) R (subst (λ g. IsTail g R) same_answer place.position)
+    -- from b on its process writes it by the release alone
+    pub the_release : (x : Entry) (T : List Entry) → IsTail (x ∷ T) (history doc (suc e)) → has (of_process q.process x.actor) ≡ true → WritesElection b x.fact → x ∷ T ≡ entry rel.at 2 q (Answers rel.call (Done rel.version) rel.comes (Some rel.object)) ∷ R
+    the_release x T at_e own writes = same_answer
       where
-        place : Place x R
-        place = place_of x R stands
-
-        at_e : IsTail (x ∷ place.before) (history doc (suc e))
-        at_e = tail_trans (x ∷ place.before) R (history doc (suc e)) place.position low_e
-
         a : IsAnswering b x.fact
         a = answering b x.fact writes
 
-        made : MadeAnswer doc x.beat x.step x.actor a.call a.reply a.comes a.wrote place.before
-        made = subst (λ d. MadeAs doc x.beat x.step x.actor d place.before) a.fact (are_made doc (suc e) x place.before at_e)
+        made : MadeAnswer doc x.beat x.step x.actor a.call a.reply a.comes a.wrote T
+        made = subst (λ d. MadeAs doc x.beat x.step x.actor d T) a.fact (are_made doc (suc e) x T at_e)
 
-        asked : Place made.arriving.e place.before
-        asked = place_of made.arriving.e place.before made.arriving.stands
+        asked : Place made.arriving.e T
+        asked = place_of made.arriving.e T made.arriving.stands
 
         asked_e : IsTail (made.arriving.e ∷ asked.before) (history doc (suc e))
-        asked_e = tail_trans (made.arriving.e ∷ asked.before) (x ∷ place.before) (history doc (suc e)) (inr asked.position) at_e
+        asked_e = tail_trans (made.arriving.e ∷ asked.before) (x ∷ T) (history doc (suc e)) (inr asked.position) at_e
 
         sent : (made.arriving.e.actor ≡ actor_of made.s.who) × (made.arriving.e.fact ≡ Sends made.s.call made.s.arrives)
         sent = sends_of made.arriving.e.actor made.arriving.e.fact made.s made.arriving.is
@@ -289,10 +279,7 @@ module _ (doc : Doc) (near far b e : ℕ) (q : Identity) (l : LeadsUntil doc nea
         since = omega (arith, a.since, ap (λ (c : Call). c.sent) made.call_is, sent_at doc (suc e) made.s.who made.arriving.e asked.before made.s.call made.s.arrives asked_e sent.0 sent.1)
 
         same_sending : made.arriving.e ∷ asked.before ≡ entry b 1 q (Sends rel.call (Some rel.at)) ∷ F
-        same_sending =
-            one_above made.arriving.e (entry b 1 q (Sends rel.call (Some rel.at))) asked.before F (history doc (suc e)) asked_e F_e
-            (sent_after made.arriving.e asked.before made.s.who made.s.call made.s.arrives asked_e since sent.0 process sent.1
-            ∙ sym (sent_after (entry b 1 q (Sends rel.call (Some rel.at))) F q rel.call (Some rel.at) F_e (omega arith) refl refl refl))
+        same_sending = sent_release made.arriving.e asked.before made.s.who made.s.call made.s.arrives asked_e since sent.0 process sent.1
 
         that : made.arriving.e ≡ entry b 1 q (Sends rel.call (Some rel.at))
         that = same_head made.arriving.e (entry b 1 q (Sends rel.call (Some rel.at))) asked.before F same_sending
@@ -303,11 +290,37 @@ module _ (doc : Doc) (near far b e : ℕ) (q : Identity) (l : LeadsUntil doc nea
         call_is : a.call ≡ rel.call
         call_is = made.call_is ∙ sym (ap (call_or made.s.call) sent.1) ∙ ap (λ (x : Entry). call_or made.s.call x.fact) that
 
-        same_answer : x ∷ place.before ≡ entry rel.at 2 q (Answers rel.call (Done rel.version) rel.comes (Some rel.object)) ∷ R
+        same_answer : x ∷ T ≡ entry rel.at 2 q (Answers rel.call (Done rel.version) rel.comes (Some rel.object)) ∷ R
         same_answer =
-            answers_differ doc (suc e) x (entry rel.at 2 q (Answers rel.call (Done rel.version) rel.comes (Some rel.object))) place.before R
+            answers_differ doc (suc e) x (entry rel.at 2 q (Answers rel.call (Done rel.version) rel.comes (Some rel.object))) T R
             (record { who = made.s.who; call = a.call; reply = a.reply; comes = a.comes }) (record { who = q; call = rel.call; reply = Done rel.version; comes = rel.comes }) at_e R_e
             (ap (λ d. back_of x.actor d) a.fact ∙ ap (λ who. back_of who (Answers a.call a.reply a.comes a.wrote)) made.by) refl whose (ap (λ (c : Call). c.number) call_is)
+
+    -- so before its release is accepted by calls of before
+    pub quiet : IsQuietIn b q.process R
+    quiet x stands own writes =
+        let place : Place x R = place_of x R stands in
+        not_below (entry rel.at 2 q (Answers rel.call (Done rel.version) rel.comes (Some rel.object))) R
+        (subst (λ g. IsTail g R) (the_release x place.before (tail_trans (x ∷ place.before) R (history doc (suc e)) place.position low_e) own writes) place.position)
+
+    pub release_writes : has (at_key election (request_write rel.call.request (Some rel.object))) ≡ true
+    release_writes =
+        ap (λ k. has (when (key_eq k election) (Some rel.object)))
+        (asks_election doc s.sound e s.end q l.role (entry b 1 q (Sends rel.call (Some rel.at))) rel.call (Some rel.at) (in_head (entry b 1 q (Sends rel.call (Some rel.at))) F (history doc (suc e)) F_e) refl refl)
+
+    -- the leader's writes are seen to the release: no foreign one came so late
+    pub none_foreign : IsForeign doc near far b e q l s R low_e quiet (first doc near far b e q l s R low_e quiet) R → ⊥
+    none_foreign f =
+        omega (
+          arith,
+          long_after doc near far b e q l s R low_e quiet f,
+          sent_before doc near far b e q l s R low_e quiet f,
+          recent doc near far b e q l s R low_e quiet f,
+          beats_rise doc e (entry rel.at 2 q (Answers rel.call (Done rel.version) rel.comes (Some rel.object))) R R_e f.x f.before f.position,
+          rel.most,
+          s.one,
+          s.ways,
+        )
 
     -- ---- the lead
 
@@ -363,25 +376,12 @@ module _ (doc : Doc) (near far b e : ℕ) (q : Identity) (l : LeadsUntil doc nea
 
       -- nobody else wrote before the release was accepted
       not_sooner : IsTail (o.e ∷ o.low) R → ⊥
-      not_sooner low = too_late found
+      not_sooner low = none_foreign found
         where
           found : IsForeign doc near far b e q l s R low_e quiet (first doc near far b e q l s R low_e quiet) R
           found =
               ⊎_elim (λ all. absurd (lead.other (actor_is r q (sym o.actor ∙ all o.e o.low low first_low writes)))) (λ f. f)
               (own_or_foreign doc near far b e q l s R low_e quiet (first doc near far b e q l s R low_e quiet) R (tail_trans (first doc near far b e q l s R low_e quiet) (o.e ∷ o.low) R (inr first_low) low))
-
-          too_late : IsForeign doc near far b e q l s R low_e quiet (first doc near far b e q l s R low_e quiet) R → ⊥
-          too_late f =
-              omega (
-                arith,
-                long_after doc near far b e q l s R low_e quiet f,
-                sent_before doc near far b e q l s R low_e quiet f,
-                recent doc near far b e q l s R low_e quiet f,
-                beats_rise doc e (entry rel.at 2 q (Answers rel.call (Done rel.version) rel.comes (Some rel.object))) R R_e f.x f.before f.position,
-                rel.most,
-                s.one,
-                s.ways,
-              )
 
       after_release : IsTail (entry rel.at 2 q (Answers rel.call (Done rel.version) rel.comes (Some rel.object)) ∷ R) o.low
       after_release = by_place (tails_meet (entry rel.at 2 q (Answers rel.call (Done rel.version) rel.comes (Some rel.object)) ∷ R) (o.e ∷ o.low) (history doc (suc e)) R_e o_e)

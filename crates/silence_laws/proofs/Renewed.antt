@@ -1,7 +1,8 @@
 -- Up to the beat before it falls silent a leader renews its record: after each of its writes there is another one, a retry period and four ways
 -- later at most, if there was time to send it.
-use Rattle.std.proofs.Common.{◌≡◌, ◌⊎◌, ◌<◌, ◌≤◌, ℕ, suc, ◌+◌, ◌-◌, ◌*◌, ◌&&◌, not, Bool, true, false, cond, List, [], ◌∷◌, Option, Some, None, refl, sym, ap, ◌∙◌, subst, inl, inr, ⊎_elim, arith}
-use Rattle.std.proofs.lemmas.Bool.{eq-eqb}
+use Rattle.std.proofs.Common.{◌≡◌, ◌⊎◌, ◌<◌, ◌≤◌, ℕ, suc, ◌+◌, ◌-◌, ◌*◌, not, true, cond, List, [], ◌∷◌, Option, Some, None, refl, sym, ap, ◌∙◌, subst, inl, inr, ⊎_elim, arith, ◌&&◌, nat_lt, Bool, false}
+use Rattle.std.proofs.lemmas.Bool.{eq-eqb, ltb-false, cases_lt}
+use Rattle.std.proofs.Math.Nat.{mul-le-mul_right}
 use Rattle.kube_base.specs.declared.numbers.Version.{Version}
 use Rattle.kube_objects.specs.declared.call.Reply.{Reply}
 use Rattle.kube_objects.specs.declared.call.Reply.TheVariants.{Found, Done, Absent, Exists, Conflict, Unchanged}
@@ -10,24 +11,27 @@ use Rattle.kube_objects.specs.declared.call.Request.TheVariants.{Get, Create, Up
 use Rattle.kube_objects.specs.declared.lease.Lease.{Lease}
 use Rattle.kube_objects.specs.declared.object.Object.{Object}
 use Rattle.kube_objects.specs.declared.object.Object.TheVariants as object
-use Rattle.kube_objects.specs.Answers.{lease_in, versioned, answer_get, answer_over, as_kind, answer, written, written_over, if_done}
+use Rattle.kube_objects.specs.Answers.{lease_in, answer_over, answer, written, written_over, if_done}
 use Rattle.kube_objects.specs.Clocks.{local}
-use Rattle.kube_objects.specs.Document.{Doc, end_beat, renew_deadline}
-use Rattle.kube_objects.specs.Elector.{Moment, Follow, Fails, Asks, Succeeds, shown, moment, observed_at, is_valid, updated, renewed, follow_get, follow, follow_on, succeeds, leads, attempt_from, attempt}
-use Rattle.kube_objects.specs.Entry.{Entry, Identity, Call, CallKind, Plain, Fast, Sends, Answers, Delivers, actor_of, entry}
-use Rattle.kube_objects.specs.Identities.{is_own, is_other}
-use Rattle.kube_objects.specs.Newest.{has}
-use Rattle.kube_objects.specs.Stored.{Held, election, stored, next_version, at_key, write_of, request_write}
+use Rattle.kube_objects.specs.Document.{Doc, end_beat, renew_deadline, of_seconds, lease_duration}
+use Rattle.kube_objects.specs.Elector.{is_done, Moment, Asks, moment, observed_at, updated, follow, follow_on, succeeds, leads, attempt, Follow, Fails, Succeeds, Shown, told, shown, observed, is_valid, renewed, follow_get, attempt_from}
+use Rattle.kube_objects.specs.Entry.{Entry, Identity, Call, Plain, Sends, Answers, Delivers, actor_of, entry, CallKind, Fast}
+use Rattle.kube_objects.specs.Identities.{is_other, identity_of, is_own}
+use Rattle.kube_objects.specs.Newest.{has, when, join, or_zero}
+use Rattle.kube_objects.specs.Stored.{Held, election, stored, next_version, at_key, write_of, request_write, key_of, last_write, holds}
+use Rattle.kube_objects.specs.Keys.{key_eq}
 use Rattle.kube_objects.specs.Turns.{react}
 use Rattle.kube_objects.specs.Wire.{Sent, next_call, request_arrival, reply_arrival}
+use Rattle.kube_objects.proofs.Clocks.{local_up}
 use Rattle.history.specs.History.{history}
 use Rattle.history.specs.Safe.{Acts}
 use Rattle.history.specs.Steps.{answered}
 use Rattle.history_laws.specs.Tails.{IsTail}
 use Rattle.history_laws.proofs.Order.{entries_are_earlier}
-use Rattle.history_laws.proofs.Plainly.{false_is, same_self}
+use Rattle.history_laws.proofs.Plainly.{upper, some_is, none_is, false_is, and_both, same_self}
 use Rattle.history_laws.proofs.Tailed.{tail_all, tail_trans, later_tail}
 use Rattle.lease_laws.proofs.EachKind.{top_stays}
+use Rattle.span_laws.proofs.Spans.{goes_most}
 use Rattle.call_laws.specs.Answering.{with_events, IsAnswered}
 use Rattle.call_laws.proofs.Above.{in_head}
 use Rattle.call_laws.proofs.Answering.{before_events, requests_are_answered}
@@ -35,12 +39,11 @@ use Rattle.call_laws.proofs.Placing.{in_own_beat}
 use Rattle.takeover_laws.specs.Calm.{IsInTime}
 use Rattle.takeover_laws.proofs.Rounds.{sent_is, in_events}
 use Rattle.calm_laws.proofs.Origins.{Origin, origin, sends_differ}
-use Rattle.stay_laws.specs.Stays.{HasSuccess, Stays, LeadersStay, RenewsInTime}
+use Rattle.stay_laws.specs.Stays.{HasSuccess}
 use Rattle.stay_laws.proofs.Given.{IsGiven}
-use Rattle.stay_laws.proofs.Won.{Won}
 use Rattle.stay_laws.proofs.Rivals.{Own}
 use Rattle.stay_laws.proofs.Reacting.{replies_follow}
-use Rattle.stay_laws.proofs.Leading.{up_at, later}
+use Rattle.stay_laws.proofs.Leading.{in_term, up_at, later}
 use Rattle.stay_laws.proofs.Trying.{HasTried, has_tried}
 use Rattle.stay_laws.proofs.Closing as closing
 use Rattle.stay_laws.proofs.Closing.{IsReplied, is_replied}
@@ -49,8 +52,12 @@ use Rattle.stay_laws.proofs.Sendings as sendings
 use Rattle.stay_laws.proofs.Succeeded.{IsSet}
 use Rattle.stay_laws.proofs.Written as wrote
 use Rattle.stay_laws.proofs.Renewing as renewing
+use Rattle.stay_laws.proofs.Renewing.{get_found, own_asks, attempt_is}
 use Rattle.silence_laws.specs.Silence.{LeadsUntil, Bears}
-use Rattle.silence_laws.proofs.Setting.{IsWay, Arrives, request_arrives, calm_before, times_before}
+use Rattle.silence_laws.proofs.Setting.{Arrives, request_arrives, calm_before, times_before}
+use Rattle.silence_laws.proofs.Ways.{IsWay}
+use Rattle.silence_laws.proofs.Looking.{asks_election}
+use Rattle.silence_laws.proofs.Seen.{seen_since}
 
 -- ---- a write above a position, or the same is stored
 
@@ -73,24 +80,43 @@ same_or_above g (x ∷ T) (inr at) = by_write (at_key election (write_of x.fact)
 
 -- ---- requests and replies
 
--- a leader that was shown a version of its own asks for the record, or renews it on that version
-attempt_is : (doc : Doc) (q : Identity) (k : ℕ) (h : List Entry) (version : Version) (lease : Lease) → shown q h ≡ Some (version, lease)
-    → ((attempt doc q k h).1 ≡ Get election) ⊎ ((next : Lease) × ((attempt doc q k h).1 ≡ Update election version next))
-attempt_is doc q k h version lease is = by_test (doc.settings.fast_renew && leads q h)
+-- where leaders renew without a Get, and the record last shown is its own and valid, it renews it at once
+attempt_fast : (doc : Doc) (q : Identity) (k : ℕ) (h : List Entry) (version : Version) (lease : Lease) → doc.settings.fast_renew ≡ true → leads q h ≡ true → shown q h ≡ Some (version, lease)
+    → is_own q lease.holder ≡ true → is_valid (local doc q.process k) (observed_at doc q h) lease ≡ true → (attempt doc q k h).1 ≡ Update election version (renewed q (moment doc q k) lease)
+attempt_fast doc q k h version lease quick led is own valid =
+    ap (λ b. request_of (cond b (attempt_from q m seen (shown q h)) plainly)) (and_both doc.settings.fast_renew (leads q h) quick led)
+    ∙ ap (λ o. request_of (attempt_from q m seen o)) is
+    ∙ ap (λ b. request_of (cond b (Fast, Update election version (renewed q m lease)) plainly)) (and_both (is_own q lease.holder) (is_valid m.now seen lease) own valid)
   where
     m : Moment
     m = moment doc q k
 
-    Either : CallKind × Request → Type 0
-    Either a = (a.1 ≡ Get election) ⊎ ((next : Lease) × (a.1 ≡ Update election version next))
+    seen : ℕ
+    seen = observed_at doc q h
 
-    by_own : (b : Bool) → Either (cond b (Fast, Update election version (renewed q m lease)) (Plain, Get election))
-    by_own true = inr (renewed q m lease, refl)
-    by_own false = inl refl
+    plainly : CallKind × Request
+    plainly = (Plain, Get election)
 
-    by_test : (b : Bool) → Either (cond b (attempt_from q m (observed_at doc q h) (shown q h)) (Plain, Get election))
-    by_test true = subst (λ o. Either (attempt_from q m (observed_at doc q h) o)) (sym is) (by_own (is_own q lease.holder && is_valid m.now (observed_at doc q h) lease))
-    by_test false = inl refl
+    request_of : CallKind × Request → Request
+    request_of a = a.1
+
+-- what a request that succeeds shows is what it writes
+shows_written : (r : Request) (version : Version) (lease : Lease) (h : List Entry) → told r (Done version) ≡ Some (version, lease) → answer r h ≡ Done version → key_of r ≡ election
+    → at_key election (request_write r (written r h)) ≡ Some (Some (object.Lease lease))
+shows_written (Get key) version lease h tells done is = absurd (none_is (version, lease) tells)
+shows_written (PostStatus name status at) version lease h tells done is = absurd (none_is (version, lease) tells)
+shows_written (Create key l) version lease h tells done is =
+    ap (λ reply. at_key election (request_write (Create key l) (if_done reply (object.Lease l)))) done ∙ ap (λ key. when (key_eq key election) (Some (object.Lease l))) is
+    ∙ ap (λ (s : Shown). Some (Some (object.Lease s.1))) (some_is (version, l) (version, lease) tells)
+shows_written (Update key given l) version lease h tells done is =
+    ap (λ reply. at_key election (request_write (Update key given l) (if_done reply (object.Lease l)))) done ∙ ap (λ key. when (key_eq key election) (Some (object.Lease l))) is
+    ∙ ap (λ (s : Shown). Some (Some (object.Lease s.1))) (some_is (version, l) (version, lease) tells)
+
+-- a Lease that is written is what is stored
+written_is : (x : Entry) (T : List Entry) (y : Held) (lease : Lease) → at_key election (write_of x.fact) ≡ Some (Some (object.Lease lease)) → stored election (x ∷ T) ≡ Some y → y.object ≡ object.Lease lease
+written_is x T y lease write top =
+    sym (ap (λ (y : Held). y.object) (some_is (record { version = next_version T; object = object.Lease lease; beat = x.beat; by = identity_of x.actor }) y
+    (sym (ap (λ o. join (upper (holds T x.beat x.actor o) (last_write election T))) write) ∙ top)))
 
 -- an update on the version that is stored writes
 update_writes : (h : List Entry) (x : Held) (version : Version) (lease : Lease) → stored election h ≡ Some x → x.version ≡ version
@@ -99,43 +125,20 @@ update_writes h x version lease top same =
     ap (λ o. has (at_key election (request_write (Update election version lease) (written_over o (Update election version lease) (answer_over (next_version h) o (Update election version lease)))))) top
     ∙ ap (λ b. has (at_key election (request_write (Update election version lease) (if_done (cond b (Done (next_version h)) (Conflict x.version)) (object.Lease lease))))) (eq-eqb x.version.0 version.0 (ap (λ (v : Version). v.0) same))
 
--- a Get finds a stored Lease
-get_found : (h : List Entry) (x : Held) (lease : Lease) → stored election h ≡ Some x → lease_in x.object ≡ Some lease → answer (Get election) h ≡ Found x.version lease
-get_found h x lease top is = ap (λ o. answer_get (as_kind lease_in o)) top ∙ ap (λ l. answer_get (versioned x.version l)) is
-
--- and one's own is renewed
-own_asks : (q : Identity) (m : Moment) (seen : ℕ) (version : Version) (lease : Lease) → is_other q lease.holder ≡ false → follow_get q m seen (Found version lease) ≡ Asks (Update election version (updated q m lease))
-own_asks q m seen version lease own = ap (λ b. cond (b && is_valid m.now seen lease) Fails (Asks (Update election version (updated q m lease)))) own
-
 -- what succeeds is done
+done_by : (reply : Reply) → is_done reply ≡ true → (version : Version) × (reply ≡ Done version)
+done_by (Done version) so = (version, refl)
+done_by Absent so = absurd (false_is so)
+done_by (Found version l) so = absurd (false_is so)
+done_by Exists so = absurd (false_is so)
+done_by (Conflict version) so = absurd (false_is so)
+done_by Unchanged so = absurd (false_is so)
+
 pub done_of : (r : Request) (reply : Reply) → succeeds r reply ≡ true → (version : Version) × (reply ≡ Done version)
 done_of (Get key) reply so = absurd (false_is so)
 done_of (PostStatus name status at) reply so = absurd (false_is so)
-done_of (Create key lease) reply so = by_reply reply so
-  where
-    by_reply : (reply : Reply) → succeeds (Create key lease) reply ≡ true → (version : Version) × (reply ≡ Done version)
-    by_reply (Done version) so = (version, refl)
-    by_reply Absent so = absurd (false_is so)
-    by_reply (Found version l) so = absurd (false_is so)
-    by_reply Exists so = absurd (false_is so)
-    by_reply (Conflict version) so = absurd (false_is so)
-    by_reply Unchanged so = absurd (false_is so)
-done_of (Update key given lease) reply so = by_reply reply so
-  where
-    by_reply : (reply : Reply) → succeeds (Update key given lease) reply ≡ true → (version : Version) × (reply ≡ Done version)
-    by_reply (Done version) so = (version, refl)
-    by_reply Absent so = absurd (false_is so)
-    by_reply (Found version l) so = absurd (false_is so)
-    by_reply Exists so = absurd (false_is so)
-    by_reply (Conflict version) so = absurd (false_is so)
-    by_reply Unchanged so = absurd (false_is so)
-
--- a reaction has the reply below it
-reacted_on : (k : ℕ) (q : Identity) (led : Bool) (f : Follow) (h : List Entry) → IsTail h (react k q led f h)
-reacted_on k q led Fails h = tail_all h
-reacted_on k q led (Asks request) h = inr (tail_all h)
-reacted_on k q true (Succeeds version) h = tail_all h
-reacted_on k q false (Succeeds version) h = inr (tail_all h)
+done_of (Create key lease) reply so = done_by reply so
+done_of (Update key given lease) reply so = done_by reply so
 
 module _ (doc : Doc) (near far b e : ℕ) (q : Identity) (l : LeadsUntil doc near far b e q) (s : Bears doc near far b e q) where
   abbrev pub a : ℕ
@@ -257,7 +260,7 @@ module _ (doc : Doc) (near far b e : ℕ) (q : Identity) (l : LeadsUntil doc nea
     abbrev Due : ℕ → Type 0
     Due last = renewing.Due doc near far 0 a s.sound (calm_before doc near far b e q l s) (times_before doc near far b e q l s) s.one end q l.role l.steady s.renews y to g last
 
-    module _ (last : ℕ) (d : Due last) (room : d.g + 2 * far ≤ a) where
+    module _ (last : ℕ) (d : Due last) (reach : d.g ≤ a) where
       abbrev lease : Lease
       lease = (wrote.what doc near far 0 a s.sound (calm_before doc near far b e q l s) (times_before doc near far b e q l s) s.one end q l.role l.steady s.renews y to g).lease
 
@@ -275,11 +278,11 @@ module _ (doc : Doc) (near far b e : ℕ) (q : Identity) (l : LeadsUntil doc nea
 
       tried : HasTried doc q start.low start.at (Some (hs.version, lease)) (history doc (suc d.g))
       tried =
-          has_tried doc near far 0 a q l.role l.steady start.at y start.low start.leader from (Some (hs.version, lease)) start.idle start.nothing d.g d.from (omega (arith, room)) d.reached
-          (timely d.g (omega (arith, some_way)) (omega (arith, room)))
+          has_tried doc near far 0 a q l.role l.steady start.at y start.low start.leader from (Some (hs.version, lease)) start.idle start.nothing d.g d.from reach d.reached
+          (timely d.g (omega (arith, some_way)) reach)
 
       x1_from : y ≤ tried.x.beat
-      x1_from = later doc near far 0 a (suc d.g) q l.role l.steady start.at y start.low start.leader from (omega (arith, d.from)) (omega (arith, room)) tried.x tried.before tried.since tried.position
+      x1_from = later doc near far 0 a (suc d.g) q l.role l.steady start.at y start.low start.leader from (omega (arith, d.from)) (omega (arith, reach)) tried.x tried.before tried.since tried.position
 
       x1_upto : tried.x.beat ≤ d.g
       x1_upto = ⊎_elim (λ lt. omega (arith, lt)) (λ first. omega (arith, first.0)) (entries_are_earlier doc (suc d.g) tried.x (in_head tried.x tried.before (history doc (suc d.g)) tried.position))
@@ -288,7 +291,7 @@ module _ (doc : Doc) (near far b e : ℕ) (q : Identity) (l : LeadsUntil doc nea
       weaken n m le w = record { z = w.z; before = w.before; position = w.position; since = w.since; writes = w.writes; soon = omega (arith, le, w.soon) }
 
       -- after a Get
-      module _ (get : tried.call.request ≡ Get election) where
+      module _ (room : d.g + 2 * far ≤ a) (get : tried.call.request ≡ Get election) where
         free : IsFree q tried.x tried.before tried.call
         free = is_free doc (suc d.g) q l.role tried.x tried.before tried.call tried.arrives tried.position tried.actor tried.fact tried.opens
 
@@ -384,23 +387,107 @@ module _ (doc : Doc) (near far b e : ℕ) (q : Identity) (l : LeadsUntil doc nea
         after_get : Rewritten (d.g + 3 * far)
         after_get = by_above (same_or_above (o.e ∷ o.low) o1.low low1)
 
-      pub rewritten : Rewritten (d.g + 3 * far)
-      rewritten = by_request (attempt_is doc q tried.x.beat tried.before hs.version lease tried.idle.shown_is)
+      pub rewritten : d.g + 2 * far ≤ a → Rewritten (d.g + 3 * far)
+      rewritten room = by_request (attempt_is doc q tried.x.beat tried.before hs.version lease tried.idle.shown_is)
         where
           by_request : ((attempt doc q tried.x.beat tried.before).1 ≡ Get election) ⊎ ((next : Lease) × ((attempt doc q tried.x.beat tried.before).1 ≡ Update election hs.version next)) → Rewritten (d.g + 3 * far)
-          by_request (inl is) = after_get (tried.request ∙ is)
+          by_request (inl is) = after_get room (tried.request ∙ is)
           by_request (inr (next, is)) =
               weaken (tried.x.beat + far) (d.g + 3 * far) (omega (arith, x1_upto))
-              (update_comes (suc d.g) tried.x tried.before tried.call tried.arrives next tried.position tried.actor tried.fact (tried.request ∙ is ∙ ap (λ v. Update election v next) (sym given)) (omega (arith, x1_upto, room)) x1_from)
+              (update_comes (suc d.g) tried.x tried.before tried.call tried.arrives next tried.position tried.actor tried.fact (tried.request ∙ is ∙ ap (λ v. Update election v next) (sym given)) (omega (arith, x1_upto, reach)) x1_from)
+
+      -- at once, where leaders renew without a Get and its timer has come a retry period after the success
+      module _ (quick : doc.settings.fast_renew ≡ true) (soon : d.g ≤ y + s.renews.wait) where
+        abbrev h : List Entry
+        h = tried.before
+
+        below_h : IsTail (o.e ∷ o.low) h
+        below_h = tail_trans (o.e ∷ o.low) start.low h (tail_trans (o.e ∷ o.low) (entry y 3 q (Delivers hs.call (Done hs.version) true) ∷ hs.before) start.low (inr o.answered) start.below) tried.since
+
+        h_g : IsTail h (history doc (suc d.g))
+        h_g = tail_trans h (tried.x ∷ h) (history doc (suc d.g)) (inr (tail_all h)) tried.position
+
+        led : leads q h ≡ true
+        led = (in_term doc near far 0 a (suc d.g) q l.role l.steady start.at y start.low start.leader from (omega (arith, d.from)) (omega (arith, reach)) h tried.since h_g).led
+
+        -- its record is what it was told
+        same_lease : (a b : Lease) → object.Lease a ≡ object.Lease b → a ≡ b
+        same_lease a b is = cc
+
+        key : key_of hs.call.request ≡ election
+        key =
+            asks_election doc s.sound y (omega (arith, to, end)) q l.role o.begun.f hs.call o.begun.arrives
+            (in_head o.begun.f o.begun.before (history doc (suc y)) (tail_trans (o.begun.f ∷ o.begun.before) hs.before (history doc (suc y)) o.begun.position (tail_trans hs.before (entry y 3 q (Delivers hs.call (Done hs.version) true) ∷ hs.before) (history doc (suc y)) (inr (tail_all hs.before)) hs.position)))
+            o.begun.actor o.begun.fact
+
+        lease_is : own.lease ≡ lease
+        lease_is =
+            same_lease own.lease lease
+            (sym own.object ∙ written_is o.e o.low own.y lease
+            (ap (λ d. at_key election (write_of d)) o.fact
+            ∙ shows_written hs.call.request hs.version lease o.low (wrote.what doc near far 0 a s.sound (calm_before doc near far b e q l s) (times_before doc near far b e q l s) s.one end q l.role l.steady s.renews y to g).told_is (sym o.reply_is) key) own.top)
+
+        mine : is_own q lease.holder ≡ true
+        mine = ap (λ (l : Lease). is_own q l.holder) (sym lease_is) ∙ ap (is_own q) own.holder ∙ same_self q
+
+        abbrev x : ℕ
+        x = tried.x.beat
+
+        abbrev seen : ℕ
+        seen = or_zero (observed q h)
+
+        module _ (same : stored election h ≡ stored election (o.e ∷ o.low)) where
+          since : own.y.beat ≤ seen
+          since = seen_since doc d.g s.sound (omega (arith, reach, end)) q l.role h h_g own.y (same ∙ own.top) h (tail_all h) (hs.version, lease) tried.idle.shown_is (ap (λ (v : Version). v.0) (sym given))
+
+          valid : is_valid (local doc q.process x) (observed_at doc q h) lease ≡ true
+          valid = by_test (nat_lt (local doc q.process x) (observed_at doc q h + of_seconds (or_zero lease.duration))) refl
+            where
+              lasts : of_seconds (or_zero lease.duration) ≡ lease_duration doc q.process
+              lasts = ap (λ (l : Lease). of_seconds (or_zero l.duration)) (sym lease_is) ∙ ap (λ o. of_seconds (or_zero o)) own.duration
+
+              few : x - seen ≤ s.renews.wait + 5 * far - near
+              few = omega (arith, since, own.since, ways.comes_most, x1_upto, soon, s.ways)
+
+              short : (x - seen) * s.fastest ≤ (s.renews.wait + 5 * far - near) * s.fastest
+              short = mul-le-mul_right s.fastest few
+
+              goes : local doc q.process x ≤ local doc q.process seen + (x - seen) * s.fastest
+              goes =
+                  ⊎_elim (λ lt. omega (arith, local_up doc q.process x seen (omega (arith, lt)))) (λ le. goes_most doc q.process 0 e s.fastest (s.clocks q.process l.role) seen x (omega arith) le (omega (arith, x1_upto, reach, l.within)))
+                  (cases_lt x seen)
+
+              by_test : (t : Bool) → nat_lt (local doc q.process x) (observed_at doc q h + of_seconds (or_zero lease.duration)) ≡ t → t ≡ true
+              by_test true is = refl
+              by_test false is = absurd (omega (arith, ltb-false (local doc q.process x) (observed_at doc q h + of_seconds (or_zero lease.duration)) is, lasts, goes, short, s.lasts))
+
+          asked : tried.call.request ≡ Update election own.y.version (renewed q (moment doc q x) lease)
+          asked = tried.request ∙ attempt_fast doc q x h hs.version lease quick led tried.idle.shown_is mine valid ∙ ap (λ v. Update election v (renewed q (moment doc q x) lease)) (sym given)
+
+        at_once : Rewritten (d.g + far)
+        at_once = by_above (same_or_above (o.e ∷ o.low) h below_h)
+          where
+            by_above : (stored election h ≡ stored election (o.e ∷ o.low)) ⊎ WroteAbove (o.e ∷ o.low) h → Rewritten (d.g + far)
+            by_above (inr w) = from_above (d.g + far) d.g h h_g (omega arith) w
+            by_above (inl same) =
+                weaken (x + far) (d.g + far) (omega (arith, x1_upto))
+                (update_comes (suc d.g) tried.x h tried.call tried.arrives (renewed q (moment doc q x) lease) tried.position tried.actor tried.fact (asked same) (omega (arith, x1_upto, reach)) x1_from)
+
+    -- its timer comes a retry period after the success
+    timer_due : y + s.renews.wait ≤ a → Due (y + s.renews.wait)
+    timer_due room = by_due (renewing.due_or_ahead doc near far 0 a s.sound (calm_before doc near far b e q l s) (times_before doc near far b e q l s) s.one end q l.role l.steady s.renews y to g s.renews.wait)
+      where
+        by_due : Due (y + s.renews.wait) ⊎ renewing.Ahead doc near far 0 a s.sound (calm_before doc near far b e q l s) (times_before doc near far b e q l s) s.one end q l.role l.steady s.renews y to g (y + s.renews.wait) → Due (y + s.renews.wait)
+        by_due (inr none) = absurd (renewing.comes_by doc near far 0 a s.sound (calm_before doc near far b e q l s) (times_before doc near far b e q l s) s.one end q l.role l.steady s.renews y to g room none)
+        by_due (inl d) = d
 
     -- where there was time to send it
     pub renewed_by : y + s.renews.wait + 2 * far ≤ a → Rewritten (y + s.renews.wait + 3 * far)
-    renewed_by room = by_due (renewing.due_or_ahead doc near far 0 a s.sound (calm_before doc near far b e q l s) (times_before doc near far b e q l s) s.one end q l.role l.steady s.renews y to g s.renews.wait)
-      where
-        by_due : Due (y + s.renews.wait) ⊎ renewing.Ahead doc near far 0 a s.sound (calm_before doc near far b e q l s) (times_before doc near far b e q l s) s.one end q l.role l.steady s.renews y to g (y + s.renews.wait)
-            → Rewritten (y + s.renews.wait + 3 * far)
-        by_due (inr none) =
-            absurd (renewing.comes_by doc near far 0 a s.sound (calm_before doc near far b e q l s) (times_before doc near far b e q l s) s.one end q l.role l.steady s.renews y to g (omega (arith, room)) none)
-        by_due (inl d) =
-            let w : Rewritten (d.g + 3 * far) = rewritten (y + s.renews.wait) d (omega (arith, d.upto, room)) in
-            record { z = w.z; before = w.before; position = w.position; since = w.since; writes = w.writes; soon = omega (arith, d.upto, w.soon) }
+    renewed_by room =
+        let d : Due (y + s.renews.wait) = timer_due (omega (arith, room)) in
+        weaken (y + s.renews.wait) d (omega (arith, d.upto, room)) (d.g + 3 * far) (y + s.renews.wait + 3 * far) (omega (arith, d.upto)) (rewritten (y + s.renews.wait) d (omega (arith, d.upto, room)) (omega (arith, d.upto, room)))
+
+    pub renewed_at_once : doc.settings.fast_renew ≡ true → y + s.renews.wait ≤ a → Rewritten (y + s.renews.wait + far)
+    renewed_at_once quick room =
+        let d : Due (y + s.renews.wait) = timer_due room in
+        weaken (y + s.renews.wait) d (omega (arith, d.upto, room)) (d.g + far) (y + s.renews.wait + far) (omega (arith, d.upto)) (at_once (y + s.renews.wait) d (omega (arith, d.upto, room)) quick d.upto)

@@ -1,19 +1,17 @@
 -- Where a leader in a calm falls silent, what comes before is a calm, and it stays up to then.
-use Rattle.std.proofs.Common.{◌≡◌, ◌⊎◌, ◌<◌, ◌≤◌, ℕ, suc, ◌+◌, ◌-◌, ◌*◌, true, false, List, ◌∷◌, Option, Some, None, IfSome, refl, sym, ap, ◌∙◌, subst, inl, inr, ⊎_elim, arith}
+use Rattle.std.proofs.Common.{◌≡◌, ◌⊎◌, ◌<◌, ◌≤◌, ℕ, suc, ◌+◌, ◌-◌, ◌*◌, true, List, ◌∷◌, Option, Some, None, IfSome, refl, sym, ap, ◌∙◌, subst, inl, inr, ⊎_elim, arith}
 use Rattle.std.proofs.lemmas.Bool.{eq-eqb, cases_eq}
 use Rattle.kube_objects.specs.declared.deed.Actor.{Actor}
-use Rattle.kube_objects.specs.declared.deed.Actor.TheVariants as actors
-use Rattle.kube_objects.specs.declared.object.Object.{Object}
 use Rattle.kube_objects.specs.Document.{Doc, is_controller}
 use Rattle.kube_objects.specs.Elector.{deadline}
-use Rattle.kube_objects.specs.Entry.{Entry, Identity, Call, Fact, First, Event, Starts, Stops, Sends, Answers, Delivers, Expires, Leads, Ends, Crashes, Stalls, Ticks, actor_of, entry}
+use Rattle.kube_objects.specs.Entry.{Entry, Identity, Call, Fact, Stops, Sends, Ends, Crashes, actor_of, entry}
 use Rattle.kube_objects.specs.Identities.{of_process}
-use Rattle.kube_objects.specs.Newest.{when, or_else, has}
-use Rattle.kube_objects.specs.Wire.{Sent, Back, sent_of, back_of, request_loss_of, request_delay_of, arrival, request_delay, request_arrival}
+use Rattle.kube_objects.specs.Newest.{when, has}
+use Rattle.kube_objects.specs.Wire.{Sent, Back, sent_of, back_of, request_delay, request_arrival}
 use Rattle.history.specs.History.{history}
 use Rattle.history_laws.specs.Tails.{In, IsTail}
 use Rattle.history_laws.proofs.Order.{entries_are_earlier}
-use Rattle.history_laws.proofs.Plainly.{some_is, none_is}
+use Rattle.history_laws.proofs.Plainly.{some_is}
 use Rattle.history_laws.proofs.Tailed.{in_tail, later_tail}
 use Rattle.call_laws.specs.Answering.{with_events}
 use Rattle.call_laws.proofs.Above.{place_of}
@@ -22,12 +20,14 @@ use Rattle.call_laws.proofs.Placing.{in_own_beat, forces_stand}
 use Rattle.call_laws.proofs.Starting.{actor_is}
 use Rattle.takeover_laws.specs.Acting.{AreInTime}
 use Rattle.takeover_laws.specs.Calm.{Passes, IsSteady, IsCalm, IsInTime, AllBeats}
-use Rattle.takeover_laws.proofs.Rounds.{Forces}
+use Rattle.takeover_laws.proofs.Rounds.{request_passes}
 use Rattle.takeover_laws.proofs.Writers.{sends_of}
 use Rattle.stay_laws.specs.Stays.{Stays}
 use Rattle.stay_laws.proofs.Staying.{leaders_stay}
 use Rattle.silence_laws.specs.Silence.{LeadsUntil, Bears}
 use Rattle.silence_laws.proofs.Led.{HasLed, acting_led}
+use Rattle.silence_laws.proofs.Ways.{IsWay}
+use Rattle.calm_laws.proofs.Origins.{IsAnswer, answer_facts}
 
 -- ---- parts of a span
 
@@ -47,32 +47,8 @@ restrict_time doc far a b d e p from le s = record { fast = s.fast; runs = λ j 
 
 -- ---- messages as facts
 
--- the facts of an answer
-record IsAnswer (who : Actor) (d : Fact) (b : Back) : Type 0 where
-  wrote : Option Object
-  by : who ≡ actor_of b.who
-  fact : d ≡ Answers b.call b.reply b.comes wrote
-
-answer_facts : (who : Actor) (d : Fact) (b : Back) → back_of who d ≡ Some b → IsAnswer who d b
-answer_facts actors.Script (Answers call reply comes wrote) b is = absurd (none_is b is)
-answer_facts (actors.Proc id i) (Answers call reply comes wrote) b is =
-    let e = some_is (record { who = record { process = id.0; incarnation = i }; call = call; reply = reply; comes = comes }) b is in
-    record { wrote = wrote; by = ap (λ (b : Back). actor_of b.who) e; fact = ap (λ (b : Back). Answers b.call b.reply b.comes wrote) e }
-answer_facts who (Sends call arrives) b is = absurd (none_is b is)
-answer_facts who (First key object) b is = absurd (none_is b is)
-answer_facts who (Event w version) b is = absurd (none_is b is)
-answer_facts who (Delivers call reply counted) b is = absurd (none_is b is)
-answer_facts who (Expires call) b is = absurd (none_is b is)
-answer_facts who (Ticks t) b is = absurd (none_is b is)
-answer_facts who Starts b is = absurd (none_is b is)
-answer_facts who Crashes b is = absurd (none_is b is)
-answer_facts who Stops b is = absurd (none_is b is)
-answer_facts who (Stalls beats) b is = absurd (none_is b is)
-answer_facts who Ends b is = absurd (none_is b is)
-answer_facts who (Leads version) b is = absurd (none_is b is)
-
 -- what holds of each value that is there
-each_some : {A : Type 0} (o : Option A) (P : A → Type 0) → ((a : A) → o ≡ Some a → P a) → IfSome o P
+pub each_some : {A : Type 0} (o : Option A) (P : A → Type 0) → ((a : A) → o ≡ Some a → P a) → IfSome o P
 each_some None P all = tt
 each_some (Some a) P all = all a refl
 
@@ -82,20 +58,10 @@ own_process q who by = ap (λ who. has (of_process q.process who)) by ∙ ap (λ
 
 -- ---- when a message of a steady process arrives
 
--- a request that is sent at a beat arrives one way later
-pub record IsWay (near far from to : ℕ) : Type 0 where
-  pub least : from + near ≤ to
-  pub most : to ≤ from + far
-
 pub record Arrives (near far from : ℕ) (arrives : Option ℕ) : Type 0 where
   pub at : ℕ
   pub is : arrives ≡ Some at
   pub way : IsWay near far from at
-
-request_passes : (doc : Doc) (near far p k : ℕ) (h : List Entry) → Passes doc near far p k → Forces doc k h → request_arrival p k h ≡ Some (k + request_delay p (with_events doc k))
-request_passes doc near far p k h passes force =
-    ap (λ b. arrival b k (request_delay p h)) (ap (or_else false) (force.1 (request_loss_of p)) ∙ passes.requests)
-    ∙ ap (λ n. Some (k + n)) (ap (or_else 1) (force.0 (request_delay_of p)))
 
 module _ (doc : Doc) (near far e p : ℕ) (steady : IsSteady doc near far 0 e p) where
   -- a controller's request isn't lost

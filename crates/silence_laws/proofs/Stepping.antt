@@ -2,12 +2,11 @@
 use Rattle.std.proofs.Common.{◌≡◌, ◌⊎◌, ◌≤◌, ℕ, ◌+◌, nat_lt, true, false, List, ◌∷◌, length, Option, Some, None, refl, sym, ap, ◌∙◌, subst, inl, inr, arith}
 use Rattle.std.proofs.lemmas.Bool.{ltb-false, eq-eqb}
 use Rattle.kube_objects.specs.declared.call.Reply.{Reply}
-use Rattle.kube_objects.specs.declared.call.Request.{Request}
 use Rattle.kube_objects.specs.declared.call.Request.TheVariants.{Get}
 use Rattle.kube_objects.specs.Clocks.{local}
 use Rattle.kube_objects.specs.Document.{Doc, is_controller, retry_period}
-use Rattle.kube_objects.specs.Elector.{Follow, Fails, Asks, shown, observed, leads, follow_on, timer_follow, timer_says}
-use Rattle.kube_objects.specs.Entry.{Entry, Identity, Call, Fact, Stops, Sends, Delivers, actor_of, entry}
+use Rattle.kube_objects.specs.Elector.{Follow, Fails, shown, observed, leads, follow_on, timer_follow, timer_says}
+use Rattle.kube_objects.specs.Entry.{Entry, Identity, Call, Stops, Sends, Delivers, actor_of, entry}
 use Rattle.kube_objects.specs.Identities.{is_by, of_process}
 use Rattle.kube_objects.specs.Newest.{newest, when, only_if, join, has, or_zero}
 use Rattle.kube_objects.specs.Process.{alive, last_call, call_in}
@@ -22,21 +21,12 @@ use Rattle.call_laws.proofs.Making.{MadeAs, MadeSend, HasStopped, IsOpen, Replie
 use Rattle.call_laws.proofs.Starting.{sends_are_due, actor_is}
 use Rattle.call_laws.proofs.Turning.{IsDue, IsTurnSend}
 use Rattle.takeover_laws.proofs.Unasked.{Quiet, attempt_gets}
+use Rattle.takeover_laws.proofs.Asking.{call_or, reply_or}
 use Rattle.silence_laws.proofs.Looking.{k}
-
-no_ask_is : (request : Request) → Fails ≡ Asks request → ⊥
-no_ask_is request is = cc
+use Rattle.lease_laws.proofs.Steps.{no_ask}
 
 some_none : {A : Type 0} (x : A) → Some x ≡ None → ⊥
 some_none x is = cc
-
-abbrev call_or : Call → Fact → Call
-call_or c (Delivers d reply counted) = d
-call_or c _ = c
-
-abbrev reply_or : Reply → Fact → Reply
-reply_or x (Delivers d reply counted) = reply
-reply_or x _ = x
 
 -- ---- what it sends first after a failure
 
@@ -98,7 +88,7 @@ module _ (doc : Doc) (m : ℕ) (q : Identity) (role : is_controller doc q.proces
       follows f = cases (subst (IsTail low) f.is since)
         where
           cases : IsTail low (entry x.beat 3 made.q (Delivers f.waiting f.reply true) ∷ f.before) → ⊥
-          cases (inl same) = no_ask_is made.request (sym fails_too ∙ ap (λ g. asks made.q x.beat f.waiting f.reply g) (same ∙ sym f.is) ∙ f.follows)
+          cases (inl same) = no_ask made.request (sym fails_too ∙ ap (λ g. asks made.q x.beat f.waiting f.reply g) (same ∙ sym f.is) ∙ f.follows)
             where
               asks : Identity → ℕ → Call → Reply → List Entry → Follow
               asks p k c reply g = follow_on doc p k c.kind c.request reply g

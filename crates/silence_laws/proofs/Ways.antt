@@ -2,16 +2,16 @@
 use Rattle.std.proofs.Common.{◌≡◌, ◌⊎◌, ◌≤◌, ℕ, suc, ◌+◌, true, false, List, ◌∷◌, Option, Some, None, IfSome, sym, ap, ◌∙◌, subst, inl, inr, ⊎_elim, arith}
 use Rattle.kube_objects.specs.declared.call.Reply.{Reply}
 use Rattle.kube_objects.specs.Document.{Doc, is_controller}
-use Rattle.kube_objects.specs.Entry.{Entry, Identity, Call, Release, Sends, actor_of}
+use Rattle.kube_objects.specs.Entry.{Entry, Identity, Call, Sends, actor_of}
 use Rattle.kube_objects.specs.Newest.{or_else}
 use Rattle.kube_objects.specs.Pauses.{resume, held_up}
 use Rattle.kube_objects.specs.Process.{alive, open_as, call_in}
-use Rattle.kube_objects.specs.Wire.{request_delay_of, reply_delay_of, request_loss_of, reply_loss_of, request_delay, reply_delay, arrival, request_arrival, reply_arrival}
+use Rattle.kube_objects.specs.Wire.{reply_delay_of, reply_loss_of, request_delay, reply_delay, arrival, request_arrival, reply_arrival}
 use Rattle.kube_objects.proofs.Pauses.{resume_later}
 use Rattle.history.specs.History.{history}
 use Rattle.history_laws.specs.Tails.{IsTail}
 use Rattle.history_laws.proofs.Order.{entries_are_earlier}
-use Rattle.history_laws.proofs.Plainly.{some_is, none_is}
+use Rattle.history_laws.proofs.Plainly.{some_is}
 use Rattle.history_laws.proofs.Tailed.{tail_trans}
 use Rattle.call_laws.specs.Answering.{with_events}
 use Rattle.call_laws.proofs.Above.{in_head}
@@ -19,13 +19,11 @@ use Rattle.call_laws.proofs.Making.{MadeAs, MadeSend, HasStopped, IsOpen, are_ma
 use Rattle.call_laws.proofs.Placing.{forces_stand, messages_travel}
 use Rattle.call_laws.proofs.Starting.{actor_is}
 use Rattle.takeover_laws.specs.Calm.{Passes, IsSteady}
-use Rattle.takeover_laws.proofs.Rounds.{Forces, reply_passes, sent_is}
+use Rattle.takeover_laws.proofs.Rounds.{Forces, reply_passes, sent_is, request_passes}
 use Rattle.calm_laws.proofs.Origins.{Origin}
+use Rattle.calm_laws.proofs.Asked.{not_open}
 
 -- ---- a request that waits for a reply is sent after the events of its beat, by one who is up and has no other
-
-not_open : (c : Call) → open_as Release c ≡ Some c → ⊥
-not_open c is = none_is c is
 
 pub record IsFreely (q : Identity) (x : Entry) (T : List Entry) : Type 0 where
   pub step : 3 ≤ x.step
@@ -59,11 +57,6 @@ sent_at doc m q x T call arrives at actor fact = (subst (λ o. IfSome o (λ s. (
 
 -- ---- ways
 
-requests_pass : (doc : Doc) (near far p k : ℕ) (h : List Entry) → Passes doc near far p k → Forces doc k h → request_arrival p k h ≡ Some (k + request_delay p (with_events doc k))
-requests_pass doc near far p k h passes force =
-    ap (λ b. arrival b k (request_delay p h)) (ap (or_else false) (force.1 (request_loss_of p)) ∙ passes.requests)
-    ∙ ap (λ n. Some (k + n)) (ap (or_else 1) (force.0 (request_delay_of p)))
-
 replies_resume : (doc : Doc) (near far p k : ℕ) (h : List Entry) → Passes doc near far p k → Forces doc k h → reply_arrival doc p k h ≡ Some (resume doc p (k + reply_delay p (with_events doc k)))
 replies_resume doc near far p k h passes force =
     ap (λ b. held_up doc p (arrival b k (reply_delay p h))) (ap (or_else false) (force.1 (reply_loss_of p)) ∙ passes.replies)
@@ -88,7 +81,7 @@ module _ (doc : Doc) (near far e : ℕ) (q : Identity) (role : is_controller doc
       same =
           some_is k (x.beat + request_delay q.process (with_events doc x.beat))
           ((subst (λ o. IfSome o (λ s. (s.call.sent ≡ x.beat) × (s.arrives ≡ request_arrival s.who.process x.beat T))) (sent_is x q call (Some k) actor fact) (messages_travel doc (suc e) x T at).0).1
-          ∙ requests_pass doc near far q.process x.beat T passes (forces_stand doc (suc e) x T at (omega (arith, step))))
+          ∙ request_passes doc near far q.process x.beat T passes (forces_stand doc (suc e) x T at (omega (arith, step))))
 
   pub sent_beat : (x : Entry) (T : List Entry) (call : Call) (arrives : Option ℕ) → IsTail (x ∷ T) (history doc (suc e)) → x.actor ≡ actor_of q → x.fact ≡ Sends call arrives → call.sent ≡ x.beat
   sent_beat x T call arrives at actor fact = (subst (λ o. IfSome o (λ s. (s.call.sent ≡ x.beat) × (s.arrives ≡ request_arrival s.who.process x.beat T))) (sent_is x q call arrives actor fact) (messages_travel doc (suc e) x T at).0).0

@@ -1,6 +1,6 @@
 -- How long nobody leads at least after a leader in a calm has fallen silent. Source: client-go, package `leaderelection`; profile.
 use Rattle.std.specs.Int.{div_ceil}
-use Rattle.std.specs.Prelude.{◌≡◌, ◌≤◌, ℕ, suc, ◌+◌, ◌*◌, true, List, ◌∷◌, Some}
+use Rattle.std.specs.Prelude.{◌≡◌, ◌≤◌, ℕ, suc, ◌+◌, ◌*◌, Bool, true, cond, List, ◌∷◌, Some}
 use Rattle.kube_base.specs.declared.numbers.Version.{Version}
 use Rattle.kube_objects.specs.Document.{Doc, is_controller, lease_duration, retry_period}
 use Rattle.kube_objects.specs.Elector.{lead_says}
@@ -40,13 +40,20 @@ pub record TakesAtLeast (doc : Doc) (near far e p time least : ℕ) : Type 0 whe
   pub lasting_is : IsNeeded fast time lasting
   pub least_is : (beats : ℕ) → IsAtLeast (needed + 2 * near) (wait + 2 * far) lasting beats → least ≤ beats
 
+-- the ways of a renewal: a Get, its reply and the update, or the update alone where leaders renew without a Get
+abbrev pub renewal_ways : Bool → ℕ → ℕ
+renewal_ways quick far = cond quick far (3 * far)
+
+abbrev pub last_renewal : Doc → ℕ → ℕ
+last_renewal doc far = renewal_ways doc.settings.fast_renew far
+
 -- where a leader in a calm falls silent at beat b, each lead of another identity from then on comes no sooner than the looks of each other
 -- candidate take at least, and three ways, after its last write: that came no earlier before b than its renewals come apart
 abbrev pub SilenceLasts : Doc → Type 0
 SilenceLasts doc =
     (near far b e : ℕ) (q : Identity) → LeadsUntil doc near far b e q → (s : Bears doc near far b e q) → IsQuiet doc b e q.process
     → (least : ℕ) → ((p : ℕ) → is_controller doc p ≡ true → (p ≡ q.process → ⊥) → TakesAtLeast doc near far e p (lease_duration doc q.process) least)
-    → (k : ℕ) → IsLead doc b e q k → b + least + 3 * near ≤ k + s.renews.wait + 3 * far
+    → (k : ℕ) → IsLead doc b e q k → b + least + 3 * near ≤ k + s.renews.wait + last_renewal doc far
 
 abbrev pub SilencesLast : Type 0
 SilencesLast = (doc : Doc) → SilenceLasts doc
@@ -68,7 +75,7 @@ SilenceIsTold doc =
     (near far b e : ℕ) (q : Identity) → LeadsUntil doc near far b e q → (s : Bears doc near far b e q) → IsQuiet doc b e q.process
     → (slow fast : ℕ → ℕ) → ((p : ℕ) → is_controller doc p ≡ true → (p ≡ q.process → ⊥) → RunsWithin doc e p (slow p) (fast p))
     → (least : ℕ) → ((p : ℕ) → is_controller doc p ≡ true → (p ≡ q.process → ⊥) → least ≤ takes_least doc near far p (slow p) (fast p) (lease_duration doc q.process))
-    → (k : ℕ) → IsLead doc b e q k → b + least + 3 * near ≤ k + s.renews.wait + 3 * far
+    → (k : ℕ) → IsLead doc b e q k → b + least + 3 * near ≤ k + s.renews.wait + last_renewal doc far
 
 abbrev pub SilencesAreTold : Type 0
 SilencesAreTold = (doc : Doc) → SilenceIsTold doc

@@ -3,15 +3,13 @@ use Rattle.std.proofs.Common.{◌≡◌, ◌<◌, ◌≤◌, ℕ, suc, ◌+◌, 
 use Rattle.std.proofs.lemmas.Bool.{eq-eqb}
 use Rattle.kube_objects.specs.declared.call.Reply.{Reply}
 use Rattle.kube_objects.specs.declared.call.Request.{Request}
-use Rattle.kube_objects.specs.declared.deed.Actor.{Actor}
-use Rattle.kube_objects.specs.declared.deed.Actor.TheVariants as actors
 use Rattle.kube_objects.specs.Answers.{answer}
 use Rattle.kube_objects.specs.Document.{Doc, is_controller}
 use Rattle.kube_objects.specs.Elector.{follow_on, leads}
-use Rattle.kube_objects.specs.Entry.{Entry, Identity, Call, Fact, First as FirstPut, Event as Happens, Starts, Stops, Sends, Answers, Delivers, Expires, Leads, Ends, Crashes, Stalls, Ticks, actor_of, entry}
-use Rattle.kube_objects.specs.Identities.{is_by, of_process}
+use Rattle.kube_objects.specs.Entry.{Entry, Identity, Call, Sends, Delivers, actor_of, entry}
+use Rattle.kube_objects.specs.Identities.{is_by}
 use Rattle.kube_objects.specs.Kubelet.{next_request, send_next}
-use Rattle.kube_objects.specs.Newest.{when, has}
+use Rattle.kube_objects.specs.Newest.{when}
 use Rattle.kube_objects.specs.Process.{open_as, alive, call_in, is_late, counted}
 use Rattle.kube_objects.specs.Turns.{with_reply}
 use Rattle.kube_objects.specs.Wire.{Back, reply_arrival}
@@ -20,20 +18,20 @@ use Rattle.history.specs.Steps.{deliver_as, delivered, react_as}
 use Rattle.history_laws.specs.Order.{IsWithin, IsOrdered}
 use Rattle.history_laws.specs.Tails.{In, IsTail}
 use Rattle.history_laws.proofs.Order.{entries_are_earlier, entries_are_ordered}
-use Rattle.history_laws.proofs.Plainly.{none_is, false_is, and_left, same_is, same_self}
+use Rattle.history_laws.proofs.Plainly.{none_is, false_is, same_self}
 use Rattle.history_laws.proofs.Tailed.{tail_all, tail_trans, in_tail, later_tail, two_adds, same_head, same_rest}
 use Rattle.call_laws.specs.Answering.{with_events, with_answers}
-use Rattle.call_laws.specs.Waiting.{Closes, IsClosed}
+use Rattle.call_laws.specs.Waiting.{IsClosed}
 use Rattle.call_laws.proofs.Above.{in_head, next_above}
 use Rattle.call_laws.proofs.Answering.{before_events}
-use Rattle.call_laws.proofs.Making.{MadeAs, are_made}
+use Rattle.call_laws.proofs.Making.{are_made, MadeDelivery}
 use Rattle.call_laws.proofs.Placing.{from_beat, in_own_beat, not_before}
 use Rattle.call_laws.proofs.Waiting.{calls_wait}
 use Rattle.takeover_laws.specs.Calm.{IsSteady, IsInTime}
 use Rattle.takeover_laws.specs.Rounds.{IsRound}
 use Rattle.takeover_laws.proofs.Deliveries.{Waits, delivered_adds}
 use Rattle.takeover_laws.proofs.Rounds.{rounds_are_short}
-use Rattle.takeover_laws.proofs.Writers.{delivers, follow_adds, timely}
+use Rattle.takeover_laws.proofs.Writers.{delivers, follow_adds, timely, closed_by}
 use Rattle.calm_laws.proofs.Begun.{Begun, begun_by, by_is, waits_between}
 use Rattle.calm_laws.proofs.First.{entry_is}
 use Rattle.calm_laws.proofs.Origins.{sends_differ}
@@ -161,7 +159,15 @@ module _ (doc : Doc) (near far a e : ℕ) (q : Identity) (role : is_controller d
             (follow_adds y q (leads q (with_reply y q call back.reply before)) (follow_on doc q y call.kind call.request back.reply (with_reply y q call back.reply before)) (with_reply y q call back.reply before))
 
     replied : IsClosed q call (x ∷ T) all → IsReplied doc q call (x ∷ T) (x.beat + 2 * far)
-    replied c = cases c.e.actor c.e.fact refl refl (are_made doc (suc y) c.e c.before position) c.closes
+    replied c =
+        closed_by q call c.e c.before doc (IsReplied doc q call (x ∷ T) (x.beat + 2 * far)) (are_made doc (suc y) c.e c.before position) c.closes delivers_it
+        (λ made mine late. absurd (false_is (sym (on_time c.e.beat from_x upto) ∙ late)))
+        (λ fact own. absurd (omega (
+          arith,
+          from,
+          from_x,
+          steady.stops c.e (in_tail c.e (history doc (suc y)) (history doc (suc e)) (later_tail doc (suc y) (suc e) (omega (arith, y_most, room))) (in_head c.e c.before (history doc (suc y)) position)) fact own,
+        )))
       where
         position : IsTail (c.e ∷ c.before) (history doc (suc y))
         position = tail_trans (c.e ∷ c.before) all (history doc (suc y)) c.position all_high
@@ -175,44 +181,17 @@ module _ (doc : Doc) (near far a e : ℕ) (q : Identity) (role : is_controller d
         upto : c.e.beat ≤ y
         upto = ⊎_elim (λ lt. omega (arith, lt)) (λ first. omega (arith, first.0)) (entries_are_earlier doc (suc y) c.e (in_head c.e c.before (history doc (suc y)) position))
 
-        cases : (who : Actor) (d : Fact) → c.e.actor ≡ who → c.e.fact ≡ d → MadeAs doc c.e.beat c.e.step who d c.before → Closes q call who d → IsReplied doc q call (x ∷ T) (x.beat + 2 * far)
-        cases who (Delivers w reply true) actor fact made closes = record {
+        delivers_it : (w : Call) (reply : Reply) → c.e.fact ≡ Delivers w reply true → MadeDelivery doc c.e.beat c.e.step c.e.actor w reply c.before → is_by q c.e.actor ≡ true → w ≡ call → IsReplied doc q call (x ∷ T) (x.beat + 2 * far)
+        delivers_it w reply fact made own same = record {
           at = c.e.beat;
           most = omega (arith, upto, y_most);
           reply = reply;
           before = c.before;
           position =
-              subst (λ z. IsTail (z ∷ c.before) (history doc (suc c.e.beat))) (entry_is c.e 3 q (Delivers call reply true) made.step_is (actor ∙ by_is q who closes.0) (fact ∙ ap (λ w. Delivers w reply true) closes.1))
+              subst (λ z. IsTail (z ∷ c.before) (history doc (suc c.e.beat))) (entry_is c.e 3 q (Delivers call reply true) made.step_is (by_is q c.e.actor own) (fact ∙ ap (λ w. Delivers w reply true) same))
               (in_own_beat doc (suc y) c.e c.before position);
           since = c.since;
         }
-        cases who (Expires w) actor fact made closes =
-            let mine : made.q ≡ q = same_is made.q q (sym (ap (is_by q) made.by) ∙ closes.0) in
-            let late : is_late doc q c.e.beat call ≡ true = subst (λ p. is_late doc p c.e.beat call ≡ true) mine (subst (λ w. is_late doc made.q c.e.beat w ≡ true) closes.1 made.late) in
-            absurd (false_is (sym (on_time c.e.beat from_x upto) ∙ late))
-        cases who Stops actor fact made closes =
-            absurd (omega (
-              arith,
-              from,
-              from_x,
-              steady.stops c.e
-                  (in_tail c.e (history doc (suc y)) (history doc (suc e)) (later_tail doc (suc y) (suc e) (omega (arith, y_most, room))) (in_head c.e c.before (history doc (suc y)) position)) fact (ap (λ who. has (of_process q.process who)) actor ∙ by_process who closes),
-            ))
-          where
-            by_process : (who : Actor) → is_by q who ≡ true → has (of_process q.process who) ≡ true
-            by_process actors.Script is = absurd (false_is is)
-            by_process (actors.Proc id i) is = ap (λ b. has (when b i)) (and_left (id.0 == q.process) (i == q.incarnation) is)
-        cases who (FirstPut key object) actor fact made closes = elim closes [ ]
-        cases who (Happens w version) actor fact made closes = elim closes [ ]
-        cases who Starts actor fact made closes = elim closes [ ]
-        cases who Crashes actor fact made closes = elim closes [ ]
-        cases who Ends actor fact made closes = elim closes [ ]
-        cases who (Stalls beats) actor fact made closes = elim closes [ ]
-        cases who (Sends w arrives) actor fact made closes = elim closes [ ]
-        cases who (Answers w reply comes wrote) actor fact made closes = elim closes [ ]
-        cases who (Delivers w reply false) actor fact made closes = elim closes [ ]
-        cases who (Leads version) actor fact made closes = elim closes [ ]
-        cases who (Ticks tick) actor fact made closes = elim closes [ ]
 
     pub is_replied : IsReplied doc q call (x ∷ T) (x.beat + 2 * far)
     is_replied =

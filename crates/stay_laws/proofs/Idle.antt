@@ -1,27 +1,27 @@
 -- A leader whose timer has come sends a request: one to renew its lead at once, or a Get.
-use Rattle.std.proofs.Common.{◌≡◌, ◌⊎◌, ◌<◌, ◌≤◌, ℕ, ◌+◌, ◌&&◌, not, nat_lt, Bool, true, false, List, [], ◌∷◌, Option, Some, None, refl, sym, ap, ◌∙◌, subst, inl, inr, ⊎_elim, arith}
+use Rattle.std.proofs.Common.{◌≡◌, ◌⊎◌, ◌<◌, ◌≤◌, ℕ, ◌+◌, ◌&&◌, nat_lt, Bool, true, false, List, [], ◌∷◌, Option, Some, None, refl, sym, ap, ◌∙◌, subst, inl, inr, ⊎_elim, arith}
 use Rattle.std.specs.Prelude.{if◌then◌else◌}
 use Rattle.std.proofs.lemmas.Bool.{ltb-true, ltb-false}
 use Rattle.kube_objects.specs.declared.deed.Actor.{Actor}
 use Rattle.kube_objects.specs.Clocks.{local}
-use Rattle.kube_objects.specs.Document.{Doc, is_controller, retry_period}
-use Rattle.kube_objects.specs.Elector.{told, is_fast, Shown, shown, shows, leads, follow_on, timer_follow, timer_says, timer, deadline, attempt}
+use Rattle.kube_objects.specs.Document.{Doc, is_controller}
+use Rattle.kube_objects.specs.Elector.{Shown, shown, shows, leads, timer_says, timer, deadline, attempt}
 use Rattle.kube_objects.specs.Entry.{Entry, Identity, Call, Fact, First as FirstPut, Event as Happens, Starts, Stops, Sends, Answers, Delivers, Expires, Leads, Ends, Crashes, Stalls, Ticks, actor_of, entry}
 use Rattle.kube_objects.specs.Identities.{is_by}
-use Rattle.kube_objects.specs.Newest.{newest, when, only_if, join, has, or_zero}
+use Rattle.kube_objects.specs.Newest.{newest, when, join, or_zero}
 use Rattle.kube_objects.specs.Pauses.{is_paused}
-use Rattle.kube_objects.specs.Process.{alive, starts, open_as, call_says, last_call, call_in}
-use Rattle.kube_objects.specs.Turns.{expire_call, expired, end_term, expired_in, just_expired, is_fast_call, attempt_if, try}
+use Rattle.kube_objects.specs.Process.{alive, starts, call_says, last_call, call_in}
+use Rattle.kube_objects.specs.Turns.{end_term, expired_in, just_expired}
 use Rattle.kube_objects.specs.Wire.{send}
 use Rattle.history.specs.History.{history}
-use Rattle.history.specs.Steps.{if_up, restart_if, restart, expire, finish, attempts, ticks, controller_turn, kubelet_turn, unpaused_turn, turn}
+use Rattle.history.specs.Steps.{if_up, finish, turn}
 use Rattle.history_laws.specs.Tails.{IsTail}
 use Rattle.history_laws.proofs.Counting.{counted_is}
 use Rattle.history_laws.proofs.Plainly.{upper, none_is, true_is, same_is, same_self}
 use Rattle.history_laws.proofs.Tailed.{tail_all, tail_trans, same_head}
 use Rattle.call_laws.proofs.Making.{MadeAs, are_made}
 use Rattle.call_laws.proofs.Starting.{starts_are_down}
-use Rattle.takeover_laws.proofs.Unasked.{ticks_add}
+use Rattle.takeover_laws.proofs.Unasked.{turn_sends, others_call, others_time, others_show}
 use Rattle.calm_laws.proofs.Begun.{by_is}
 use Rattle.stay_laws.proofs.Reacting.{leads_are_new}
 
@@ -30,13 +30,8 @@ use Rattle.stay_laws.proofs.Reacting.{leads_are_new}
 pub leader_tries : (doc : Doc) (k : ℕ) (q : Identity) (g : List Entry) (end : ℕ) → is_controller doc q.process ≡ true → is_paused doc q.process k ≡ false → alive q.process g ≡ Some q.incarnation → call_in q g ≡ None → deadline doc q g ≡ Some end
     → local doc q.process k < end → just_expired q k g ≡ None → timer doc q g ≤ local doc q.process k → IsTail (send k 4 q (attempt doc q k g).0 (attempt doc q k g).1 g) (turn doc k q.process g)
 leader_tries doc k q g end role awake up call set soon expiry due =
-    subst (λ b. IsTail sent (if b then g else unpaused_turn doc k q.process g)) (sym awake)
-    (subst (λ b. IsTail sent (if b then controller_turn doc k q.process g else kubelet_turn doc k q.process g)) (sym role)
-    (subst (IsTail sent) (sym whole) (ticks_add doc k q.process sent)))
+    turn_sends doc k q g role awake up call finishes expiry past
   where
-    sent : List Entry
-    sent = send k 4 q (attempt doc q k g).0 (attempt doc q k g).1 g
-
     before : nat_lt (local doc q.process k) end ≡ true
     before = by_test (nat_lt (local doc q.process k) end) refl
       where
@@ -51,30 +46,10 @@ leader_tries doc k q g end role awake up call set soon expiry due =
         by_test false is = is
         by_test true is = absurd (omega (arith, due, ltb-true (local doc q.process k) (timer doc q g) is))
 
-    restarts : restart doc k q.process g ≡ g
-    restarts = ap (λ o. restart_if doc k q.process o g) up
-
-    expires : expire doc k q.process g ≡ g
-    expires = ap (λ o. if_up q.process (λ q T. expired doc k q T) o g) up ∙ ap (λ o. expire_call doc k q o g) call
-
     finishes : finish doc k q.process g ≡ g
     finishes =
         ap (λ o. if_up q.process (λ q T. end_term doc k q (deadline doc q T) T) o g) up ∙ ap (λ o. end_term doc k q o g) set
         ∙ ap (λ b. if b then g else entry k 4 q Ends ∷ g) before
-
-    tries : attempts doc k q.process g ≡ sent
-    tries =
-        ap (λ o. if_up q.process (try doc k) o g) up
-        ∙ ap (λ o. attempt_if doc k q (is_fast_call o) (not (has (call_in q g)) && not (nat_lt (local doc q.process k) (timer doc q g))) g) expiry
-        ∙ ap (λ o. attempt_if doc k q false (not (has o) && not (nat_lt (local doc q.process k) (timer doc q g))) g) call
-        ∙ ap (λ b. attempt_if doc k q false (not b) g) past
-
-    whole : controller_turn doc k q.process g ≡ ticks doc k q.process sent
-    whole =
-        ap (λ h. ticks doc k q.process (attempts doc k q.process (finish doc k q.process (expire doc k q.process h)))) restarts
-        ∙ ap (λ h. ticks doc k q.process (attempts doc k q.process (finish doc k q.process h))) expires
-        ∙ ap (λ h. ticks doc k q.process (attempts doc k q.process h)) finishes
-        ∙ ap (ticks doc k q.process) tries
 
 -- ---- after a success
 
@@ -145,56 +120,7 @@ module _ (doc : Doc) (q : Identity) (low : List Entry) (at : ℕ) (view : Option
         below_m = tail_trans h (x ∷ h) (history doc m) (inr (tail_all h)) position
 
         foreign : is_by q x.actor ≡ false → Idle (x ∷ h)
-        foreign other = idle_more x h (calls x.actor x.fact other) (timers x.fact) (views x.actor x.fact other) (inr other) (inr other) s
-          where
-            calls : (who : Actor) (d : Fact) → is_by q who ≡ false → call_says q who d ≡ None
-            calls who (Sends c arrives) other = ap (λ b. when b (open_as c.kind c)) other
-            calls who (Delivers c reply false) other = refl
-            calls who (Delivers c reply true) other = ap (λ b. when b None) other
-            calls who (Expires c) other = ap (λ b. when b None) other
-            calls who (FirstPut key object) other = refl
-            calls who (Happens w version) other = refl
-            calls who Starts other = refl
-            calls who Crashes other = refl
-            calls who Stops other = refl
-            calls who (Stalls beats) other = refl
-            calls who Ends other = refl
-            calls who (Answers c reply comes wrote) other = refl
-            calls who (Leads version) other = refl
-            calls who (Ticks t) other = refl
-
-            timers : (d : Fact) → timer_says doc q x h d ≡ None
-            timers Starts = ap (λ b. when b (local doc q.process x.beat)) other
-            timers (Leads version) = ap (λ b. when b (local doc q.process x.beat)) other
-            timers (Expires c) = ap (λ b. when (b && not (is_fast c.kind)) (local doc q.process x.beat + retry_period doc q.process)) other
-            timers (Delivers c reply false) = refl
-            timers (Delivers c reply true) =
-                ap (λ b. only_if b (timer_follow (follow_on doc q x.beat c.kind c.request reply (x ∷ h)) (leads q h) (local doc q.process x.beat + retry_period doc q.process))) other
-            timers (Sends c arrives) = refl
-            timers (FirstPut key object) = refl
-            timers (Happens w version) = refl
-            timers Crashes = refl
-            timers Stops = refl
-            timers (Stalls beats) = refl
-            timers Ends = refl
-            timers (Answers c reply comes wrote) = refl
-            timers (Ticks t) = refl
-
-            views : (who : Actor) (d : Fact) → is_by q who ≡ false → shows q who d ≡ None
-            views who (Delivers c reply false) other = refl
-            views who (Delivers c reply true) other = ap (λ b. only_if b (told c.request reply)) other
-            views who (Sends c arrives) other = refl
-            views who (Expires c) other = refl
-            views who (FirstPut key object) other = refl
-            views who (Happens w version) other = refl
-            views who Starts other = refl
-            views who Crashes other = refl
-            views who Stops other = refl
-            views who (Stalls beats) other = refl
-            views who Ends other = refl
-            views who (Answers c reply comes wrote) other = refl
-            views who (Leads version) other = refl
-            views who (Ticks t) other = refl
+        foreign other = idle_more x h (others_call q x.actor x.fact other) (others_time doc q x h x.fact other) (others_show q x.actor x.fact other) (inr other) (inr other) s
 
         -- an entry that changes no reading of an elector, whoever its actor is
         plain : (d : Fact) → x.fact ≡ d → call_says q x.actor d ≡ None → timer_says doc q x h d ≡ None → shows q x.actor d ≡ None → ((k : ℕ) → expired_in k x.beat d ≡ None) → is_move d ≡ false → Idle (x ∷ h)

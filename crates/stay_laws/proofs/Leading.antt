@@ -1,31 +1,29 @@
 -- Who leads is up and acts until its clock has gone a renew deadline since its timer.
 use Rattle.std.proofs.Common.{◌≡◌, ◌<◌, ◌≤◌, ℕ, suc, ◌+◌, ◌==◌, ◌&&◌, nat_lt, Bool, true, false, List, [], ◌∷◌, Option, Some, None, refl, sym, ap, ◌∙◌, subst, inl, inr, ⊎_elim, arith}
-use Rattle.std.proofs.lemmas.Bool.{ltb-false, eqb-true, cases_lt}
-use Rattle.kube_objects.specs.declared.deed.Actor.{Actor}
+use Rattle.std.proofs.lemmas.Bool.{ltb-false, cases_lt}
 use Rattle.kube_objects.specs.Clocks.{local}
 use Rattle.kube_objects.specs.Document.{Doc, is_controller, retry_period, renew_deadline}
 use Rattle.kube_objects.specs.Elector.{succeeds, leads, deadline_says, deadline}
 use Rattle.kube_objects.specs.Entry.{Entry, Identity, Fact, First, Event as Happens, Starts, Stops, Sends, Answers, Delivers, Expires, Leads, Ends, Crashes, Stalls, Ticks}
-use Rattle.kube_objects.specs.Identities.{identity, is_by, of_process}
-use Rattle.kube_objects.specs.Newest.{when, join, has}
+use Rattle.kube_objects.specs.Identities.{is_by, of_process}
+use Rattle.kube_objects.specs.Newest.{has}
 use Rattle.kube_objects.specs.Pauses.{can_at}
-use Rattle.kube_objects.specs.Process.{born, gone, life_says, life, alive, starts}
+use Rattle.kube_objects.specs.Process.{alive}
 use Rattle.kube_objects.proofs.Clocks.{local_up}
 use Rattle.history.specs.History.{history, at_turn}
 use Rattle.history.specs.Safe.{Acts}
 use Rattle.history_laws.specs.Tails.{In, IsTail}
 use Rattle.history_laws.proofs.Counting.{when_test, when_value}
 use Rattle.history_laws.proofs.Order.{entries_are_earlier}
-use Rattle.history_laws.proofs.Plainly.{upper, some_is, none_is, true_is, identity_eq}
+use Rattle.history_laws.proofs.Plainly.{upper, some_is, none_is, true_is}
 use Rattle.history_laws.proofs.Tailed.{tail_all, tail_trans, in_tail, turn_tail, before_turn, later_tail}
 use Rattle.call_laws.proofs.Above.{next_above, in_head}
-use Rattle.call_laws.proofs.Making.{MadeAs, are_made}
+use Rattle.call_laws.proofs.Making.{MadeEnd}
 use Rattle.call_laws.proofs.Placing.{from_beat}
-use Rattle.call_laws.proofs.Starting.{starts_are_down}
 use Rattle.takeover_laws.specs.Calm.{IsSteady}
 use Rattle.takeover_laws.proofs.Asking.{leads_on}
 use Rattle.takeover_laws.proofs.Fresh.{can_least, acts_before}
-use Rattle.takeover_laws.proofs.Standing.{controllers_first}
+use Rattle.takeover_laws.proofs.Standing.{controllers_first, lives_on}
 use Rattle.calm_laws.proofs.Begun.{by_is}
 use Rattle.stay_laws.proofs.Reacting.{leads_are_new}
 
@@ -102,49 +100,20 @@ module _ (doc : Doc) (near far a e m : ℕ) (q : Identity) (role : is_controller
 
   module _ (K : ℕ) (timely : IsTimely doc q.process at K) where
     still_up : (x : Entry) (T : List Entry) → IsTail low T → IsTail (x ∷ T) (history doc m) → (x.step ≡ 4 → x.beat < K) → alive q.process T ≡ Some q.incarnation → alive q.process (x ∷ T) ≡ Some q.incarnation
-    still_up x T below stands early up = cases x.actor x.fact refl refl (are_made doc m x T stands)
+    still_up x T below stands early up =
+        lives_on doc m q x T stands
+        (λ fact first own. let before = steady.crashes x (placed x T stands) fact own in omega (arith, before, since, from))
+        (λ fact own. let before = steady.stops x (placed x T stands) fact own in omega (arith, before, since, from)) no_end up
       where
         since : y ≤ x.beat
         since = later x T below stands
 
-        cases : (who : Actor) (d : Fact) → x.actor ≡ who → x.fact ≡ d → MadeAs doc x.beat x.step who d T → join (upper (life_says q.process who d) (life q.process T)) ≡ Some q.incarnation
-        cases who Starts actor fact made = by_test (made.0 == q.process) refl
-          where
-            by_test : (b : Bool) → (made.0 == q.process) ≡ b → join (upper (born (of_process q.process who)) (life q.process T)) ≡ Some q.incarnation
-            by_test false other = ap (λ o. join (upper (born o) (life q.process T))) (ap (of_process q.process) made.1 ∙ ap (λ b. when b (starts made.0 T + 1)) other) ∙ up
-            by_test true is =
-                let p : made.0 ≡ q.process = eqb-true made.0 q.process is in
-                absurd (none_is q.incarnation (sym (starts_are_down doc m x T stands fact (identity made.0 (starts made.0 T + 1)) (actor ∙ made.1)) ∙ ap (λ p. alive p T) p ∙ up))
-        cases who Crashes actor fact made = by_own (of_process q.process who) refl
-          where
-            by_own : (o : Option ℕ) → of_process q.process who ≡ o → join (upper (gone o) (life q.process T)) ≡ Some q.incarnation
-            by_own None is = up
-            by_own (Some j) is = let before = steady.crashes x (placed x T stands) fact (ap (λ who. has (of_process q.process who)) actor ∙ ap has is) in absurd (omega (arith, before, since, from))
-        cases who Stops actor fact made = by_own (of_process q.process who) refl
-          where
-            by_own : (o : Option ℕ) → of_process q.process who ≡ o → join (upper (gone o) (life q.process T)) ≡ Some q.incarnation
-            by_own None is = up
-            by_own (Some j) is = let before = steady.stops x (placed x T stands) fact (ap (λ who. has (of_process q.process who)) actor ∙ ap has is) in absurd (omega (arith, before, since, from))
-        cases who Ends actor fact made = by_test (made.q.process == q.process) refl
-          where
-            by_test : (b : Bool) → (made.q.process == q.process) ≡ b → join (upper (gone (of_process q.process who)) (life q.process T)) ≡ Some q.incarnation
-            by_test false other = ap (λ o. join (upper (gone o) (life q.process T))) (ap (of_process q.process) made.by ∙ ap (λ b. when b made.q.incarnation) other) ∙ up
-            by_test true is =
-                let p : made.q.process ≡ q.process = eqb-true made.q.process q.process is in
-                let same : made.q ≡ q = identity_eq made.q q p (some_is made.q.incarnation q.incarnation (sym made.up ∙ ap (λ p. alive p T) p ∙ up)) in
-                let t : IsInTerm doc q at T = in_term T below (tail_trans T (x ∷ T) (history doc m) (inr (tail_all T)) stands) in
-                let end : t.end ≡ made.at = some_is t.end made.at (sym t.set ∙ ap (λ q. deadline doc q T) (sym same) ∙ made.deadline_is) in
-                let late = ltb-false (local doc q.process x.beat) made.at (ap (λ (q : Identity). nat_lt (local doc q.process x.beat) made.at) (sym same) ∙ made.late) in
-                absurd (omega (arith, t.late, end, late, timely x.beat (early made.step_is)))
-        cases who (First key object) actor fact made = up
-        cases who (Happens w version) actor fact made = up
-        cases who (Sends call arrives) actor fact made = up
-        cases who (Answers call reply comes wrote) actor fact made = up
-        cases who (Delivers call reply counted) actor fact made = up
-        cases who (Expires call) actor fact made = up
-        cases who (Ticks t) actor fact made = up
-        cases who (Stalls beats) actor fact made = up
-        cases who (Leads version) actor fact made = up
+        no_end : x.fact ≡ Ends → (made : MadeEnd doc x.beat x.step x.actor T) → has (of_process q.process x.actor) ≡ true → made.q ≡ q → ⊥
+        no_end fact made own same =
+            let t : IsInTerm doc q at T = in_term T below (tail_trans T (x ∷ T) (history doc m) (inr (tail_all T)) stands) in
+            let end : t.end ≡ made.at = some_is t.end made.at (sym t.set ∙ ap (λ q. deadline doc q T) (sym same) ∙ made.deadline_is) in
+            let late = ltb-false (local doc q.process x.beat) made.at (ap (λ (q : Identity). nat_lt (local doc q.process x.beat) made.at) (sym same) ∙ made.late) in
+            omega (arith, t.late, end, late, timely x.beat (early made.step_is))
 
     -- it is up
     pub up_at : (h : List Entry) → IsTail low h → IsTail h (history doc m) → AllBefore K h → alive q.process h ≡ Some q.incarnation

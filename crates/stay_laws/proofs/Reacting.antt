@@ -3,31 +3,28 @@ use Rattle.std.proofs.Common.{◌≡◌, ◌⊎◌, ℕ, suc, Bool, true, false,
 use Rattle.kube_base.specs.declared.numbers.Version.{Version}
 use Rattle.kube_objects.specs.declared.call.Reply.{Reply}
 use Rattle.kube_objects.specs.declared.call.Request.{Request}
-use Rattle.kube_objects.specs.declared.key.Key.{Key}
-use Rattle.kube_objects.specs.declared.object.Object.{Object}
-use Rattle.kube_objects.specs.Clocks.{store_wall, whole_second}
 use Rattle.kube_objects.specs.Document.{Doc, processes, is_controller}
 use Rattle.kube_objects.specs.Elector.{Follow, Fails, Asks, Succeeds, follow_on, leads}
-use Rattle.kube_objects.specs.Entry.{Entry, Identity, Call, Fact, First, Delivers, Leads, actor_of, entry, script_entry}
+use Rattle.kube_objects.specs.Entry.{Entry, Identity, Call, Fact, Delivers, Leads, actor_of, entry}
 use Rattle.kube_objects.specs.InFlight.{replies_due}
 use Rattle.kube_objects.specs.Kubelet.{next_request, send_next}
 use Rattle.kube_objects.specs.Process.{counted}
-use Rattle.kube_objects.specs.Stamps.{stamped}
 use Rattle.kube_objects.specs.Turns.{react}
 use Rattle.kube_objects.specs.Wire.{Back}
-use Rattle.history.specs.History.{put_all, history}
+use Rattle.history.specs.History.{history}
 use Rattle.history.specs.Steps.{deliver_all, deliver_as, delivered, react_as, step_three}
 use Rattle.history_laws.specs.Tails.{IsTail}
 use Rattle.history_laws.proofs.Plainly.{true_is}
-use Rattle.history_laws.proofs.Tailed.{tail_all, tail_trans, tail_of_empty, tails_meet, same_head, same_rest}
-use Rattle.history_laws.proofs.Ticks.{walk_tick}
-use Rattle.history_laws.proofs.Walk.{Anyone, Keeps, after_reply, stopped_at, all_turns, walk_any_turns, walk_history}
+use Rattle.history_laws.proofs.Tailed.{tail_all, tail_trans, tails_meet, same_head, same_rest}
+use Rattle.history_laws.proofs.Walk.{Anyone, all_turns, walk_any_turns}
 use Rattle.call_laws.specs.Answering.{with_answers}
 use Rattle.call_laws.proofs.Above.{Above, above_all, above_meet, in_head, tail_length}
 use Rattle.call_laws.proofs.Answering.{deliveries_position}
 use Rattle.call_laws.proofs.Placing.{within_answers, in_own_beat}
 use Rattle.call_laws.proofs.Starting.{actor_is}
 use Rattle.takeover_laws.proofs.Deliveries.{deliveries_add}
+use Rattle.takeover_laws.proofs.Asking.{call_or, reply_or}
+use Rattle.calm_laws.proofs.Added.{leads_by}
 
 -- ---- an entry of step 3 is among the deliveries of its beat
 
@@ -99,14 +96,6 @@ is_delivery _ = false
 abbrev is_counted : Fact → Bool
 is_counted (Delivers call reply counted) = counted
 is_counted _ = false
-
-abbrev call_or : Call → Fact → Call
-call_or c (Delivers d reply counted) = d
-call_or c _ = c
-
-abbrev reply_or : Reply → Fact → Reply
-reply_or r (Delivers d reply counted) = reply
-reply_or r _ = r
 
 -- what comes above the reply is no delivery
 reply_stands : (k : ℕ) (q : Identity) (led : Bool) (f : Follow) (R : List Entry) (x : Entry) (T : List Entry) → is_delivery x.fact ≡ true → IsTail (x ∷ T) (react k q led f R) → IsTail (x ∷ T) R
@@ -180,55 +169,6 @@ replies_follow doc m q x T w reply at step actor role fact = cases (counted doc 
 
 -- ---- who comes to lead
 
--- in step 3 alone
-abbrev LeadsInThree : ℕ → Fact → Type 0
-LeadsInThree step (Leads version) = step ≡ 3
-LeadsInThree step _ = Unit {0}
-
-abbrev AllInThree : List Entry → Type 0
-AllInThree h = (x : Entry) (before : List Entry) → IsTail (x ∷ before) h → LeadsInThree x.step x.fact
-
-more : (x : Entry) (h : List Entry) → LeadsInThree x.step x.fact → AllInThree h → AllInThree (x ∷ h)
-more x h new s e before (inl is) = subst (λ (e : Entry). LeadsInThree e.step e.fact) (sym (same_head e x before h is)) new
-more x h new s e before (inr at) = s e before at
-
-three_keeps : (doc : Doc) → Keeps doc (λ k step h. AllInThree h)
-three_keeps doc = record {
-  on = λ k step h s. s;
-  next = λ k s. s;
-  event = λ k w h scripted s. more _ h tt s;
-  starts = λ k step p h s. more _ h tt s;
-  crashes = λ k p i h up s. more _ h tt s;
-  stalls = λ k id beats i h scripted up s. more _ h tt s;
-  stops = λ k id i h scripted up s. more _ h tt s;
-  releases = λ k id i before request scripted up awake is was s. more _ (stopped_at k id i before) tt s;
-  answers = λ k x h at s. more _ h tt s;
-  ignores = λ k b h coming is s. more _ h tt s;
-  counts = λ k b waiting h coming is s. more _ h tt s;
-  follows = λ k b waiting h request coming is role follows was s. more _ (after_reply k b waiting h) tt s;
-  leads = λ k b waiting h version coming is role follows was s. more _ (after_reply k b waiting h) refl s;
-  asks = λ k b waiting h request coming is role asked was s. more _ (after_reply k b waiting h) tt s;
-  turns = record {
-    restarts = λ k p h s. more _ h tt s;
-    expires = λ k p i call h up waits late s. more _ h tt s;
-    ends = λ k p i at h role up is before s. more _ h tt s;
-    polls = λ k p i h role up awake waits s. more _ h tt s;
-    attempts = λ k p i h role up awake waits s. more _ h tt s;
-    seeks = λ k p i call h role up awake expired late s. more _ h tt s;
-    posts = λ k p i h role up awake none s. more _ h tt s;
-    ticks = λ k q h acting s. walk_tick doc k q AllInThree (λ t g made s. more _ g tt s) h s;
-  };
-}
-
-puts_three : (doc : Doc) (xs : List (Key × Object)) (h : List Entry) → AllInThree h → AllInThree (put_all doc xs h)
-puts_three doc [] h s = s
-puts_three doc (x ∷ xs) h s =
-    let e = script_entry 0 0 (First x.0 (stamped (whole_second (store_wall doc 0)) x.1)) in
-    puts_three doc xs (e ∷ h) (more e h tt s)
-
-leads_in_three : (doc : Doc) (k : ℕ) (x : Entry) (before : List Entry) → IsTail (x ∷ before) (history doc k) → LeadsInThree x.step x.fact
-leads_in_three doc k = walk_history doc (λ k step h. AllInThree h) (three_keeps doc) (puts_three doc doc.objects [] (λ x before at. absurd (tail_of_empty x before at))) k
-
 abbrev is_lead : Fact → Bool
 is_lead (Leads version) = true
 is_lead _ = false
@@ -241,7 +181,7 @@ leads_are_new doc m q x T version at actor fact = cases (counted doc p k s.b.cal
     k = x.beat
 
     s : From doc k x T (history doc (suc k))
-    s = from_three doc m x T at (subst (LeadsInThree x.step) fact (leads_in_three doc m x T at))
+    s = from_three doc m x T at ((leads_by doc m x T version at fact).step_is)
 
     p : Identity
     p = s.b.who

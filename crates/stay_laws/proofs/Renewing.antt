@@ -50,7 +50,7 @@ use Rattle.stay_laws.proofs.Written as wrote
 -- ---- requests and replies
 
 -- a leader that was shown a version of its own asks for the record, or renews it on that version
-attempt_is : (doc : Doc) (q : Identity) (k : ℕ) (h : List Entry) (version : Version) (lease : Lease) → shown q h ≡ Some (version, lease)
+pub attempt_is : (doc : Doc) (q : Identity) (k : ℕ) (h : List Entry) (version : Version) (lease : Lease) → shown q h ≡ Some (version, lease)
     → ((attempt doc q k h).1 ≡ Get election) ⊎ ((next : Lease) × ((attempt doc q k h).1 ≡ Update election version next))
 attempt_is doc q k h version lease is = by_test (doc.settings.fast_renew && leads q h)
   where
@@ -75,11 +75,11 @@ update_done h x version lease top same =
     ∙ ap (λ b. cond b (Done (next_version h)) (Conflict x.version)) (eq-eqb x.version.0 version.0 (ap (λ (v : Version). v.0) same))
 
 -- a Get finds a stored Lease
-get_found : (h : List Entry) (x : Held) (lease : Lease) → stored election h ≡ Some x → lease_in x.object ≡ Some lease → answer (Get election) h ≡ Found x.version lease
+pub get_found : (h : List Entry) (x : Held) (lease : Lease) → stored election h ≡ Some x → lease_in x.object ≡ Some lease → answer (Get election) h ≡ Found x.version lease
 get_found h x lease top is = ap (λ o. answer_get (as_kind lease_in o)) top ∙ ap (λ l. answer_get (versioned x.version l)) is
 
 -- and one's own is renewed
-own_asks : (q : Identity) (m : Moment) (seen : ℕ) (version : Version) (lease : Lease) → is_other q lease.holder ≡ false → follow_get q m seen (Found version lease) ≡ Asks (Update election version (updated q m lease))
+pub own_asks : (q : Identity) (m : Moment) (seen : ℕ) (version : Version) (lease : Lease) → is_other q lease.holder ≡ false → follow_get q m seen (Found version lease) ≡ Asks (Update election version (updated q m lease))
 own_asks q m seen version lease own = ap (λ b. cond (b && is_valid m.now seen lease) Fails (Asks (Update election version (updated q m lease)))) own
 
 abbrev call_or : Call → Fact → Call

@@ -1,7 +1,6 @@
 -- What a success leaves: a leader whose timer is set, and that has no call.
 use Rattle.std.proofs.Common.{◌≡◌, ◌≤◌, ℕ, suc, ◌+◌, ◌&&◌, Bool, true, false, List, ◌∷◌, length, Some, None, refl, sym, ap, ◌∙◌, subst, inl, inr, arith}
 use Rattle.kube_base.specs.declared.numbers.Version.{Version}
-use Rattle.kube_objects.specs.declared.call.Reply.{Reply}
 use Rattle.kube_objects.specs.declared.call.Reply.TheVariants.{Done}
 use Rattle.kube_objects.specs.declared.call.Request.{Request}
 use Rattle.kube_objects.specs.declared.call.Request.TheVariants.{Get, Create, Update, PostStatus}
@@ -25,6 +24,7 @@ use Rattle.call_laws.proofs.Making.{MadeDelivery, are_made}
 use Rattle.call_laws.proofs.Placing.{not_before}
 use Rattle.call_laws.proofs.Starting.{actor_is}
 use Rattle.takeover_laws.proofs.Fresh.{can_least}
+use Rattle.takeover_laws.proofs.Asking.{call_or, reply_or}
 use Rattle.calm_laws.proofs.Asked.{IsWrite}
 use Rattle.stay_laws.proofs.Reacting.{replies_follow, in_three}
 use Rattle.stay_laws.proofs.Leading.{IsLeader}
@@ -68,14 +68,6 @@ too_long low z Z at below = longer (tail_length (z ∷ Z) low at) (tail_length l
 abbrev is_lead : Fact → Bool
 is_lead (Leads version) = true
 is_lead _ = false
-
-abbrev call_or : Call → Fact → Call
-call_or c (Delivers d reply counted) = d
-call_or c _ = c
-
-abbrev reply_or : Reply → Fact → Reply
-reply_or x (Delivers d reply counted) = reply
-reply_or x _ = x
 
 module _ (doc : Doc) (q : Identity) (role : is_controller doc q.process ≡ true) (y : ℕ) (call : Call) (version : Version) (T : List Entry) (so : succeeds call.request (Done version) ≡ true)
     (at : IsTail (entry y 3 q (Delivers call (Done version) true) ∷ T) (history doc (suc y))) where

@@ -4,15 +4,14 @@ use Rattle.kube_objects.specs.declared.call.Reply.{Reply}
 use Rattle.kube_objects.specs.declared.call.Request.{Request}
 use Rattle.kube_objects.specs.declared.call.Request.TheVariants.{Get, Create, Update, PostStatus}
 use Rattle.kube_objects.specs.declared.deed.Actor.{Actor}
-use Rattle.kube_objects.specs.declared.deed.Actor.TheVariants as actors
 use Rattle.kube_objects.specs.declared.object.Object.{Object}
 use Rattle.kube_objects.specs.Answers.{answer}
 use Rattle.kube_objects.specs.Document.{Doc, processes, end_beat, is_controller}
 use Rattle.kube_objects.specs.Elector.{succeeds, deadline, is_before}
 use Rattle.kube_objects.specs.Entry.{Entry, Identity, Call, Fact, First as FirstPut, Event as Happens, Starts, Stops, Sends, Answers, Delivers, Expires, Leads, Ends, Crashes, Stalls, Ticks, actor_of}
-use Rattle.kube_objects.specs.Identities.{is_by, of_process}
+use Rattle.kube_objects.specs.Identities.{is_by}
 use Rattle.kube_objects.specs.Keys.{key_eq}
-use Rattle.kube_objects.specs.Newest.{added, when, has}
+use Rattle.kube_objects.specs.Newest.{added, has}
 use Rattle.kube_objects.specs.Process.{alive, is_present, is_stop, stops}
 use Rattle.kube_objects.specs.Stored.{election, key_of, request_write, event_write, at_key, write_of}
 use Rattle.kube_objects.specs.Wire.{Sent, back_of}
@@ -39,7 +38,7 @@ use Rattle.call_laws.proofs.Placing.{from_beat}
 use Rattle.takeover_laws.specs.Calm.{IsSteady}
 use Rattle.takeover_laws.proofs.Records.{asks_elsewhere, wrote_key}
 use Rattle.takeover_laws.proofs.Standing.{controllers_first}
-use Rattle.takeover_laws.proofs.Writers.{IsWon, won_of, sends_of}
+use Rattle.takeover_laws.proofs.Writers.{IsWon, won_of, sends_of, by_process}
 
 -- ---- who writes
 
@@ -138,7 +137,7 @@ module _ (doc : Doc) (sound : IsSound doc) (k : ℕ) (end : k ≤ end_beat doc) 
 -- ---- no stop
 
 -- which entries are stops
-stop_is : (d : Fact) → is_stop d ≡ true → d ≡ Stops
+pub stop_is : (d : Fact) → is_stop d ≡ true → d ≡ Stops
 stop_is Stops is = refl
 stop_is (FirstPut key object) is = absurd (false_is is)
 stop_is (Happens w version) is = absurd (false_is is)
@@ -152,11 +151,6 @@ stop_is Crashes is = absurd (false_is is)
 stop_is (Stalls beats) is = absurd (false_is is)
 stop_is Ends is = absurd (false_is is)
 stop_is (Leads version) is = absurd (false_is is)
-
--- an entry of an identity is one of its process
-by_process : (q : Identity) (who : Actor) → is_by q who ≡ true → has (of_process q.process who) ≡ true
-by_process q actors.Script is = absurd (false_is is)
-by_process q (actors.Proc id i) is = ap (λ b. has (when b i)) (and_left (id.0 == q.process) (i == q.incarnation) is)
 
 module _ (doc : Doc) (near far a e : ℕ) (q : Identity) (steady : IsSteady doc near far a e q.process) where
   -- from beat a on it isn't stopped

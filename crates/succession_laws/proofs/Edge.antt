@@ -38,9 +38,10 @@ use Rattle.silence_laws.proofs.Kept.{not_below}
 use Rattle.succession_laws.proofs.Ordered.{AreAnswered, ordered}
 use Rattle.succession_laws.proofs.Records.{IsIts, is_its, entries_rise}
 use Rattle.silence_laws.proofs.Renewed.{WroteAbove, same_or_above}
-use Rattle.silence_laws.proofs.Setting.{IsWay, request_way}
+use Rattle.silence_laws.proofs.Setting.{request_way}
+use Rattle.silence_laws.proofs.Ways.{IsWay}
 use Rattle.succession_laws.proofs.Timely.{first, first_low, writer_is_its}
-use Rattle.succession_laws.proofs.Turns.{SendsPlainly, sends_plainly}
+use Rattle.succession_laws.proofs.Turns.{sends_plainly}
 
 -- ---- a Get follows a renewal without a Get alone
 
@@ -146,10 +147,8 @@ module _ (doc : Doc) (near far b e : ℕ) (q : Identity) (l : LeadsUntil doc nea
 
           plain : (is_fast f.waiting.kind ≡ false) × (from.begun.f.step ≡ 4 → f.waiting.request ≡ Get election)
           plain =
-              (subst (SendsPlainly doc from.begun.f.step from.begun.f.actor) from.begun.fact
-              (sends_plainly doc slowly (suc k) from.begun.f from.begun.before
-              (tail_trans (from.begun.f ∷ from.begun.before) f.before (history doc (suc k)) from.begun.position (tail_trans f.before _ (history doc (suc k)) (inr (tail_all f.before)) at_s))))
-              made.q from.begun.actor role_made
+              sends_plainly doc slowly (suc k) from.begun.f from.begun.before made.q f.waiting from.begun.arrives
+              (tail_trans (from.begun.f ∷ from.begun.before) f.before (history doc (suc k)) from.begun.position (tail_trans f.before _ (history doc (suc k)) (inr (tail_all f.before)) at_s)) from.begun.actor from.begun.fact role_made
 
       by_step : (x.step ≡ 1) ⊎ ((x.step ≡ 3) ⊎ (x.step ≡ 4)) → x.step ≡ 4
       by_step (inl one) = absurd (omega (arith, one, late))
@@ -211,7 +210,7 @@ module _ (doc : Doc) (near far b e : ℕ) (q : Identity) (l : LeadsUntil doc nea
 
         plain : (is_fast its.call.kind ≡ false) × (its.f.step ≡ 4 → its.call.request ≡ Get election)
         plain =
-            (subst (SendsPlainly doc its.f.step its.f.actor) its.f_fact (sends_plainly doc slowly (suc k) its.f its.low f_high)) its.who its.f_actor (ap (is_controller doc) its.mine ∙ l.role)
+            sends_plainly doc slowly (suc k) its.f its.low its.who its.call (Some z.beat) f_high its.f_actor its.f_fact (ap (is_controller doc) its.mine ∙ l.role)
 
         writing : IsWrite its.call.request
         writing = success_writes its.call.request its.reply its.so

@@ -1,7 +1,7 @@
 -- After a leader has fallen silent another controller comes to lead in time, and stays.
-use Rattle.std.proofs.Common.{◌≡◌, ◌⊎◌, ◌<◌, ◌≤◌, ℕ, zero, suc, ◌+◌, ◌-◌, ◌*◌, not, Bool, true, false, cond, List, ◌∷◌, Option, Some, None, refl, sym, ap, ◌∙◌, subst, inl, inr, ⊎_elim, arith}
+use Rattle.std.proofs.Common.{◌≡◌, ◌⊎◌, ◌<◌, ◌≤◌, ℕ, zero, suc, ◌+◌, ◌-◌, ◌*◌, Bool, true, false, cond, List, ◌∷◌, Option, Some, None, refl, sym, ap, ◌∙◌, subst, inl, inr, ⊎_elim, arith}
 use Rattle.std.specs.Int.{div_ceil}
-use Rattle.std.proofs.lemmas.Bool.{eq-eqb, cases_eq, cases_lt}
+use Rattle.std.proofs.lemmas.Bool.{eq-eqb, cases_lt}
 use Rattle.kube_base.specs.declared.numbers.Version.{Version}
 use Rattle.kube_objects.specs.declared.call.Reply.{Reply}
 use Rattle.kube_objects.specs.declared.call.Reply.TheVariants.{Done, Conflict}
@@ -11,42 +11,34 @@ use Rattle.kube_objects.specs.declared.key.Key.{Key}
 use Rattle.kube_objects.specs.declared.lease.Lease.{Lease}
 use Rattle.kube_objects.specs.declared.object.Object.TheVariants as object
 use Rattle.kube_objects.specs.Answers.{lease_in, versioned, as_kind, answer_get, answer, answer_over, written, written_over, if_done}
-use Rattle.kube_objects.specs.Clocks.{local}
-use Rattle.kube_objects.specs.Document.{Doc, processes, is_controller, lease_duration, retry_period}
-use Rattle.kube_objects.specs.Elector.{Moment, moment, Fails, Asks, is_blocked, updated, follow_get, follow, follow_on, leads, observed_at, acts, in_term, is_before, deadline}
+use Rattle.kube_objects.specs.Document.{Doc, is_controller, lease_duration, retry_period}
+use Rattle.kube_objects.specs.Elector.{Moment, moment, Fails, Asks, is_blocked, updated, follow_get, follow, follow_on, leads, observed_at}
 use Rattle.kube_objects.specs.Entry.{Entry, Identity, Call, Answers, Sends, Delivers, actor_of, entry}
 use Rattle.kube_objects.specs.Identities.{identity}
 use Rattle.kube_objects.specs.Newest.{has}
-use Rattle.kube_objects.specs.Pauses.{is_paused}
-use Rattle.kube_objects.specs.Process.{alive, is_present}
+use Rattle.kube_objects.specs.Process.{alive}
 use Rattle.kube_objects.specs.Stored.{Held, election, key_of, request_write, at_key, write_of, stored, next_version}
 use Rattle.kube_objects.specs.Wire.{reply_arrival}
 use Rattle.history.specs.History.{history, at_turn}
 use Rattle.history.specs.Safe.{Acts}
 use Rattle.history_laws.specs.Tails.{IsTail}
-use Rattle.history_laws.proofs.Counting.{present_is}
 use Rattle.history_laws.proofs.Order.{entries_are_earlier}
-use Rattle.history_laws.proofs.Plainly.{true_is, false_is, and_left, and_right}
-use Rattle.history_laws.proofs.Tailed.{tail_all, tail_trans, later_tail, turn_tail, before_turn}
+use Rattle.history_laws.proofs.Plainly.{true_is}
+use Rattle.history_laws.proofs.Tailed.{tail_all, tail_trans, later_tail}
 use Rattle.span_laws.specs.Looks.{IsGreatest}
 use Rattle.span_laws.specs.Quotients.{most_beats}
 use Rattle.span_laws.proofs.Quotients.{rounded_is, bounds_are_exact}
 use Rattle.span_laws.specs.Spans.{IsEnough, IsNeeded}
-use Rattle.call_laws.specs.Answering.{with_events}
 use Rattle.call_laws.proofs.Above.{in_head}
-use Rattle.call_laws.proofs.Answering.{events_position}
 use Rattle.call_laws.proofs.Placing.{in_own_beat, not_before}
 use Rattle.call_laws.proofs.Starting.{actor_is}
 use Rattle.takeover_laws.specs.Calm.{IsSteady, IsQuiet, IsInTime}
 use Rattle.takeover_laws.specs.Rounds.{IsRound}
 use Rattle.takeover_laws.specs.Taking.{FitsStored}
-use Rattle.takeover_laws.proofs.Acting.{Searched, search}
 use Rattle.takeover_laws.proofs.Rounds.{rounds_in}
-use Rattle.takeover_laws.proofs.Standing.{controllers_first, persists}
 use Rattle.takeover_laws.proofs.Writers.{Sending, sending_of}
 use Rattle.calm_laws.specs.Bounds.{LastsFor}
 use Rattle.calm_laws.proofs.Asked.{IsWrite, IsNext, next_is, asks_same, fails_not, Reason, InTurn, AfterReply, reason_of}
-use Rattle.calm_laws.proofs.Life.{never_led, restart_same}
 use Rattle.calm_laws.proofs.Looks.{object_of}
 use Rattle.calm_laws.proofs.Origins.{Origin, origin}
 use Rattle.stay_laws.specs.Stays.{HasSuccess}
@@ -61,16 +53,17 @@ use Rattle.succession_laws.specs.Successions.{OthersRenew, RepliesCome, IsRival,
 use Rattle.succession_laws.proofs.Blocking.{blocked}
 use Rattle.succession_laws.proofs.Edge.{edge}
 use Rattle.succession_laws.proofs.First.{none_first}
-use Rattle.silence_laws.proofs.Led.{HasLed, acting_led}
-use Rattle.succession_laws.proofs.Led.{leads_led}
+use Rattle.silence_laws.proofs.Led.{HasLed, acting_led, leads_led}
 use Rattle.succession_laws.proofs.Records.{OfIt, same_since, no_foreign, lasts_for}
 use Rattle.silence_laws.proofs.Setting.{calm_before, times_before, restrict}
 use Rattle.succession_laws.proofs.Setting.{idle_before, calm_since, times_since, others_since}
 use Rattle.succession_laws.proofs.Timely.{first, first_low, timely, of_it}
 use Rattle.succession_laws.proofs.Timely as in_time
+use Rattle.succession_laws.proofs.Others.{Another, another}
+use Rattle.succession_laws.proofs.Others as others
 
 -- a write that follows a Get that showed what is stored fits it
-fits_of : (q : Identity) (m : Moment) (seen : ℕ) (y : Held) (lease : Lease) (r : Request) → y.object ≡ object.Lease lease → follow_get q m seen (answer_get (as_kind lease_in (Some y))) ≡ Asks r → FitsStored (Some y) r
+pub fits_of : (q : Identity) (m : Moment) (seen : ℕ) (y : Held) (lease : Lease) (r : Request) → y.object ≡ object.Lease lease → follow_get q m seen (answer_get (as_kind lease_in (Some y))) ≡ Asks r → FitsStored (Some y) r
 fits_of q m seen y lease r object_is is = by_test (is_blocked q m.now seen lease) (ap (λ o. follow_get q m seen (answer_get (versioned y.version (lease_in o)))) (sym object_is) ∙ is)
   where
     by_test : (b : Bool) → cond b Fails (Asks (Update election y.version (updated q m lease))) ≡ Asks r → FitsStored (Some y) r
@@ -78,7 +71,7 @@ fits_of q m seen y lease r object_is is = by_test (is_blocked q m.now seen lease
     by_test false is = subst (FitsStored (Some y)) (asks_same (Update election y.version (updated q m lease)) r is) (refl, refl)
 
 -- what fits what is stored is accepted
-fits_writes : (r : Request) (h : List Entry) (y : Held) → stored election h ≡ Some y → FitsStored (Some y) r → has (at_key election (request_write r (written r h))) ≡ true
+pub fits_writes : (r : Request) (h : List Entry) (y : Held) → stored election h ≡ Some y → FitsStored (Some y) r → has (at_key election (request_write r (written r h))) ≡ true
 fits_writes (Update key version lease) h y is fits =
     subst (λ key. has (at_key election (request_write (Update key version lease) (written (Update key version lease) h))) ≡ true) (sym fits.0)
     (ap (λ o. has (at_key election (request_write (Update election version lease) (written_over o (Update election version lease) (answer_over (next_version h) o (Update election version lease)))))) is
@@ -87,7 +80,7 @@ fits_writes (Create key lease) h y is fits = absurd fits
 fits_writes (Get key) h y is fits = absurd fits
 fits_writes (PostStatus name status at) h y is fits = absurd fits
 
-no_get : (r : Request) (key : Key) → r ≡ Get key → IsWrite r → ⊥
+pub no_get : (r : Request) (key : Key) → r ≡ Get key → IsWrite r → ⊥
 no_get r key is write = subst IsWrite is write
 
 module _ (doc : Doc) (near far b e : ℕ) (q : Identity) (l : LeadsUntil doc near far b e q) (s : Bears doc near far b e q) (quiet : IsQuiet doc b e q.process) where
@@ -338,22 +331,11 @@ module _ (doc : Doc) (near far b e : ℕ) (q : Identity) (l : LeadsUntil doc nea
     idle_ends : ((r : Identity) → is_controller doc r.process ≡ true → (r.process ≡ q.process → ⊥) → (k : ℕ) → k ≤ n → Acts doc r k → ⊥) → ⊥
     idle_ends idle = by_up (alive p S) refl
       where
-        first_p : p < processes doc
-        first_p = controllers_first doc p rival.role
-
-        s_high : IsTail S (history doc (suc b))
-        s_high = turn_tail doc (suc p) b (omega (arith, first_p))
-
-        s_low : IsTail (with_events doc 0) S
-        s_low =
-            tail_trans (with_events doc 0) (history doc b) S
-            (tail_trans (with_events doc 0) (history doc 1) (history doc b) (events_position doc 0) (later_tail doc 1 b (omega (arith, l.long, a_way)))) (before_turn doc (suc p) b)
-
         with_identity : (i : ℕ) → alive p S ≡ Some i → ⊥
         with_identity i up =
-            none_first doc near far e n s.one s.ways within c rival.role (steady c rival.role rival.other) (my_time c rival.role rival.other) none led_not (lease_duration doc q.process) (top c rival.role rival.other n within idle led_not room K late_K) lasts K (omega (arith, a_way, rest_least))
+            none_first doc near far e n s.one s.ways within c rival.role (steady c rival.role rival.other) (my_time c rival.role rival.other) (others.none doc near far b e q l s p rival.role rival.other n within (omega arith) idle i up) led_not (lease_duration doc q.process) (top c rival.role rival.other n within idle led_not room K late_K) lasts K (omega (arith, a_way, rest_least))
             (given c rival.role rival.other n within idle led_not room K late_K) (no_writes c rival.role rival.other n within idle led_not room K late_K) slow fast wait needed b (omega (arith, a_way, rest_least)) rival.runs_least rival.runs_most (s.waits p rival.role) wait_is needed_is enough most enough_is most_is
-            G (omega (arith, some_wait, a_way, rest_least)) (omega (arith, some_wait, a_way, rest_least)) (omega (arith, a_way, rest_least, some_wait)) (ap (alive p) (restart_same doc G p i (at_turn doc p G) there) ∙ there)
+            G (omega (arith, some_wait, a_way, rest_least)) (omega (arith, some_wait, a_way, rest_least)) (omega (arith, a_way, rest_least, some_wait)) (others.there doc near far b e q l s p rival.role rival.other n within (omega arith) idle i up G (omega (arith, a_way, rest_least, some_wait)) (omega (arith, a_way, rest_least, some_wait)))
           where
             c : Identity
             c = identity p i
@@ -364,102 +346,17 @@ module _ (doc : Doc) (near far b e : ℕ) (q : Identity) (l : LeadsUntil doc nea
             room : b + 3 * far ≤ n
             room = omega (arith, a_way, rest_least)
 
-            none : (k : ℕ) → 0 ≤ k → k ≤ n → Acts doc c k → ⊥
-            none k from to = idle c rival.role rival.other k to
-
-            late : (h : List Entry) → IsTail S h → IsTail h (history doc (suc n)) → alive p h ≡ Some i
-            late h low high = persists doc near far 0 e n c rival.role (s.calls p rival.role).deadline (l.others p rival.role rival.other) within none (omega arith) S h s_low low high up
-
             led_not : (h : List Entry) → IsTail h (history doc (suc n)) → leads c h ≡ false
-            led_not =
-                never_led doc near far 0 e n c rival.role (s.calls p rival.role).deadline (l.others p rival.role rival.other) within none (omega arith)
-                (late (history doc (suc n)) (tail_trans S (history doc (suc b)) (history doc (suc n)) s_high (later_tail doc (suc b) (suc n) (omega arith))) (tail_all (history doc (suc n))))
+            led_not = others.led_not doc near far b e q l s p rival.role rival.other n within (omega arith) idle i up
 
             lasts : LastsFor (lease_duration doc q.process) (object_of (top c rival.role rival.other n within idle led_not room K late_K))
             lasts = lasts_for doc q (history doc (b + far)) (of_top c rival.role rival.other n within idle led_not room K late_K)
-
-            there : alive p (at_turn doc p G) ≡ Some i
-            there =
-                late (at_turn doc p G)
-                (tail_trans S (history doc G) (at_turn doc p G) (tail_trans S (history doc (suc b)) (history doc G) s_high (later_tail doc (suc b) G (omega (arith, some_wait, a_way, rest_least)))) (before_turn doc p G))
-                (tail_trans (at_turn doc p G) (history doc (suc G)) (history doc (suc n)) (turn_tail doc p G (omega (arith, first_p))) (later_tail doc (suc G) (suc n) (omega (arith, a_way, rest_least, some_wait))))
 
         by_up : (o : Option ℕ) → alive p S ≡ o → ⊥
         by_up None is = true_is (sym rival.up ∙ ap has is)
         by_up (Some i) is = with_identity i is
 
-    -- ---- who acts then
-
-    abbrev acting : ℕ → ℕ → Option ℕ → Bool
-    acting r k None = false
-    acting r k (Some i) = acts doc (identity r i) k (at_turn doc r k)
-
-    acts_as : (r : Identity) (k : ℕ) → Acts doc r k → acting r.process k (alive r.process (at_turn doc r.process k)) ≡ true
-    acts_as r k is = ap (acting r.process k) up ∙ is.1
-      where
-        g : List Entry
-        g = at_turn doc r.process k
-
-        up : alive r.process g ≡ Some r.incarnation
-        up =
-            present_is (alive r.process g) r.incarnation
-            (and_left (is_present (alive r.process g) r.incarnation) (is_before (local doc r.process k) (deadline doc r g)) (and_right (not (is_paused doc r.process k)) (in_term doc r k g) is.1))
-
-    record Another : Type 0 where
-      r : Identity
-      role : is_controller doc r.process ≡ true
-      other : r.process ≡ q.process → ⊥
-      k : ℕ
-      from : b ≤ k
-      to : k ≤ n
-      acting_is : Acts doc r k
-
-    abbrev NoneBelow : ℕ → Type 0
-    NoneBelow m = (r : Identity) → r.process < m → is_controller doc r.process ≡ true → (r.process ≡ q.process → ⊥) → (k : ℕ) → b ≤ k → k ≤ n → Acts doc r k → ⊥
-
-    one_more : (m : ℕ) → NoneBelow m → Another ⊎ NoneBelow (suc m)
-    one_more m none = by_process (cases_eq m q.process)
-      where
-        None_of : Type 0
-        None_of = (r : Identity) → r.process ≡ m → is_controller doc r.process ≡ true → (r.process ≡ q.process → ⊥) → (k : ℕ) → b ≤ k → k ≤ n → Acts doc r k → ⊥
-
-        with_none : None_of → NoneBelow (suc m)
-        with_none here r lt role other k from to is = ⊎_elim (λ less. none r less role other k from to is) (λ ge. here r (omega (arith, lt, ge)) role other k from to is) (cases_lt r.process m)
-
-        found : is_controller doc m ≡ true → (m ≡ q.process → ⊥) → (k : ℕ) → b ≤ k → k ≤ n → (o : Option ℕ) → acting m k o ≡ true → Another
-        found role other k from to None is = absurd (false_is is)
-        found role other k from to (Some i) is = record { r = identity m i; role = role; other = other; k = k; from = from; to = to; acting_is = (role, is) }
-
-        by_search : is_controller doc m ≡ true → (m ≡ q.process → ⊥) → Searched (λ k. acting m k (alive m (at_turn doc m k))) b n → Another ⊎ NoneBelow (suc m)
-        by_search role other (inl f) = inl (found role other f.k f.from f.to (alive m (at_turn doc m f.k)) f.is)
-        by_search role other (inr never) = inr (with_none (λ r is role_r other_r k from to acts_r. never k from to (subst (λ m. acting m k (alive m (at_turn doc m k)) ≡ true) is (acts_as r k acts_r))))
-
-        by_role : (t : Bool) → is_controller doc m ≡ t → (m ≡ q.process → ⊥) → Another ⊎ NoneBelow (suc m)
-        by_role true role other = by_search role other (search (λ k. acting m k (alive m (at_turn doc m k))) b n)
-        by_role false role other = inr (with_none (λ r is role_r other_r k from to acts_r. true_is (sym role_r ∙ ap (is_controller doc) is ∙ role)))
-
-        by_process : (m ≡ q.process) ⊎ (m ≡ q.process → ⊥) → Another ⊎ NoneBelow (suc m)
-        by_process (inl same) = inr (with_none (λ r is role_r other_r k from to acts_r. other_r (is ∙ same)))
-        by_process (inr other) = by_role (is_controller doc m) refl other
-
-    up_to : (m : ℕ) → Another ⊎ NoneBelow m
-    up_to zero = inr (λ r lt. absurd (omega (arith, lt)))
-    up_to (suc m) = by_below (up_to m)
-      where
-        by_below : Another ⊎ NoneBelow m → Another ⊎ NoneBelow (suc m)
-        by_below (inl another) = inl another
-        by_below (inr none) = one_more m none
-
     module _ (renew : OthersRenew doc near far b e q) (replies : RepliesCome doc far b q.process) where
-      another : Another
-      another = by_search (up_to (processes doc))
-        where
-          by_search : Another ⊎ NoneBelow (processes doc) → Another
-          by_search (inl found) = found
-          by_search (inr none) =
-              absurd (idle_ends (λ r role other k to acts_r. ⊎_elim (λ lt. idle_before doc near far b e q l s renew r role other k lt acts_r)
-              (λ from. none r (controllers_first doc r.process role) role other k from to acts_r) (cases_lt k b)))
-
       pub followed : IsFollowed doc b n e q
       followed = record {
         c = r;
@@ -468,12 +365,12 @@ module _ (doc : Doc) (near far b e : ℕ) (q : Identity) (l : LeadsUntil doc nea
         to = omega (arith, led_r.to, x.to);
         success = success;
         stays =
-            leaders_stay doc near far b e s.sound (calm_since doc near far b e q l s renew quiet replies room) (times_since doc near far b e q l s renew quiet replies room) s.one s.ways s.end r x.role
+            leaders_stay doc near far b e s.sound (calm_since doc near far b e q l s renew quiet replies room) (times_since doc near far b e q l s renew) s.one s.ways s.end r x.role
             (others_since doc near far b e q l s renew r.process x.role x.other) (renew.since r x.role x.other) led_r.j success;
       }
         where
-          x : Another
-          x = another
+          x : Another doc b n q
+          x = another doc b n q idle_ends (idle_before doc near far b e q l s renew)
 
           r : Identity
           r = x.r

@@ -1,7 +1,7 @@
-pub mod Looks
 pub mod First
-pub mod Led
+pub mod Since
 pub mod Setting
+pub mod Others
 pub mod Records
 pub mod Blocking
 pub mod Timely

@@ -1,5 +1,5 @@
 -- A leader that has fallen silent acts on until its last term is over.
-use Rattle.std.proofs.Common.{◌≡◌, ◌⊎◌, ◌<◌, ◌≤◌, ℕ, zero, suc, ◌+◌, ◌-◌, ◌*◌, Bool, true, false, ◌∷◌, Option, Some, None, refl, sym, ap, ◌∙◌, subst, inr, ⊎_elim, arith}
+use Rattle.std.proofs.Common.{◌≡◌, ◌<◌, ◌≤◌, ℕ, zero, suc, ◌+◌, ◌-◌, ◌*◌, Bool, true, false, ◌∷◌, Option, Some, None, refl, sym, ap, ◌∙◌, subst, inr, ⊎_elim, arith}
 use Rattle.std.proofs.lemmas.Bool.{cases_lt}
 use Rattle.kube_base.specs.declared.numbers.Version.{Version}
 use Rattle.kube_objects.specs.declared.call.Reply.TheVariants.{Done}
@@ -27,9 +27,10 @@ use Rattle.stay_laws.proofs.Succeeded.{success_is}
 use Rattle.silence_laws.specs.Silence.{LeadsUntil, Bears}
 use Rattle.silence_laws.proofs.Looking.{asks_election}
 use Rattle.succession_laws.specs.Successions.{Hears, LeadersActOn}
-use Rattle.succession_laws.proofs.Looks.{wrote_by}
+use Rattle.calm_laws.proofs.Replies.{wrote_by}
 use Rattle.silence_laws.proofs.Renewed.{done_of}
-use Rattle.silence_laws.proofs.Setting.{IsWay, request_way, own_process}
+use Rattle.silence_laws.proofs.Setting.{request_way, own_process}
+use Rattle.silence_laws.proofs.Ways.{IsWay}
 use Rattle.succession_laws.proofs.Setting.{its_call_sent}
 use Rattle.settle_laws.proofs.Terms.{SucceedsBy, none_acts}
 

@@ -1,23 +1,18 @@
 -- While nobody else acts, each write of the election Lease is the leader's own, by a call that it sent before it fell silent.
-use Rattle.std.proofs.Common.{◌≡◌, ◌⊎◌, ◌<◌, ◌≤◌, ℕ, suc, ◌+◌, ◌-◌, ◌==◌, ◌&&◌, Bool, true, false, List, [], ◌∷◌, length, Option, Some, None, IfSome, refl, sym, ap, ◌∙◌, subst, inl, inr, ⊎_elim, arith}
+use Rattle.std.proofs.Common.{◌≡◌, ◌<◌, ◌≤◌, ℕ, suc, ◌+◌, ◌-◌, true, List, [], ◌∷◌, length, Option, Some, None, IfSome, refl, sym, ap, ◌∙◌, subst, inl, inr, ⊎_elim, arith}
 use Rattle.std.proofs.lemmas.Bool.{cases_eq, cases_lt}
 use Rattle.kube_objects.specs.declared.call.Reply.{Reply}
-use Rattle.kube_objects.specs.declared.call.Reply.TheVariants.{Found, Done, Absent, Exists, Conflict, Unchanged}
 use Rattle.kube_objects.specs.declared.call.Request.{Request}
 use Rattle.kube_objects.specs.declared.call.Request.TheVariants.{Get, Create, Update, PostStatus}
-use Rattle.kube_objects.specs.declared.deed.Actor.{Actor}
-use Rattle.kube_objects.specs.declared.deed.Actor.TheVariants as actors
 use Rattle.kube_objects.specs.declared.lease.Lease.{Lease}
 use Rattle.kube_objects.specs.declared.object.Object.{Object}
 use Rattle.kube_objects.specs.declared.object.Object.TheVariants as object
-use Rattle.kube_objects.specs.Answers.{answer, if_done, written}
+use Rattle.kube_objects.specs.Answers.{written}
 use Rattle.kube_objects.specs.Document.{Doc, processes, of_seconds, is_controller, lease_seconds, lease_duration}
 use Rattle.kube_objects.specs.Elector.{succeeds}
-use Rattle.kube_objects.specs.Entry.{Entry, Identity, Call, Fact, First, Event, Starts, Stops, Sends, Answers, Delivers, Expires, Leads, Ends, Crashes, Stalls, Ticks, actor_of}
-use Rattle.kube_objects.specs.Identities.{identity_of, is_by, of_process, holder_of}
-use Rattle.kube_objects.specs.Keys.{key_eq}
-use Rattle.kube_objects.specs.Newest.{added, when, has, join, or_zero}
-use Rattle.kube_objects.specs.Process.{is_stop, stops}
+use Rattle.kube_objects.specs.Entry.{Entry, Identity, Call, Sends, Answers, actor_of}
+use Rattle.kube_objects.specs.Identities.{identity_of, of_process, holder_of}
+use Rattle.kube_objects.specs.Newest.{has, join, or_zero}
 use Rattle.kube_objects.specs.Stored.{Held, election, stored, at_key, write_of, request_write, next_version, holds, last_write}
 use Rattle.kube_objects.specs.Wire.{request_arrival}
 use Rattle.history.specs.History.{history}
@@ -26,7 +21,7 @@ use Rattle.history.specs.Safe.{Acts}
 use Rattle.history_laws.specs.Order.{IsOrdered}
 use Rattle.history_laws.specs.Tails.{In, IsTail}
 use Rattle.history_laws.proofs.Order.{entries_are_earlier, entries_are_ordered}
-use Rattle.history_laws.proofs.Plainly.{upper, false_is, and_left, and_right}
+use Rattle.history_laws.proofs.Plainly.{upper}
 use Rattle.history_laws.proofs.Tailed.{tail_all, tail_trans, in_tail, later_tail, tail_of_empty, same_head, same_rest}
 use Rattle.lease_laws.proofs.EachKind.{top_stays}
 use Rattle.lease_laws.proofs.Histories.{turn_right}
@@ -43,6 +38,7 @@ use Rattle.calm_laws.proofs.Looks.{object_of}
 use Rattle.stay_laws.proofs.Won.{Won, is_won}
 use Rattle.silence_laws.specs.Silence.{LeadsUntil, Bears}
 use Rattle.silence_laws.proofs.Setting.{own_process, request_way}
+use Rattle.silence_laws.proofs.Owning.{Leased, leased, never_stopped}
 
 -- no entry stands above one of a later beat
 pub not_sooner : (h : List Entry) → IsOrdered h → (x : Entry) (T : List Entry) → IsTail (x ∷ T) h → (f : Entry) → In f T → f.beat ≤ x.beat
@@ -57,74 +53,7 @@ entries_rise doc m = not_sooner (history doc m) (entries_are_ordered doc m)
 
 -- ---- no stops
 
--- which entries are stops
-stop_is : (d : Fact) → is_stop d ≡ true → d ≡ Stops
-stop_is Stops is = refl
-stop_is (First key object) is = absurd (false_is is)
-stop_is (Event w version) is = absurd (false_is is)
-stop_is (Sends call arrives) is = absurd (false_is is)
-stop_is (Answers call reply comes wrote) is = absurd (false_is is)
-stop_is (Delivers call reply counted) is = absurd (false_is is)
-stop_is (Expires call) is = absurd (false_is is)
-stop_is (Ticks t) is = absurd (false_is is)
-stop_is Starts is = absurd (false_is is)
-stop_is Crashes is = absurd (false_is is)
-stop_is (Stalls beats) is = absurd (false_is is)
-stop_is Ends is = absurd (false_is is)
-stop_is (Leads version) is = absurd (false_is is)
-
--- an entry of an identity is one of its process
-by_process : (q : Identity) (who : Actor) → is_by q who ≡ true → has (of_process q.process who) ≡ true
-by_process q actors.Script is = absurd (false_is is)
-by_process q (actors.Proc id i) is = ap (λ b. has (when b i)) (and_left (id.0 == q.process) (i == q.incarnation) is)
-
--- a process that is steady from beat 0 on isn't stopped
-never_stopped : (doc : Doc) (near far e : ℕ) (r : Identity) → IsSteady doc near far 0 e r.process → (h : List Entry) → IsTail h (history doc (suc e)) → stops r h ≡ 0
-never_stopped doc near far e r steady [] at = refl
-never_stopped doc near far e r steady (x ∷ T) at =
-    by_stop (is_stop x.fact && is_by r x.actor) refl ∙ never_stopped doc near far e r steady T (tail_trans T (x ∷ T) (history doc (suc e)) (inr (tail_all T)) at)
-  where
-    by_stop : (b : Bool) → (is_stop x.fact && is_by r x.actor) ≡ b → added b (stops r T) ≡ stops r T
-    by_stop true is = absurd (omega (arith, steady.stops x (in_head x T (history doc (suc e)) at) (stop_is x.fact (and_left (is_stop x.fact) (is_by r x.actor) is)) (by_process r x.actor (and_right (is_stop x.fact) (is_by r x.actor) is))))
-    by_stop false is = refl
-
 -- ---- who writes
-
--- what a request that is accepted leaves at the election Lease
-abbrev Leased : Request → Option (Option Object) → Type 0
-Leased (Create key lease) o = o ≡ Some (Some (object.Lease lease))
-Leased (Update key given lease) o = o ≡ Some (Some (object.Lease lease))
-Leased _ o = ⊥
-
-when_there : (t : Bool) (y : Object) → has (when t (Some y)) ≡ true → when t (Some y) ≡ Some (Some y)
-when_there true y is = refl
-when_there false y is = absurd (false_is is)
-
-leased : (r : Request) (h : List Entry) → has (at_key election (request_write r (written r h))) ≡ true → Leased r (at_key election (request_write r (written r h)))
-leased (Get key) h is = absurd (false_is is)
-leased (Create key lease) h is = by_reply (answer (Create key lease) h) is
-  where
-    by_reply : (reply : Reply) → has (at_key election (request_write (Create key lease) (if_done reply (object.Lease lease)))) ≡ true → at_key election (request_write (Create key lease) (if_done reply (object.Lease lease))) ≡ Some (Some (object.Lease lease))
-    by_reply (Done version) is = when_there (key_eq key election) (object.Lease lease) is
-    by_reply Absent is = absurd (false_is is)
-    by_reply (Found version l) is = absurd (false_is is)
-    by_reply Exists is = absurd (false_is is)
-    by_reply (Conflict version) is = absurd (false_is is)
-    by_reply Unchanged is = absurd (false_is is)
-leased (Update key given lease) h is = by_reply (answer (Update key given lease) h) is
-  where
-    by_reply : (reply : Reply) → has (at_key election (request_write (Update key given lease) (if_done reply (object.Lease lease)))) ≡ true → at_key election (request_write (Update key given lease) (if_done reply (object.Lease lease))) ≡ Some (Some (object.Lease lease))
-    by_reply (Done version) is = when_there (key_eq key election) (object.Lease lease) is
-    by_reply Absent is = absurd (false_is is)
-    by_reply (Found version l) is = absurd (false_is is)
-    by_reply Exists is = absurd (false_is is)
-    by_reply (Conflict version) is = absurd (false_is is)
-    by_reply Unchanged is = absurd (false_is is)
-leased (PostStatus name status at) h is = by_written (written (PostStatus name status at) h) is
-  where
-    by_written : (o : Option Object) → has (at_key election (request_write (PostStatus name status at) o)) ≡ true → ⊥
-    by_written None is = false_is is
-    by_written (Some x) is = false_is is
 
 -- an accepted write of the election Lease by an identity of a process, by a call that was sent before beat b: its own record
 pub record IsIts (doc : Doc) (b p : ℕ) (x : Entry) (T : List Entry) : Type 0 where

@@ -1,80 +1,28 @@
 -- Where a leader in a calm falls silent, nobody else acts before, and what comes after is a calm.
-use Rattle.std.proofs.Common.{◌≡◌, ◌⊎◌, ◌<◌, ◌≤◌, ℕ, zero, suc, ◌+◌, ◌-◌, ◌==◌, Bool, true, false, List, ◌∷◌, length, Option, Some, None, IfSome, refl, sym, ap, ◌∙◌, subst, inl, inr, ⊎_elim, arith}
-use Rattle.std.proofs.lemmas.Bool.{ltb-false, eqb-true, cases_eq}
-use Rattle.kube_objects.specs.declared.deed.Actor.{Actor}
-use Rattle.kube_objects.specs.declared.deed.Actor.TheVariants as actors
-use Rattle.kube_objects.specs.declared.object.Object.{Object}
-use Rattle.kube_objects.specs.Document.{Doc, processes, is_controller, renew_deadline}
-use Rattle.kube_objects.specs.Elector.{deadline}
-use Rattle.kube_objects.specs.Entry.{Entry, Identity, Call, Fact, First, Event, Starts, Stops, Sends, Answers, Delivers, Expires, Leads, Ends, Crashes, Stalls, Ticks, actor_of}
-use Rattle.kube_objects.specs.Identities.{of_process}
-use Rattle.kube_objects.specs.Keys.{key_eq}
-use Rattle.kube_objects.specs.Newest.{when, has}
-use Rattle.kube_objects.specs.Process.{alive}
-use Rattle.kube_objects.specs.Stored.{election, key_of}
-use Rattle.kube_objects.specs.Wire.{Sent, Back, sent_of, back_of, arrival, reply_delay, request_arrival, reply_arrival}
-use Rattle.kube_objects.specs.Clocks.{local}
+use Rattle.std.proofs.Common.{◌≡◌, ◌<◌, ◌≤◌, ℕ, ◌+◌, ◌-◌, true, List, ◌∷◌, Option, Some, IfSome, refl, sym, ap, subst, ⊎_elim, arith}
+use Rattle.kube_objects.specs.Document.{Doc, is_controller}
+use Rattle.kube_objects.specs.Entry.{Entry, Identity, Call, Sends, actor_of}
+use Rattle.kube_objects.specs.Wire.{Sent, request_arrival}
 use Rattle.history.specs.History.{history}
-use Rattle.history.specs.Premise.{greatest_below}
 use Rattle.history.specs.Safe.{Acts}
-use Rattle.history_laws.specs.Tails.{In, IsTail}
-use Rattle.history_laws.proofs.Lives.{Over}
+use Rattle.history_laws.specs.Tails.{IsTail}
 use Rattle.history_laws.proofs.Order.{entries_are_earlier}
-use Rattle.history_laws.proofs.Plainly.{some_is, none_is, true_is, false_is}
-use Rattle.history_laws.proofs.Tailed.{tail_all, tail_trans, in_tail, later_tail}
 use Rattle.lease_laws.proofs.Claims.{exclusive}
-use Rattle.lease_laws.proofs.Histories.{turn_right}
-use Rattle.lease_laws.proofs.Invariant.{view, SentRight}
-use Rattle.lease_laws.proofs.Premises.{premise_from, rates_at_most}
-use Rattle.call_laws.specs.Answering.{with_events}
-use Rattle.call_laws.proofs.Above.{Above, place_of, next_above}
-use Rattle.call_laws.proofs.Making.{MadeAs, MadeAnswer, MadeEnd, are_made}
-use Rattle.call_laws.proofs.Placing.{from_beat, not_before, forces_stand, messages_travel}
-use Rattle.call_laws.proofs.Starting.{actor_is}
+use Rattle.lease_laws.proofs.Premises.{premise_from}
+use Rattle.call_laws.proofs.Above.{in_head}
+use Rattle.call_laws.proofs.Placing.{messages_travel}
 use Rattle.takeover_laws.specs.Acting.{AreInTime}
-use Rattle.takeover_laws.specs.Calm.{Passes, IsSteady, IsQuiet, IsCalm}
-use Rattle.takeover_laws.proofs.Fresh.{IsFresh, same_or_fresh, set_counted, over_stays, still_up}
-use Rattle.takeover_laws.proofs.Records.{asks_elsewhere}
-use Rattle.takeover_laws.proofs.Rounds.{sent_is, reply_passes}
-use Rattle.takeover_laws.proofs.Standing.{unled}
-use Rattle.takeover_laws.proofs.Writers.{sends_of}
+use Rattle.takeover_laws.specs.Calm.{IsSteady, IsQuiet, IsCalm}
+use Rattle.takeover_laws.proofs.Rounds.{sent_is}
 use Rattle.stay_laws.specs.Stays.{Stays}
 use Rattle.stay_laws.proofs.Staying.{leaders_stay}
 use Rattle.silence_laws.specs.Silence.{LeadsUntil, Bears}
 use Rattle.succession_laws.specs.Successions.{OthersRenew, RepliesCome}
+use Rattle.succession_laws.proofs.Since as since
 use Rattle.silence_laws.proofs.Led.{HasLed, acting_led}
-use Rattle.silence_laws.proofs.Setting.{restrict, restrict_time, own_process, request_way, some_b, calm_before, times_before, it_stays, its_time}
+use Rattle.silence_laws.proofs.Setting.{restrict, request_way, some_b, calm_before, times_before, it_stays, its_time}
 
 -- ---- messages as facts
-
--- the facts of an answer
-record IsAnswer (who : Actor) (d : Fact) (b : Back) : Type 0 where
-  wrote : Option Object
-  by : who ≡ actor_of b.who
-  fact : d ≡ Answers b.call b.reply b.comes wrote
-
-answer_facts : (who : Actor) (d : Fact) (b : Back) → back_of who d ≡ Some b → IsAnswer who d b
-answer_facts actors.Script (Answers call reply comes wrote) b is = absurd (none_is b is)
-answer_facts (actors.Proc id i) (Answers call reply comes wrote) b is =
-    let e = some_is (record { who = record { process = id.0; incarnation = i }; call = call; reply = reply; comes = comes }) b is in
-    record { wrote = wrote; by = ap (λ (b : Back). actor_of b.who) e; fact = ap (λ (b : Back). Answers b.call b.reply b.comes wrote) e }
-answer_facts who (Sends call arrives) b is = absurd (none_is b is)
-answer_facts who (First key object) b is = absurd (none_is b is)
-answer_facts who (Event w version) b is = absurd (none_is b is)
-answer_facts who (Delivers call reply counted) b is = absurd (none_is b is)
-answer_facts who (Expires call) b is = absurd (none_is b is)
-answer_facts who (Ticks t) b is = absurd (none_is b is)
-answer_facts who Starts b is = absurd (none_is b is)
-answer_facts who Crashes b is = absurd (none_is b is)
-answer_facts who Stops b is = absurd (none_is b is)
-answer_facts who (Stalls beats) b is = absurd (none_is b is)
-answer_facts who Ends b is = absurd (none_is b is)
-answer_facts who (Leads version) b is = absurd (none_is b is)
-
--- what holds of each value that is there
-each_some : {A : Type 0} (o : Option A) (P : A → Type 0) → ((a : A) → o ≡ Some a → P a) → IfSome o P
-each_some None P all = tt
-each_some (Some a) P all = all a refl
 
 -- the beat of a call's sending
 pub its_call_sent : (doc : Doc) (m : ℕ) (x : Entry) (T : List Entry) (q : Identity) (call : Call) (arrives : Option ℕ) → IsTail (x ∷ T) (history doc m) → x.actor ≡ actor_of q → x.fact ≡ Sends call arrives → call.sent ≡ x.beat
@@ -97,151 +45,26 @@ module _ (doc : Doc) (near far b e : ℕ) (q : Identity) (l : LeadsUntil doc nea
           leaders_stay doc near far 0 (b - 1) s.sound (calm_before doc near far b e q l s) (times_before doc near far b e q l s) s.one s.ways (omega (arith, l.within, s.end)) r role
           (restrict doc near far 0 (b - 1) e r.process (omega (arith, l.within)) (l.others r.process role other)) (renew.before r role other) led.j led.success
 
-  -- so the others are steady from b on as well: none of them ends at b
+  -- so the others are steady from b on as well, and what comes after b is a calm
   pub others_since : (p : ℕ) → is_controller doc p ≡ true → (p ≡ q.process → ⊥) → IsSteady doc near far b e p
-  others_since p role other = record {
-    passes = λ k from to. steady.passes k (omega arith) to;
-    crashes = λ x at fact mine. omega (arith, steady.crashes x at fact mine);
-    stops = λ x at fact mine. omega (arith, steady.stops x at fact mine);
-    ends = λ x at fact mine same. no_end x (place_of x (history doc (suc e)) at).before (place_of x (history doc (suc e)) at).position fact mine same;
-  }
+  others_since = since.others_since doc near far b e q l s b (some_b doc near far b e q l s) (omega (arith, l.within)) idle_before
+
+  pub calm_since : IsQuiet doc b e q.process → RepliesCome doc far b q.process → b + far ≤ e → IsCalm doc near far b e
+  calm_since quiet replies room =
+      since.calm_since doc near far b e q l s b (some_b doc near far b e q l s) (omega (arith, l.within)) idle_before quiet replies (omega (arith, room))
+      by_way
     where
-      steady : IsSteady doc near far 0 e p
-      steady = l.others p role other
-
-      no_end : (x : Entry) (T : List Entry) → IsTail (x ∷ T) (history doc (suc e)) → x.fact ≡ Ends → has (of_process p x.actor) ≡ true → x.beat ≡ b → ⊥
-      no_end x T stands fact mine same = by_term (same_or_fresh doc r x.beat (history doc x.beat) T lasts low)
+      by_way : (x : Entry) (T : List Entry) → IsTail (x ∷ T) (history doc b) → (m : Sent) → x.actor ≡ actor_of m.who → x.fact ≡ Sends m.call m.arrives → m.who.process ≡ q.process → is_controller doc m.who.process ≡ true → (y : ℕ) → m.arrives ≡ Some y → y < b + far
+      by_way x T at m actor fact same role y arrives =
+          omega (
+            arith,
+            some_b doc near far b e q l s,
+            early,
+            (request_way doc near far (b - 1) m.who.process (subst (IsSteady doc near far 0 (b - 1)) (sym same) l.steady) b x T m.who m.call m.arrives at role refl actor fact early y arrives).most,
+          )
         where
-          made : MadeEnd doc x.beat x.step x.actor T
-          made = subst (λ d. MadeAs doc x.beat x.step x.actor d T) fact (are_made doc (suc e) x T stands)
+          early : x.beat ≤ b - 1
+          early = ⊎_elim (λ lt. omega (arith, lt)) (λ first. omega (arith, first.0)) (entries_are_earlier doc b x (in_head x T (history doc b) at))
 
-          r : Identity
-          r = made.q
-
-          process : r.process ≡ p
-          process = by_test (r.process == p) refl (sym (ap (λ who. has (of_process p who)) made.by) ∙ mine)
-            where
-              by_test : (t : Bool) → (r.process == p) ≡ t → has (when t r.incarnation) ≡ true → r.process ≡ p
-              by_test true is has_it = eqb-true r.process p is
-              by_test false is has_it = absurd (false_is has_it)
-
-          role_r : is_controller doc r.process ≡ true
-          role_r = ap (is_controller doc) process ∙ role
-
-          lasts : 1 ≤ renew_deadline doc r.process
-          lasts = (s.calls r.process role_r).deadline
-
-          below : IsTail T (history doc (suc e))
-          below = tail_trans T (x ∷ T) (history doc (suc e)) (inr (tail_all T)) stands
-
-          within_e : x.beat ≤ e
-          within_e = omega (arith, same, l.within)
-
-          above_start : IsTail (history doc x.beat) T
-          above_start = not_before doc x.beat (suc e) x T (omega (arith, within_e)) stands (omega arith) (omega (arith, made.step_is))
-
-          low : Above (λ y. x.beat ≤ y.beat) (history doc x.beat) T
-          low = (next_above (λ y. x.beat ≤ y.beat) (history doc x.beat) T (history doc (suc e)) x (from_beat doc x.beat (suc e) (omega (arith, within_e))) above_start stands).1
-
-          before : (k : ℕ) → suc k ≡ x.beat → deadline doc r (history doc x.beat) ≡ Some made.at → ⊥
-          before k is was = none_is made.at (sym (unled doc near far 0 e (b - 1) r role_r lasts (subst (IsSteady doc near far 0 e) (sym process) steady) (omega (arith, l.within))
-              (λ k from to. idle_before r role_r (λ is. other (sym process ∙ is)) k (omega (arith, to, (some_b doc near far b e q l s)))) k (omega arith) (omega (arith, is, same)) (ap (λ k. alive r.process (history doc k)) is ∙ there)) ∙ ap (λ k. deadline doc r (history doc k)) is ∙ was)
-            where
-              over : Over r (history doc x.beat) → ⊥
-              over o = (over_stays doc (suc e) r (history doc x.beat) T below above_start o).1 made.up
-
-              there : alive r.process (history doc x.beat) ≡ Some r.incarnation
-              there = still_up r (history doc x.beat) (set_counted doc r x.beat made.at was) over
-
-          by_beat : (y : ℕ) → y ≡ x.beat → deadline doc r (history doc x.beat) ≡ Some made.at → ⊥
-          by_beat zero is was = omega (arith, is, same, (some_b doc near far b e q l s))
-          by_beat (suc k) is was = before k is was
-
-          by_term : (deadline doc r T ≡ deadline doc r (history doc x.beat)) ⊎ IsFresh doc r x.beat T → ⊥
-          by_term (inl unchanged) = by_beat x.beat refl (sym unchanged ∙ made.deadline_is)
-          by_term (inr fresh) =
-              let later = fresh.later in
-              omega (arith, later, some_is fresh.at made.at (sym fresh.is ∙ made.deadline_is), ltb-false (local doc r.process x.beat) made.at made.late)
-
-  -- and what comes after b is a calm
-  module _ (quiet : IsQuiet doc b e q.process) (replies : RepliesCome doc far b q.process) (room : b + far ≤ e) where
-    request_in : (x : Entry) → In x (history doc b) → (m : Sent) → sent_of x.actor x.fact ≡ Some m → key_eq (key_of m.call.request) election ≡ true → (at : ℕ) → m.arrives ≡ Some at → at < b + far
-    request_in x stands m is key at arrives = by_role (is_controller doc m.who.process) refl
-      where
-        place : (T : List Entry) × IsTail (x ∷ T) (history doc b)
-        place = let p = place_of x (history doc b) stands in (p.before, p.position)
-
-        early : x.beat ≤ b - 1
-        early = ⊎_elim (λ lt. omega (arith, lt)) (λ first. omega (arith, first.0)) (entries_are_earlier doc b x stands)
-
-        facts : (x.actor ≡ actor_of m.who) × (x.fact ≡ Sends m.call m.arrives)
-        facts = sends_of x.actor x.fact m is
-
-        soon : is_controller doc m.who.process ≡ true → at ≤ x.beat + far
-        soon role =
-            ⊎_elim
-            (λ same. (request_way doc near far (b - 1) m.who.process (subst (IsSteady doc near far 0 (b - 1)) (sym same) l.steady) b x place.0 m.who m.call m.arrives place.1 role refl facts.0 facts.1 early at arrives).most)
-            (λ other. (request_way doc near far e m.who.process (l.others m.who.process role other) b x place.0 m.who m.call m.arrives place.1 role refl facts.0 facts.1 (omega (arith, early, l.within)) at arrives).most)
-            (cases_eq m.who.process q.process)
-
-        by_role : (t : Bool) → is_controller doc m.who.process ≡ t → at < b + far
-        by_role true role = omega (arith, soon role, early, (some_b doc near far b e q l s))
-        by_role false role = absurd (true_is (sym key ∙ right.may.kubelet role))
-          where
-            right : SentRight doc (greatest_below doc (length doc.controllers)) b (view (history doc (suc b))) m
-            right =
-                subst (λ o. IfSome o (SentRight doc (greatest_below doc (length doc.controllers)) b (view (history doc (suc b))))) is
-                ((turn_right doc (greatest_below doc (length doc.controllers)) (rates_at_most doc) s.sound (processes doc) b (omega (arith, l.within, s.end))).entries x
-                (in_tail x (history doc b) (history doc (suc b)) (later_tail doc b (suc b) (omega arith)) stands)).0
-
-    reply_in : (x : Entry) → In x (history doc b) → (m : Back) → back_of x.actor x.fact ≡ Some m → key_eq (key_of m.call.request) election ≡ true → (at : ℕ) → m.comes ≡ Some at → at < b + far
-    reply_in x stands m is key at comes = by_role (is_controller doc m.who.process) refl
-      where
-        place : (T : List Entry) × IsTail (x ∷ T) (history doc b)
-        place = let p = place_of x (history doc b) stands in (p.before, p.position)
-
-        early : x.beat ≤ b - 1
-        early = ⊎_elim (λ lt. omega (arith, lt)) (λ first. omega (arith, first.0)) (entries_are_earlier doc b x stands)
-
-        facts : IsAnswer x.actor x.fact m
-        facts = answer_facts x.actor x.fact m is
-
-        others : (role : is_controller doc m.who.process ≡ true) → (m.who.process ≡ q.process → ⊥) → at < b + far
-        others role other = omega (arith, passes.reply_most, early, (some_b doc near far b e q l s), some_is at (x.beat + reply_delay m.who.process (with_events doc x.beat)) (sym comes ∙ arrival))
-          where
-            steady : IsSteady doc near far 0 e m.who.process
-            steady = l.others m.who.process role other
-
-            passes : Passes doc near far m.who.process x.beat
-            passes = steady.passes x.beat (omega arith) (omega (arith, early, l.within))
-
-            made : MadeAnswer doc x.beat x.step x.actor m.call m.reply m.comes facts.wrote place.0
-            made = subst (λ d. MadeAs doc x.beat x.step x.actor d place.0) facts.fact (are_made doc b x place.0 place.1)
-
-            whose : made.s.who ≡ m.who
-            whose = actor_is made.s.who m.who (sym made.by ∙ facts.by)
-
-            arrival : m.comes ≡ Some (x.beat + reply_delay m.who.process (with_events doc x.beat))
-            arrival =
-                made.comes_is ∙ ap (λ (r : Identity). reply_arrival doc r.process x.beat place.0) whose
-                ∙ reply_passes doc near far m.who.process x.beat place.0 passes (forces_stand doc b x place.0 place.1 (omega (arith, made.step_is)))
-                (steady.passes (x.beat + reply_delay m.who.process (with_events doc x.beat)) (omega arith) (omega (arith, passes.reply_most, early, room, (some_b doc near far b e q l s)))).awake
-
-        its_own : m.who.process ≡ q.process → at < b + far
-        its_own same =
-            subst (λ o. IfSome o (λ at. at < b + far)) comes
-            (subst (λ o. IfSome o (λ s. IfSome s.comes (λ m. m < b + far))) is (replies x stands (own_process (record { process = q.process; incarnation = m.who.incarnation }) x.actor (facts.by ∙ ap (λ (p : ℕ). actor_of (record { process = p; incarnation = m.who.incarnation })) same))))
-
-        by_role : (t : Bool) → is_controller doc m.who.process ≡ t → at < b + far
-        by_role true role = ⊎_elim its_own (others role) (cases_eq m.who.process q.process)
-        by_role false role = absurd (true_is (sym key ∙ asks_elsewhere doc s.sound b (omega (arith, l.within, s.end)) x m (in_tail x (history doc b) (history doc (suc b)) (later_tail doc b (suc b) (omega arith)) stands) is role))
-
-    pub calm_since : IsCalm doc near far b e
-    calm_since = record {
-      each = λ p role. ⊎_elim (λ same. inr (subst (IsQuiet doc b e) (sym same) quiet)) (λ other. inl (others_since p role other)) (cases_eq p q.process);
-      requests = λ x stands. each_some (sent_of x.actor x.fact) _ (λ m is key. each_some m.arrives _ (request_in x stands m is key));
-      replies = λ x stands. each_some (back_of x.actor x.fact) _ (λ m is key. each_some m.comes _ (reply_in x stands m is key));
-    }
-
-    pub times_since : AreInTime doc near far b e
-    times_since p role steady = restrict_time doc far 0 b e e p (omega arith) (omega arith) (s.calls p role)
+  pub times_since : AreInTime doc near far b e
+  times_since = since.times_since doc near far b e q l s b (some_b doc near far b e q l s) (omega (arith, l.within)) idle_before

@@ -8,13 +8,13 @@ use Rattle.kube_objects.specs.declared.object.Object.{Object}
 use Rattle.kube_objects.specs.Answers.{answer, written}
 use Rattle.kube_objects.specs.Clocks.{local}
 use Rattle.kube_objects.specs.Document.{Doc, end_beat, of_seconds, is_controller, lease_duration}
-use Rattle.kube_objects.specs.Elector.{Follow, Fails, Asks, Succeeds, succeeds, follow_on, leads, is_before, deadline}
+use Rattle.kube_objects.specs.Elector.{succeeds, follow_on, leads, is_before, deadline}
 use Rattle.kube_objects.specs.Entry.{Entry, Identity, Fact, Answers, Delivers, actor_of, entry}
 use Rattle.kube_objects.specs.Identities.{is_same, is_other}
 use Rattle.kube_objects.specs.Newest.{has, or_zero}
 use Rattle.kube_objects.specs.Process.{alive, is_present}
-use Rattle.kube_objects.specs.Stored.{election, stored, at_key, write_of}
-use Rattle.kube_objects.specs.Turns.{react, with_reply}
+use Rattle.kube_objects.specs.Stored.{election, at_key, write_of}
+use Rattle.kube_objects.specs.Turns.{with_reply}
 use Rattle.kube_objects.specs.Wire.{Back, back_of, reply_arrival}
 use Rattle.history.specs.History.{history, whole_history, at_turn}
 use Rattle.history.specs.Premise.{greatest_below}
@@ -33,7 +33,7 @@ use Rattle.call_laws.proofs.Placing.{in_own_beat, not_before}
 use Rattle.call_laws.proofs.Starting.{actor_is}
 use Rattle.takeover_laws.specs.Calm.{IsQuiet, IsInTime}
 use Rattle.takeover_laws.proofs.Standing.{controllers_first}
-use Rattle.takeover_laws.proofs.Writers.{Sending, IsReacted, sending_of, replies_react}
+use Rattle.takeover_laws.proofs.Writers.{Sending, IsReacted, sending_of, replies_react, follow_adds}
 use Rattle.calm_laws.proofs.Life.{up_between}
 use Rattle.calm_laws.proofs.Origins.{Origin}
 use Rattle.gap_laws.proofs.Waits.{Slow, Waited, WaitedFor, Took, Topped, Waits}
@@ -49,18 +49,12 @@ use Rattle.silence_laws.proofs.Led.{HasLed}
 use Rattle.succession_laws.proofs.Records.{OfIt, new_of_it, old_of_it, is_its, entries_rise}
 use Rattle.silence_laws.proofs.Renewed.{Rewritten, renewed_by, done_of}
 use Rattle.silence_laws.proofs.Renewed as renewed
-use Rattle.silence_laws.proofs.Setting.{IsWay, request_way, calm_before, times_before, its_lead, it_stays}
+use Rattle.silence_laws.proofs.Setting.{request_way, calm_before, times_before, its_lead, it_stays}
+use Rattle.silence_laws.proofs.Ways.{IsWay}
 
 -- everything that is known of waits, of no certain delays
 abbrev plainly : Slow
 plainly = record { who = 0; from = 0; least = 0 }
-
--- a reaction has the reply below it
-reacted_on : (k : ℕ) (q : Identity) (led : Bool) (f : Follow) (h : List Entry) → IsTail h (react k q led f h)
-reacted_on k q led Fails h = tail_all h
-reacted_on k q led (Asks request) h = inr (tail_all h)
-reacted_on k q true (Succeeds version) h = tail_all h
-reacted_on k q false (Succeeds version) h = inr (tail_all h)
 
 abbrev reply_or : Reply → Fact → Reply
 reply_or x (Answers call reply comes wrote) = reply
@@ -177,7 +171,7 @@ module _ (doc : Doc) (near far b e : ℕ) (q : Identity) (l : LeadsUntil doc nea
         before = r.before;
         position =
             subst (λ reply. IsTail (entry y 3 q (Delivers w.call reply true) ∷ r.before) (history doc (suc y))) done.1
-            (tail_trans (with_reply y q w.call reply r.before) _ (history doc (suc y)) (reacted_on y q (leads q (with_reply y q w.call reply r.before)) (follow_on doc q y w.call.kind w.call.request reply (with_reply y q w.call reply r.before)) (with_reply y q w.call reply r.before)) r.position);
+            (tail_trans (with_reply y q w.call reply r.before) _ (history doc (suc y)) (follow_adds y q (leads q (with_reply y q w.call reply r.before)) (follow_on doc q y w.call.kind w.call.request reply (with_reply y q w.call reply r.before)) (with_reply y q w.call reply r.before)) r.position);
         since = omega arith;
         success = ap (succeeds w.call.request) (sym done.1) ∙ ap (succeeds w.call.request) (sym reply_is) ∙ w.so;
       }

@@ -1,7 +1,7 @@
 -- By when somebody else leads after a leader in a calm has fallen silent, or is stopped, and how long the leader itself acts on.
 -- Source: client-go, package `leaderelection`; profile.
 use Rattle.std.specs.Int.{div_ceil}
-use Rattle.std.specs.Prelude.{◌≡◌, ◌≤◌, ◌<◌, ℕ, suc, ◌+◌, ◌-◌, ◌*◌, true, false, cond, IfSome}
+use Rattle.std.specs.Prelude.{◌≡◌, ◌≤◌, ◌<◌, ℕ, suc, ◌+◌, ◌-◌, ◌*◌, Bool, true, false, cond, IfSome}
 use Rattle.kube_objects.specs.Document.{Doc, is_controller, lease_duration, retry_period, renew_deadline}
 use Rattle.kube_objects.specs.Entry.{Entry, Identity}
 use Rattle.kube_objects.specs.Identities.{of_process}
@@ -48,8 +48,11 @@ pub record IsFollowed (doc : Doc) (b n e : ℕ) (q : Identity) : Type 0 where
 
 -- the ways from a leader's silence to another's lead, beside the looks and the wait of a rival: an answer may show an older record until one way after
 -- the silence, and in that beat too where leaders renew without a Get
+abbrev pub ways_after : Bool → ℕ → ℕ
+ways_after quick far = cond quick (6 * far - 1) (6 * far - 2)
+
 abbrev pub last_ways : Doc → ℕ → ℕ
-last_ways doc far = cond doc.settings.fast_renew (6 * far - 1) (6 * far - 2)
+last_ways doc far = ways_after doc.settings.fast_renew far
 
 -- where a leader in a calm falls silent at beat b, another one leads by the time that the looks of a rival take at most, its wait, and these ways;
 -- and it stays

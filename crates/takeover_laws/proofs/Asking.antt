@@ -3,28 +3,27 @@ use Rattle.std.proofs.Common.{◌≡◌, ◌⊎◌, ◌<◌, ◌≤◌, ℕ, suc
 use Rattle.std.proofs.lemmas.Bool.{ltb-true, ltb-false, eq-eqb}
 use Rattle.kube_base.specs.declared.numbers.Version.{Version}
 use Rattle.kube_objects.specs.declared.call.Reply.{Reply}
-use Rattle.kube_objects.specs.declared.call.Request.{Request}
 use Rattle.kube_objects.specs.declared.call.Request.TheVariants.{Get}
 use Rattle.kube_objects.specs.declared.deed.Actor.{Actor}
 use Rattle.kube_objects.specs.Clocks.{local}
-use Rattle.kube_objects.specs.Document.{Doc, processes, is_controller, retry_period, renew_deadline}
-use Rattle.kube_objects.specs.Elector.{Follow, timer_says, Fails, Asks, Shown, shown, observed, leads, lead_says, follow_on, timer_follow, timer, deadline_says, deadline, attempt}
+use Rattle.kube_objects.specs.Document.{Doc, is_controller, retry_period, renew_deadline}
+use Rattle.kube_objects.specs.Elector.{Follow, timer_says, Fails, shown, observed, leads, lead_says, follow_on, timer_follow, deadline_says, deadline, attempt}
 use Rattle.kube_objects.specs.Entry.{Entry, Identity, Call, Fact, First as FirstPut, Event as Happens, Starts, Stops, Sends, Answers, Delivers, Expires, Leads, Ends, Crashes, Stalls, Ticks, actor_of, entry}
-use Rattle.kube_objects.specs.Identities.{is_by, is_same, of_process}
+use Rattle.kube_objects.specs.Identities.{is_by}
 use Rattle.kube_objects.specs.Newest.{newest, when, only_if, join, has, or_zero}
 use Rattle.kube_objects.specs.Pauses.{is_paused}
 use Rattle.kube_objects.specs.Process.{alive, last_call, call_in}
 use Rattle.kube_objects.specs.Stored.{election}
-use Rattle.kube_objects.specs.Turns.{expired_in, just_expired, is_fast_call}
+use Rattle.kube_objects.specs.Turns.{expired_in, is_fast_call}
 use Rattle.kube_objects.specs.Wire.{send, next_call, request_arrival}
 use Rattle.history.specs.History.{history, at_turn}
 use Rattle.history.specs.Safe.{Acts}
 use Rattle.history.specs.Steps.{turn}
 use Rattle.history_laws.specs.Tails.{In, IsTail}
-use Rattle.history_laws.proofs.Plainly.{upper, some_is, none_is, true_is, false_is, same_self}
+use Rattle.history_laws.proofs.Plainly.{upper, true_is, false_is, same_self}
 use Rattle.history_laws.proofs.Tailed.{tail_all, tail_trans, in_tail, later_tail, turn_tail, before_turn, same_head}
 use Rattle.call_laws.specs.Answering.{with_events}
-use Rattle.call_laws.proofs.Above.{tail_length, next_above, in_head}
+use Rattle.call_laws.proofs.Above.{tail_length, next_above}
 use Rattle.call_laws.proofs.Making.{MadeAs, MadeSend, HasStopped, IsOpen, Replied, are_made}
 use Rattle.call_laws.proofs.Starting.{sends_are_due, actor_is}
 use Rattle.call_laws.proofs.Placing.{in_own_beat}
@@ -34,6 +33,7 @@ use Rattle.takeover_laws.specs.Calm.{IsSteady}
 use Rattle.takeover_laws.proofs.Unasked.{Quiet, Asked, quiet_or_asked, turn_tries, attempt_gets}
 use Rattle.takeover_laws.proofs.Fresh.{turn_leads}
 use Rattle.takeover_laws.proofs.Standing.{controllers_first, IsSince, since_events, unled, persists}
+use Rattle.lease_laws.proofs.Steps.{no_ask}
 
 -- ---- who leads has a deadline, and leads on
 
@@ -75,14 +75,11 @@ leads_on q g (x ∷ h) (inr at) is = older (lead_says q x.actor x.fact) (leads_o
 
 -- ---- what was asked
 
-no_ask : (request : Request) → Fails ≡ Asks request → ⊥
-no_ask request is = cc
-
-abbrev call_or : Call → Fact → Call
+abbrev pub call_or : Call → Fact → Call
 call_or c (Delivers d reply counted) = d
 call_or c _ = c
 
-abbrev reply_or : Reply → Fact → Reply
+abbrev pub reply_or : Reply → Fact → Reply
 reply_or x (Delivers d reply counted) = reply
 reply_or x _ = x
 

@@ -1,22 +1,20 @@
 -- While it doesn't act, a controller whose messages pass is taken down by nothing.
-use Rattle.std.proofs.Common.{◌≡◌, ◌⊎◌, ◌<◌, ◌≤◌, ℕ, zero, suc, ◌+◌, ◌==◌, ◌&&◌, not, nat_lt, Bool, true, false, List, [], ◌∷◌, length, length-append, Option, Some, None, refl, sym, ap, ◌∙◌, subst, inl, inr, ⊎_elim, arith}
-use Rattle.std.proofs.lemmas.Bool.{ltb-true, ltb-false, eq-eqb, eqb-true, cases_eq}
-use Rattle.kube_objects.specs.declared.deed.Actor.{Actor}
+use Rattle.std.proofs.Common.{◌≡◌, ◌⊎◌, ◌<◌, ◌≤◌, ℕ, zero, suc, ◌+◌, ◌==◌, ◌&&◌, nat_lt, Bool, true, false, List, [], ◌∷◌, length, length-append, Option, Some, None, refl, sym, ap, ◌∙◌, subst, inl, inr, ⊎_elim, arith}
+use Rattle.std.proofs.lemmas.Bool.{ltb-true, ltb-false, eqb-true, cases_eq}
 use Rattle.kube_objects.specs.Clocks.{local}
 use Rattle.kube_objects.specs.Document.{Doc, processes, is_controller, renew_deadline}
-use Rattle.kube_objects.specs.Elector.{deadline, is_before, in_term, acts}
-use Rattle.kube_objects.specs.Entry.{Entry, Identity, Call, Fact, First, Event as Happens, Starts, Stops, Sends, Answers, Delivers, Expires, Leads, Ends, Crashes, Stalls, Ticks, actor_of, entry}
+use Rattle.kube_objects.specs.Elector.{deadline}
+use Rattle.kube_objects.specs.Entry.{Entry, Identity, Fact, First, Event as Happens, Starts, Stops, Sends, Answers, Delivers, Expires, Leads, Ends, Crashes, Stalls, Ticks}
 use Rattle.kube_objects.specs.Identities.{identity, of_process}
 use Rattle.kube_objects.specs.Newest.{when, join, has}
 use Rattle.kube_objects.specs.Pauses.{is_paused}
-use Rattle.kube_objects.specs.Process.{born, gone, life_says, life, alive, starts, is_present}
+use Rattle.kube_objects.specs.Process.{born, gone, life_says, life, alive, starts}
 use Rattle.history.specs.History.{three_steps, history, at_turn}
 use Rattle.history.specs.Safe.{Acts}
-use Rattle.history.specs.Steps.{turn}
 use Rattle.history_laws.specs.Tails.{In, IsTail}
 use Rattle.history_laws.proofs.Lives.{Over}
 use Rattle.history_laws.proofs.Order.{entries_are_earlier}
-use Rattle.history_laws.proofs.Plainly.{upper, some_is, none_is, false_is, and_both, identity_eq}
+use Rattle.history_laws.proofs.Plainly.{upper, some_is, none_is, identity_eq}
 use Rattle.history_laws.proofs.Tailed.{tail_all, tail_trans, in_tail, turn_tail, later_tail}
 use Rattle.call_laws.specs.Answering.{with_events}
 use Rattle.call_laws.proofs.Above.{Above, above_trans, above_more, next_above, in_head}
@@ -24,7 +22,7 @@ use Rattle.call_laws.proofs.Making.{MadeAs, MadeEnd, are_made}
 use Rattle.call_laws.proofs.Placing.{IsLate, after_events, from_beat, not_before}
 use Rattle.call_laws.proofs.Starting.{starts_are_down}
 use Rattle.takeover_laws.specs.Calm.{IsSteady}
-use Rattle.takeover_laws.proofs.Fresh.{IsAfter, same_or_fresh, set_counted, turn_counted, deadline_turns, past_ends, over_stays, still_up, acts_before}
+use Rattle.takeover_laws.proofs.Fresh.{same_or_fresh, set_counted, turn_counted, deadline_turns, past_ends, over_stays, still_up, acts_before}
 
 pub controllers_first : (doc : Doc) (p : ℕ) → is_controller doc p ≡ true → p < processes doc
 controllers_first doc p role = let e : processes doc ≡ length doc.controllers + length doc.kubelets = length-append doc.controllers doc.kubelets in omega (arith, ltb-true p (length doc.controllers) role, e)
@@ -38,6 +36,48 @@ since_events doc a n le =
     above_trans (IsSince a) (with_events doc a) (history doc (suc a)) (history doc (suc n))
     (above_more (IsLate a 2) (IsSince a) (λ e s. inr s) (with_events doc a) (history doc (suc a)) (after_events doc a))
     (above_more (λ e. suc a ≤ e.beat) (IsSince a) (λ e s. inl s) (history doc (suc a)) (history doc (suc n)) (from_beat doc (suc a) (suc n) (omega (arith, le))))
+
+-- who is up stays up, where the entry is no crash, stop or end of its own
+pub lives_on : (doc : Doc) (m : ℕ) (q : Identity) (x : Entry) (T : List Entry) → IsTail (x ∷ T) (history doc m)
+    → (x.fact ≡ Crashes → x.step ≡ 1 → has (of_process q.process x.actor) ≡ true → ⊥) → (x.fact ≡ Stops → has (of_process q.process x.actor) ≡ true → ⊥)
+    → (x.fact ≡ Ends → (made : MadeEnd doc x.beat x.step x.actor T) → has (of_process q.process x.actor) ≡ true → made.q ≡ q → ⊥)
+    → alive q.process T ≡ Some q.incarnation → alive q.process (x ∷ T) ≡ Some q.incarnation
+lives_on doc m q x T stands no_crash no_stop no_end up = cases x.fact refl (are_made doc m x T stands)
+  where
+    after : Fact → Option ℕ
+    after d = join (upper (life_says q.process x.actor d) (life q.process T))
+
+    gone_none : (o : Option ℕ) → of_process q.process x.actor ≡ o → (has (of_process q.process x.actor) ≡ true → ⊥) → join (upper (gone o) (life q.process T)) ≡ Some q.incarnation
+    gone_none None is not_own = up
+    gone_none (Some j) is not_own = absurd (not_own (ap has is))
+
+    cases : (d : Fact) → x.fact ≡ d → MadeAs doc x.beat x.step x.actor d T → after d ≡ Some q.incarnation
+    cases Starts fact made = by_test (made.0 == q.process) refl
+      where
+        by_test : (b : Bool) → (made.0 == q.process) ≡ b → after Starts ≡ Some q.incarnation
+        by_test false other = ap (λ o. join (upper (born o) (life q.process T))) (ap (of_process q.process) made.1 ∙ ap (λ b. when b (starts made.0 T + 1)) other) ∙ up
+        by_test true is =
+            let p : made.0 ≡ q.process = eqb-true made.0 q.process is in
+            absurd (none_is q.incarnation (sym (starts_are_down doc m x T stands fact (identity made.0 (starts made.0 T + 1)) made.1) ∙ ap (λ p. alive p T) p ∙ up))
+    cases Crashes fact made = gone_none (of_process q.process x.actor) refl (no_crash fact made)
+    cases Stops fact made = gone_none (of_process q.process x.actor) refl (no_stop fact)
+    cases Ends fact made = by_test (made.q.process == q.process) refl
+      where
+        by_test : (b : Bool) → (made.q.process == q.process) ≡ b → after Ends ≡ Some q.incarnation
+        by_test false other = ap (λ o. join (upper (gone o) (life q.process T))) (ap (of_process q.process) made.by ∙ ap (λ b. when b made.q.incarnation) other) ∙ up
+        by_test true is =
+            let p : made.q.process ≡ q.process = eqb-true made.q.process q.process is in
+            absurd (no_end fact made (ap (λ who. has (of_process q.process who)) made.by ∙ ap (λ b. has (when b made.q.incarnation)) is)
+            (identity_eq made.q q p (some_is made.q.incarnation q.incarnation (sym made.up ∙ ap (λ p. alive p T) p ∙ up))))
+    cases (First key object) fact made = up
+    cases (Happens w version) fact made = up
+    cases (Sends call arrives) fact made = up
+    cases (Answers call reply comes wrote) fact made = up
+    cases (Delivers call reply counted) fact made = up
+    cases (Expires call) fact made = up
+    cases (Ticks t) fact made = up
+    cases (Stalls beats) fact made = up
+    cases (Leads version) fact made = up
 
 module _ (doc : Doc) (near far a e n : ℕ) (q : Identity) (role : is_controller doc q.process ≡ true) (lasts : 1 ≤ renew_deadline doc q.process)
     (steady : IsSteady doc near far a e q.process) (within : n ≤ e) (none : (k : ℕ) → a ≤ k → k ≤ n → Acts doc q k → ⊥) where
@@ -119,53 +159,14 @@ module _ (doc : Doc) (near far a e n : ℕ) (q : Identity) (role : is_controller
   -- ---- it stays up
 
   stays_up : (x : Entry) (T : List Entry) → IsTail (x ∷ T) (history doc (suc n)) → IsSince a x → alive q.process T ≡ Some q.incarnation → alive q.process (x ∷ T) ≡ Some q.incarnation
-  stays_up x T stands since up = cases x.actor x.fact refl refl (are_made doc (suc n) x T stands)
+  stays_up x T stands since up =
+      lives_on doc (suc n) q x T stands
+      (λ fact first own. let before = steady.crashes x (placed x T stands) fact own in ⊎_elim (λ lt. omega (arith, lt, before)) (λ here. omega (arith, here.1, first)) since)
+      (λ fact own. let before = steady.stops x (placed x T stands) fact own in omega (arith, before, from))
+      (λ fact made own same. no_ends x T stands from fact own made.step_is made.at up (ap (λ q. deadline doc q T) (sym same) ∙ made.deadline_is) (ap (λ (q : Identity). nat_lt (local doc q.process x.beat) made.at) (sym same) ∙ made.late)) up
     where
       from : a ≤ x.beat
       from = ⊎_elim (λ lt. omega (arith, lt)) (λ here. omega (arith, here.0)) since
-
-      cases : (who : Actor) (d : Fact) → x.actor ≡ who → x.fact ≡ d → MadeAs doc x.beat x.step who d T → join (upper (life_says q.process who d) (life q.process T)) ≡ Some q.incarnation
-      cases who Starts actor fact made = by_test (made.0 == q.process) refl
-        where
-          by_test : (b : Bool) → (made.0 == q.process) ≡ b → join (upper (born (of_process q.process who)) (life q.process T)) ≡ Some q.incarnation
-          by_test false other = ap (λ o. join (upper (born o) (life q.process T))) (ap (of_process q.process) made.1 ∙ ap (λ b. when b (starts made.0 T + 1)) other) ∙ up
-          by_test true is =
-              let p : made.0 ≡ q.process = eqb-true made.0 q.process is in
-              absurd (none_is q.incarnation (sym (starts_are_down doc (suc n) x T stands fact (identity made.0 (starts made.0 T + 1)) (actor ∙ made.1)) ∙ ap (λ p. alive p T) p ∙ up))
-      cases who Crashes actor fact made = by_own (of_process q.process who) refl
-        where
-          by_own : (o : Option ℕ) → of_process q.process who ≡ o → join (upper (gone o) (life q.process T)) ≡ Some q.incarnation
-          by_own None is = up
-          by_own (Some j) is =
-              let before = steady.crashes x (placed x T stands) fact (ap (λ who. has (of_process q.process who)) actor ∙ ap has is) in
-              absurd (⊎_elim (λ lt. omega (arith, lt, before)) (λ here. omega (arith, here.1, made)) since)
-      cases who Stops actor fact made = by_own (of_process q.process who) refl
-        where
-          by_own : (o : Option ℕ) → of_process q.process who ≡ o → join (upper (gone o) (life q.process T)) ≡ Some q.incarnation
-          by_own None is = up
-          by_own (Some j) is =
-              let before = steady.stops x (placed x T stands) fact (ap (λ who. has (of_process q.process who)) actor ∙ ap has is) in
-              absurd (omega (arith, before, from))
-      cases who Ends actor fact made = by_test (made.q.process == q.process) refl
-        where
-          by_test : (b : Bool) → (made.q.process == q.process) ≡ b → join (upper (gone (of_process q.process who)) (life q.process T)) ≡ Some q.incarnation
-          by_test false other = ap (λ o. join (upper (gone o) (life q.process T))) (ap (of_process q.process) made.by ∙ ap (λ b. when b made.q.incarnation) other) ∙ up
-          by_test true is =
-              let p : made.q.process ≡ q.process = eqb-true made.q.process q.process is in
-              let same : made.q ≡ q = identity_eq made.q q p (some_is made.q.incarnation q.incarnation (sym made.up ∙ ap (λ p. alive p T) p ∙ up)) in
-              absurd (no_ends x T stands from fact
-              (ap (λ who. has (of_process q.process who)) (actor ∙ made.by) ∙ ap (λ b. has (when b made.q.incarnation)) is) made.step_is made.at up
-              (ap (λ q. deadline doc q T) (sym same) ∙ made.deadline_is)
-              (ap (λ (q : Identity). nat_lt (local doc q.process x.beat) made.at) (sym same) ∙ made.late))
-      cases who (First key object) actor fact made = up
-      cases who (Happens w version) actor fact made = up
-      cases who (Sends call arrives) actor fact made = up
-      cases who (Answers call reply comes wrote) actor fact made = up
-      cases who (Delivers call reply counted) actor fact made = up
-      cases who (Expires call) actor fact made = up
-      cases who (Ticks t) actor fact made = up
-      cases who (Stalls beats) actor fact made = up
-      cases who (Leads version) actor fact made = up
 
   -- from a position after the events of beat a on
   pub persists : a ≤ n → (g h : List Entry) → IsTail (with_events doc a) g → IsTail g h → IsTail h (history doc (suc n)) → alive q.process g ≡ Some q.incarnation → alive q.process h ≡ Some q.incarnation

@@ -26,7 +26,7 @@ use Rattle.takeover_laws.proofs.Records.{no_write, record_stays}
 use Rattle.takeover_laws.proofs.Rounds.{rounds_in, sent_is}
 
 -- a request that fits what is stored is accepted
-fits_writes : (r : Request) (h : List Entry) (o : Option Held) → stored election h ≡ o → FitsStored o r → has (at_key election (request_write r (written r h))) ≡ true
+pub fits_writes : (r : Request) (h : List Entry) (o : Option Held) → stored election h ≡ o → FitsStored o r → has (at_key election (request_write r (written r h))) ≡ true
 fits_writes (Update key version lease) h (Some x) is fits =
     subst (λ key. has (at_key election (request_write (Update key version lease) (written (Update key version lease) h))) ≡ true) (sym fits.0)
     (ap (λ o. has (at_key election (request_write (Update election version lease) (written_over o (Update election version lease) (answer_over (next_version h) o (Update election version lease)))))) is

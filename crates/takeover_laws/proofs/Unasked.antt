@@ -1,15 +1,15 @@
 -- A candidate whose attempt failed asks again as soon as its timer says so.
-use Rattle.std.proofs.Common.{◌≡◌, ◌⊎◌, ◌<◌, ◌≤◌, ℕ, zero, suc, ◌+◌, ◌==◌, ◌&&◌, not, nat_lt, Bool, true, false, cond, List, [], ◌∷◌, length, Option, Some, None, refl, sym, ap, ◌∙◌, subst, inl, inr, ⊎_elim, arith}
+use Rattle.std.proofs.Common.{◌≡◌, ◌⊎◌, ◌<◌, ◌≤◌, ℕ, ◌+◌, ◌==◌, ◌&&◌, not, nat_lt, Bool, true, false, cond, List, [], ◌∷◌, Option, Some, None, refl, sym, ap, ◌∙◌, subst, inl, inr, ⊎_elim, arith}
 use Rattle.std.specs.Prelude.{if◌then◌else◌}
 use Rattle.kube_objects.specs.declared.call.Reply.{Reply}
 use Rattle.kube_objects.specs.declared.call.Request.{Request}
 use Rattle.kube_objects.specs.declared.call.Request.TheVariants.{Get}
 use Rattle.kube_objects.specs.declared.deed.Actor.{Actor}
 use Rattle.kube_objects.specs.Clocks.{local}
-use Rattle.kube_objects.specs.Document.{Doc, processes, is_controller, retry_period}
-use Rattle.kube_objects.specs.Elector.{told, is_fast, lead_says, Follow, Fails, Asks, Shown, shown, shows, newly, observed, leads, follow_on, timer_follow, timer_says, timer, deadline, attempt, attempt_from, moment, observed_at, acts}
-use Rattle.kube_objects.specs.Entry.{Entry, Identity, Call, CallKind, Plain, Fact, First as FirstPut, Event as Happens, Starts, Stops, Sends, Answers, Delivers, Expires, Leads, Ends, Crashes, Stalls, Ticks, actor_of, entry}
-use Rattle.kube_objects.specs.Identities.{is_by, is_same, of_process}
+use Rattle.kube_objects.specs.Document.{Doc, is_controller, retry_period}
+use Rattle.kube_objects.specs.Elector.{told, is_fast, lead_says, Shown, shown, shows, newly, observed, leads, follow_on, timer_follow, timer_says, timer, deadline, attempt, attempt_from, moment, observed_at, acts}
+use Rattle.kube_objects.specs.Entry.{Entry, Identity, Call, CallKind, Plain, Fact, First as FirstPut, Event as Happens, Starts, Stops, Sends, Answers, Delivers, Expires, Leads, Ends, Crashes, Stalls, Ticks, actor_of}
+use Rattle.kube_objects.specs.Identities.{is_by}
 use Rattle.kube_objects.specs.Newest.{newest, when, only_if, join, has, or_zero}
 use Rattle.kube_objects.specs.Pauses.{is_paused}
 use Rattle.kube_objects.specs.Process.{alive, starts, open_as, call_says, last_call, call_in}
@@ -17,17 +17,15 @@ use Rattle.kube_objects.specs.Stored.{election}
 use Rattle.kube_objects.specs.Tick.{tick}
 use Rattle.kube_objects.specs.Turns.{expire_call, expired, end_term, expired_in, just_expired, is_fast_call, attempt_if, try}
 use Rattle.kube_objects.specs.Wire.{send}
-use Rattle.history.specs.History.{history, at_turn}
+use Rattle.history.specs.History.{history}
 use Rattle.history.specs.Steps.{if_up, restart_if, restart, expire, finish, attempts, ticks, controller_turn, kubelet_turn, unpaused_turn, turn}
-use Rattle.history_laws.specs.Tails.{In, IsTail}
+use Rattle.history_laws.specs.Tails.{IsTail}
 use Rattle.history_laws.proofs.Counting.{counted_is}
-use Rattle.history_laws.proofs.Plainly.{upper, some_is, none_is, true_is, false_is, same_is, same_self}
-use Rattle.history_laws.proofs.Tailed.{tail_all, tail_trans, in_tail, later_tail, tail_of_empty, same_head, same_rest}
+use Rattle.history_laws.proofs.Plainly.{upper, none_is, true_is, same_is, same_self}
+use Rattle.history_laws.proofs.Tailed.{tail_all, tail_trans, same_head}
 use Rattle.history_laws.proofs.Ticks.{walk_tick}
-use Rattle.call_laws.proofs.Above.{tail_length, in_head}
-use Rattle.call_laws.proofs.Making.{MadeAs, MadeSend, HasStopped, IsOpen, Replied, are_made}
-use Rattle.call_laws.proofs.Starting.{starts_are_down, sends_are_due}
-use Rattle.call_laws.proofs.Turning.{IsDue}
+use Rattle.call_laws.proofs.Making.{MadeAs, are_made}
+use Rattle.call_laws.proofs.Starting.{starts_are_down}
 
 -- ---- an own turn with an attempt that is due
 
@@ -42,9 +40,10 @@ ticks_add doc k p h = by_up (alive p h)
     by_up None = tail_all h
     by_up (Some i) = by_test i (acts doc (record { process = p; incarnation = i }) k h)
 
-pub turn_tries : (doc : Doc) (k : ℕ) (q : Identity) (g : List Entry) → is_controller doc q.process ≡ true → is_paused doc q.process k ≡ false → alive q.process g ≡ Some q.incarnation → call_in q g ≡ None → deadline doc q g ≡ None
+-- a turn in which no term ends, no call waits and the timer has come sends what the identity then tries
+pub turn_sends : (doc : Doc) (k : ℕ) (q : Identity) (g : List Entry) → is_controller doc q.process ≡ true → is_paused doc q.process k ≡ false → alive q.process g ≡ Some q.incarnation → call_in q g ≡ None → finish doc k q.process g ≡ g
     → just_expired q k g ≡ None → nat_lt (local doc q.process k) (timer doc q g) ≡ false → IsTail (send k 4 q (attempt doc q k g).0 (attempt doc q k g).1 g) (turn doc k q.process g)
-turn_tries doc k q g role awake up call unset expiry due =
+turn_sends doc k q g role awake up call finishes expiry due =
     subst (λ b. IsTail sent (if b then g else unpaused_turn doc k q.process g)) (sym awake)
     (subst (λ b. IsTail sent (if b then controller_turn doc k q.process g else kubelet_turn doc k q.process g)) (sym role)
     (subst (IsTail sent) (sym whole) (ticks_add doc k q.process sent)))
@@ -57,9 +56,6 @@ turn_tries doc k q g role awake up call unset expiry due =
 
     expires : expire doc k q.process g ≡ g
     expires = ap (λ o. if_up q.process (λ q T. expired doc k q T) o g) up ∙ ap (λ o. expire_call doc k q o g) call
-
-    finishes : finish doc k q.process g ≡ g
-    finishes = ap (λ o. if_up q.process (λ q T. end_term doc k q (deadline doc q T) T) o g) up ∙ ap (λ o. end_term doc k q o g) unset
 
     tries : attempts doc k q.process g ≡ sent
     tries =
@@ -75,6 +71,11 @@ turn_tries doc k q g role awake up call unset expiry due =
         ∙ ap (λ h. ticks doc k q.process (attempts doc k q.process h)) finishes
         ∙ ap (ticks doc k q.process) tries
 
+pub turn_tries : (doc : Doc) (k : ℕ) (q : Identity) (g : List Entry) → is_controller doc q.process ≡ true → is_paused doc q.process k ≡ false → alive q.process g ≡ Some q.incarnation → call_in q g ≡ None → deadline doc q g ≡ None
+    → just_expired q k g ≡ None → nat_lt (local doc q.process k) (timer doc q g) ≡ false → IsTail (send k 4 q (attempt doc q k g).0 (attempt doc q k g).1 g) (turn doc k q.process g)
+turn_tries doc k q g role awake up call unset expiry due =
+    turn_sends doc k q g role awake up call (ap (λ o. if_up q.process (λ q T. end_term doc k q (deadline doc q T) T) o g) up ∙ ap (λ o. end_term doc k q o g) unset) expiry due
+
 -- who doesn't lead asks for the Lease
 pub attempt_gets : (doc : Doc) (q : Identity) (k : ℕ) (h : List Entry) → leads q h ≡ false → (attempt doc q k h).1 ≡ Get election
 attempt_gets doc q k h unled = ap (λ b. (cond {A = CallKind × Request} (doc.settings.fast_renew && b) (attempt_from q (moment doc q k) (observed_at doc q h) (shown q h)) (Plain, Get election)).1) unled ∙ by_fast doc.settings.fast_renew
@@ -82,6 +83,60 @@ attempt_gets doc q k h unled = ap (λ b. (cond {A = CallKind × Request} (doc.se
     by_fast : (b : Bool) → (cond {A = CallKind × Request} (b && false) (attempt_from q (moment doc q k) (observed_at doc q h) (shown q h)) (Plain, Get election)).1 ≡ Get election
     by_fast true = refl
     by_fast false = refl
+
+-- ---- entries of others
+
+-- they say nothing of its call
+pub others_call : (q : Identity) (who : Actor) (d : Fact) → is_by q who ≡ false → call_says q who d ≡ None
+others_call q who (Sends c arrives) other = ap (λ b. when b (open_as c.kind c)) other
+others_call q who (Delivers c reply false) other = refl
+others_call q who (Delivers c reply true) other = ap (λ b. when b None) other
+others_call q who (Expires c) other = ap (λ b. when b None) other
+others_call q who (FirstPut key object) other = refl
+others_call q who (Happens w version) other = refl
+others_call q who Starts other = refl
+others_call q who Crashes other = refl
+others_call q who Stops other = refl
+others_call q who (Stalls beats) other = refl
+others_call q who Ends other = refl
+others_call q who (Answers c reply comes wrote) other = refl
+others_call q who (Leads version) other = refl
+others_call q who (Ticks t) other = refl
+
+-- nor of its timer
+pub others_time : (doc : Doc) (q : Identity) (x : Entry) (h : List Entry) (d : Fact) → is_by q x.actor ≡ false → timer_says doc q x h d ≡ None
+others_time doc q x h Starts other = ap (λ b. when b (local doc q.process x.beat)) other
+others_time doc q x h (Leads version) other = ap (λ b. when b (local doc q.process x.beat)) other
+others_time doc q x h (Expires c) other = ap (λ b. when (b && not (is_fast c.kind)) (local doc q.process x.beat + retry_period doc q.process)) other
+others_time doc q x h (Delivers c reply false) other = refl
+others_time doc q x h (Delivers c reply true) other =
+    ap (λ b. only_if b (timer_follow (follow_on doc q x.beat c.kind c.request reply (x ∷ h)) (leads q h) (local doc q.process x.beat + retry_period doc q.process))) other
+others_time doc q x h (Sends c arrives) other = refl
+others_time doc q x h (FirstPut key object) other = refl
+others_time doc q x h (Happens w version) other = refl
+others_time doc q x h Crashes other = refl
+others_time doc q x h Stops other = refl
+others_time doc q x h (Stalls beats) other = refl
+others_time doc q x h Ends other = refl
+others_time doc q x h (Answers c reply comes wrote) other = refl
+others_time doc q x h (Ticks t) other = refl
+
+-- nor of what it was shown
+pub others_show : (q : Identity) (who : Actor) (d : Fact) → is_by q who ≡ false → shows q who d ≡ None
+others_show q who (Delivers c reply false) other = refl
+others_show q who (Delivers c reply true) other = ap (λ b. only_if b (told c.request reply)) other
+others_show q who (Sends c arrives) other = refl
+others_show q who (Expires c) other = refl
+others_show q who (FirstPut key object) other = refl
+others_show q who (Happens w version) other = refl
+others_show q who Starts other = refl
+others_show q who Crashes other = refl
+others_show q who Stops other = refl
+others_show q who (Stalls beats) other = refl
+others_show q who Ends other = refl
+others_show q who (Answers c reply comes wrote) other = refl
+others_show q who (Leads version) other = refl
+others_show q who (Ticks t) other = refl
 
 -- ---- after a failure
 
@@ -134,9 +189,6 @@ module _ (doc : Doc) (q : Identity) (low : List Entry) (at : ℕ) (view : Option
 
   module _ (m : ℕ) (role : is_controller doc q.process ≡ true) (unled : (h : List Entry) → IsTail h (history doc m) → leads q h ≡ false)
       (up : (h : List Entry) → IsTail low h → IsTail h (history doc m) → alive q.process h ≡ Some q.incarnation) where
-    by_none : (who : Actor) (A : Type 0) (says : A) → is_by q who ≡ false → when (is_by q who) says ≡ None
-    by_none who A says other = ap (λ b. when b says) other
-
     by_actor : (who : Actor) (p : Identity) → who ≡ actor_of p → is_by q who ≡ true → p ≡ q
     by_actor who p by mine = same_is p q (sym (ap (is_by q) by) ∙ mine)
 
@@ -146,62 +198,10 @@ module _ (doc : Doc) (q : Identity) (low : List Entry) (at : ℕ) (view : Option
         no_call : (c : Call) → call_in q h ≡ Some c → ⊥
         no_call c is = none_is c (sym s.call ∙ is)
 
-        foreign : (who : Actor) (d : Fact) → x.actor ≡ who → x.fact ≡ d → is_by q who ≡ false → Quiet (x ∷ h)
-        foreign who d actor fact other =
-            quiet_more x h below (calls x.actor x.fact other_x) (timers x.actor x.fact other_x refl) (views x.actor x.fact other_x) (inr other_x)
-            (λ w reply is mine. true_is (sym (ap (is_by q) mine ∙ same_self q) ∙ other_x)) s
-          where
-            other_x : is_by q x.actor ≡ false
-            other_x = ap (is_by q) actor ∙ other
-
-            calls : (who : Actor) (d : Fact) → is_by q who ≡ false → call_says q who d ≡ None
-            calls who (Sends c arrives) other = ap (λ b. when b (open_as c.kind c)) other
-            calls who (Delivers c reply false) other = refl
-            calls who (Delivers c reply true) other = ap (λ b. when b None) other
-            calls who (Expires c) other = ap (λ b. when b None) other
-            calls who (FirstPut key object) other = refl
-            calls who (Happens w version) other = refl
-            calls who Starts other = refl
-            calls who Crashes other = refl
-            calls who Stops other = refl
-            calls who (Stalls beats) other = refl
-            calls who Ends other = refl
-            calls who (Answers c reply comes wrote) other = refl
-            calls who (Leads version) other = refl
-            calls who (Ticks t) other = refl
-
-            timers : (who : Actor) (d : Fact) → is_by q who ≡ false → x.actor ≡ who → timer_says doc q x h d ≡ None
-            timers who Starts other is = ap (λ b. when b (local doc q.process x.beat)) (ap (is_by q) is ∙ other)
-            timers who (Leads version) other is = ap (λ b. when b (local doc q.process x.beat)) (ap (is_by q) is ∙ other)
-            timers who (Expires c) other is = ap (λ b. when (b && not (is_fast c.kind)) (local doc q.process x.beat + retry_period doc q.process)) (ap (is_by q) is ∙ other)
-            timers who (Delivers c reply false) other is = refl
-            timers who (Delivers c reply true) other is =
-                ap (λ b. only_if b (timer_follow (follow_on doc q x.beat c.kind c.request reply (x ∷ h)) (leads q h) (local doc q.process x.beat + retry_period doc q.process))) (ap (is_by q) is ∙ other)
-            timers who (Sends c arrives) other is = refl
-            timers who (FirstPut key object) other is = refl
-            timers who (Happens w version) other is = refl
-            timers who Crashes other is = refl
-            timers who Stops other is = refl
-            timers who (Stalls beats) other is = refl
-            timers who Ends other is = refl
-            timers who (Answers c reply comes wrote) other is = refl
-            timers who (Ticks t) other is = refl
-
-            views : (who : Actor) (d : Fact) → is_by q who ≡ false → shows q who d ≡ None
-            views who (Delivers c reply false) other = refl
-            views who (Delivers c reply true) other = ap (λ b. only_if b (told c.request reply)) other
-            views who (Sends c arrives) other = refl
-            views who (Expires c) other = refl
-            views who (FirstPut key object) other = refl
-            views who (Happens w version) other = refl
-            views who Starts other = refl
-            views who Crashes other = refl
-            views who Stops other = refl
-            views who (Stalls beats) other = refl
-            views who Ends other = refl
-            views who (Answers c reply comes wrote) other = refl
-            views who (Leads version) other = refl
-            views who (Ticks t) other = refl
+        foreign : is_by q x.actor ≡ false → Quiet (x ∷ h)
+        foreign other =
+            quiet_more x h below (others_call q x.actor x.fact other) (others_time doc q x h x.fact other) (others_show q x.actor x.fact other) (inr other)
+            (λ w reply is mine. true_is (sym (ap (is_by q) mine ∙ same_self q) ∙ other)) s
 
         -- an entry that changes no reading of an elector, whoever its actor is
         plain : (d : Fact) → x.fact ≡ d → call_says q x.actor d ≡ None → timer_says doc q x h d ≡ None → shows q x.actor d ≡ None → ((k : ℕ) → expired_in k x.beat d ≡ None) → ((w : Call) (reply : Reply) → d ≡ Delivers w reply true → ⊥) → Quiet (x ∷ h)
@@ -244,7 +244,7 @@ module _ (doc : Doc) (q : Identity) (low : List Entry) (at : ℕ) (view : Option
 
         by_own : (b : Bool) → is_by q x.actor ≡ b → Quiet (x ∷ h) ⊎ Asked (x ∷ h)
         by_own true mine = own x.actor x.fact refl refl mine (are_made doc m x h position)
-        by_own false other = inl (foreign x.actor x.fact refl refl other)
+        by_own false other = inl (foreign other)
 
     -- at each later position all is quiet, or it has asked
     pub quiet_or_asked : (h : List Entry) → Quiet low → IsTail low h → IsTail h (history doc m) → Quiet h ⊎ Asked h

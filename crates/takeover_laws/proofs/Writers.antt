@@ -1,6 +1,6 @@
 -- Who writes the election Lease by a call that was sent in a calm acts soon.
 use Rattle.kube_objects.specs.declared.key.Key.{Key}
-use Rattle.std.proofs.Common.{◌≡◌, ◌⊎◌, ◌<◌, ◌≤◌, ℕ, zero, suc, ◌+◌, ◌*◌, ◌-◌, ◌==◌, ◌&&◌, not, nat_lt, Bool, true, false, cond, List, [], ◌∷◌, Option, Some, None, IfSome, refl, sym, ap, ◌∙◌, subst, inl, inr, ⊎_elim, arith}
+use Rattle.std.proofs.Common.{◌≡◌, ◌⊎◌, ◌<◌, ◌≤◌, ℕ, suc, ◌+◌, ◌*◌, ◌-◌, ◌==◌, ◌&&◌, not, nat_lt, Bool, true, false, List, [], ◌∷◌, Option, Some, None, IfSome, refl, sym, ap, ◌∙◌, subst, inl, inr, ⊎_elim, arith}
 use Rattle.std.specs.Prelude.{if◌then◌else◌}
 use Rattle.std.proofs.Math.Nat.{mul-le-mul_right}
 use Rattle.std.proofs.lemmas.Bool.{ltb-true, ltb-false, eq-eqb, eqb-true, cases_lt}
@@ -16,21 +16,20 @@ use Rattle.kube_objects.specs.declared.object.Object.{Object}
 use Rattle.kube_objects.specs.declared.object.Object.TheVariants as object
 use Rattle.kube_objects.specs.Answers.{answer, written, if_done}
 use Rattle.kube_objects.specs.Clocks.{local}
-use Rattle.kube_objects.specs.Document.{Doc, processes, is_controller, call_timeout, retry_period, renew_deadline}
+use Rattle.kube_objects.specs.Document.{Doc, is_controller, call_timeout, retry_period, renew_deadline}
 use Rattle.kube_objects.specs.Elector.{Follow, Fails, Asks, Succeeds, follow_on, leads, succeeds, deadline, acts}
 use Rattle.kube_objects.specs.Entry.{Entry, Identity, Call, CallKind, Fact, First as FirstPut, Event as Happens, Starts, Stops, Sends, Answers, Delivers, Expires, Leads, Ends, Crashes, Stalls, Ticks, actor_of, entry}
-use Rattle.kube_objects.specs.Identities.{identity_of, is_same, is_by, of_process}
+use Rattle.kube_objects.specs.Identities.{is_same, is_by, of_process}
 use Rattle.kube_objects.specs.InFlight.{is_due, replies_due}
-use Rattle.kube_objects.specs.Keys.{key_eq}
 use Rattle.kube_objects.specs.Newest.{when, only_if, has}
-use Rattle.kube_objects.specs.Pauses.{is_paused, can_at}
+use Rattle.kube_objects.specs.Pauses.{can_at}
 use Rattle.kube_objects.specs.Process.{open_as, alive, call_in, is_present, is_late, answered_call, counted}
-use Rattle.kube_objects.specs.Stored.{election, key_of, request_write, at_key}
+use Rattle.kube_objects.specs.Stored.{election, request_write, at_key}
 use Rattle.kube_objects.specs.Turns.{react, with_reply}
-use Rattle.kube_objects.specs.Wire.{Sent, Back, sent_as, sent_of, back_of, reply_arrival, request_arrival}
+use Rattle.kube_objects.specs.Wire.{Sent, Back, sent_of, back_of, reply_arrival, request_arrival}
 use Rattle.history.specs.History.{three_steps, history, at_turn}
 use Rattle.history.specs.Safe.{Acts}
-use Rattle.history.specs.Steps.{answered, delivered, deliver_all, deliver_as, react_as, step_three}
+use Rattle.history.specs.Steps.{delivered, deliver_all, deliver_as, react_as, step_three}
 use Rattle.history_laws.specs.Order.{IsWithin}
 use Rattle.history_laws.specs.Tails.{In, IsTail}
 use Rattle.history_laws.proofs.Counting.{counted_is}
@@ -38,22 +37,22 @@ use Rattle.history_laws.proofs.Plainly.{upper, some_is, none_is, false_is, true_
 use Rattle.history_laws.proofs.Tailed.{tail_all, tail_trans, in_tail, later_tail, turn_tail, turns_add, two_adds, same_head, same_rest}
 use Rattle.history_laws.proofs.Order.{entries_are_earlier}
 use Rattle.kube_objects.proofs.Clocks.{local_up}
-use Rattle.history_laws.proofs.Walk.{Arriving, Coming}
+use Rattle.history_laws.proofs.Walk.{Coming}
 use Rattle.span_laws.proofs.Spans.{goes_most}
 use Rattle.call_laws.specs.Answering.{with_events, with_answers}
 use Rattle.call_laws.specs.Waiting.{Closes, IsClosed}
-use Rattle.call_laws.proofs.Above.{Above, above_cut, next_above, in_head, place_of}
+use Rattle.call_laws.proofs.Above.{above_cut, next_above, in_head, place_of}
 use Rattle.call_laws.proofs.Answering.{before_events, events_position, answers_position, deliveries_position}
-use Rattle.call_laws.proofs.Making.{MadeAs, MadeSend, MadeAnswer, HasStopped, IsOpen, are_made}
+use Rattle.call_laws.proofs.Making.{MadeDelivery, MadeExpiry, MadeAs, MadeSend, HasStopped, IsOpen, are_made}
 use Rattle.call_laws.proofs.Once.{answers_differ, due_at}
 use Rattle.call_laws.proofs.Placing.{from_beat, in_own_beat, not_before, within_answers, above_events, messages_travel}
 use Rattle.call_laws.proofs.Above.{low_of}
 use Rattle.call_laws.proofs.Placing.{IsLate}
 use Rattle.call_laws.proofs.Waiting.{calls_wait}
 use Rattle.takeover_laws.specs.Calm.{IsSteady, WritesElection, IsInTime}
-use Rattle.takeover_laws.specs.Rounds.{IsRound, HasCounted, RepliesCount}
-use Rattle.takeover_laws.proofs.Deliveries.{Waits, First, is_for, first_for, delivered_adds, deliveries_add, all_coming, any_coming}
-use Rattle.takeover_laws.proofs.Fresh.{IsAfter, IsFresh, fresh_stays, can_least, acts_before}
+use Rattle.takeover_laws.specs.Rounds.{IsRound, RepliesCount}
+use Rattle.takeover_laws.proofs.Deliveries.{Waits, First, first_for, delivered_adds, deliveries_add, all_coming, any_coming}
+use Rattle.takeover_laws.proofs.Fresh.{IsFresh, fresh_stays, can_least, acts_before}
 use Rattle.takeover_laws.proofs.Rounds.{sent_is, rounds_in, in_answers}
 use Rattle.takeover_laws.proofs.Standing.{controllers_first, IsSince, since_events, persists}
 
@@ -116,21 +115,56 @@ won_fresh doc q k call reply version h lasts so = by_led (leads q h) refl
       later = omega (arith, lasts);
     }
 
+-- an entry of an identity is one of its process
+pub by_process : (q : Identity) (who : Actor) → is_by q who ≡ true → has (of_process q.process who) ≡ true
+by_process q actors.Script is = absurd (false_is is)
+by_process q (actors.Proc id i) is = ap (λ b. has (when b i)) (and_left (id.0 == q.process) (i == q.incarnation) is)
+
+-- what closes a call: a reply that counts for it, its expiry, or a stop
+pub closed_by : (q : Identity) (call : Call) (x : Entry) (T : List Entry) (doc : Doc) (C : Type 0) → MadeAs doc x.beat x.step x.actor x.fact T → Closes q call x.actor x.fact
+    → ((w : Call) (reply : Reply) → x.fact ≡ Delivers w reply true → MadeDelivery doc x.beat x.step x.actor w reply T → is_by q x.actor ≡ true → w ≡ call → C)
+    → ((made : MadeExpiry doc x.beat x.actor call T) → made.q ≡ q → is_late doc q x.beat call ≡ true → C)
+    → (x.fact ≡ Stops → has (of_process q.process x.actor) ≡ true → C) → C
+closed_by q call x T doc C made closes reply_counts expires stops = cases x.fact refl made closes
+  where
+    cases : (d : Fact) → x.fact ≡ d → MadeAs doc x.beat x.step x.actor d T → Closes q call x.actor d → C
+    cases (Delivers w reply true) fact made closes = reply_counts w reply fact made closes.0 closes.1
+    cases (Expires w) fact made closes = expires own mine (subst (λ p. is_late doc p x.beat call ≡ true) mine own.late)
+      where
+        own : MadeExpiry doc x.beat x.actor call T
+        own = subst (λ w. MadeExpiry doc x.beat x.actor w T) closes.1 made
+
+        mine : own.q ≡ q
+        mine = same_is own.q q (sym (ap (is_by q) own.by) ∙ closes.0)
+    cases Stops fact made closes = stops fact (by_process q x.actor closes)
+    cases (FirstPut key object) fact made closes = elim closes [ ]
+    cases (Happens w version) fact made closes = elim closes [ ]
+    cases Starts fact made closes = elim closes [ ]
+    cases Crashes fact made closes = elim closes [ ]
+    cases Ends fact made closes = elim closes [ ]
+    cases (Stalls beats) fact made closes = elim closes [ ]
+    cases (Sends w arrives) fact made closes = elim closes [ ]
+    cases (Answers w reply comes wrote) fact made closes = elim closes [ ]
+    cases (Delivers w reply false) fact made closes = elim closes [ ]
+    cases (Leads version) fact made closes = elim closes [ ]
+    cases (Ticks tick) fact made closes = elim closes [ ]
+
+-- a reply to the call for which an identity waits counts for that call
+pub waits_count : (doc : Doc) (q : Identity) (k : ℕ) (call : Call) (given : ℕ) (h : List Entry) → (call.number == given) ≡ true → is_late doc q k call ≡ false → Waits doc k q call h → counted doc q k given h ≡ Some call
+waits_count doc q k call given h number timely w =
+    ap (λ o. only_if (is_present o q.incarnation) (answered_call doc q k given (call_in q h))) w.up
+    ∙ ap (λ t. only_if t (answered_call doc q k given (call_in q h))) (eq-eqb q.incarnation q.incarnation refl)
+    ∙ ap (λ o. answered_call doc q k given o) w.call_is
+    ∙ ap (λ t. when (t && not (is_late doc q k call)) call) number
+    ∙ ap (λ t. when (not t) call) timely
+
 -- what the reply that counts brings about
 pub delivers : (doc : Doc) (q : Identity) (k : ℕ) (call : Call) (b : Back) (h : List Entry) → is_controller doc q.process ≡ true → b.who ≡ q → (call.number == b.call.number) ≡ true → is_late doc q k call ≡ false → Waits doc k q call h
     → delivered doc k b h ≡ react k q (leads q (with_reply k q call b.reply h)) (follow_on doc q k call.kind call.request b.reply (with_reply k q call b.reply h)) (with_reply k q call b.reply h)
 delivers doc q k call b h role mine number timely w =
     ap (λ p. deliver_as doc k p b.call b.reply (counted doc p k b.call.number h) h) mine
-    ∙ ap (λ o. deliver_as doc k q b.call b.reply o h) counts
+    ∙ ap (λ o. deliver_as doc k q b.call b.reply o h) (waits_count doc q k call b.call.number h number timely w)
     ∙ ap (λ t. react_as doc k q call b.reply t (with_reply k q call b.reply h)) role
-  where
-    counts : counted doc q k b.call.number h ≡ Some call
-    counts =
-        ap (λ o. only_if (is_present o q.incarnation) (answered_call doc q k b.call.number (call_in q h))) w.up
-        ∙ ap (λ t. only_if t (answered_call doc q k b.call.number (call_in q h))) (eq-eqb q.incarnation q.incarnation refl)
-        ∙ ap (λ o. answered_call doc q k b.call.number o) w.call_is
-        ∙ ap (λ t. when (t && not (is_late doc q k call)) call) number
-        ∙ ap (λ t. when (not t) call) timely
 
 pub follow_adds : (k : ℕ) (q : Identity) (led : Bool) (f : Follow) (h : List Entry) → IsTail h (react k q led f h)
 follow_adds k q led Fails h = tail_all h
@@ -276,7 +310,9 @@ module _ (doc : Doc) (near far a e n : ℕ) (q : Identity) (role : is_controller
 
     -- it still waits as the replies of the beat come
     unclosed : IsClosed q call (s.f ∷ s.before) two → ⊥
-    unclosed c = cases c.e.actor c.e.fact refl refl (are_made doc (suc n) c.e c.before position) c.closes
+    unclosed c =
+        closed_by q call c.e c.before doc ⊥ (are_made doc (suc n) c.e c.before position) c.closes delivers_it expires_it
+        (λ fact own. omega (arith, since, steady.stops c.e (in_tail c.e (history doc (suc n)) (history doc (suc e)) (later_tail doc (suc n) (suc e) (omega (arith, within))) (in_head c.e c.before (history doc (suc n)) position)) fact own))
       where
         position : IsTail (c.e ∷ c.before) (history doc (suc n))
         position = tail_trans (c.e ∷ c.before) two (history doc (suc n)) c.position at_two
@@ -296,16 +332,16 @@ module _ (doc : Doc) (near far a e n : ℕ) (q : Identity) (role : is_controller
             (next_above (IsSince a) (with_events doc a) c.before (history doc (suc n)) c.e (since_events doc a n from_a)
             (tail_trans (with_events doc a) s.before c.before low (tail_trans s.before (s.f ∷ s.before) c.before (inr (tail_all s.before)) c.since)) position).0
 
-        cases : (who : Actor) (d : Fact) → c.e.actor ≡ who → c.e.fact ≡ d → MadeAs doc c.e.beat c.e.step who d c.before → Closes q call who d → ⊥
-        cases who (Delivers w reply true) actor fact made closes =
+        delivers_it : (w : Call) (reply : Reply) → c.e.fact ≡ Delivers w reply true → MadeDelivery doc c.e.beat c.e.step c.e.actor w reply c.before → is_by q c.e.actor ≡ true → w ≡ call → ⊥
+        delivers_it w reply fact made own same =
             let counts = counted_is doc made.b.who c.e.beat made.b.call.number c.before w made.counted_is in
-            let mine : made.b.who ≡ q = same_is made.b.who q (sym (ap (is_by q) made.by) ∙ closes.0) in
-            let b = same_back c.before made.coming.e made.b below made.coming.stands made.coming.is mine (sym counts.number ∙ ap (λ (c : Call). c.number) closes.1) in
+            let mine : made.b.who ≡ q = same_is made.b.who q (sym (ap (is_by q) made.by) ∙ own) in
+            let b = same_back c.before made.coming.e made.b below made.coming.stands made.coming.is mine (sym counts.number ∙ ap (λ (c : Call). c.number) same) in
             let beat : c.e.beat ≡ y = some_is c.e.beat y (sym (due_at c.e.beat made.b.comes made.coming.now) ∙ ap (λ (b : Back). b.comes) b ∙ r.comes_is) in
             ⊎_elim (λ lt. omega (arith, lt, beat)) (λ here. omega (arith, here.1, made.step_is)) early
-        cases who (Expires w) actor fact made closes =
-            let mine : made.q ≡ q = same_is made.q q (sym (ap (is_by q) made.by) ∙ closes.0) in
-            let late : is_late doc q c.e.beat call ≡ true = subst (λ p. is_late doc p c.e.beat call ≡ true) mine (subst (λ w. is_late doc made.q c.e.beat w ≡ true) closes.1 made.late) in
+
+        expires_it : (made : MadeExpiry doc c.e.beat c.e.actor call c.before) → made.q ≡ q → is_late doc q c.e.beat call ≡ true → ⊥
+        expires_it made mine late =
             let on_time = timely call s.f.beat y s.sent s.from (omega (arith, r.least, r.comes_least)) (omega (arith, r.most, r.comes_most)) (omega (arith, comes, within)) in
             omega (
               arith,
@@ -313,23 +349,6 @@ module _ (doc : Doc) (near far a e n : ℕ) (q : Identity) (role : is_controller
               ltb-false (local doc q.process call.sent + call_timeout doc q.process) (local doc q.process y) on_time,
               local_up doc q.process c.e.beat y upto,
             )
-        cases who Stops actor fact made closes =
-            omega (arith, since, steady.stops c.e (in_tail c.e (history doc (suc n)) (history doc (suc e)) (later_tail doc (suc n) (suc e) (omega (arith, within))) (in_head c.e c.before (history doc (suc n)) position)) fact (ap (λ who. has (of_process q.process who)) actor ∙ by_process who closes))
-          where
-            by_process : (who : Actor) → is_by q who ≡ true → has (of_process q.process who) ≡ true
-            by_process actors.Script is = absurd (false_is is)
-            by_process (actors.Proc id i) is = ap (λ b. has (when b i)) (and_left (id.0 == q.process) (i == q.incarnation) is)
-        cases who (FirstPut key object) actor fact made closes = elim closes [ ]
-        cases who (Happens w version) actor fact made closes = elim closes [ ]
-        cases who Starts actor fact made closes = elim closes [ ]
-        cases who Crashes actor fact made closes = elim closes [ ]
-        cases who Ends actor fact made closes = elim closes [ ]
-        cases who (Stalls beats) actor fact made closes = elim closes [ ]
-        cases who (Sends w arrives) actor fact made closes = elim closes [ ]
-        cases who (Answers w reply comes wrote) actor fact made closes = elim closes [ ]
-        cases who (Delivers w reply false) actor fact made closes = elim closes [ ]
-        cases who (Leads version) actor fact made closes = elim closes [ ]
-        cases who (Ticks tick) actor fact made closes = elim closes [ ]
 
     waiting : Waits doc y q call two
     waiting = record {
@@ -351,18 +370,6 @@ module _ (doc : Doc) (near far a e n : ℕ) (q : Identity) (role : is_controller
 
     that : first.b ≡ back
     that = same_back two first.right.e first.b at_two first.right.stands first.right.is mine (sym (eqb-true call.number first.b.call.number number))
-
-    -- it counts
-    counts : IsTail (with_reply y q call first.b.reply first.before) (history doc (suc y))
-    counts =
-        tail_trans (with_reply y q call first.b.reply first.before) (delivered doc y first.b first.before) (history doc (suc y))
-        (subst (IsTail (with_reply y q call first.b.reply first.before))
-        (sym (delivers doc q y call first.b first.before role mine number (timely call s.f.beat y s.sent s.from (omega (arith, r.least, r.comes_least)) (omega (arith, r.most, r.comes_most)) (omega (arith, comes, within))) first.waits))
-        (follow_adds y q (leads q (with_reply y q call first.b.reply first.before)) (follow_on doc q y call.kind call.request first.b.reply (with_reply y q call first.b.reply first.before)) (with_reply y q call first.b.reply first.before)))
-        (tail_trans (delivered doc y first.b first.before) (step_three doc y two) (history doc (suc y)) first.position (deliveries_position doc y))
-
-    pub counted_reply : HasCounted doc q call (s.f.beat + 2 * near) (s.f.beat + 2 * far)
-    counted_reply = record { at = y; least = omega (arith, r.least, r.comes_least); most = omega (arith, r.most, r.comes_most); reply = first.b.reply; before = first.before; position = counts }
 
     abbrev follow_of : Back → List Entry
     follow_of b =
@@ -543,31 +550,7 @@ module _ (doc : Doc) (near far a e n : ℕ) (q : Identity) (role : is_controller
     pub writer_acts : (x : Entry) (T : List Entry) → IsTail (x ∷ T) (history doc (suc n)) → x.actor ≡ actor_of q → WritesElection a x.fact → x.beat + far ≤ n → ⊥
     writer_acts x T position mine election_write late = writes x T x.actor x.fact refl refl position mine election_write late (are_made doc (suc n) x T position)
 
--- ---- the law
-
-pub replies_count : RepliesCount
-replies_count doc near far a e n q role steady time one within x T call arrives stands actor fact from to up = by_sending (sending_of doc near far a e n q role steady time within one call arrives x T stands actor fact since)
-  where
-    sent : call.sent ≡ x.beat
-    sent = (subst (λ o. IfSome o (λ s. (s.call.sent ≡ x.beat) × (s.arrives ≡ request_arrival s.who.process x.beat T))) (sent_is x q call arrives actor fact) (messages_travel doc (suc n) x T stands).0).0
-
-    since : a ≤ call.sent
-    since = omega (arith, sent, from)
-
-    by_sending : (s : Sending doc a n q call arrives) × (s.f ≡ x) × (s.before ≡ T) → HasCounted doc q call (x.beat + 2 * near) (x.beat + 2 * far)
-    by_sending s =
-        subst (λ b. HasCounted doc q call (b + 2 * near) (b + 2 * far)) beat
-        (counted_reply doc near far a e n q role steady time within one call arrives s.0 r (omega (arith, r.most, r.comes_most, to, beat)) (λ h below above. up h (subst (λ g. IsTail g h) s.2 below) above))
-      where
-        beat : s.0.f.beat ≡ x.beat
-        beat = ap (λ (e : Entry). e.beat) s.1
-
-        r : IsRound doc near far q call arrives s.0.f.beat
-        r =
-            rounds_in doc near far a e q steady one (suc n) s.0.f s.0.before call arrives s.0.position s.0.actor s.0.fact (omega (arith, s.0.step)) s.0.from (omega (arith, beat, to, within))
-            (λ k is most. omega (arith, most, beat, to, within))
-
--- the same with what follows the reply
+-- what follows the reply to a call
 pub replies_react : (doc : Doc) (near far a e n : ℕ) (q : Identity) → is_controller doc q.process ≡ true → IsSteady doc near far a e q.process → IsInTime doc far a e q.process → 1 ≤ near → n ≤ e
     → (x : Entry) (T : List Entry) (call : Call) (arrives : Option ℕ) → IsTail (x ∷ T) (history doc (suc n)) → x.actor ≡ actor_of q → x.fact ≡ Sends call arrives → a ≤ x.beat → x.beat + 2 * far ≤ n
     → ((h : List Entry) → IsTail T h → IsTail h (history doc (suc n)) → alive q.process h ≡ Some q.incarnation)
@@ -592,3 +575,24 @@ replies_react doc near far a e n q role steady time one within x T call arrives 
         r =
             rounds_in doc near far a e q steady one (suc n) s.0.f s.0.before call arrives s.0.position s.0.actor s.0.fact (omega (arith, s.0.step)) s.0.from (omega (arith, beat, to, within))
             (λ k is most. omega (arith, most, beat, to, within))
+
+-- ---- the law
+
+pub replies_count : RepliesCount
+replies_count doc near far a e n q role steady time one within x T call arrives stands actor fact from to up = record {
+  at = y;
+  least = omega (arith, s.round.least, s.round.comes_least);
+  most = omega (arith, s.round.most, s.round.comes_most);
+  reply = answer call.request s.round.before;
+  before = s.before;
+  position = tail_trans counted _ (history doc (suc y)) (follow_adds y q (leads q counted) (follow_on doc q y call.kind call.request (answer call.request s.round.before) counted) counted) s.position;
+}
+  where
+    s : IsReacted doc near far q call arrives x.beat
+    s = replies_react doc near far a e n q role steady time one within x T call arrives stands actor fact from to up
+
+    y : ℕ
+    y = s.round.comes
+
+    counted : List Entry
+    counted = with_reply y q call (answer call.request s.round.before) s.before

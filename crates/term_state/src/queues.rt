@@ -1,5 +1,5 @@
 // The nodes and pods that wait for a phase of the tick.
-ghost use Rattle.std.specs.Prelude.{◌≡◌, ◌≤◌, ◌<◌, ◌+◌, ◌==◌, ◌&&◌, not, ℕ, Bool};
+ghost use Rattle.std.specs.Prelude.{◌≡◌, ◌≤◌, ◌<◌, ◌+◌, ℕ, Bool};
 ghost use Rattle.std.specs.Prelude.{true, false, List, Option, Some, None, OnOk, IfOk, IfSome, IfNone};
 ghost use Rattle.std.specs.BTreeSet.{contains, btree_set_len};
 ghost use Rattle.kube_objects.specs.Entry.{Entry, Identity};
@@ -32,18 +32,6 @@ impl Cluster {
                 .next()
                 .copied(),
         }
-    }
-
-    /// Takes out one of the nodes that may begin or end to wait.
-    pub fn pop_moved(&mut self) -> Option<u32>
-        ensures stands { (q : Identity) (h : List Entry) (nodes : ℕ → Bool) (pods : Key → Bool) → ClusterBut q h nodes pods self.old
-            → ClusterBut q h nodes pods self.new }
-        ensures there { IfSome result (λ name. has_moved self.old name ≡ true) }
-        ensures taken { IfSome result (λ name. (n : ℕ) → has_moved self.new n ≡ (not (name == n) && has_moved self.old n)) }
-        ensures none { IfNone result ((n : ℕ) → has_moved self.old n ≡ false) }
-        ensures kept { IfNone result ((n : ℕ) → has_moved self.new n ≡ false) }
-    {
-        self.moved.pop_first()
     }
 
     /// Takes out the pods that are due by now. It counts a step for each, and one more.

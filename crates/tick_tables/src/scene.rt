@@ -9,12 +9,11 @@ use kube_base::{Beat, Local, NoMemory, ProcId, Steps, Version, Wall};
 use kube_objects::{Reply, Settings2};
 use leader_elector::{Candidate, CandidateNext, Leading, Timing};
 use object_store::Store;
-use rate_policies::{full, partial};
 use std::alloc::Global;
 use std::io::{self, ErrorKind};
 use std::sync::ledger::Blank;
 use term_state::View;
-use zone_state::Policies;
+use zone_state::{Policies, full, partial};
 
 const TIMING: Timing = Timing {
     lease_seconds: 2_000,

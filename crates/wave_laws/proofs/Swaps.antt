@@ -7,25 +7,23 @@ use Rattle.kube_objects.specs.declared.call.Answer.{Answer}
 use Rattle.kube_objects.specs.declared.call.Answer.TheVariants as answer
 use Rattle.kube_objects.specs.declared.key.Key.{Key}
 use Rattle.kube_objects.specs.declared.node.Node.{Node}
-use Rattle.kube_objects.specs.declared.object.Object.{Object}
-use Rattle.kube_objects.specs.Clocks.{store_wall, whole_second}
 use Rattle.kube_objects.specs.Document.{Doc}
-use Rattle.kube_objects.specs.Entry.{Entry, Identity, First, Ticks, Tick, Sync, Untaint, Swap, Delete, script_entry, entry}
+use Rattle.kube_objects.specs.Entry.{Entry, Identity, Ticks, Tick, Sync, Untaint, Swap, Delete, entry}
 use Rattle.kube_objects.specs.Modes.{mode}
 use Rattle.kube_objects.specs.Newest.{newest, only_if, or_else}
 use Rattle.kube_objects.specs.Seen.{seen_node, is_fresh, stale_tick, stale_says, is_stale, node_names}
-use Rattle.kube_objects.specs.Stamps.{stamped}
 use Rattle.kube_objects.specs.Stored.{node_key, next_version}
 use Rattle.kube_objects.specs.Tainting.{Wanted, wants}
 use Rattle.kube_objects.specs.Tick.{add, for_each, new_taint, swapped, clean}
 use Rattle.kube_objects.specs.Tries.{try_node}
 use Rattle.history.specs.Evictions.{after_turn}
-use Rattle.history.specs.History.{put_all, history, at_turn}
+use Rattle.history.specs.History.{history, at_turn}
 use Rattle.history_laws.specs.Tails.{IsTail}
 use Rattle.history_laws.proofs.Plainly.{upper, same_self, true_is, false_is}
 use Rattle.history_laws.proofs.Tailed.{tail_trans}
-use Rattle.history_laws.proofs.Walk.{Ticking, Keeps, all_made, walk_to_tick, walk_at_turn}
-use Rattle.eviction_laws.proofs.Current.{Unstale, unstale_more}
+use Rattle.history_laws.proofs.Walk.{Ticking, walk_to_tick, walk_at_turn}
+use Rattle.eviction_laws.proofs.Current.{Unstale}
+use Rattle.eviction_laws.proofs.Turns.{unstale_keeps, put_unstale}
 use Rattle.outage_laws.specs.Attended.{IsAttended}
 use Rattle.outage_laws.specs.Passes.{synced_at}
 use Rattle.outage_laws.proofs.Turns.{ready}
@@ -43,15 +41,6 @@ use Rattle.wave_laws.proofs.Queue.{begun, Current, current_more, judged_current,
 use Rattle.wave_laws.proofs.Heads.{accepted}
 
 -- ---- before its untaints and swaps an attended tick has no stale key
-
-unstale_keeps : (doc : Doc) (q : Identity) → Keeps doc (λ k step. Unstale q)
-unstale_keeps doc q = all_made doc (λ k step. Unstale q) (λ k step h s. s) (λ k h s. s) (unstale_more doc q)
-
-put_unstale : (doc : Doc) (q : Identity) (xs : List (Key × Object)) (h : List Entry) → Unstale q h → Unstale q (put_all doc xs h)
-put_unstale doc q [] h s = s
-put_unstale doc q (x ∷ xs) h s =
-    let e = script_entry 0 0 (First x.0 (stamped (whole_second (store_wall doc 0)) x.1)) in
-    put_unstale doc q xs (e ∷ h) (unstale_more doc q e h tt s)
 
 module _ (doc : Doc) (q : Identity) (k : ℕ) (here : IsAttended doc q k) (key : Key) where
   begun_unstale : Unstale q (begun doc q k)

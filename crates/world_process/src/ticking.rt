@@ -52,6 +52,7 @@ impl Controller {
             now,
             wall,
         };
+        // A tick counts its steps, for its contract; a beat counts as one step, so they aren't handed on.
         let mut steps = Steps::new(Blank::new(1));
         let printed = self.term.tick(&acting, store, &view, policies, &mut steps)?;
         deeds.append(&printed)

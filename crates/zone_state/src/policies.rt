@@ -16,6 +16,9 @@ pub type FullRate = fn(ZoneView) -> u32;
 /// On every view whose secondary rate is at most its primary one, `partial` answers the secondary rate where the zone
 /// is larger than the threshold and 0 otherwise under Standard, the secondary rate under Gentle, 0 under Halt; `full`
 /// answers the primary rate under Standard, the secondary rate under Gentle, 0 under Halt.
+///
+/// A program makes them and hands them in: one that has this library in it may bring functions of its own, as long as they answer so.
+/// `partial` and `full` of this crate do.
 #[derive(Drop)]
 pub struct Policies {
     partial: PartialRate,

@@ -1,28 +1,5 @@
-ghost use Rattle.std.specs.Prelude.{◌≡◌};
-ghost use Rattle.zone_state.specs.Views.{partial_of, full_of};
-
 use super::*;
 use kube_objects::{RatePolicy, ZoneState};
-
-fn partial(view: ZoneView) -> u32
-    ensures { result ≡ partial_of view }
-{
-    match view.policy {
-        RatePolicy::Standard if view.size > view.threshold => view.secondary,
-        RatePolicy::Gentle => view.secondary,
-        _ => 0,
-    }
-}
-
-fn full(view: ZoneView) -> u32
-    ensures { result ≡ full_of view }
-{
-    match view.policy {
-        RatePolicy::Standard => view.primary,
-        RatePolicy::Gentle => view.secondary,
-        RatePolicy::Halt => 0,
-    }
-}
 
 #[test]
 fn states_by_counts(rt: HostRuntime) {

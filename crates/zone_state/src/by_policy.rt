@@ -1,11 +1,9 @@
-//! The rates of zones in which nodes are disrupted, as a document's rate policy has them.
-#![tactic(auto)]
-
+// The rates of zones in which nodes are disrupted, as a document's rate policy has them.
 ghost use Rattle.std.specs.Prelude.{◌≡◌};
 ghost use Rattle.zone_state.specs.Views.{full_of, partial_of};
 
+use crate::ZoneView;
 use kube_objects::RatePolicy;
-use zone_state::ZoneView;
 
 /// The rate of a zone in which many nodes aren't ready.
 pub fn partial(view: ZoneView) -> u32

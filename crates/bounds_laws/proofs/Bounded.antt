@@ -1,0 +1,373 @@
+-- The numbers hold.
+use Rattle.std.proofs.Common.{◌≡◌, ◌<◌, ◌≤◌, ℕ, suc, ◌+◌, ◌-◌, ◌*◌, ◌&&◌, true, false, List, [], ◌∷◌, length, Option, Some, None, refl, sym, ap, ◌∙◌, subst, inl, inr, ⊎_elim, arith}
+use Rattle.std.specs.Int.{div_ceil}
+use Rattle.std.proofs.lemmas.Bool.{ltb-true, cases_lt}
+use Rattle.kube_objects.specs.declared.script.Proc.{Proc}
+use Rattle.kube_objects.specs.Document.{Doc, end_beat, field, process_at, is_controller, of_millis, of_seconds, lease_duration, retry_period, renew_deadline}
+use Rattle.kube_objects.specs.Entry.{Identity}
+use Rattle.kube_objects.specs.Pauses.{is_paused}
+use Rattle.history.specs.History.{history}
+use Rattle.history.specs.Premise.{lease_premise}
+use Rattle.history.specs.Safe.{Acts}
+use Rattle.history_laws.proofs.Plainly.{some_is, and_left, and_right, and_both}
+use Rattle.span_laws.proofs.Quotients.{rounded_is}
+use Rattle.call_laws.specs.Answering.{with_events}
+use Rattle.call_laws.proofs.Answering.{events_position}
+use Rattle.takeover_laws.specs.Acting.{AreInTime}
+use Rattle.takeover_laws.specs.Calm.{IsQuiet, IsCalm}
+use Rattle.calm_laws.specs.Bounds.{SomebodyActs, IsCandidate, LastsFor, early_record, takeover_bound}
+use Rattle.calm_laws.proofs.Bounded.{takeovers_are_told}
+use Rattle.settle_laws.specs.Settles.{EndsInBeats, AllLastFor, IsSettled, settle_bound}
+use Rattle.settle_laws.proofs.Settled.{settling_is_told}
+use Rattle.silence_laws.specs.Silence.{LeadsUntil, Bears, IsStopped}
+use Rattle.silence_laws.specs.Least.{IsLead, takes_least, last_renewal}
+use Rattle.silence_laws.proofs.Lasting.{silences_are_told}
+use Rattle.silence_laws.proofs.Released.{releases_last}
+use Rattle.succession_laws.specs.Successions.{IsRival, IsFollowed, Hears, succession_bound}
+use Rattle.succession_laws.proofs.Following.{successors_are_told}
+use Rattle.succession_laws.proofs.Lingering.{leaders_act_on}
+use Rattle.release_laws.specs.Releases.{release_bound}
+use Rattle.release_laws.proofs.Following.{releases_are_told}
+use Rattle.document_laws.proofs.SoundDocuments.{sound-document}
+use Rattle.script_reader.specs.Lawful.{IsLawfulDoc}
+use Rattle.lens_bounds.specs.declared.calm.Calm.{Calm}
+use Rattle.lens_bounds.specs.declared.elections.Handover.{Handover}
+use Rattle.lens_bounds.specs.Documents.{calm_of}
+use Rattle.lens_bounds.specs.Elections.{retry, gets, acts_on, own_term, longest_term, longest_lease, handed_over, others, followers, replies_count, renews, outlasts, stays_by, lead, stay}
+use Rattle.bounds_laws.specs.Undisturbed.{far_of, LeadsUndisturbed, IsOther, GivesUp, IsWell, MayFollow, LeadsWell, StaysWell}
+use Rattle.bounds_laws.specs.Elections.{CrashesAreBounded, StopsAreBounded, ActsAreBounded, LeadsAreBounded, StaysAreBounded}
+use Rattle.bounds_laws.proofs.Reaching.{Standing, at_place}
+use Rattle.bounds_laws.proofs.Steady.{steady, undisturbed, runs_least, runs_most, some_far, reply_within}
+use Rattle.bounds_laws.proofs.Settings.{some_slow, some_fast, waits, in_time, counts_of, all_renew, bears, others_renew, others_renew_around}
+use Rattle.bounds_laws.proofs.Replies.{replies_come, released}
+use Rattle.bounds_laws.proofs.Folding.{IsWithin, other_within, alone, term_within, lease_within}
+use Rattle.bounds_laws.proofs.Telling.{crash_is, stop_is, acts_on_is, leads_is, stays_from_is, millis_most, millis_least, enough_beats, least_looks_is, crash_most_is, stop_most_is, leads_beats, stays_from_beats}
+
+-- a controller's longest term without a success
+term_is : (doc : Doc) (p : ℕ) (x : Proc) → process_at doc p ≡ Some x → retry_period doc p + renew_deadline doc p ≡ of_millis (own_term x)
+unfolding of_millis
+term_is doc p x is =
+    let a : retry_period doc p ≡ x.retry_millis * 1000000000 = ap (λ o. of_millis (field (λ (y : Proc). y.retry_millis) 0 o)) is in
+    let b : renew_deadline doc p ≡ x.renew_millis * 1000000000 = ap (λ o. of_millis (field (λ (y : Proc). y.renew_millis) 0 o)) is in
+    omega (arith, a, b)
+
+-- more time takes no fewer beats
+div_more : (x y speed : ℕ) → 1 ≤ speed → x ≤ y → div_ceil x speed ≤ div_ceil y speed
+div_more x y speed some le = (rounded_is speed x some).1 (div_ceil y speed) (omega (arith, le, (rounded_is speed y some).0))
+
+millis_more : (m n : ℕ) → m ≤ n → of_millis m ≤ of_millis n
+unfolding of_millis
+millis_more m n le = omega (arith, le)
+
+seconds_more : (m n : ℕ) → m ≤ n → of_seconds m ≤ of_seconds n
+unfolding of_seconds
+seconds_more m n le = omega (arith, le)
+
+within_same : (a : Handover) → IsWithin a a
+within_same a = record { crash_least = omega arith; crash_most = omega arith; stop_most = omega arith; leads = omega arith; stays_from = omega arith }
+
+-- where whoever leads stays, replies count
+each_replies : (c : Calm) (ps : List Proc) → stay c ps ≡ true → lead c ps ≡ true
+each_replies c [] stays = refl
+each_replies c (p ∷ ps) stays =
+    and_both (replies_count c p) (lead c ps) (and_left (replies_count c p) (renews c p) (and_left (replies_count c p && renews c p) (outlasts c p) (and_left (stays_by c p) (stay c ps) stays))) (each_replies c ps (and_right (stays_by c p) (stay c ps) stays))
+
+leads_where_stays : (doc : Doc) → stay (calm_of doc) doc.controllers ≡ true → lead (calm_of doc) doc.controllers ≡ true
+leads_where_stays doc = each_replies (calm_of doc) doc.controllers
+
+-- by a later beat
+followed_later : (doc : Doc) (b m n e : ℕ) (q : Identity) → m ≤ n → IsFollowed doc b m e q → IsFollowed doc b n e q
+followed_later doc b m n e q le f = record { c = f.c; other = f.other; j = f.j; to = omega (arith, f.to, le); success = f.success; stays = f.stays }
+
+module _ (doc : Doc) (lawful : IsLawfulDoc doc) where
+  some_beat : 1 ≤ doc.settings.beat_millis
+  some_beat = lawful.settings.beat_least
+
+  -- ---- a leader that falls silent
+
+  module _ (premise : lease_premise doc ≡ true) (b e : ℕ) (q : Identity) (leader : Proc) (leader_is : process_at doc q.process ≡ Some leader) (l : LeadsUndisturbed doc b e q) (stays : stay (calm_of doc) doc.controllers ≡ true) where
+    abbrev far : ℕ
+    far = far_of doc
+
+    leads_until : LeadsUntil doc 1 far b e q
+    leads_until = record {
+      role = l.role;
+      steady = steady doc lawful q.process l.role 0 (b - 1) l.own;
+      others = λ p role other. steady doc lawful p role 0 e (l.others p role other);
+      within = l.within;
+      long = l.long;
+      acts = l.acts;
+    }
+
+    abbrev bearing : Bears doc 1 far b e q
+    bearing = bears doc lawful stays premise b e l.end q l.role
+
+    own_place : Standing doc.controllers doc.kubelets q.process
+    own_place = at_place doc q.process l.role
+
+    rival : (p : ℕ) → IsOther doc b q p → IsRival doc b e q p (calm_of doc).slow (calm_of doc).fast
+    rival p o = record {
+      role = o.role;
+      other = o.other;
+      up = o.up;
+      runs_least = runs_least doc lawful p o.role b e;
+      runs_most = runs_most doc lawful p o.role b e;
+    }
+
+    -- the bounds of each other one are within those of all
+    all_within : (h : Handover) → others (calm_of doc) q.process leader doc.controllers ≡ Some h → (p : ℕ) (role : is_controller doc p ≡ true) → (p ≡ q.process → ⊥)
+        → IsWithin (handed_over (calm_of doc) (longest_term doc.controllers) (longest_lease doc.controllers) leader (at_place doc p role).proc) h
+    all_within h is p role other =
+        let f = other_within (calm_of doc) (longest_term doc.controllers) (longest_lease doc.controllers) q.process leader 0 doc.controllers None p (at_place doc p role).proc (at_place doc p role).own (λ same. other (omega (arith, same))) in
+        subst (IsWithin (handed_over (calm_of doc) (longest_term doc.controllers) (longest_lease doc.controllers) leader (at_place doc p role).proc)) (some_is f.0 h (sym f.1 ∙ is)) f.2
+
+    -- ---- a crash
+
+    module _ (quiet : IsQuiet doc b e q.process) (h : Handover) (h_is : others (calm_of doc) q.process leader doc.controllers ≡ Some h) where
+      crash_before : (k : ℕ) → IsLead doc b e q k → h.crash_least ≤ k - b
+      crash_before k is = ⊎_elim (λ some. omega (arith, told some, is.from)) (λ none. omega (arith, none)) (cases_lt 0 h.crash_least)
+        where
+          own : ℕ
+          own = div_ceil (retry_period doc q.process) (calm_of doc).slow + last_renewal doc far
+
+          same_own : retry (calm_of doc) leader + gets (calm_of doc) ≡ own
+          same_own = ap (λ o. div_ceil (of_millis (field (λ (y : Proc). y.retry_millis) 0 o)) (calm_of doc).slow + last_renewal doc far) (sym leader_is)
+
+          few : 0 < h.crash_least → (p : ℕ) → (role : is_controller doc p ≡ true) → (p ≡ q.process → ⊥) → h.crash_least + own - 3 ≤ takes_least doc 1 far p (calm_of doc).slow (calm_of doc).fast (lease_duration doc q.process)
+          few some p role other =
+              omega (
+                arith,
+                some,
+                (all_within h h_is p role other).crash_least,
+                same_own,
+                least_looks_is doc q.process leader leader_is p (at_place doc p role).proc (at_place doc p role).whole,
+              )
+
+          told : 0 < h.crash_least → b + (h.crash_least + own - 3) + 3 ≤ k + own
+          told some =
+              omega (
+                arith,
+                silences_are_told doc 1 far b e q leads_until bearing quiet (λ p. (calm_of doc).slow) (λ p. (calm_of doc).fast)
+                    (λ p role other. record { some = some_slow doc lawful; least = runs_least doc lawful p role 0 e; most = runs_most doc lawful p role 0 e }) (h.crash_least + own - 3) (few some) k is,
+              )
+
+      crash_by : (p n : ℕ) → IsOther doc b q p → b ≤ n → h.crash_most ≤ n - b → n ≤ e → IsFollowed doc b n e q
+      crash_by p n o from le to =
+          followed_later doc b (b + succession_bound doc 1 far p (calm_of doc).slow (calm_of doc).fast (lease_duration doc q.process)) n e q by_n
+          (successors_are_told doc 1 far b e q leads_until bearing quiet (replies_come doc lawful q.process l.role b b (omega arith) l.awake) (others_renew doc lawful stays b e q)
+          p (calm_of doc).slow (calm_of doc).fast (rival p o) (some_slow doc lawful) (some_fast doc lawful) (omega (arith, by_n, to)))
+        where
+          by_n : b + succession_bound doc 1 far p (calm_of doc).slow (calm_of doc).fast (lease_duration doc q.process) ≤ n
+          by_n =
+              omega (
+                arith,
+                (all_within h h_is p o.role o.other).crash_most,
+                crash_most_is doc q.process leader leader_is p (at_place doc p o.role).proc (at_place doc p o.role).whole,
+                le,
+                from,
+              )
+
+    -- ---- a stop
+
+    module _ (stop : IsStopped doc b e q) (gives : GivesUp doc b e q) (h : Handover) (h_is : others (calm_of doc) q.process leader doc.controllers ≡ Some h) where
+      stop_before : (k : ℕ) → IsLead doc b e q k → 4 ≤ k - b
+      stop_before k is = omega (arith, releases_last doc 1 far b e q leads_until bearing stop (released doc lawful b e q l.role gives) k is)
+
+      stop_by : (p n : ℕ) → IsOther doc b q p → b ≤ n → h.stop_most ≤ n - b → n ≤ e → IsFollowed doc b n e q
+      stop_by p n o from le to =
+          followed_later doc b (b + release_bound doc far p (calm_of doc).slow) n e q by_n
+          (releases_are_told doc 1 far b e q leads_until bearing stop (released doc lawful b e q l.role gives) (replies_come doc lawful q.process l.role (suc b) b (omega arith) l.awake)
+          (others_renew_around doc lawful stays b e q) p (calm_of doc).slow (calm_of doc).fast (rival p o) (some_slow doc lawful) (omega (arith, by_n, to)))
+        where
+          by_n : b + release_bound doc far p (calm_of doc).slow ≤ n
+          by_n =
+              omega (
+                arith,
+                (all_within h h_is p o.role o.other).stop_most,
+                stop_most_is doc q.process leader leader_is p (at_place doc p o.role).proc (at_place doc p o.role).whole,
+                le,
+                from,
+              )
+
+    -- ---- how long it acts on
+
+    acts_for : IsQuiet doc b e q.process → ((k : ℕ) → b ≤ k → k ≤ e → is_paused doc q.process k ≡ false) → (k : ℕ) → b ≤ k → k ≤ e → Acts doc q k → k + 1 - b ≤ acts_on (calm_of doc) (own_term leader)
+    acts_for quiet awake k from to acting = omega (arith, on, same, some_far doc lawful q.process l.role)
+      where
+        lasting : ℕ
+        lasting = div_ceil (retry_period doc q.process + renew_deadline doc q.process) (calm_of doc).slow
+
+        hears : Hears doc far b e q.process
+        hears = record { replies = λ k from to. (reply_within doc lawful q.process l.role (suc k) (with_events doc k) (events_position doc k)).1; awake = awake }
+
+        on : k + 2 ≤ b + 2 * far + lasting
+        on =
+            leaders_act_on doc 1 far b e q leads_until bearing quiet hears (calm_of doc).slow lasting (runs_least doc lawful q.process l.role b e)
+            (rounded_is (calm_of doc).slow (retry_period doc q.process + renew_deadline doc q.process) (some_slow doc lawful)).0 k to acting
+
+        same : lasting ≡ div_ceil (of_millis (own_term leader)) (calm_of doc).slow
+        same = ap (λ n. div_ceil n (calm_of doc).slow) (term_is doc q.process leader leader_is)
+
+  -- ---- a calm span
+
+  module _ (a e : ℕ) (w : IsWell doc a e) (end : e ≤ end_beat doc) (place : ℕ) (leader : Proc) (place_role : is_controller doc place ≡ true) (leader_is : process_at doc place ≡ Some leader) (counts : lead (calm_of doc) doc.controllers ≡ true) where
+    abbrev found : Option Handover
+    found = others (calm_of doc) place leader doc.controllers
+
+    calm_span : IsCalm doc 1 (far_of doc) a e
+    calm_span = record {
+      each = λ p role. ⊎_elim (λ s. inl (steady doc lawful p role a e s)) (λ quiet. inr quiet) (w.each p role);
+      requests = w.requests;
+      replies = w.replies;
+    }
+
+    in_time_all : AreInTime doc 1 (far_of doc) a e
+    in_time_all p role s = in_time doc lawful p role (counts_of doc lawful counts p role) a e
+
+    module _ (p : ℕ) (later : ℕ) (f : MayFollow doc a e later place p) where
+      abbrev follower : Standing doc.controllers doc.kubelets p
+      follower = at_place doc p f.role
+
+      candidate : IsCandidate doc 1 (far_of doc) a e p later (calm_of doc).slow (calm_of doc).fast
+      candidate = record {
+        role = f.role;
+        steady = steady doc lawful p f.role a e f.undisturbed;
+        waits = waits doc lawful p f.role;
+        up = f.up;
+        runs_least = runs_least doc lawful p f.role (a - 1) e;
+        runs_most = runs_most doc lawful p f.role (a - 1) e;
+      }
+
+      -- its bounds are within the follower's
+      within : IsWithin (handed_over (calm_of doc) (longest_term doc.controllers) (longest_lease doc.controllers) leader follower.proc) (followers (calm_of doc) leader doc.controllers found)
+      within = ⊎_elim of_other of_one f.other
+        where
+          of_other : (p ≡ place → ⊥) → IsWithin (handed_over (calm_of doc) (longest_term doc.controllers) (longest_lease doc.controllers) leader follower.proc) (followers (calm_of doc) leader doc.controllers found)
+          of_other other =
+              let g = other_within (calm_of doc) (longest_term doc.controllers) (longest_lease doc.controllers) place leader 0 doc.controllers None p follower.proc follower.own (λ same. other (omega (arith, same))) in
+              subst (λ o. IsWithin (handed_over (calm_of doc) (longest_term doc.controllers) (longest_lease doc.controllers) leader follower.proc) (followers (calm_of doc) leader doc.controllers o)) (sym g.1) g.2
+
+          of_one : length doc.controllers ≡ 1 → IsWithin (handed_over (calm_of doc) (longest_term doc.controllers) (longest_lease doc.controllers) leader follower.proc) (followers (calm_of doc) leader doc.controllers found)
+          of_one one =
+              subst (λ o. IsWithin (handed_over (calm_of doc) (longest_term doc.controllers) (longest_lease doc.controllers) leader follower.proc) (followers (calm_of doc) leader doc.controllers o)) (sym none)
+              (subst (λ x. IsWithin (handed_over (calm_of doc) (longest_term doc.controllers) (longest_lease doc.controllers) leader x) (handed_over (calm_of doc) (longest_term doc.controllers) (longest_lease doc.controllers) leader leader)) (sym proc_is)
+              (within_same (handed_over (calm_of doc) (longest_term doc.controllers) (longest_lease doc.controllers) leader leader)))
+            where
+              at_zero : place ≡ 0
+              at_zero = omega (arith, one, ltb-true place (length doc.controllers) place_role)
+
+              same_place : place ≡ p
+              same_place = omega (arith, at_zero, one, ltb-true p (length doc.controllers) f.role)
+
+              none : found ≡ None
+              none = ap (λ n. others (calm_of doc) n leader doc.controllers) at_zero ∙ alone (calm_of doc) (longest_term doc.controllers) (longest_lease doc.controllers) leader doc.controllers one
+
+              proc_is : follower.proc ≡ leader
+              proc_is = some_is follower.proc leader (sym follower.whole ∙ ap (process_at doc) (sym same_place) ∙ leader_is)
+
+    -- ---- somebody acts
+
+    leads_by : (p n : ℕ) → MayFollow doc a e 0 place p → a ≤ n → (followers (calm_of doc) leader doc.controllers found).leads ≤ n - a → n ≤ e
+        → LastsFor (of_seconds leader.lease_seconds) (early_record a (history doc (a + far_of doc))) → LeadsWell doc a e n
+    leads_by p n f from le to lasts = record {
+      q = s.q;
+      role = s.role;
+      undisturbed = undisturbed doc a e s.q.process s.steady;
+      acts = record { k = s.acts.k; from = s.acts.from; to = omega (arith, s.acts.to, by_n); acts = s.acts.acts };
+    }
+      where
+        by_n : a + takeover_bound doc 1 (far_of doc) p 0 (calm_of doc).slow (calm_of doc).fast (of_seconds leader.lease_seconds) ≤ n
+        by_n =
+            omega (
+              arith,
+              (within p 0 f).leads,
+              leads_beats doc place leader leader_is p (follower p 0 f).proc (follower p 0 f).whole,
+              le,
+              from,
+            )
+
+        s : SomebodyActs doc 1 (far_of doc) a e (a + takeover_bound doc 1 (far_of doc) p 0 (calm_of doc).slow (calm_of doc).fast (of_seconds leader.lease_seconds))
+        s =
+            takeovers_are_told doc 1 (far_of doc) a e (sound-document doc lawful) calm_span in_time_all (omega arith) (some_far doc lawful p f.role) end p 0 (calm_of doc).slow (calm_of doc).fast (candidate p 0 f)
+            (some_slow doc lawful) (some_fast doc lawful) (of_seconds leader.lease_seconds) lasts (omega (arith, by_n, to))
+
+    -- ---- and one stays
+
+    module _ (stays : stay (calm_of doc) doc.controllers ≡ true) where
+      abbrev old : ℕ
+      old = acts_on (calm_of doc) (longest_term doc.controllers)
+
+      ends_in : (p : ℕ) (role : is_controller doc p ≡ true) → EndsInBeats doc (far_of doc) a e old p
+      ends_in p role = record {
+        slow = (calm_of doc).slow;
+        some = some_slow doc lawful;
+        runs = runs_least doc lawful p role a e;
+        in_old = omega (arith, some_far doc lawful p role, div_more (retry_period doc p + renew_deadline doc p) (of_millis (longest_term doc.controllers)) (calm_of doc).slow (some_slow doc lawful) shorter);
+      }
+        where
+          shorter : retry_period doc p + renew_deadline doc p ≤ of_millis (longest_term doc.controllers)
+          shorter = omega (arith, term_is doc p (at_place doc p role).proc (at_place doc p role).whole, millis_more (own_term (at_place doc p role).proc) (longest_term doc.controllers) (term_within doc.controllers p (at_place doc p role).proc (at_place doc p role).own))
+
+      all_last : AllLastFor doc 1 (far_of doc) a e (of_seconds (longest_lease doc.controllers))
+      all_last p role s =
+          subst (λ o. of_seconds (field (λ (y : Proc). y.lease_seconds) 0 o) ≤ of_seconds (longest_lease doc.controllers)) (sym (at_place doc p role).whole)
+          (seconds_more (at_place doc p role).proc.lease_seconds (longest_lease doc.controllers) (lease_within doc.controllers p (at_place doc p role).proc (at_place doc p role).own))
+
+      stays_by_beat : (p n : ℕ) → MayFollow doc a e old place p → a ≤ n → (followers (calm_of doc) leader doc.controllers found).stays_from ≤ n - a → n ≤ e
+          → LastsFor (of_seconds (longest_lease doc.controllers)) (early_record a (history doc (a + far_of doc))) → StaysWell doc a e n
+      stays_by_beat p n f from le to lasts = record {
+        q = s.q;
+        role = s.role;
+        undisturbed = undisturbed doc a e s.q.process s.steady;
+        stays = record { acts = λ k since upto. s.stays.acts k (omega (arith, by_n, since)) upto; alone = λ x before at since. s.stays.alone x before at (omega (arith, by_n, since)) };
+      }
+        where
+          bound : ℕ
+          bound = settle_bound doc 1 (far_of doc) p old (calm_of doc).slow (calm_of doc).fast old (of_seconds (longest_lease doc.controllers))
+
+          by_n : a + settle_bound doc 1 (far_of doc) p old (calm_of doc).slow (calm_of doc).fast old (of_seconds (longest_lease doc.controllers)) ≤ n
+          by_n =
+              omega (
+                arith,
+                (within p old f).stays_from,
+                stays_from_beats doc place leader leader_is p (follower p old f).proc (follower p old f).whole (longest_term doc.controllers) (longest_lease doc.controllers),
+                le,
+                from,
+              )
+
+          s : IsSettled doc 1 (far_of doc) a e (a + settle_bound doc 1 (far_of doc) p old (calm_of doc).slow (calm_of doc).fast old (of_seconds (longest_lease doc.controllers)))
+          s =
+              settling_is_told doc 1 (far_of doc) a e (sound-document doc lawful) calm_span in_time_all (omega arith) (some_far doc lawful p f.role) end (λ r role steady. all_renew doc lawful stays a e r role)
+              old (λ r role steady. ends_in r role) p old (calm_of doc).slow (calm_of doc).fast (candidate p old f) (some_slow doc lawful) (some_fast doc lawful) (omega arith)
+              (of_seconds (longest_lease doc.controllers)) lasts all_last (omega (arith, by_n, to))
+
+-- ---- the laws
+
+pub crashes_are_bounded : CrashesAreBounded
+crashes_are_bounded doc lawful premise b e q leader leader_is l quiet s told =
+    let t = crash_is doc q.process leader s told in (
+      λ k is. millis_least doc t.h.crash_least s.least (k - b) t.least_is (crash_before doc lawful premise b e q leader leader_is l t.holds quiet t.h t.found_is k is),
+      λ p n o from le to. crash_by doc lawful premise b e q leader leader_is l t.holds quiet t.h t.found_is p n o from (enough_beats doc t.h.crash_most s.most (n - b) lawful.settings.beat_least t.most_is le) to,
+    )
+
+pub stops_are_bounded : StopsAreBounded
+stops_are_bounded doc lawful premise b e q leader leader_is l stop gives s told =
+    let t = stop_is doc q.process leader s told in (
+      λ k is. millis_least doc 4 s.least (k - b) t.least_is (stop_before doc lawful premise b e q leader leader_is l t.holds stop gives t.h t.found_is k is),
+      λ p n o from le to. stop_by doc lawful premise b e q leader leader_is l t.holds stop gives t.h t.found_is p n o from (enough_beats doc t.h.stop_most s.most (n - b) lawful.settings.beat_least t.most_is le) to,
+    )
+
+pub acts_are_bounded : ActsAreBounded
+acts_are_bounded doc lawful premise stays b e q leader leader_is l quiet awake time told k from to acting =
+    millis_most doc (acts_on (calm_of doc) (own_term leader)) time (k + 1 - b) (acts_on_is doc q.process leader time told).1 (acts_for doc lawful premise b e q leader leader_is l stays quiet awake k from to acting)
+
+pub leads_are_bounded : LeadsAreBounded
+leads_are_bounded doc lawful a e w end place leader role leader_is time told lasts p n f from le to =
+    let t = leads_is doc place leader time told in
+    leads_by doc lawful a e w end place leader role leader_is t.0 p n f from (enough_beats doc (followers (calm_of doc) leader doc.controllers (others (calm_of doc) place leader doc.controllers)).leads time (n - a) lawful.settings.beat_least t.1 le) to lasts
+
+pub stays_are_bounded : StaysAreBounded
+stays_are_bounded doc lawful a e w end place leader role leader_is time told lasts p n f from le to =
+    let t = stays_from_is doc place leader time told in
+    stays_by_beat doc lawful a e w end place leader role leader_is (leads_where_stays doc t.0) t.0 p n f from
+    (enough_beats doc (followers (calm_of doc) leader doc.controllers (others (calm_of doc) place leader doc.controllers)).stays_from time (n - a) lawful.settings.beat_least t.1 le) to lasts

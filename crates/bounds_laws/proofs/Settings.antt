@@ -1,0 +1,152 @@
+-- What a document's settings bear, where whoever leads stays.
+use Rattle.std.proofs.Common.{◌≡◌, ◌<◌, ◌≤◌, ℕ, zero, suc, ◌+◌, ◌-◌, ◌*◌, ◌&&◌, Bool, true, List, [], ◌∷◌, All, slice_get, Some, sym, ap, ◌∙◌, subst, arith}
+use Rattle.std.specs.Int.{div_ceil}
+use Rattle.std.specs.List.{list_all}
+use Rattle.std.proofs.lemmas.Bool.{leb-true, ltb-true}
+use Rattle.std.proofs.lemmas.List.Elements.{All-head, All-tail}
+use Rattle.kube_objects.specs.declared.script.Proc.{Proc}
+use Rattle.kube_objects.specs.Document.{Doc, end_beat, field, is_controller, of_millis, of_seconds, lease_duration, retry_period, renew_deadline}
+use Rattle.kube_objects.specs.Entry.{Identity}
+use Rattle.history.specs.Premise.{lease_premise}
+use Rattle.history_laws.proofs.Plainly.{some_is, none_is, and_left, and_right}
+use Rattle.span_laws.proofs.Quotients.{rounded_is}
+use Rattle.takeover_laws.specs.Calm.{IsInTime}
+use Rattle.stay_laws.specs.Stays.{RenewsInTime}
+use Rattle.silence_laws.specs.Silence.{Bears}
+use Rattle.succession_laws.specs.Successions.{OthersRenew}
+use Rattle.release_laws.specs.Releases.{OthersRenewAround}
+use Rattle.document_laws.proofs.SoundDocuments.{sound-document}
+use Rattle.script_reader.specs.Lawful.{IsLawful, IsLawfulDoc}
+use Rattle.lens_bounds.specs.declared.calm.Calm.{Calm}
+use Rattle.lens_bounds.specs.Documents.{calm_of}
+use Rattle.lens_bounds.specs.Elections.{IsCalm, replies_count, renews, outlasts, stays_by, lead, stay}
+use Rattle.lens_bounds.proofs.Reaches.{calm-is}
+use Rattle.bounds_laws.specs.Undisturbed.{far_of}
+use Rattle.bounds_laws.proofs.Reaching.{Standing, at_place}
+use Rattle.bounds_laws.proofs.Steady.{runs_least, runs_most, some_far}
+
+each_of : (f : Proc → Bool) (ps : List Proc) (i : ℕ) (x : Proc) → list_all f ps ≡ true → slice_get ps i ≡ Some x → f x ≡ true
+each_of f [] i x all is = absurd (none_is x is)
+each_of f (p ∷ ps) zero x all is = ap f (sym (some_is p x is)) ∙ and_left (f p) (list_all f ps) all
+each_of f (p ∷ ps) (suc i) x all is = each_of f ps i x (and_right (f p) (list_all f ps) all) is
+
+each_lawful : (ps : List Proc) (i : ℕ) (x : Proc) → All IsLawful ps → slice_get ps i ≡ Some x → IsLawful x
+each_lawful [] i x all is = absurd (none_is x is)
+each_lawful (p ∷ ps) zero x all is = subst IsLawful (some_is p x is) (All-head IsLawful p ps all)
+each_lawful (p ∷ ps) (suc i) x all is = each_lawful ps i x (All-tail IsLawful p ps all) is
+
+some_millis : (n : ℕ) → 1 ≤ n → 1 ≤ of_millis n
+unfolding of_millis
+some_millis n some = omega (arith, some)
+
+module _ (doc : Doc) (lawful : IsLawfulDoc doc) where
+  abbrev pub c : Calm
+  c = calm_of doc
+
+  pub calm : IsCalm (calm_of doc)
+  calm = calm-is doc lawful
+
+  pub some_slow : 1 ≤ (calm_of doc).slow
+  some_slow = omega (arith, calm.slow)
+
+  pub some_fast : 1 ≤ (calm_of doc).fast
+  some_fast = omega (arith, calm.fast)
+
+  module _ (p : ℕ) (role : is_controller doc p ≡ true) where
+    abbrev pub place : Standing doc.controllers doc.kubelets p
+    place = at_place doc p role
+
+    abbrev pub x : Proc
+    x = place.proc
+
+    pub own_lawful : IsLawful x
+    own_lawful = each_lawful doc.controllers p x lawful.controllers place.own
+
+    pub waits : 1 ≤ retry_period doc p
+    waits = subst (λ o. 1 ≤ of_millis (field (λ (y : Proc). y.retry_millis) 0 o)) (sym place.whole) (some_millis x.retry_millis own_lawful.retry_least)
+
+    pub lasts_some : 1 ≤ renew_deadline doc p
+    lasts_some = subst (λ o. 1 ≤ of_millis (field (λ (y : Proc). y.renew_millis) 0 o)) (sym place.whole) (some_millis x.renew_millis own_lawful.renew_least)
+
+    -- ---- whose replies count
+
+    module _ (counts : replies_count (calm_of doc) x ≡ true) where
+      pub in_time : (a e : ℕ) → IsInTime doc (far_of doc) a e p
+      in_time a e = record {
+        fast = (calm_of doc).fast;
+        runs = runs_most doc lawful p role a e;
+        timeout = subst (λ o. 2 * far_of doc * (calm_of doc).fast ≤ of_millis (field (λ (y : Proc). y.timeout_millis) 0 o)) (sym place.whole) (leb-true (2 * far_of doc * (calm_of doc).fast) (of_millis x.timeout_millis) counts);
+        deadline = lasts_some;
+      }
+
+    -- ---- and whose lead lasts
+
+    module _ (stays : stays_by (calm_of doc) x ≡ true) where
+      first : (replies_count (calm_of doc) x && renews (calm_of doc) x) ≡ true
+      first = and_left (replies_count (calm_of doc) x && renews (calm_of doc) x) (outlasts (calm_of doc) x) stays
+
+      pub replies : replies_count (calm_of doc) x ≡ true
+      replies = and_left (replies_count (calm_of doc) x) (renews (calm_of doc) x) first
+
+      abbrev pub wait : ℕ
+      wait = div_ceil (retry_period doc p) (calm_of doc).slow
+
+      pub renewal : (4 * far_of doc) * (calm_of doc).fast ≤ renew_deadline doc p
+      renewal =
+          subst (λ o. (4 * far_of doc) * (calm_of doc).fast ≤ of_millis (field (λ (y : Proc). y.renew_millis) 0 o)) (sym place.whole)
+          (leb-true (4 * far_of doc * (calm_of doc).fast) (of_millis x.renew_millis) (and_right (replies_count (calm_of doc) x) (renews (calm_of doc) x) first))
+
+      pub lasts : (wait + 5 * far_of doc - 1) * (calm_of doc).fast < lease_duration doc p
+      lasts =
+          subst (λ o. (div_ceil (of_millis (field (λ (y : Proc). y.retry_millis) 0 o)) (calm_of doc).slow + 5 * far_of doc - 1) * (calm_of doc).fast < of_seconds (field (λ (y : Proc). y.lease_seconds) 0 o)) (sym place.whole)
+          (ltb-true ((div_ceil (of_millis x.retry_millis) (calm_of doc).slow + 5 * far_of doc - 1) * (calm_of doc).fast) (of_seconds x.lease_seconds) (and_right (replies_count (calm_of doc) x && renews (calm_of doc) x) (outlasts (calm_of doc) x) stays))
+
+      abbrev pub renews_in_time : (a e i : ℕ) → RenewsInTime doc 1 (far_of doc) a e (record { process = p; incarnation = i })
+      renews_in_time a e i = record {
+        slow = (calm_of doc).slow;
+        fast = (calm_of doc).fast;
+        fastest = (calm_of doc).fast;
+        wait = wait;
+        runs_least = runs_least doc lawful p role a e;
+        runs_most = runs_most doc lawful p role a e;
+        others = λ r other steady. runs_most doc lawful r other a e;
+        wait_is = (rounded_is (calm_of doc).slow (retry_period doc p) some_slow).0;
+        deadline = renewal;
+        lasts = lasts;
+      }
+
+  -- ---- of all controllers
+
+  pub counts_of : lead (calm_of doc) doc.controllers ≡ true → (p : ℕ) (role : is_controller doc p ≡ true) → replies_count (calm_of doc) (x p role) ≡ true
+  counts_of is p role = each_of (replies_count (calm_of doc)) doc.controllers p (x p role) is (place p role).own
+
+  module _ (is : stay (calm_of doc) doc.controllers ≡ true) where
+    pub stays_of : (p : ℕ) (role : is_controller doc p ≡ true) → stays_by (calm_of doc) (x p role) ≡ true
+    stays_of p role = each_of (stays_by (calm_of doc)) doc.controllers p (x p role) is (place p role).own
+
+    pub all_in_time : (a e p : ℕ) → is_controller doc p ≡ true → IsInTime doc (far_of doc) a e p
+    all_in_time a e p role = in_time p role (replies p role (stays_of p role)) a e
+
+    pub all_renew : (a e : ℕ) (q : Identity) → is_controller doc q.process ≡ true → RenewsInTime doc 1 (far_of doc) a e q
+    all_renew a e q role = renews_in_time q.process role (stays_of q.process role) a e q.incarnation
+
+    abbrev pub bears : lease_premise doc ≡ true → (b e : ℕ) → e ≤ end_beat doc → (q : Identity) → is_controller doc q.process ≡ true → Bears doc 1 (far_of doc) b e q
+    bears premise b e end q role = record {
+      premise = premise;
+      sound = sound-document doc lawful;
+      one = omega arith;
+      ways = some_far doc lawful q.process role;
+      end = end;
+      waits = waits;
+      calls = λ p other. all_in_time 0 e p other;
+      renews = renews_in_time q.process role (stays_of q.process role) 0 (b - 1) q.incarnation;
+      fastest = (calm_of doc).fast;
+      clocks = λ p other. runs_most doc lawful p other 0 e;
+      lasts = lasts q.process role (stays_of q.process role);
+    }
+
+    pub others_renew : (b e : ℕ) (q : Identity) → OthersRenew doc 1 (far_of doc) b e q
+    others_renew b e q = record { before = λ r role other. all_renew 0 (b - 1) r role; since = λ r role other. all_renew b e r role }
+
+    pub others_renew_around : (b e : ℕ) (q : Identity) → OthersRenewAround doc 1 (far_of doc) b e q
+    others_renew_around b e q = record { before = λ r role other. all_renew 0 (b - 1) r role; after = λ r role other. all_renew (suc b) e r role }

@@ -1,0 +1,129 @@
+-- What the numbers of a document's bounds on a leader are in beats, in the words of the laws.
+use Rattle.std.proofs.Common.{◌≡◌, ◌≤◌, ℕ, ◌*◌, ◌/◌, max, Bool, true, false, Option, Some, None, refl, sym, ap, ◌∙◌, ⊎_elim, arith}
+use Rattle.std.specs.Int.{div_ceil}
+use Rattle.std.proofs.Math.Nat.{mul-le-mul_right}
+use Rattle.std.proofs.lemmas.Bool.{cases_lt}
+use Rattle.kube_objects.specs.declared.script.Proc.{Proc}
+use Rattle.kube_objects.specs.Document.{Doc, field, process_at, of_millis, of_seconds, lease_duration}
+use Rattle.history_laws.proofs.Plainly.{some_is, none_is}
+use Rattle.calm_laws.specs.Bounds.{takeover_beats, takeover_bound}
+use Rattle.settle_laws.specs.Settles.{settle_beats, settle_bound}
+use Rattle.silence_laws.specs.Least.{takes_beats, takes_least}
+use Rattle.succession_laws.specs.Successions.{succession_beats, succession_bound, last_ways}
+use Rattle.release_laws.specs.Releases.{release_beats, release_bound}
+use Rattle.lens_bounds.specs.declared.calm.Calm.{Calm}
+use Rattle.lens_bounds.specs.declared.elections.Handover.{Handover}
+use Rattle.lens_bounds.specs.declared.elections.Span.{Span}
+use Rattle.lens_bounds.specs.Documents.{calm_of}
+use Rattle.lens_bounds.specs.Elections.{least_looks, crash_most, stop_least, stop_most, acts_on, own_term, leads, stays_from, others, followers, number_if, span_if, crash_of, stop_of, lead, stay, election_of}
+use Rattle.bounds_laws.specs.Elections.{millis, bounds_of}
+use Rattle.bounds_laws.specs.Undisturbed.{far_of}
+
+-- ---- which numbers are there
+
+pub record IsSpan (doc : Doc) (found : Option Handover) (least most : Handover → ℕ) (s : Span) : Type 0 where
+  pub h : Handover
+  pub found_is : found ≡ Some h
+  pub holds : stay (calm_of doc) doc.controllers ≡ true
+  pub least_is : s.least ≡ least h * doc.settings.beat_millis
+  pub most_is : s.most ≡ most h * doc.settings.beat_millis
+
+no_span : (s : Span) → None ≡ Some s → ⊥
+no_span s is = cc
+
+span_is : (doc : Doc) (least most : Handover → ℕ) (holds : Bool) → stay (calm_of doc) doc.controllers ≡ holds → (h : Handover) (found : Option Handover) → found ≡ Some h → (s : Span)
+    → span_if holds (least h * doc.settings.beat_millis) (most h * doc.settings.beat_millis) ≡ Some s → IsSpan doc found least most s
+span_is doc least most false stays h found is s told = absurd (no_span s told)
+span_is doc least most true stays h found is s told =
+    let one = some_is (record { least = least h * doc.settings.beat_millis; most = most h * doc.settings.beat_millis }) s told in
+    record { h = h; found_is = is; holds = stays; least_is = sym (ap (λ (s : Span). s.least) one); most_is = sym (ap (λ (s : Span). s.most) one) }
+
+module _ (doc : Doc) (place : ℕ) (leader : Proc) where
+  abbrev pub c : Calm
+  c = calm_of doc
+
+  abbrev pub all : Option Handover
+  all = others c place leader doc.controllers
+
+  pub crash_is : (s : Span) → (bounds_of doc place leader).crash ≡ Some s → IsSpan doc all (λ h. h.crash_least) (λ h. h.crash_most) s
+  unfolding election_of
+  crash_is s told = by_found all refl told
+    where
+      by_found : (found : Option Handover) → all ≡ found → crash_of c (stay c doc.controllers) found ≡ Some s → IsSpan doc all (λ h. h.crash_least) (λ h. h.crash_most) s
+      by_found None is told = absurd (no_span s told)
+      by_found (Some h) is told = span_is doc (λ h. h.crash_least) (λ h. h.crash_most) (stay c doc.controllers) refl h all is s told
+
+  pub stop_is : (s : Span) → (bounds_of doc place leader).stop ≡ Some s → IsSpan doc all (λ h. stop_least c) (λ h. h.stop_most) s
+  unfolding election_of
+  stop_is s told = by_found all refl told
+    where
+      by_found : (found : Option Handover) → all ≡ found → stop_of c (stay c doc.controllers) found ≡ Some s → IsSpan doc all (λ h. stop_least c) (λ h. h.stop_most) s
+      by_found None is told = absurd (no_span s told)
+      by_found (Some h) is told = span_is doc (λ h. stop_least c) (λ h. h.stop_most) (stay c doc.controllers) refl h all is s told
+
+  number_is : (b holds : Bool) → b ≡ holds → (n time : ℕ) → number_if holds n ≡ Some time → (b ≡ true) × (time ≡ n)
+  number_is b true is n time told = (is, sym (some_is n time told))
+  number_is b false is n time told = absurd (none_is time told)
+
+  pub acts_on_is : (time : ℕ) → (bounds_of doc place leader).acts_on ≡ Some time → (lead c doc.controllers ≡ true) × (time ≡ acts_on c (own_term leader) * doc.settings.beat_millis)
+  unfolding election_of
+  acts_on_is time told = number_is (lead c doc.controllers) (lead c doc.controllers) refl (acts_on c (own_term leader) * doc.settings.beat_millis) time told
+
+  pub leads_is : (time : ℕ) → (bounds_of doc place leader).leads ≡ Some time → (lead c doc.controllers ≡ true) × (time ≡ (followers c leader doc.controllers all).leads * doc.settings.beat_millis)
+  unfolding election_of
+  leads_is time told = number_is (lead c doc.controllers) (lead c doc.controllers) refl ((followers c leader doc.controllers all).leads * doc.settings.beat_millis) time told
+
+  pub stays_from_is : (time : ℕ) → (bounds_of doc place leader).stays_from ≡ Some time → (stay c doc.controllers ≡ true) × (time ≡ (followers c leader doc.controllers all).stays_from * doc.settings.beat_millis)
+  unfolding election_of
+  stays_from_is time told = number_is (stay c doc.controllers) (stay c doc.controllers) refl ((followers c leader doc.controllers all).stays_from * doc.settings.beat_millis) time told
+
+-- ---- beats and milliseconds
+
+pub millis_most : (doc : Doc) (n time beats : ℕ) → time ≡ n * doc.settings.beat_millis → beats ≤ n → millis doc beats ≤ time
+millis_most doc n time beats is le = omega (arith, is, mul-le-mul_right doc.settings.beat_millis le)
+
+pub millis_least : (doc : Doc) (n time beats : ℕ) → time ≡ n * doc.settings.beat_millis → n ≤ beats → time ≤ millis doc beats
+millis_least doc n time beats is le = omega (arith, is, mul-le-mul_right doc.settings.beat_millis le)
+
+pub enough_beats : (doc : Doc) (n time beats : ℕ) → 1 ≤ doc.settings.beat_millis → time ≡ n * doc.settings.beat_millis → time ≤ millis doc beats → n ≤ beats
+enough_beats doc n time beats some is le =
+    ⊎_elim (λ lt. absurd (omega (arith, is, le, some, mul-le-mul_right doc.settings.beat_millis lt))) (λ more. more) (cases_lt beats n)
+
+-- ---- the numbers of two controllers in the words of the laws
+
+module _ (doc : Doc) (q : ℕ) (leader : Proc) (leader_is : process_at doc q ≡ Some leader) (p : ℕ) (x : Proc) (x_is : process_at doc p ≡ Some x) where
+  abbrev slow : ℕ
+  slow = (calm_of doc).slow
+
+  abbrev fast : ℕ
+  fast = (calm_of doc).fast
+
+  pub least_looks_is : least_looks (calm_of doc) x leader.lease_seconds ≡ takes_least doc 1 (far_of doc) p slow fast (lease_duration doc q)
+  least_looks_is =
+      sym (ap (λ o. takes_beats 1 (far_of doc) (div_ceil (of_millis (field (λ (y : Proc). y.retry_millis) 0 o)) fast) (div_ceil (of_millis (field (λ (y : Proc). y.retry_millis) 0 o)) slow) (div_ceil (lease_duration doc q) fast)) x_is
+      ∙ ap (λ o. takes_beats 1 (far_of doc) (div_ceil (of_millis x.retry_millis) fast) (div_ceil (of_millis x.retry_millis) slow) (div_ceil (of_seconds (field (λ (y : Proc). y.lease_seconds) 0 o)) fast)) leader_is)
+
+  pub crash_most_is : crash_most (calm_of doc) leader x ≡ succession_bound doc 1 (far_of doc) p slow fast (lease_duration doc q)
+  crash_most_is =
+      sym (ap (λ o. succession_beats 1 (far_of doc) (div_ceil (of_millis (field (λ (y : Proc). y.retry_millis) 0 o)) slow) (div_ceil (of_millis (field (λ (y : Proc). y.retry_millis) 0 o)) fast) (div_ceil (lease_duration doc q) slow) (last_ways doc (far_of doc))) x_is
+      ∙ ap (λ o. succession_beats 1 (far_of doc) (div_ceil (of_millis x.retry_millis) slow) (div_ceil (of_millis x.retry_millis) fast) (div_ceil (of_seconds (field (λ (y : Proc). y.lease_seconds) 0 o)) slow) (last_ways doc (far_of doc))) leader_is)
+
+  pub stop_most_is : stop_most (calm_of doc) x ≡ release_bound doc (far_of doc) p slow
+  stop_most_is = sym (ap (λ o. release_beats (far_of doc) (div_ceil (of_millis (field (λ (y : Proc). y.retry_millis) 0 o)) slow)) x_is)
+
+  takeover_is : (seconds : ℕ) → takeover_beats 1 (far_of doc) 0 (max (of_millis x.timeout_millis / slow) 0) (div_ceil (of_millis x.retry_millis) slow) (div_ceil (of_millis x.retry_millis) fast) (div_ceil (of_seconds seconds) slow)
+      ≡ takeover_bound doc 1 (far_of doc) p 0 slow fast (of_seconds seconds)
+  takeover_is seconds =
+      ap (λ lost. takeover_beats 1 (far_of doc) 0 lost (div_ceil (of_millis x.retry_millis) slow) (div_ceil (of_millis x.retry_millis) fast) (div_ceil (of_seconds seconds) slow)) no_more
+      ∙ sym (ap (λ o. takeover_beats 1 (far_of doc) 0 (of_millis (field (λ (y : Proc). y.timeout_millis) 0 o) / slow) (div_ceil (of_millis (field (λ (y : Proc). y.retry_millis) 0 o)) slow) (div_ceil (of_millis (field (λ (y : Proc). y.retry_millis) 0 o)) fast) (div_ceil (of_seconds seconds) slow)) x_is)
+    where
+      no_more : max (of_millis x.timeout_millis / slow) 0 ≡ of_millis x.timeout_millis / slow
+      no_more = omega arith
+
+  pub leads_beats : leads (calm_of doc) leader x ≡ takeover_bound doc 1 (far_of doc) p 0 slow fast (of_seconds leader.lease_seconds)
+  leads_beats = takeover_is leader.lease_seconds
+
+  pub stays_from_beats : (term seconds : ℕ) → stays_from (calm_of doc) term seconds x ≡ settle_bound doc 1 (far_of doc) p (acts_on (calm_of doc) term) slow fast (acts_on (calm_of doc) term) (of_seconds seconds)
+  stays_from_beats term seconds =
+      sym (ap (λ o. settle_beats 1 (far_of doc) (acts_on (calm_of doc) term) (acts_on (calm_of doc) term) (of_millis (field (λ (y : Proc). y.timeout_millis) 0 o) / slow)
+      (div_ceil (of_millis (field (λ (y : Proc). y.retry_millis) 0 o)) slow) (div_ceil (of_millis (field (λ (y : Proc). y.retry_millis) 0 o)) fast) (div_ceil (of_seconds seconds) slow)) x_is)
