@@ -1,6 +1,6 @@
 -- The bound of a crash grows with the lease, and it is no less than the lease, the wait and six ways of a message.
 use Rattle.std.specs.Int.{div_ceil}
-use Rattle.std.proofs.Common.{◌≡◌, ℕ, zero, suc, ◌+◌, ◌-◌, ◌*◌, ◌<◌, ◌≤◌, refl, arith}
+use Rattle.std.proofs.Common.{ℕ, zero, suc, ◌+◌, ◌-◌, ◌*◌, ◌<◌, ◌≤◌, arith}
 use Rattle.std.proofs.Math.Nat.{mul-le-mul_right, mul-le-mul_left}
 use Rattle.kube_objects.specs.Document.{of_seconds, of_millis}
 use Rattle.span_laws.specs.Quotients.{most_beats}

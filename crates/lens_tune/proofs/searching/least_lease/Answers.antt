@@ -1,4 +1,4 @@
-use Rattle.std.proofs.Common.{◌≡◌, Some, false, subst, sym, ap, ◌∙◌}
+use Rattle.std.proofs.Common.{subst, sym, ap, ◌∙◌}
 use Rattle.lens_tune.specs.Searches.{is_outlasted, IsLeastRenew}
 use Rattle.lens_tune.proofs.Misses.{some-lease, lease-too-long}
 use Rattle.lens_tune.proofs.searching.least_lease.Goals as goal

@@ -1,5 +1,5 @@
-use Rattle.std.proofs.Common.{◌≡◌, false, sym, ap, ◌∙◌}
-use Rattle.lens_tune.specs.Searches.{is_enough, plan}
+use Rattle.std.proofs.Common.{sym, ap, ◌∙◌}
+use Rattle.lens_tune.specs.Searches.{is_enough}
 use Rattle.lens_tune.proofs.Misses.{no-renew}
 use Rattle.lens_tune.proofs.searching.least_renew.Goals as goal
 

@@ -1,4 +1,4 @@
-use Rattle.std.proofs.Common.{◌≡◌, ◌+◌, ◌-◌, ◌<◌, ◌≤◌, None, subst, sym, ap, ◌∙◌, arith}
+use Rattle.std.proofs.Common.{◌+◌, ◌-◌, subst, ap, ◌∙◌, arith}
 use Rattle.lens_tune.specs.Searches.{longest_retry, IsGreatestWith}
 use Rattle.lens_tune.proofs.Misses.{retries-first, retries-less}
 use Rattle.lens_tune.proofs.searching.with_lease.Goals as goal
@@ -17,6 +17,6 @@ loop-retry-preserved c =
     let w = c.args.w in
     let l = c.loop-retry in
     record {
-      below = retries-less w c.requires.wish c.args.lease (l.retry - 1) l.retry (omega (arith, c.loop-retry-test.true)) (let h = c.in_default in ?) l.invariant.below;
+      below = retries-less w c.requires.wish c.args.lease (l.retry - 1) l.retry (omega (arith, c.loop-retry-test.true)) (subst (IsGreatestWith w c.args.lease (l.retry - 1)) c.in_default.is c.with_retry.ensures) l.invariant.below;
       few = omega (arith, l.invariant.few);
     }

@@ -1,4 +1,4 @@
-use Rattle.std.proofs.Common.{◌≡◌, ◌+◌, ◌-◌, Some, true, false, subst, sym, ap, ◌∙◌, arith}
+use Rattle.std.proofs.Common.{◌≡◌, ◌-◌, Some, true, false, subst, sym, ap, ◌∙◌, arith}
 use Rattle.lens_tune.specs.Plans.{soon}
 use Rattle.lens_tune.specs.Searches.{is_enough, plan, IsGreatestWith}
 use Rattle.lens_tune.proofs.Misses.{no-longest, longest, not-enough}
