@@ -57,7 +57,7 @@ WRONG = (
     ('--toleration', '--toleration stands without a value'),
     ('--toleration 1500ms', '--toleration takes whole seconds from 0s to 24h, as 300s, not 1500ms'),
     ('--rate 1000001', '--rate takes nodes per 1,000 s up to 1000000, as 100, not 1000001'),
-    ('--rate=', '--rate takes nodes per 1,000 s up to 1000000, as 100, not '),
+    ('--rate=', '--rate takes nodes per 1,000 s up to 1000000, as 100, not --rate='),
     ('--lease 15', '--lease takes whole seconds from 1s to 24h, as 15s or 1m30s, not 15'),
     ('--speed 1', 'no such flag: --speed'),
 )

@@ -7,7 +7,6 @@ use Rattle.kube_objects.specs.Document.{Doc, end_beat, field, process_at, is_con
 use Rattle.kube_objects.specs.Entry.{Identity}
 use Rattle.kube_objects.specs.Pauses.{is_paused}
 use Rattle.history.specs.History.{history}
-use Rattle.history.specs.Premise.{lease_premise}
 use Rattle.history.specs.Safe.{Acts}
 use Rattle.history_laws.proofs.Plainly.{some_is, and_left, and_right, and_both}
 use Rattle.span_laws.proofs.Quotients.{rounded_is}
@@ -85,7 +84,7 @@ module _ (doc : Doc) (lawful : IsLawfulDoc doc) where
 
   -- ---- a leader that falls silent
 
-  module _ (premise : lease_premise doc ≡ true) (b e : ℕ) (q : Identity) (leader : Proc) (leader_is : process_at doc q.process ≡ Some leader) (l : LeadsUndisturbed doc b e q) (stays : stay (calm_of doc) doc.controllers ≡ true) where
+  module _ (b e : ℕ) (q : Identity) (leader : Proc) (leader_is : process_at doc q.process ≡ Some leader) (l : LeadsUndisturbed doc b e q) where
     abbrev far : ℕ
     far = far_of doc
 
@@ -98,96 +97,6 @@ module _ (doc : Doc) (lawful : IsLawfulDoc doc) where
       long = l.long;
       acts = l.acts;
     }
-
-    abbrev bearing : Bears doc 1 far b e q
-    bearing = bears doc lawful stays premise b e l.end q l.role
-
-    own_place : Standing doc.controllers doc.kubelets q.process
-    own_place = at_place doc q.process l.role
-
-    rival : (p : ℕ) → IsOther doc b q p → IsRival doc b e q p (calm_of doc).slow (calm_of doc).fast
-    rival p o = record {
-      role = o.role;
-      other = o.other;
-      up = o.up;
-      runs_least = runs_least doc lawful p o.role b e;
-      runs_most = runs_most doc lawful p o.role b e;
-    }
-
-    -- the bounds of each other one are within those of all
-    all_within : (h : Handover) → others (calm_of doc) q.process leader doc.controllers ≡ Some h → (p : ℕ) (role : is_controller doc p ≡ true) → (p ≡ q.process → ⊥)
-        → IsWithin (handed_over (calm_of doc) (longest_term doc.controllers) (longest_lease doc.controllers) leader (at_place doc p role).proc) h
-    all_within h is p role other =
-        let f = other_within (calm_of doc) (longest_term doc.controllers) (longest_lease doc.controllers) q.process leader 0 doc.controllers None p (at_place doc p role).proc (at_place doc p role).own (λ same. other (omega (arith, same))) in
-        subst (IsWithin (handed_over (calm_of doc) (longest_term doc.controllers) (longest_lease doc.controllers) leader (at_place doc p role).proc)) (some_is f.0 h (sym f.1 ∙ is)) f.2
-
-    -- ---- a crash
-
-    module _ (quiet : IsQuiet doc b e q.process) (h : Handover) (h_is : others (calm_of doc) q.process leader doc.controllers ≡ Some h) where
-      crash_before : (k : ℕ) → IsLead doc b e q k → h.crash_least ≤ k - b
-      crash_before k is = ⊎_elim (λ some. omega (arith, told some, is.from)) (λ none. omega (arith, none)) (cases_lt 0 h.crash_least)
-        where
-          own : ℕ
-          own = div_ceil (retry_period doc q.process) (calm_of doc).slow + last_renewal doc far
-
-          same_own : retry (calm_of doc) leader + gets (calm_of doc) ≡ own
-          same_own = ap (λ o. div_ceil (of_millis (field (λ (y : Proc). y.retry_millis) 0 o)) (calm_of doc).slow + last_renewal doc far) (sym leader_is)
-
-          few : 0 < h.crash_least → (p : ℕ) → (role : is_controller doc p ≡ true) → (p ≡ q.process → ⊥) → h.crash_least + own - 3 ≤ takes_least doc 1 far p (calm_of doc).slow (calm_of doc).fast (lease_duration doc q.process)
-          few some p role other =
-              omega (
-                arith,
-                some,
-                (all_within h h_is p role other).crash_least,
-                same_own,
-                least_looks_is doc q.process leader leader_is p (at_place doc p role).proc (at_place doc p role).whole,
-              )
-
-          told : 0 < h.crash_least → b + (h.crash_least + own - 3) + 3 ≤ k + own
-          told some =
-              omega (
-                arith,
-                silences_are_told doc 1 far b e q leads_until bearing quiet (λ p. (calm_of doc).slow) (λ p. (calm_of doc).fast)
-                    (λ p role other. record { some = some_slow doc lawful; least = runs_least doc lawful p role 0 e; most = runs_most doc lawful p role 0 e }) (h.crash_least + own - 3) (few some) k is,
-              )
-
-      crash_by : (p n : ℕ) → IsOther doc b q p → b ≤ n → h.crash_most ≤ n - b → n ≤ e → IsFollowed doc b n e q
-      crash_by p n o from le to =
-          followed_later doc b (b + succession_bound doc 1 far p (calm_of doc).slow (calm_of doc).fast (lease_duration doc q.process)) n e q by_n
-          (successors_are_told doc 1 far b e q leads_until bearing quiet (replies_come doc lawful q.process l.role b b (omega arith) l.awake) (others_renew doc lawful stays b e q)
-          p (calm_of doc).slow (calm_of doc).fast (rival p o) (some_slow doc lawful) (some_fast doc lawful) (omega (arith, by_n, to)))
-        where
-          by_n : b + succession_bound doc 1 far p (calm_of doc).slow (calm_of doc).fast (lease_duration doc q.process) ≤ n
-          by_n =
-              omega (
-                arith,
-                (all_within h h_is p o.role o.other).crash_most,
-                crash_most_is doc q.process leader leader_is p (at_place doc p o.role).proc (at_place doc p o.role).whole,
-                le,
-                from,
-              )
-
-    -- ---- a stop
-
-    module _ (stop : IsStopped doc b e q) (gives : GivesUp doc b e q) (h : Handover) (h_is : others (calm_of doc) q.process leader doc.controllers ≡ Some h) where
-      stop_before : (k : ℕ) → IsLead doc b e q k → 4 ≤ k - b
-      stop_before k is = omega (arith, releases_last doc 1 far b e q leads_until bearing stop (released doc lawful b e q l.role gives) k is)
-
-      stop_by : (p n : ℕ) → IsOther doc b q p → b ≤ n → h.stop_most ≤ n - b → n ≤ e → IsFollowed doc b n e q
-      stop_by p n o from le to =
-          followed_later doc b (b + release_bound doc far p (calm_of doc).slow) n e q by_n
-          (releases_are_told doc 1 far b e q leads_until bearing stop (released doc lawful b e q l.role gives) (replies_come doc lawful q.process l.role (suc b) b (omega arith) l.awake)
-          (others_renew_around doc lawful stays b e q) p (calm_of doc).slow (calm_of doc).fast (rival p o) (some_slow doc lawful) (omega (arith, by_n, to)))
-        where
-          by_n : b + release_bound doc far p (calm_of doc).slow ≤ n
-          by_n =
-              omega (
-                arith,
-                (all_within h h_is p o.role o.other).stop_most,
-                stop_most_is doc q.process leader leader_is p (at_place doc p o.role).proc (at_place doc p o.role).whole,
-                le,
-                from,
-              )
 
     -- ---- how long it acts on
 
@@ -202,11 +111,101 @@ module _ (doc : Doc) (lawful : IsLawfulDoc doc) where
 
         on : k + 2 ≤ b + 2 * far + lasting
         on =
-            leaders_act_on doc 1 far b e q leads_until bearing quiet hears (calm_of doc).slow lasting (runs_least doc lawful q.process l.role b e)
+            leaders_act_on doc 1 far b e q (sound-document doc lawful) (omega arith) (some_far doc lawful q.process l.role) l.end (waits doc lawful q.process l.role) leads_until quiet hears (calm_of doc).slow lasting (runs_least doc lawful q.process l.role b e)
             (rounded_is (calm_of doc).slow (retry_period doc q.process + renew_deadline doc q.process) (some_slow doc lawful)).0 k to acting
 
         same : lasting ≡ div_ceil (of_millis (own_term leader)) (calm_of doc).slow
         same = ap (λ n. div_ceil n (calm_of doc).slow) (term_is doc q.process leader leader_is)
+
+    -- ---- where whoever leads stays
+
+    module _ (stays : stay (calm_of doc) doc.controllers ≡ true) where
+      abbrev bearing : Bears doc 1 far b e q
+      bearing = bears doc lawful stays b e l.end q l.role
+
+      rival : (p : ℕ) → IsOther doc b q p → IsRival doc b e q p (calm_of doc).slow (calm_of doc).fast
+      rival p o = record {
+        role = o.role;
+        other = o.other;
+        up = o.up;
+        runs_least = runs_least doc lawful p o.role b e;
+        runs_most = runs_most doc lawful p o.role b e;
+      }
+
+      -- the bounds of each other one are within those of all
+      all_within : (h : Handover) → others (calm_of doc) q.process leader doc.controllers ≡ Some h → (p : ℕ) (role : is_controller doc p ≡ true) → (p ≡ q.process → ⊥)
+          → IsWithin (handed_over (calm_of doc) (longest_term doc.controllers) (longest_lease doc.controllers) leader (at_place doc p role).proc) h
+      all_within h is p role other =
+          let f = other_within (calm_of doc) (longest_term doc.controllers) (longest_lease doc.controllers) q.process leader 0 doc.controllers None p (at_place doc p role).proc (at_place doc p role).own (λ same. other (omega (arith, same))) in
+          subst (IsWithin (handed_over (calm_of doc) (longest_term doc.controllers) (longest_lease doc.controllers) leader (at_place doc p role).proc)) (some_is f.0 h (sym f.1 ∙ is)) f.2
+
+      -- ---- a crash
+
+      module _ (quiet : IsQuiet doc b e q.process) (h : Handover) (h_is : others (calm_of doc) q.process leader doc.controllers ≡ Some h) where
+        crash_before : (k : ℕ) → IsLead doc b e q k → h.crash_least ≤ k - b
+        crash_before k is = ⊎_elim (λ some. omega (arith, told some, is.from)) (λ none. omega (arith, none)) (cases_lt 0 h.crash_least)
+          where
+            own : ℕ
+            own = div_ceil (retry_period doc q.process) (calm_of doc).slow + last_renewal doc far
+
+            same_own : retry (calm_of doc) leader + gets (calm_of doc) ≡ own
+            same_own = ap (λ o. div_ceil (of_millis (field (λ (y : Proc). y.retry_millis) 0 o)) (calm_of doc).slow + last_renewal doc far) (sym leader_is)
+
+            few : 0 < h.crash_least → (p : ℕ) → (role : is_controller doc p ≡ true) → (p ≡ q.process → ⊥) → h.crash_least + own - 3 ≤ takes_least doc 1 far p (calm_of doc).slow (calm_of doc).fast (lease_duration doc q.process)
+            few some p role other =
+                omega (
+                  arith,
+                  some,
+                  (all_within h h_is p role other).crash_least,
+                  same_own,
+                  least_looks_is doc q.process leader leader_is p (at_place doc p role).proc (at_place doc p role).whole,
+                )
+
+            told : 0 < h.crash_least → b + (h.crash_least + own - 3) + 3 ≤ k + own
+            told some =
+                omega (
+                  arith,
+                  silences_are_told doc 1 far b e q leads_until bearing (inl (others_renew doc lawful stays b e q).before) quiet (λ p. (calm_of doc).slow) (λ p. (calm_of doc).fast)
+                      (λ p role other. record { some = some_slow doc lawful; least = runs_least doc lawful p role 0 e; most = runs_most doc lawful p role 0 e }) (h.crash_least + own - 3) (few some) k is,
+                )
+
+        crash_by : (p n : ℕ) → IsOther doc b q p → b ≤ n → h.crash_most ≤ n - b → n ≤ e → IsFollowed doc b n e q
+        crash_by p n o from le to =
+            followed_later doc b (b + succession_bound doc 1 far p (calm_of doc).slow (calm_of doc).fast (lease_duration doc q.process)) n e q by_n
+            (successors_are_told doc 1 far b e q leads_until bearing quiet (replies_come doc lawful q.process l.role b b (omega arith) l.awake) (others_renew doc lawful stays b e q)
+            p (calm_of doc).slow (calm_of doc).fast (rival p o) (some_slow doc lawful) (some_fast doc lawful) (omega (arith, by_n, to)))
+          where
+            by_n : b + succession_bound doc 1 far p (calm_of doc).slow (calm_of doc).fast (lease_duration doc q.process) ≤ n
+            by_n =
+                omega (
+                  arith,
+                  (all_within h h_is p o.role o.other).crash_most,
+                  crash_most_is doc q.process leader leader_is p (at_place doc p o.role).proc (at_place doc p o.role).whole,
+                  le,
+                  from,
+                )
+
+      -- ---- a stop
+
+      module _ (stop : IsStopped doc b e q) (gives : GivesUp doc b e q) (h : Handover) (h_is : others (calm_of doc) q.process leader doc.controllers ≡ Some h) where
+        stop_before : (k : ℕ) → IsLead doc b e q k → 4 ≤ k - b
+        stop_before k is = omega (arith, releases_last doc 1 far b e q leads_until bearing stop (released doc lawful b e q l.role gives) k is)
+
+        stop_by : (p n : ℕ) → IsOther doc b q p → b ≤ n → h.stop_most ≤ n - b → n ≤ e → IsFollowed doc b n e q
+        stop_by p n o from le to =
+            followed_later doc b (b + release_bound doc far p (calm_of doc).slow) n e q by_n
+            (releases_are_told doc 1 far b e q leads_until bearing stop (released doc lawful b e q l.role gives) (replies_come doc lawful q.process l.role (suc b) b (omega arith) l.awake)
+            (others_renew_around doc lawful stays b e q) p (calm_of doc).slow (calm_of doc).fast (rival p o) (some_slow doc lawful) (omega (arith, by_n, to)))
+          where
+            by_n : b + release_bound doc far p (calm_of doc).slow ≤ n
+            by_n =
+                omega (
+                  arith,
+                  (all_within h h_is p o.role o.other).stop_most,
+                  stop_most_is doc q.process leader leader_is p (at_place doc p o.role).proc (at_place doc p o.role).whole,
+                  le,
+                  from,
+                )
 
   -- ---- a calm span
 
@@ -344,22 +343,22 @@ module _ (doc : Doc) (lawful : IsLawfulDoc doc) where
 -- ---- the laws
 
 pub crashes_are_bounded : CrashesAreBounded
-crashes_are_bounded doc lawful premise b e q leader leader_is l quiet s told =
+crashes_are_bounded doc lawful b e q leader leader_is l quiet s told =
     let t = crash_is doc q.process leader s told in (
-      λ k is. millis_least doc t.h.crash_least s.least (k - b) t.least_is (crash_before doc lawful premise b e q leader leader_is l t.holds quiet t.h t.found_is k is),
-      λ p n o from le to. crash_by doc lawful premise b e q leader leader_is l t.holds quiet t.h t.found_is p n o from (enough_beats doc t.h.crash_most s.most (n - b) lawful.settings.beat_least t.most_is le) to,
+      λ k is. millis_least doc t.h.crash_least s.least (k - b) t.least_is (crash_before doc lawful b e q leader leader_is l t.holds quiet t.h t.found_is k is),
+      λ p n o from le to. crash_by doc lawful b e q leader leader_is l t.holds quiet t.h t.found_is p n o from (enough_beats doc t.h.crash_most s.most (n - b) lawful.settings.beat_least t.most_is le) to,
     )
 
 pub stops_are_bounded : StopsAreBounded
-stops_are_bounded doc lawful premise b e q leader leader_is l stop gives s told =
+stops_are_bounded doc lawful b e q leader leader_is l stop gives s told =
     let t = stop_is doc q.process leader s told in (
-      λ k is. millis_least doc 4 s.least (k - b) t.least_is (stop_before doc lawful premise b e q leader leader_is l t.holds stop gives t.h t.found_is k is),
-      λ p n o from le to. stop_by doc lawful premise b e q leader leader_is l t.holds stop gives t.h t.found_is p n o from (enough_beats doc t.h.stop_most s.most (n - b) lawful.settings.beat_least t.most_is le) to,
+      λ k is. millis_least doc 4 s.least (k - b) t.least_is (stop_before doc lawful b e q leader leader_is l t.holds stop gives t.h t.found_is k is),
+      λ p n o from le to. stop_by doc lawful b e q leader leader_is l t.holds stop gives t.h t.found_is p n o from (enough_beats doc t.h.stop_most s.most (n - b) lawful.settings.beat_least t.most_is le) to,
     )
 
 pub acts_are_bounded : ActsAreBounded
-acts_are_bounded doc lawful premise stays b e q leader leader_is l quiet awake time told k from to acting =
-    millis_most doc (acts_on (calm_of doc) (own_term leader)) time (k + 1 - b) (acts_on_is doc q.process leader time told).1 (acts_for doc lawful premise b e q leader leader_is l stays quiet awake k from to acting)
+acts_are_bounded doc lawful b e q leader leader_is l quiet awake time told k from to acting =
+    millis_most doc (acts_on (calm_of doc) (own_term leader)) time (k + 1 - b) (acts_on_is doc q.process leader time told).1 (acts_for doc lawful b e q leader leader_is l quiet awake k from to acting)
 
 pub leads_are_bounded : LeadsAreBounded
 leads_are_bounded doc lawful a e w end place leader role leader_is time told lasts p n f from le to =

@@ -7,7 +7,6 @@ use Rattle.std.proofs.lemmas.List.Elements.{All-head, All-tail}
 use Rattle.kube_objects.specs.declared.script.Proc.{Proc}
 use Rattle.kube_objects.specs.Document.{Doc, end_beat, field, is_controller, of_millis, of_seconds, lease_duration, retry_period, renew_deadline}
 use Rattle.kube_objects.specs.Entry.{Identity}
-use Rattle.history.specs.Premise.{lease_premise}
 use Rattle.history_laws.proofs.Plainly.{some_is, none_is, and_left, and_right}
 use Rattle.span_laws.proofs.Quotients.{rounded_is}
 use Rattle.takeover_laws.specs.Calm.{IsInTime}
@@ -130,9 +129,8 @@ module _ (doc : Doc) (lawful : IsLawfulDoc doc) where
     pub all_renew : (a e : ℕ) (q : Identity) → is_controller doc q.process ≡ true → RenewsInTime doc 1 (far_of doc) a e q
     all_renew a e q role = renews_in_time q.process role (stays_of q.process role) a e q.incarnation
 
-    abbrev pub bears : lease_premise doc ≡ true → (b e : ℕ) → e ≤ end_beat doc → (q : Identity) → is_controller doc q.process ≡ true → Bears doc 1 (far_of doc) b e q
-    bears premise b e end q role = record {
-      premise = premise;
+    abbrev pub bears : (b e : ℕ) → e ≤ end_beat doc → (q : Identity) → is_controller doc q.process ≡ true → Bears doc 1 (far_of doc) b e q
+    bears b e end q role = record {
       sound = sound-document doc lawful;
       one = omega arith;
       ways = some_far doc lawful q.process role;

@@ -5,7 +5,6 @@ use Rattle.kube_objects.specs.Document.{Doc, end_beat, process_at, is_controller
 use Rattle.kube_objects.specs.Entry.{Identity}
 use Rattle.kube_objects.specs.Pauses.{is_paused}
 use Rattle.history.specs.History.{history}
-use Rattle.history.specs.Premise.{lease_premise}
 use Rattle.history.specs.Safe.{Acts}
 use Rattle.takeover_laws.specs.Calm.{IsQuiet}
 use Rattle.calm_laws.specs.Bounds.{early_record, LastsFor}
@@ -16,7 +15,7 @@ use Rattle.script_reader.specs.Lawful.{IsLawfulDoc}
 use Rattle.lens_bounds.specs.declared.elections.Election.{Election}
 use Rattle.lens_bounds.specs.declared.elections.Span.{Span}
 use Rattle.lens_bounds.specs.Documents.{calm_of}
-use Rattle.lens_bounds.specs.Elections.{stay, acts_on, longest_term, longest_lease, election_of}
+use Rattle.lens_bounds.specs.Elections.{acts_on, longest_term, longest_lease, election_of}
 use Rattle.bounds_laws.specs.Undisturbed.{far_of, LeadsUndisturbed, IsOther, GivesUp, IsWell, MayFollow, LeadsWell, StaysWell}
 
 -- so many beats in milliseconds
@@ -31,7 +30,7 @@ bounds_of doc place leader = election_of (calm_of doc) place leader doc.controll
 -- so long after it as the greatest, another one leads and stays, where one that may is up
 abbrev pub CrashIsBounded : Doc → Type 0
 CrashIsBounded doc =
-    lease_premise doc ≡ true → (b e : ℕ) (q : Identity) (leader : Proc) → process_at doc q.process ≡ Some leader → LeadsUndisturbed doc b e q → IsQuiet doc b e q.process
+    (b e : ℕ) (q : Identity) (leader : Proc) → process_at doc q.process ≡ Some leader → LeadsUndisturbed doc b e q → IsQuiet doc b e q.process
     → (s : Span) → (bounds_of doc q.process leader).crash ≡ Some s
     → ((k : ℕ) → IsLead doc b e q k → s.least ≤ millis doc (k - b))
     × ((p n : ℕ) → IsOther doc b q p → b ≤ n → s.most ≤ millis doc (n - b) → n ≤ e → IsFollowed doc b n e q)
@@ -42,7 +41,7 @@ CrashesAreBounded = (doc : Doc) → IsLawfulDoc doc → CrashIsBounded doc
 -- where a leader is stopped at beat b, its process doesn't start again, and its release is accepted: the same by the two numbers of a stop
 abbrev pub StopIsBounded : Doc → Type 0
 StopIsBounded doc =
-    lease_premise doc ≡ true → (b e : ℕ) (q : Identity) (leader : Proc) → process_at doc q.process ≡ Some leader → LeadsUndisturbed doc b e q → IsStopped doc b e q → GivesUp doc b e q
+    (b e : ℕ) (q : Identity) (leader : Proc) → process_at doc q.process ≡ Some leader → LeadsUndisturbed doc b e q → IsStopped doc b e q → GivesUp doc b e q
     → (s : Span) → (bounds_of doc q.process leader).stop ≡ Some s
     → ((k : ℕ) → IsLead doc b e q k → s.least ≤ millis doc (k - b))
     × ((p n : ℕ) → IsOther doc b q p → b ≤ n → s.most ≤ millis doc (n - b) → n ≤ e → IsFollowed doc b n e q)
@@ -50,12 +49,10 @@ StopIsBounded doc =
 abbrev pub StopsAreBounded : Type 0
 StopsAreBounded = (doc : Doc) → IsLawfulDoc doc → StopIsBounded doc
 
--- where whoever leads stays, a leader that falls silent at beat b, as where its requests are lost, and isn't paused acts in no beat from which on this
--- time is over
+-- a leader that falls silent at beat b, as where its requests are lost, and isn't paused acts in no beat from which on this time is over
 abbrev pub ActingIsBounded : Doc → Type 0
 ActingIsBounded doc =
-    lease_premise doc ≡ true → stay (calm_of doc) doc.controllers ≡ true
-    → (b e : ℕ) (q : Identity) (leader : Proc) → process_at doc q.process ≡ Some leader → LeadsUndisturbed doc b e q → IsQuiet doc b e q.process
+    (b e : ℕ) (q : Identity) (leader : Proc) → process_at doc q.process ≡ Some leader → LeadsUndisturbed doc b e q → IsQuiet doc b e q.process
     → ((k : ℕ) → b ≤ k → k ≤ e → is_paused doc q.process k ≡ false)
     → (time : ℕ) → (bounds_of doc q.process leader).acts_on ≡ Some time
     → (k : ℕ) → b ≤ k → k ≤ e → Acts doc q k → millis doc (k + 1 - b) ≤ time

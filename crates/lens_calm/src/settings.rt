@@ -59,48 +59,20 @@ impl Settings {
     pub(crate) fn with(self, setting: Setting, number: u32) -> Settings
         ensures { result ≡ spec.with_number setting number self }
     {
+        let mut s = self;
         match setting {
-            Setting::Election(flag) => Settings {
-                flags: self.flags.with(flag, number),
-                ..self
-            },
-            Setting::Wait => Settings {
-                wait_millis: Some(number),
-                ..self
-            },
-            Setting::Delay => Settings {
-                delay_millis: number,
-                ..self
-            },
-            Setting::LeastDelay => Settings {
-                least_delay_millis: Some(number),
-                ..self
-            },
-            Setting::Grace => Settings {
-                grace_millis: number,
-                ..self
-            },
-            Setting::Monitor => Settings {
-                monitor_millis: number,
-                ..self
-            },
-            Setting::NodeLease => Settings {
-                node_lease_seconds: number,
-                ..self
-            },
-            Setting::Rate => Settings {
-                rate: number,
-                ..self
-            },
-            Setting::Ahead => Settings {
-                ahead: number,
-                ..self
-            },
-            Setting::Toleration => Settings {
-                toleration_seconds: number,
-                ..self
-            },
+            Setting::Election(flag) => s.flags = s.flags.with(flag, number),
+            Setting::Wait => s.wait_millis = Some(number),
+            Setting::Delay => s.delay_millis = number,
+            Setting::LeastDelay => s.least_delay_millis = Some(number),
+            Setting::Grace => s.grace_millis = number,
+            Setting::Monitor => s.monitor_millis = number,
+            Setting::NodeLease => s.node_lease_seconds = number,
+            Setting::Rate => s.rate = number,
+            Setting::Ahead => s.ahead = number,
+            Setting::Toleration => s.toleration_seconds = number,
         }
+        s
     }
 
     /// Told as one JSON object.

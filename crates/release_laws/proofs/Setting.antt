@@ -13,15 +13,11 @@ use Rattle.history.specs.Safe.{Acts}
 use Rattle.history_laws.specs.Tails.{IsTail}
 use Rattle.history_laws.proofs.Plainly.{some_is}
 use Rattle.history_laws.proofs.Tailed.{same_head, tail_all, tail_trans, later_tail}
-use Rattle.lease_laws.proofs.Claims.{exclusive}
-use Rattle.lease_laws.proofs.Premises.{premise_from}
 use Rattle.call_laws.proofs.Above.{in_head}
 use Rattle.call_laws.proofs.Placing.{in_own_beat}
 use Rattle.call_laws.proofs.Starting.{actor_is}
 use Rattle.takeover_laws.specs.Acting.{AreInTime}
 use Rattle.takeover_laws.specs.Calm.{IsSteady, IsCalm}
-use Rattle.stay_laws.specs.Stays.{Stays}
-use Rattle.stay_laws.proofs.Staying.{leaders_stay}
 use Rattle.silence_laws.specs.Silence.{LeadsUntil, Bears, IsStopped, IsReleased}
 use Rattle.stay_laws.specs.Stays.{HasSuccess}
 use Rattle.stay_laws.proofs.Succeeded.{success_is}
@@ -35,7 +31,7 @@ use Rattle.release_laws.specs.Releases.{OthersRenewAround}
 use Rattle.silence_laws.proofs.Released as parting
 use Rattle.release_laws.proofs.Accepted.{F, quiet_after}
 use Rattle.silence_laws.proofs.Led.{HasLed, acting_led}
-use Rattle.silence_laws.proofs.Setting.{restrict, request_way, calm_before, times_before, its_lead, it_stays, its_time}
+use Rattle.silence_laws.proofs.Setting.{request_way, its_lead, it_stays, none_else}
 
 -- ---- messages as facts
 
@@ -51,13 +47,7 @@ module _ (doc : Doc) (near far b e : ℕ) (q : Identity) (l : LeadsUntil doc nea
   none_succeeds r role other j upto hs = ⊎_elim before now (cases_lt j b)
     where
       before : j < b → ⊥
-      before lt =
-          other (ap (λ (p : Identity). p.process) (exclusive doc (premise_from doc s.premise) s.sound r q (b - 1) (omega (arith, l.within, s.end)) (rival_stays.acts (b - 1) (omega (arith, lt)) (omega arith)) ((it_stays doc near far b e q l s).acts (b - 1) (its_time doc near far b e q l s) (omega arith))))
-        where
-          rival_stays : Stays doc r j (b - 1)
-          rival_stays =
-              leaders_stay doc near far 0 (b - 1) s.sound (calm_before doc near far b e q l s) (times_before doc near far b e q l s) s.one s.ways (omega (arith, l.within, s.end)) r role
-              (restrict doc near far 0 (b - 1) e r.process (omega (arith, l.within)) (l.others r.process role other)) (renew.before r role other) j hs
+      before lt = none_else doc near far b e q l s renew.before r role other j (omega (arith, lt)) hs
 
       -- one at b came by a write of before, where all writes were the leader's
       now : b ≤ j → ⊥

@@ -6,12 +6,12 @@ use Rattle.kube_objects.specs.Document.{Doc, is_controller, retry_period}
 use Rattle.kube_objects.specs.Entry.{Identity}
 use Rattle.span_laws.specs.Spans.{IsEnough}
 use Rattle.stay_laws.specs.Stays.{RenewsInTime}
-use Rattle.silence_laws.specs.Silence.{LeadsUntil, Bears, IsStopped, IsReleased}
+use Rattle.silence_laws.specs.Silence.{LeadsUntil, Bears, OthersRenewBefore, IsStopped, IsReleased}
 use Rattle.succession_laws.specs.Successions.{RepliesCome, IsRival, IsFollowed}
 
 -- each other controller renews in time where it leads, before beat b and after it
 pub record OthersRenewAround (doc : Doc) (near far b e : ℕ) (q : Identity) : Type 0 where
-  pub before : (c : Identity) → is_controller doc c.process ≡ true → (c.process ≡ q.process → ⊥) → RenewsInTime doc near far 0 (b - 1) c
+  pub before : OthersRenewBefore doc near far b q
   pub after : (c : Identity) → is_controller doc c.process ≡ true → (c.process ≡ q.process → ⊥) → RenewsInTime doc near far (suc b) e c
 
 -- where a leader in a calm is stopped at beat b and its release is accepted, another one leads by the time that a rival waits for its next attempt,

@@ -1,6 +1,7 @@
 -- The first write of somebody else after a leader has fallen silent comes no sooner than the looks at the leader's record take.
-use Rattle.std.proofs.Common.{◌≡◌, ◌<◌, ◌≤◌, ℕ, zero, suc, ◌+◌, ◌-◌, ◌*◌, true, false, List, ◌∷◌, Option, Some, None, refl, sym, ap, ◌∙◌, subst, inr, arith}
-use Rattle.kube_objects.specs.declared.call.Reply.TheVariants.{Found}
+use Rattle.std.proofs.Common.{◌≡◌, ◌<◌, ◌≤◌, ℕ, zero, suc, ◌+◌, ◌-◌, ◌*◌, true, false, List, ◌∷◌, Option, Some, None, refl, sym, ap, ◌∙◌, subst, inr, ⊎_elim, arith}
+use Rattle.std.proofs.lemmas.Bool.{cases_lt}
+use Rattle.kube_objects.specs.declared.call.Reply.TheVariants.{Done, Found}
 use Rattle.kube_objects.specs.Clocks.{local}
 use Rattle.kube_objects.specs.Document.{Doc, of_seconds, lease_duration, retry_period}
 use Rattle.kube_objects.specs.Elector.{leads, deadline, is_before, is_blocked, observed_at}
@@ -8,7 +9,9 @@ use Rattle.kube_objects.specs.Entry.{Entry, Identity, Stops, Ends, Delivers, ent
 use Rattle.kube_objects.specs.Identities.{of_process}
 use Rattle.kube_objects.specs.Newest.{join, has, or_zero}
 use Rattle.kube_objects.specs.Process.{alive, life_says, life, gone, is_present}
+use Rattle.kube_objects.specs.Stored.{election, at_key, write_of}
 use Rattle.history.specs.History.{history, at_turn}
+use Rattle.history.specs.Premise.{lease_premise}
 use Rattle.history.specs.Safe.{Acts, IsHeldBy, IsStoredHolder}
 use Rattle.history_laws.specs.Tails.{In, IsTail}
 use Rattle.history_laws.proofs.Plainly.{upper, none_is, true_is, false_is, and_right}
@@ -16,25 +19,34 @@ use Rattle.history_laws.proofs.Tailed.{tail_all, tail_trans, later_tail, turn_ta
 use Rattle.lease_laws.proofs.Claims.{is_holder, same_holder, term_of}
 use Rattle.lease_laws.proofs.Premises.{premise_from}
 use Rattle.span_laws.specs.Spans.{IsNeeded}
-use Rattle.call_laws.proofs.Above.{place_of}
+use Rattle.call_laws.proofs.Above.{place_of, in_head}
 use Rattle.call_laws.proofs.Making.{MadeAs, MadeEnd, are_made}
 use Rattle.call_laws.proofs.Placing.{in_own_beat, not_before}
+use Rattle.call_laws.proofs.Starting.{actor_is}
 use Rattle.takeover_laws.specs.Calm.{IsSteady}
 use Rattle.takeover_laws.proofs.Fresh.{turn_leads}
 use Rattle.takeover_laws.proofs.Standing.{controllers_first}
 use Rattle.calm_laws.proofs.Life.{up_between, never_led}
+use Rattle.calm_laws.proofs.Origins.{Origin, origin}
+use Rattle.calm_laws.proofs.Replies.{wrote_by}
+use Rattle.stay_laws.specs.Stays.{HasSuccess}
+use Rattle.stay_laws.proofs.Succeeded.{success_is}
 use Rattle.stay_laws.proofs.Won.{Won}
 use Rattle.silence_laws.specs.Least.{TakesAtLeast}
-use Rattle.silence_laws.specs.Silence.{LeadsUntil, Bears}
+use Rattle.silence_laws.specs.Silence.{LeadsUntil, Bears, OthersRenewBefore, ActsAlone}
 use Rattle.silence_laws.proofs.Chain.{opens_of}
 use Rattle.silence_laws.proofs.Chained.{IsOver, found_over}
 use Rattle.silence_laws.proofs.Kept.{Kept}
+use Rattle.silence_laws.proofs.Led.{HasLed, acting_led}
+use Rattle.silence_laws.proofs.Looking.{asks_election}
 use Rattle.silence_laws.proofs.Owning.{IsQuietIn, IsOwn, IsForeign}
 use Rattle.silence_laws.proofs.Recent.{z_e}
-use Rattle.silence_laws.proofs.Rival.{own, kept, w, c, low_e, steady, time, sent, foreign, others, long, asked_e, LastLook, last_look}
-use Rattle.silence_laws.proofs.Taken.{first, rival}
-use Rattle.silence_laws.proofs.Waiting.{counted_after}
-use Rattle.silence_laws.proofs.Ways.{IsWay, Went, went, sent_freely, request_way, beat_before}
+use Rattle.silence_laws.proofs.Rival.{own, kept, w, c, low_e, elsewhere, steady, time, sent, foreign, others, long, asked_e, LastLook, last_look}
+use Rattle.silence_laws.proofs.Setting.{none_else}
+use Rattle.silence_laws.proofs.Taken.{first, first_e, ways, j_early, rival}
+use Rattle.silence_laws.proofs.Taken as taken
+use Rattle.silence_laws.proofs.Waiting.{counted_after, history_below}
+use Rattle.silence_laws.proofs.Ways.{IsWay, Went, went, sent_freely, request_way, reply_way, beat_before}
 
 -- whose process has gone is down
 gone_is : (o : Option ℕ) (rest : Option (Option ℕ)) → has o ≡ true → join (upper (gone o) rest) ≡ None
@@ -42,7 +54,7 @@ gone_is None rest is = absurd (false_is is)
 gone_is (Some i) rest is = refl
 
 module _ (doc : Doc) (near far b e : ℕ) (q : Identity) (l : LeadsUntil doc near far b e q) (s : Bears doc near far b e q) (H : List Entry) (H_e : IsTail H (history doc (suc e))) (quiet : IsQuietIn b q.process H)
-    (f : IsForeign doc near far b e q l s H H_e quiet (first doc near far b e q l s H H_e quiet) H) where
+    (f : IsForeign doc near far b e q l s H H_e quiet (first doc near far b e q l s H H_e quiet) H) (alone : ActsAlone doc near far b q) where
   abbrev p : Identity
   p = c doc near far b e q l s H H_e quiet f
 
@@ -130,24 +142,73 @@ module _ (doc : Doc) (near far b e : ℕ) (q : Identity) (l : LeadsUntil doc nea
   alive_n : alive p.process (history doc (suc n)) ≡ Some p.incarnation
   alive_n = up (history doc (suc n)) (tail_trans G (history doc n) (history doc (suc n)) G_n (later_tail doc n (suc n) (omega arith))) n_S
 
+  -- it has had no success by then that came by a write of its own before the leader's
+  module _ (renew : OthersRenewBefore doc near far b q) (j : ℕ) (to : j ≤ n) (hs : HasSuccess doc p 0 j) where
+    abbrev told : Entry
+    told = entry j 3 p (Delivers hs.call (Done hs.version) true)
+
+    o : Origin doc p hs.call (Done hs.version) hs.before j
+    o = origin doc (suc j) p told hs.before hs.call (Done hs.version) hs.position refl refl
+
+    told_low : IsTail (told ∷ hs.before) f.before
+    told_low = tail_trans (told ∷ hs.before) (history doc (suc n)) f.before (tail_trans (told ∷ hs.before) (history doc (suc j)) (history doc (suc n)) hs.position (later_tail doc (suc j) (suc n) (omega (arith, to)))) (tail_trans (history doc (suc n)) L.S f.before n_S S_t)
+
+    o_low : IsTail (o.e ∷ o.low) f.before
+    o_low = tail_trans (o.e ∷ o.low) (told ∷ hs.before) f.before (inr o.answered) told_low
+
+    o_e : IsTail (o.e ∷ o.low) (history doc (suc e))
+    o_e = tail_trans (o.e ∷ o.low) f.before (history doc (suc e)) o_low (low_e doc near far b e q l s H H_e quiet f)
+
+    back : IsWay near far o.e.beat j
+    back = reply_way doc near far e p won.role passing o.e o.low o_e o.step j (omega (arith, to, n_e)) o.comes_is
+
+    wrote : has (at_key election (write_of o.e.fact)) ≡ true
+    wrote =
+        ap (λ d. has (at_key election (write_of d))) o.fact
+        ∙ wrote_by hs.call.request o.low hs.version (success_is hs.call.request hs.version hs.success).write
+        (asks_election doc s.sound e s.end p won.role o.begun.f hs.call o.begun.arrives
+        (in_head o.begun.f o.begun.before (history doc (suc e)) (tail_trans (o.begun.f ∷ o.begun.before) hs.before (history doc (suc e)) o.begun.position (tail_trans hs.before (told ∷ hs.before) (history doc (suc e)) (inr (tail_all hs.before)) (tail_trans (told ∷ hs.before) f.before (history doc (suc e)) told_low (low_e doc near far b e q l s H H_e quiet f))))) o.begun.actor o.begun.fact) (sym o.reply_is)
+
+    -- one from the silence on was written after the leader's, where all writes are its own
+    since_silence : b ≤ j → ⊥
+    since_silence le = rival doc near far b e q l s H H_e quiet f (actor_is p q (sym o.actor ∙ f.own o.e o.low o_low first_low wrote))
+      where
+        z : Entry
+        z = (taken.o doc near far b e q l s H H_e quiet).e
+
+        sooner : z.beat < o.e.beat
+        sooner = let ways = ways doc near far b e q l s H H_e quiet in omega (arith, ways.comes_least, j_early doc near far b e q l s H H_e quiet, le, back.most, s.one, s.ways)
+
+        first_low : IsTail (first doc near far b e q l s H H_e quiet) o.low
+        first_low =
+            tail_trans (first doc near far b e q l s H H_e quiet) (history doc (suc z.beat)) o.low (in_own_beat doc (suc e) z (taken.o doc near far b e q l s H H_e quiet).low (first_e doc near far b e q l s H H_e quiet))
+            (history_below doc z.beat e o.e o.low o_e sooner (omega (arith, sooner, beat_before doc e o.e o.low o_e)))
+
+    no_success : ⊥
+    no_success =
+        ⊎_elim (λ lt. none_else doc near far b e q l s renew p won.role (elsewhere doc near far b e q l s H H_e quiet f) j (omega (arith, lt)) hs) since_silence (cases_lt j b)
+
   -- it doesn't act in the beat before, as another's record is stored
   not_now : Acts doc p n → ⊥
-  not_now acting = rival doc near far b e q l s H H_e quiet f (same_holder p q mine.y.object held (subst (IsHeldBy q) (sym mine.object) mine.holder))
+  not_now acting = ⊎_elim by_success by_premise alone
     where
-      turn : List Entry
-      turn = at_turn doc p.process n
+      by_success : OthersRenewBefore doc near far b q → ⊥
+      by_success renew = let led : HasLed doc p n = acting_led doc p n acting in no_success renew led.j led.to led.success
 
-      turn_high : IsTail (at_turn doc p.process n) f.before
-      turn_high = tail_trans (at_turn doc p.process n) (history doc (suc n)) f.before (turn_tail doc p.process n (omega (arith, controllers_first doc p.process won.role))) (tail_trans (history doc (suc n)) L.S f.before n_S S_t)
+      by_premise : lease_premise doc ≡ true → ⊥
+      by_premise premise = rival doc near far b e q l s H H_e quiet f (same_holder p q mine.y.object held (subst (IsHeldBy q) (sym mine.object) mine.holder))
+        where
+          turn_high : IsTail (at_turn doc p.process n) f.before
+          turn_high = tail_trans (at_turn doc p.process n) (history doc (suc n)) f.before (turn_tail doc p.process n (omega (arith, controllers_first doc p.process won.role))) (tail_trans (history doc (suc n)) L.S f.before n_S S_t)
 
-      z_turn : IsTail (k.z ∷ k.before) (at_turn doc p.process n)
-      z_turn =
-          tail_trans (k.z ∷ k.before) (history doc n) (at_turn doc p.process n)
-          (tail_trans (k.z ∷ k.before) (history doc (suc k.z.beat)) (history doc n) (in_own_beat doc (suc e) k.z k.before (z_e doc near far b e q l s H H_e quiet f)) (later_tail doc (suc k.z.beat) n (omega (arith, late, k.beat, s.ways, s.one))))
-          (before_turn doc p.process n)
+          z_turn : IsTail (k.z ∷ k.before) (at_turn doc p.process n)
+          z_turn =
+              tail_trans (k.z ∷ k.before) (history doc n) (at_turn doc p.process n)
+              (tail_trans (k.z ∷ k.before) (history doc (suc k.z.beat)) (history doc n) (in_own_beat doc (suc e) k.z k.before (z_e doc near far b e q l s H H_e quiet f)) (later_tail doc (suc k.z.beat) n (omega (arith, late, k.beat, s.ways, s.one))))
+              (before_turn doc p.process n)
 
-      held : IsHeldBy p mine.y.object
-      held = subst (IsStoredHolder p) (k.stays (at_turn doc p.process n) z_turn turn_high) (is_holder doc (premise_from doc s.premise) s.sound p n (omega (arith, n_e, s.end)) acting).0
+          held : IsHeldBy p mine.y.object
+          held = subst (IsStoredHolder p) (k.stays (at_turn doc p.process n) z_turn turn_high) (is_holder doc (premise_from doc premise) s.sound p n (omega (arith, n_e, s.end)) acting).0
 
   -- nor does it end there
   steady_n : IsSteady doc near far n e p.process

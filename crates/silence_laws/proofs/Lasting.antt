@@ -16,7 +16,7 @@ use Rattle.calm_laws.proofs.Origins.{Origin}
 use Rattle.stay_laws.proofs.Won.{Won, is_won}
 use Rattle.span_laws.proofs.Quotients.{rounded_is, bounds_are_exact}
 use Rattle.silence_laws.specs.Least.{last_renewal, IsLead, TakesAtLeast, RunsWithin, SilencesLast, SilencesAreTold}
-use Rattle.silence_laws.specs.Silence.{LeadsUntil, Bears}
+use Rattle.silence_laws.specs.Silence.{LeadsUntil, Bears, ActsAlone}
 use Rattle.silence_laws.proofs.Chain.{opens_of}
 use Rattle.silence_laws.proofs.Lasted.{taken_late}
 use Rattle.silence_laws.proofs.Leading as leading
@@ -29,7 +29,7 @@ use Rattle.silence_laws.proofs.Taken as taken
 use Rattle.silence_laws.proofs.Waiting.{history_below, beats_rise}
 use Rattle.silence_laws.proofs.Ways.{IsWay, sent_at, request_way, reply_way, beat_before}
 
-module _ (doc : Doc) (near far b e : ℕ) (q : Identity) (l : LeadsUntil doc near far b e q) (s : Bears doc near far b e q) (quiet : IsQuiet doc b e q.process) (k : ℕ) (lead : IsLead doc b e q k) where
+module _ (doc : Doc) (near far b e : ℕ) (q : Identity) (l : LeadsUntil doc near far b e q) (s : Bears doc near far b e q) (alone : ActsAlone doc near far b q) (quiet : IsQuiet doc b e q.process) (k : ℕ) (lead : IsLead doc b e q k) where
   abbrev r : Identity
   r = lead.c
 
@@ -141,7 +141,7 @@ module _ (doc : Doc) (near far b e : ℕ) (q : Identity) (l : LeadsUntil doc nea
         arith,
         lead.at,
         recent_enough doc near far b e q l s (history doc (suc e)) (tail_all (history doc (suc e))) quiet f,
-        taken_late doc near far b e q l s (history doc (suc e)) (tail_all (history doc (suc e))) quiet f least (takes (w doc near far b e q l s (history doc (suc e)) (tail_all (history doc (suc e))) quiet f).who.process (w doc near far b e q l s (history doc (suc e)) (tail_all (history doc (suc e))) quiet f).role (elsewhere doc near far b e q l s (history doc (suc e)) (tail_all (history doc (suc e))) quiet f)),
+        taken_late doc near far b e q l s (history doc (suc e)) (tail_all (history doc (suc e))) quiet f alone least (takes (w doc near far b e q l s (history doc (suc e)) (tail_all (history doc (suc e))) quiet f).who.process (w doc near far b e q l s (history doc (suc e)) (tail_all (history doc (suc e))) quiet f).role (elsewhere doc near far b e q l s (history doc (suc e)) (tail_all (history doc (suc e))) quiet f)),
         no_later,
         way.least,
       )
@@ -152,10 +152,10 @@ module _ (doc : Doc) (near far b e : ℕ) (q : Identity) (l : LeadsUntil doc nea
 -- ---- the laws
 
 pub silences_last : SilencesLast
-silences_last doc near far b e q l s quiet least takes k lead = lasts doc near far b e q l s quiet k lead least takes
+silences_last doc near far b e q l s alone quiet least takes k lead = lasts doc near far b e q l s alone quiet k lead least takes
 
 pub silences_are_told : SilencesAreTold
-silences_are_told doc near far b e q l s quiet slow fast runs least bound k lead = lasts doc near far b e q l s quiet k lead least takes
+silences_are_told doc near far b e q l s alone quiet slow fast runs least bound k lead = lasts doc near far b e q l s alone quiet k lead least takes
   where
     some_beats : 1 ≤ e
     some_beats = omega (arith, l.long, l.within, s.one, s.ways)

@@ -22,9 +22,10 @@ use Rattle.takeover_laws.specs.Acting.{AreInTime}
 use Rattle.takeover_laws.specs.Calm.{Passes, IsSteady, IsCalm, IsInTime, AllBeats}
 use Rattle.takeover_laws.proofs.Rounds.{request_passes}
 use Rattle.takeover_laws.proofs.Writers.{sends_of}
-use Rattle.stay_laws.specs.Stays.{Stays}
+use Rattle.stay_laws.specs.Stays.{HasSuccess, Stays}
+use Rattle.stay_laws.proofs.Alone.{one_stays}
 use Rattle.stay_laws.proofs.Staying.{leaders_stay}
-use Rattle.silence_laws.specs.Silence.{LeadsUntil, Bears}
+use Rattle.silence_laws.specs.Silence.{LeadsUntil, Bears, OthersRenewBefore}
 use Rattle.silence_laws.proofs.Led.{HasLed, acting_led}
 use Rattle.silence_laws.proofs.Ways.{IsWay}
 use Rattle.calm_laws.proofs.Origins.{IsAnswer, answer_facts}
@@ -158,3 +159,9 @@ module _ (doc : Doc) (near far b e : ℕ) (q : Identity) (l : LeadsUntil doc nea
 
   pub its_time : its_lead.j ≤ b - 1
   its_time = omega (arith, its_lead.to, s.one, s.ways)
+
+  -- no other controller that renews in time has a success before b
+  pub none_else : OthersRenewBefore doc near far b q → (r : Identity) → is_controller doc r.process ≡ true → (r.process ≡ q.process → ⊥) → (j : ℕ) → j ≤ b - 1 → HasSuccess doc r 0 j → ⊥
+  none_else renew r role other j to hs =
+      other (ap (λ (p : Identity). p.process) (one_stays doc near far 0 (b - 1) s.sound calm_before times_before s.one (omega (arith, l.within, s.end))
+      q l.role l.steady s.renews its_lead.j its_time its_lead.success r role (restrict doc near far 0 (b - 1) e r.process (omega (arith, l.within)) (l.others r.process role other)) (renew r role other) j to hs))

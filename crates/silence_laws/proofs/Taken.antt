@@ -23,14 +23,14 @@ use Rattle.gap_laws.proofs.Histories.{whole_known}
 use Rattle.call_laws.proofs.Placing.{in_own_beat}
 use Rattle.calm_laws.proofs.Origins.{Origin}
 use Rattle.stay_laws.proofs.Won.{Won, is_won}
+use Rattle.stay_laws.proofs.Alone.{alone_since}
 use Rattle.stay_laws.proofs.Given.{IsGiven}
 use Rattle.stay_laws.proofs.Rivals.{plainly}
 use Rattle.stay_laws.proofs.Sendings as sendings
 use Rattle.stay_laws.proofs.Written as wrote
-use Rattle.stay_laws.proofs.Renewing as renewing
 use Rattle.silence_laws.proofs.Renewed as renewed
 use Rattle.silence_laws.specs.Silence.{LeadsUntil, Bears}
-use Rattle.silence_laws.proofs.Setting.{calm_before, times_before, its_lead, it_stays, its_time, some_b}
+use Rattle.silence_laws.proofs.Setting.{calm_before, times_before, its_lead, its_time, some_b}
 use Rattle.silence_laws.proofs.Owning.{IsQuietIn, IsOwn, IsForeign, own_since}
 use Rattle.silence_laws.proofs.Ways.{beat_before}
 
@@ -77,20 +77,9 @@ module _ (doc : Doc) (near far b e : ℕ) (q : Identity) (l : LeadsUntil doc nea
   foreign_late f = ⊎_elim (λ lt. absurd (early lt)) (λ le. le) (cases_lt f.x.beat b)
     where
       early : f.x.beat < b → ⊥
-      early lt = ⊎_elim late soon (cases_lt f.x.beat j)
-        where
-          in_beat : IsTail (f.x ∷ f.before) (history doc (suc f.x.beat))
-          in_beat = in_own_beat doc (suc e) f.x f.before (tail_trans (f.x ∷ f.before) H (history doc (suc e)) f.position H_e)
-
-          late : f.x.beat < j → ⊥
-          late less =
-              f.other (wrote.its_writes doc near far 0 a s.sound (calm_before doc near far b e q l s) (times_before doc near far b e q l s) s.one end_a q l.role l.steady s.renews j j_to given
-              (renewing.acts_now doc near far 0 a s.sound (calm_before doc near far b e q l s) (times_before doc near far b e q l s) s.one end_a q l.role l.steady s.renews j j_to given)
-              j (omega arith) j_to (omega (arith, ways.comes_most)) f.x f.before (tail_trans (f.x ∷ f.before) (history doc (suc f.x.beat)) (history doc (suc j)) in_beat (later_tail doc (suc f.x.beat) (suc j) (omega (arith, less)))) f.since f.writes)
-
-          soon : j ≤ f.x.beat → ⊥
-          soon le =
-              f.other ((it_stays doc near far b e q l s).alone f.x f.before (tail_trans (f.x ∷ f.before) (history doc (suc f.x.beat)) (history doc (suc a)) in_beat (later_tail doc (suc f.x.beat) (suc a) (omega (arith, lt)))) le f.writes)
+      early lt =
+          f.other (alone_since doc near far 0 a s.sound (calm_before doc near far b e q l s) (times_before doc near far b e q l s) s.one end_a q l.role l.steady s.renews j j_to given f.x f.before
+          (tail_trans (f.x ∷ f.before) (history doc (suc f.x.beat)) (history doc (suc a)) (in_own_beat doc (suc e) f.x f.before (tail_trans (f.x ∷ f.before) H (history doc (suc e)) f.position H_e)) (later_tail doc (suc f.x.beat) (suc a) (omega (arith, lt)))) f.since f.writes)
 
   -- ---- the first write of somebody else, and the record over which it comes
 

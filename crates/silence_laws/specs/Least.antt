@@ -11,7 +11,7 @@ use Rattle.span_laws.specs.Looks.{IsAtLeast}
 use Rattle.span_laws.specs.Quotients.{least_beats}
 use Rattle.span_laws.specs.Spans.{RunsAtLeast, RunsAtMost, IsEnough, IsNeeded}
 use Rattle.takeover_laws.specs.Calm.{IsQuiet}
-use Rattle.silence_laws.specs.Silence.{LeadsUntil, Bears, IsReleased, IsStopped}
+use Rattle.silence_laws.specs.Silence.{LeadsUntil, Bears, ActsAlone, IsReleased, IsStopped}
 
 -- an identity other than q comes to lead at beat k, which is b or later
 pub record IsLead (doc : Doc) (b e : ℕ) (q : Identity) (k : ℕ) : Type 0 where
@@ -51,7 +51,7 @@ last_renewal doc far = renewal_ways doc.settings.fast_renew far
 -- candidate take at least, and three ways, after its last write: that came no earlier before b than its renewals come apart
 abbrev pub SilenceLasts : Doc → Type 0
 SilenceLasts doc =
-    (near far b e : ℕ) (q : Identity) → LeadsUntil doc near far b e q → (s : Bears doc near far b e q) → IsQuiet doc b e q.process
+    (near far b e : ℕ) (q : Identity) → LeadsUntil doc near far b e q → (s : Bears doc near far b e q) → ActsAlone doc near far b q → IsQuiet doc b e q.process
     → (least : ℕ) → ((p : ℕ) → is_controller doc p ≡ true → (p ≡ q.process → ⊥) → TakesAtLeast doc near far e p (lease_duration doc q.process) least)
     → (k : ℕ) → IsLead doc b e q k → b + least + 3 * near ≤ k + s.renews.wait + last_renewal doc far
 
@@ -72,7 +72,7 @@ takes_least doc near far p slow fast time = takes_beats near far (div_ceil (retr
 
 abbrev pub SilenceIsTold : Doc → Type 0
 SilenceIsTold doc =
-    (near far b e : ℕ) (q : Identity) → LeadsUntil doc near far b e q → (s : Bears doc near far b e q) → IsQuiet doc b e q.process
+    (near far b e : ℕ) (q : Identity) → LeadsUntil doc near far b e q → (s : Bears doc near far b e q) → ActsAlone doc near far b q → IsQuiet doc b e q.process
     → (slow fast : ℕ → ℕ) → ((p : ℕ) → is_controller doc p ≡ true → (p ≡ q.process → ⊥) → RunsWithin doc e p (slow p) (fast p))
     → (least : ℕ) → ((p : ℕ) → is_controller doc p ≡ true → (p ≡ q.process → ⊥) → least ≤ takes_least doc near far p (slow p) (fast p) (lease_duration doc q.process))
     → (k : ℕ) → IsLead doc b e q k → b + least + 3 * near ≤ k + s.renews.wait + last_renewal doc far

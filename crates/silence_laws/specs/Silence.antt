@@ -1,6 +1,6 @@
 -- A leader in a calm falls silent, or is stopped, at a beat: what is known of it, of the other controllers, and of the settings. Source: client-go,
 -- package `leaderelection`; profile.
-use Rattle.std.specs.Prelude.{◌≡◌, ◌≤◌, ◌<◌, ℕ, suc, ◌+◌, ◌-◌, ◌*◌, true, Option, None, Some}
+use Rattle.std.specs.Prelude.{◌≡◌, ◌⊎◌, ◌≤◌, ◌<◌, ℕ, suc, ◌+◌, ◌-◌, ◌*◌, true, Option, None, Some}
 use Rattle.kube_base.specs.declared.numbers.Version.{Version}
 use Rattle.kube_objects.specs.declared.call.Reply.TheVariants.{Done}
 use Rattle.kube_objects.specs.declared.object.Object.{Object}
@@ -27,10 +27,9 @@ pub record LeadsUntil (doc : Doc) (near far b e : ℕ) (q : Identity) : Type 0 w
   pub long : 3 * far ≤ b
   pub acts : Acts doc q (b - 3 * far)
 
--- the settings are safe, and bear ways from near to far beats: the lease premise holds; each controller's calls have time for two ways; the
--- leader's renewals come before its deadline, and before another controller finds its record over on any controller's clock
+-- the document is sound, and its settings bear ways from near to far beats: each controller's calls have time for two ways; the leader's renewals come before
+-- its deadline, and before another controller finds its record over on any controller's clock
 pub record Bears (doc : Doc) (near far b e : ℕ) (q : Identity) : Type 0 where
-  pub premise : lease_premise doc ≡ true
   pub sound : IsSound doc
   pub one : 1 ≤ near
   pub ways : near ≤ far
@@ -41,6 +40,14 @@ pub record Bears (doc : Doc) (near far b e : ℕ) (q : Identity) : Type 0 where
   pub fastest : ℕ
   pub clocks : (p : ℕ) → is_controller doc p ≡ true → RunsAtMost doc p 0 e fastest
   pub lasts : (renews.wait + 5 * far - near) * fastest < lease_duration doc q.process
+
+-- each other controller renews in time where it leads, before beat b
+abbrev pub OthersRenewBefore : Doc → (near far b : ℕ) → Identity → Type 0
+OthersRenewBefore doc near far b q = (c : Identity) → is_controller doc c.process ≡ true → (c.process ≡ q.process → ⊥) → RenewsInTime doc near far 0 (b - 1) c
+
+-- nobody else acts beside the leader: the others renew in time, or the lease premise holds
+abbrev pub ActsAlone : Doc → (near far b : ℕ) → Identity → Type 0
+ActsAlone doc near far b q = OthersRenewBefore doc near far b q ⊎ (lease_premise doc ≡ true)
 
 -- from beat b on none of a process's requests arrives: it sends none, or each is lost
 abbrev pub IsSilent : Doc → ℕ → ℕ → ℕ → Type 0

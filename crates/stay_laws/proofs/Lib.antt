@@ -11,3 +11,4 @@ pub mod Succeeded
 pub mod Written
 pub mod Renewing
 pub mod Staying
+pub mod Alone

@@ -4,7 +4,7 @@ use Rattle.std.proofs.lemmas.Bool.{cases_lt}
 use Rattle.kube_base.specs.declared.numbers.Version.{Version}
 use Rattle.kube_objects.specs.declared.call.Reply.TheVariants.{Done}
 use Rattle.kube_objects.specs.Answers.{written}
-use Rattle.kube_objects.specs.Document.{Doc, retry_period, renew_deadline}
+use Rattle.kube_objects.specs.Document.{Doc, end_beat, retry_period, renew_deadline}
 use Rattle.kube_objects.specs.Elector.{succeeds}
 use Rattle.kube_objects.specs.Entry.{Identity}
 use Rattle.kube_objects.specs.Newest.{or_else, has}
@@ -13,6 +13,7 @@ use Rattle.kube_objects.specs.Stored.{election, at_key, request_write}
 use Rattle.kube_objects.specs.Wire.{arrival, loses_replies, reply_delay, reply_delay_of}
 use Rattle.history.specs.History.{history}
 use Rattle.history.specs.Safe.{Acts}
+use Rattle.history.specs.Sound.{IsSound}
 use Rattle.history_laws.specs.Tails.{IsTail}
 use Rattle.history_laws.proofs.Plainly.{some_is, none_is, true_is}
 use Rattle.history_laws.proofs.Tailed.{tail_all, tail_trans, in_tail, later_tail}
@@ -24,7 +25,7 @@ use Rattle.call_laws.proofs.Placing.{forces_stand}
 use Rattle.takeover_laws.specs.Calm.{IsQuiet, WritesElection}
 use Rattle.calm_laws.proofs.Origins.{Origin, origin}
 use Rattle.stay_laws.proofs.Succeeded.{success_is}
-use Rattle.silence_laws.specs.Silence.{LeadsUntil, Bears}
+use Rattle.silence_laws.specs.Silence.{LeadsUntil}
 use Rattle.silence_laws.proofs.Looking.{asks_election}
 use Rattle.succession_laws.specs.Successions.{Hears, LeadersActOn}
 use Rattle.calm_laws.proofs.Replies.{wrote_by}
@@ -43,10 +44,11 @@ comes_then doc p k delay y false is awake = some_is y (k + delay) (sym is ∙ ap
     by_end None awake = refl
     by_end (Some j) awake = absurd (true_is awake)
 
-module _ (doc : Doc) (near far b e : ℕ) (q : Identity) (l : LeadsUntil doc near far b e q) (s : Bears doc near far b e q) (quiet : IsQuiet doc b e q.process) (hears : Hears doc far b e q.process)
+module _ (doc : Doc) (near far b e : ℕ) (q : Identity) (sound : IsSound doc) (one : 1 ≤ near) (ways : near ≤ far) (end : e ≤ end_beat doc) (waits : 1 ≤ retry_period doc q.process)
+    (l : LeadsUntil doc near far b e q) (quiet : IsQuiet doc b e q.process) (hears : Hears doc far b e q.process)
     (slow lasting : ℕ) (runs : RunsAtLeast doc q.process b e slow) (is_enough : IsEnough slow (retry_period doc q.process + renew_deadline doc q.process) lasting) where
   some_way : 1 ≤ far
-  some_way = omega (arith, s.one, s.ways)
+  some_way = omega (arith, one, ways)
 
   some_b : 1 ≤ b
   some_b = omega (arith, l.long, some_way)
@@ -89,7 +91,7 @@ module _ (doc : Doc) (near far b e : ℕ) (q : Identity) (l : LeadsUntil doc nea
         wrote : has (at_key election (request_write w.request (written w.request o.low))) ≡ true
         wrote =
             wrote_by w.request o.low done.0 (success_is w.request done.0 (ap (succeeds w.request) (sym done.1) ∙ so)).write
-            (asks_election doc s.sound n (omega (arith, within, s.end)) q l.role o.begun.f w o.begun.arrives (in_head o.begun.f o.begun.before (history doc (suc n)) f_high) o.begun.actor o.begun.fact)
+            (asks_election doc sound n (omega (arith, within, end)) q l.role o.begun.f w o.begun.arrives (in_head o.begun.f o.begun.before (history doc (suc n)) f_high) o.begun.actor o.begun.fact)
             (sym o.reply_is ∙ done.1)
 
         early : w.sent < b
@@ -128,7 +130,7 @@ module _ (doc : Doc) (near far b e : ℕ) (q : Identity) (l : LeadsUntil doc nea
   some_lasting = by_beats lasting is_enough
     where
       by_beats : (m : ℕ) → retry_period doc q.process + renew_deadline doc q.process ≤ m * slow → 1 ≤ m
-      by_beats zero le = absurd (omega (arith, le, s.waits q.process l.role))
+      by_beats zero le = absurd (omega (arith, le, waits))
       by_beats (suc m) le = omega arith
 
   pub acts_until : (k : ℕ) → k ≤ e → Acts doc q k → k + 2 ≤ b + 2 * far + lasting
@@ -136,11 +138,11 @@ module _ (doc : Doc) (near far b e : ℕ) (q : Identity) (l : LeadsUntil doc nea
     where
       over : b + 2 * far + lasting < k + 2 → ⊥
       over lt =
-          none_acts doc 0 e k s.end to q l.role awake last (last + lasting) (omega arith) (omega (arith, some_lasting)) (omega (arith, lt, some_way))
+          none_acts doc 0 e k end to q l.role awake last (last + lasting) (omega arith) (omega (arith, some_lasting)) (omega (arith, lt, some_way))
           (readings_grow doc q.process b e slow (retry_period doc q.process + renew_deadline doc q.process) lasting runs is_enough last (last + lasting) (omega (arith, some_way)) (omega arith) (omega (arith, lt, to, some_way)))
           (success_by k to (omega (arith, lt, some_way))) k (omega (arith, lt, some_way)) (omega arith) acting
 
 -- ---- the law
 
 pub leaders_act_on : LeadersActOn
-leaders_act_on doc near far b e q l s quiet hears slow lasting runs is_enough = acts_until doc near far b e q l s quiet hears slow lasting runs is_enough
+leaders_act_on doc near far b e q sound one ways end waits l quiet hears slow lasting runs is_enough = acts_until doc near far b e q sound one ways end waits l quiet hears slow lasting runs is_enough

@@ -1,5 +1,5 @@
 -- Where a leader in a calm falls silent, nobody else acts before, and what comes after is a calm.
-use Rattle.std.proofs.Common.{◌≡◌, ◌<◌, ◌≤◌, ℕ, ◌+◌, ◌-◌, true, List, ◌∷◌, Option, Some, IfSome, refl, sym, ap, subst, ⊎_elim, arith}
+use Rattle.std.proofs.Common.{◌≡◌, ◌<◌, ◌≤◌, ℕ, ◌+◌, ◌-◌, true, List, ◌∷◌, Option, Some, IfSome, refl, sym, subst, ⊎_elim, arith}
 use Rattle.kube_objects.specs.Document.{Doc, is_controller}
 use Rattle.kube_objects.specs.Entry.{Entry, Identity, Call, Sends, actor_of}
 use Rattle.kube_objects.specs.Wire.{Sent, request_arrival}
@@ -7,20 +7,16 @@ use Rattle.history.specs.History.{history}
 use Rattle.history.specs.Safe.{Acts}
 use Rattle.history_laws.specs.Tails.{IsTail}
 use Rattle.history_laws.proofs.Order.{entries_are_earlier}
-use Rattle.lease_laws.proofs.Claims.{exclusive}
-use Rattle.lease_laws.proofs.Premises.{premise_from}
 use Rattle.call_laws.proofs.Above.{in_head}
 use Rattle.call_laws.proofs.Placing.{messages_travel}
 use Rattle.takeover_laws.specs.Acting.{AreInTime}
 use Rattle.takeover_laws.specs.Calm.{IsSteady, IsQuiet, IsCalm}
 use Rattle.takeover_laws.proofs.Rounds.{sent_is}
-use Rattle.stay_laws.specs.Stays.{Stays}
-use Rattle.stay_laws.proofs.Staying.{leaders_stay}
 use Rattle.silence_laws.specs.Silence.{LeadsUntil, Bears}
 use Rattle.succession_laws.specs.Successions.{OthersRenew, RepliesCome}
 use Rattle.succession_laws.proofs.Since as since
 use Rattle.silence_laws.proofs.Led.{HasLed, acting_led}
-use Rattle.silence_laws.proofs.Setting.{restrict, request_way, some_b, calm_before, times_before, it_stays, its_time}
+use Rattle.silence_laws.proofs.Setting.{request_way, some_b, none_else}
 
 -- ---- messages as facts
 
@@ -34,16 +30,7 @@ its_call_sent doc m x T q call arrives at actor fact =
 module _ (doc : Doc) (near far b e : ℕ) (q : Identity) (l : LeadsUntil doc near far b e q) (s : Bears doc near far b e q) (renew : OthersRenew doc near far b e q) where
   -- before b nobody else acts
   pub idle_before : (r : Identity) → is_controller doc r.process ≡ true → (r.process ≡ q.process → ⊥) → (k : ℕ) → k < b → Acts doc r k → ⊥
-  idle_before r role other k lt acting =
-      other (ap (λ (p : Identity). p.process) (exclusive doc (premise_from doc s.premise) s.sound r q (b - 1) (omega (arith, l.within, s.end)) (rival_stays.acts (b - 1) (omega (arith, led.to, lt)) (omega arith)) ((it_stays doc near far b e q l s).acts (b - 1) (its_time doc near far b e q l s) (omega arith))))
-    where
-      led : HasLed doc r k
-      led = acting_led doc r k acting
-
-      rival_stays : Stays doc r led.j (b - 1)
-      rival_stays =
-          leaders_stay doc near far 0 (b - 1) s.sound (calm_before doc near far b e q l s) (times_before doc near far b e q l s) s.one s.ways (omega (arith, l.within, s.end)) r role
-          (restrict doc near far 0 (b - 1) e r.process (omega (arith, l.within)) (l.others r.process role other)) (renew.before r role other) led.j led.success
+  idle_before r role other k lt acting = let led : HasLed doc r k = acting_led doc r k acting in none_else doc near far b e q l s renew.before r role other led.j (omega (arith, led.to, lt)) led.success
 
   -- so the others are steady from b on as well, and what comes after b is a calm
   pub others_since : (p : ℕ) → is_controller doc p ≡ true → (p ≡ q.process → ⊥) → IsSteady doc near far b e p

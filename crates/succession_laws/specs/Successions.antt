@@ -2,7 +2,7 @@
 -- Source: client-go, package `leaderelection`; profile.
 use Rattle.std.specs.Int.{div_ceil}
 use Rattle.std.specs.Prelude.{◌≡◌, ◌≤◌, ◌<◌, ℕ, suc, ◌+◌, ◌-◌, ◌*◌, Bool, true, false, cond, IfSome}
-use Rattle.kube_objects.specs.Document.{Doc, is_controller, lease_duration, retry_period, renew_deadline}
+use Rattle.kube_objects.specs.Document.{Doc, end_beat, is_controller, lease_duration, retry_period, renew_deadline}
 use Rattle.kube_objects.specs.Entry.{Entry, Identity}
 use Rattle.kube_objects.specs.Identities.{of_process}
 use Rattle.kube_objects.specs.Newest.{has}
@@ -11,6 +11,7 @@ use Rattle.kube_objects.specs.Process.{alive}
 use Rattle.kube_objects.specs.Wire.{back_of, reply_delay}
 use Rattle.history.specs.History.{history, at_turn}
 use Rattle.history.specs.Safe.{Acts}
+use Rattle.history.specs.Sound.{IsSound}
 use Rattle.history_laws.specs.Tails.{In}
 use Rattle.span_laws.specs.Looks.{IsGreatest}
 use Rattle.span_laws.specs.Quotients.{most_beats}
@@ -18,11 +19,11 @@ use Rattle.span_laws.specs.Spans.{RunsAtLeast, RunsAtMost, IsEnough, IsNeeded}
 use Rattle.call_laws.specs.Answering.{with_events}
 use Rattle.takeover_laws.specs.Calm.{IsQuiet}
 use Rattle.stay_laws.specs.Stays.{RenewsInTime, HasSuccess, Stays}
-use Rattle.silence_laws.specs.Silence.{LeadsUntil, Bears}
+use Rattle.silence_laws.specs.Silence.{LeadsUntil, Bears, OthersRenewBefore}
 
 -- each other controller renews in time where it leads, before beat b and from b on
 pub record OthersRenew (doc : Doc) (near far b e : ℕ) (q : Identity) : Type 0 where
-  pub before : (c : Identity) → is_controller doc c.process ≡ true → (c.process ≡ q.process → ⊥) → RenewsInTime doc near far 0 (b - 1) c
+  pub before : OthersRenewBefore doc near far b q
   pub since : (c : Identity) → is_controller doc c.process ≡ true → (c.process ≡ q.process → ⊥) → RenewsInTime doc near far b e c
 
 -- a reply that was given to a process before beat b is lost or comes within far beats
@@ -85,10 +86,11 @@ pub record Hears (doc : Doc) (far b e p : ℕ) : Type 0 where
   pub awake : (k : ℕ) → b ≤ k → k ≤ e → is_paused doc p k ≡ false
 
 -- a leader whose requests are lost from beat b on acts on for so long at most: its last success comes less than two ways later, and lasting is
--- enough beats for its retry period and its renew deadline
+-- enough beats for its retry period and its renew deadline. It needn't renew in time
 abbrev pub ActsOn : Doc → Type 0
 ActsOn doc =
-    (near far b e : ℕ) (q : Identity) → LeadsUntil doc near far b e q → Bears doc near far b e q → IsQuiet doc b e q.process → Hears doc far b e q.process
+    (near far b e : ℕ) (q : Identity) → IsSound doc → 1 ≤ near → near ≤ far → e ≤ end_beat doc → 1 ≤ retry_period doc q.process
+    → LeadsUntil doc near far b e q → IsQuiet doc b e q.process → Hears doc far b e q.process
     → (slow lasting : ℕ) → RunsAtLeast doc q.process b e slow → IsEnough slow (retry_period doc q.process + renew_deadline doc q.process) lasting
     → (k : ℕ) → k ≤ e → Acts doc q k → k + 2 ≤ b + 2 * far + lasting
 

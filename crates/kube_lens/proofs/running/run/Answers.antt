@@ -37,9 +37,9 @@ returns-in-Some-BoundsFlags-clause-text g c bytes told =
     let words : List (List ℕ) = map string_bytes c.args.words.now.items in
     let left = g.S.Source.left c.args.source.now in
     let before = g.K.Sink.taken c.args.sink.now in
-    let after = g.K.Sink.taken c.run-2.new.sink in
+    let after = g.K.Sink.taken c.run-in-Some-BoundsFlags.new.sink in
     let found : Some BoundsFlags ≡ command_of words = ap Some (sym c.in-Some-BoundsFlags.field-0-is) ∙ sym c.in-Some-BoundsFlags.is ∙ c.command_in.ensures in
-    ends-commanded words bytes (Some BoundsFlags) left before after c.run-2.result found (ends-unread (bounds_flags.answer_to (behind words)) bytes left before after c.run-2.result told (c.run-2.ensures.text bytes))
+    ends-commanded words bytes (Some BoundsFlags) left before after c.run-in-Some-BoundsFlags.result found (ends-unread (bounds_flags.answer_to (behind words)) bytes left before after c.run-in-Some-BoundsFlags.result told (c.run-in-Some-BoundsFlags.ensures.text bytes))
 
 pub returns-in-Some-Flags-clause-flags_safe : goal.returns-in-Some-Flags-clause-flags_safe
 returns-in-Some-Flags-clause-flags_safe g c flags command read is = c.run.ensures.safe flags read is
@@ -106,7 +106,7 @@ pub returns-in-Some-BoundsFlags-clause-unread : goal.returns-in-Some-BoundsFlags
 returns-in-Some-BoundsFlags-clause-unread g c reply is =
     let words : List (List ℕ) = map string_bytes c.args.words.now.items in
     let found : Some BoundsFlags ≡ command_of words = ap Some (sym c.in-Some-BoundsFlags.field-0-is) ∙ sym c.in-Some-BoundsFlags.is ∙ c.command_in.ensures in
-    (refl, refl, ends-said words (Some BoundsFlags) (bounds_flags.answer_to (behind words)) reply (g.K.Sink.taken c.args.sink.now) (g.K.Sink.taken c.run-2.new.sink) c.run-2.result found refl is (c.run-2.ensures.text []))
+    (refl, refl, ends-said words (Some BoundsFlags) (bounds_flags.answer_to (behind words)) reply (g.K.Sink.taken c.args.sink.now) (g.K.Sink.taken c.run-in-Some-BoundsFlags.new.sink) c.run-in-Some-BoundsFlags.result found refl is (c.run-in-Some-BoundsFlags.ensures.text []))
 
 pub returns-in-Some-Asks-clause-unread : goal.returns-in-Some-Asks-clause-unread
 returns-in-Some-Asks-clause-unread g c reply is =
