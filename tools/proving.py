@@ -1,5 +1,7 @@
 """One crate's proof over libraries that are kept: where each library below it comes from, and what the prover is called with."""
+import functools
 import hashlib
+import importlib.util
 import os
 import re
 import shutil
@@ -23,11 +25,28 @@ def kit():
     return os.path.dirname(subprocess.run(['rt', 'doc'], capture_output=True, text=True, check=True).stdout.split()[0])
 
 
+@functools.cache
+def rtlib():
+    """The kit's module by which `rt` itself decides whether a library is of its sources, or None where there is no kit, or it has none such."""
+    try:
+        path = os.path.join(kit(), 'bin', 'rtlib.py')
+        spec = importlib.util.spec_from_file_location('rtlib', path)
+        module = importlib.util.module_from_spec(spec)
+        spec.loader.exec_module(module)
+    except (OSError, subprocess.CalledProcessError, ImportError, SyntaxError):
+        return None
+    if not hasattr(getattr(module, 'Crate', None), 'is_built'):
+        return None
+    # A crate's sum is made of those of all below, each of which is asked for once.
+    module.Crate.stamp = functools.cache(module.Crate.stamp)
+    return module
+
+
 class Checkout:
     """A checkout of this repository with what is kept in its crates' out/ folders."""
 
     def __init__(self, top=TOP):
-        self.top, self.crates, self.stamps = os.path.abspath(top), Crates.of(top), {}
+        self.top, self.crates, self.stamps, self.of_rt = os.path.abspath(top), Crates.of(top), {}, {}
 
     def folder(self, name):
         return os.path.join(self.top, 'crates', name)
@@ -57,6 +76,10 @@ class Checkout:
                 folders.sort()
                 yield from (os.path.join(folder, file) for file in sorted(files))
 
+    def forget(self):
+        """Sums are made anew, since sources may have changed."""
+        self.stamps, self.of_rt = {}, {}
+
     def stamp(self, name):
         """A sum over the sources of the crate and of all that it stands on."""
         if name not in self.stamps:
@@ -79,6 +102,21 @@ class Checkout:
             return False
         with open(self.note(name), encoding='utf-8') as file:
             return file.read() == self.stamp(name)
+
+    def is_by_rt(self, name):
+        """Whether `rt run`, `rt check` or `rt lib` made the library of just these sources: by the sum that they left beside it, which the kit's own
+        module compares. What the gate `rt ci` proves has none, and isn't kept."""
+        if not self.has_library(name) or not os.path.exists(os.path.join(os.path.dirname(self.library(name)), 'stamp')):
+            return False
+        module = rtlib()
+        try:
+            return module is not None and module.Crate(self.folder(name), self.top, self.of_rt).is_built()
+        except (Exception, SystemExit):  # a kit whose module wants something else
+            return False
+
+    def is_kept(self, name):
+        """Whether the library can be told to be of just these sources, by the note of prove-one or by rt's own sum."""
+        return self.is_noted(name) or self.is_by_rt(name)
 
     def is_newer(self, name):
         """Whether the library was put in its place after each change of a source of it or of a crate below."""
@@ -109,7 +147,7 @@ class Shelf:
             if checkout is None or name not in checkout.crates.uses or checkout.stamp(name) != self.own.stamp(name):
                 continue
             # What rt made fits only the libraries beside it; what prove-one made is noted with the sums of all below.
-            if below <= {checkout} and (checkout.is_noted(name) or checkout.is_newer(name)):
+            if below <= {checkout} and (checkout.is_kept(name) or checkout.is_newer(name)):
                 return checkout
         return self.own if None not in below and self.own.is_noted(name) else None
 
@@ -186,7 +224,7 @@ class Prover:
         os.makedirs(os.path.dirname(library))
         if os.path.exists(note):
             os.remove(note)
-        self.own.stamps.clear()
+        self.own.forget()
         stamp = self.own.stamp(name)
         status = self.run('build', name, ['--statements', '-o', library, '--empty-contracts'])
         if status == 0:

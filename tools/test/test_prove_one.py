@@ -201,6 +201,41 @@ class OfShelves(unittest.TestCase):
         os.utime(self.own.library('low'), (1, 1))
         self.assertEqual(proving.Shelf(self.own).from_source('mid'), [])
 
+    def not_proved_again(self):
+        """The crates that tools/prove-all leaves alone."""
+        write(TABLE, self.own.top, 'docs', 'gate.md')
+        own = proving.Checkout(self.own.top)
+        return script('prove-all').Queue(own, own.crates.names, 2).kept
+
+    def kept_by_rt(self, name):
+        """A library with rt's own sum beside it, as `rt lib` leaves it."""
+        keep(self.own, name, noted=False)
+        of_rt = proving.rtlib().Crate(self.own.folder(name), self.own.top, {})
+        write(of_rt.stamp(), os.path.dirname(self.own.library(name)), 'stamp')
+
+    @unittest.skipUnless(shutil.which('rt'), 'needs rt')
+    def test_what_rt_left_is_taken_by_its_own_sum(self):
+        self.kept_by_rt('low')
+        self.kept_by_rt('mid')
+        change_later(self.own, 'low')
+        self.assertEqual(proving.Shelf(self.own).from_source('top'), ['other'])
+        self.assertEqual(self.not_proved_again(), {'low', 'mid'})
+
+    @unittest.skipUnless(shutil.which('rt'), 'needs rt')
+    def test_what_rt_left_of_other_sources_is_not_taken(self):
+        self.kept_by_rt('low')
+        self.kept_by_rt('mid')
+        write('// changed\n', self.own.folder('low'), 'src', 'lib.rt')
+        change_later(self.own, 'low')
+        self.assertEqual(proving.Shelf(proving.Checkout(self.own.top)).from_source('top'), ['low', 'mid', 'other'])
+        self.assertEqual(self.not_proved_again(), set())
+
+    @unittest.skipUnless(shutil.which('rt'), 'needs rt')
+    def test_a_library_of_rt_without_its_sum_counts_by_time_alone(self):
+        keep(self.own, 'low', noted=False)
+        self.assertFalse(self.own.is_by_rt('low'))
+        self.assertEqual(self.not_proved_again(), set())
+
     def test_another_checkout_serves_where_all_is_equal(self):
         other = make(os.path.join(self.room.name, 'other'))
         for name in ('low', 'mid', 'other'):

@@ -15,7 +15,7 @@ use naming_laws::deeds_are_writable;
 use replay_top::process_names;
 use script_reader::{Document, lease_premise, read_document};
 use std::alloc::Global;
-use trace_writer::{Settings1, WriteFault, write_deed, write_first};
+use trace_writer::{FirstLine, WriteFault, write_deed, write_first};
 use world_core::deeds_of;
 use zone_state::{Policies, full, partial};
 
@@ -70,7 +70,7 @@ fn write_lines(
     requires named { IsWellNamed document.now.names (doc_of document.now) }
     requires writable { All (IsWritable document.now.names (processes (doc_of document.now))) deeds.now }
 {
-    let settings = Settings1 {
+    let settings = FirstLine {
         beat_millis: document.settings.beat_millis,
         end: document.settings.end_beat,
     };

@@ -1,3 +1,4 @@
+-- For callers: other crates cite Between, Others, Starting. Nothing else is cited from outside.
 pub mod Cursors
 pub mod Syncing
 pub mod Passing

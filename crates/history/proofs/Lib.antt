@@ -1,2 +1,3 @@
+-- For callers: other crates cite Due, Pauses.
 pub mod Due
 pub mod Pauses

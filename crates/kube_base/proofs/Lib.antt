@@ -1,3 +1,4 @@
+-- For callers: other crates cite NameLemmas, TimeTexts. Nothing else is cited from outside.
 pub mod DayLemmas
 pub mod NameLemmas
 pub mod TimeTexts

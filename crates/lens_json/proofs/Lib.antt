@@ -1,2 +1,3 @@
+-- For callers: other crates cite CleanLaws. Nothing else is cited from outside.
 pub mod Below
 pub mod CleanLaws

@@ -1,3 +1,4 @@
+-- For callers: other crates cite Leased, Numbers. Nothing else is cited from outside.
 -- ---- numbers
 pub mod Bounds
 pub mod Positive

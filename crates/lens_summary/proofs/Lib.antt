@@ -1,3 +1,4 @@
+-- For callers: other crates cite StepLaws. Nothing else is cited from outside.
 -- ---- loops over lines, terms and cells
 pub mod StepLaws
 pub mod TableLaws

@@ -1,3 +1,4 @@
+-- For callers: other crates cite ShownLaws, SpanLaws. Nothing else is cited from outside.
 pub mod CutLaws
 pub mod ReadLaws
 pub mod ShownLaws

@@ -1,3 +1,4 @@
+-- For callers: other crates cite KeptLemmas, Loops, Places. Nothing else is cited from outside.
 pub mod FieldsBack
 pub mod HoldersBack
 pub mod KeptLemmas

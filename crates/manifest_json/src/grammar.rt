@@ -1,4 +1,5 @@
-// The grammars of names and of label values.
+// The grammars of names and of label values. `trace_lines` has a grammar of names too, and shares nothing with this one on purpose: the audit of a trace
+// shares no code with what reads documents and writes traces, so that a fault here can't hide itself there.
 ghost use Rattle.std.specs.Prelude.{◌≡◌};
 ghost use Rattle.std.specs.List.{list_all};
 ghost use Rattle.manifest_json.specs.Fields as spec;

@@ -1,3 +1,4 @@
+-- For callers: other crates cite Frames. Nothing else is cited from outside.
 pub mod Frames
 pub mod Looks
 pub mod Nodes

@@ -28,7 +28,7 @@ use kube_base::{Beat, ListOf, Name, Names, NoMemory, Steps};
 use kube_objects::{Deed, Deeds};
 use script_reader::{Document, lease_premise};
 use std::alloc::Global;
-use trace_writer::{Settings1, WriteFault, write_deed, write_first};
+use trace_writer::{FirstLine, WriteFault, write_deed, write_first};
 use world_agenda::next_beat;
 use world_core::World;
 use zone_state::Policies;
@@ -93,7 +93,7 @@ fn start(
 fn add_first(alloc: Global, buffer: &mut Buffer, document: &Document) -> Result<(), NoMemory>
     ensures { OnOk result (buffer.new.text.items ≡ buffer.old.text.items ++ first_of (doc_of document.now)) }
 {
-    let settings = Settings1 {
+    let settings = FirstLine {
         beat_millis: document.settings.beat_millis,
         end: document.settings.end_beat,
     };

@@ -1,2 +1,3 @@
+-- For callers: other crates cite Endings. Nothing else is cited from outside.
 pub mod Inputs
 pub mod Endings

@@ -1,3 +1,4 @@
+-- For callers: other crates cite Aside, Judging, Takes, Telling, Viewing, Widen. Nothing else is cited from outside.
 pub mod Answering
 pub mod Aside
 pub mod Closing

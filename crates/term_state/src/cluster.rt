@@ -14,7 +14,7 @@ use kube_base::{NoMemory, Steps, Version};
 use kube_objects::{Key, Lease, Node, NumberList, Pod};
 use std::alloc::Global;
 use std::collections::BTreeSet;
-use watch_cache::{Cache, NotSynced, NotSynced2};
+use watch_cache::{Cache, ListFault, NotSynced};
 
 /// The cluster as a term sees it, and what follows from that: the nodes to untaint or swap, and when pods are due.
 ///
@@ -101,8 +101,8 @@ impl Cluster {
     {
         match self.cache.nodes() {
             Ok(names) => Ok(names),
-            Err(NotSynced2::NoMemory) => Err(NoMemory),
-            Err(NotSynced2::NotSynced) => Ok(NumberList::new(self.alloc)),
+            Err(ListFault::NoMemory) => Err(NoMemory),
+            Err(ListFault::NotSynced) => Ok(NumberList::new(self.alloc)),
         }
     }
 

@@ -13,7 +13,7 @@ use kube_base::{NoMemory, Steps};
 use kube_objects::{Due, Key, KeyList, Kind, Node};
 use node_taints::{Wants, has_condition, has_opposite, want_of};
 use taint_match::due;
-use watch_cache::NotSynced2;
+use watch_cache::ListFault;
 
 // Whether a node is untainted or swapped; `on` says whether the mode is.
 fn is_cleaned(on: bool, node: &Node) -> bool
@@ -125,8 +125,8 @@ impl Cluster {
     {
         match self.cache.pods_of(name, steps) {
             Ok(keys) => Ok(keys),
-            Err(NotSynced2::NoMemory) => Err(NoMemory),
-            Err(NotSynced2::NotSynced) => Ok(KeyList::new(self.alloc)),
+            Err(ListFault::NoMemory) => Err(NoMemory),
+            Err(ListFault::NotSynced) => Ok(KeyList::new(self.alloc)),
         }
     }
 

@@ -1,4 +1,5 @@
-// The small parts of a trace's lines: words, numbers, names and labels.
+// The small parts of a trace's lines: words, numbers, names and labels. `manifest_json` has a grammar of names too, and this one shares nothing with it
+// on purpose: the audit of a trace shares no code with what reads documents and writes traces, so that a fault there can't hide itself here.
 ghost use Rattle.std.specs.Prelude.{◌≡◌, ◌<◌, ◌≤◌, ◌^◌, ◌+◌, ◌*◌, Some, None, MatchOption, IfSome, length, position, ◌==◌};
 ghost use Rattle.std.specs.List.{list_all};
 ghost use Rattle.std.specs.Str.{bytes_eq};

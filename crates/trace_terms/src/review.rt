@@ -1,4 +1,14 @@
 // The terms of a trace, looked at from its last line to its first.
+//
+//     line 1 .. line k          lines that were not taken yet
+//     line k+1 .. last line     Review: what was found in these
+//                                 actors: Roll       host-a_1, host-b_1, ..: each identity once, the last one of the trace first
+//                                 seats: Vec<Seat>   for the identity at the same place of `actors`: where a span that begins now would end,
+//                                                    its acting lines up to its next lead, its zones (a Roll too) and its taints
+//                                 nearest            the first span that follows, and the first of another identity
+//                                 findings           the first line at fault of each sort
+//
+// A line fills its identity's seat. A `lead` empties it, but for the span's end: what stood in it belongs to the term that begins there.
 ghost use Rattle.std.specs.Prelude.{◌≡◌, ℕ, ◌+◌, ◌<◌, ◌≤◌, ◌^◌, List, [], ◌∷◌, length, slice_get, Some, OnOk, IfOk};
 ghost use Rattle.trace_terms.specs.Entries.{Entry, played};
 ghost use Rattle.trace_terms.specs.Findings.{least, outside};

@@ -20,7 +20,7 @@ use Rattle.kube_objects.specs.declared.node.ZoneState.{ZoneState}
 use Rattle.kube_objects.specs.declared.node.ZoneState.TheVariants as state
 use Rattle.kube_objects.specs.Keys.{key_eq}
 use Rattle.kube_objects.specs.Stored.{election}
-use Rattle.trace_writer.specs.declared.writing.Settings1.{Settings1}
+use Rattle.trace_writer.specs.declared.writing.FirstLine.{FirstLine}
 use Rattle.trace_writer.specs.Names.{text_of}
 
 -- the script, or an identity: the process's name with its incarnation
@@ -141,5 +141,5 @@ abbrev pub premise_text : Bool → List ℕ
 premise_text true = codes " premise=yes\n"
 premise_text false = codes " premise=no\n"
 
-unfoldable pub first_line : Settings1 → Bool → List ℕ
+unfoldable pub first_line : FirstLine → Bool → List ℕ
 first_line s premise = codes "trace 1 beat=" ++ decimal s.beat_millis ++ codes " end=" ++ decimal s.end.0 ++ premise_text premise

@@ -7,7 +7,7 @@ mod writing;
 
 pub use lines::premise_end;
 pub use texts::{add, add_number, name_of};
-pub use writing::{Settings1, WriteFault, write_deed, write_first};
+pub use writing::{FirstLine, WriteFault, write_deed, write_first};
 
 #[cfg(test)]
 mod tests;

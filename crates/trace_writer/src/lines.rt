@@ -5,7 +5,7 @@ ghost use Rattle.kube_objects.specs.Writable.{IsOneOf, IsWritable, IsWritableAct
 ghost use Rattle.trace_writer.specs.Lines as spec;
 
 use crate::texts::{add, add_number, add_time, name_of, process_of};
-use crate::writing::Settings1;
+use crate::writing::FirstLine;
 use kube_base::{NOT_READY, Name, Names, NoMemory, Version, Wall};
 use kube_objects::{Act, Actor, Answer, Deed, Key, Kind, ReadyStatus, ZoneState};
 use std::alloc::Global;
@@ -14,7 +14,7 @@ use std::alloc::Global;
 #[tactic(auto, unfolding(crate::specs::Lines::first_line))]
 pub(crate) fn add_first(
     text: &mut Vec<u8>,
-    settings: &Settings1,
+    settings: &FirstLine,
     premise: bool,
 ) -> Result<(), NoMemory>
     ensures { OnOk result (text.new.items ≡ text.old.items ++ spec.first_line settings.now premise) }

@@ -2,14 +2,14 @@
 ghost use Rattle.std.specs.Prelude.{◌≡◌, length};
 ghost use Rattle.kube_base.specs.Names.{fixed_names};
 
-use crate::{Settings1, WriteFault, write_deed, write_first};
+use crate::{FirstLine, WriteFault, write_deed, write_first};
 use byte_edge::MemSink;
 use kube_base::{Beat, Name, Names, ProcId, Version, Wall};
 use kube_objects::{Act, Actor, Answer, Deed, Key, Kind};
 use std::alloc::Global;
 use std::test::Fail;
 
-const SETTINGS: Settings1 = Settings1 {
+const SETTINGS: FirstLine = FirstLine {
     beat_millis: 100,
     end: Beat(204),
 };

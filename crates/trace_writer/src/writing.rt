@@ -22,7 +22,7 @@ pub enum WriteFault {
 
 /// What the first line tells of a document: a beat's length in milliseconds, and the last beat.
 #[derive(Clone, Copy, Debug, PartialEq, Eq)]
-pub struct Settings1 {
+pub struct FirstLine {
     pub beat_millis: u32,
     pub end: Beat,
 }
@@ -34,7 +34,7 @@ const USUAL: usize = 128;
 pub fn write_first<K: Sink>(
     alloc: Global,
     sink: &mut K,
-    settings: &Settings1,
+    settings: &FirstLine,
     premise: bool,
 ) -> Result<(), WriteFault>
     ensures all { OnOk result (Gives (K.taken sink.old) (K.taken sink.new) (first_line settings.now premise)) }
@@ -81,7 +81,7 @@ fn give<K: Sink>(sink: &mut K, line: &[u8]) -> Result<(), WriteFault>
     }
 }
 
-fn first(alloc: Global, settings: &Settings1, premise: bool) -> Result<Vec<u8>, NoMemory>
+fn first(alloc: Global, settings: &FirstLine, premise: bool) -> Result<Vec<u8>, NoMemory>
     ensures { IfOk result (λ line. line.items ≡ first_line settings.now premise) }
 {
     let mut text = Vec::with_capacity(alloc, USUAL)?;

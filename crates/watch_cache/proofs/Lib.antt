@@ -1,3 +1,4 @@
+-- For callers: other crates cite Frames, Same, Syncs, Ticks. Nothing else is cited from outside.
 pub mod Frames
 pub mod IndexLaws
 pub mod Lists

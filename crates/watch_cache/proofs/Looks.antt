@@ -9,8 +9,8 @@ use Rattle.kube_objects.specs.Newest.{has}
 use Rattle.kube_objects.specs.Seen.{seen, seen_node, seen_pod, is_synced, pod_in}
 use Rattle.kube_objects.specs.Stored.{Held, node_key}
 use Rattle.watch_cache.specs.declared.cache.Cache.{Cache}
-use Rattle.watch_cache.specs.declared.faults.NotSynced2.{NotSynced2}
-use Rattle.watch_cache.specs.declared.faults.NotSynced2.TheVariants as list_fault
+use Rattle.watch_cache.specs.declared.faults.ListFault.{ListFault}
+use Rattle.watch_cache.specs.declared.faults.ListFault.TheVariants as list_fault
 use Rattle.watch_cache.specs.Kept.{kept, of_kind, is_node_in, is_pod_in, is_on}
 use Rattle.watch_cache.specs.Stands.{CacheStands, kept_in, synced_in}
 use Rattle.watch_cache.specs.Told.{AreListed, AreNamed, Lists, if_synced}
@@ -44,18 +44,18 @@ pod_seen n (Some x) = by_object x.object
     by_object (object.Lease lease) = refl
     by_object (object.Pod pod) = refl
 
-listed_also : {A : Type 0} (P Q : A → Type 0) (a b : Bool) (r : Result A NotSynced2) → a ≡ b → ((x : A) → P x → Q x) → Lists a P r → Lists b Q r
+listed_also : {A : Type 0} (P Q : A → Type 0) (a b : Bool) (r : Result A ListFault) → a ≡ b → ((x : A) → P x → Q x) → Lists a P r → Lists b Q r
 listed_also P Q a b (Ok list) same more l = (sym same ∙ l.0, more list l.1)
 listed_also P Q a b (Err list_fault.NotSynced) same more l = sym same ∙ l
 listed_also P Q a b (Err list_fault.NoMemory) same more l = tt
 
-pub nodes_answered : (q : Identity) (h : List Entry) (c : Cache) (r : Result (List ℕ) NotSynced2) → CacheStands q h c → Lists (synced_in c) (AreNamed (λ n. is_node_in (kept_in c (node_key n)))) r
+pub nodes_answered : (q : Identity) (h : List Entry) (c : Cache) (r : Result (List ℕ) ListFault) → CacheStands q h c → Lists (synced_in c) (AreNamed (λ n. is_node_in (kept_in c (node_key n)))) r
     → Lists (is_synced q h) (AreNamed (λ n. has (seen_node q n h))) r
 nodes_answered q h c r s =
     listed_also (AreNamed (λ n. is_node_in (kept_in c (node_key n)))) (AreNamed (λ n. has (seen_node q n h))) (synced_in c) (is_synced q h) r s.synced
     (λ names l. record { ascend = l.ascend; named = λ n. l.named n ∙ ap is_node_in (s.objects (node_key n)) ∙ node_seen (seen q (node_key n) h) })
 
-pub pods_answered : (q : Identity) (h : List Entry) (c : Cache) (n : ℕ) (r : Result (List Key) NotSynced2) → CacheStands q h c → Lists (synced_in c) (AreListed (λ k. is_pod_in n (kept_in c k))) r
+pub pods_answered : (q : Identity) (h : List Entry) (c : Cache) (n : ℕ) (r : Result (List Key) ListFault) → CacheStands q h c → Lists (synced_in c) (AreListed (λ k. is_pod_in n (kept_in c k))) r
     → Lists (is_synced q h) (AreListed (λ k. is_on n (seen_pod q k h))) r
 pods_answered q h c n r s =
     listed_also (AreListed (λ k. is_pod_in n (kept_in c k))) (AreListed (λ k. is_on n (seen_pod q k h))) (synced_in c) (is_synced q h) r s.synced

@@ -8,8 +8,8 @@ use Rattle.kube_objects.specs.declared.key.Key.{Key}
 use Rattle.kube_objects.specs.Feeds.{is_among}
 use Rattle.kube_objects.specs.Keys.{key_cmp}
 use Rattle.watch_cache.specs.declared.faults.NotSynced.{NotSynced}
-use Rattle.watch_cache.specs.declared.faults.NotSynced2.{NotSynced2}
-use Rattle.watch_cache.specs.declared.faults.NotSynced2.TheVariants as list_fault
+use Rattle.watch_cache.specs.declared.faults.ListFault.{ListFault}
+use Rattle.watch_cache.specs.declared.faults.ListFault.TheVariants as list_fault
 use Rattle.watch_cache.specs.Listed.{is_named}
 
 -- what is found, where there was a sync
@@ -37,7 +37,7 @@ pub record AreListed (test : Key → Bool) (keys : List Key) : Type 0 where
   pub listed : (key : Key) → is_among keys key ≡ test key
 
 -- where there was a sync a list of which this holds, and else none; or memory ran out
-abbrev pub Lists : {A : Type 0} → Bool → (A → Type 0) → Result A NotSynced2 → Type 0
+abbrev pub Lists : {A : Type 0} → Bool → (A → Type 0) → Result A ListFault → Type 0
 Lists synced holds (Ok list) = (synced ≡ true) × holds list
 Lists synced holds (Err list_fault.NotSynced) = synced ≡ false
 Lists synced holds (Err list_fault.NoMemory) = Unit {0}

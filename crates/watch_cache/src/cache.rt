@@ -9,7 +9,7 @@ ghost use Rattle.kube_objects.specs.Seen as seen_words;
 ghost use Rattle.kube_objects.specs.Stored as stored_words;
 
 use crate::objects::Objects;
-use crate::{NotSynced, NotSynced2};
+use crate::{ListFault, NotSynced};
 use kube_base::{NoMemory, Steps, Version};
 use kube_objects::{Changed, Key, KeyList, Kind, Lease, Node, NumberList, Object, Pod};
 use std::alloc::Global;
@@ -160,34 +160,34 @@ impl Cache {
     }
 
     /// The names of the nodes, each once and in order. `NotSynced` before the first sync.
-    pub fn nodes(&self) -> Result<NumberList, NotSynced2>
+    pub fn nodes(&self) -> Result<NumberList, ListFault>
         ensures kept { Lists (synced_in self.now) (AreNamed (λ n. is_node_in (kept_in self.now (stored_words.node_key n)))) result }
         ensures answer { (q : Identity) (h : List Entry) → CacheStands q h self.now
             → Lists (seen_words.is_synced q h) (AreNamed (λ n. has (seen_node q n h))) result }
     {
         if !self.synced {
-            return Err(NotSynced2::NotSynced);
+            return Err(ListFault::NotSynced);
         }
         match self.objects.nodes() {
             Ok(names) => Ok(names),
-            Err(NoMemory) => Err(NotSynced2::NoMemory),
+            Err(NoMemory) => Err(ListFault::NoMemory),
         }
     }
 
     /// The keys of the pods on the node of that name, each once and in order; 0 is the name of no node, and gives the pods
     /// without one. `NotSynced` before the first sync. Each key counts a step.
-    pub fn pods_of<L>(&self, node: u32, steps: &mut Steps<L>) -> Result<KeyList, NotSynced2>
+    pub fn pods_of<L>(&self, node: u32, steps: &mut Steps<L>) -> Result<KeyList, ListFault>
         ensures kept { Lists (synced_in self.now) (AreListed (λ k. is_pod_in node (kept_in self.now k))) result }
         ensures counted { IfOk result (λ keys. steps.new ≡ counted steps.old (length keys)) }
         ensures answer { (q : Identity) (h : List Entry) → CacheStands q h self.now
             → Lists (seen_words.is_synced q h) (AreListed (λ k. is_on node (seen_pod q k h))) result }
     {
         if !self.synced {
-            return Err(NotSynced2::NotSynced);
+            return Err(ListFault::NotSynced);
         }
         match self.objects.pods_of(node, steps) {
             Ok(keys) => Ok(keys),
-            Err(NoMemory) => Err(NotSynced2::NoMemory),
+            Err(NoMemory) => Err(ListFault::NoMemory),
         }
     }
 

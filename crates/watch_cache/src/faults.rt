@@ -6,7 +6,7 @@ pub struct NotSynced;
 
 /// Why a list isn't given: the term has had no sync yet, or memory was wanting.
 #[derive(Clone, Copy, Debug, PartialEq, Eq)]
-pub enum NotSynced2 {
+pub enum ListFault {
     NotSynced,
     NoMemory,
 }

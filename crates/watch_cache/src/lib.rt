@@ -9,7 +9,7 @@ mod objects;
 mod taint_changes;
 
 pub use cache::Cache;
-pub use faults::{NotSynced, NotSynced2};
+pub use faults::{ListFault, NotSynced};
 
 #[cfg(test)]
 mod tests;

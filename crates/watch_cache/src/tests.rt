@@ -1,5 +1,5 @@
 // The cache's calls.
-use crate::{Cache, NotSynced, NotSynced2};
+use crate::{Cache, ListFault, NotSynced};
 use kube_base::{ListOf, Steps, Version};
 use kube_objects::{Changed, Holder, Key, KeyList, Kind, Lease, Node, Object, Pod};
 use std::alloc::Global;
@@ -75,7 +75,7 @@ fn answers_nothing_before_its_first_sync(rt: HostRuntime) -> Result<(), Fail> {
     let lease = key(Kind::Lease, 10);
     assert!(rt; matches!(cache.node(10), Err(NotSynced)));
     assert!(rt; matches!(cache.lease(&lease), Err(NotSynced)));
-    assert!(rt; matches!(cache.nodes(), Err(NotSynced2::NotSynced)));
+    assert!(rt; matches!(cache.nodes(), Err(ListFault::NotSynced)));
     assert!(rt; pods(&cache, 10, &mut steps).is_none());
     cache.set_stale(lease)?;
     assert!(rt; cache.is_stale(&lease));

@@ -1,3 +1,5 @@
+-- For callers: other crates cite Acting, Forces, Grows, Lives, Names, Plainly, Processes, Readings, Restarts, Scripted, Wakes. Nothing else is cited
+--   from outside.
 -- ---- numbers, names and single entries
 pub mod Names
 pub mod Unheard

@@ -3,7 +3,7 @@ use Rattle.history_laws.proofs.Plainly.{false_is}
 use Rattle.kube_objects.specs.Seen.{is_synced, seen_pod}
 use Rattle.watch_cache.specs.Kept.{is_on}
 use Rattle.watch_cache.specs.Told.{AreListed, Lists}
-use Rattle.watch_cache.specs.declared.faults.NotSynced2.TheVariants as list_fault
+use Rattle.watch_cache.specs.declared.faults.ListFault.TheVariants as list_fault
 use Rattle.term_state.proofs.cluster.Cluster.pods_of.Goals as goal
 
 pub returns-in-Err-NotSynced-clause-counted : goal.returns-in-Err-NotSynced-clause-counted
