@@ -134,7 +134,7 @@ ROWS = [
     Row('hostile-damaged', ['bench/hostile/damaged.py', '--count', '2000'], [REPLAY], 10),
     Row('hostile-memory', ['bench/hostile/memory.py', '--part', 'calls'], [REPLAY, COMPILER], 60),
     Row('hostile-space', ['bench/hostile/memory.py', '--part', 'space'], [REPLAY], None),
-    Row('hostile-worst', ['bench/hostile/worst.py'], [REPLAY], None),
+    Row('hostile-worst', ['bench/hostile/worst.py'], [REPLAY], 250),
     test('package', [ROOT, REPLAY, LENS, program('dpkg-deb', 'dpkg'), program('mmdebstrap', 'mmdebstrap'), program('man', 'man-db'),
                      program('lintian', 'lintian'), MKDOCS], None),
 ]
