@@ -1,2 +1,4 @@
+pub mod Wishes
 pub mod Plans
-pub mod Search
+pub mod Greatest
+pub mod Searches

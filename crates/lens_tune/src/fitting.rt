@@ -1,16 +1,20 @@
 // Whether a plan fits.
 ghost use Rattle.std.specs.Prelude.{◌≡◌, ◌*◌, ◌≤◌};
-ghost use Rattle.lens_bounds.specs.Elections.{IsCalm};
+ghost use Rattle.lens_bounds.specs.Elections as calm;
 ghost use Rattle.lens_tune.specs.Plans as spec;
-ghost use Rattle.lens_tune.specs.Plans.{IsWish, IsSmall};
+ghost use Rattle.lens_tune.specs.Searches as part;
+ghost use Rattle.lens_tune.specs.Searches.{IsSmall};
+ghost use Rattle.lens_tune.specs.Wishes as wish;
+ghost use Rattle.lens_tune.specs.Wishes.{IsWish};
 
 use crate::plan::Plan;
 use crate::wish::{Timeout, Wish};
 use kube_objects::{Proc, ReadyStatus};
-use lens_bounds::{Calm, crash_most, stays_by};
+use lens_bounds::{Calm, crash_most};
 
-fn timeout_by(timeout: Timeout, renew: u32) -> u32
-    ensures { result ≡ spec.timeout_by timeout renew }
+/// How long a call waits for its reply, by the renew deadline, in milliseconds.
+pub fn timeout_by(timeout: Timeout, renew: u32) -> u32
+    ensures { result ≡ wish.timeout_by timeout renew }
 {
     match timeout {
         Timeout::RenewDeadline => renew,
@@ -19,19 +23,20 @@ fn timeout_by(timeout: Timeout, renew: u32) -> u32
     }
 }
 
-fn wait_by(w: Wish, retry: u32) -> u32
+/// The longest wait of a candidate between two attempts, in milliseconds.
+pub fn wait_by(w: Wish, p: Plan) -> u32
     requires wish { IsWish w }
-    requires retry { retry ≤ 600000 }
-    ensures { result ≡ spec.wait_by w retry }
+    requires plan { IsSmall p }
+    ensures { result ≡ wish.wait_of w p }
 {
-    (retry * w.wait_tenths).div_ceil(10)
+    p.retry_tenths * w.wait_percent
 }
 
-fn calm_of(w: Wish, retry: u32) -> Calm
+fn calm_of(w: Wish, p: Plan) -> Calm
     requires wish { IsWish w }
-    requires retry { retry ≤ 600000 }
-    ensures is { result ≡ spec.calm_of w retry }
-    ensures calm { IsCalm result }
+    requires plan { IsSmall p }
+    ensures is { result ≡ wish.calm_of w p }
+    ensures calm { calm.IsCalm result }
 {
     let micros = u64::from(w.beat_millis) * 1000;
     Calm {
@@ -40,14 +45,15 @@ fn calm_of(w: Wish, retry: u32) -> Calm
         far: w.delay_millis.div_ceil(w.beat_millis),
         slow: micros * u64::from(1_000_000 - w.skew_ppm),
         fast: micros * u64::from(1_000_000 + w.skew_ppm),
-        wait_millis: Some(wait_by(w, retry)),
+        wait_millis: Some(wait_by(w, p)),
         fast_renew: false,
     }
 }
 
-fn proc_of(w: Wish, p: Plan) -> Proc
-    requires { IsWish w }
-    ensures { result ≡ spec.proc_of w p }
+fn controller_of(w: Wish, p: Plan) -> Proc
+    requires wish { IsWish w }
+    requires plan { IsSmall p }
+    ensures { result ≡ wish.controller_of w p }
 {
     Proc {
         name: 0,
@@ -57,29 +63,39 @@ fn proc_of(w: Wish, p: Plan) -> Proc
         watch: true,
         ready: ReadyStatus::True,
         lease_seconds: p.lease_seconds,
-        renew_millis: p.renew_millis,
-        retry_millis: p.retry_millis,
-        timeout_millis: timeout_by(w.timeout, p.renew_millis),
+        renew_millis: p.renew_tenths * 100,
+        retry_millis: p.retry_tenths * 100,
+        timeout_millis: timeout_by(w.timeout, p.renew_tenths * 100),
     }
 }
 
-fn starts(p: Plan) -> bool
-    ensures { result ≡ spec.starts p }
+/// So many milliseconds after a crash somebody else leads at the latest. Takes no memory.
+pub fn bound(w: Wish, p: Plan) -> u128
+    requires wish { IsWish w }
+    requires plan { IsSmall p }
+    ensures is { result ≡ spec.bound w p }
+    ensures few { result ≤ 100000000000000000000000000000000000000 }
 {
-    u64::from(p.renew_millis) < u64::from(p.lease_seconds) * 1000
-        && 6 * u64::from(p.retry_millis) < 5 * u64::from(p.renew_millis)
+    let controller = controller_of(w, p);
+    crash_most(calm_of(w, p), controller, controller) * u128::from(w.beat_millis)
 }
 
-fn stalled(w: Wish) -> u64
+pub(crate) fn soon(w: Wish, p: Plan) -> bool
+    requires wish { IsWish w }
+    requires plan { IsSmall p }
+    ensures { result ≡ spec.soon w p }
+{
+    bound(w, p) <= u128::from(w.failover_millis)
+}
+
+/// The beats that a pause for a whole stall can add.
+fn stalled(w: Wish) -> u128
     requires { IsWish w }
-    ensures is { result ≡ spec.stalled w }
+    ensures is { result ≡ part.pauses w }
     ensures few { result ≤ 4294967296 }
 {
-    if w.stall_millis > 0 {
-        u64::from(w.stall_millis.div_ceil(w.beat_millis)) + 1
-    } else {
-        0
-    }
+    let beats = w.stall_millis.div_ceil(w.beat_millis);
+    if beats > 0 { u128::from(beats) + 1 } else { 0 }
 }
 
 fn safe(w: Wish, p: Plan) -> bool
@@ -89,36 +105,59 @@ fn safe(w: Wish, p: Plan) -> bool
 {
     let slow = u128::from(1_000_000 - w.skew_ppm);
     let fast = u128::from(1_000_000 + w.skew_ppm);
-    let paused = u128::from(stalled(w)) * (u128::from(w.beat_millis) * 1000 * fast) * slow;
-    let acting = u128::from(timeout_by(w.timeout, p.renew_millis))
-        + u128::from(p.retry_millis)
-        + u128::from(p.renew_millis);
-    paused + acting * 1_000_000_000 * fast < u128::from(p.lease_seconds) * 1_000_000_000_000 * slow
+    let still = stalled(w) * (u128::from(w.beat_millis) * 1000 * fast) * slow;
+    let acting = u128::from(timeout_by(w.timeout, p.renew_tenths * 100))
+        + u128::from(p.retry_tenths) * 100
+        + u128::from(p.renew_tenths) * 100;
+    still + acting * 1_000_000_000 * fast < u128::from(p.lease_seconds) * 1_000_000_000_000 * slow
 }
 
-/// So many milliseconds after a crash somebody else leads at the latest.
-pub fn bound(w: Wish, p: Plan) -> u128
-    requires wish { IsWish w }
-    requires plan { IsSmall p }
-    ensures { result ≡ spec.bound w p }
+#[tactic(auto, unfolding(kube_objects::specs::Document::of_millis, kube_objects::specs::Document::of_seconds))]
+fn outlasts(c: Calm, p: Proc) -> bool
+    requires { calm.IsCalm c }
+    ensures { result ≡ calm.outlasts c p }
 {
-    let proc = proc_of(w, p);
-    crash_most(calm_of(w, p.retry_millis), proc, proc) * u128::from(w.beat_millis)
+    let retry = (u128::from(p.retry_millis) * 1_000_000_000).div_ceil(u128::from(c.slow));
+    let beats = (retry + 5 * u128::from(c.far)).saturating_sub(u128::from(c.near));
+    beats * u128::from(c.fast) < u128::from(p.lease_seconds) * 1_000_000_000_000
 }
 
-/// Whether kube-controller-manager starts with a plan, two leaders are ruled out by it, and a leader stays.
-pub fn holds(w: Wish, p: Plan) -> bool
-    requires wish { IsWish w }
-    requires plan { IsSmall p }
-    ensures { result ≡ spec.holds w p }
+#[tactic(auto, unfolding(kube_objects::specs::Document::of_millis))]
+fn replies_count(c: Calm, p: Proc) -> bool
+    ensures { result ≡ calm.replies_count c p }
 {
-    starts(p) && safe(w, p) && stays_by(calm_of(w, p.retry_millis), proc_of(w, p))
+    2 * u128::from(c.far) * u128::from(c.fast) <= u128::from(p.timeout_millis) * 1_000_000_000
 }
 
-pub fn soon(w: Wish, p: Plan) -> bool
+#[tactic(auto, unfolding(kube_objects::specs::Document::of_millis))]
+fn renews(c: Calm, p: Proc) -> bool
+    ensures { result ≡ calm.renews c p }
+{
+    4 * u128::from(c.far) * u128::from(c.fast) <= u128::from(p.renew_millis) * 1_000_000_000
+}
+
+/// Whether the renew deadline is long enough for the retry period and for the delays.
+pub(crate) fn is_enough(w: Wish, p: Plan) -> bool
     requires wish { IsWish w }
     requires plan { IsSmall p }
-    ensures { result ≡ spec.soon w p }
+    ensures { result ≡ part.is_enough w p }
 {
-    bound(w, p) <= u128::from(w.failover_millis)
+    let calm = calm_of(w, p);
+    let controller = controller_of(w, p);
+    6 * u64::from(controller.retry_millis) < 5 * u64::from(controller.renew_millis)
+        && replies_count(calm, controller)
+        && renews(calm, controller)
+}
+
+/// Whether the lease outlasts the renew deadline and all else that it has to.
+pub(crate) fn is_outlasted(w: Wish, p: Plan) -> bool
+    requires wish { IsWish w }
+    requires plan { IsSmall p }
+    ensures { result ≡ part.is_outlasted w p }
+{
+    let controller = controller_of(w, p);
+    controller.renew_millis < p.lease_seconds * 1000
+        && controller.timeout_millis <= 600_000
+        && safe(w, p)
+        && outlasts(calm_of(w, p), controller)
 }

@@ -19,11 +19,13 @@ pub struct Wish {
     pub timeout: Timeout,
     /// How far the rate of a clock may be off, in parts per million.
     pub skew_ppm: u32,
-    /// How many tenths of its retry period a candidate waits at most between two attempts.
-    pub wait_tenths: u32,
+    /// How long a candidate waits at most between two attempts, in hundredths of its retry period.
+    pub wait_percent: u32,
     /// How long a leader may stand still.
     pub stall_millis: u32,
     /// The greatest delay of a message, one way.
     pub delay_millis: u32,
+    /// The least retry period that is taken, in tenths of a second.
+    pub retry_tenths: u32,
     pub beat_millis: u32,
 }
