@@ -1,4 +1,4 @@
--- ---- texts
-pub mod Texts
+-- ---- members that are added to others
+pub mod Joins
 -- ---- how a run by flags ends
 pub mod Endings

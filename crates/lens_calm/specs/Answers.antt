@@ -8,7 +8,7 @@ use Rattle.run_edge.specs.Outcome.{Reply}
 use Rattle.run_edge.specs.declared.status.Verdict.TheVariants.{Usage}
 use Rattle.lens_json.specs.Members.{Named, object_of}
 use Rattle.lens_room.specs.FlagLaws.{holds}
-use Rattle.lens_room.specs.FlagReplies.{name_text, values_text, wrong_text, word_at}
+use Rattle.lens_room.specs.FlagReplies.{name_text, unknown_text, values_text, wrong_text, word_at}
 use Rattle.lens_room.specs.Replies.{verdict_of}
 use Rattle.lens_calm.specs.declared.fault.Fault.{Fault}
 use Rattle.lens_calm.specs.declared.fault.Fault.TheVariants.{Unknown, Alone, Value, Unruly, ShortWait, ShortDelay}
@@ -76,11 +76,8 @@ takes_text Rate = codes " takes nodes per 1,000 s up to 1000000, as 100, not "
 takes_text Ahead = codes " takes a number up to 1000000, as 3, not "
 takes_text Toleration = codes " takes whole seconds from 0s to 24h, as 300s, not "
 
-unfoldable pub stranger_text : List ℕ → List ℕ
-stranger_text word = codes "no such flag: " ++ word
-
 abbrev pub fault_text : List (List ℕ) → Fault → List ℕ
-fault_text words (Unknown place) = stranger_text (word_at words place)
+fault_text words (Unknown place) = unknown_text (word_at words place)
 fault_text words (Alone setting) = setting_text setting ++ codes " stands without a value"
 fault_text words (Value setting place) = setting_text setting ++ takes_text setting ++ word_at words place
 fault_text words (Unruly wrong) = wrong_text words wrong

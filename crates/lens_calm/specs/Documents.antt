@@ -78,17 +78,22 @@ abbrev pub gone_objects : Outage → List ℕ → List (List Named)
 gone_objects o [] = []
 gone_objects o (seconds ∷ more) = gone_members seconds (until_gone o seconds) ∷ gone_objects o more
 
-abbrev pub spread_members : Calm → List Named
+unfoldable pub spread_members : Calm → List Named
 spread_members c =
     nat (codes "beatMillis") c.beat_millis ∷ nat (codes "leastDelayMillis") (c.near * c.beat_millis) ∷ nat (codes "delayMillis") (c.far * c.beat_millis) ∷ []
 
-abbrev pub nodes_members : Outage → List ℕ → List Named
-nodes_members o seconds = node_members 0 (until_unknown o) (until_tainted o) ++ (codes "gone", list_of (gone_objects o seconds)) ∷ []
+abbrev pub gone_list : Outage → List ℕ → List Named
+gone_list o seconds = (codes "gone", list_of (gone_objects o seconds)) ∷ []
+
+unfoldable pub nodes_members : Outage → List ℕ → List Named
+nodes_members o seconds = node_members 0 (until_unknown o) (until_tainted o) ++ gone_list o seconds
+
+unfoldable pub leaders_members : Document → List Named
+leaders_members d = (codes "controllers", list_of (members_below d (length d.controllers))) ∷ []
 
 abbrev pub document_members : Document → Bool → List Named
 document_members d safe =
-    spread_members (calm_of (doc_of d)) ++ (codes "controllers", list_of (members_below d (length d.controllers)))
-    ∷ (nodes_members (outage_of (doc_of d)) (times_in d) ++ end_members (stays_in d) safe)
+    spread_members (calm_of (doc_of d)) ++ leaders_members d ++ nodes_members (outage_of (doc_of d)) (times_in d) ++ end_members (stays_in d) safe
 
 unfoldable pub document_json : Document → Bool → List ℕ
 document_json d safe = compact_text (object_of (document_members d safe)) ++ codes "\n"

@@ -16,6 +16,10 @@ use Rattle.lens_calm.specs.Settings.{near_of, far_of}
 unfoldable pub millis_text : List ℕ → ℕ → List ℕ
 millis_text label n = label ++ decimal n ++ codes "ms"
 
+-- or seconds
+unfoldable pub seconds_text : List ℕ → ℕ → List ℕ
+seconds_text label n = label ++ decimal n ++ codes "s"
+
 abbrev pub most_if : Option ℕ → List ℕ
 most_if None = codes " none"
 most_if (Some n) = millis_text (codes " at-most=") n
@@ -39,8 +43,11 @@ abbrev pub marked_if : Option Marked → List ℕ
 marked_if None = codes " none"
 marked_if (Some m) = marked_text m
 
+unfoldable pub latest_text : Tainted → List ℕ
+latest_text t = millis_text (codes " at-most=") t.most ++ millis_text (codes " at-most-with-token=") t.with_token
+
 unfoldable pub tainted_text : Tainted → List ℕ
-tainted_text t = since_text t.least ++ millis_text (codes " at-most=") t.most ++ millis_text (codes " at-most-with-token=") t.with_token
+tainted_text t = since_text t.least ++ latest_text t
 
 abbrev pub tainted_if : Option Tainted → List ℕ
 tainted_if None = codes " none"
@@ -86,7 +93,7 @@ unfoldable pub tainted_line : ℕ → Option Tainted → List ℕ
 tainted_line ahead t = codes "node tainted ahead=" ++ decimal ahead ++ tainted_if t ++ codes "\n"
 
 unfoldable pub gone_line : ℕ → Option Tainted → List ℕ
-gone_line seconds t = codes "pods gone toleration=" ++ decimal seconds ++ codes "s" ++ tainted_if t ++ codes "\n"
+gone_line seconds t = seconds_text (codes "pods gone toleration=") seconds ++ tainted_if t ++ codes "\n"
 
 -- whether a leader stays
 abbrev pub stays_text : Bool → List ℕ

@@ -46,34 +46,34 @@ tainted_data (Some t) = object_of (tainted_members t)
 
 -- ---- flags
 
-abbrev pub taken_members : Settings → List Named
+unfoldable pub taken_members : Settings → List Named
 taken_members s =
     nat (codes "beatMillis") s.flags.beat_millis ∷ nat (codes "leastDelayMillis") (near_of s * s.flags.beat_millis)
     ∷ nat (codes "delayMillis") (far_of s * s.flags.beat_millis) ∷ nat (codes "skewPpm") s.flags.skew_ppm ∷ []
 
-abbrev pub timing_members : Settings → List Named
+unfoldable pub timing_members : Settings → List Named
 timing_members s =
     nat (codes "leaseMillis") (s.flags.lease_seconds * 1000) ∷ nat (codes "timeoutMillis") (timeout_of s.flags)
     ∷ (codes "timeoutIsRenewDeadline", boolean (is_renew_deadline s.flags.timeout_millis)) ∷ nat (codes "retryMillis") s.flags.retry_millis
     ∷ nat (codes "waitMillis") (unwrap_or s.wait_millis s.flags.retry_millis) ∷ []
 
-abbrev pub election_members : Election → List Named
+unfoldable pub election_members : Election → List Named
 election_members e =
     (codes "crash", span_data e.crash) ∷ (codes "stop", span_data e.stop) ∷ (codes "actsOnMillis", number_if e.acts_on)
     ∷ (codes "calmMillis", number_if e.leads) ∷ (codes "staysFromMillis", number_if e.stays_from) ∷ []
 
-abbrev pub node_members : ℕ → Option Marked → Option Tainted → List Named
+unfoldable pub node_members : ℕ → Option Marked → Option Tainted → List Named
 node_members ahead marked tainted = (codes "unknown", marked_data marked) ∷ nat (codes "ahead") ahead ∷ (codes "taint", tainted_data tainted) ∷ []
 
-abbrev pub pod_members : ℕ → Option Tainted → List Named
+unfoldable pub pod_members : ℕ → Option Tainted → List Named
 pod_members seconds gone = nat (codes "tolerationSeconds") seconds ∷ (codes "gone", tainted_data gone) ∷ []
 
-abbrev pub end_members : Bool → Bool → List Named
+unfoldable pub end_members : Bool → Bool → List Named
 end_members stays safe = (codes "stays", boolean stays) ∷ (codes "safe", boolean safe) ∷ []
 
 -- ---- documents
 
-abbrev pub leader_members : List ℕ → Election → List Named
+unfoldable pub leader_members : List ℕ → Election → List Named
 leader_members name e =
     text (codes "name") name ∷ (codes "crashLeastMillis", number_if (least_in e.crash)) ∷ (codes "crashMostMillis", number_if (most_in e.crash))
     ∷ (codes "stopLeastMillis", number_if (least_in e.stop)) ∷ (codes "stopMostMillis", number_if (most_in e.stop))
@@ -83,5 +83,5 @@ abbrev pub gone_numbers : Option Tainted → List Named
 gone_numbers None = (codes "leastMillis", null) ∷ (codes "mostMillis", null) ∷ (codes "mostWithTokenMillis", null) ∷ []
 gone_numbers (Some t) = tainted_members t
 
-abbrev pub gone_members : ℕ → Option Tainted → List Named
+unfoldable pub gone_members : ℕ → Option Tainted → List Named
 gone_members seconds gone = nat (codes "tolerationSeconds") seconds ∷ gone_numbers gone

@@ -10,7 +10,9 @@ ghost use Rattle.script_reader.specs.Walk.{document_walk};
 ghost use Rattle.lens_calm.specs.Documents as spec;
 
 use crate::document::stays_in;
-use crate::objects::{add_end, add_node, add_part, add_value, gone_members, leader_members};
+use crate::objects::{
+    add_all, add_part, end_parts, gone_members, leader_members, node_parts, part,
+};
 use crate::tolerated::times_of;
 use document_laws::documents_are_lawful;
 use kube_base::NoMemory;
@@ -66,32 +68,41 @@ fn parts<'a>(
     ensures { IfOk result (λ parts. map part_of parts.items ≡ spec.document_members document.now safe) }
 {
     let times = times_of(alloc, document)?;
-    let leaders = leaders_in(alloc, document)?;
-    let mut parts = Vec::new(alloc);
-    add_spread(&mut parts, calm_of(document))?;
-    add_part(&mut parts, b"controllers", What::List(leaders))?;
+    let mut parts = spread_parts(alloc, calm_of(document))?;
+    add_leaders(&mut parts, alloc, document)?;
     add_nodes(&mut parts, alloc, outage_of(document), &times)?;
-    add_end(&mut parts, stays, safe)?;
+    add_all(&mut parts, end_parts(alloc, stays, safe)?)?;
     Ok(parts)
 }
 
-fn add_spread<'a>(parts: &mut Vec<Part<'a>>, c: Calm) -> Result<(), NoMemory>
-    ensures { OnOk result (map part_of parts.new.items ≡ map part_of parts.old.items ++ spec.spread_members c) }
+#[tactic(auto, unfolding(crate::specs::Documents::spread_members))]
+fn spread_parts<'a>(alloc: Global, c: Calm) -> Result<Vec<Part<'a>>, NoMemory>
+    ensures { IfOk result (λ parts. map part_of parts.items ≡ spec.spread_members c) }
 {
     let beat = u64::from(c.beat_millis);
-    add_value(parts, b"beatMillis", Value::Number(beat))?;
-    add_value(
-        parts,
-        b"leastDelayMillis",
-        Value::Number(u64::from(c.near) * beat),
-    )?;
-    add_value(
-        parts,
-        b"delayMillis",
-        Value::Number(u64::from(c.far) * beat),
-    )
+    let parts = vec![in alloc;
+        part(b"beatMillis", Value::Number(beat)),
+        part(b"leastDelayMillis", Value::Number(u64::from(c.near) * beat)),
+        part(b"delayMillis", Value::Number(u64::from(c.far) * beat)),
+    ]?;
+    Ok(parts)
 }
 
+#[tactic(auto, unfolding(crate::specs::Documents::leaders_members))]
+fn add_leaders<'a>(
+    parts: &mut Vec<Part<'a>>,
+    alloc: Global,
+    document: &'a Document,
+) -> Result<(), NoMemory>
+    requires lawful { IsLawfulDoc (doc_of document.now) }
+    requires named { IsWellNamed document.now.names (doc_of document.now) }
+    ensures { OnOk result (map part_of parts.new.items ≡ map part_of parts.old.items ++ spec.leaders_members document.now) }
+{
+    let leaders = leaders_in(alloc, document)?;
+    add_part(parts, b"controllers", What::List(leaders))
+}
+
+#[tactic(auto, unfolding(crate::specs::Documents::nodes_members))]
 fn add_nodes<'a>(
     parts: &mut Vec<Part<'a>>,
     alloc: Global,
@@ -102,7 +113,8 @@ fn add_nodes<'a>(
     ensures { OnOk result (map part_of parts.new.items ≡ map part_of parts.old.items ++ spec.nodes_members o times.now) }
 {
     let gone = gone_objects(alloc, o, times)?;
-    add_node(parts, alloc, 0, until_unknown(o), until_tainted(o))?;
+    let nodes = node_parts(alloc, 0, until_unknown(o), until_tainted(o))?;
+    add_all(parts, nodes)?;
     add_part(parts, b"gone", What::List(gone))
 }
 

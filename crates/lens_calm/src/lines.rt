@@ -28,6 +28,16 @@ pub(crate) fn add_millis(text: &mut Vec<u8>, label: &[u8], millis: u128) -> Resu
     add(text, b"ms")
 }
 
+/// Adds a label and so many seconds.
+#[tactic(auto, unfolding(crate::specs::Lines::seconds_text))]
+fn add_seconds(text: &mut Vec<u8>, label: &[u8], seconds: u128) -> Result<(), NoMemory>
+    ensures { OnOk result (text.new.items ≡ text.old.items ++ spec.seconds_text label.now seconds) }
+{
+    add(text, label)?;
+    add_decimal(text, seconds)?;
+    add(text, b"s")
+}
+
 fn add_most(text: &mut Vec<u8>, millis: Option<u128>) -> Result<(), NoMemory>
     ensures { OnOk result (text.new.items ≡ text.old.items ++ spec.most_if millis) }
 {
@@ -91,13 +101,20 @@ fn add_mark(text: &mut Vec<u8>, marked: Option<Marked>) -> Result<(), NoMemory>
     }
 }
 
+#[tactic(auto, unfolding(crate::specs::Lines::latest_text))]
+fn add_latest(text: &mut Vec<u8>, tainted: Tainted) -> Result<(), NoMemory>
+    ensures { OnOk result (text.new.items ≡ text.old.items ++ spec.latest_text tainted) }
+{
+    add_millis(text, b" at-most=", tainted.most)?;
+    add_millis(text, b" at-most-with-token=", tainted.with_token)
+}
+
 #[tactic(auto, unfolding(crate::specs::Lines::tainted_text))]
 fn add_whole_taint(text: &mut Vec<u8>, tainted: Tainted) -> Result<(), NoMemory>
     ensures { OnOk result (text.new.items ≡ text.old.items ++ spec.tainted_text tainted) }
 {
     add_since(text, tainted.least)?;
-    add_millis(text, b" at-most=", tainted.most)?;
-    add_millis(text, b" at-most-with-token=", tainted.with_token)
+    add_latest(text, tainted)
 }
 
 fn add_taint(text: &mut Vec<u8>, tainted: Option<Tainted>) -> Result<(), NoMemory>
@@ -228,9 +245,7 @@ pub(crate) fn add_gone(
 ) -> Result<(), NoMemory>
     ensures { OnOk result (text.new.items ≡ text.old.items ++ spec.gone_line seconds gone) }
 {
-    add(text, b"pods gone toleration=")?;
-    add_decimal(text, u128::from(seconds))?;
-    add(text, b"s")?;
+    add_seconds(text, b"pods gone toleration=", u128::from(seconds))?;
     add_taint(text, gone)?;
     add(text, b"\n")
 }

@@ -26,19 +26,28 @@ pub(crate) fn add_part<'a>(
     Ok(())
 }
 
-/// Adds a member that is a value.
-pub(crate) fn add_value<'a>(
-    parts: &mut Vec<Part<'a>>,
-    name: &'a [u8],
-    value: Value<'a>,
-) -> Result<(), NoMemory>
-    ensures { OnOk result (map part_of parts.new.items ≡ map part_of parts.old.items ++ (name.now, data_of value.entry) ∷ []) }
+/// Adds members behind those that are there.
+pub(crate) fn add_all<'a>(parts: &mut Vec<Part<'a>>, more: Vec<Part<'a>>) -> Result<(), NoMemory>
+    ensures { OnOk result (map part_of parts.new.items ≡ map part_of parts.old.items ++ map part_of more.entry.items) }
 {
-    parts.push(Part {
+    parts.extend(more)?;
+    Ok(())
+}
+
+/// A member that is a value.
+pub(crate) fn part<'a>(name: &'a [u8], value: Value<'a>) -> Part<'a>
+    ensures { part_of result ≡ (name.now, data_of value.entry) }
+{
+    Part {
         name,
         what: What::Value(value),
-    })?;
-    Ok(())
+    }
+}
+
+fn part_of_what<'a>(name: &'a [u8], what: What<'a>) -> Part<'a>
+    ensures { part_of result ≡ (name.now, what_of what.entry) }
+{
+    Part { name, what }
 }
 
 fn span_what<'a>(alloc: Global, span: Option<Span>) -> Result<What<'a>, NoMemory>
@@ -93,110 +102,113 @@ fn tainted_what<'a>(alloc: Global, tainted: Option<Tainted>) -> Result<What<'a>,
     }
 }
 
-/// Adds which settings were taken.
-pub(crate) fn add_taken<'a>(parts: &mut Vec<Part<'a>>, s: Settings) -> Result<(), NoMemory>
+/// Which settings were taken.
+#[tactic(auto, unfolding(crate::specs::Objects::taken_members))]
+pub(crate) fn taken_parts<'a>(alloc: Global, s: Settings) -> Result<Vec<Part<'a>>, NoMemory>
     requires { AreGiven s }
-    ensures { OnOk result (map part_of parts.new.items ≡ map part_of parts.old.items ++ spec.taken_members s) }
+    ensures { IfOk result (λ parts. map part_of parts.items ≡ spec.taken_members s) }
 {
-    add_value(
-        parts,
-        b"beatMillis",
-        Value::Number(u64::from(s.flags.beat_millis)),
-    )?;
-    add_value(parts, b"leastDelayMillis", Value::Number(s.near_millis()))?;
-    add_value(parts, b"delayMillis", Value::Number(s.far_millis()))?;
-    add_value(
-        parts,
-        b"skewPpm",
-        Value::Number(u64::from(s.flags.skew_ppm)),
-    )
+    let parts = vec![in alloc;
+        part(b"beatMillis", Value::Number(u64::from(s.flags.beat_millis))),
+        part(b"leastDelayMillis", Value::Number(s.near_millis())),
+        part(b"delayMillis", Value::Number(s.far_millis())),
+        part(b"skewPpm", Value::Number(u64::from(s.flags.skew_ppm))),
+    ]?;
+    Ok(parts)
 }
 
-/// Adds the timings of the controllers.
-pub(crate) fn add_timings<'a>(parts: &mut Vec<Part<'a>>, s: Settings) -> Result<(), NoMemory>
-    ensures { OnOk result (map part_of parts.new.items ≡ map part_of parts.old.items ++ spec.timing_members s) }
+/// The timings of the controllers.
+#[tactic(auto, unfolding(crate::specs::Objects::timing_members))]
+pub(crate) fn timing_parts<'a>(alloc: Global, s: Settings) -> Result<Vec<Part<'a>>, NoMemory>
+    ensures { IfOk result (λ parts. map part_of parts.items ≡ spec.timing_members s) }
 {
     let retry = s.flags.retry_millis;
     let lease = u64::from(s.flags.lease_seconds) * 1000;
-    add_value(parts, b"leaseMillis", Value::Number(lease))?;
-    add_value(
-        parts,
-        b"timeoutMillis",
-        Value::Number(u64::from(s.flags.timeout())),
-    )?;
     let is_renew_deadline = is_renew_deadline(s.flags.timeout_millis);
-    add_value(
-        parts,
-        b"timeoutIsRenewDeadline",
-        Value::Truth(is_renew_deadline),
-    )?;
-    add_value(parts, b"retryMillis", Value::Number(u64::from(retry)))?;
-    let wait = s.wait_millis.unwrap_or(retry);
-    add_value(parts, b"waitMillis", Value::Number(u64::from(wait)))
+    let parts = vec![in alloc;
+        part(b"leaseMillis", Value::Number(lease)),
+        part(
+            b"timeoutMillis",
+            Value::Number(u64::from(s.flags.timeout()))
+        ),
+        part(b"timeoutIsRenewDeadline", Value::Truth(is_renew_deadline)),
+        part(b"retryMillis", Value::Number(u64::from(retry))),
+        part(
+            b"waitMillis",
+            Value::Number(u64::from(s.wait_millis.unwrap_or(retry)))
+        ),
+    ]?;
+    Ok(parts)
 }
 
-/// Adds the bounds of a leader.
-pub(crate) fn add_election<'a>(
-    parts: &mut Vec<Part<'a>>,
-    alloc: Global,
-    e: Election,
-) -> Result<(), NoMemory>
-    ensures { OnOk result (map part_of parts.new.items ≡ map part_of parts.old.items ++ spec.election_members e) }
+/// The bounds of a leader.
+#[tactic(auto, unfolding(crate::specs::Objects::election_members))]
+pub(crate) fn election_parts<'a>(alloc: Global, e: Election) -> Result<Vec<Part<'a>>, NoMemory>
+    ensures { IfOk result (λ parts. map part_of parts.items ≡ spec.election_members e) }
 {
     let crash = span_what(alloc, e.crash)?;
-    add_part(parts, b"crash", crash)?;
     let stop = span_what(alloc, e.stop)?;
-    add_part(parts, b"stop", stop)?;
-    add_value(parts, b"actsOnMillis", stall(e.acts_on))?;
-    add_value(parts, b"calmMillis", stall(e.leads))?;
-    add_value(parts, b"staysFromMillis", stall(e.stays_from))
+    let parts = vec![in alloc;
+        part_of_what(b"crash", crash),
+        part_of_what(b"stop", stop),
+        part(b"actsOnMillis", stall(e.acts_on)),
+        part(b"calmMillis", stall(e.leads)),
+        part(b"staysFromMillis", stall(e.stays_from)),
+    ]?;
+    Ok(parts)
 }
 
-/// Adds the bounds of a node.
-pub(crate) fn add_node<'a>(
-    parts: &mut Vec<Part<'a>>,
+/// The bounds of a node.
+#[tactic(auto, unfolding(crate::specs::Objects::node_members))]
+pub(crate) fn node_parts<'a>(
     alloc: Global,
     ahead: u32,
     marked: Option<Marked>,
     tainted: Option<Tainted>,
-) -> Result<(), NoMemory>
-    ensures { OnOk result (map part_of parts.new.items ≡ map part_of parts.old.items ++ spec.node_members ahead marked tainted) }
+) -> Result<Vec<Part<'a>>, NoMemory>
+    ensures { IfOk result (λ parts. map part_of parts.items ≡ spec.node_members ahead marked tainted) }
 {
     let marked = marked_what(alloc, marked)?;
-    add_part(parts, b"unknown", marked)?;
-    add_value(parts, b"ahead", Value::Number(u64::from(ahead)))?;
     let tainted = tainted_what(alloc, tainted)?;
-    add_part(parts, b"taint", tainted)
+    let parts = vec![in alloc;
+        part_of_what(b"unknown", marked),
+        part(b"ahead", Value::Number(u64::from(ahead))),
+        part_of_what(b"taint", tainted),
+    ]?;
+    Ok(parts)
 }
 
-/// Adds the bounds of pods that tolerate the taint for so many seconds.
-pub(crate) fn add_pods<'a>(
-    parts: &mut Vec<Part<'a>>,
+/// The bounds of pods that tolerate the taint for so many seconds.
+#[tactic(auto, unfolding(crate::specs::Objects::pod_members))]
+pub(crate) fn pod_parts<'a>(
     alloc: Global,
     seconds: u32,
     gone: Option<Tainted>,
-) -> Result<(), NoMemory>
-    ensures { OnOk result (map part_of parts.new.items ≡ map part_of parts.old.items ++ spec.pod_members seconds gone) }
+) -> Result<Vec<Part<'a>>, NoMemory>
+    ensures { IfOk result (λ parts. map part_of parts.items ≡ spec.pod_members seconds gone) }
 {
-    add_value(
-        parts,
-        b"tolerationSeconds",
-        Value::Number(u64::from(seconds)),
-    )?;
     let gone = tainted_what(alloc, gone)?;
-    add_part(parts, b"gone", gone)
+    let parts = vec![in alloc;
+        part(b"tolerationSeconds", Value::Number(u64::from(seconds))),
+        part_of_what(b"gone", gone),
+    ]?;
+    Ok(parts)
 }
 
-/// Adds whether a leader stays, and whether two are ruled out.
-pub(crate) fn add_end<'a>(
-    parts: &mut Vec<Part<'a>>,
+/// Whether a leader stays, and whether two are ruled out.
+#[tactic(auto, unfolding(crate::specs::Objects::end_members))]
+pub(crate) fn end_parts<'a>(
+    alloc: Global,
     stays: bool,
     safe: bool,
-) -> Result<(), NoMemory>
-    ensures { OnOk result (map part_of parts.new.items ≡ map part_of parts.old.items ++ spec.end_members stays safe) }
+) -> Result<Vec<Part<'a>>, NoMemory>
+    ensures { IfOk result (λ parts. map part_of parts.items ≡ spec.end_members stays safe) }
 {
-    add_value(parts, b"stays", Value::Truth(stays))?;
-    add_value(parts, b"safe", Value::Truth(safe))
+    let parts = vec![in alloc;
+        part(b"stays", Value::Truth(stays)),
+        part(b"safe", Value::Truth(safe)),
+    ]?;
+    Ok(parts)
 }
 
 fn least_in(span: Option<Span>) -> Option<u128>
@@ -218,6 +230,7 @@ fn most_in(span: Option<Span>) -> Option<u128>
 }
 
 /// The members of a controller of this name.
+#[tactic(auto, unfolding(crate::specs::Objects::leader_members))]
 pub(crate) fn leader_members<'a>(
     alloc: Global,
     name: &'a [u8],
@@ -239,6 +252,7 @@ pub(crate) fn leader_members<'a>(
 }
 
 /// The members of pods that tolerate the taint for so many seconds.
+#[tactic(auto, unfolding(crate::specs::Objects::gone_members))]
 pub(crate) fn gone_members<'a>(
     alloc: Global,
     seconds: u64,

@@ -12,7 +12,9 @@ ghost use Rattle.lens_calm.specs.Settings.{AreGiven};
 use crate::fault::Fault;
 use crate::given::read_settings;
 use crate::lines::{add_election, add_gone, add_tainted, add_taken, add_unknown, stays_line};
-use crate::objects;
+use crate::objects::{
+    add_all, election_parts, end_parts, node_parts, pod_parts, taken_parts, timing_parts,
+};
 use crate::settings::Settings;
 use crate::usage::add_usage;
 use byte_edge::Sink;
@@ -131,15 +133,15 @@ fn parts<'a>(alloc: Global, s: Settings, stays: bool) -> Result<Vec<Part<'a>>, N
 {
     let outage = s.outage();
     let seconds = s.toleration_seconds;
-    let gone = until_gone(outage, u64::from(seconds));
-    let mut parts = Vec::new(alloc);
-    objects::add_taken(&mut parts, s)?;
-    objects::add_timings(&mut parts, s)?;
-    objects::add_election(&mut parts, alloc, election_in(s))?;
+    let mut parts = taken_parts(alloc, s)?;
+    add_all(&mut parts, timing_parts(alloc, s)?)?;
+    add_all(&mut parts, election_parts(alloc, election_in(s))?)?;
     let marked = until_unknown(outage);
-    objects::add_node(&mut parts, alloc, s.ahead, marked, until_tainted(outage))?;
-    objects::add_pods(&mut parts, alloc, seconds, gone)?;
-    objects::add_end(&mut parts, stays, is_safe(&s.flags))?;
+    let tainted = until_tainted(outage);
+    add_all(&mut parts, node_parts(alloc, s.ahead, marked, tainted)?)?;
+    let gone = until_gone(outage, u64::from(seconds));
+    add_all(&mut parts, pod_parts(alloc, seconds, gone)?)?;
+    add_all(&mut parts, end_parts(alloc, stays, is_safe(&s.flags))?)?;
     Ok(parts)
 }
 

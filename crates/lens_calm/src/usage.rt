@@ -5,7 +5,7 @@ ghost use Rattle.lens_calm.specs.Answers as spec;
 use crate::fault::Fault;
 use crate::setting::Setting;
 use kube_base::NoMemory;
-use lens_room::by_flags::{add_wrong, name_of, values_of, word_at};
+use lens_room::by_flags::{Wrong, add_wrong, name_of, values_of, word_at};
 use trace_writer::add;
 
 /// Adds the line on the usage, and what is wrong with the words.
@@ -25,7 +25,7 @@ fn add_fault(text: &mut Vec<u8>, words: &[String], fault: Fault) -> Result<(), N
     ensures { OnOk result (text.new.items ≡ text.old.items ++ spec.fault_text (map string_bytes words.now) fault) }
 {
     match fault {
-        Fault::Unknown(place) => add_stranger(text, word_at(words, place)),
+        Fault::Unknown(place) => add_wrong(text, words, Wrong::Unknown(place)),
         Fault::Alone(setting) => {
             add(text, setting_name(setting))?;
             add(text, b" stands without a value")
@@ -42,14 +42,6 @@ fn add_fault(text: &mut Vec<u8>, words: &[String], fault: Fault) -> Result<(), N
         ),
         Fault::ShortDelay => add(text, b"the delay must not be shorter than the least delay"),
     }
-}
-
-#[tactic(auto, unfolding(crate::specs::Answers::stranger_text))]
-fn add_stranger(text: &mut Vec<u8>, word: &[u8]) -> Result<(), NoMemory>
-    ensures { OnOk result (text.new.items ≡ text.old.items ++ spec.stranger_text word.now) }
-{
-    add(text, b"no such flag: ")?;
-    add(text, word)
 }
 
 fn setting_name(setting: Setting) -> &'static [u8]
