@@ -1,6 +1,6 @@
 -- The bound of a crash grows with the lease, and it is no less than the lease, the wait and six ways of a message.
 use Rattle.std.specs.Int.{div_ceil}
-use Rattle.std.proofs.Common.{◌≡◌, ℕ, zero, suc, ◌+◌, ◌-◌, ◌*◌, ◌<◌, ◌≤◌, refl, arith}
+use Rattle.std.proofs.Common.{ℕ, zero, suc, ◌+◌, ◌-◌, ◌*◌, ◌<◌, ◌≤◌, arith}
 use Rattle.std.proofs.Math.Nat.{mul-le-mul_right, mul-le-mul_left}
 use Rattle.kube_objects.specs.Document.{of_seconds, of_millis}
 use Rattle.span_laws.specs.Quotients.{most_beats}
@@ -16,9 +16,9 @@ beats-least : (beats beat slow millis : ℕ) → slow ≤ 1000000 → millis * 1
 beats-least beats beat slow millis most enough =
     let less : beats * beat * slow ≤ beats * beat * 1000000 = mul-le-mul_left (beats * beat) most in omega (arith, less, enough)
 
-sum-least : (e w far m beat lease wait : ℕ) → e ≤ m → lease ≤ e * beat → wait ≤ w * beat → lease + wait + 6 * far * beat ≤ (m + w + 6 * far + 0 - 2) * beat + 2 * beat
+sum-least : (e w far m beat lease wait : ℕ) → e ≤ m → lease ≤ e * beat → wait ≤ w * beat → lease + wait + 6 * far * beat ≤ (m + w + (6 * far - 2)) * beat + 2 * beat
 sum-least e w far m beat lease wait more over waits =
-    let all : (e + w + 6 * far) * beat ≤ (m + w + 6 * far + 0 - 2 + 2) * beat = mul-le-mul_right beat (omega (arith, more)) in
+    let all : (e + w + 6 * far) * beat ≤ (m + w + (6 * far - 2) + 2) * beat = mul-le-mul_right beat (omega (arith, more)) in
     omega (arith, all, over, waits)
 
 module _ (w : Wish) (range : IsWish w) where
@@ -81,7 +81,7 @@ module _ (w : Wish) (range : IsWish w) where
       let q = plan longer retry m in
       let overs : over p ≤ over q = ceil-more (of_seconds lease) (of_seconds longer) slow slow slow-some (omega arith) (omega (arith, less)) in
       let found : most_beats (near-step p) (far-step p) (over p) ≤ most_beats (near-step p) (far-step p) (over q) = looks-more (near-step p) (far-step p) (over p) (over q) (omega arith) overs in
-      mul-le-mul_right w.beat_millis (more-by (most_beats (near-step p) (far-step p) (over p)) (most_beats (near-step p) (far-step p) (over q)) (waits p) (6 * far_of w) found)
+      mul-le-mul_right w.beat_millis (more-by (most_beats (near-step p) (far-step p) (over p)) (most_beats (near-step p) (far-step p) (over q)) (waits p) (6 * far_of w - 2) found)
     where
-      more-by : (a b c d : ℕ) → a ≤ b → a + c + d + 0 - 2 ≤ b + c + d + 0 - 2
+      more-by : (a b c d : ℕ) → a ≤ b → a + c + d ≤ b + c + d
       more-by a b c d less = omega arith

@@ -1,7 +1,7 @@
 -- What only a longer renew deadline can break, and what only a shorter one can, as facts on numbers.
 use Rattle.std.specs.Int.{div_ceil}
-use Rattle.std.proofs.Common.{◌≡◌, ℕ, ◌+◌, ◌-◌, ◌*◌, ◌/◌, ◌<◌, ◌≤◌, ◌&&◌, not, max, nat_lt, nat_le, Bool, true, false, refl, sym, ◌∙◌, arith}
-use Rattle.std.proofs.Math.Nat.{mul-le-mul_right, mul-le-mul_left}
+use Rattle.std.proofs.Common.{◌≡◌, ℕ, ◌+◌, ◌-◌, ◌*◌, ◌<◌, ◌≤◌, ◌&&◌, nat_lt, nat_le, true, sym, ◌∙◌, arith}
+use Rattle.std.proofs.Math.Nat.{mul-le-mul_right}
 use Rattle.std.proofs.lemmas.Bool.{ltb-true, lt-ltb, leb-true, le-leb, and_parts, and_from, not-true, not_from_false, false_from_ne_true}
 use Rattle.kube_objects.specs.Document.{of_seconds, of_millis}
 use Rattle.lens_bounds.specs.Elections.{replies_count, renews, outlasts}
@@ -12,7 +12,7 @@ use Rattle.lens_tune.specs.declared.wish.Timeout.{Timeout}
 use Rattle.lens_tune.specs.declared.wish.Timeout.TheVariants.{RenewDeadline, Half, Fixed}
 use Rattle.lens_tune.specs.declared.wish.Wish.{Wish}
 use Rattle.lens_tune.specs.Plans.{starts, safe, stays, holds}
-use Rattle.lens_tune.specs.Searches.{is_enough, is_outlasted, asked, plan, pauses}
+use Rattle.lens_tune.specs.Searches.{is_enough, is_outlasted, asked, plan}
 use Rattle.lens_tune.specs.Wishes.{IsWish, timeout_by, timeout_of, renew_millis, retry_millis, far_of, calm_of, controller_of}
 use Rattle.lens_tune.proofs.Bounds.{slow, fast, slow-some}
 use Rattle.lens_tune.proofs.Premises.{outlasted, lease, safe-is}

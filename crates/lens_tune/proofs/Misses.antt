@@ -1,18 +1,16 @@
 -- Why the search misses no plan.
-use Rattle.std.proofs.Common.{◌≡◌, ◌⊎◌, ℕ, zero, suc, ◌+◌, ◌-◌, ◌*◌, ◌/◌, ◌<◌, ◌≤◌, ◌&&◌, not, min, nat_lt, nat_le, Bool, true, false, Option, Some, None, refl, sym, subst, ◌∙◌, inl, inr, arith}
-use Rattle.std.proofs.lemmas.Bool.{cases_lt, cases_Bool, both_ways, ltb-true, le-ltb, leb-true, le-leb, and_parts, and_from, and_left, not_from_false, not_from_true, not-true}
-use Rattle.std.proofs.lemmas.Nat.{div-add-mod', mod_below, le-div}
+use Rattle.std.proofs.Common.{◌≡◌, ◌⊎◌, ℕ, ◌+◌, ◌-◌, ◌*◌, ◌/◌, ◌<◌, ◌≤◌, not, min, nat_lt, nat_le, true, false, Some, None, refl, subst, ◌∙◌, inl, inr, arith}
+use Rattle.std.proofs.lemmas.Bool.{cases_lt, cases_Bool, both_ways, ltb-true, le-ltb, leb-true, le-leb, and_parts, and_from, and_left, not_from_false, not-true}
+use Rattle.std.proofs.lemmas.Nat.{le-div}
 use Rattle.lens_bounds.specs.Elections.{replies_count, renews, outlasts}
-use Rattle.std.proofs.Math.Nat.{mul-le-mul_right}
 use Rattle.lens_margin.specs.Laws.{IsLeast}
-use Rattle.lens_tune.specs.declared.first.Question.{Question}
-use Rattle.lens_tune.specs.declared.first.Question.TheVariants.{TooLong, Enough, Outlasting}
+use Rattle.lens_tune.specs.declared.first.Question.TheVariants.{TooLong}
 use Rattle.lens_tune.specs.declared.plan.Plan.{Plan}
 use Rattle.lens_tune.specs.declared.wish.Wish.{Wish}
-use Rattle.lens_tune.specs.Greatest.{IsGreater, IsGreatest, IsGreatestPlan, HasPlan, within, IsLeastFailover}
+use Rattle.lens_tune.specs.Greatest.{IsGreater, IsGreatestPlan, HasPlan, within, IsLeastFailover}
 use Rattle.lens_tune.specs.Plans.{IsPlan, bound, soon, safe, holds, fits}
 use Rattle.lens_tune.specs.Searches.{is_enough, is_outlasted, asked, plan, room, longest_retry, IsLeastRenew, IsLeastLease, IsGreatestWith, IsGreatestOf}
-use Rattle.lens_tune.specs.Wishes.{IsWish, renew_millis, retry_millis, timeout_of, wait_of, far_of, calm_of, controller_of}
+use Rattle.lens_tune.specs.Wishes.{IsWish, renew_millis, retry_millis, timeout_of, wait_of, calm_of, controller_of}
 use Rattle.lens_tune.proofs.Bounds.{bound-least, bound-more}
 use Rattle.lens_tune.proofs.Closed.{outlasted-more, enough-more, holds-parts, holds-from, asked-more}
 

@@ -1,6 +1,6 @@
 -- What is wished for, and the calm span, the controllers and the stalls that it speaks of, by the settings of a plan.
 use Rattle.std.specs.Int.{div_ceil}
-use Rattle.std.specs.Prelude.{ℕ, ◌*◌, ◌/◌, ◌≤◌, max, false, Option, Some}
+use Rattle.std.specs.Prelude.{ℕ, ◌*◌, ◌/◌, ◌≤◌, max, false, Some}
 use Rattle.kube_objects.specs.declared.script.Proc.{Proc}
 use Rattle.kube_objects.specs.Document.{Doc}
 use Rattle.lens_bounds.specs.declared.calm.Calm.{Calm}
