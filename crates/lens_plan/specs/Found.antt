@@ -1,11 +1,12 @@
 -- What is found for a wish.
 use Rattle.std.specs.Int.{div_ceil}
-use Rattle.std.specs.Prelude.{ℕ, ◌+◌, ◌*◌, nat_lt, Option, Some, None, if◌then◌else◌}
+use Rattle.std.specs.Prelude.{ℕ, ◌+◌, ◌-◌, ◌*◌, nat_lt, Option, Some, None, if◌then◌else◌}
 use Rattle.lens_tune.specs.declared.plan.Plan.{Plan}
 use Rattle.lens_tune.specs.declared.wish.Timeout.{Timeout}
 use Rattle.lens_tune.specs.declared.wish.Timeout.TheVariants as timeout
 use Rattle.lens_tune.specs.declared.wish.Wish.{Wish}
 use Rattle.lens_tune.specs.Greatest.{IsGreatest, IsGreatestPlan, IsLeastFailover}
+use Rattle.lens_tune.specs.Plans.{bound}
 use Rattle.lens_tune.specs.Wishes.{far_of}
 use Rattle.lens_plan.specs.declared.found.Found.{Found}
 use Rattle.lens_plan.specs.declared.found.Found.TheVariants.{Fitting, Later, Never}
@@ -37,6 +38,10 @@ abbrev pub IsFound : Wish → Found → Type 0
 IsFound w (Fitting p) = IsGreatest w p
 IsFound w (Later least) = IsGreatestPlan w None × IsLater w (Later least)
 IsFound w Never = IsGreatestPlan w None × IsLater w Never
+
+-- what the bound of a crash leaves of the failover, in milliseconds
+abbrev pub spare : Wish → Plan → ℕ
+spare w p = w.failover_millis - bound w p
 
 -- two ways of a message in milliseconds, as the fastest clock counts them, rounded up
 abbrev pub two_ways : Wish → ℕ

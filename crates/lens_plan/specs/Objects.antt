@@ -1,5 +1,5 @@
 -- The JSON on what is found: the numbers that the lines tell.
-use Rattle.std.specs.Prelude.{ℕ, ◌-◌, ◌*◌, true, false, List, [], ◌∷◌, ◌++◌, codes, Option, Some, None}
+use Rattle.std.specs.Prelude.{ℕ, ◌*◌, true, false, List, [], ◌∷◌, ◌++◌, codes, Option, Some, None}
 use Rattle.serde_json.specs.Data.{boolean}
 use Rattle.serde_json.specs.Written.{compact_text}
 use Rattle.lens_json.specs.Members.{Named, nat, object_of}
@@ -10,13 +10,13 @@ use Rattle.lens_tune.specs.Plans.{bound}
 use Rattle.lens_tune.specs.Wishes.{renew_millis, retry_millis, timeout_of, wait_of}
 use Rattle.lens_plan.specs.declared.found.Found.{Found}
 use Rattle.lens_plan.specs.declared.found.Found.TheVariants.{Fitting, Later, Never}
-use Rattle.lens_plan.specs.Found.{two_ways}
+use Rattle.lens_plan.specs.Found.{spare, two_ways}
 
 abbrev pub plan_members : Wish → Plan → List Named
 plan_members w p =
     nat (codes "failoverMillis") w.failover_millis ∷ nat (codes "leaseMillis") (p.lease_seconds * 1000) ∷ nat (codes "renewMillis") (renew_millis p)
     ∷ nat (codes "retryMillis") (retry_millis p) ∷ nat (codes "timeoutMillis") (timeout_of w p) ∷ nat (codes "waitMillis") (wait_of w p)
-    ∷ (codes "crashMostMillis", whole (bound w p)) ∷ (codes "spareMillis", whole (w.failover_millis - bound w p)) ∷ (codes "fits", boolean true) ∷ []
+    ∷ (codes "crashMostMillis", whole (bound w p)) ∷ (codes "spareMillis", whole (spare w p)) ∷ (codes "fits", boolean true) ∷ []
 
 abbrev pub no_members : Wish → Option ℕ → List Named
 no_members w least =

@@ -1,9 +1,10 @@
 // What is found for a wish.
 ghost use Rattle.std.specs.Prelude.{◌≡◌};
+ghost use Rattle.lens_tune.specs.Searches.{IsSmall};
 ghost use Rattle.lens_tune.specs.Wishes.{IsWish};
 ghost use Rattle.lens_plan.specs.Found as spec;
 
-use lens_tune::{Plan, Timeout, Wish, greatest_plan, least_failover};
+use lens_tune::{Plan, Timeout, Wish, bound, greatest_plan, least_failover};
 
 /// What is found for a wish.
 #[derive(Clone, Copy)]
@@ -35,6 +36,15 @@ fn later_for(wish: Wish) -> Found
         Some(least) => Found::Later(least),
         None => Found::Never,
     }
+}
+
+/// What the bound of a crash leaves of the failover, in milliseconds.
+pub(crate) fn spare(wish: Wish, plan: Plan) -> u128
+    requires wish { IsWish wish }
+    requires plan { IsSmall plan }
+    ensures { result ≡ spec.spare wish plan }
+{
+    u128::from(wish.failover_millis).saturating_sub(bound(wish, plan))
 }
 
 /// The milliseconds of two ways of a message, as the fastest clock counts them, rounded up.

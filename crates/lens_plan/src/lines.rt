@@ -5,11 +5,11 @@ ghost use Rattle.lens_tune.specs.Wishes.{IsWish};
 ghost use Rattle.lens_plan.specs.Found.{ForPlan};
 ghost use Rattle.lens_plan.specs.Lines as spec;
 
-use crate::found::{Found, short_timeout, two_ways};
+use crate::found::{Found, short_timeout, spare, two_ways};
 use itoa::Buffer;
 use kube_base::NoMemory;
 use lens_tune::{Plan, Wish, bound};
-use trace_writer::add;
+use trace_writer::{add, add_number};
 
 /// Adds what is found for a wish.
 pub(crate) fn add_found(text: &mut Vec<u8>, wish: Wish, found: Found) -> Result<(), NoMemory>
@@ -41,6 +41,13 @@ fn add_decimal(text: &mut Vec<u8>, number: u128) -> Result<(), NoMemory>
     add(text, buffer.format(number).as_bytes())
 }
 
+/// Adds a label and tenths of a second, in milliseconds.
+fn add_tenths(text: &mut Vec<u8>, label: &[u8], tenths: u32) -> Result<(), NoMemory>
+    ensures { OnOk result (text.new.items ≡ text.old.items ++ spec.millis_text label.now (tenths * 100)) }
+{
+    add_millis(text, label, u128::from(tenths) * 100)
+}
+
 #[tactic(auto, unfolding(crate::specs::Lines::plan_text))]
 fn add_plan(text: &mut Vec<u8>, wish: Wish, plan: Plan) -> Result<(), NoMemory>
     requires wish { IsWish wish }
@@ -48,31 +55,34 @@ fn add_plan(text: &mut Vec<u8>, wish: Wish, plan: Plan) -> Result<(), NoMemory>
     ensures { OnOk result (text.new.items ≡ text.old.items ++ spec.plan_text wish plan) }
 {
     add_flags(text, plan)?;
-    add_crash(text, bound(wish, plan), wish.failover_millis)?;
+    add_crash(text, bound(wish, plan), spare(wish, plan))?;
     add(text, b"fits\n")
 }
 
 /// Adds the flags of kube-controller-manager.
 #[tactic(auto, unfolding(crate::specs::Lines::flags_line))]
 fn add_flags(text: &mut Vec<u8>, plan: Plan) -> Result<(), NoMemory>
-    requires { IsSmall plan }
     ensures { OnOk result (text.new.items ≡ text.old.items ++ spec.flags_line plan) }
 {
-    let lease = u128::from(plan.lease_seconds);
-    let renew = u128::from(plan.renew_tenths) * 100;
-    let retry = u128::from(plan.retry_tenths) * 100;
-    add(text, b"--leader-elect-lease-duration=")?;
-    add_decimal(text, lease)?;
-    add_millis(text, b"s --leader-elect-renew-deadline=", renew)?;
-    add_millis(text, b" --leader-elect-retry-period=", retry)?;
+    add_lease(text, plan.lease_seconds)?;
+    add_tenths(text, b" --leader-elect-renew-deadline=", plan.renew_tenths)?;
+    add_tenths(text, b" --leader-elect-retry-period=", plan.retry_tenths)?;
     add(text, b"\n")
 }
 
-#[tactic(auto, unfolding(crate::specs::Lines::crash_line))]
-fn add_crash(text: &mut Vec<u8>, most: u128, failover: u32) -> Result<(), NoMemory>
-    ensures { OnOk result (text.new.items ≡ text.old.items ++ spec.crash_line most failover) }
+#[tactic(auto, unfolding(crate::specs::Lines::lease_text))]
+fn add_lease(text: &mut Vec<u8>, seconds: u32) -> Result<(), NoMemory>
+    ensures { OnOk result (text.new.items ≡ text.old.items ++ spec.lease_text seconds) }
 {
-    let spare = u128::from(failover).saturating_sub(most);
+    add(text, b"--leader-elect-lease-duration=")?;
+    add_number(text, u64::from(seconds))?;
+    add(text, b"s")
+}
+
+#[tactic(auto, unfolding(crate::specs::Lines::crash_line))]
+fn add_crash(text: &mut Vec<u8>, most: u128, spare: u128) -> Result<(), NoMemory>
+    ensures { OnOk result (text.new.items ≡ text.old.items ++ spec.crash_line most spare) }
+{
     add_millis(text, b"crash nobody-leads at-most=", most)?;
     add_millis(text, b" spare=", spare)?;
     add(text, b"\n")
@@ -80,14 +90,20 @@ fn add_crash(text: &mut Vec<u8>, most: u128, failover: u32) -> Result<(), NoMemo
 
 #[tactic(auto, unfolding(crate::specs::Lines::later_text))]
 fn add_later(text: &mut Vec<u8>, wish: Wish, least: u128) -> Result<(), NoMemory>
-    requires { IsWish wish }
     ensures { OnOk result (text.new.items ≡ text.old.items ++ spec.later_text wish least) }
 {
-    let failover = u128::from(wish.failover_millis);
-    add_millis(text, b"crash nobody-leads at-most=", least)?;
-    add_millis(text, b" failover=", failover)?;
-    add_millis(text, b"\nleast-failover=", least)?;
+    add_over(text, least, wish.failover_millis)?;
+    add_millis(text, b"least-failover=", least)?;
     add(text, b"\nnone\n")
+}
+
+#[tactic(auto, unfolding(crate::specs::Lines::over_line))]
+fn add_over(text: &mut Vec<u8>, least: u128, failover: u32) -> Result<(), NoMemory>
+    ensures { OnOk result (text.new.items ≡ text.old.items ++ spec.over_line least failover) }
+{
+    add_millis(text, b"crash nobody-leads at-most=", least)?;
+    add_millis(text, b" failover=", u128::from(failover))?;
+    add(text, b"\n")
 }
 
 #[tactic(auto, unfolding(crate::specs::Lines::never_text))]

@@ -6,7 +6,7 @@ ghost use Rattle.lens_tune.specs.Wishes.{IsWish};
 ghost use Rattle.lens_plan.specs.Found.{ForPlan};
 ghost use Rattle.lens_plan.specs.Objects as spec;
 
-use crate::found::{Found, two_ways};
+use crate::found::{Found, spare, two_ways};
 use kube_base::NoMemory;
 use lens_json::{Member, Value, add_object};
 use lens_room::margin_json::{member, stall};
@@ -49,8 +49,6 @@ fn plan_members(alloc: Global, wish: Wish, plan: Plan) -> Result<Vec<Member<'sta
     ensures { IfOk result (λ members. map named members.items ≡ spec.plan_members wish plan) }
 {
     let renew = plan.renew_tenths * 100;
-    let most = bound(wish, plan);
-    let spare = u128::from(wish.failover_millis).saturating_sub(most);
     let members = vec![in alloc;
         Member::number(b"failoverMillis", u64::from(wish.failover_millis)),
         Member::number(b"leaseMillis", u64::from(plan.lease_seconds) * 1000),
@@ -58,8 +56,8 @@ fn plan_members(alloc: Global, wish: Wish, plan: Plan) -> Result<Vec<Member<'sta
         Member::number(b"retryMillis", u64::from(plan.retry_tenths) * 100),
         Member::number(b"timeoutMillis", u64::from(timeout_by(wish.timeout, renew))),
         Member::number(b"waitMillis", u64::from(wait_by(wish, plan))),
-        member(b"crashMostMillis", Value::Large(most)),
-        member(b"spareMillis", Value::Large(spare)),
+        member(b"crashMostMillis", Value::Large(bound(wish, plan))),
+        member(b"spareMillis", Value::Large(spare(wish, plan))),
         member(b"fits", Value::Truth(true)),
     ]?;
     Ok(members)
