@@ -41,11 +41,13 @@ fn add_decimal(text: &mut Vec<u8>, number: u128) -> Result<(), NoMemory>
     add(text, buffer.format(number).as_bytes())
 }
 
-/// Adds a label and tenths of a second, in milliseconds.
-fn add_tenths(text: &mut Vec<u8>, label: &[u8], tenths: u32) -> Result<(), NoMemory>
-    ensures { OnOk result (text.new.items ≡ text.old.items ++ spec.millis_text label.now (tenths * 100)) }
+/// Adds tenths of a second, in milliseconds.
+#[tactic(auto, unfolding(crate::specs::Lines::tenths_text))]
+fn add_tenths(text: &mut Vec<u8>, tenths: u32) -> Result<(), NoMemory>
+    ensures { OnOk result (text.new.items ≡ text.old.items ++ spec.tenths_text tenths) }
 {
-    add_millis(text, label, u128::from(tenths) * 100)
+    add_number(text, u64::from(tenths) * 100)?;
+    add(text, b"ms")
 }
 
 #[tactic(auto, unfolding(crate::specs::Lines::plan_text))]
@@ -65,8 +67,10 @@ fn add_flags(text: &mut Vec<u8>, plan: Plan) -> Result<(), NoMemory>
     ensures { OnOk result (text.new.items ≡ text.old.items ++ spec.flags_line plan) }
 {
     add_lease(text, plan.lease_seconds)?;
-    add_tenths(text, b" --leader-elect-renew-deadline=", plan.renew_tenths)?;
-    add_tenths(text, b" --leader-elect-retry-period=", plan.retry_tenths)?;
+    add(text, b" --leader-elect-renew-deadline=")?;
+    add_tenths(text, plan.renew_tenths)?;
+    add(text, b" --leader-elect-retry-period=")?;
+    add_tenths(text, plan.retry_tenths)?;
     add(text, b"\n")
 }
 
@@ -83,7 +87,8 @@ fn add_lease(text: &mut Vec<u8>, seconds: u32) -> Result<(), NoMemory>
 fn add_crash(text: &mut Vec<u8>, most: u128, spare: u128) -> Result<(), NoMemory>
     ensures { OnOk result (text.new.items ≡ text.old.items ++ spec.crash_line most spare) }
 {
-    add_millis(text, b"crash nobody-leads at-most=", most)?;
+    add(text, b"crash nobody-leads")?;
+    add_millis(text, b" at-most=", most)?;
     add_millis(text, b" spare=", spare)?;
     add(text, b"\n")
 }
@@ -93,15 +98,17 @@ fn add_later(text: &mut Vec<u8>, wish: Wish, least: u128) -> Result<(), NoMemory
     ensures { OnOk result (text.new.items ≡ text.old.items ++ spec.later_text wish least) }
 {
     add_over(text, least, wish.failover_millis)?;
-    add_millis(text, b"least-failover=", least)?;
-    add(text, b"\nnone\n")
+    add(text, b"least-failover=")?;
+    add_decimal(text, least)?;
+    add(text, b"ms\nnone\n")
 }
 
 #[tactic(auto, unfolding(crate::specs::Lines::over_line))]
 fn add_over(text: &mut Vec<u8>, least: u128, failover: u32) -> Result<(), NoMemory>
     ensures { OnOk result (text.new.items ≡ text.old.items ++ spec.over_line least failover) }
 {
-    add_millis(text, b"crash nobody-leads at-most=", least)?;
+    add(text, b"crash nobody-leads")?;
+    add_millis(text, b" at-most=", least)?;
     add_millis(text, b" failover=", u128::from(failover))?;
     add(text, b"\n")
 }
