@@ -32,6 +32,7 @@ BY_HAND = (
     ('--failover 24h --timeout half --delay 5001ms --beat 1s --stall 24h', 1, 'least-lease=none\nleast-failover=none\nnone\n'),
 )
 
+# A word that isn't taken is told whole, as `margin` tells it.
 WRONG = (
     ('', '--failover has to be given, as --failover 10s'),
     ('--timeout 3s', '--failover has to be given, as --failover 10s'),
@@ -45,7 +46,7 @@ WRONG = (
     ('--failover 10s --wait-factor 0.99', '--wait-factor takes a number from 1 to 10 with at most two decimals, as 2.2, not 0.99'),
     ('--failover 10s --wait-factor 10.01', '--wait-factor takes a number from 1 to 10 with at most two decimals, as 2.2, not 10.01'),
     ('--failover 10s --wait-factor 2.', '--wait-factor takes a number from 1 to 10 with at most two decimals, as 2.2, not 2.'),
-    ('--failover 10s --stall=', '--stall takes a duration from 0s to 24h, as 2s, not '),
+    ('--failover 10s --stall=', '--stall takes a duration from 0s to 24h, as 2s, not --stall='),
     ('--failover 10s --delay 601s', '--delay takes a duration from 1ms to 10m, as 100ms, not 601s'),
     ('--failover 10s --least-retry 50ms', '--least-retry takes tenths of a second from 100ms to 24h, as 500ms or 2s, not 50ms'),
     ('--failover 10s --beat 2s', '--beat takes a duration from 1ms to 1s, as 10ms, not 2s'),
@@ -148,7 +149,8 @@ def main():
         wanted = Wanted(wish)
         ends.append('fits' if wanted.fits else 'later' if wanted.is_sure else 'beyond')
         wrong += differs(program, words_of(dice, wish), wish, wanted)
-    print(f"{len(ends)} sets of flags: {ends.count('fits')} have a plan, {ends.count('later')} a later one, {ends.count('beyond')} none of a lease of up to {LONGEST} s")
+    fit, later, beyond = (ends.count(end) for end in ('fits', 'later', 'beyond'))
+    print(f'{len(ends)} sets of flags: {fit} have a plan, {later} a later one, {beyond} none that is sure by leases of up to {LONGEST} s')
     lens_frame.report(wrong, {'fits', 'later', 'beyond'} <= set(ends) or found.count < 100)
 
 
