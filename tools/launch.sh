@@ -61,6 +61,7 @@ $(tell_command '' 'the same as one JSON object')
 $(tell_command "$called margin --lease 15s ..." 'the same of flags: --lease --renew --retry --timeout --skew --beat --json')
 $(tell_command "$called bounds < DOCUMENT" 'how long nobody leads and a dead node'"'"'s pods stay, at least and at most; with --json as one JSON object')
 $(tell_command "$called bounds --timeout 5s ..." 'the same of flags: those of margin, --wait --delay --least-delay --grace --monitor --node-lease ...')
+$(tell_command "$called tune --failover 10s ..." 'the lease, renew deadline and retry period by which another leads so soon after a crash: --timeout --skew ...')
 $(tell_command "$called leaders < TRACE" 'who led from when to when, when nobody did, and whether two did at once')
 $(tell_command "$called leaders --json < TRACE" 'the same as one JSON object')
 $(tell_command "$called summary < TRACE" 'what a trace comes to, as tables: terms, zones, nodes, evictions, totals')
@@ -73,7 +74,7 @@ $(tell_command "$called explain --json < DOCUMENT" '')
 $(tell_command '' 'the same as one JSON object')
 $(tell_command "$called --help, --version" 'these lines, and the version')
 
-Exit status: 0 answered, 1 unsafe, two at once, or the input is refused, 2 no such command, 3 the input can't be read,
+Exit status: 0 answered, 1 unsafe, none, two at once, or the input is refused, 2 no such command, 3 the input can't be read,
 4 the output can't be written, 5 memory ran out, 6 a word isn't UTF-8$more_statuses.
 
 Two lines to try$place:

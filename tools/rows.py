@@ -106,6 +106,7 @@ ROWS = [
     test('refusals', [REPLAY], 1),
     test('margin', [REPLAY, LENS], 6, script='lens'),
     test('bounds', [LENS], 2, script='lens_bounds_rows'),
+    test('tune', [LENS], None, script='lens_tune'),
     test('leaders', [REPLAY, LENS], 5, script='lens_trace'),
     test('summary', [REPLAY, LENS], 1, script='lens_summary'),
     test('lateness', [REPLAY, LENS], 2, script='lens_lateness'),

@@ -6,6 +6,8 @@ _kube_lens() {
         1:*)
             mapfile -t COMPREPLY < <(compgen -W "$(kube_lens --help 2>/dev/null | sed -n 's/^ *kube_lens \([a-z]*\).*/\1/p' | sort -u) --help --version" \
                 -- "${COMP_WORDS[COMP_CWORD]}") ;;
+        2:tune:*) mapfile -t COMPREPLY < <(compgen -W '--failover --timeout --skew --wait-factor --stall --delay --least-retry --beat --json' \
+            -- "${COMP_WORDS[COMP_CWORD]}") ;;
         2:margin:* | 2:bounds:* | 2:leaders:* | 2:lines:* | 2:explain:*) mapfile -t COMPREPLY < <(compgen -W --json -- "${COMP_WORDS[COMP_CWORD]}") ;;
         2:summary:*) mapfile -t COMPREPLY < <(compgen -W '--json --document' -- "${COMP_WORDS[COMP_CWORD]}") ;;
         3:summary:--document) mapfile -t COMPREPLY < <(compgen -f -W --json -- "${COMP_WORDS[COMP_CWORD]}") ;;

@@ -6,6 +6,7 @@ themselves. Each lease, retry period and renew deadline is tried, from the great
 import math
 from dataclasses import dataclass
 from fractions import Fraction
+from functools import cached_property
 
 import test_lens_bounds as bounds
 
@@ -26,18 +27,19 @@ class Wish:
     retry: int = 1
     beat: int = 10
 
-    @property
+    @cached_property
     def tick(self):
         return Fraction(self.beat, 1000)
 
-    @property
+    @cached_property
     def slow(self):
         return 1 - Fraction(self.skew, 10 ** 6)
 
-    @property
+    @cached_property
     def fast(self):
         return 1 + Fraction(self.skew, 10 ** 6)
 
+    @cached_property
     def calm(self):
         return bounds.Calm(self.beat, 1, math.ceil(Fraction(self.delay, self.beat)), self.tick * self.slow, self.tick * self.fast)
 
@@ -49,29 +51,34 @@ class Wish:
             timeout = Fraction(self.timeout, 1000)
         return bounds.Controller('any', Fraction(lease), renew, retry, timeout, retry * Fraction(self.wait, 100))
 
+    @cached_property
+    def still(self):
+        """How long a pause for a whole stall may last, in seconds."""
+        beats = math.ceil(Fraction(self.stall, self.beat))
+        return (beats + 1) * self.tick if beats else 0
+
     def is_safe(self, one):
         """What a leader may act on by its slow clock, and a stall, are over before a fast clock has gone on for the lease."""
-        beats = math.ceil(Fraction(self.stall, self.beat))
-        still = (beats + 1) * self.tick if beats else 0
-        return still + (one.timeout + one.retry + one.renew) / self.slow < one.lease / self.fast
+        return self.still + (one.timeout + one.retry + one.renew) / self.slow < one.lease / self.fast
 
     def holds(self, lease, retry, renew):
+        if not (renew < lease * 10 and retry * 12 < renew * 10):
+            return False
         one = self.controller(lease, retry, renew)
-        starts = one.renew < one.lease and one.retry * Fraction(12, 10) < one.renew and one.timeout <= LONGEST_TIMEOUT
-        return starts and self.is_safe(one) and bounds.stays(self.calm(), one)
+        return one.timeout <= LONGEST_TIMEOUT and self.is_safe(one) and bounds.stays(self.calm, one)
 
     def bound(self, lease, retry):
         one = self.controller(lease, retry, 0)
-        return bounds.crash(self.calm(), one, one, False)[1] * self.beat
+        return bounds.crash(self.calm, one, one, False)[1] * self.beat
 
     def of_lease(self, lease, most=None):
         """Each retry period of a plan with this lease whose bound is at most this, from the longest on, with the longest renew deadline."""
         for retry in range(lease * 10, self.retry - 1, -1):
             bound = self.bound(lease, retry)
             if most is None or bound <= most:
-                renews = [renew for renew in range(1, lease * 10) if self.holds(lease, retry, renew)]
-                if renews:
-                    yield bound, retry, renews[-1]
+                renew = next((renew for renew in range(lease * 10, 0, -1) if self.holds(lease, retry, renew)), None)
+                if renew:
+                    yield bound, retry, renew
 
     def greatest(self):
         """The lease, the retry period, the renew deadline and the bound of the greatest plan, or None."""

@@ -2,7 +2,7 @@
 use Rattle.std.proofs.Common.{◌≡◌, ℕ, List, [], Option, Some, None, sym, ap, subst, ◌∙◌}
 use Rattle.byte_edge.specs.Bytes.{Taken}
 use Rattle.run_edge.specs.declared.status.Status.{Status}
-use Rattle.run_edge.specs.Outcome.{Ends, Reply, Unread}
+use Rattle.run_edge.specs.Outcome.{Ends, Outcome, Reply, Unread}
 use Rattle.kube_lens.specs.declared.command.Command.{Command}
 use Rattle.kube_lens.specs.Commands.{command_of}
 use Rattle.kube_lens.specs.Outcome.{IsOutcome, IsOutcomeOf, unread_reply}
@@ -12,10 +12,15 @@ pub ends-commanded : (words : List (List ℕ)) (bytes : List ℕ) (command : Opt
     → Ends (IsOutcomeOf command words bytes) left before after s → Ends (IsOutcome words bytes) left before after s
 ends-commanded words bytes command left before after s is ends = subst (λ c. Ends (IsOutcomeOf c words bytes) left before after s) is ends
 
+-- what is left of the source is all that it had
+pub ends-left : (IsOne : Outcome → Type 0) (bytes : List ℕ) (left : Option (List ℕ)) (before after : Taken) (s : Status) → left ≡ Some bytes
+    → Ends IsOne (Some bytes) before after s → Ends IsOne left before after s
+ends-left IsOne bytes left before after s told ends = subst (λ l. Ends IsOne l before after s) (sym told) ends
+
 -- the source isn't read
 pub ends-unread : (reply : Reply) (bytes : List ℕ) (left : Option (List ℕ)) (before after : Taken) (s : Status) → left ≡ Some bytes
     → Ends (Unread reply bytes) (Some bytes) before after s → Ends (Unread reply bytes) left before after s
-ends-unread reply bytes left before after s told ends = subst (λ l. Ends (Unread reply bytes) l before after s) (sym told) ends
+ends-unread reply bytes = ends-left (Unread reply bytes) bytes
 
 -- what this command is answered without the source is what the words are
 pub ends-said : (words : List (List ℕ)) (command : Option Command) (said reply : Reply) (before after : Taken) (s : Status) → command ≡ command_of words

@@ -3,7 +3,16 @@ use Rattle.std.specs.Prelude.{ℕ, ◌&&◌, ◌||◌, Bool, List, [], ◌∷◌
 use Rattle.std.specs.Str.{bytes_eq}
 use Rattle.kube_lens.specs.declared.asked.Asked.TheVariants.{Margin, MarginJson, Bounds, BoundsJson, Leaders, LeadersJson, Summary, SummaryJson, Lateness, LatenessJson, Lines, Explain, ExplainJson}
 use Rattle.kube_lens.specs.declared.command.Command.{Command}
-use Rattle.kube_lens.specs.declared.command.Command.TheVariants.{Help, Flags, BoundsFlags, Asks}
+use Rattle.kube_lens.specs.declared.command.Command.TheVariants.{Help, Flags, BoundsFlags, Tune, Asks}
+
+-- whatever stands behind the word: behind `margin`, `bounds` and `tune` flags
+unfoldable pub by_flags : List ℕ → Option Command
+by_flags word =
+    if bytes_eq word (codes "margin") then Some Flags
+    else if bytes_eq word (codes "bounds") then Some BoundsFlags
+    else if bytes_eq word (codes "tune") then Some Tune
+    else if bytes_eq word (codes "--help") then Some Help
+    else None
 
 -- one word
 abbrev pub by_word : List ℕ → Option Command
@@ -13,16 +22,7 @@ by_word word =
     else if bytes_eq word (codes "leaders") then Some (Asks Leaders)
     else if bytes_eq word (codes "summary") then Some (Asks Summary)
     else if bytes_eq word (codes "explain") then Some (Asks Explain)
-    else if bytes_eq word (codes "--help") then Some Help
-    else None
-
--- whatever stands behind the word: behind `margin` and `bounds` flags
-abbrev pub by_flags : List ℕ → Option Command
-by_flags word =
-    if bytes_eq word (codes "margin") then Some Flags
-    else if bytes_eq word (codes "bounds") then Some BoundsFlags
-    else if bytes_eq word (codes "--help") then Some Help
-    else None
+    else by_flags word
 
 -- `--json` behind the word
 abbrev pub as_json : List ℕ → Option Command

@@ -13,6 +13,8 @@ pub enum Command {
     Flags,
     /// The bounds of the settings that flags describe, in lines or as one JSON object.
     BoundsFlags,
+    /// The greatest plan of an election that fits what flags want, in lines or as one JSON object.
+    Tune,
     /// The input is answered.
     Asks(Asked),
 }
@@ -44,10 +46,8 @@ fn by_word(word: &str) -> Option<Command>
         Some(Command::Asks(Asked::Summary))
     } else if word == "explain" {
         Some(Command::Asks(Asked::Explain))
-    } else if word == "--help" {
-        Some(Command::Help)
     } else {
-        None
+        by_flags(word)
     }
 }
 
@@ -107,7 +107,8 @@ fn are_both(one: &str, other: &str) -> bool
     }
 }
 
-/// The command that takes whatever stands behind it: that of `margin` and `bounds` are flags.
+/// The command that takes whatever stands behind it: that of `margin`, `bounds` and `tune` are flags.
+#[tactic(auto, unfolding(crate::specs::Commands::by_flags))]
 fn by_flags(word: &str) -> Option<Command>
     ensures { result ≡ by_flags word.now }
 {
@@ -115,6 +116,8 @@ fn by_flags(word: &str) -> Option<Command>
         Some(Command::Flags)
     } else if word == "bounds" {
         Some(Command::BoundsFlags)
+    } else if word == "tune" {
+        Some(Command::Tune)
     } else if word == "--help" {
         Some(Command::Help)
     } else {

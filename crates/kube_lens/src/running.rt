@@ -6,6 +6,7 @@ ghost use Rattle.run_edge.specs.Outcome.{Ends, EndsAs, IsDone, Reply, Unread};
 ghost use Rattle.script_reader.specs.declared.document.Document.{Document};
 ghost use Rattle.script_reader.specs.Documents.{doc_of};
 ghost use Rattle.script_reader.specs.Walk.{document_walk};
+ghost use Rattle.lens_plan.specs.Answers.{Answers};
 ghost use Rattle.lens_room.specs.declared.by_flags.flags.Flags.{Flags};
 ghost use Rattle.lens_room.specs.Described.{described};
 ghost use Rattle.lens_room.specs.Flags.{behind, flags_of};
@@ -40,6 +41,11 @@ pub fn run<S: Source, K: Sink>(
         → (S.left source.new ≡ S.left source.old) × (S.faults source.new ≡ S.faults source.old)
         × Ends (Unread reply []) (Some []) (K.taken sink.old) (K.taken sink.new) result }
 
+    // Nor for `tune`, whose answer is by the greatest plan that fits.
+    ensures tuned { command_of (map string_bytes words.now.items) ≡ Some Command.Tune
+        → (S.left source.new ≡ S.left source.old) × (S.faults source.new ≡ S.faults source.old)
+        × Ends (Answers (behind (map string_bytes words.now.items)) []) (Some []) (K.taken sink.old) (K.taken sink.new) result }
+
     // Where neither count of faults rose, the whole answer was written, or memory ran out.
     ensures complete { ¬ Rose (S.faults source.old) (S.faults source.new) → ¬ Rose (K.faults sink.old) (K.faults sink.new)
         → IsDone result }
@@ -68,6 +74,7 @@ pub fn run<S: Source, K: Sink>(
         Some(Command::Help) => tell(sink, Verdict::Done, help()),
         Some(Command::Flags) => lens_room::by_flags::run(alloc, words, sink),
         Some(Command::BoundsFlags) => lens_calm::run(alloc, words, sink),
+        Some(Command::Tune) => lens_plan::run(alloc, words, sink),
         Some(Command::Asks(asked)) => ask(alloc, &asked, source, sink),
         None => tell_usage(
             sink,
@@ -87,6 +94,7 @@ kube_lens margin --lease 15s ..     the same of flags: --lease --renew --retry -
 kube_lens bounds < document         how long nobody leads and a dead node's pods stay, at least and at most\n\
 kube_lens bounds --json < document  the same as one JSON object\n\
 kube_lens bounds --timeout 5s ..    the same of flags: those of margin, --wait --delay --least-delay --grace ..\n\
+kube_lens tune --failover 10s ..    the flags by which another leads so soon after a crash; --timeout --skew ..\n\
 kube_lens leaders < trace           who led from when to when, when nobody did, and whether two did at once\n\
 kube_lens leaders --json < trace    the same as one JSON object\n\
 kube_lens summary < trace           what a trace comes to, as tables: terms, zones, nodes, evictions, totals\n\

@@ -2,13 +2,14 @@ use Rattle.std.proofs.Common.{List, ℕ, [], Some, None, map, string_bytes, refl
 use Rattle.run_edge.specs.Outcome.{Ends, Reply, Unread}
 use Rattle.run_edge.specs.declared.status.Verdict.TheVariants.{Done}
 use Rattle.lens_calm.specs.Answers as bounds_flags
+use Rattle.lens_plan.specs.Answers as tune
 use Rattle.lens_room.specs.Flags.{behind}
 use Rattle.lens_room.specs.FlagReplies.{answer_to}
 use Rattle.kube_lens.specs.Commands.{command_of}
 use Rattle.kube_lens.specs.Outcome.{help, usage}
 use Rattle.kube_lens.specs.declared.asked.Asked.TheVariants.{Margin}
-use Rattle.kube_lens.specs.declared.command.Command.TheVariants.{Help, Flags, BoundsFlags, Asks}
-use Rattle.kube_lens.proofs.Commanded.{ends-commanded, ends-said, ends-unread, never-said}
+use Rattle.kube_lens.specs.declared.command.Command.TheVariants.{Help, Flags, BoundsFlags, Tune, Asks}
+use Rattle.kube_lens.proofs.Commanded.{ends-commanded, ends-left, ends-said, ends-unread, never-said}
 use Rattle.kube_lens.proofs.PremiseLaws.{safe-premise, unsafe-premise}
 use Rattle.kube_lens.proofs.running.run.Goals as goal
 
@@ -40,6 +41,24 @@ returns-in-Some-BoundsFlags-clause-text g c bytes told =
     let after = g.K.Sink.taken c.run-in-Some-BoundsFlags.new.sink in
     let found : Some BoundsFlags ≡ command_of words = ap Some (sym c.in-Some-BoundsFlags.field-0-is) ∙ sym c.in-Some-BoundsFlags.is ∙ c.command_in.ensures in
     ends-commanded words bytes (Some BoundsFlags) left before after c.run-in-Some-BoundsFlags.result found (ends-unread (bounds_flags.answer_to (behind words)) bytes left before after c.run-in-Some-BoundsFlags.result told (c.run-in-Some-BoundsFlags.ensures.text bytes))
+
+pub returns-in-Some-Tune-clause-text : goal.returns-in-Some-Tune-clause-text
+returns-in-Some-Tune-clause-text g c bytes told =
+    let words : List (List ℕ) = map string_bytes c.args.words.now.items in
+    let left = g.S.Source.left c.args.source.now in
+    let before = g.K.Sink.taken c.args.sink.now in
+    let after = g.K.Sink.taken c.run-in-Some-Tune.new.sink in
+    let found : Some Tune ≡ command_of words = ap Some (sym c.in-Some-Tune.field-0-is) ∙ sym c.in-Some-Tune.is ∙ c.command_in.ensures in
+    ends-commanded words bytes (Some Tune) left before after c.run-in-Some-Tune.result found (ends-left (tune.Answers (behind words) bytes) bytes left before after c.run-in-Some-Tune.result told (c.run-in-Some-Tune.ensures.text bytes))
+
+pub returns-in-Some-Tune-clause-tuned : goal.returns-in-Some-Tune-clause-tuned
+returns-in-Some-Tune-clause-tuned g c is = (refl, refl, c.run-in-Some-Tune.ensures.text [])
+
+pub returns-in-Some-Tune-clause-unread : goal.returns-in-Some-Tune-clause-unread
+returns-in-Some-Tune-clause-unread g c reply is =
+    let words : List (List ℕ) = map string_bytes c.args.words.now.items in
+    let found : Some Tune ≡ command_of words = ap Some (sym c.in-Some-Tune.field-0-is) ∙ sym c.in-Some-Tune.is ∙ c.command_in.ensures in
+    absurd (never-said words (Some Tune) reply found refl is)
 
 pub returns-in-Some-Flags-clause-flags_safe : goal.returns-in-Some-Flags-clause-flags_safe
 returns-in-Some-Flags-clause-flags_safe g c flags command read is = c.run.ensures.safe flags read is

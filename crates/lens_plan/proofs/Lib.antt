@@ -1,0 +1,4 @@
+-- ---- the ranges of a plan
+pub mod Small
+-- ---- how a run ends
+pub mod Endings
