@@ -258,7 +258,7 @@ def test_one_after_another(given, folder):
 def test_other_modules(given, folder):
     """A second command from a checkout with other questions, on the same worker, has the answers of its own; with another package it is told."""
     other = os.path.join(folder, 'other')
-    for name in ('tools', 'python'):
+    for name in ('tools', 'python', 'view'):
         shutil.copytree(os.path.join(TOP, name), os.path.join(other, name))
     with open(os.path.join(other, 'tools', 'questions.py'), 'a') as file:
         file.write("\n\nQUESTIONS['failover'] = (lambda trace: 'other', QUESTIONS['failover'][1])\n")
